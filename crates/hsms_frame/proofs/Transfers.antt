@@ -1,0 +1,68 @@
+-- Steps of a transfer that goes on where the one before it stopped.
+use Rattle.std.proofs.Common.{Ok, ◌≡◌, ◌≤◌, ◌+◌, ◌-◌, ◌++◌, ℕ, List, length, take, drop, min, ◌^◌, Some, sym, ◌∙◌, ap, arith}
+use Rattle.std.specs.Prelude.{Option}
+use Rattle.std.proofs.lemmas.List.{length-take, drop_at, take_at, drop-drop, length-drop, length-take-le, take-append-le, append_assoc}
+use Rattle.std.proofs.Math.Seq.{take-add}
+use borrow.Rule.Slice.PartMut.{put_mid, post_of}
+use Rattle.std.specs.Prelude.{◌==◌, ◌&&◌, ◌<◌, if◌then◌else◌, nat_lt}
+use Rattle.std.proofs.lemmas.Bool.Decides.{nat_tests}
+use Rattle.hsms_frame.specs.Count.{next_count}
+use Rattle.hsms_frame.specs.Device.{Takes, Grows, IsAtEnd, ends_after, ends_after_fill}
+
+-- what a buffer has at its front once a part behind the front was written
+pub take-put_mid_add : (n k m : ℕ) (buffer part : List ℕ) → n ≤ length buffer → k ≤ length part
+    → take (n + k) (put_mid n m buffer part) ≡ take n buffer ++ take k part
+take-put_mid_add n k m buffer part within fits =
+    let post : List ℕ = post_of n m buffer in
+    let front : length (take n buffer) ≡ n = length-take-le n buffer within in
+    take-add n k (take n buffer ++ (part ++ post))
+    ∙ ap (λ x. x ++ take k (drop n (take n buffer ++ (part ++ post)))) (take_at (take n buffer) (part ++ post) n front)
+    ∙ ap (λ x. take n buffer ++ take k x) (drop_at (take n buffer) (part ++ post) n front)
+    ∙ ap (λ x. take n buffer ++ x) (take-append-le k part post fits)
+
+-- a pull into the part of a buffer behind what was filled
+pub takes_more : (old mid new : Option (List ℕ)) (n k m : ℕ) (buffer part : List ℕ) → n ≤ length buffer → k ≤ length part
+    → Takes old mid n buffer → Takes mid new k part → Takes old new (n + k) (put_mid n m buffer part)
+takes_more old mid new n k m buffer part within fits first next octets told =
+    let a = first octets told in
+    let b = next (drop n octets) a.2 in
+    let left : length (drop n octets) ≡ length octets - n = length-drop n octets in
+    let n_fits : n ≤ length octets = a.0 in
+    let k_fits : k ≤ length (drop n octets) = b.0 in
+    let same : take (n + k) (put_mid n m buffer part) ≡ take (n + k) octets =
+    take-put_mid_add n k m buffer part within fits
+    ∙ ap (λ x. x ++ take k part) a.1 ∙ ap (λ x. take n octets ++ x) b.1 ∙ sym (take-add n k octets) in
+    (omega arith, same, b.2 ∙ ap Some (drop-drop k n octets))
+
+-- a give of what was left of a slice
+pub grows_more : (old mid new : Option (List ℕ)) (n k : ℕ) (octets : List ℕ)
+    → Grows old mid (take n octets) → Grows mid new (take k (drop n octets)) → Grows old new (take (n + k) octets)
+grows_more old mid new n k octets first next before told =
+    next (before ++ take n octets) (first before told)
+    ∙ ap Some (append_assoc before (take n octets) (take k (drop n octets)) ∙ ap (λ x. before ++ x) (sym (take-add n k octets)))
+
+-- a pull that found the end: what was taken before is all that there was
+pub ends_at : (old mid : Option (List ℕ)) (n : ℕ) (buffer : List ℕ) → Takes old mid n buffer → IsAtEnd mid
+    → (octets : List ℕ) → old ≡ Some octets → length octets ≡ n
+ends_at old mid n buffer takes end octets told =
+    let t = takes octets told in
+    let within : n ≤ length octets = t.0 in
+    let none : length (drop n octets) ≡ 0 = ap length (end (drop n octets) t.2) in
+    omega (arith, length-drop n octets, none, within)
+
+-- a saturated count that rises by one stays within a bound that rises by at least one
+pub counts_more : (old mid new n k : ℕ) → mid ≤ old + n → new ≡ min (mid + 1) (2 ^ 64 - 1) → (k ≡ 0 → ⊥) → new ≤ old + (n + k)
+counts_more old mid new n k within step some = omega (arith, step, within, some)
+
+-- the end of what a call moved lies within the slice
+pub part_within : (n k : ℕ) (octets : List ℕ) → n ≤ length octets → k ≤ length (take (length octets - n) (drop n octets)) → n + k ≤ length octets
+part_within n k octets within fits = omega (arith, length-take (length octets - n) (drop n octets), length-drop n octets, fits)
+
+-- a pull that gave something didn't find the end
+pub no_end : (room n ends new : ℕ) → (n ≡ 0 → ⊥) → new ≡ ends_after room (Ok n) ends → new ≡ ends
+no_end room n ends new some step = grind (arith, nat_tests, step, some)
+
+-- a pull with room that gave nothing found it
+pub found_end : (room part n filled ends new : ℕ) → 0 < part → n ≡ 0 → filled < room → new ≡ ends_after part (Ok n) ends
+    → new ≡ ends_after_fill room (Ok filled) ends
+found_end room part n filled ends new some none less step = grind (arith, nat_tests, step, none, some, less)

@@ -1,0 +1,20 @@
+-- The words for what is wrong with a message.
+use Rattle.std.specs.Prelude.{ℕ, List, ◌++◌, codes, decimal}
+use Rattle.hsms_frame.specs.declared.fault.FrameFault.{FrameFault}
+use Rattle.hsms_frame.specs.declared.fault.FrameFault.TheVariants as frame
+use Rattle.hsms_frame.specs.declared.fault.ReadFault.{ReadFault}
+use Rattle.hsms_frame.specs.declared.fault.ReadFault.TheVariants as read
+
+-- the name of a fault of octets, and the length that it tells
+abbrev pub frame_fault_text : FrameFault → List ℕ
+frame_fault_text (frame.TooShort length) = codes "TooShort length=" ++ decimal length
+frame_fault_text (frame.TooLong length header) = codes "TooLong length=" ++ decimal length
+frame_fault_text frame.Memory = codes "Memory"
+
+-- the name of a fault of a reading, and the length that it tells
+abbrev pub read_fault_text : ReadFault → List ℕ
+read_fault_text (read.TooShort length) = codes "TooShort length=" ++ decimal length
+read_fault_text (read.TooLong length header) = codes "TooLong length=" ++ decimal length
+read_fault_text read.Memory = codes "Memory"
+read_fault_text read.CutOff = codes "CutOff"
+read_fault_text read.Read = codes "Read"

@@ -1,0 +1,67 @@
+-- What a read of one message answers, and what it leaves.
+use Rattle.std.specs.Prelude.{◌≡◌, ◌≢◌, ◌<◌, ◌≤◌, ◌+◌, ◌⊎◌, ◌++◌, ℕ, List, [], length, take, drop, Option, Some, None, Result, Ok, Err}
+use Rattle.hsms_frame.specs.declared.frame.Frame.{Frame}
+use Rattle.hsms_frame.specs.declared.fault.ReadFault.{ReadFault}
+use Rattle.hsms_frame.specs.declared.fault.ReadFault.TheVariants.{TooShort, TooLong, Memory, CutOff, Read}
+use Rattle.hsms_frame.specs.Count.{next_count}
+use Rattle.hsms_frame.specs.Frame.{frame_octets, IsFrame, IsTooShort, IsTooLong, IsFaultless, IsProperFront, IsOctets, length_field}
+
+-- the answers to an input, each with what is left of it; nothing is said of what a failing device has left
+abbrev pub ReadsAs : ℕ → List ℕ → Result (Option Frame) ReadFault → Option (List ℕ) → Type 0
+ReadsAs max input (Ok (Some f)) left =
+    (rest : List ℕ) × (input ≡ frame_octets f ++ rest) × (left ≡ Some rest) × IsFrame f × (10 + length f.text ≤ max)
+ReadsAs max input (Ok None) left = (input ≡ []) × (left ≡ Some [])
+ReadsAs max input (Err (TooShort n)) left = IsTooShort input n × (left ≡ Some (drop 4 input))
+ReadsAs max input (Err (TooLong n h)) left = IsTooLong max input n h × (left ≡ Some (drop 14 input))
+ReadsAs max input (Err Memory) left = (14 ≤ length input) × IsFaultless max input × (left ≡ Some (drop 14 input))
+ReadsAs max input (Err CutOff) left = (input ≢ []) × IsFaultless max input × IsProperFront input × (left ≡ Some [])
+ReadsAs max input (Err Read) left = Unit {0}
+
+-- an answer that the input doesn't decide: want of memory, or a failure of the device
+abbrev pub IsRefusal : Result (Option Frame) ReadFault → Type 0
+IsRefusal answer = (answer ≡ Err Memory) ⊎ (answer ≡ Err Read)
+
+-- how often a source has failed after a read, by the answer
+abbrev pub failures_after : {T : Type 0} → Result T ReadFault → ℕ → ℕ
+failures_after (Err Read) n = next_count n
+failures_after (Err (TooShort _)) n = n
+failures_after (Err (TooLong _ _)) n = n
+failures_after (Err Memory) n = n
+failures_after (Err CutOff) n = n
+failures_after (Ok _) n = n
+
+-- how often a source was found at its end after a read of what has to be there, by the answer
+abbrev pub ends_after_part : {T : Type 0} → Result T ReadFault → ℕ → ℕ
+ends_after_part (Err CutOff) n = next_count n
+ends_after_part (Err (TooShort _)) n = n
+ends_after_part (Err (TooLong _ _)) n = n
+ends_after_part (Err Memory) n = n
+ends_after_part (Err Read) n = n
+ends_after_part (Ok _) n = n
+
+-- the same after a read of what may be missing
+abbrev pub ends_after_whole : {T : Type 0} → Result (Option T) ReadFault → ℕ → ℕ
+ends_after_whole (Ok None) n = next_count n
+ends_after_whole (Ok (Some _)) n = n
+ends_after_whole (Err fault) n = ends_after_part {T = ℕ} (Err fault) n
+
+-- A read of k octets, seen by view: they are the front of the input, or the input is shorter and at its end.
+abbrev pub TakesFront : {T : Type 0} → (T → List ℕ) → ℕ → List ℕ → Result T ReadFault → Option (List ℕ) → Type 0
+TakesFront view k input (Ok x) left =
+    (k ≤ length input) × (view x ≡ take k input) × IsOctets (view x) × (left ≡ Some (drop k input))
+TakesFront view k input (Err CutOff) left = (length input < k) × IsOctets input × (left ≡ Some [])
+TakesFront view k input (Err Memory) left = left ≡ Some input
+TakesFront view k input (Err Read) left = Unit {0}
+TakesFront view k input (Err (TooShort _)) left = ⊥
+TakesFront view k input (Err (TooLong _ _)) left = ⊥
+
+-- A read of the length field: its number, or none at the end of the input, or the input is shorter and at its end.
+abbrev pub TakesLength : List ℕ → Result (Option ℕ) ReadFault → Option (List ℕ) → Type 0
+TakesLength input (Ok (Some n)) left =
+    (4 ≤ length input) × (n ≡ length_field input) × IsOctets (take 4 input) × (left ≡ Some (drop 4 input))
+TakesLength input (Ok None) left = (input ≡ []) × (left ≡ Some [])
+TakesLength input (Err CutOff) left = (0 < length input) × (length input < 4) × IsOctets input × (left ≡ Some [])
+TakesLength input (Err Read) left = Unit {0}
+TakesLength input (Err Memory) left = ⊥
+TakesLength input (Err (TooShort _)) left = ⊥
+TakesLength input (Err (TooLong _ _)) left = ⊥

@@ -1,0 +1,83 @@
+//! What is wrong with the octets of a message, and with reading them.
+
+ghost use Rattle.std.specs.Prelude.{◌≡◌, Some};
+ghost use Rattle.hsms_frame.specs.Fault.{frame_fault_text, read_fault_text};
+ghost use Rattle.hsms_frame.specs.declared.fault.ReadFault.TheVariants.{Memory, Read};
+
+use crate::device::Failed;
+use crate::header::Header;
+use std::alloc::AllocError;
+use std::error::Error;
+use std::fmt;
+
+/// Why octets are no frame. Each is shown as its name and its length, as in `TooShort length=9`.
+#[derive(Clone, Copy, Debug, PartialEq, Eq)]
+pub enum FrameFault {
+    /// The length field, in octets, leaves no room for a header.
+    TooShort { length: u64 },
+    /// The length field, in octets of header and text, is past the limit.
+    TooLong { length: u64, header: Header },
+    /// There is no memory for the text.
+    Memory,
+}
+
+impl fmt::Display for FrameFault {
+    ghost output = { λ fault. Some (frame_fault_text fault) };
+
+    fn fmt<W: fmt::Write>(&self, f: &mut fmt::Formatter<W>) -> fmt::Result {
+        match *self {
+            FrameFault::TooShort { length } => write!(f, "TooShort length={length}"),
+            FrameFault::TooLong { length, .. } => write!(f, "TooLong length={length}"),
+            FrameFault::Memory => write!(f, "Memory"),
+        }
+    }
+}
+
+impl Error for FrameFault {}
+
+/// Why no frame was read. Each is shown as its name and its length, as in `TooLong length=257`.
+#[derive(Clone, Copy, Debug, PartialEq, Eq)]
+pub enum ReadFault {
+    /// The length field, in octets, leaves no room for a header.
+    TooShort { length: u64 },
+    /// The length field, in octets of header and text, is past the limit.
+    TooLong { length: u64, header: Header },
+    /// There is no memory for the text.
+    Memory,
+    /// The input ends within a message.
+    CutOff,
+    /// The device failed.
+    Read,
+}
+
+impl fmt::Display for ReadFault {
+    ghost output = { λ fault. Some (read_fault_text fault) };
+
+    fn fmt<W: fmt::Write>(&self, f: &mut fmt::Formatter<W>) -> fmt::Result {
+        match *self {
+            ReadFault::TooShort { length } => write!(f, "TooShort length={length}"),
+            ReadFault::TooLong { length, .. } => write!(f, "TooLong length={length}"),
+            ReadFault::Memory => write!(f, "Memory"),
+            ReadFault::CutOff => write!(f, "CutOff"),
+            ReadFault::Read => write!(f, "Read"),
+        }
+    }
+}
+
+impl Error for ReadFault {}
+
+impl From<Failed> for ReadFault {
+    ghost from_gives = { λ _ e. e ≡ Read };
+
+    fn from(_: Failed) -> ReadFault {
+        ReadFault::Read
+    }
+}
+
+impl From<AllocError> for ReadFault {
+    ghost from_gives = { λ _ e. e ≡ Memory };
+
+    fn from(_: AllocError) -> ReadFault {
+        ReadFault::Memory
+    }
+}

@@ -1,0 +1,72 @@
+//! The header of a message (SEMI E37, section 8.2).
+
+ghost use Rattle.std.specs.Prelude.{◌≡◌};
+ghost use Rattle.hsms_frame.specs.Header.{header_octets, IsHeader, stream_of, function_of, wait_of};
+
+/// The ten octets before a message's text (SEMI E37, section 8.2).
+#[derive(Clone, Copy, Debug, PartialEq, Eq)]
+pub struct Header {
+    /// The session ID: the device of a data message, ffff of a control message.
+    pub session: u16,
+    /// Of a data message the W bit (bit 8) and the stream; of Reject.req the type that was rejected.
+    pub byte2: u8,
+    /// Of a data message the function; of Select.rsp the status; of Reject.req the reason.
+    pub byte3: u8,
+    /// The presentation type: 0 is SECS-II.
+    pub ptype: u8,
+    /// The session type: 0 is data, the others are control messages.
+    pub stype: u8,
+    /// The system bytes, which tell the open transactions of one sender apart.
+    pub system: u32,
+}
+
+impl Header {
+    /// The header that ten octets spell. Any ten octets spell one.
+    pub fn of(octets: [u8; 10]) -> Header
+        ensures fits { IsHeader result }
+        ensures spelled { header_octets result ≡ octets }
+        ensures only { (header : Header) → IsHeader header → header_octets header ≡ octets → result ≡ header }
+    {
+        let [s0, s1, byte2, byte3, ptype, stype, n0, n1, n2, n3] = octets;
+        Header {
+            session: u16::from_be_bytes([s0, s1]),
+            byte2,
+            byte3,
+            ptype,
+            stype,
+            system: u32::from_be_bytes([n0, n1, n2, n3]),
+        }
+    }
+
+    /// The ten octets that spell the header, the most significant octet of each number first.
+    pub fn octets(self) -> [u8; 10]
+        ensures { result ≡ header_octets self }
+    {
+        let [s0, s1] = self.session.to_be_bytes();
+        let [n0, n1, n2, n3] = self.system.to_be_bytes();
+        [
+            s0, s1, self.byte2, self.byte3, self.ptype, self.stype, n0, n1, n2, n3,
+        ]
+    }
+
+    /// The stream of a data message, 0 to 127.
+    pub fn stream(self) -> u8
+        ensures { result ≡ stream_of self }
+    {
+        self.byte2 % 128
+    }
+
+    /// The function of a data message.
+    pub fn function(self) -> u8
+        ensures { result ≡ function_of self }
+    {
+        self.byte3
+    }
+
+    /// The W bit of a data message: whether it asks for a reply.
+    pub fn wait(self) -> bool
+        ensures { result ≡ wait_of self }
+    {
+        self.byte2 >= 128
+    }
+}

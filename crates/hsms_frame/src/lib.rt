@@ -1,0 +1,33 @@
+//! HSMS messages (SEMI E37): the devices that octets are read from and written to, headers, and messages read whole.
+//!
+//! A message is four octets that count what follows, a header of ten octets, and a text. [`read_frame`] reads one from a
+//! [`Source`] and nothing of what stands behind it. [`Source`] and [`Sink`] tell contracts how often they were called and
+//! how often they failed and, where they know it, which octets are left or were written; so a contract can say what a
+//! program did to them.
+#![tactic(auto)]
+
+mod classify;
+mod device;
+mod fault;
+mod frame;
+mod header;
+mod kinds;
+mod memory;
+mod read;
+mod standard;
+mod tally;
+mod transfer;
+
+pub use classify::kind;
+pub use device::{Failed, Sink, Source};
+pub use fault::{FrameFault, ReadFault};
+pub use frame::{Frame, Text};
+pub use header::Header;
+pub use kinds::Kind;
+pub use memory::{Feed, Store};
+pub use read::read_frame;
+pub use standard::{Reader, Writer};
+pub use transfer::{fill, give_all};
+
+#[cfg(test)]
+mod tests;

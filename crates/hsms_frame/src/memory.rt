@@ -1,0 +1,211 @@
+//! Devices in memory that fail on purpose, for tests.
+
+ghost use Rattle.std.specs.Prelude.{◌≡◌, ◌<◌, ◌≤◌, ◌+◌, ◌-◌, ◌⊎◌, ◌↔◌, ◌==◌, [], ◌++◌, Some, drop, take, length, vec_len, min, is_ok, IsErr, IfOk, OnErr, if◌then◌else◌};
+ghost use Rattle.hsms_frame.specs.Count.{next_count};
+ghost use Rattle.hsms_frame.specs.Device.{Takes, IsAtEnd, Stays, Grows, ends_after};
+
+use crate::device::{Failed, Sink, Source};
+use crate::tally::Tally;
+use std::marker::Model;
+
+/// Octets to be read from memory, at most `piece` of them a call. Each call past the first `fuse` fails, so a test can
+/// have a read fail wherever it likes.
+#[derive(Drop)]
+pub struct Feed {
+    octets: Vec<u8>,
+    place: usize,
+    piece: usize,
+    fuse: u64,
+    tally: Tally,
+}
+
+impl Model for Feed {
+    ghost use Rattle.std.specs.Prelude.{◌<◌, ◌≤◌, drop, vec_len};
+    ghost use Rattle.hsms_frame.specs.Memory.{FeedState};
+
+    ghost Value = { FeedState };
+
+    ghost view = { λ f. record {
+      left = drop f.place f.octets.items;
+      piece = f.piece;
+      fuse = f.fuse;
+      pulls = f.tally.calls;
+      empty_pulls = f.tally.empty;
+      ends = f.tally.ends;
+      failures = f.tally.failures;
+    } };
+
+    ghost invariant = { λ f. (f.place ≤ vec_len f.octets) × (0 < f.piece) };
+}
+
+impl Feed {
+    /// A source of these octets. `piece` is at least 1.
+    pub fn new(octets: Vec<u8>, piece: usize, fuse: u64) -> Feed
+        requires { 0 < piece }
+        ensures { result ≡ record { left = octets.items; piece = piece; fuse = fuse; pulls = 0; empty_pulls = 0; ends = 0; failures = 0 } }
+    {
+        Feed {
+            octets,
+            place: 0,
+            piece,
+            fuse,
+            tally: Tally::new(),
+        }
+    }
+
+    /// The octets that are left to be read.
+    pub fn left(&self) -> &[u8]
+        ensures { result.now ≡ self.now.left }
+    {
+        &self.octets[self.place..]
+    }
+}
+
+impl Source for Feed {
+    ghost left = { λ s. Some s.left };
+
+    ghost pulls = { λ s. s.pulls };
+
+    ghost empty_pulls = { λ s. s.empty_pulls };
+
+    ghost ends = { λ s. s.ends };
+
+    ghost failures = { λ s. s.failures };
+
+    fn pull(&mut self, into: &mut [u8]) -> Result<usize, Failed>
+        ensures bound { IfOk result (λ n. n ≤ length into.new) }
+        ensures octets { IfOk result (λ n. Takes (Some self.old.left) (Some self.new.left) n into.new) }
+        ensures end { IfOk result (λ n. n ≡ 0 → 0 < length into.new → IsAtEnd (Some self.old.left)) }
+        ensures none_lost { OnErr result (Stays (Some self.old.left) (Some self.new.left)) }
+        ensures pulls { self.new.pulls ≡ next_count self.old.pulls }
+        ensures empty { self.new.empty_pulls
+            ≡ (if length into.old == 0 then next_count self.old.empty_pulls else self.old.empty_pulls) }
+        ensures ends { self.new.ends ≡ ends_after (length into.new) result self.old.ends }
+        ensures failures { self.new.failures
+            ≡ (if is_ok result then self.old.failures else next_count self.old.failures) }
+
+        // Beyond what each source ensures: when it fails, and that it moves as much as it may.
+        ensures fails { IsErr result ↔ (self.old.fuse ≤ self.old.pulls) }
+        ensures count { IfOk result (λ n. n ≡ min (min (length self.old.left) (length into.old)) self.old.piece) }
+        ensures same { (self.new.piece ≡ self.old.piece) × (self.new.fuse ≡ self.old.fuse) }
+    {
+        let is_spent = self.tally.calls >= self.fuse;
+        self.tally.count(into.is_empty());
+        if is_spent {
+            self.tally.fail();
+            return Err(Failed);
+        }
+        let count = copy_front(&self.octets[self.place..], into, self.piece);
+        if count == 0 && !into.is_empty() {
+            self.tally.end();
+        }
+        self.place += count;
+        Ok(count)
+    }
+}
+
+/// Room in memory that is written over, at most `piece` octets a call. Each call past the first `fuse` fails, and each
+/// into a full room, so a test can have a write fail wherever it likes.
+#[derive(Drop)]
+pub struct Store {
+    room: Vec<u8>,
+    place: usize,
+    piece: usize,
+    fuse: u64,
+    tally: Tally,
+}
+
+impl Model for Store {
+    ghost use Rattle.std.specs.Prelude.{◌<◌, ◌≤◌, drop, take, vec_len};
+    ghost use Rattle.hsms_frame.specs.Memory.{StoreState};
+
+    ghost Value = { StoreState };
+
+    ghost view = { λ s. record {
+      written = take s.place s.room.items;
+      room = drop s.place s.room.items;
+      piece = s.piece;
+      fuse = s.fuse;
+      gives = s.tally.calls;
+      failures = s.tally.failures;
+    } };
+
+    ghost invariant = { λ s. (s.place ≤ vec_len s.room) × (0 < s.piece) };
+}
+
+impl Store {
+    /// A sink that writes over this room, from its front up to its length. `piece` is at least 1.
+    pub fn new(room: Vec<u8>, piece: usize, fuse: u64) -> Store
+        requires { 0 < piece }
+        ensures { result ≡ record { written = []; room = room.items; piece = piece; fuse = fuse; gives = 0; failures = 0 } }
+    {
+        Store {
+            room,
+            place: 0,
+            piece,
+            fuse,
+            tally: Tally::new(),
+        }
+    }
+
+    /// The octets that were written so far.
+    pub fn written(&self) -> &[u8]
+        ensures { result.now ≡ self.now.written }
+    {
+        &self.room[..self.place]
+    }
+}
+
+impl Sink for Store {
+    ghost written = { λ s. Some s.written };
+
+    ghost gives = { λ s. s.gives };
+
+    ghost failures = { λ s. s.failures };
+
+    fn give(&mut self, from: &[u8]) -> Result<usize, Failed>
+        ensures bound { IfOk result (λ n. n ≤ length from.now) }
+        ensures some { IfOk result (λ n. 0 < length from.now → 0 < n) }
+        ensures octets { IfOk result (λ n. Grows (Some self.old.written) (Some self.new.written) (take n from.now)) }
+        ensures none_written { OnErr result (Stays (Some self.old.written) (Some self.new.written)) }
+        ensures gives { self.new.gives ≡ next_count self.old.gives }
+        ensures failures { self.new.failures
+            ≡ (if is_ok result then self.old.failures else next_count self.old.failures) }
+
+        // Beyond what each sink ensures: when it fails, and that it moves as much as it may.
+        ensures fails { IsErr result ↔ ((self.old.fuse ≤ self.old.gives) ⊎ (length self.old.room ≡ 0)) }
+        ensures count { IfOk result (λ n. n ≡ min (min (length from.now) (length self.old.room)) self.old.piece) }
+        ensures same { (self.new.piece ≡ self.old.piece) × (self.new.fuse ≡ self.old.fuse) }
+    {
+        let is_spent = self.tally.calls >= self.fuse;
+        self.tally.count(from.is_empty());
+        if is_spent || self.place == self.room.len() {
+            self.tally.fail();
+            return Err(Failed);
+        }
+        let count = overwrite(&mut self.room, self.place, from, self.piece);
+        self.place += count;
+        Ok(count)
+    }
+}
+
+// Copies what fits of the front of a slice, at most `piece` octets, and says how many.
+fn copy_front(from: &[u8], into: &mut [u8], piece: usize) -> usize
+    ensures count { result ≡ min (min (length from.now) (length into.old)) piece }
+    ensures front { take result into.new ≡ take result from.now }
+    ensures after { into.new ≡ take result from.now ++ drop result into.old }
+{
+    let count = from.len().min(into.len()).min(piece);
+    into[..count].copy_from_slice(&from[..count]);
+    count
+}
+
+// Copies what fits of the front of a slice over the room from a place on, and says how many octets.
+fn overwrite(room: &mut Vec<u8>, place: usize, from: &[u8], piece: usize) -> usize
+    requires { place ≤ vec_len room.old }
+    ensures count { result ≡ min (min (length from.now) (vec_len room.old - place)) piece }
+    ensures len { vec_len room.new ≡ vec_len room.old }
+    ensures written { take (place + result) room.new.items ≡ take place room.old.items ++ take result from.now }
+{
+    copy_front(from, &mut room[place..], piece)
+}

@@ -1,0 +1,113 @@
+//! One message from a source.
+
+ghost use Rattle.std.specs.Prelude.{◌≡◌, ◌⊎◌, Option, Result, Err, length};
+ghost use Rattle.hsms_frame.specs.Device.{WhereTold};
+ghost use Rattle.hsms_frame.specs.Reading.{ends_after_part, ends_after_whole, failures_after, ReadsAs, IsRefusal, TakesFront, TakesLength};
+
+use crate::device::Source;
+use crate::fault::ReadFault;
+use crate::frame::{Frame, Text};
+use crate::header::Header;
+use crate::transfer::fill;
+use std::alloc::Global;
+
+/// Reads one message, and none of the octets behind it: four octets, then ten, then the text (SEMI E37, section 8.1).
+/// There is none where the input is at its end.
+///
+/// `max` is the greatest count of octets of header and text. Faults, in the order in which they are found:
+///
+/// - `TooShort`, once four octets are there, where they count fewer than ten: four octets were read.
+/// - `TooLong`, once fourteen are there, where the first four count more than `max`: fourteen were read.
+/// - `Memory`, where there is no room for the text: fourteen were read.
+/// - `CutOff`, where the input ends within the message.
+/// - `Read`, where the source failed: nothing is said of how much was read.
+pub fn read_frame<R: Source>(
+    alloc: Global,
+    source: &mut R,
+    max: u32,
+) -> Result<Option<Frame>, ReadFault>
+    // The answer is one to the octets that the source had left.
+    ensures answer { WhereTold (R.left source.old) (λ input. ReadsAs max input result (R.left source.new)) }
+    // No other answer is.
+    ensures only { WhereTold (R.left source.old) (λ input. (answer : _) (left : _) → ReadsAs max input answer left
+        → IsRefusal answer ⊎ IsRefusal result ⊎ (result ≡ answer)) }
+    ensures ends { R.ends source.new ≡ ends_after_whole result (R.ends source.old) }
+    ensures failures { R.failures source.new ≡ failures_after result (R.failures source.old) }
+{
+    read_message(alloc, source, max)
+}
+
+fn read_message<R: Source>(
+    alloc: Global,
+    source: &mut R,
+    max: u32,
+) -> Result<Option<Frame>, ReadFault>
+    ensures answer { WhereTold (R.left source.old) (λ input. ReadsAs max input result (R.left source.new)) }
+    ensures ends { R.ends source.new ≡ ends_after_whole result (R.ends source.old) }
+    ensures failures { R.failures source.new ≡ failures_after result (R.failures source.old) }
+{
+    let Some(length) = read_length(source)? else {
+        return Ok(None);
+    };
+    if length < 10 {
+        return Err(ReadFault::TooShort {
+            length: u64::from(length),
+        });
+    }
+    let mut octets = [0u8; 10];
+    read_all(source, &mut octets)?;
+    let header = Header::of(octets);
+    if length > max {
+        return Err(ReadFault::TooLong {
+            length: u64::from(length),
+            header,
+        });
+    }
+    let text = read_text(alloc, source, length as usize - 10)?;
+    Ok(Some(Frame { header, text }))
+}
+
+// The length field of the next message, if there is one.
+fn read_length<R: Source>(source: &mut R) -> Result<Option<u32>, ReadFault>
+    ensures answer { WhereTold (R.left source.old) (λ input. TakesLength input result (R.left source.new)) }
+    ensures ends { R.ends source.new ≡ ends_after_whole result (R.ends source.old) }
+    ensures failures { R.failures source.new ≡ failures_after result (R.failures source.old) }
+{
+    let mut field = [0u8; 4];
+    let count = fill(source, &mut field)?;
+    if count == 0 {
+        return Ok(None);
+    }
+    if count < field.len() {
+        return Err(ReadFault::CutOff);
+    }
+    Ok(Some(u32::from_be_bytes(field)))
+}
+
+// Fills a slice.
+fn read_all<R: Source>(source: &mut R, into: &mut [u8]) -> Result<(), ReadFault>
+    ensures answer { WhereTold (R.left source.old)
+        (λ input. TakesFront (λ _. into.new) (length into.old) input result (R.left source.new)) }
+    ensures len { length into.new ≡ length into.old }
+    ensures memory { result ≡ Err ReadFault.Memory → ⊥ }
+    ensures ends { R.ends source.new ≡ ends_after_part result (R.ends source.old) }
+    ensures failures { R.failures source.new ≡ failures_after result (R.failures source.old) }
+{
+    let count = fill(source, into)?;
+    if count < into.len() {
+        return Err(ReadFault::CutOff);
+    }
+    Ok(())
+}
+
+// The text of a message.
+fn read_text<R: Source>(alloc: Global, source: &mut R, size: usize) -> Result<Text, ReadFault>
+    ensures answer { WhereTold (R.left source.old)
+        (λ input. TakesFront (λ text. text) size input result (R.left source.new)) }
+    ensures ends { R.ends source.new ≡ ends_after_part result (R.ends source.old) }
+    ensures failures { R.failures source.new ≡ failures_after result (R.failures source.old) }
+{
+    let mut octets = vec![in alloc; 0u8; size]?;
+    read_all(source, &mut octets)?;
+    Ok(Text::new(octets))
+}

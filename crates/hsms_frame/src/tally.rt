@@ -1,0 +1,53 @@
+//! Counts of a device's calls, each of which stays at its greatest value.
+
+ghost use Rattle.std.specs.Prelude.{◌≡◌, if◌then◌else◌};
+ghost use Rattle.hsms_frame.specs.Count.{next_count};
+
+/// How often a device was called, with an empty slice among them, found its end, and failed.
+#[derive(Clone, Copy)]
+pub struct Tally {
+    pub calls: u64,
+    pub empty: u64,
+    pub ends: u64,
+    pub failures: u64,
+}
+
+impl Tally {
+    pub fn new() -> Tally
+        ensures { result ≡ record { calls = 0; empty = 0; ends = 0; failures = 0 } }
+    {
+        Tally {
+            calls: 0,
+            empty: 0,
+            ends: 0,
+            failures: 0,
+        }
+    }
+
+    /// Counts a call.
+    pub fn count(&mut self, is_empty: bool)
+        ensures calls { self.new.calls ≡ next_count self.old.calls }
+        ensures empty { self.new.empty ≡ (if is_empty then next_count self.old.empty else self.old.empty) }
+        ensures ends { self.new.ends ≡ self.old.ends }
+        ensures failures { self.new.failures ≡ self.old.failures }
+    {
+        self.calls = self.calls.saturating_add(1);
+        if is_empty {
+            self.empty = self.empty.saturating_add(1);
+        }
+    }
+
+    /// Counts that the end was found.
+    pub fn end(&mut self)
+        ensures { self.new ≡ record self.old { ends = next_count self.old.ends } }
+    {
+        self.ends = self.ends.saturating_add(1);
+    }
+
+    /// Counts a failure.
+    pub fn fail(&mut self)
+        ensures { self.new ≡ record self.old { failures = next_count self.old.failures } }
+    {
+        self.failures = self.failures.saturating_add(1);
+    }
+}

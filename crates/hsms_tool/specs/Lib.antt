@@ -1,0 +1,4 @@
+pub mod Line
+pub mod Options
+pub mod Show
+pub mod Status
