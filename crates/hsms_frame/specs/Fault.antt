@@ -4,6 +4,8 @@ use Rattle.hsms_frame.specs.declared.fault.FrameFault.{FrameFault}
 use Rattle.hsms_frame.specs.declared.fault.FrameFault.TheVariants as frame
 use Rattle.hsms_frame.specs.declared.fault.ReadFault.{ReadFault}
 use Rattle.hsms_frame.specs.declared.fault.ReadFault.TheVariants as read
+use Rattle.hsms_frame.specs.declared.fault.WriteFault.{WriteFault}
+use Rattle.hsms_frame.specs.declared.fault.WriteFault.TheVariants as write
 
 -- the name of a fault of octets, and the length that it tells
 abbrev pub frame_fault_text : FrameFault → List ℕ
@@ -18,3 +20,8 @@ read_fault_text (read.TooLong length header) = codes "TooLong length=" ++ decima
 read_fault_text read.Memory = codes "Memory"
 read_fault_text read.CutOff = codes "CutOff"
 read_fault_text read.Read = codes "Read"
+
+-- the name of a fault of a writing, and the length that it tells
+abbrev pub write_fault_text : WriteFault → List ℕ
+write_fault_text (write.TooLong length header) = codes "TooLong length=" ++ decimal length
+write_fault_text write.Write = codes "Write"

@@ -1,7 +1,10 @@
+pub mod Build
 pub mod Count
 pub mod Device
 pub mod Fault
 pub mod Frame
+pub mod Framing
 pub mod Header
 pub mod Memory
 pub mod Reading
+pub mod Writing

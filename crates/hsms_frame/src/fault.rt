@@ -1,8 +1,10 @@
 //! What is wrong with the octets of a message, and with reading them.
 
 ghost use Rattle.std.specs.Prelude.{◌≡◌, Some};
-ghost use Rattle.hsms_frame.specs.Fault.{frame_fault_text, read_fault_text};
+ghost use Rattle.hsms_frame.specs.Fault.{frame_fault_text, read_fault_text, write_fault_text};
+ghost use Rattle.hsms_frame.specs.declared.fault.FrameFault.TheVariants as frame;
 ghost use Rattle.hsms_frame.specs.declared.fault.ReadFault.TheVariants.{Memory, Read};
+ghost use Rattle.hsms_frame.specs.declared.fault.WriteFault.TheVariants.{Write};
 
 use crate::device::Failed;
 use crate::header::Header;
@@ -35,6 +37,14 @@ impl fmt::Display for FrameFault {
 
 impl Error for FrameFault {}
 
+impl From<AllocError> for FrameFault {
+    ghost from_gives = { λ _ e. e ≡ frame.Memory };
+
+    fn from(_: AllocError) -> FrameFault {
+        FrameFault::Memory
+    }
+}
+
 /// Why no frame was read. Each is shown as its name and its length, as in `TooLong length=257`.
 #[derive(Clone, Copy, Debug, PartialEq, Eq)]
 pub enum ReadFault {
@@ -65,6 +75,36 @@ impl fmt::Display for ReadFault {
 }
 
 impl Error for ReadFault {}
+
+/// Why no frame was written. Each is shown as its name and its length, as in `TooLong length=4294967296`.
+#[derive(Clone, Copy, Debug, PartialEq, Eq)]
+pub enum WriteFault {
+    /// Header and text have more octets than a length field counts. Nothing was written.
+    TooLong { length: u64, header: Header },
+    /// The device failed. Some octets from the front may be written.
+    Write,
+}
+
+impl fmt::Display for WriteFault {
+    ghost output = { λ fault. Some (write_fault_text fault) };
+
+    fn fmt<W: fmt::Write>(&self, f: &mut fmt::Formatter<W>) -> fmt::Result {
+        match *self {
+            WriteFault::TooLong { length, .. } => write!(f, "TooLong length={length}"),
+            WriteFault::Write => write!(f, "Write"),
+        }
+    }
+}
+
+impl Error for WriteFault {}
+
+impl From<Failed> for WriteFault {
+    ghost from_gives = { λ _ e. e ≡ Write };
+
+    fn from(_: Failed) -> WriteFault {
+        WriteFault::Write
+    }
+}
 
 impl From<Failed> for ReadFault {
     ghost from_gives = { λ _ e. e ≡ Read };

@@ -47,3 +47,14 @@ pub struct Frame {
     pub header: Header,
     pub text: Text,
 }
+
+impl Frame {
+    ghost use Rattle.std.specs.Prelude.{◌+◌, length};
+
+    /// How many octets header and text have, as the length field counts them.
+    pub fn length(&self) -> u64
+        ensures { result ≡ 10 + length self.now.text }
+    {
+        self.text.as_slice().len() as u64 + 10
+    }
+}

@@ -6,10 +6,12 @@
 //! program did to them.
 #![tactic(auto)]
 
+mod build;
 mod classify;
 mod device;
 mod fault;
 mod frame;
+mod framer;
 mod header;
 mod kinds;
 mod memory;
@@ -17,17 +19,23 @@ mod read;
 mod standard;
 mod tally;
 mod transfer;
+mod write;
 
+pub use build::{
+    data_header, linktest_req, linktest_rsp, reject_of, select_req, select_rsp, separate,
+};
 pub use classify::kind;
 pub use device::{Failed, Sink, Source};
-pub use fault::{FrameFault, ReadFault};
+pub use fault::{FrameFault, ReadFault, WriteFault};
 pub use frame::{Frame, Text};
+pub use framer::Framer;
 pub use header::Header;
 pub use kinds::Kind;
 pub use memory::{Feed, Store};
 pub use read::read_frame;
 pub use standard::{Reader, Writer};
 pub use transfer::{fill, give_all};
+pub use write::{encode_frame, write_frame};
 
 #[cfg(test)]
 mod tests;

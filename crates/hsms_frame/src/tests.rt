@@ -1,3 +1,6 @@
+mod framing;
+mod writing;
+
 use super::*;
 use std::alloc::{AllocError, Global};
 use std::test::Fail;

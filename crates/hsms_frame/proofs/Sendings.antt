@@ -1,0 +1,61 @@
+-- What is written in two parts.
+use Rattle.std.proofs.Common.{◌≡◌, ◌≤◌, ◌<◌, ◌+◌, ◌++◌, ℕ, List, length, take, Some, subst, sym, ◌∙◌, ap, arith}
+use Rattle.std.specs.Prelude.{Option}
+use Rattle.std.proofs.lemmas.List.{length-append, take-append-le, append_assoc}
+use Rattle.std.proofs.Math.Seq.{take-append-add}
+use Rattle.std.specs.Int.{w32, to_be_bytes}
+use Rattle.hsms_frame.specs.declared.frame.Frame.{Frame}
+use Rattle.hsms_frame.specs.Device.{Grows, GrowsByFront}
+use Rattle.hsms_frame.specs.Header.{header_octets}
+use Rattle.hsms_frame.specs.Frame.{frame_octets}
+
+-- both parts were written
+grows_by_both : (old mid new : Option (List ℕ)) (first last : List ℕ) → Grows old mid first → Grows mid new last → Grows old new (first ++ last)
+grows_by_both old mid new first last a b before told = b (before ++ first) (a before told) ∙ ap Some (append_assoc before first last)
+
+-- not all of the first part was written
+stops_in_first : (old new : Option (List ℕ)) (first last : List ℕ) → GrowsByFront old new first → GrowsByFront old new (first ++ last)
+stops_in_first old new first last a before told =
+    let g = a before told in
+    let n : ℕ = g.0 in
+    let less : n < length first = g.1 in
+    (n, omega (arith, length-append first last), g.2 ∙ ap (λ xs. Some (before ++ xs)) (sym (take-append-le n first last (omega arith))))
+
+-- the first part was written, and not all of the last
+stops_in_last : (old mid new : Option (List ℕ)) (first last : List ℕ) → Grows old mid first → GrowsByFront mid new last
+    → GrowsByFront old new (first ++ last)
+stops_in_last old mid new first last a b before told =
+    let g = b (before ++ first) (a before told) in
+    let n : ℕ = g.0 in
+    let less : n < length last = g.1 in (
+      length first + n,
+      omega (arith, length-append first last),
+      g.2 ∙ ap Some (append_assoc before first (take n last)) ∙ ap (λ xs. Some (before ++ xs)) (sym (take-append-add first last n)),
+    )
+
+-- the octets of a message before its text
+abbrev pub IsBeforeText : Frame → List ℕ → Type 0
+IsBeforeText f front = front ≡ to_be_bytes w32 (10 + length f.text) ++ header_octets f.header
+
+pub counted : (f : Frame) (n : ℕ) → n ≡ 10 + length f.text
+    → to_be_bytes w32 n ++ header_octets f.header ≡ to_be_bytes w32 (10 + length f.text) ++ header_octets f.header
+counted f n same = ap (λ k. to_be_bytes w32 k ++ header_octets f.header) same
+
+-- what was written of a message in the two parts
+pub wrote_all : (f : Frame) (front : List ℕ) (old mid new : Option (List ℕ)) → IsBeforeText f front → Grows old mid front → Grows mid new f.text
+    → Grows old new (frame_octets f)
+wrote_all f front old mid new is a b =
+    let P : List ℕ → Type 0 = λ xs. Grows old mid xs in
+    grows_by_both old mid new _ f.text (subst P is a) b
+
+pub wrote_front : (f : Frame) (front : List ℕ) (old new : Option (List ℕ)) → IsBeforeText f front → GrowsByFront old new front
+    → GrowsByFront old new (frame_octets f)
+wrote_front f front old new is a =
+    let P : List ℕ → Type 0 = λ xs. GrowsByFront old new xs in
+    stops_in_first old new _ f.text (subst P is a)
+
+pub wrote_part : (f : Frame) (front : List ℕ) (old mid new : Option (List ℕ)) → IsBeforeText f front → Grows old mid front
+    → GrowsByFront mid new f.text → GrowsByFront old new (frame_octets f)
+wrote_part f front old mid new is a b =
+    let P : List ℕ → Type 0 = λ xs. Grows old mid xs in
+    stops_in_last old mid new _ f.text (subst P is a) b

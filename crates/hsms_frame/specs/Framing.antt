@@ -1,0 +1,45 @@
+-- Messages from octets that come in pieces.
+use Rattle.std.specs.Prelude.{◌≡◌, ◌≤◌, ◌+◌, ◌++◌, ℕ, List, length, take, drop, Option, Some, None, Result, Ok, Err}
+use Rattle.hsms_frame.specs.declared.header.Header.{Header}
+use Rattle.hsms_frame.specs.declared.frame.Frame.{Frame}
+use Rattle.hsms_frame.specs.declared.fault.FrameFault.{FrameFault}
+use Rattle.hsms_frame.specs.declared.fault.FrameFault.TheVariants.{TooShort, TooLong, Memory}
+use Rattle.hsms_frame.specs.Header.{header_octets, IsHeader}
+use Rattle.hsms_frame.specs.Frame.{frame_octets, length_field, IsFrame, IsOctets, IsTooShort, IsTooLong, IsFaultless, IsProperFront}
+
+-- what a framer is known by: its limit, and the octets that belong to no message that was given
+pub record FramerState : Type 0 where
+  pub max : ℕ
+  pub pending : List ℕ
+
+-- the answers to pending octets, each with what is pending afterwards
+abbrev pub FramesAs : ℕ → List ℕ → Result (Option Frame) FrameFault → List ℕ → Type 0
+FramesAs max pending (Ok (Some f)) rest = (pending ≡ frame_octets f ++ rest) × IsFrame f × (10 + length f.text ≤ max)
+FramesAs max pending (Ok None) rest = IsFaultless max pending × IsProperFront pending × (rest ≡ pending)
+FramesAs max pending (Err (TooShort n)) rest = IsTooShort pending n × (rest ≡ pending)
+FramesAs max pending (Err (TooLong n h)) rest = IsTooLong max pending n h × (rest ≡ pending)
+FramesAs max pending (Err Memory) rest =
+    (f : Frame) × (more : List ℕ) × (pending ≡ frame_octets f ++ more) × IsFrame f × (10 + length f.text ≤ max) × (rest ≡ pending)
+
+-- what an answer leaves of octets: they stay, or the message that was given is taken away
+abbrev pub rest_after : Result (Option Frame) FrameFault → List ℕ → List ℕ
+rest_after (Ok (Some f)) octets = drop (14 + length f.text) octets
+rest_after (Ok None) octets = octets
+rest_after (Err fault) octets = octets
+
+-- the header and the size of the text of a message that is there whole
+pub record IsFrontOf (max : ℕ) (octets : List ℕ) (h : Header) (size : ℕ) : Type 0 where
+  pub there : 14 + size ≤ length octets
+  pub field : length_field octets ≡ 10 + size
+  pub within : 10 + size ≤ max
+  pub header : header_octets h ≡ take 10 (drop 4 octets)
+  pub header_fits : IsHeader h
+  pub fits : IsOctets octets
+
+-- what is found at the front of octets: a message that is there whole, a part of one, or a fault
+abbrev pub FrontAs : ℕ → List ℕ → Result (Option (Header × ℕ)) FrameFault → Type 0
+FrontAs max octets (Ok (Some front)) = IsFrontOf max octets front.0 front.1
+FrontAs max octets (Ok None) = IsFaultless max octets × IsProperFront octets
+FrontAs max octets (Err (TooShort n)) = IsTooShort octets n
+FrontAs max octets (Err (TooLong n h)) = IsTooLong max octets n h
+FrontAs max octets (Err Memory) = ⊥

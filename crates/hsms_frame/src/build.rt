@@ -1,0 +1,93 @@
+//! Headers of the messages that this profile sends (SEMI E37, section 8.3). Bytes that carry nothing are zero.
+
+ghost use Rattle.std.specs.Prelude.{◌≡◌, ◌<◌};
+ghost use Rattle.hsms_frame.specs.Build.{data_header_of, control_header_of, reject_header_of};
+
+use crate::header::Header;
+
+// The session ID of a control message.
+const CONTROL: u16 = 0xffff;
+
+/// The header of a data message. The stream is below 128.
+pub fn data_header(device: u16, stream: u8, function: u8, wait: bool, system: u32) -> Header
+    requires { stream < 128 }
+    ensures { result ≡ data_header_of device stream function wait system }
+{
+    Header {
+        session: device,
+        byte2: if wait { stream + 128 } else { stream },
+        byte3: function,
+        ptype: 0,
+        stype: 0,
+        system,
+    }
+}
+
+/// The header of Select.req: asks for a session.
+pub fn select_req(system: u32) -> Header
+    ensures { result ≡ control_header_of 1 0 system }
+{
+    control_header(1, 0, system)
+}
+
+/// The header of Select.rsp that answers a request. Status 0 establishes the session, 1 says that it already stands,
+/// 2 that this end isn't ready, and 3 that it is taken.
+pub fn select_rsp(request: Header, status: u8) -> Header
+    ensures { result ≡ control_header_of 2 status request.system }
+{
+    control_header(2, status, request.system)
+}
+
+/// The header of Linktest.req: asks whether the other end is still there.
+pub fn linktest_req(system: u32) -> Header
+    ensures { result ≡ control_header_of 5 0 system }
+{
+    control_header(5, 0, system)
+}
+
+/// The header of Linktest.rsp that answers a request.
+pub fn linktest_rsp(request: Header) -> Header
+    ensures { result ≡ control_header_of 6 0 request.system }
+{
+    control_header(6, 0, request.system)
+}
+
+/// The header of Separate.req: ends the session.
+pub fn separate(system: u32) -> Header
+    ensures { result ≡ control_header_of 9 0 system }
+{
+    control_header(9, 0, system)
+}
+
+/// The header of Reject.req that refuses a message, with its session ID and system bytes. Reason 1 is an SType that isn't
+/// supported, 2 a PType that isn't, 3 a transaction that isn't open, 4 a session that isn't established.
+pub fn reject_of(header: Header, reason: u8) -> Header
+    ensures { result ≡ reject_header_of header reason }
+{
+    let rejected = if reason == 2 {
+        header.ptype
+    } else {
+        header.stype
+    };
+    Header {
+        session: header.session,
+        byte2: rejected,
+        byte3: reason,
+        ptype: 0,
+        stype: 7,
+        system: header.system,
+    }
+}
+
+fn control_header(stype: u8, byte3: u8, system: u32) -> Header
+    ensures { result ≡ control_header_of stype byte3 system }
+{
+    Header {
+        session: CONTROL,
+        byte2: 0,
+        byte3,
+        ptype: 0,
+        stype,
+        system,
+    }
+}

@@ -1,0 +1,148 @@
+//! Messages from octets that come in pieces.
+
+ghost use Rattle.std.specs.Prelude.{◌≡◌, ◌≤◌, ◌+◌, [], ◌++◌, ◌⊎◌, drop, length, vec_len, IfOk, IfSome, OnOk, OnErr, IsOkUnless, Err};
+ghost use Rattle.hsms_frame.specs.Framing.{FramesAs, FrontAs, rest_after};
+
+use crate::fault::FrameFault;
+use crate::frame::{Frame, Text};
+use crate::header::Header;
+use std::alloc::Global;
+use std::marker::Model;
+
+/// Octets that came so far, and the messages at their front (SEMI E37, section 8.1). However the octets were cut into
+/// pieces, the messages are the same.
+#[derive(Drop)]
+pub struct Framer {
+    max: u32,
+    octets: Vec<u8>,
+    place: usize,
+}
+
+impl Model for Framer {
+    ghost use Rattle.std.specs.Prelude.{◌≤◌, drop, vec_len};
+    ghost use Rattle.hsms_frame.specs.Framing.{FramerState};
+
+    ghost Value = { FramerState };
+
+    ghost view = { λ f. record { max = f.max; pending = drop f.place f.octets.items } };
+
+    ghost invariant = { λ f. f.place ≤ vec_len f.octets };
+}
+
+impl Framer {
+    /// A framer that has no octets yet. `max` is the greatest count of octets of header and text of a message.
+    pub fn new(alloc: Global, max: u32) -> Framer
+        ensures { result ≡ record { max = max; pending = [] } }
+    {
+        Framer {
+            max,
+            octets: Vec::new(alloc),
+            place: 0,
+        }
+    }
+
+    /// The octets that came and belong to no message that was given.
+    pub fn pending(&self) -> &[u8]
+        ensures { result.now ≡ self.now.pending }
+    {
+        &self.octets[self.place..]
+    }
+
+    /// Takes in the next octets. The only fault is `Memory`, and then none were taken in.
+    pub fn push(&mut self, octets: &[u8]) -> Result<(), FrameFault>
+        ensures ok { OnOk result (self.new ≡ record self.old { pending = self.old.pending ++ octets.now }) }
+        ensures memory { IsOkUnless result FrameFault.Memory }
+        ensures err { OnErr result (self.new ≡ self.old) }
+    {
+        if self.octets.capacity() - self.octets.len() < octets.len() {
+            drop_front(&mut self.octets, self.place);
+            self.place = 0;
+        }
+        self.octets.extend_from_slice(octets)?;
+        Ok(())
+    }
+
+    /// Gives the message at the front of the pending octets, and takes its octets away. There is none where they end within
+    /// a message.
+    ///
+    /// Faults, each of which leaves the pending octets as they are: `TooShort`, once four octets are there, where they count
+    /// fewer than ten; `TooLong`, once fourteen are there, where the first four count more than the limit; `Memory`, only
+    /// where a whole message is there.
+    pub fn next(&mut self) -> Result<Option<Frame>, FrameFault>
+        // The answer is one to the pending octets.
+        ensures answer { FramesAs self.old.max self.old.pending result self.new.pending }
+        // No other answer is.
+        ensures only { (answer : _) (rest : _) → FramesAs self.old.max self.old.pending answer rest
+            → (answer ≡ Err FrameFault.Memory) ⊎ (result ≡ Err FrameFault.Memory) ⊎ (result ≡ answer) }
+        ensures max { self.new.max ≡ self.old.max }
+    {
+        self.take_front()
+    }
+
+    fn take_front(&mut self) -> Result<Option<Frame>, FrameFault>
+        ensures answer { FramesAs self.old.max self.old.pending result self.new.pending }
+        ensures max { self.new.max ≡ self.old.max }
+    {
+        let alloc = *self.octets.allocator();
+        let answer = front_frame(alloc, &self.octets[self.place..], self.max);
+        if let Ok(Some(frame)) = &answer {
+            self.place += 14 + frame.text.as_slice().len();
+        }
+        answer
+    }
+}
+
+// The message at the front of octets, if it is there whole.
+fn front_frame(alloc: Global, octets: &[u8], max: u32) -> Result<Option<Frame>, FrameFault>
+    ensures answer { FramesAs max octets.now result (rest_after result octets.now) }
+    ensures bound { IfOk result (λ frame. IfSome frame (λ f. 14 + length f.text ≤ length octets.now)) }
+{
+    let Some((header, size)) = front(octets, max)? else {
+        return Ok(None);
+    };
+    let text = Vec::from_slice(alloc, &octets[14..14 + size])?;
+    Ok(Some(Frame {
+        header,
+        text: Text::new(text),
+    }))
+}
+
+// The header and the size of the text of the message at the front, if it is there whole.
+fn front(octets: &[u8], max: u32) -> Result<Option<(Header, usize)>, FrameFault>
+    ensures { FrontAs max octets.now result }
+{
+    let Some((field, behind)) = octets.split_first_chunk::<4>() else {
+        return Ok(None);
+    };
+    let length = u32::from_be_bytes(*field);
+    if length < 10 {
+        return Err(FrameFault::TooShort {
+            length: u64::from(length),
+        });
+    }
+    let Some((header, text)) = behind.split_first_chunk::<10>() else {
+        return Ok(None);
+    };
+    let header = Header::of(*header);
+    if length > max {
+        return Err(FrameFault::TooLong {
+            length: u64::from(length),
+            header,
+        });
+    }
+    let size = length as usize - 10;
+    if text.len() < size {
+        return Ok(None);
+    }
+    Ok(Some((header, size)))
+}
+
+// Takes octets away from the front.
+fn drop_front(octets: &mut Vec<u8>, count: usize)
+    requires { count ≤ vec_len octets.old }
+    ensures { octets.new.items ≡ drop count octets.old.items }
+{
+    let rest = octets.len() - count;
+    octets.copy_within(count.., 0);
+    octets.truncate(rest);
+}

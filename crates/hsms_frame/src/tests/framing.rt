@@ -1,0 +1,118 @@
+use super::{DATA, LONG, SELECT};
+use crate::{FrameFault, Framer};
+use std::alloc::Global;
+use std::process::Abort;
+use std::test::Fail;
+
+// The system bytes of the messages at the front, which are taken away.
+fn systems(alloc: Global, framer: &mut Framer) -> Result<Vec<u32>, Fail> {
+    let mut systems = Vec::new(alloc);
+    for _ in 0..4 {
+        match framer.next() {
+            Ok(Some(frame)) => systems.push(frame.header.system)?,
+            Ok(None) => break,
+            Err(_) => return Err("no fault".into()),
+        }
+    }
+    Ok(systems)
+}
+
+#[test]
+fn gives_the_same_from_any_two_pieces(rt: HostRuntime) -> Result<(), Fail> {
+    let alloc = rt.alloc();
+    let mut octets = Vec::from_slice(alloc, &SELECT)?;
+    octets.extend_from_slice(&DATA)?;
+    for cut in 0..=octets.len() {
+        let (first, last) = octets.split_at(cut);
+        let mut framer = Framer::new(alloc, 256);
+        assert!(rt; framer.push(first).is_ok());
+        let mut given = systems(alloc, &mut framer)?;
+        assert!(rt; framer.push(last).is_ok());
+        given.extend_from_slice(&systems(alloc, &mut framer)?)?;
+        assert_eq!(rt; given.as_slice(), [1, 1].as_slice(), "cut at {cut}");
+        assert!(rt; framer.pending().is_empty());
+    }
+    Ok(())
+}
+
+#[test]
+fn waits_for_the_last_octet(rt: HostRuntime) -> Result<(), Fail> {
+    let mut framer = Framer::new(rt.alloc(), 256);
+    for octet in &DATA[..15] {
+        assert!(rt; framer.push(&[*octet]).is_ok());
+        assert!(rt; matches!(framer.next(), Ok(None)));
+    }
+    assert!(rt; framer.push(&DATA[15..]).is_ok());
+    let frame = framer.next().ok().flatten().ok_or("a message")?;
+    assert_eq!(rt; frame.text.as_slice(), &DATA[14..]);
+    assert!(rt; framer.pending().is_empty());
+    Ok(())
+}
+
+#[test]
+fn tells_a_fault_as_soon_as_it_is_there(rt: HostRuntime) -> Result<(), Fail> {
+    let mut framer = Framer::new(rt.alloc(), 256);
+    assert!(rt; framer.push(&[0, 0, 0]).is_ok() && matches!(framer.next(), Ok(None)));
+    assert!(rt; framer.push(&[9]).is_ok());
+    assert!(rt; matches!(framer.next(), Err(FrameFault::TooShort { length: 9 })));
+    let mut framer = Framer::new(rt.alloc(), 256);
+    for octet in &LONG[..13] {
+        assert!(rt; framer.push(&[*octet]).is_ok() && matches!(framer.next(), Ok(None)));
+    }
+    assert!(rt; framer.push(&LONG[13..]).is_ok());
+    assert!(rt;
+        matches!(framer.next(), Err(FrameFault::TooLong { length: 257, header }) if header.system == 2)
+    );
+    assert_eq!(rt; framer.pending(), LONG.as_slice());
+    Ok(())
+}
+
+#[test]
+fn gives_each_of_a_thousand_once(rt: HostRuntime) -> Result<(), Fail> {
+    let mut framer = Framer::new(rt.alloc(), 256);
+    for _ in 0..1000 {
+        assert!(rt; framer.push(&SELECT).is_ok());
+    }
+    for _ in 0..1000 {
+        assert!(rt; matches!(framer.next(), Ok(Some(_))));
+    }
+    assert!(rt; framer.pending().is_empty() && matches!(framer.next(), Ok(None)));
+    Ok(())
+}
+
+// Two messages come in two pieces. A refused call leaves the framer as it was, and can be made again.
+#[test]
+fn refused_pieces(rt: HostRuntime) -> Result<(), Fail> {
+    let mut framer = Framer::new(rt.alloc(), 256);
+    push(&rt, &mut framer, &SELECT);
+    push(&rt, &mut framer, &DATA);
+    take(&rt, &mut framer, 0);
+    take(&rt, &mut framer, 2);
+    assert!(rt; framer.pending().is_empty());
+    Ok(())
+}
+
+fn push(rt: &impl Abort, framer: &mut Framer, octets: &[u8]) {
+    let before = framer.pending().len();
+    if let Err(fault) = framer.push(octets) {
+        assert!(rt; fault == FrameFault::Memory && framer.pending().len() == before);
+        assert!(rt; framer.push(octets).is_ok());
+    }
+}
+
+fn take(rt: &impl Abort, framer: &mut Framer, size: usize) {
+    let before = framer.pending().len();
+    let mut taken = size_of_next(framer);
+    if taken == Err(FrameFault::Memory) {
+        assert!(rt; framer.pending().len() == before);
+        taken = size_of_next(framer);
+    }
+    assert!(rt; taken == Ok(Some(size)));
+}
+
+fn size_of_next(framer: &mut Framer) -> Result<Option<usize>, FrameFault> {
+    match framer.next()? {
+        Some(frame) => Ok(Some(frame.text.as_slice().len())),
+        None => Ok(None),
+    }
+}

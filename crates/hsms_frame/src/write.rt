@@ -1,0 +1,61 @@
+//! Messages as octets (SEMI E37, section 8.1): four that count header and text, the header, the text.
+
+ghost use Rattle.std.specs.Prelude.{◌≡◌, ◌<◌, ◌+◌, ◌^◌, ◌++◌, length, IfOk, IfErr};
+ghost use Rattle.std.specs.Int.{w32, to_be_bytes};
+ghost use Rattle.hsms_frame.specs.Frame.{frame_octets};
+ghost use Rattle.hsms_frame.specs.Header.{header_octets};
+ghost use Rattle.hsms_frame.specs.Writing.{IsNotEncoded, WritesAs, failures_after_write};
+
+use crate::device::Sink;
+use crate::fault::{FrameFault, WriteFault};
+use crate::frame::Frame;
+use crate::header::Header;
+use crate::transfer::give_all;
+use std::alloc::Global;
+
+// What four octets count.
+const LONGEST: u64 = 0xffff_ffff;
+
+/// The octets of a message.
+///
+/// Faults: `TooLong` where header and text have more than 4,294,967,295 octets, before any memory is taken; `Memory`.
+pub fn encode_frame(alloc: Global, frame: &Frame) -> Result<Vec<u8>, FrameFault>
+    ensures ok { IfOk result (λ octets. (octets.items ≡ frame_octets frame.now) × (10 + length frame.now.text < 2 ^ 32)) }
+    ensures err { IfErr result (IsNotEncoded frame.now) }
+{
+    let header = frame.header;
+    let length = frame.length();
+    if length > LONGEST {
+        return Err(FrameFault::TooLong { length, header });
+    }
+    let mut octets = Vec::from_slice(alloc, &front(length as u32, header))?;
+    octets.extend_from_slice(frame.text.as_slice())?;
+    Ok(octets)
+}
+
+/// Writes the octets of a message, and takes no memory.
+///
+/// Faults: `TooLong` where header and text have more than 4,294,967,295 octets, and nothing was written; `Write` where the
+/// sink failed, and some of the octets from their front were written.
+pub fn write_frame<W: Sink>(sink: &mut W, frame: &Frame) -> Result<(), WriteFault>
+    ensures octets { WritesAs frame.now result (W.written sink.old) (W.written sink.new) }
+    ensures failures { W.failures sink.new ≡ failures_after_write result (W.failures sink.old) }
+{
+    let header = frame.header;
+    let length = frame.length();
+    if length > LONGEST {
+        return Err(WriteFault::TooLong { length, header });
+    }
+    give_all(sink, &front(length as u32, header))?;
+    give_all(sink, frame.text.as_slice())?;
+    Ok(())
+}
+
+// The octets before the text.
+fn front(length: u32, header: Header) -> [u8; 14]
+    ensures { result ≡ to_be_bytes w32 length ++ header_octets header }
+{
+    let [l0, l1, l2, l3] = length.to_be_bytes();
+    let [h0, h1, h2, h3, h4, h5, h6, h7, h8, h9] = header.octets();
+    [l0, l1, l2, l3, h0, h1, h2, h3, h4, h5, h6, h7, h8, h9]
+}
