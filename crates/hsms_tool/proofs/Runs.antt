@@ -1,5 +1,5 @@
 -- Runs of `hsms show`, one message after another.
-use Rattle.std.proofs.Common.{◌≡◌, ◌≢◌, ◌≤◌, ◌+◌, ◌++◌, ℕ, List, [], ◌∷◌, length, Some, Ok, Err, true, false, Bool, refl, sym, ◌∙◌, ap, subst, inl, inr, arith, get_or, codes}
+use Rattle.std.proofs.Common.{◌≡◌, ◌≢◌, ◌≤◌, ◌+◌, ◌++◌, ℕ, List, [], ◌∷◌, length, Some, Ok, Err, true, false, Bool, refl, sym, ◌∙◌, ap, inl, inr, arith, get_or, codes}
 use Rattle.std.specs.Prelude.{Option, Result, All}
 use Rattle.std.proofs.lemmas.List.{append-nil, append_assoc, length-append}
 use Rattle.std.proofs.lemmas.Grind.{flat_map-append}
@@ -11,8 +11,8 @@ use Rattle.hsms_frame.specs.Frame.{frame_octets}
 use Rattle.hsms_frame.specs.Reading.{ReadsAs}
 use Rattle.hsms_tool.specs.declared.fault.ToolFault.{ToolFault}
 use Rattle.hsms_tool.specs.declared.fault.ToolFault.TheVariants.{Refused, Device, Memory}
-use Rattle.hsms_tool.specs.Line.{line_of}
-use Rattle.hsms_tool.specs.Show.{IsWithin, octets_of, lines_of, StopsBy, Shows, CountsFailure, ReadsNext, ShowsNext, Tells, HasWord, IsWrite}
+use Rattle.hsms_tool.specs.Line.{LineOf}
+use Rattle.hsms_tool.specs.Show.{IsWithin, octets_of, LinesOf, StopsBy, Shows, CountsFailure, ReadsNext, ShowsNext, Tells, HasWord, IsWrite}
 
 -- a reading's fault, told by the command
 pub tells : (max : ℕ) (input : List ℕ) (fault : ReadFault) (left : Option (List ℕ)) (tool : ToolFault)
@@ -28,22 +28,22 @@ tells_word fault (Device word) t = t.1
 tells_word fault Memory t = tt
 
 -- a reading stopped the call, and nothing was written
-pub read_stops : (max : ℕ) (input before : List ℕ) (fault : ToolFault) (left written : Option (List ℕ))
-    → ReadsNext max input (Err fault) left → HasWord (codes "Read") fault → written ≡ Some before → ShowsNext max input before (Err fault) left written
-read_stops max input before (Refused words) left written reads word same = (reads, same)
-read_stops max input before (Device given) left written reads word same = inl (word, same)
-read_stops max input before Memory left written reads word same = same
+pub read_stops : (max depth : ℕ) (input before : List ℕ) (fault : ToolFault) (left written : Option (List ℕ))
+    → ReadsNext max input (Err fault) left → HasWord (codes "Read") fault → written ≡ Some before
+    → ShowsNext max depth input before (Err fault) left written
+read_stops max depth input before (Refused words) left written reads word same = (reads, same)
+read_stops max depth input before (Device given) left written reads word same = inl (word, same)
+read_stops max depth input before Memory left written reads word same = same
 
 -- a write stopped the call
-pub write_stops : (max : ℕ) (input before rest line : List ℕ) (f : Frame) (fault : ToolFault) (left old written : Option (List ℕ))
-    → IsWrite fault → input ≡ frame_octets f ++ rest → IsWithin max f → line ≡ line_of f → GrowsByFront old written line → old ≡ Some before
-    → ShowsNext max input before (Err fault) left written
-write_stops max input before rest line f (Refused words) left old written word reads within shown grows told = absurd word
-write_stops max input before rest line f (Device given) left old written word reads within shown grows told =
-    let P : List ℕ → Type 0 = λ l. GrowsByFront old written l in
-    let g = subst P shown grows before told in
-    inr (word, f, rest, g.0, reads, within, g.1, g.2)
-write_stops max input before rest line f Memory left old written word reads within shown grows told = absurd word
+pub write_stops : (max depth : ℕ) (input before rest line : List ℕ) (f : Frame) (fault : ToolFault) (left old written : Option (List ℕ))
+    → IsWrite fault → input ≡ frame_octets f ++ rest → IsWithin max f → LineOf depth f line → GrowsByFront old written line → old ≡ Some before
+    → ShowsNext max depth input before (Err fault) left written
+write_stops max depth input before rest line f (Refused words) left old written word reads within shown grows told = absurd word
+write_stops max depth input before rest line f (Device given) left old written word reads within shown grows told =
+    let g = grows before told in
+    inr (word, f, rest, line, g.0, reads, within, shown, g.1, g.2)
+write_stops max depth input before rest line f Memory left old written word reads within shown grows told = absurd word
 
 differ : (given : List ℕ) → given ≡ codes "Read" → given ≢ codes "Write"
 differ given e w = let first : ◌≡◌ {A = ℕ} 82 87 = ap (λ xs. get_or xs 0 0) (sym e ∙ w) in absurd (omega arith)
@@ -54,73 +54,84 @@ no_write T (Refused words) n word = refl
 no_write T (Device given) n word = inr (differ given.now word, refl)
 no_write T Memory n word = refl
 
+-- one more line
+LinesOf-push : (depth : ℕ) (messages : List Frame) (lines line : List ℕ) (f : Frame) → LinesOf depth messages lines → LineOf depth f line
+    → LinesOf depth (messages ++ f ∷ []) (lines ++ line)
+LinesOf-push depth [] lines line f none is =
+    (line, [], is, refl, ap (λ xs. xs ++ line) none ∙ sym (append-nil line))
+LinesOf-push depth (m ∷ ms) lines line f (first, rest, one, others, parts) is =
+    (first, rest ++ line, one, LinesOf-push depth ms rest line f others is, ap (λ xs. xs ++ line) parts ∙ append_assoc first rest line)
+
 -- after some messages
-abbrev pub Begun : ℕ → List ℕ → List ℕ → ℕ → Option (List ℕ) → Option (List ℕ) → Type 0
-Begun max input before count left written =
-    (messages : List Frame) × (rest : List ℕ) × (length messages ≡ count) × All (IsWithin max) messages
-    × (input ≡ octets_of messages ++ rest) × (left ≡ Some rest) × (written ≡ Some (before ++ lines_of messages))
+abbrev pub Begun : ℕ → ℕ → List ℕ → List ℕ → ℕ → Option (List ℕ) → Option (List ℕ) → Type 0
+Begun max depth input before count left written =
+    (messages : List Frame) × (lines rest : List ℕ) × (length messages ≡ count) × All (IsWithin max) messages
+    × LinesOf depth messages lines × (input ≡ octets_of messages ++ rest) × (left ≡ Some rest) × (written ≡ Some (before ++ lines))
 
 -- the next message, of what is left
-abbrev pub Next : ℕ → Option (List ℕ) → Option (List ℕ) → Result Bool ToolFault → Option (List ℕ) → Option (List ℕ) → Type 0
-Next max left written result left' written' =
-    (input : List ℕ) → left ≡ Some input → (before : List ℕ) → written ≡ Some before → ShowsNext max input before result left' written'
+abbrev pub Next : ℕ → ℕ → Option (List ℕ) → Option (List ℕ) → Result Bool ToolFault → Option (List ℕ) → Option (List ℕ) → Type 0
+Next max depth left written result left' written' =
+    (input : List ℕ) → left ≡ Some input → (before : List ℕ) → written ≡ Some before → ShowsNext max depth input before result left' written'
 
-pub begins : (max : ℕ) (input before : List ℕ) (left written : Option (List ℕ)) → left ≡ Some input → written ≡ Some before
-    → Begun max input before 0 left written
-begins max input before left written told holds =
-    ([], input, refl, (λ k d below. absurd (omega arith)), refl, told, holds ∙ ap Some (sym (append-nil before)))
+pub begins : (max depth : ℕ) (input before : List ℕ) (left written : Option (List ℕ)) → left ≡ Some input → written ≡ Some before
+    → Begun max depth input before 0 left written
+begins max depth input before left written told holds =
+    ([], [], input, refl, (λ k d below. absurd (omega arith)), refl, refl, told, holds ∙ ap Some (sym (append-nil before)))
 
-pub goes_on : (max : ℕ) (input before : List ℕ) (count : ℕ) (left written left' written' : Option (List ℕ))
-    → Begun max input before count left written → Next max left written (Ok true) left' written' → Begun max input before (count + 1) left' written'
-goes_on max input before count left written left' written' (messages, rest, size, within, reads, told, holds) next =
-    let n = next rest told (before ++ lines_of messages) holds in
+pub goes_on : (max depth : ℕ) (input before : List ℕ) (count : ℕ) (left written left' written' : Option (List ℕ))
+    → Begun max depth input before count left written → Next max depth left written (Ok true) left' written'
+    → Begun max depth input before (count + 1) left' written'
+goes_on max depth input before count left written left' written' (messages, lines, rest, size, within, shown, reads, told, holds) next =
+    let n = next rest told (before ++ lines) holds in
     let f : Frame = n.0 in
     let after : List ℕ = n.1 in
-    let more : List Frame = messages ++ f ∷ [] in
-    let octets : octets_of more ≡ octets_of messages ++ frame_octets f =
-    flat_map-append frame_octets messages (f ∷ []) ∙ ap (λ x. octets_of messages ++ x) (append-nil (frame_octets f)) in
-    let lines : lines_of more ≡ lines_of messages ++ line_of f =
-    flat_map-append line_of messages (f ∷ []) ∙ ap (λ x. lines_of messages ++ x) (append-nil (line_of f)) in (
-      more,
+    let line : List ℕ = n.2 in
+    let octets : octets_of (messages ++ f ∷ []) ≡ octets_of messages ++ frame_octets f =
+    flat_map-append frame_octets messages (f ∷ []) ∙ ap (λ x. octets_of messages ++ x) (append-nil (frame_octets f)) in (
+      messages ++ f ∷ [],
+      lines ++ line,
       after,
       omega (arith, length-append messages (f ∷ []), size),
-      All-push (IsWithin max) messages f within n.3,
-      reads ∙ ap (λ x. octets_of messages ++ x) n.2 ∙ sym (append_assoc (octets_of messages) (frame_octets f) after)
+      All-push (IsWithin max) messages f within n.4,
+      LinesOf-push depth messages lines line f shown n.5,
+      reads ∙ ap (λ x. octets_of messages ++ x) n.3 ∙ sym (append_assoc (octets_of messages) (frame_octets f) after)
           ∙ ap (λ x. x ++ after) (sym octets),
-      n.4,
-      n.5 ∙ ap Some (append_assoc before (lines_of messages) (line_of f) ∙ ap (λ x. before ++ x) (sym lines)),
+      n.6,
+      n.7 ∙ ap Some (append_assoc before lines line),
     )
 
-pub ends : (max : ℕ) (input before : List ℕ) (count : ℕ) (left written left' written' : Option (List ℕ)) → count ≤ 4294967295
-    → Begun max input before count left written → Next max left written (Ok false) left' written' → Shows max input before (Ok tt) written'
-ends max input before count left written left' written' few (messages, rest, size, within, reads, told, holds) next =
-    let n = next rest told (before ++ lines_of messages) holds in
-    (messages, rest, reads, within, omega arith, n)
+pub ends : (max depth : ℕ) (input before : List ℕ) (count : ℕ) (left written left' written' : Option (List ℕ)) → count ≤ 4294967295
+    → Begun max depth input before count left written → Next max depth left written (Ok false) left' written'
+    → Shows max depth input before (Ok tt) written'
+ends max depth input before count left written left' written' few (messages, lines, rest, size, within, shown, reads, told, holds) next =
+    (messages, lines, rest, reads, within, shown, omega arith, next rest told (before ++ lines) holds)
 
-pub stops : (max : ℕ) (input before : List ℕ) (count : ℕ) (fault : ToolFault) (left written left' written' : Option (List ℕ)) → count ≤ 4294967295
-    → Begun max input before count left written → Next max left written (Err fault) left' written' → Shows max input before (Err fault) written'
-stops max input before count (Refused words) left written left' written' few (messages, rest, size, within, reads, told, holds) next =
-    let n = next rest told (before ++ lines_of messages) holds in
-    (messages, rest, reads, within, omega arith, n)
-stops max input before count Memory left written left' written' few (messages, rest, size, within, reads, told, holds) next =
-    let n = next rest told (before ++ lines_of messages) holds in
-    (messages, rest, reads, within, omega arith, n)
-stops max input before count (Device word) left written left' written' few (messages, rest, size, within, reads, told, holds) next = (
+pub stops : (max depth : ℕ) (input before : List ℕ) (count : ℕ) (fault : ToolFault) (left written left' written' : Option (List ℕ))
+    → count ≤ 4294967295 → Begun max depth input before count left written → Next max depth left written (Err fault) left' written'
+    → Shows max depth input before (Err fault) written'
+stops max depth input before count (Refused words) left written left' written' few (messages, lines, rest, size, within, shown, reads, told, holds) next =
+    (messages, lines, rest, reads, within, shown, omega arith, next rest told (before ++ lines) holds)
+stops max depth input before count Memory left written left' written' few (messages, lines, rest, size, within, shown, reads, told, holds) next =
+    (messages, lines, rest, reads, within, shown, omega arith, next rest told (before ++ lines) holds)
+stops max depth input before count (Device word) left written left' written' few (messages, lines, rest, size, within, shown, reads, told, holds) next = (
   messages,
+  lines,
   rest,
   reads,
   within,
+  shown,
   omega arith,
-  elim (next rest told (before ++ lines_of messages) holds) [
+  elim (next rest told (before ++ lines) holds) [
     | inl n ↦ inl n
     | inr n ↦ inr (inl n)
   ],
 )
 
 -- more messages than the command takes
-pub endless : (max : ℕ) (input before : List ℕ) (count : ℕ) (left written : Option (List ℕ)) → count ≡ 4294967295
-    → Begun max input before count left written
-    → (messages : List Frame) × (rest : List ℕ) × (input ≡ octets_of messages ++ rest) × All (IsWithin max) messages
-    × (length messages ≤ 4294967295) × StopsBy max messages rest before (codes "Endless") written
-endless max input before count left written full (messages, rest, size, within, reads, told, holds) =
-    (messages, rest, reads, within, omega arith, inr (inr (refl, omega arith, holds)))
+pub endless : (max depth : ℕ) (input before : List ℕ) (count : ℕ) (left written : Option (List ℕ)) → count ≡ 4294967295
+    → Begun max depth input before count left written
+    → (messages : List Frame) × (lines rest : List ℕ) × (input ≡ octets_of messages ++ rest) × All (IsWithin max) messages
+    × LinesOf depth messages lines × (length messages ≤ 4294967295)
+    × StopsBy max depth (length messages) rest (before ++ lines) (codes "Endless") written
+endless max depth input before count left written full (messages, lines, rest, size, within, shown, reads, told, holds) =
+    (messages, lines, rest, reads, within, shown, omega arith, inr (inr (refl, omega arith, holds)))

@@ -1,3 +1,4 @@
+pub mod Encode
 pub mod Line
 pub mod Options
 pub mod Show

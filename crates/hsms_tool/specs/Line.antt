@@ -1,7 +1,10 @@
 -- The line that shows a message.
-use Rattle.std.specs.Prelude.{ℕ, List, [], ◌∷◌, ◌++◌, ◌==◌, if◌then◌else◌, length, codes, decimal}
+use Rattle.std.specs.Prelude.{◌≡◌, ◌⊎◌, ℕ, List, [], ◌∷◌, ◌++◌, ◌==◌, if◌then◌else◌, length, codes, decimal, Option}
 use Rattle.std.specs.Int.{w16, w32, to_be_bytes}
 use Rattle.hex.specs.Hex.{encode_lower}
+use Rattle.secs_item.specs.Item.{Value}
+use Rattle.secs_item.specs.Spelling.{IsTextOf}
+use Rattle.secs_text.specs.Printed.{printed}
 use Rattle.hsms_frame.specs.declared.header.Header.{Header}
 use Rattle.hsms_frame.specs.declared.kinds.Kind.{Kind}
 use Rattle.hsms_frame.specs.declared.kinds.Kind.TheVariants.{Primary, Reply, SelectReq, SelectRsp, LinktestReq, LinktestRsp, Reject, Separate, OtherSType, OtherPType}
@@ -30,10 +33,31 @@ abbrev pub message_name_of : Header → List ℕ
 message_name_of h =
     codes " S" ++ decimal (stream_of h) ++ codes "F" ++ decimal (function_of h) ++ (if wait_of h then codes " W" else [])
 
+-- ---- data
+
+-- the line of a message whose text is readable: in notation
+abbrev pub readable_line : Header → Option Value → List ℕ
+readable_line h item =
+    codes "data" ++ address_of h ++ codes " "
+    ++ printed (record { stream = stream_of h; function = function_of h; wait = wait_of h; item = item }) ++ 10 ∷ []
+
+-- the line of a message whose text isn't: its text in hexadecimal
+abbrev pub unreadable_line : Frame → List ℕ
+unreadable_line f =
+    codes "data" ++ address_of f.header ++ message_name_of f.header ++ codes " ! " ++ encode_lower f.text ++ 10 ∷ []
+
+-- the line of a data message: its text is empty or one item within the depth, or it is neither
+abbrev pub DataLine : ℕ → Frame → List ℕ → Type 0
+DataLine depth f line =
+    ((item : Option Value) × IsTextOf depth f.text item × (line ≡ readable_line f.header item))
+    ⊎ (((item : Option Value) → IsTextOf depth f.text item → ⊥) × (line ≡ unreadable_line f))
+
+-- ---- other messages
+
 -- what a kind of message has in its other header bytes
 abbrev pub detail_of : Kind → Header → List ℕ
-detail_of Primary h = message_name_of h
-detail_of Reply h = message_name_of h
+detail_of Primary h = []
+detail_of Reply h = []
 detail_of SelectReq h = []
 detail_of SelectRsp h = codes " " ++ decimal h.byte3
 detail_of LinktestReq h = []
@@ -43,25 +67,27 @@ detail_of Separate h = []
 detail_of OtherSType h = codes " " ++ decimal h.stype
 detail_of OtherPType h = codes " " ++ decimal h.ptype
 
--- how an empty text is shown: a dot for data, nothing for control
-abbrev pub empty_text_of : Kind → List ℕ
-empty_text_of Primary = codes " ."
-empty_text_of Reply = codes " ."
-empty_text_of SelectReq = []
-empty_text_of SelectRsp = []
-empty_text_of LinktestReq = []
-empty_text_of LinktestRsp = []
-empty_text_of Reject = []
-empty_text_of Separate = []
-empty_text_of OtherSType = []
-empty_text_of OtherPType = []
+-- a text that should not be there, in hexadecimal
+abbrev pub text_of : List ℕ → List ℕ
+text_of text = if length text == 0 then [] else codes " ! " ++ encode_lower text
 
--- how a text is shown: in hexadecimal
-abbrev pub text_of : Kind → List ℕ → List ℕ
-text_of kind text = if length text == 0 then empty_text_of kind else codes " ! " ++ encode_lower text
+abbrev pub control_line : Kind → Frame → List ℕ
+control_line kind f = name_of kind ++ address_of f.header ++ detail_of kind f.header ++ text_of f.text ++ 10 ∷ []
 
--- the line of a message, with its end
-abbrev pub line_of : Frame → List ℕ
-line_of f =
-    name_of (kind_of f.header) ++ address_of f.header ++ detail_of (kind_of f.header) f.header
-    ++ text_of (kind_of f.header) f.text ++ 10 ∷ []
+-- ---- all messages
+
+abbrev pub LineOfKind : Kind → ℕ → Frame → List ℕ → Type 0
+LineOfKind Primary depth f line = DataLine depth f line
+LineOfKind Reply depth f line = DataLine depth f line
+LineOfKind SelectReq depth f line = line ≡ control_line SelectReq f
+LineOfKind SelectRsp depth f line = line ≡ control_line SelectRsp f
+LineOfKind LinktestReq depth f line = line ≡ control_line LinktestReq f
+LineOfKind LinktestRsp depth f line = line ≡ control_line LinktestRsp f
+LineOfKind Reject depth f line = line ≡ control_line Reject f
+LineOfKind Separate depth f line = line ≡ control_line Separate f
+LineOfKind OtherSType depth f line = line ≡ control_line OtherSType f
+LineOfKind OtherPType depth f line = line ≡ control_line OtherPType f
+
+-- the line of a message, with its end, where lists may be nested this deep
+abbrev pub LineOf : ℕ → Frame → List ℕ → Type 0
+LineOf depth f line = LineOfKind (kind_of f.header) depth f line

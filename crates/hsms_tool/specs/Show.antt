@@ -1,5 +1,5 @@
 -- What `hsms show` writes of an input.
-use Rattle.std.specs.Prelude.{◌≡◌, ◌≢◌, ◌<◌, ◌≤◌, ◌+◌, ◌⊎◌, ◌++◌, ℕ, List, [], All, length, take, codes, string_bytes, Bool, true, false, Option, Some, Result, Ok, Err}
+use Rattle.std.specs.Prelude.{◌≡◌, ◌≢◌, ◌<◌, ◌≤◌, ◌+◌, ◌⊎◌, ◌++◌, ℕ, List, [], ◌∷◌, All, length, take, codes, string_bytes, Bool, true, false, Option, Some, Result, Ok, Err}
 use Rattle.std.specs.List.{flat_map}
 use Rattle.hsms_frame.specs.declared.frame.Frame.{Frame}
 use Rattle.hsms_frame.specs.declared.fault.ReadFault.{ReadFault}
@@ -10,7 +10,7 @@ use Rattle.hsms_frame.specs.Frame.{frame_octets, IsFrame}
 use Rattle.hsms_frame.specs.Reading.{ReadsAs}
 use Rattle.hsms_tool.specs.declared.fault.ToolFault.{ToolFault}
 use Rattle.hsms_tool.specs.declared.fault.ToolFault.TheVariants.{Refused, Device, Memory}
-use Rattle.hsms_tool.specs.Line.{line_of}
+use Rattle.hsms_tool.specs.Line.{LineOf}
 
 -- a message whose header and text are within the limit
 abbrev pub IsWithin : ℕ → Frame → Type 0
@@ -21,8 +21,9 @@ abbrev pub octets_of : List Frame → List ℕ
 octets_of messages = flat_map frame_octets messages
 
 -- the lines of messages, one after another
-abbrev pub lines_of : List Frame → List ℕ
-lines_of messages = flat_map line_of messages
+abbrev pub LinesOf : ℕ → List Frame → List ℕ → Type 0
+LinesOf depth [] lines = lines ≡ []
+LinesOf depth (f ∷ fs) lines = (first rest : List ℕ) × LineOf depth f first × LinesOf depth fs rest × (lines ≡ first ++ rest)
 
 -- octets at which reading a message is refused: their length field is too small or too large, or they end within a message;
 -- and the words for it
@@ -31,26 +32,27 @@ IsRefused max octets words =
     (fault : ReadFault) × (left : Option (List ℕ)) × ReadsAs max octets (Err fault) left × (fault ≢ read.Memory) × (fault ≢ read.Read)
     × (words ≡ read_fault_text fault)
 
--- the answers of a device: which one it was, how much of the messages' lines it holds, and what it has of the next line
-abbrev pub StopsBy : ℕ → List Frame → List ℕ → List ℕ → List ℕ → Option (List ℕ) → Type 0
-StopsBy max messages rest before word written =
-    ((word ≡ codes "Read") × (written ≡ Some (before ++ lines_of messages)))
-    ⊎ ((word ≡ codes "Write") × (f : Frame) × (after : List ℕ) × (n : ℕ) × (rest ≡ frame_octets f ++ after) × IsWithin max f
-    × (n < length (line_of f)) × (written ≡ Some (before ++ lines_of messages ++ take n (line_of f))))
-    ⊎ ((word ≡ codes "Endless") × (length messages ≡ 4294967295) × (written ≡ Some (before ++ lines_of messages)))
+-- the answers of a device: which one it was, how many messages were shown, and what it has of the line of the next one
+abbrev pub StopsBy : ℕ → ℕ → ℕ → List ℕ → List ℕ → List ℕ → Option (List ℕ) → Type 0
+StopsBy max depth count rest shown word written =
+    ((word ≡ codes "Read") × (written ≡ Some shown))
+    ⊎ ((word ≡ codes "Write") × (f : Frame) × (after line : List ℕ) × (n : ℕ) × (rest ≡ frame_octets f ++ after) × IsWithin max f
+    × LineOf depth f line × (n < length line) × (written ≡ Some (shown ++ take n line)))
+    ⊎ ((word ≡ codes "Endless") × (count ≡ 4294967295) × (written ≡ Some shown))
 
--- where the lines of some messages were written and rest is what follows these in the input: the answers, each with what was written
-abbrev pub Stops : ℕ → List Frame → List ℕ → List ℕ → Result (Unit {0}) ToolFault → Option (List ℕ) → Type 0
-Stops max messages rest before (Ok _) written = (rest ≡ []) × (written ≡ Some (before ++ lines_of messages))
-Stops max messages rest before (Err (Refused words)) written = IsRefused max rest (string_bytes words) × (written ≡ Some (before ++ lines_of messages))
-Stops max messages rest before (Err (Device word)) written = StopsBy max messages rest before word.now written
-Stops max messages rest before (Err Memory) written = written ≡ Some (before ++ lines_of messages)
+-- where so many messages were shown, and rest is what follows them in the input: the answers, each with what is written then
+abbrev pub Stops : ℕ → ℕ → ℕ → List ℕ → List ℕ → Result (Unit {0}) ToolFault → Option (List ℕ) → Type 0
+Stops max depth count rest shown (Ok _) written = (rest ≡ []) × (written ≡ Some shown)
+Stops max depth count rest shown (Err (Refused words)) written = IsRefused max rest (string_bytes words) × (written ≡ Some shown)
+Stops max depth count rest shown (Err (Device word)) written = StopsBy max depth count rest shown word.now written
+Stops max depth count rest shown (Err Memory) written = written ≡ Some shown
 
--- The input begins with some messages, and their lines were written, up to where the run stopped.
-abbrev pub Shows : ℕ → List ℕ → List ℕ → Result (Unit {0}) ToolFault → Option (List ℕ) → Type 0
-Shows max input before result written =
-    (messages : List Frame) × (rest : List ℕ) × (input ≡ octets_of messages ++ rest) × All (IsWithin max) messages
-    × (length messages ≤ 4294967295) × Stops max messages rest before result written
+-- The input begins with some messages, and their lines were written behind what was there before, up to where the run stopped.
+abbrev pub Shows : ℕ → ℕ → List ℕ → List ℕ → Result (Unit {0}) ToolFault → Option (List ℕ) → Type 0
+Shows max depth input before result written =
+    (messages : List Frame) × (lines rest : List ℕ) × (input ≡ octets_of messages ++ rest) × All (IsWithin max) messages
+    × LinesOf depth messages lines × (length messages ≤ 4294967295)
+    × Stops max depth (length messages) rest (before ++ lines) result written
 
 -- a device failed once in a call that answers this word, and in no other
 abbrev pub CountsFailure : {T : Type 0} → List ℕ → Result T ToolFault → ℕ → ℕ → Type 0
@@ -68,17 +70,17 @@ ReadsNext max input (Err (Device word)) left = Unit {0}
 ReadsNext max input (Err Memory) left = Unit {0}
 
 -- one message is read and its line written, or none is left
-abbrev pub ShowsNext : ℕ → List ℕ → List ℕ → Result Bool ToolFault → Option (List ℕ) → Option (List ℕ) → Type 0
-ShowsNext max input before (Ok true) left written =
-    (f : Frame) × (rest : List ℕ) × (input ≡ frame_octets f ++ rest) × IsWithin max f × (left ≡ Some rest)
-    × (written ≡ Some (before ++ line_of f))
-ShowsNext max input before (Ok false) left written = (input ≡ []) × (written ≡ Some before)
-ShowsNext max input before (Err (Refused words)) left written = IsRefused max input (string_bytes words) × (written ≡ Some before)
-ShowsNext max input before (Err Memory) left written = written ≡ Some before
-ShowsNext max input before (Err (Device word)) left written =
+abbrev pub ShowsNext : ℕ → ℕ → List ℕ → List ℕ → Result Bool ToolFault → Option (List ℕ) → Option (List ℕ) → Type 0
+ShowsNext max depth input before (Ok true) left written =
+    (f : Frame) × (rest line : List ℕ) × (input ≡ frame_octets f ++ rest) × IsWithin max f × LineOf depth f line × (left ≡ Some rest)
+    × (written ≡ Some (before ++ line))
+ShowsNext max depth input before (Ok false) left written = (input ≡ []) × (written ≡ Some before)
+ShowsNext max depth input before (Err (Refused words)) left written = IsRefused max input (string_bytes words) × (written ≡ Some before)
+ShowsNext max depth input before (Err Memory) left written = written ≡ Some before
+ShowsNext max depth input before (Err (Device word)) left written =
     ((word.now ≡ codes "Read") × (written ≡ Some before))
-    ⊎ ((word.now ≡ codes "Write") × (f : Frame) × (after : List ℕ) × (n : ℕ) × (input ≡ frame_octets f ++ after) × IsWithin max f
-    × (n < length (line_of f)) × (written ≡ Some (before ++ take n (line_of f))))
+    ⊎ ((word.now ≡ codes "Write") × (f : Frame) × (after line : List ℕ) × (n : ℕ) × (input ≡ frame_octets f ++ after) × IsWithin max f
+    × LineOf depth f line × (n < length line) × (written ≡ Some (before ++ take n line)))
 
 -- the fault of a reading, as the command tells it; the words may want memory
 abbrev pub Tells : ReadFault → ToolFault → Type 0
@@ -91,6 +93,12 @@ abbrev pub HasWord : List ℕ → ToolFault → Type 0
 HasWord word (Device given) = given.now ≡ word
 HasWord word (Refused _) = Unit {0}
 HasWord word Memory = Unit {0}
+
+-- a read failed
+abbrev pub IsRead : ToolFault → Type 0
+IsRead (Device word) = word.now ≡ codes "Read"
+IsRead (Refused _) = ⊥
+IsRead Memory = ⊥
 
 -- a write failed
 abbrev pub IsWrite : ToolFault → Type 0

@@ -1,13 +1,16 @@
-//! The command `hsms`: reads HSMS octets (SEMI E37) from standard input, and shows their messages.
+//! The command `hsms`: shows the messages of HSMS octets (SEMI E37), and encodes messages that are written in notation.
 #![tactic(auto)]
 
 ghost use Rattle.std.specs.Prelude.{◌≤◌};
 
+mod encoding;
 mod fault;
+mod input;
 mod line;
 mod options;
 mod showing;
 
+use encoding::encode_all;
 use fault::ToolFault;
 use hsms_frame::{Reader, Writer};
 use options::Request;
@@ -40,6 +43,13 @@ fn run<R: AllocGlobal + Env + Input + Print>(rt: &R) -> Result<(), ToolFault> {
             .print(text.as_str())
             .map_err(|_| ToolFault::Device("Write")),
         Request::Show { max, depth } => show_input(rt, max, depth),
+        Request::Encode {
+            device,
+            system,
+            max,
+            depth,
+            hex,
+        } => encode_input(rt, device, system, max, depth, hex),
     }
 }
 
@@ -62,12 +72,37 @@ fn show_input<R: AllocGlobal + Input + Print>(rt: &R, max: u32, depth: u8) -> Re
     }
 }
 
+// Encodes the messages of standard input. The frames are put out in one piece.
+fn encode_input<R: AllocGlobal + Input + Print>(
+    rt: &R,
+    device: u16,
+    system: u32,
+    max: u32,
+    depth: u8,
+    hex: bool,
+) -> Result<(), ToolFault>
+    requires { depth ≤ 100 }
+{
+    let mut source = Reader::new(rt.reader());
+    let mut sink = Writer::new(io::writer(rt));
+    encode_all(
+        rt.alloc(),
+        &mut source,
+        &mut sink,
+        device,
+        system,
+        max,
+        depth,
+        hex,
+    )
+}
+
 // The words of the command line, of which one that is no text is refused.
 fn words<R: AllocGlobal + Env>(alloc: Global, rt: &R) -> Result<Vec<String>, ToolFault> {
     match env::args(rt) {
         Ok(words) => Ok(words.collect(alloc)?),
         Err(error) if error.kind() == ErrorKind::OutOfMemory => Err(ToolFault::Memory),
-        Err(_) => Err(options::refused(alloc)),
+        Err(_) => Err(options::no_request(alloc)),
     }
 }
 

@@ -1,11 +1,12 @@
 //! The command line, which is judged before anything is read.
 
-ghost use Rattle.std.specs.Prelude.{IfOk, IfErr};
-ghost use Rattle.hsms_tool.specs.Options.{IsWithinLimits, IsCommandLine};
+ghost use Rattle.std.specs.Prelude.{◌≤◌, IfOk, IfErr, codes};
+ghost use Rattle.hsms_tool.specs.Options.{IsWithinLimits};
+ghost use Rattle.hsms_tool.specs.Status.{IsRefusedAs};
 
-use crate::fault::ToolFault;
+use crate::fault::{ToolFault, refused};
 use clap::error::ErrorKind;
-use clap::{Arg, ArgMatches, Command, Error, value_parser};
+use clap::{Arg, ArgAction, ArgMatches, Command, Error, value_parser};
 use std::alloc::{AllocError, Global};
 
 /// What the user asks for.
@@ -15,8 +16,24 @@ pub enum Request {
     Help(String),
     /// The messages of standard input are to be shown. `max` is the greatest count of octets of header and text, and
     /// `depth` the deepest nesting of lists.
-    Show { max: u32, depth: u8 },
+    Show {
+        max: u32,
+        depth: u8,
+    },
+    /// The messages of standard input, in notation, are to be encoded for a device, with system bytes from `system` on:
+    /// as octets, or with `hex` as lines of hexadecimal.
+    Encode {
+        device: u16,
+        system: u32,
+        max: u32,
+        depth: u8,
+        hex: bool,
+    },
 }
+
+const DEFAULT_DEVICE: u16 = 0;
+
+const DEFAULT_SYSTEM: u32 = 1;
 
 const DEFAULT_MAX: u32 = 1048576;
 
@@ -25,7 +42,7 @@ const DEFAULT_DEPTH: u8 = 32;
 /// What the words of the command line ask for, the first of which is the command's name.
 pub fn parse(alloc: Global, words: &[String]) -> Result<Request, ToolFault>
     ensures limits { IfOk result IsWithinLimits }
-    ensures fault { IfErr result IsCommandLine }
+    ensures fault { IfErr result (IsRefusedAs (codes "command line")) }
 {
     let command = command(alloc)?;
     match command.try_get_matches_from(words) {
@@ -35,60 +52,117 @@ pub fn parse(alloc: Global, words: &[String]) -> Result<Request, ToolFault>
 }
 
 /// The fault of a command line that asks for nothing that the command does.
-pub fn refused(alloc: Global) -> ToolFault
-    ensures { IsCommandLine result }
+pub fn no_request(alloc: Global) -> ToolFault
+    ensures { IsRefusedAs (codes "command line") result }
 {
-    match String::from_str(alloc, "command line") {
-        Ok(words) => ToolFault::Refused(words),
-        Err(_) => ToolFault::Memory,
-    }
+    refused(alloc, "command line")
 }
 
 fn command<'a>(alloc: Global) -> Result<Command<'a>, AllocError> {
-    let max = Arg::new(alloc, "max")
+    let show = Command::new(alloc, "show")
+        .about("Shows the HSMS messages of standard input, a line each")
+        .arg(max_option(alloc))?
+        .arg(depth_option(alloc))?;
+    Command::new(alloc, "hsms")
+        .bin_name("hsms")?
+        .about("Reads and writes HSMS messages")
+        .subcommand_required(true)
+        .subcommand(show)?
+        .subcommand(encode_command(alloc)?)
+}
+
+fn encode_command<'a>(alloc: Global) -> Result<Command<'a>, AllocError> {
+    let device = Arg::new(alloc, "device")
+        .long("device")
+        .value_name("N")
+        .help("Device, the session ID of the messages")
+        .value_parser(value_parser!(u16).range(0..=32767));
+    let system = Arg::new(alloc, "system")
+        .long("system")
+        .value_name("N")
+        .help("System bytes of the first message, from which they are counted up")
+        .value_parser(value_parser!(u32));
+    let hex = Arg::new(alloc, "hex")
+        .long("hex")
+        .help("Write each message as a line of hexadecimal")
+        .action(ArgAction::SetTrue);
+    Command::new(alloc, "encode")
+        .about("Encodes the messages of standard input, in notation, as HSMS octets")
+        .arg(device)?
+        .arg(system)?
+        .arg(max_option(alloc))?
+        .arg(depth_option(alloc))?
+        .arg(hex)
+}
+
+fn max_option<'a>(alloc: Global) -> Arg<'a> {
+    Arg::new(alloc, "max")
         .long("max")
         .value_name("N")
         .help("Longest header and text of a message, in octets")
-        .value_parser(value_parser!(u32).range(256..=33554432));
-    let depth = Arg::new(alloc, "depth")
+        .value_parser(value_parser!(u32).range(256..=33554432))
+}
+
+fn depth_option<'a>(alloc: Global) -> Arg<'a> {
+    Arg::new(alloc, "depth")
         .long("depth")
         .value_name("N")
         .help("Deepest nesting of lists")
-        .value_parser(value_parser!(u8).range(1..=100));
-    let show = Command::new(alloc, "show")
-        .about("Shows the HSMS messages of standard input, a line each")
-        .arg(max)?
-        .arg(depth)?;
-    Command::new(alloc, "hsms")
-        .bin_name("hsms")?
-        .about("Reads and audits HSMS session logs")
-        .subcommand_required(true)
-        .subcommand(show)
+        .value_parser(value_parser!(u8).range(1..=100))
 }
 
 fn asked(alloc: Global, matches: &ArgMatches<'_>) -> Result<Request, ToolFault>
     ensures limits { IfOk result IsWithinLimits }
-    ensures fault { IfErr result IsCommandLine }
+    ensures fault { IfErr result (IsRefusedAs (codes "command line")) }
 {
-    let Some((_, options)) = matches.subcommand() else {
-        return Err(refused(alloc));
+    let Some((name, options)) = matches.subcommand() else {
+        return Err(no_request(alloc));
     };
     let max = options.get_one::<u32>("max").unwrap_or(DEFAULT_MAX);
     let depth = options.get_one::<u8>("depth").unwrap_or(DEFAULT_DEPTH);
     if max < 256 || max > 33554432 || depth < 1 || depth > 100 {
-        return Err(refused(alloc));
+        return Err(no_request(alloc));
+    }
+    if name == "encode" {
+        return asked_to_encode(alloc, options, max, depth);
     }
     Ok(Request::Show { max, depth })
+}
+
+fn asked_to_encode(
+    alloc: Global,
+    options: &ArgMatches<'_>,
+    max: u32,
+    depth: u8,
+) -> Result<Request, ToolFault>
+    requires max { (256 ≤ max) × (max ≤ 33554432) }
+    requires depth { (1 ≤ depth) × (depth ≤ 100) }
+    ensures limits { IfOk result IsWithinLimits }
+    ensures fault { IfErr result (IsRefusedAs (codes "command line")) }
+{
+    let device = options.get_one::<u16>("device").unwrap_or(DEFAULT_DEVICE);
+    let system = options.get_one::<u32>("system").unwrap_or(DEFAULT_SYSTEM);
+    let hex = options.get_flag("hex");
+    if device > 32767 {
+        return Err(no_request(alloc));
+    }
+    Ok(Request::Encode {
+        device,
+        system,
+        max,
+        depth,
+        hex,
+    })
 }
 
 // Help is asked for, or the command line is refused.
 fn explained(alloc: Global, error: &Error) -> Result<Request, ToolFault>
     ensures limits { IfOk result IsWithinLimits }
-    ensures fault { IfErr result IsCommandLine }
+    ensures fault { IfErr result (IsRefusedAs (codes "command line")) }
 {
     match error.kind() {
         ErrorKind::DisplayHelp => Ok(Request::Help(error.to_string(alloc)?)),
         ErrorKind::OutOfMemory => Err(ToolFault::Memory),
-        _ => Err(refused(alloc)),
+        _ => Err(no_request(alloc)),
     }
 }

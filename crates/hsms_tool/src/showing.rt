@@ -12,8 +12,8 @@ use std::alloc::Global;
 
 /// Writes the line of each message of the input, in order, up to the end of the input or the first fault.
 ///
-/// `max` is the greatest count of octets of header and text of a message, and `depth` the deepest nesting of lists, which
-/// has no effect yet. Faults:
+/// `max` is the greatest count of octets of header and text of a message. A data message is shown in notation where its text
+/// is empty or one item whose lists are nested at most `depth` deep, and else with its text in hexadecimal. Faults:
 ///
 /// - `Refused`, where the input isn't messages: `TooShort`, `TooLong` or `CutOff`. The lines of the messages before are
 ///   written.
@@ -29,14 +29,14 @@ pub fn show<R: Source, W: Sink>(
 ) -> Result<(), ToolFault>
     requires { depth ≤ 100 }
     ensures lines { WhereTold (R.left source.old) (λ input. WhereTold (W.written sink.old)
-        (λ before. Shows max input before result (W.written sink.new))) }
+        (λ before. Shows max depth input before result (W.written sink.new))) }
     // Where the source doesn't tell its octets, its end was found once all the same.
     ensures end { OnOk result (R.ends source.new ≡ next_count (R.ends source.old)) }
     ensures reads { CountsFailure (codes "Read") result (R.failures source.old) (R.failures source.new) }
     ensures writes { CountsFailure (codes "Write") result (W.failures sink.old) (W.failures sink.new) }
 {
     for _ in 0..u32::MAX {
-        if !show_next(alloc, source, sink, max)? {
+        if !show_next(alloc, source, sink, max, depth)? {
             return Ok(());
         }
     }
@@ -49,9 +49,11 @@ fn show_next<R: Source, W: Sink>(
     source: &mut R,
     sink: &mut W,
     max: u32,
+    depth: u8,
 ) -> Result<bool, ToolFault>
+    requires { depth ≤ 100 }
     ensures line { WhereTold (R.left source.old) (λ input. WhereTold (W.written sink.old)
-        (λ before. ShowsNext max input before result (R.left source.new) (W.written sink.new))) }
+        (λ before. ShowsNext max depth input before result (R.left source.new) (W.written sink.new))) }
     ensures end { IfOk result (λ is_shown. R.ends source.new
         ≡ (if is_shown then R.ends source.old else next_count (R.ends source.old))) }
     ensures reads { CountsFailure (codes "Read") result (R.failures source.old) (R.failures source.new) }
@@ -60,7 +62,7 @@ fn show_next<R: Source, W: Sink>(
     let Some(frame) = next_frame(alloc, source, max)? else {
         return Ok(false);
     };
-    let line = frame_line(alloc, &frame)?;
+    let line = frame_line(alloc, &frame, depth)?;
     put(sink, line.as_bytes())?;
     Ok(true)
 }
@@ -97,7 +99,8 @@ fn told(alloc: Global, fault: ReadFault) -> ToolFault
     }
 }
 
-fn put<W: Sink>(sink: &mut W, octets: &[u8]) -> Result<(), ToolFault>
+/// Writes all octets.
+pub fn put<W: Sink>(sink: &mut W, octets: &[u8]) -> Result<(), ToolFault>
     ensures ok { OnOk result (Grows (W.written sink.old) (W.written sink.new) octets.now) }
     ensures err { OnErr result (GrowsByFront (W.written sink.old) (W.written sink.new) octets.now) }
     ensures word { IfErr result IsWrite }

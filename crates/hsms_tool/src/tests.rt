@@ -1,3 +1,5 @@
+mod encoding;
+
 ghost use Rattle.std.specs.Prelude.{◌<◌};
 
 use crate::fault::ToolFault;
@@ -6,7 +8,7 @@ use hsms_frame::{Feed, Store};
 use std::alloc::{AllocError, Global};
 use std::test::Fail;
 
-const SELECT: [u8; 14] = [0, 0, 0, 10, 255, 255, 0, 0, 0, 1, 0, 0, 0, 1];
+const SELECT: [u8; 14] = *b"\x00\x00\x00\x0a\xff\xff\x00\x00\x00\x01\x00\x00\x00\x01";
 
 #[derive(Drop)]
 struct Run {
@@ -33,17 +35,18 @@ fn shown(
 #[test]
 fn shows_each_kind(rt: HostRuntime) -> Result<(), Fail> {
     let rows = [
-        (
-            b"\x00\x00\x00\x0a\xff\xff\x00\x00\x00\x01\x00\x00\x00\x01".as_slice(),
-            "select.req ffff 00000001\n",
-        ),
+        (SELECT.as_slice(), "select.req ffff 00000001\n"),
         (
             b"\x00\x00\x00\x0c\x00\x00\x81\x0d\x00\x00\x00\x00\x00\x01\x01\x00".as_slice(),
-            "data 0000 00000001 S1F13 W ! 0100\n",
+            "data 0000 00000001 S1F13 W <L [0]> .\n",
         ),
         (
             b"\x00\x00\x00\x0a\x00\x00\x81\x01\x00\x00\x00\x00\x00\x02".as_slice(),
             "data 0000 00000002 S1F1 W .\n",
+        ),
+        (
+            b"\x00\x00\x00\x0b\x00\x00\x81\x01\x00\x00\x00\x00\x00\x02\x40".as_slice(),
+            "data 0000 00000002 S1F1 W ! 40\n",
         ),
         (
             b"\x00\x00\x00\x0a\xff\xff\x00\x00\x00\x02\x00\x00\x00\x01".as_slice(),
@@ -77,18 +80,13 @@ fn shows_each_kind(rt: HostRuntime) -> Result<(), Fail> {
 }
 
 #[test]
-fn refuses_a_short_length(rt: HostRuntime) -> Result<(), Fail> {
-    let run = shown(rt.alloc(), &[0, 0, 0, 9], 4096, u64::MAX, u64::MAX)?;
+fn refuses_what_is_no_message(rt: HostRuntime) -> Result<(), Fail> {
+    let alloc = rt.alloc();
+    let run = shown(alloc, &[0, 0, 0, 9], 4096, u64::MAX, u64::MAX)?;
     assert!(rt;
         matches!(&run.result, Err(ToolFault::Refused(words)) if words.as_str() == "TooShort length=9")
     );
     assert!(rt; run.written.is_empty());
-    Ok(())
-}
-
-#[test]
-fn refuses_a_cut_message(rt: HostRuntime) -> Result<(), Fail> {
-    let alloc = rt.alloc();
     let mut octets = Vec::from_slice(alloc, &SELECT)?;
     octets.extend_from_slice(&[0, 0])?;
     let run = shown(alloc, &octets, 1, u64::MAX, u64::MAX)?;
@@ -102,7 +100,7 @@ fn refuses_a_cut_message(rt: HostRuntime) -> Result<(), Fail> {
     Ok(())
 }
 
-// The messages before a fault are shown, whichever device or message is at fault.
+// The messages before a fault are shown, whichever device is at fault.
 #[test]
 fn tells_which_device_failed(rt: HostRuntime) -> Result<(), Fail> {
     let alloc = rt.alloc();
@@ -121,7 +119,7 @@ fn tells_which_device_failed(rt: HostRuntime) -> Result<(), Fail> {
 fn refused_lines(rt: HostRuntime) -> Result<(), Fail> {
     let octets = b"\x00\x00\x00\x0a\xff\xff\x00\x00\x00\x01\x00\x00\x00\x01\
         \x00\x00\x00\x0c\x00\x00\x81\x0d\x00\x00\x00\x00\x00\x01\x01\x00\x00\x00\x00\x09";
-    let lines = b"select.req ffff 00000001\ndata 0000 00000001 S1F13 W ! 0100\n".as_slice();
+    let lines = b"select.req ffff 00000001\ndata 0000 00000001 S1F13 W <L [0]> .\n".as_slice();
     let Ok(run) = shown(rt.alloc(), octets, 4096, u64::MAX, u64::MAX) else {
         return Ok(());
     };
@@ -131,7 +129,7 @@ fn refused_lines(rt: HostRuntime) -> Result<(), Fail> {
         }
         Err(ToolFault::Memory) => {
             let count = run.written.len();
-            assert!(rt; count == 0 || count == 25 || count == 59);
+            assert!(rt; count == 0 || count == 25 || count == 62);
             assert_eq!(rt; run.written.as_slice(), &lines[..count]);
         }
         _ => return Err("the fault, or want of memory".into()),

@@ -6,7 +6,7 @@ use Rattle.hsms_tool.proofs.showing.show.Given as goal
 abbrev pub invariant-loop : goal.invariant-loop
 invariant-loop g l =
     ((input : List ℕ) → g.R.Source.left l.initial.source ≡ Some input → (before : List ℕ) → g.W.Sink.written l.initial.sink ≡ Some before
-    → Begun l.max input before l.counter (g.R.Source.left l.source) (g.W.Sink.written l.sink))
+    → Begun l.max l.depth input before l.counter (g.R.Source.left l.source) (g.W.Sink.written l.sink))
     × (g.R.Source.ends l.source ≡ g.R.Source.ends l.initial.source)
     × (g.R.Source.failures l.source ≡ g.R.Source.failures l.initial.source)
     × (g.W.Sink.failures l.sink ≡ g.W.Sink.failures l.initial.sink)

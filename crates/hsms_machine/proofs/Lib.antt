@@ -1,0 +1,11 @@
+pub mod Kept
+pub mod Least
+pub mod First
+pub mod Steps
+pub mod Push
+pub mod Alike
+pub mod Told
+pub mod Runs
+pub mod Lawful
+pub mod Decided
+pub mod Listed

@@ -1,0 +1,33 @@
+-- Entries of a session log by their places (this project's own log of the messages of SEMI E37).
+use Rattle.std.specs.Prelude.{ℕ, ◌<◌, Bool, true, false, List, slice_index_or, IsTrue}
+use Rattle.hsms_machine.specs.declared.entry.Entry.{Entry}
+use Rattle.hsms_machine.specs.declared.entry.Event.{Event}
+use Rattle.hsms_machine.specs.declared.entry.Event.TheVariants.{Up, T3, Down}
+
+-- the entry at a position, counted from 0
+abbrev pub entry_at : List Entry → ℕ → Entry
+entry_at log i = slice_index_or log i (record { time = 0; event = Up })
+
+abbrev pub is_up : Event → Bool
+is_up Up = true
+is_up _ = false
+
+abbrev pub is_down : Event → Bool
+is_down Down = true
+is_down _ = false
+
+abbrev pub is_t3 : Event → Bool
+is_t3 (T3 system) = true
+is_t3 _ = false
+
+-- The entry at k stands before position i, on the same connection. A log holds one connection, so each entry before i does.
+abbrev pub IsOnConnection : List Entry → ℕ → ℕ → Type 0
+IsOnConnection log k i = k < i
+
+-- some entry before position i, on the same connection, passes the test
+abbrev pub SomeBefore : List Entry → ℕ → (Entry → Bool) → Type 0
+SomeBefore log i test = (k : ℕ) × IsOnConnection log k i × IsTrue (test (entry_at log k))
+
+-- the entries of the last connection: all, since a log holds one
+abbrev pub connection_of : List Entry → List Entry
+connection_of log = log

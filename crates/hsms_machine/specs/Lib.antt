@@ -1,0 +1,11 @@
+pub mod Settings
+pub mod Entry
+pub mod Message
+pub mod Transaction
+pub mod Session
+pub mod Timer
+pub mod Rule
+pub mod Run
+pub mod View
+pub mod Step
+pub mod Laws

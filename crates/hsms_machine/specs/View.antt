@@ -1,0 +1,107 @@
+-- What a tracker keeps of a log (this project's profile): the phase, two times, and what is open.
+use Rattle.std.specs.Prelude.{◌≡◌, ℕ, ◌+◌, ◌-◌, Bool, true, false, ◌&&◌, not, List, [], ◌∷◌, ◌++◌, Option, length, fold, option_to_list, if◌then◌else◌}
+use Rattle.std.specs.List.{list_any, filter_map}
+use Rattle.hsms_machine.specs.declared.entry.Entry.{Entry}
+use Rattle.hsms_machine.specs.declared.phase.Phase.{Phase}
+use Rattle.hsms_machine.specs.declared.phase.Phase.TheVariants.{Before, NotSelected, Selected, Over, Gone}
+use Rattle.hsms_machine.specs.declared.open.Transaction.{Transaction}
+use Rattle.hsms_machine.specs.declared.view.View.{View}
+use Rattle.hsms_machine.specs.Settings.{Parameters}
+use Rattle.hsms_machine.specs.Entry.{entry_at, is_up, is_down, connection_of}
+use Rattle.hsms_machine.specs.Transaction.{Pool, SentData, SentControl, TakenData, TakenControl, opens, closes, opened_as}
+use Rattle.hsms_machine.specs.Session.{selects, ends_session}
+use Rattle.hsms_machine.specs.Timer.{due_at, due_times, least_in}
+use Rattle.hsms_machine.specs.Run.{IsRun}
+
+-- ---- what is open
+
+-- the entries that open a transaction which no later entry closes, in order
+abbrev pub open_entries : List Entry → List Entry
+open_entries [] = []
+open_entries (entry ∷ later) =
+    if opens entry.event && not (list_any (λ other. closes entry.event other.event) later)
+    then entry ∷ open_entries later
+    else open_entries later
+
+-- the open transactions of a pool, in order of opening
+abbrev pub open_of : Pool → List Entry → List Transaction
+open_of pool log = filter_map (opened_as pool) (open_entries (connection_of log))
+
+-- ---- the phase and the times
+
+-- the phase, by whether the connection went down, the session ended and it was selected
+abbrev pub phase_by : Bool → Bool → Bool → Phase
+phase_by true ended selected = Gone
+phase_by false true selected = Over
+phase_by false false true = Selected
+phase_by false false false = NotSelected
+
+-- the phase after the entries of a connection
+abbrev pub phase_in : List Entry → Phase
+phase_in [] = Before
+phase_in (entry ∷ later) =
+    phase_by
+    (list_any (λ other. is_down other.event) (entry ∷ later))
+    (list_any (λ other. ends_session other.event) (entry ∷ later))
+    (list_any (λ other. selects other.event) (entry ∷ later))
+
+abbrev pub phase_of : List Entry → Phase
+phase_of log = phase_in (connection_of log)
+
+-- the time of the last `up`, or 0
+abbrev pub up_time_of : List Entry → ℕ
+up_time_of log = fold (λ time entry. if is_up entry.event then entry.time else time) 0 log
+
+-- ---- the view
+
+-- what the rules need to know of a log
+abbrev pub view_of : Parameters → List Entry → View
+view_of settings log = record {
+  settings = settings;
+  phase = phase_of log;
+  up_time = up_time_of log;
+  last_time = (entry_at log (length log - 1)).time;
+  sent_data = open_of SentData log;
+  sent_control = open_of SentControl log;
+  taken_data = open_of TakenData log;
+  taken_control = open_of TakenControl log;
+}
+
+-- the log is a run, and this is its view
+pub record HasView (settings : Parameters) (log : List Entry) (view : View) : Type 0 where
+  pub run : IsRun settings log
+  pub seen : view_of settings log ≡ view
+
+-- some run has this view
+abbrev pub HasRun : View → Type 0
+HasRun view = (log : List Entry) × HasView view.settings log view
+
+-- the fact holds of every run that has this view
+abbrev pub ForEachRun : View → (List Entry → Type 0) → Type 0
+ForEachRun view Holds = (log : List Entry) → HasView view.settings log view → Holds log
+
+-- ---- what is read from a view
+
+-- the open sent data primaries
+abbrev pub waiting_of : View → ℕ
+waiting_of view = length view.sent_data
+
+-- all open sent transactions
+abbrev pub own_open_of : View → ℕ
+own_open_of view = length view.sent_data + length view.sent_control
+
+abbrev pub due_by_phase : Phase → List ℕ → List ℕ → List ℕ
+due_by_phase NotSelected requests selection = requests ++ selection
+due_by_phase Selected requests selection = requests
+due_by_phase _ requests selection = []
+
+-- the moments at which a timer runs out: T3 and T6 in the two connected phases, T7 while the session is not selected
+abbrev pub due_times_of : View → List ℕ
+due_times_of view =
+    due_by_phase view.phase
+    (due_times view.settings.t3 view.sent_data ++ due_times view.settings.t6 view.sent_control)
+    (option_to_list (due_at view.settings.t7 view.up_time))
+
+-- the least of them
+abbrev pub next_due_of : View → Option ℕ
+next_due_of view = least_in (due_times_of view)

@@ -1,0 +1,59 @@
+//! Laws over the definitions of a run. Each is the contract of a function that does nothing.
+
+ghost use Rattle.hsms_machine.specs.Laws.{EachResponseAnswersOne, DataFlowsWhileSelected, ExpiryIsLoggedFirst, RepliesComeWithinT3, SystemBytesAreUnique, ViewListsWhatIsOpen, LawfulEntryExtendsRun, FrontOfRunIsRun, NextOfRunIsLawful, EachEntryHasAnAnswer, NoEntryHasTwoAnswers, EmptyLogIsRun};
+
+use secs_item::laws::one_answer_of_text;
+
+/// Each sent or taken response of a run answers exactly one open transaction, which it closes.
+pub fn each_response_answers_one()
+    ensures { EachResponseAnswersOne }
+{}
+
+/// In a run data flows only while the session is selected and not over.
+pub fn data_flows_while_selected()
+    ensures { DataFlowsWhileSelected }
+{}
+
+/// In a run sent data that has waited for longer than T3 is closed before any entry but a `t3`.
+pub fn expiry_is_logged_first()
+    ensures { ExpiryIsLoggedFirst }
+{}
+
+/// So in a run each reply that closes sent data comes within T3.
+pub fn replies_come_within_t3()
+    ensures { RepliesComeWithinT3 }
+{}
+
+/// In a run no two open transactions of one direction have the same system bytes.
+pub fn system_bytes_are_unique()
+    ensures { SystemBytesAreUnique }
+{}
+
+/// The lists of a view hold exactly the open transactions, in order of opening.
+pub fn view_lists_what_is_open()
+    ensures { ViewListsWhatIsOpen }
+{}
+
+/// An entry that breaks no rule after a run extends it.
+pub fn lawful_entry_extends_run()
+    ensures { LawfulEntryExtendsRun }
+{}
+
+/// The entries at the front of a run are a run, and the next one breaks no rule after them.
+pub fn front_of_run_is_run()
+    ensures front { FrontOfRunIsRun }
+    ensures next { NextOfRunIsLawful }
+{}
+
+/// After a run each entry has exactly one answer: the first rule that it breaks, or none.
+pub fn each_entry_has_one_answer()
+    ensures some { EachEntryHasAnAnswer }
+    ensures one { NoEntryHasTwoAnswers }
+{
+    one_answer_of_text();
+}
+
+/// The empty log is a run.
+pub fn empty_log_is_run()
+    ensures { EmptyLogIsRun }
+{}

@@ -1,0 +1,50 @@
+//! The rules of a session log.
+
+/// A rule that an entry breaks. The rules are tried in this order, and the first one that an entry
+/// breaks is the answer. `TooLong` to `SelectStatus` bind frames that are sent or taken.
+#[derive(Clone, Copy, Debug, PartialEq, Eq)]
+pub enum Rule {
+    /// The time is less than that of the entry before.
+    Backwards,
+    /// An `up` that is not the first entry, or another entry before `up` or after `down`.
+    NotUp,
+    /// A frame that is sent or taken, a `t3` or a cut, after a Separate.req or a cut ended the
+    /// session (SEMI E37, section 7, separate procedure).
+    Ended,
+    /// An entry other than `t3`, while a sent primary has waited for its reply for longer than T3.
+    T3Overdue,
+    /// An entry other than an expiry, while a sent Select.req or Linktest.req has waited for longer
+    /// than T6, or the connection has not been selected for longer than T7.
+    LinkOverdue,
+    /// An expiry of T3, T6 or T7 that has not run out.
+    NotDue,
+    /// Header and text are longer than the settings allow.
+    TooLong,
+    /// The PType is not that of SECS-II (SEMI E37, section 8, message format).
+    PType,
+    /// The SType is none of single session (SEMI E37.1).
+    SType,
+    /// A control message with text.
+    ControlText,
+    /// Data for another device, or a control message but Reject.req whose session ID is not FFFF
+    /// (SEMI E37.1).
+    Session,
+    /// A Select.req of the passive end, a Select.rsp of the active end, or a primary of stream 9
+    /// from the host (SEMI E37.1; SEMI E5, stream 9).
+    Direction,
+    /// Data while the session is not selected (SEMI E37, section 7, data procedure).
+    NotSelected,
+    /// A reply or a primary of stream 9 with the W bit (SEMI E5).
+    WBit,
+    /// The text of data is neither empty nor one item within the depth of the settings (SEMI E5,
+    /// section 9, data items).
+    Text,
+    /// A request with the system bytes of an open transaction of its direction.
+    SystemInUse,
+    /// A reply, a Select.rsp or a Linktest.rsp that answers no open transaction.
+    NoTransaction,
+    /// A Select.rsp with status 0 while the session is selected.
+    SelectStatus,
+    /// A discarded frame that could have been taken.
+    NoCause,
+}

@@ -1,0 +1,172 @@
+//! The parameters of one end of a connection.
+
+use std::marker::Model;
+
+/// What the end that logs is in SECS-II (SEMI E5).
+#[derive(Clone, Copy, Debug, PartialEq, Eq)]
+pub enum Role {
+    /// The factory's computer.
+    Host,
+    /// The tool. Only it sends primaries of stream 9.
+    Equipment,
+}
+
+/// Which end of the connection logs (SEMI E37, section 6; SEMI E37.1).
+#[derive(Clone, Copy, Debug, PartialEq, Eq)]
+pub enum Side {
+    /// The end that connects. Only it sends Select.req.
+    Active,
+    /// The end that listens. Only it sends Select.rsp.
+    Passive,
+}
+
+/// The parameters of the end that logs (SEMI E37, section 10, parameters), each within its limits.
+#[derive(Clone, Copy, Debug, PartialEq, Eq)]
+pub struct Settings {
+    role: Role,
+    link: Side,
+    device: u16,
+    t3: u32,
+    t6: u32,
+    t7: u32,
+    t8: u32,
+    max: u32,
+    depth: u8,
+}
+
+impl Model for Settings {
+    ghost use Rattle.hsms_machine.specs.Settings.{Parameters, IsWithinLimits};
+
+    ghost Value = { Parameters };
+
+    ghost view = { λ s. record { role = s.role; link = s.link; device = s.device; t3 = s.t3; t6 = s.t6; t7 = s.t7; t8 = s.t8; max = s.max; depth = s.depth } };
+
+    ghost invariant = { λ s. IsWithinLimits (record { role = s.role; link = s.link; device = s.device; t3 = s.t3; t6 = s.t6; t7 = s.t7; t8 = s.t8; max = s.max; depth = s.depth }) };
+
+    ghost inverse = { λ p. record { role = p.role; link = p.link; device = p.device; t3 = p.t3; t6 = p.t6; t7 = p.t7; t8 = p.t8; max = p.max; depth = p.depth } };
+}
+
+/// The longest time of a timer in milliseconds: an hour.
+const TIME_LIMIT: u32 = 3_600_000;
+
+impl Settings {
+    ghost use Rattle.std.specs.Prelude.{◌≡◌, ◌≤◌, ◌↔◌, IsSome, IfSome, IsTrue};
+    ghost use Rattle.hsms_machine.specs.Settings.{IsWithinLimits, IsTimeLimit};
+
+    /// The settings with these numbers, or None where one is out of its limits: `device` at most
+    /// 32,767; `t3`, `t6`, `t7` and `t8` from 1 to 3,600,000 ms; `max` from 256 to 33,554,432 octets;
+    /// `depth` from 1 to 100.
+    pub fn new(
+        role: Role,
+        link: Side,
+        device: u16,
+        t3: u32,
+        t6: u32,
+        t7: u32,
+        t8: u32,
+        max: u32,
+        depth: u8,
+    ) -> Option<Settings>
+        ensures within { IsSome result ↔ IsWithinLimits (record { role = role; link = link; device = device; t3 = t3; t6 = t6; t7 = t7; t8 = t8; max = max; depth = depth }) }
+        ensures value { IfSome result (λ s. s ≡ record { role = role; link = link; device = device; t3 = t3; t6 = t6; t7 = t7; t8 = t8; max = max; depth = depth }) }
+    {
+        let times = Self::is_time_limit(t3)
+            && Self::is_time_limit(t6)
+            && Self::is_time_limit(t7)
+            && Self::is_time_limit(t8);
+        let sizes = 256 <= max && max <= 33_554_432 && 1 <= depth && depth <= 100;
+        if device <= 32_767 && times && sizes {
+            Some(Settings {
+                role,
+                link,
+                device,
+                t3,
+                t6,
+                t7,
+                t8,
+                max,
+                depth,
+            })
+        } else {
+            None
+        }
+    }
+
+    /// What the end is: host or equipment.
+    pub fn role(&self) -> Role
+        ensures { result ≡ self.now.role }
+    {
+        self.role
+    }
+
+    /// Whether the end connects or listens.
+    pub fn link(&self) -> Side
+        ensures { result ≡ self.now.link }
+    {
+        self.link
+    }
+
+    /// The device ID that data messages carry as session ID: at most 32,767 (SEMI E37.1).
+    pub fn device(&self) -> u16
+        ensures value { result ≡ self.now.device }
+        ensures within { result ≤ 32767 }
+    {
+        self.device
+    }
+
+    /// T3 in milliseconds: the longest wait for a reply to data.
+    pub fn t3(&self) -> u32
+        ensures value { result ≡ self.now.t3 }
+        ensures within { IsTimeLimit result }
+    {
+        self.t3
+    }
+
+    /// T6 in milliseconds: the longest wait for a Select.rsp or a Linktest.rsp.
+    pub fn t6(&self) -> u32
+        ensures value { result ≡ self.now.t6 }
+        ensures within { IsTimeLimit result }
+    {
+        self.t6
+    }
+
+    /// T7 in milliseconds: the longest time that a connection may stand without being selected.
+    pub fn t7(&self) -> u32
+        ensures value { result ≡ self.now.t7 }
+        ensures within { IsTimeLimit result }
+    {
+        self.t7
+    }
+
+    /// T8 in milliseconds: the longest time between octets of one message. A log does not measure it.
+    pub fn t8(&self) -> u32
+        ensures value { result ≡ self.now.t8 }
+        ensures within { IsTimeLimit result }
+    {
+        self.t8
+    }
+
+    /// The greatest number of octets of header and text of one message.
+    pub fn max(&self) -> u32
+        ensures value { result ≡ self.now.max }
+        ensures least { 256 ≤ result }
+        ensures greatest { result ≤ 33554432 }
+    {
+        self.max
+    }
+
+    /// How deep lists may be nested in the text of a data message.
+    pub fn depth(&self) -> u8
+        ensures value { result ≡ self.now.depth }
+        ensures least { 1 ≤ result }
+        ensures greatest { result ≤ 100 }
+    {
+        self.depth
+    }
+
+    fn is_time_limit(time: u32) -> bool
+        ensures { IsTrue result ↔ IsTimeLimit time }
+    {
+        1 <= time && time <= TIME_LIMIT
+    }
+}

@@ -1,0 +1,309 @@
+//! Worked sessions, as lists of entries. A header is written as its first six octets and its system
+//! bytes.
+
+mod rules;
+mod sessions;
+
+use crate::{Cause, Entry, Event, Phase, Role, Rule, Settings, Side, Tracker};
+use hsms_frame::{Frame, Header, Text};
+use std::alloc::{AllocError, Global};
+use std::process::Abort;
+use std::test::Fail;
+
+/// The first octets of the messages that the sessions have.
+const SELECT_REQ: u64 = 0xffff_0000_0001;
+
+const SELECT_RSP: u64 = 0xffff_0000_0002;
+
+const LINKTEST_REQ: u64 = 0xffff_0000_0005;
+
+const SEPARATE: u64 = 0xffff_0000_0009;
+
+const S1F1_W: u64 = 0x0000_8101_0000;
+
+const S1F2: u64 = 0x0000_0102_0000;
+
+/// What happened, with a message as the first octets of its header, its system bytes and its text.
+#[derive(Clone, Copy)]
+enum Happening {
+    Up,
+    Sent(u64, u32, &'static [u8]),
+    Taken(u64, u32, &'static [u8]),
+    Discarded(u64, u32, &'static [u8]),
+    T3(u32),
+    Cut(Cause),
+    Down,
+}
+
+use Happening::{Cut, Discarded, Down, Sent, T3, Taken, Up};
+use rules::BROKEN;
+use sessions::SESSIONS;
+
+/// A session, the rule that its last entry breaks, and how many sent primaries are then open.
+struct Case {
+    name: &'static str,
+    /// the entries that come first
+    after: &'static [(u64, Happening)],
+    entries: &'static [(u64, Happening)],
+    broken: Option<Rule>,
+    waiting: usize,
+}
+
+/// A host connects.
+const CONNECTED: &[(u64, Happening)] = &[(0, Up), (0, Sent(SELECT_REQ, 1, &[]))];
+
+/// A host connects and is selected.
+const SELECTED: &[(u64, Happening)] = &[
+    (0, Up),
+    (0, Sent(SELECT_REQ, 1, &[])),
+    (5, Taken(SELECT_RSP, 1, &[])),
+];
+
+fn header(first: u64, system: u32) -> Header {
+    let [_, _, s0, s1, byte2, byte3, ptype, stype] = first.to_be_bytes();
+    let [n0, n1, n2, n3] = system.to_be_bytes();
+    Header::of([s0, s1, byte2, byte3, ptype, stype, n0, n1, n2, n3])
+}
+
+fn frame(alloc: Global, first: u64, system: u32, text: &[u8]) -> Result<Frame, AllocError> {
+    Ok(Frame {
+        header: header(first, system),
+        text: Text::new(Vec::from_slice(alloc, text)?),
+    })
+}
+
+fn entry(alloc: Global, time: u64, happening: Happening) -> Result<Entry, AllocError> {
+    let event = match happening {
+        Up => Event::Up,
+        Sent(first, system, text) => Event::Sent(frame(alloc, first, system, text)?),
+        Taken(first, system, text) => Event::Taken(frame(alloc, first, system, text)?),
+        Discarded(first, system, text) => Event::Discarded(frame(alloc, first, system, text)?),
+        T3(system) => Event::T3(system),
+        Cut(cause) => Event::Cut(cause),
+        Down => Event::Down,
+    };
+    Ok(Entry { time, event })
+}
+
+fn settings(max: u32) -> Option<Settings> {
+    Settings::new(
+        Role::Host,
+        Side::Active,
+        0,
+        45000,
+        6000,
+        10000,
+        5000,
+        max,
+        32,
+    )
+}
+
+/// What the readers tell.
+fn told(tracker: &Tracker) -> (Phase, usize, usize, Option<u64>) {
+    (
+        tracker.phase(),
+        tracker.waiting(),
+        tracker.own_open(),
+        tracker.next_due(),
+    )
+}
+
+/// Takes an entry in. Where memory was refused, the tracker is as it was, and a second try meets no
+/// refusal.
+fn step(rt: &impl Abort, tracker: &mut Tracker, entry: &Entry) -> Result<Option<Rule>, AllocError> {
+    let before = told(tracker);
+    let checked = tracker.check(entry);
+    match tracker.step(entry) {
+        Ok(broken) => {
+            assert_eq!(rt; broken, checked);
+            Ok(broken)
+        }
+        Err(_) => {
+            assert_eq!(rt; told(tracker), before);
+            assert_eq!(rt; checked, None);
+            assert!(rt; matches!(entry.event, Event::Sent(_) | Event::Taken(_)));
+            tracker.step(entry)
+        }
+    }
+}
+
+/// The first rule that an entry of these breaks, where it is the last one.
+fn broken_by(
+    rt: &impl Abort,
+    alloc: Global,
+    tracker: &mut Tracker,
+    entries: &[(u64, Happening)],
+) -> Result<Option<Rule>, AllocError> {
+    let mut broken = None;
+    for (time, happening) in entries {
+        assert_eq!(rt; broken, None, "an entry follows at {time}");
+        let entry = match entry(alloc, *time, *happening) {
+            Ok(entry) => entry,
+            Err(_) => entry(alloc, *time, *happening)?,
+        };
+        broken = step(rt, tracker, &entry)?;
+    }
+    Ok(broken)
+}
+
+/// Each session breaks its rule, with its last entry, or none.
+fn judge_all(rt: &impl Abort, alloc: Global, cases: &[Case]) -> Result<(), Fail> {
+    for case in cases {
+        let mut tracker = Tracker::new(alloc, settings(1_048_576).ok_or("the settings")?);
+        let before = broken_by(rt, alloc, &mut tracker, case.after)?;
+        assert_eq!(rt; before, None, "{}", case.name);
+        let broken = broken_by(rt, alloc, &mut tracker, case.entries)?;
+        assert_eq!(rt; broken, case.broken, "{}", case.name);
+        assert_eq!(rt; tracker.waiting(), case.waiting, "{}", case.name);
+    }
+    Ok(())
+}
+
+#[test]
+fn worked_sessions(rt: HostRuntime) -> Result<(), Fail> {
+    judge_all(&rt, rt.alloc(), SESSIONS)
+}
+
+#[test]
+fn each_rule_is_broken(rt: HostRuntime) -> Result<(), Fail> {
+    judge_all(&rt, rt.alloc(), BROKEN)
+}
+
+/// One item of binary octets, all zero.
+fn zeros(alloc: Global, count: u8) -> Result<Vec<u8>, AllocError> {
+    let mut text = Vec::from_slice(alloc, &[0x21, count])?;
+    for _ in 0..count {
+        text.push(0)?;
+    }
+    Ok(text)
+}
+
+#[test]
+fn a_frame_of_the_greatest_size(rt: HostRuntime) -> Result<(), Fail> {
+    for (count, want) in [(244, None), (245, Some(Rule::TooLong))] {
+        let mut tracker = Tracker::new(rt.alloc(), settings(256).ok_or("the settings")?);
+        assert_eq!(rt; broken_by(&rt, rt.alloc(), &mut tracker, SELECTED)?, None);
+        let text = match zeros(rt.alloc(), count) {
+            Ok(text) => text,
+            Err(_) => zeros(rt.alloc(), count)?,
+        };
+        let sent = Event::Sent(Frame {
+            header: header(S1F1_W, 2),
+            text: Text::new(text),
+        });
+        assert_eq!(rt;
+            step(
+                &rt,
+                &mut tracker,
+                &Entry {
+                    time: 6,
+                    event: sent
+                }
+            )?,
+            want
+        );
+    }
+    Ok(())
+}
+
+#[test]
+fn the_readers_of_a_tracker(rt: HostRuntime) -> Result<(), Fail> {
+    let mut tracker = Tracker::new(rt.alloc(), settings(256).ok_or("the settings")?);
+    assert_eq!(rt; told(&tracker), (Phase::Before, 0, 0, None));
+    for (time, happening, want) in [
+        (0, Up, (Phase::NotSelected, 0, 0, Some(10000))),
+        (
+            0,
+            Sent(SELECT_REQ, 1, &[]),
+            (Phase::NotSelected, 0, 1, Some(6000)),
+        ),
+        (5, Taken(SELECT_RSP, 1, &[]), (Phase::Selected, 0, 0, None)),
+        (
+            1000,
+            Sent(S1F1_W, 2, &[]),
+            (Phase::Selected, 1, 1, Some(46000)),
+        ),
+        (
+            2000,
+            Sent(LINKTEST_REQ, 3, &[]),
+            (Phase::Selected, 1, 2, Some(8000)),
+        ),
+        (3000, Sent(SEPARATE, 4, &[]), (Phase::Over, 1, 2, None)),
+        (3000, Down, (Phase::Gone, 1, 2, None)),
+    ] {
+        assert_eq!(rt;
+            broken_by(&rt, rt.alloc(), &mut tracker, &[(time, happening)])?,
+            None
+        );
+        assert_eq!(rt; told(&tracker), want, "at {time}");
+    }
+    Ok(())
+}
+
+/// Whether settings can be made of these numbers.
+fn is_within((device, t3, t6, t7, t8, max, depth): (u16, u32, u32, u32, u32, u32, u8)) -> bool {
+    Settings::new(
+        Role::Equipment,
+        Side::Passive,
+        device,
+        t3,
+        t6,
+        t7,
+        t8,
+        max,
+        depth,
+    )
+    .is_some()
+}
+
+#[test]
+fn the_limits_of_settings(rt: HostRuntime) {
+    for least in [
+        (0, 1, 1, 1, 1, 256, 1),
+        (
+            32_767, 3_600_000, 3_600_000, 3_600_000, 3_600_000, 33_554_432, 100,
+        ),
+    ] {
+        assert!(rt; is_within(least));
+    }
+    for (place, past) in [
+        (32_768, 1, 1, 1, 1, 256, 1),
+        (0, 0, 1, 1, 1, 256, 1),
+        (0, 3_600_001, 1, 1, 1, 256, 1),
+        (0, 1, 0, 1, 1, 256, 1),
+        (0, 1, 3_600_001, 1, 1, 256, 1),
+        (0, 1, 1, 0, 1, 256, 1),
+        (0, 1, 1, 3_600_001, 1, 256, 1),
+        (0, 1, 1, 1, 0, 256, 1),
+        (0, 1, 1, 1, 3_600_001, 256, 1),
+        (0, 1, 1, 1, 1, 255, 1),
+        (0, 1, 1, 1, 1, 33_554_433, 1),
+        (0, 1, 1, 1, 1, 256, 0),
+        (0, 1, 1, 1, 1, 256, 101),
+    ]
+    .into_iter()
+    .enumerate()
+    {
+        assert!(rt; !is_within(past), "row {place}");
+    }
+}
+
+#[test]
+fn the_readers_of_settings(rt: HostRuntime) -> Result<(), Fail> {
+    let settings = Settings::new(Role::Equipment, Side::Passive, 1, 3, 6, 7, 8, 257, 9);
+    let settings = settings.ok_or("the settings")?;
+    assert_eq!(rt;
+        (settings.role(), settings.link()),
+        (Role::Equipment, Side::Passive)
+    );
+    assert_eq!(rt;
+        (settings.device(), settings.max(), settings.depth()),
+        (1, 257, 9)
+    );
+    assert_eq!(rt;
+        (settings.t3(), settings.t6(), settings.t7(), settings.t8()),
+        (3, 6, 7, 8)
+    );
+    Ok(())
+}

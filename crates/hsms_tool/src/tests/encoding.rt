@@ -1,0 +1,106 @@
+use super::Run;
+use crate::encoding::encode_all;
+use crate::fault::ToolFault;
+use hsms_frame::{Feed, Store};
+use std::alloc::{AllocError, Global};
+use std::test::Fail;
+
+const NOTATION: &str = "S6F11 W <L <A \"AB\"> <U1 1 255>> .";
+
+const FRAME: &str = "000000140000860b000000000001010241024142a50201ff\n";
+
+// What is written of a text as lines of hexadecimal, with `max` 256 and depth 32.
+fn encoded(
+    alloc: Global,
+    text: &str,
+    system: u32,
+    pulls: u64,
+    gives: u64,
+) -> Result<Run, AllocError> {
+    let mut source = Feed::new(Vec::from_slice(alloc, text.as_bytes())?, 7, pulls);
+    let mut sink = Store::new(vec![in alloc; 0u8; 256]?, 11, gives);
+    let result = encode_all(alloc, &mut source, &mut sink, 0, system, 256, 32, true);
+    let written = Vec::from_slice(alloc, sink.written())?;
+    Ok(Run { result, written })
+}
+
+#[test]
+fn encodes_messages(rt: HostRuntime) -> Result<(), Fail> {
+    let rows = [
+        (NOTATION, 1, FRAME),
+        (
+            "S1F1 W . S1F2 .",
+            u32::MAX,
+            "0000000a000081010000ffffffff\n0000000a00000102000000000000\n",
+        ),
+        ("", 1, ""),
+        (" \n", 1, ""),
+    ];
+    for (text, system, lines) in rows {
+        let run = encoded(rt.alloc(), text, system, u64::MAX, u64::MAX)?;
+        assert!(rt; run.result.is_ok(), "{text}");
+        assert_eq!(rt; run.written.as_slice(), lines.as_bytes());
+    }
+    Ok(())
+}
+
+#[test]
+fn writes_nothing_of_what_is_refused(rt: HostRuntime) -> Result<(), Fail> {
+    for (text, words) in [
+        ("S1F1 W <U1 256> .", "Number at=11"),
+        ("S1F1 . S1F1 <B [2] 0x00> .", "Count at=15"),
+        ("S1F1", "Syntax at=4"),
+    ] {
+        let run = encoded(rt.alloc(), text, 1, u64::MAX, u64::MAX)?;
+        assert!(rt;
+            matches!(&run.result, Err(ToolFault::Refused(told)) if told.as_str() == words),
+            "{text}"
+        );
+        assert!(rt; run.written.is_empty());
+    }
+    Ok(())
+}
+
+// The first message is fine, and the second is one octet past the limit.
+#[test]
+fn writes_nothing_before_all_are_encoded(rt: HostRuntime) -> Result<(), Fail> {
+    let alloc = rt.alloc();
+    let mut text = String::from_str(alloc, "S1F1 . S1F1 <B")?;
+    for _ in 0..245 {
+        text.push_str(" 0x00")?;
+    }
+    text.push_str("> .")?;
+    let run = encoded(alloc, text.as_str(), 1, u64::MAX, u64::MAX)?;
+    assert!(rt;
+        matches!(&run.result, Err(ToolFault::Refused(told)) if told.as_str() == "TooLong length=257")
+    );
+    assert!(rt; run.written.is_empty());
+    Ok(())
+}
+
+#[test]
+fn tells_which_device_failed(rt: HostRuntime) -> Result<(), Fail> {
+    for calls in 0..4 {
+        let run = encoded(rt.alloc(), NOTATION, 1, calls, u64::MAX)?;
+        assert!(rt; matches!(run.result, Err(ToolFault::Device("Read"))));
+        assert!(rt; run.written.is_empty());
+        let run = encoded(rt.alloc(), NOTATION, 1, u64::MAX, calls)?;
+        assert!(rt; matches!(run.result, Err(ToolFault::Device("Write"))));
+        assert_eq!(rt; run.written.len() as u64, 11 * calls);
+    }
+    Ok(())
+}
+
+// Where its own input is refused, this test has nothing to say.
+#[test]
+fn refused_frames(rt: HostRuntime) -> Result<(), Fail> {
+    let Ok(run) = encoded(rt.alloc(), NOTATION, 1, u64::MAX, u64::MAX) else {
+        return Ok(());
+    };
+    match &run.result {
+        Ok(()) => assert_eq!(rt; run.written.as_slice(), FRAME.as_bytes()),
+        Err(ToolFault::Memory) => assert!(rt; run.written.is_empty()),
+        _ => return Err("the frame, or want of memory".into()),
+    }
+    Ok(())
+}

@@ -1,0 +1,16 @@
+pub mod Octets
+pub mod Codecs
+pub mod Bodies
+pub mod Headers
+pub mod Items
+pub mod Again
+pub mod Faults
+pub mod Fronts
+pub mod Views
+pub mod Equals
+pub mod Shorts
+pub mod Building
+pub mod Lengths
+pub mod Uniqueness
+pub mod Shortest
+pub mod Texts

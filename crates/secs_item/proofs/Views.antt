@@ -1,0 +1,61 @@
+-- The view of an item, level by level.
+use Rattle.std.proofs.Common.{◌≡◌, ℕ, ℤ, ◌+◌, ◌<◌, ◌≤◌, Bool, List, length, drop, get_or, Vec, Global, sym, ap, ◌∙◌, rules}
+use Rattle.std.proofs.lemmas.List.{at_drop_more, at_drop_all}
+use Rattle.secs_item.specs.Item.{list, values, no_elements, element, binary, boolean, ascii, jis8, char2, i1, i2, i4, i8, u1, u2, u4, u8, f4, f8, view, views}
+use Rattle.secs_item.specs.declared.item.Item.{Item, the_lemmas, List as item_list, Binary as item_binary, Boolean as item_boolean, Ascii as item_ascii, Jis8 as item_jis8, Char2 as item_char2, I1 as item_i1, I2 as item_i2, I4 as item_i4, I8 as item_i8, U1 as item_u1, U2 as item_u2, U4 as item_u4, U8 as item_u8, F4 as item_f4, F8 as item_f8}
+
+pub view-List : (v : Vec Item Global) → view (item_list v) ≡ list (views v.items)
+view-List v = search (rules, the_lemmas)
+
+pub view-Binary : (v : Vec ℕ Global) → view (item_binary v) ≡ values (binary v.items)
+view-Binary v = search (rules, the_lemmas)
+
+pub view-Boolean : (v : Vec Bool Global) → view (item_boolean v) ≡ values (boolean v.items)
+view-Boolean v = search (rules, the_lemmas)
+
+pub view-Ascii : (v : Vec ℕ Global) → view (item_ascii v) ≡ values (ascii v.items)
+view-Ascii v = search (rules, the_lemmas)
+
+pub view-Jis8 : (v : Vec ℕ Global) → view (item_jis8 v) ≡ values (jis8 v.items)
+view-Jis8 v = search (rules, the_lemmas)
+
+pub view-Char2 : (v : Vec ℕ Global) → view (item_char2 v) ≡ values (char2 v.items)
+view-Char2 v = search (rules, the_lemmas)
+
+pub view-I1 : (v : Vec ℤ Global) → view (item_i1 v) ≡ values (i1 v.items)
+view-I1 v = search (rules, the_lemmas)
+
+pub view-I2 : (v : Vec ℤ Global) → view (item_i2 v) ≡ values (i2 v.items)
+view-I2 v = search (rules, the_lemmas)
+
+pub view-I4 : (v : Vec ℤ Global) → view (item_i4 v) ≡ values (i4 v.items)
+view-I4 v = search (rules, the_lemmas)
+
+pub view-I8 : (v : Vec ℤ Global) → view (item_i8 v) ≡ values (i8 v.items)
+view-I8 v = search (rules, the_lemmas)
+
+pub view-U1 : (v : Vec ℕ Global) → view (item_u1 v) ≡ values (u1 v.items)
+view-U1 v = search (rules, the_lemmas)
+
+pub view-U2 : (v : Vec ℕ Global) → view (item_u2 v) ≡ values (u2 v.items)
+view-U2 v = search (rules, the_lemmas)
+
+pub view-U4 : (v : Vec ℕ Global) → view (item_u4 v) ≡ values (u4 v.items)
+view-U4 v = search (rules, the_lemmas)
+
+pub view-U8 : (v : Vec ℕ Global) → view (item_u8 v) ≡ values (u8 v.items)
+view-U8 v = search (rules, the_lemmas)
+
+pub view-F4 : (v : Vec (List ℕ) Global) → view (item_f4 v) ≡ values (f4 v.items)
+view-F4 v = search (rules, the_lemmas)
+
+pub view-F8 : (v : Vec (List ℕ) Global) → view (item_f8 v) ≡ values (f8 v.items)
+view-F8 v = search (rules, the_lemmas)
+
+-- ---- the elements from a place on
+
+pub views_from : (items : List Item) (i : ℕ) (x : Item) → i < length items → x ≡ get_or items i x → views (drop i items) ≡ element (view x) (views (drop (i + 1) items))
+views_from items i x lt is = at_drop_more (λ (xs : List Item). views xs) items i x lt ∙ ap (λ (y : Item). element (view y) (views (drop (i + 1) items))) (sym is)
+
+pub views_done : (items : List Item) (i : ℕ) → length items ≤ i → views (drop i items) ≡ no_elements
+views_done items i le = at_drop_all (λ (xs : List Item). views xs) items i le

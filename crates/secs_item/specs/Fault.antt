@@ -1,0 +1,61 @@
+-- The first fault of octets that are no item, by this project's own order.
+use Rattle.std.specs.Prelude.{◌≡◌, ◌≤◌, ◌<◌, ◌⊎◌, ℕ, zero, suc, ◌+◌, true, List, ◌++◌, length, drop, Ok, Err}
+use Rattle.secs_item.specs.Item.{Value, Elements, count, nest, nest_of_elements}
+use Rattle.secs_item.specs.Format.{is_list}
+use Rattle.secs_item.specs.declared.fault.ItemFault.{ItemFault}
+use Rattle.secs_item.specs.declared.fault.ItemFault.TheVariants as fault
+use Rattle.secs_item.specs.Header.{Reason, no_length, bad_format, deep, ragged, truncated, trailing, Head, header_at}
+use Rattle.secs_item.specs.Spelling.{Spells, AllSpelled}
+
+-- The front is the header of a list. Some of its elements are there, and the next one is at fault.
+pub record FaultsInElement (InElement : List ℕ → ℕ → Reason → Type 0) (depth : ℕ) (octets : List ℕ) (at : ℕ) (reason : Reason) : Type 0 where
+  pub head : Head
+  pub head_is : header_at (suc depth) octets ≡ Ok head
+  pub of_list : is_list head.format ≡ true
+  pub before : Elements
+  pub fewer : count before < head.length
+  pub nesting : nest_of_elements before ≤ depth
+  pub spelled : List ℕ
+  pub spells : AllSpelled before spelled
+  pub rest : List ℕ
+  pub parts : drop head.size octets ≡ spelled ++ rest
+  pub at_in_element : ℕ
+  pub place : at ≡ head.size + length spelled + at_in_element
+  pub fault : InElement rest at_in_element reason
+
+-- the header at the front is at fault
+abbrev pub FaultsInHeader : ℕ → List ℕ → ℕ → Reason → Type 0
+FaultsInHeader depth octets at reason = (at ≡ 0) × (header_at depth octets ≡ Err reason)
+
+-- no item within `depth` is spelled at the front, for this reason, found in the header at this place
+unfoldable pub Faults : ℕ → List ℕ → ℕ → Reason → Type 0
+Faults zero octets at reason = FaultsInHeader 0 octets at reason
+Faults (suc depth) octets at reason = FaultsInHeader (suc depth) octets at reason ⊎ FaultsInElement (Faults depth) depth octets at reason
+
+-- octets follow the item at the front
+pub record HasTrailing (depth : ℕ) (octets : List ℕ) (at : ℕ) : Type 0 where
+  pub value : Value
+  pub spelled : List ℕ
+  pub spells : Spells value spelled
+  pub nesting : nest value ≤ depth
+  pub rest : List ℕ
+  pub follows : 0 < length rest
+  pub parts : octets ≡ spelled ++ rest
+  pub place : at ≡ length spelled
+
+-- the octets are neither empty nor one item
+abbrev pub TextFaults : ℕ → List ℕ → ℕ → Reason → Type 0
+TextFaults depth octets at reason = (0 < length octets) × (Faults depth octets at reason ⊎ ((reason ≡ trailing) × HasTrailing depth octets at))
+
+-- how the fault is told
+abbrev pub fault_at : ℕ → Reason → ItemFault
+fault_at at no_length = fault.NoLength at
+fault_at at bad_format = fault.Format at
+fault_at at deep = fault.Deep at
+fault_at at ragged = fault.Ragged at
+fault_at at truncated = fault.Truncated at
+fault_at at trailing = fault.Trailing at
+
+-- what is told is a fault that P has
+abbrev pub IsTold : (ℕ → Reason → Type 0) → ItemFault → Type 0
+IsTold P f = (at : ℕ) × (reason : Reason) × P at reason × (f ≡ fault_at at reason)

@@ -1,0 +1,44 @@
+-- Item headers of SEMI E5 (data structures), and the first fault of one. The order of faults is this project's own.
+use Rattle.std.specs.Prelude.{ℕ, ◌+◌, ◌-◌, ◌/◌, ◌%◌, ◌&&◌, not, List, [], ◌∷◌, length, Option, Some, None, Result, Ok, Err, nat_lt, ◌==◌, if◌then◌else◌}
+use Rattle.byteorder.specs.Endian.{big_number}
+use Rattle.secs_item.specs.declared.format.Format.{Format}
+use Rattle.secs_item.specs.Format.{format_with_code, value_size, is_list}
+
+-- why octets are no item
+pub data Reason : Type 0 where
+  no_length : Reason
+  bad_format : Reason
+  deep : Reason
+  ragged : Reason
+  truncated : Reason
+  trailing : Reason
+
+-- a header: what the item holds, how many octets the header has, and the number in its length field
+pub record Head : Type 0 where
+  pub format : Format
+  pub size : ℕ
+  pub length : ℕ
+
+-- of values there are the octets of the length, in whole values
+abbrev pub checked_body : Format → ℕ → ℕ → ℕ → Result Head Reason
+checked_body format field number left =
+    if is_list format then Ok (record { format = format; size = 1 + field; length = number }) else
+    (if not (number % value_size format == 0) then Err ragged else
+    (if nat_lt left number then Err truncated else Ok (record { format = format; size = 1 + field; length = number })))
+
+abbrev pub checked_field : ℕ → Format → ℕ → List ℕ → Result Head Reason
+checked_field depth format field rest =
+    if is_list format && (depth == 0) then Err deep else
+    (if nat_lt (length rest) field then Err truncated else
+    checked_body format field (big_number field rest) (length rest - field))
+
+abbrev pub with_format : ℕ → Option Format → ℕ → List ℕ → Result Head Reason
+with_format depth None field rest = Err bad_format
+with_format depth (Some format) field rest = checked_field depth format field rest
+
+-- The header at the front, or its first fault, where lists may still be nested `depth` deep. Bits 8 to 3 of the first
+-- octet are the format code, bits 2 and 1 the number of length octets.
+unfoldable pub header_at : ℕ → List ℕ → Result Head Reason
+header_at depth [] = Err truncated
+header_at depth (first ∷ rest) =
+    if first % 4 == 0 then Err no_length else with_format depth (format_with_code (first / 4)) (first % 4) rest

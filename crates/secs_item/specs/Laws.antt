@@ -1,0 +1,61 @@
+-- What holds of spellings, faults and nesting, whatever the code does.
+use Rattle.std.specs.Prelude.{◌≡◌, ◌≤◌, ◌⊎◌, ℕ, List, ◌++◌, length, Option, Some}
+use Rattle.secs_item.specs.Item.{Value, nest, InRange}
+use Rattle.secs_item.specs.Header.{Reason}
+use Rattle.secs_item.specs.Spelling.{IsOctets, Spells, IsAtFront, IsTextOf}
+use Rattle.secs_item.specs.Short.{short}
+use Rattle.secs_item.specs.Fault.{Faults, TextFaults}
+
+-- No spelling stands at the front of a longer one, and none spells two values.
+abbrev pub OneSpellingAtFront : Type 0
+OneSpellingAtFront = (v w : Value) (a b x y : List ℕ) → Spells v a → Spells w b → a ++ x ≡ b ++ y → (v ≡ w) × (a ≡ b)
+
+-- The shortest spelling is a spelling.
+abbrev pub ShortSpells : Type 0
+ShortSpells = (v : Value) (octets : List ℕ) → InRange v → short v ≡ Some octets → Spells v octets
+
+-- What has a spelling has a shortest one, and none is shorter.
+abbrev pub NoneIsShorter : Type 0
+NoneIsShorter = (v : Value) (octets : List ℕ) → Spells v octets → (least : List ℕ) × (short v ≡ Some least) × (length least ≤ length octets)
+
+-- What has a spelling has its numbers in range.
+abbrev pub SpelledInRange : Type 0
+SpelledInRange = (v : Value) (octets : List ℕ) → Spells v octets → InRange v
+
+-- The shortest spelling is read again as the value, whatever follows it.
+abbrev pub ShortIsReadAgain : Type 0
+ShortIsReadAgain = (v : Value) (octets rest : List ℕ) (depth : ℕ) → InRange v → short v ≡ Some octets → nest v ≤ depth
+    → IsAtFront depth (octets ++ rest) v (length octets)
+
+-- ---- exactly one answer, of an item at the front
+
+abbrev pub SomeAnswer : Type 0
+SomeAnswer = (depth : ℕ) (octets : List ℕ) → IsOctets octets
+    → ((v : Value) × (n : ℕ) × IsAtFront depth octets v n) ⊎ ((at : ℕ) × (reason : Reason) × Faults depth octets at reason)
+
+abbrev pub OneItem : Type 0
+OneItem = (depth : ℕ) (octets : List ℕ) (v w : Value) (n m : ℕ) → IsAtFront depth octets v n → IsAtFront depth octets w m → (v ≡ w) × (n ≡ m)
+
+abbrev pub OneFault : Type 0
+OneFault = (depth : ℕ) (octets : List ℕ) (at place : ℕ) (reason cause : Reason) → Faults depth octets at reason → Faults depth octets place cause
+    → (at ≡ place) × (reason ≡ cause)
+
+abbrev pub NotBoth : Type 0
+NotBoth = (depth : ℕ) (octets : List ℕ) (v : Value) (n at : ℕ) (reason : Reason) → IsAtFront depth octets v n → Faults depth octets at reason → ⊥
+
+-- ---- and of a whole text
+
+abbrev pub SomeTextAnswer : Type 0
+SomeTextAnswer = (depth : ℕ) (octets : List ℕ) → IsOctets octets
+    → ((text : Option Value) × IsTextOf depth octets text) ⊎ ((at : ℕ) × (reason : Reason) × TextFaults depth octets at reason)
+
+abbrev pub OneText : Type 0
+OneText = (depth : ℕ) (octets : List ℕ) (text other : Option Value) → IsTextOf depth octets text → IsTextOf depth octets other → text ≡ other
+
+abbrev pub OneTextFault : Type 0
+OneTextFault = (depth : ℕ) (octets : List ℕ) (at place : ℕ) (reason cause : Reason) → TextFaults depth octets at reason → TextFaults depth octets place cause
+    → (at ≡ place) × (reason ≡ cause)
+
+abbrev pub NotBothOfText : Type 0
+NotBothOfText = (depth : ℕ) (octets : List ℕ) (text : Option Value) (at : ℕ) (reason : Reason) → IsTextOf depth octets text
+    → TextFaults depth octets at reason → ⊥

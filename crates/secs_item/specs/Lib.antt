@@ -1,0 +1,10 @@
+pub mod Item
+pub mod Equality
+pub mod Format
+pub mod Header
+pub mod Spelling
+pub mod Short
+pub mod Fault
+pub mod Reading
+pub mod Measure
+pub mod Laws

@@ -1,0 +1,160 @@
+//! Items from octets.
+
+ghost use Rattle.std.specs.Prelude.{◌≡◌, ◌≤◌, ◌<◌, ◌%◌, ◌⊎◌, ℕ, false, length, drop, IfOk, IfErr, MatchResult, IsOk, Option, option_map};
+ghost use Rattle.secs_item.specs.Fault.{Faults, TextFaults, IsTold, fault_at};
+ghost use Rattle.secs_item.specs.Format.{is_list, value_size};
+ghost use Rattle.secs_item.specs.Header.{Reason};
+ghost use Rattle.secs_item.specs.Measure.{EndsAt};
+ghost use Rattle.secs_item.specs.Reading.{each, octet, values_of, item_at, elements_by};
+ghost use Rattle.secs_item.specs.Spelling.{IsAtFront, IsTextOf};
+ghost use Rattle.secs_item.specs.Item.{Value as ItemValue, values, view, views};
+
+use crate::fault::ItemFault;
+use crate::format::Format;
+use crate::header::read_header;
+use crate::item::Item;
+use crate::measure::{measure_front, measure_text};
+use crate::value::Value;
+use std::alloc::{AllocError, Global};
+
+/// The values of a body.
+fn read_values<V: Value + Drop>(alloc: Global, body: &[u8]) -> Result<Vec<V>, AllocError>
+    requires some { 0 < V.SIZE }
+    requires whole { length body.now % V.SIZE ≡ 0 }
+    ensures { IfOk result (λ v. v.items ≡ each V.value_of V.SIZE body.now) }
+{
+    let count = body.len() / V::SIZE;
+    let mut values = Vec::with_capacity(alloc, count)?;
+    let mut rest = body;
+    for _ in 0..count {
+        let (first, after) = rest.split_at(V::SIZE);
+        values.push(V::from_octets(first))?;
+        rest = after;
+    }
+    Ok(values)
+}
+
+/// The values of a body whose octets stand for themselves.
+#[tactic(auto, using(crate::proofs::Bodies::each_octet))]
+fn read_octets(alloc: Global, body: &[u8]) -> Result<Vec<u8>, AllocError>
+    ensures { IfOk result (λ v. v.items ≡ each octet 1 body.now) }
+{
+    Vec::from_slice(alloc, body)
+}
+
+/// The item of values that has this body.
+fn item_of_values(alloc: Global, format: Format, body: &[u8]) -> Result<Item, AllocError>
+    requires no_list { is_list format ≡ false }
+    requires whole { length body.now % value_size format ≡ 0 }
+    ensures { IfOk result (λ item. view item ≡ values (values_of format body.now)) }
+{
+    match format {
+        Format::List => unreachable!(),
+        Format::Binary => Ok(Item::Binary(read_octets(alloc, body)?)),
+        Format::Boolean => Ok(Item::Boolean(read_values(alloc, body)?)),
+        Format::Ascii => Ok(Item::Ascii(read_octets(alloc, body)?)),
+        Format::Jis8 => Ok(Item::Jis8(read_octets(alloc, body)?)),
+        Format::Char2 => Ok(Item::Char2(read_octets(alloc, body)?)),
+        Format::I1 => Ok(Item::I1(read_values(alloc, body)?)),
+        Format::I2 => Ok(Item::I2(read_values(alloc, body)?)),
+        Format::I4 => Ok(Item::I4(read_values(alloc, body)?)),
+        Format::I8 => Ok(Item::I8(read_values(alloc, body)?)),
+        Format::U1 => Ok(Item::U1(read_octets(alloc, body)?)),
+        Format::U2 => Ok(Item::U2(read_values(alloc, body)?)),
+        Format::U4 => Ok(Item::U4(read_values(alloc, body)?)),
+        Format::U8 => Ok(Item::U8(read_values(alloc, body)?)),
+        Format::F4 => Ok(Item::F4(read_values(alloc, body)?)),
+        Format::F8 => Ok(Item::F8(read_values(alloc, body)?)),
+    }
+}
+
+/// The item at `place`, which has been measured, and the place after it.
+#[cycle(build)]
+fn build_item(
+    alloc: Global,
+    octets: &[u8],
+    place: usize,
+    depth: u8,
+) -> Result<(Item, usize), AllocError>
+    requires within { place ≤ length octets.now }
+    requires measured { IsOk (item_at depth (drop place octets.now)) }
+    ensures { IfOk result (λ x. EndsAt place (item_at depth (drop place octets.now)) (view x.0) x.1) }
+{
+    let Ok(header) = read_header(octets, place, depth) else {
+        unreachable!()
+    };
+    match header.format {
+        Format::List => {
+            let (elements, end) = build_elements(
+                alloc,
+                octets,
+                header.body,
+                header.length,
+                depth - 1,
+            )?;
+            Ok((Item::List(elements), end))
+        }
+        format => {
+            let end = header.body + header.length;
+            let item = item_of_values(alloc, format, &octets[header.body..end])?;
+            Ok((item, end))
+        }
+    }
+}
+
+/// The items from `place` on, which have been measured, and the place after them.
+#[cycle(build)]
+fn build_elements(
+    alloc: Global,
+    octets: &[u8],
+    place: usize,
+    count: usize,
+    depth: u8,
+) -> Result<(Vec<Item>, usize), AllocError>
+    requires within { place ≤ length octets.now }
+    requires measured { IsOk (elements_by (item_at depth) count (drop place octets.now)) }
+    ensures { IfOk result (λ x. EndsAt place (elements_by (item_at depth) count (drop place octets.now)) (views x.0.items) x.1) }
+{
+    let mut elements = Vec::with_capacity(alloc, count)?;
+    let mut end = place;
+    for _ in 0..count {
+        let (element, after) = build_item(alloc, octets, end, depth)?;
+        elements.push(element)?;
+        end = after;
+    }
+    Ok((elements, end))
+}
+
+/// The item at the front, whose lists are nested at most `depth` deep, and how many octets spell it. What follows isn't
+/// looked at. The item is measured first, so every fault but `Memory` is told before memory is asked for.
+pub fn decode_front(alloc: Global, octets: &[u8], depth: u8) -> Result<(Item, usize), ItemFault>
+    requires { depth ≤ 100 }
+    ensures ok { IfOk result (λ x. IsAtFront depth octets.now (view x.0) x.1) }
+    ensures ok_where { (v : ItemValue) (n : ℕ) → IsAtFront depth octets.now v n
+        → MatchResult result (λ x. (view x.0 ≡ v) × (x.1 ≡ n)) (λ f. f ≡ ItemFault.Memory) }
+    ensures err { IfErr result (λ f. (f ≡ ItemFault.Memory) ⊎ IsTold (Faults depth octets.now) f) }
+    ensures err_where { (at : ℕ) (reason : Reason) → Faults depth octets.now at reason
+        → result ≡ Err (fault_at at reason) }
+{
+    measure_front(octets, depth)?;
+    Ok(build_item(alloc, octets, 0, depth)?)
+}
+
+/// The item of a message's text, or None where the text is empty. A text is one item, whose lists are nested at most `depth`
+/// deep, and nothing else: octets behind it are `Trailing`. Every fault but `Memory` is told before memory is asked for.
+pub fn decode_text(alloc: Global, octets: &[u8], depth: u8) -> Result<Option<Item>, ItemFault>
+    requires { depth ≤ 100 }
+    ensures ok { IfOk result (λ item. IsTextOf depth octets.now (option_map view item)) }
+    ensures ok_where { (text : Option ItemValue) → IsTextOf depth octets.now text
+        → MatchResult result (λ item. option_map view item ≡ text) (λ f. f ≡ ItemFault.Memory) }
+    ensures err { IfErr result (λ f. (f ≡ ItemFault.Memory) ⊎ IsTold (TextFaults depth octets.now) f) }
+    ensures err_where { (at : ℕ) (reason : Reason) → TextFaults depth octets.now at reason
+        → result ≡ Err (fault_at at reason) }
+{
+    measure_text(octets, depth)?;
+    if octets.is_empty() {
+        return Ok(None);
+    }
+    let (item, _) = build_item(alloc, octets, 0, depth)?;
+    Ok(Some(item))
+}

@@ -1,0 +1,77 @@
+//! Item headers.
+
+ghost use Rattle.std.specs.Prelude.{◌≡◌, ◌≤◌, ◌<◌, ◌+◌, ◌%◌, true, false, length, drop, IfOk};
+ghost use Rattle.byteorder.specs.Endian.{big_number};
+ghost use Rattle.secs_item.specs.Format.{is_list, value_size};
+ghost use Rattle.secs_item.specs.Header.{header_at};
+ghost use Rattle.secs_item.specs.Measure.{header_from};
+
+use crate::fault::ItemFault;
+use crate::format::Format;
+use byteorder::{BigEndian, ByteOrder};
+
+/// A header that has been read.
+#[derive(Clone, Copy)]
+pub struct Header {
+    pub format: Format,
+    /// The place of the body's first octet.
+    pub body: usize,
+    /// The octets of the body, or the elements of a list.
+    pub length: usize,
+}
+
+/// The number in a length field of one to three octets.
+fn read_length(octets: &[u8], field: usize) -> usize
+    requires one_at_least { 1 ≤ field }
+    requires three_at_most { field ≤ 3 }
+    requires there { field ≤ length octets.now }
+    ensures { result ≡ big_number field octets.now }
+{
+    match field {
+        1 => usize::from(octets[0]),
+        2 => usize::from(BigEndian::read_u16(octets)),
+        _ => BigEndian::read_u24(octets) as usize,
+    }
+}
+
+/// Reads the header at `place`. The body of values is there whole.
+#[tactic(auto, unfolding(crate::specs::Header::header_at))]
+pub fn read_header(octets: &[u8], place: usize, depth: u8) -> Result<Header, ItemFault>
+    requires { place ≤ length octets.now }
+    ensures read { result ≡ header_from place (header_at depth (drop place octets.now)) }
+    ensures list { IfOk result (λ h. is_list h.format ≡ true → 0 < depth) }
+    ensures header { IfOk result (λ h. h.body ≤ length octets.now) }
+    ensures whole { IfOk result (λ h. is_list h.format ≡ false → h.length % value_size h.format ≡ 0) }
+    ensures values { IfOk result (λ h. is_list h.format ≡ false → h.body + h.length ≤ length octets.now) }
+{
+    let Some((&first, rest)) = octets[place..].split_first() else {
+        return Err(ItemFault::Truncated { at: place });
+    };
+    let length_octets = usize::from(first % 4);
+    if length_octets == 0 {
+        return Err(ItemFault::NoLength { at: place });
+    }
+    let Some(format) = Format::from_code(first / 4) else {
+        return Err(ItemFault::Format { at: place });
+    };
+    if format == Format::List && depth == 0 {
+        return Err(ItemFault::Deep { at: place });
+    }
+    if rest.len() < length_octets {
+        return Err(ItemFault::Truncated { at: place });
+    }
+    let length = read_length(rest, length_octets);
+    if format != Format::List {
+        if !format.is_whole(length) {
+            return Err(ItemFault::Ragged { at: place });
+        }
+        if rest.len() - length_octets < length {
+            return Err(ItemFault::Truncated { at: place });
+        }
+    }
+    Ok(Header {
+        format,
+        body: place + 1 + length_octets,
+        length,
+    })
+}

@@ -1,0 +1,192 @@
+//! Data items.
+
+ghost use Rattle.std.specs.Prelude.{◌≡◌, ◌↔◌, IfOk, IsTrue, min};
+ghost use Rattle.secs_item.specs.Item.{nest, view, views};
+
+use std::alloc::{AllocError, Global};
+
+/// A data item (SEMI E5): a list of items, or any number of values of one format, none included.
+///
+/// Two items are equal exactly where they have one format and the same elements or values in the same order. `Ascii`, `Jis8` and
+/// `Char2` hold octets of any value; `F4` and `F8` hold the octets of each number, most significant first, unread.
+#[derive(Debug, Drop)]
+pub enum Item {
+    List(Vec<Item>),
+    Binary(Vec<u8>),
+    Boolean(Vec<bool>),
+    Ascii(Vec<u8>),
+    Jis8(Vec<u8>),
+    Char2(Vec<u8>),
+    I1(Vec<i8>),
+    I2(Vec<i16>),
+    I4(Vec<i32>),
+    I8(Vec<i64>),
+    U1(Vec<u8>),
+    U2(Vec<u16>),
+    U4(Vec<u32>),
+    U8(Vec<u64>),
+    F4(Vec<[u8; 4]>),
+    F8(Vec<[u8; 8]>),
+}
+
+impl Item {
+    /// An equal item, in memory of its own. The only error is want of memory.
+    pub fn copy(&self, alloc: Global) -> Result<Item, AllocError>
+        ensures { IfOk result (λ item. view item ≡ view self.now) }
+    {
+        match self {
+            Item::List(elements) => {
+                let mut copies = Vec::with_capacity(alloc, elements.len())?;
+                for element in elements {
+                    copies.push(element.copy(alloc)?)?;
+                }
+                Ok(Item::List(copies))
+            }
+            Item::Binary(values) => Ok(Item::Binary(Vec::from_slice(alloc, values)?)),
+            Item::Boolean(values) => Ok(Item::Boolean(Vec::from_slice(alloc, values)?)),
+            Item::Ascii(values) => Ok(Item::Ascii(Vec::from_slice(alloc, values)?)),
+            Item::Jis8(values) => Ok(Item::Jis8(Vec::from_slice(alloc, values)?)),
+            Item::Char2(values) => Ok(Item::Char2(Vec::from_slice(alloc, values)?)),
+            Item::I1(values) => Ok(Item::I1(Vec::from_slice(alloc, values)?)),
+            Item::I2(values) => Ok(Item::I2(Vec::from_slice(alloc, values)?)),
+            Item::I4(values) => Ok(Item::I4(Vec::from_slice(alloc, values)?)),
+            Item::I8(values) => Ok(Item::I8(Vec::from_slice(alloc, values)?)),
+            Item::U1(values) => Ok(Item::U1(Vec::from_slice(alloc, values)?)),
+            Item::U2(values) => Ok(Item::U2(Vec::from_slice(alloc, values)?)),
+            Item::U4(values) => Ok(Item::U4(Vec::from_slice(alloc, values)?)),
+            Item::U8(values) => Ok(Item::U8(Vec::from_slice(alloc, values)?)),
+            Item::F4(values) => Ok(Item::F4(Vec::from_slice(alloc, values)?)),
+            Item::F8(values) => Ok(Item::F8(Vec::from_slice(alloc, values)?)),
+        }
+    }
+}
+
+/// How deep lists stand in the item: 0 for an item of values, else one more than the deepest element, and 1 for an empty list.
+/// Where that is past the greatest `usize`, which no item in memory reaches, it is that number.
+pub fn nesting(item: &Item) -> usize
+    ensures { result ≡ min (nest (view item.now)) usize.MAX }
+{
+    match item {
+        Item::List(elements) => {
+            let mut deepest = 0usize;
+            for element in elements {
+                deepest = deepest.max(nesting(element));
+            }
+            deepest.saturating_add(1)
+        }
+        _ => 0,
+    }
+}
+
+impl PartialEq for Item {
+    ghost use Rattle.std.specs.Cmp.{decided, on_equiv, partial_equiv_from_equiv};
+    ghost use Rattle.std.specs.Ordering.{on};
+    ghost use Rattle.secs_item.specs.Equality.{same_value, same_value-Decides};
+
+    ghost eq = { on view same_value };
+
+    ghost laws = { partial_equiv_from_equiv (on_equiv view (decided same_value same_value-Decides)) };
+
+    fn eq(&self, other: &Item) -> bool
+        ensures eq { result ≡ same_value (view self.now) (view other.now) }
+        ensures same { IsTrue result ↔ (view self.now ≡ view other.now) }
+    {
+        same_item(self, other)
+    }
+}
+
+impl Eq for Item {
+    ghost use Rattle.std.specs.Cmp.{decided, on_equiv};
+    ghost use Rattle.secs_item.specs.Equality.{same_value, same_value-Decides};
+
+    ghost laws = { on_equiv view (decided same_value same_value-Decides) };
+}
+
+/// Whether two items stand for the same value.
+#[cycle(same)]
+fn same_item(item: &Item, other: &Item) -> bool
+    ensures { IsTrue result ↔ (view item.now ≡ view other.now) }
+{
+    match item {
+        Item::List(elements) => match other {
+            Item::List(others) => same_items(elements, others),
+            _ => false,
+        },
+        Item::Binary(values) => match other {
+            Item::Binary(others) => values == others,
+            _ => false,
+        },
+        Item::Boolean(values) => match other {
+            Item::Boolean(others) => values == others,
+            _ => false,
+        },
+        Item::Ascii(values) => match other {
+            Item::Ascii(others) => values == others,
+            _ => false,
+        },
+        Item::Jis8(values) => match other {
+            Item::Jis8(others) => values == others,
+            _ => false,
+        },
+        Item::Char2(values) => match other {
+            Item::Char2(others) => values == others,
+            _ => false,
+        },
+        Item::I1(values) => match other {
+            Item::I1(others) => values == others,
+            _ => false,
+        },
+        Item::I2(values) => match other {
+            Item::I2(others) => values == others,
+            _ => false,
+        },
+        Item::I4(values) => match other {
+            Item::I4(others) => values == others,
+            _ => false,
+        },
+        Item::I8(values) => match other {
+            Item::I8(others) => values == others,
+            _ => false,
+        },
+        Item::U1(values) => match other {
+            Item::U1(others) => values == others,
+            _ => false,
+        },
+        Item::U2(values) => match other {
+            Item::U2(others) => values == others,
+            _ => false,
+        },
+        Item::U4(values) => match other {
+            Item::U4(others) => values == others,
+            _ => false,
+        },
+        Item::U8(values) => match other {
+            Item::U8(others) => values == others,
+            _ => false,
+        },
+        Item::F4(values) => match other {
+            Item::F4(others) => values == others,
+            _ => false,
+        },
+        Item::F8(values) => match other {
+            Item::F8(others) => values == others,
+            _ => false,
+        },
+    }
+}
+
+/// Whether the items stand for the same values, one after another.
+#[cycle(same)]
+fn same_items(items: &[Item], others: &[Item]) -> bool
+    ensures { IsTrue result ↔ (views items.now ≡ views others.now) }
+{
+    if items.len() != others.len() {
+        return false;
+    }
+    for (i, item) in items.iter().enumerate() {
+        if !same_item(item, &others[i]) {
+            return false;
+        }
+    }
+    true
+}

@@ -1,0 +1,211 @@
+ghost use Rattle.std.specs.Prelude.{◌≤◌};
+
+use super::*;
+use std::alloc::Global;
+use std::process::Abort;
+use std::test::Fail;
+
+const DEPTH: u8 = 32;
+
+/// The octets are one item, whose shortest octets are these.
+fn recode(rt: &impl Abort, alloc: Global, octets: &[u8], shortest: &[u8]) -> Result<(), Fail> {
+    assert_eq!(rt; measure_front(octets, DEPTH)?, octets.len());
+    let (item, length) = decode_front(alloc, octets, DEPTH)?;
+    assert_eq!(rt; length, octets.len());
+    assert_eq!(rt; encode(alloc, &item)?.as_slice(), shortest);
+    assert_eq!(rt; decode_text(alloc, shortest, DEPTH)?, Some(item));
+    Ok(())
+}
+
+#[test]
+fn longer_fields_and_other_truths(rt: HostRuntime) -> Result<(), Fail> {
+    for (octets, shortest) in [
+        (b"\x42\x00\x02AB".as_slice(), b"\x41\x02AB".as_slice()),
+        (b"\xab\x00\x00\x00".as_slice(), b"\xa9\x00".as_slice()),
+        (
+            b"\x25\x03\x00\x01\x02".as_slice(),
+            b"\x25\x03\x00\x01\x01".as_slice(),
+        ),
+        (
+            b"\x01\x01\x01\x00".as_slice(),
+            b"\x01\x01\x01\x00".as_slice(),
+        ),
+    ] {
+        recode(&rt, rt.alloc(), octets, shortest)?;
+    }
+    Ok(())
+}
+
+/// The octets spell this item, and it is encoded so.
+fn both_directions(rt: &impl Abort, alloc: Global, octets: &[u8], item: Item) -> Result<(), Fail> {
+    assert_eq!(rt; encode(alloc, &item)?.as_slice(), octets);
+    let (read, _) = decode_front(alloc, octets, DEPTH)?;
+    assert_eq!(rt; read, item);
+    assert_eq!(rt; item.copy(alloc)?, item);
+    Ok(())
+}
+
+#[test]
+fn characters_and_truths(rt: HostRuntime) -> Result<(), Fail> {
+    let alloc = rt.alloc();
+    let text = Item::Ascii(b"A\n\"B".to_vec(alloc)?);
+    both_directions(&rt, alloc, b"\x41\x04A\n\"B", text)?;
+    let characters = Item::Jis8([0xffu8].to_vec(alloc)?);
+    both_directions(&rt, alloc, b"\x45\x01\xff", characters)?;
+    let truths = Item::Boolean([false, true, true].to_vec(alloc)?);
+    both_directions(&rt, alloc, b"\x25\x03\x00\x01\x01", truths)
+}
+
+#[test]
+fn numbers(rt: HostRuntime) -> Result<(), Fail> {
+    let alloc = rt.alloc();
+    let minus_one = Item::I2([-1i16].to_vec(alloc)?);
+    both_directions(&rt, alloc, b"\x69\x02\xff\xff", minus_one)?;
+    let least = Item::I8([i64::MIN].to_vec(alloc)?);
+    both_directions(&rt, alloc, b"\x61\x08\x80\0\0\0\0\0\0\0", least)?;
+    let one = Item::F4([[0x3f, 0x80, 0, 0]].to_vec(alloc)?);
+    both_directions(&rt, alloc, b"\x91\x04\x3f\x80\0\0", one)
+}
+
+#[test]
+fn lists(rt: HostRuntime) -> Result<(), Fail> {
+    let octets = b"\x01\x01\x01\x00\x00\x00";
+    let (item, length) = decode_front(rt.alloc(), octets, DEPTH)?;
+    assert_eq!(rt; length, 4);
+    assert_eq!(rt; nesting(&item), 2);
+    assert_eq!(rt; item.copy(rt.alloc())?, item);
+    assert_eq!(rt;
+        encode(rt.alloc(), &item)?.as_slice(),
+        b"\x01\x01\x01\x00".as_slice()
+    );
+    assert_ne!(rt; item, Item::List(Vec::new(rt.alloc())));
+    assert_ne!(rt;
+        Item::Ascii(Vec::new(rt.alloc())),
+        Item::Jis8(Vec::new(rt.alloc()))
+    );
+    Ok(())
+}
+
+#[test]
+fn texts(rt: HostRuntime) -> Result<(), Fail> {
+    assert_eq!(rt; decode_text(rt.alloc(), b"", DEPTH)?, None);
+    assert_eq!(rt; measure_text(b"", DEPTH), Ok(()));
+    assert_eq!(rt; measure_text(b"\x01\x01\x01\x00", 2), Ok(()));
+    let octets = b"\x01\x01\x01\x00\x00\x00";
+    let trailing = ItemFault::Trailing { at: 4 };
+    assert_eq!(rt; measure_text(octets, DEPTH), Err(trailing));
+    assert_eq!(rt;
+        decode_text(rt.alloc(), octets, DEPTH).err(),
+        Some(trailing)
+    );
+    Ok(())
+}
+
+/// The front of the octets has this fault.
+fn expect_fault(rt: &impl Abort, alloc: Global, octets: &[u8], depth: u8, fault: ItemFault)
+    requires { depth ≤ 100 }
+{
+    assert_eq!(rt; measure_front(octets, depth), Err(fault));
+    assert_eq!(rt; decode_front(alloc, octets, depth).err(), Some(fault));
+}
+
+#[test]
+fn faults(rt: HostRuntime) {
+    let truncated = ItemFault::Truncated { at: 0 };
+    let ragged = ItemFault::Ragged { at: 0 };
+    for (octets, fault) in [
+        (b"".as_slice(), truncated),
+        (b"\xa9".as_slice(), truncated),
+        (b"\x40".as_slice(), ItemFault::NoLength { at: 0 }),
+        (b"\x05".as_slice(), ItemFault::Format { at: 0 }),
+        (b"\xa9\x03\x00\x01\xff".as_slice(), ragged),
+        (b"\xa9\x03\x00".as_slice(), ragged),
+        (
+            b"\x03\xff\xff\xff".as_slice(),
+            ItemFault::Truncated { at: 4 },
+        ),
+    ] {
+        expect_fault(&rt, rt.alloc(), octets, DEPTH, fault);
+    }
+    expect_fault(
+        &rt,
+        rt.alloc(),
+        b"\x01\x01\x01\x00",
+        1,
+        ItemFault::Deep { at: 2 },
+    );
+    expect_fault(&rt, rt.alloc(), b"\x01\x00", 0, ItemFault::Deep { at: 0 });
+    assert_eq!(rt; measure_front(b"\x41\x00", 0), Ok(2));
+}
+
+#[test]
+fn cut_off(rt: HostRuntime) {
+    let whole = b"\x01\x02\x41\x02\x41\x42\xa5\x02\x01\xff";
+    for (length, at) in [
+        (0, 0),
+        (1, 0),
+        (2, 2),
+        (3, 2),
+        (4, 2),
+        (5, 2),
+        (6, 6),
+        (7, 6),
+        (8, 6),
+        (9, 6),
+    ] {
+        if length <= whole.len() {
+            let (front, _) = whole.split_at(length);
+            expect_fault(&rt, rt.alloc(), front, DEPTH, ItemFault::Truncated { at });
+        }
+    }
+}
+
+#[test]
+fn lists_that_claim_too_much(rt: HostRuntime) {
+    let octets = [[0x03, 0xff, 0xff, 0xff]; 101];
+    let octets = octets.as_flattened();
+    expect_fault(&rt, rt.alloc(), octets, 100, ItemFault::Deep { at: 400 });
+    let (hundred, _) = octets.split_at(octets.len().min(400));
+    expect_fault(
+        &rt,
+        rt.alloc(),
+        hundred,
+        100,
+        ItemFault::Truncated { at: 400 },
+    );
+}
+
+#[test]
+fn every_two_octets(rt: HostRuntime) {
+    let mut counts = [0u32; 6];
+    for first in 0..=255u8 {
+        for second in 0..=255u8 {
+            let kind = match decode_front(rt.alloc(), &[first, second], 1) {
+                Ok(_) => 0,
+                Err(ItemFault::NoLength { .. }) => 1,
+                Err(ItemFault::Format { .. }) => 2,
+                Err(ItemFault::Ragged { .. }) => 3,
+                Err(ItemFault::Truncated { at: 0 }) => 4,
+                Err(ItemFault::Truncated { at: 2 }) => 5,
+                Err(fault) => panic!(rt; "{first} {second} {fault}"),
+            };
+            counts[kind] = counts[kind].wrapping_add(1);
+        }
+    }
+    assert_eq!(rt; counts, [16, 16_384, 36_864, 1_504, 10_513, 255]);
+}
+
+#[test]
+fn greatest_length(rt: HostRuntime) -> Result<(), Fail> {
+    let mut text = vec![in rt.alloc(); 0u8; 0x100_0000]?;
+    text.truncate(0xff_ffff);
+    let octets = encode(rt.alloc(), &Item::Ascii(text))?;
+    assert_eq!(rt; octets.len(), 4 + 0xff_ffff);
+    assert!(rt; octets.as_slice().starts_with(b"\x43\xff\xff\xff"));
+    let text = vec![in rt.alloc(); 0u8; 0x100_0000]?;
+    assert_eq!(rt;
+        encode(rt.alloc(), &Item::Ascii(text)).err(),
+        Some(ItemFault::TooLarge)
+    );
+    Ok(())
+}

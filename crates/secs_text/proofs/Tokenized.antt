@@ -1,0 +1,175 @@
+-- The tokens of texts that are put together.
+use Rattle.std.proofs.Common.{◌≡◌, ℕ, zero, suc, ◌+◌, ◌<◌, ◌≤◌, Bool, true, false, ◌&&◌, ◌||◌, List, [], ◌∷◌, ◌++◌, length, take, drop, get_or, map, refl, sym, ap, ◌∙◌, subst, append_assoc, append-nil, arith, codes, cond, if◌then◌else◌}
+use Rattle.std.specs.Prelude.{◌==◌, slice_index}
+use Rattle.std.specs.List.{list_all, prefix_len}
+use Rattle.std.proofs.lemmas.Bool.{eqb-true}
+use Rattle.secs_text.specs.Octets.{is_white, is_of_word, is_quotable}
+use Rattle.secs_text.specs.Token.{Token, word, quoted, less, greater, bracket, bracket_end, stop, end, Front, white, whole, front, quoted_front, with_front, tokens_after, tokens_from}
+use Rattle.secs_text.proofs.Completeness.{token_of}
+use Rattle.secs_text.proofs.TokenLists.{skipped}
+use Rattle.secs_text.proofs.PrintedWords.{IsWord}
+
+-- the octets have these tokens, from wherever they stand
+pub record HasKinds (octets : List ℕ) (ts : List Token) : Type 0 where
+  pub kinds : (at : ℕ) → map token_of (tokens_from at octets) ≡ ts
+
+moved : (octets more : List ℕ) (ts us : List Token) → octets ≡ more → ts ≡ us → HasKinds octets ts → HasKinds more us
+moved octets more ts us e f h = record { kinds = λ at. ap (λ o. map token_of (tokens_from at o)) (sym e) ∙ h.kinds at ∙ f }
+
+front_step : (at c : ℕ) (octets : List ℕ) → tokens_from at (c ∷ octets) ≡ with_front at (front c octets) (λ more. tokens_after more (at + 1) octets)
+unfolding tokens_after
+front_step at c octets = refl
+
+pub end_kinds : HasKinds [] (end ∷ [])
+unfolding tokens_after
+end_kinds = record { kinds = λ at. refl }
+
+white_kinds : (octets : List ℕ) (ts : List Token) → HasKinds octets ts → HasKinds (0x20 ∷ octets) ts
+white_kinds octets ts h = record { kinds = λ at. ap (λ o. map token_of o) (front_step at 0x20 octets) ∙ h.kinds (at + 1) }
+
+-- a whole token, and the tokens after it
+whole_kinds : (c n : ℕ) (octets rest : List ℕ) (t : Token) (ts : List Token) → front c octets ≡ whole t n → n ≤ length octets → drop n octets ≡ rest → HasKinds rest ts → HasKinds (c ∷ octets) (t ∷ ts)
+whole_kinds c n octets rest t ts e le left h = record {
+  kinds = λ at. ap (λ o. map token_of o) (front_step at c octets)
+      ∙ ap (λ f. map token_of (with_front at f (λ more. tokens_after more (at + 1) octets))) e
+      ∙ ap (λ o. t ∷ map token_of o) (skipped n (at + 1) octets le ∙ ap (λ o. tokens_from (at + 1 + n) o) left)
+      ∙ ap (λ o. t ∷ o) (h.kinds (at + 1 + n));
+}
+
+-- ---- fronts
+
+prefix_by_first : (p : ℕ → Bool) (c : ℕ) (cs rest : List ℕ) (b : Bool) → p c ≡ b → b && list_all p cs ≡ true → (list_all p cs ≡ true → prefix_len p (cs ++ rest) ≡ length cs) → cond (p c) (1 + prefix_len p (cs ++ rest)) 0 ≡ suc (length cs)
+prefix_by_first p c cs rest true is all more = let n = more all in let one : 1 + prefix_len p (cs ++ rest) ≡ suc (length cs) = omega arith in rw is one
+prefix_by_first p c cs rest false is all more = cc
+
+pub prefix_front : (p : ℕ → Bool) (cs rest : List ℕ) → list_all p cs ≡ true → prefix_len p rest ≡ 0 → prefix_len p (cs ++ rest) ≡ length cs
+prefix_front p [] rest all ends = ends
+prefix_front p (c ∷ cs) rest all ends = prefix_by_first p c cs rest (p c) refl all (λ more. prefix_front p cs rest more ends)
+
+pub take_front : (cs rest : List ℕ) → take (length cs) (cs ++ rest) ≡ cs
+take_front [] rest = refl
+take_front (c ∷ cs) rest = ap (λ o. c ∷ o) (take_front cs rest)
+
+pub drop_front : (cs rest : List ℕ) → drop (length cs) (cs ++ rest) ≡ rest
+drop_front [] rest = refl
+drop_front (c ∷ cs) rest = drop_front cs rest
+
+length_front : (cs rest : List ℕ) → length cs ≤ length (cs ++ rest)
+length_front [] rest = omega arith
+length_front (c ∷ cs) rest = let le = length_front cs rest in omega arith
+
+not_that : (k c : ℕ) → is_of_word k ≡ false → is_of_word c ≡ true → (c == k) ≡ false
+not_that k c no_word is = by_same (c == k) refl
+  where
+    by_same : (b : Bool) → (c == k) ≡ b → b ≡ false
+    by_same true e = let same = ap is_of_word (eqb-true c k e) in cc
+    by_same false e = refl
+
+no_white : (c : ℕ) → is_of_word c ≡ true → is_white c ≡ false
+no_white c is =
+    let a = not_that 0x20 c refl is in
+    let b = not_that 0x09 c refl is in
+    let d = not_that 0x0D c refl is in
+    let e = not_that 0x0A c refl is in
+    rw (a, b, d, e) refl
+
+front_word : (c : ℕ) (octets : List ℕ) → is_of_word c ≡ true → front c octets ≡ whole (word (c ∷ take (prefix_len is_of_word octets) octets)) (prefix_len is_of_word octets)
+front_word c octets is =
+    let space = no_white c is in
+    let quote = not_that 0x22 c refl is in
+    let opening = not_that 0x3C c refl is in
+    let closing = not_that 0x3E c refl is in
+    let counting = not_that 0x5B c refl is in
+    let counted = not_that 0x5D c refl is in
+    let point = not_that 0x2E c refl is in
+    rw (space, quote, opening, closing, counting, counted, point, is) refl
+
+-- no word goes on here
+abbrev pub EndsWord : List ℕ → Type 0
+EndsWord rest = prefix_len is_of_word rest ≡ 0
+
+first_of_word : (c : ℕ) (cs : List ℕ) (b : Bool) → is_of_word c ≡ b → b && list_all is_of_word cs ≡ true → (is_of_word c ≡ true) × (list_all is_of_word cs ≡ true)
+first_of_word c cs true is e = (is, e)
+first_of_word c cs false is e = cc
+
+pub word_kinds : (w rest : List ℕ) (ts : List Token) → IsWord w → EndsWord rest → HasKinds rest ts → HasKinds (w ++ rest) (word w ∷ ts)
+word_kinds [] rest ts is ends h = absurd (let some = is.some in omega arith)
+word_kinds (c ∷ cs) rest ts is ends h =
+    let parts = first_of_word c cs (is_of_word c) refl is.all in
+    let n = prefix_front is_of_word cs rest parts.1 ends in
+    let octets = cs ++ rest in
+    let fronted : front c octets ≡ whole (word (c ∷ cs)) (length cs) = front_word c octets parts.0 ∙ ap (λ k. whole (word (c ∷ take k octets)) k) n ∙ ap (λ o. whole (word (c ∷ o)) (length cs)) (take_front cs rest) in
+    whole_kinds c (length cs) octets rest (word (c ∷ cs)) ts fronted (length_front cs rest) (drop_front cs rest) h
+
+at_front : (q rest : List ℕ) (c : ℕ) → slice_index (q ++ c ∷ rest) (length q) ≡ c
+at_front [] rest c = refl
+at_front (d ∷ q) rest c = at_front q rest c
+
+after_quote : (q rest : List ℕ) (c : ℕ) → drop (length q + 1) (q ++ c ∷ rest) ≡ rest
+after_quote [] rest c = refl
+after_quote (d ∷ q) rest c = let e : suc (length q) + 1 ≡ suc (length q + 1) = omega arith in ap (λ k. drop k (d ∷ (q ++ c ∷ rest))) e ∙ after_quote q rest c
+
+quote_within : (q rest : List ℕ) (c : ℕ) → length q + 1 ≤ length (q ++ c ∷ rest)
+quote_within [] rest c = omega arith
+quote_within (d ∷ q) rest c = let le = quote_within q rest c in omega arith
+
+quoted_kinds : (q rest : List ℕ) (ts : List Token) → list_all is_quotable q ≡ true → HasKinds rest ts → HasKinds (0x22 ∷ (q ++ 0x22 ∷ rest)) (quoted q ∷ ts)
+quoted_kinds q rest ts all h =
+    let octets = q ++ 0x22 ∷ rest in
+    let n = prefix_front is_quotable q (0x22 ∷ rest) all refl in
+    let closes : (slice_index octets (length q) == 0x22) ≡ true = ap (λ c. c == 0x22) (at_front q rest 0x22) in
+    let one : Front = whole (quoted (take (length q) octets)) (length q + 1) in
+    let fronted : front 0x22 octets ≡ whole (quoted q) (length q + 1) =
+    ap (λ k. quoted_front octets k) n ∙ rw closes (ap (λ o. whole (quoted o) (length q + 1)) (take_front q (0x22 ∷ rest))) in
+    whole_kinds 0x22 (length q + 1) octets rest (quoted q) ts fronted (quote_within q rest 0x22) (after_quote q rest 0x22) h
+
+-- ---- what is put together
+
+-- the octets are printed of these tokens, wherever no word goes on behind them
+pub record Prints (octets : List ℕ) (ps : List Token) : Type 0 where
+  pub starts : (rest : List ℕ) → EndsWord rest → EndsWord (octets ++ rest)
+  pub printed : (rest : List ℕ) (ts : List Token) → EndsWord rest → HasKinds rest ts → HasKinds (octets ++ rest) (ps ++ ts)
+
+pub prints_none : Prints [] []
+prints_none = record { starts = λ rest e. e; printed = λ rest ts e h. h }
+
+pub prints_along : {octets more : List ℕ} {ps : List Token} → octets ≡ more → Prints octets ps → Prints more ps
+prints_along {octets} {more} {ps} e h = let P : List ℕ → Type 0 = λ o. Prints o ps in subst P e h
+
+pub prints_both : {a b : List ℕ} {ps qs : List Token} → Prints a ps → Prints b qs → Prints (a ++ b) (ps ++ qs)
+prints_both {a} {b} {ps} {qs} first second = record {
+  starts = λ rest e. ap (λ o. prefix_len is_of_word o) (append_assoc a b rest) ∙ first.starts (b ++ rest) (second.starts rest e);
+  printed = λ rest ts e h. moved (a ++ (b ++ rest)) ((a ++ b) ++ rest) (ps ++ (qs ++ ts)) ((ps ++ qs) ++ ts) (sym (append_assoc a b rest)) (sym (append_assoc ps qs ts)) (first.printed (b ++ rest) (qs ++ ts) (second.starts rest e) (second.printed rest ts e h));
+}
+
+-- a word after a space
+pub prints_word : (w : List ℕ) → IsWord w → Prints (codes " " ++ w) (word w ∷ [])
+prints_word w is = record { starts = λ rest e. refl; printed = λ rest ts e h. white_kinds (w ++ rest) (word w ∷ ts) (word_kinds w rest ts is e h) }
+
+pub prints_opening : (w : List ℕ) → IsWord w → Prints (codes "<" ++ w) (less ∷ word w ∷ [])
+prints_opening w is = record { starts = λ rest e. refl; printed = λ rest ts e h. whole_kinds 0x3C 0 (w ++ rest) (w ++ rest) less (word w ∷ ts) refl (omega arith) refl (word_kinds w rest ts is e h) }
+
+bracket_end_kinds : (rest : List ℕ) (ts : List Token) → HasKinds rest ts → HasKinds (0x5D ∷ rest) (bracket_end ∷ ts)
+bracket_end_kinds rest ts h = whole_kinds 0x5D 0 rest rest bracket_end ts refl (omega arith) refl h
+
+pub prints_count : (w : List ℕ) → IsWord w → Prints (codes " [" ++ (w ++ codes "]")) (bracket ∷ word w ∷ bracket_end ∷ [])
+prints_count w is = record {
+  starts = λ rest e. refl;
+  printed = λ rest ts e h. moved (0x20 ∷ 0x5B ∷ (w ++ (0x5D ∷ rest))) (0x20 ∷ 0x5B ∷ ((w ++ codes "]") ++ rest)) _ _ (ap (λ o. 0x20 ∷ 0x5B ∷ o) (sym (append_assoc w (codes "]") rest))) refl
+      (white_kinds _ _ (whole_kinds 0x5B 0 _ _ bracket (word w ∷ bracket_end ∷ ts) refl (omega arith) refl (word_kinds w (0x5D ∷ rest) (bracket_end ∷ ts) is refl (bracket_end_kinds rest ts h))));
+}
+
+pub prints_close : Prints (codes ">") (greater ∷ [])
+prints_close = record { starts = λ rest e. refl; printed = λ rest ts e h. whole_kinds 0x3E 0 rest rest greater ts refl (omega arith) refl h }
+
+pub prints_space : {octets : List ℕ} {ps : List Token} → Prints octets ps → Prints (codes " " ++ octets) ps
+prints_space {octets} {ps} h = record { starts = λ rest e. refl; printed = λ rest ts e k. white_kinds (octets ++ rest) (ps ++ ts) (h.printed rest ts e k) }
+
+pub prints_stop : Prints (codes " .") (stop ∷ [])
+prints_stop = record { starts = λ rest e. refl; printed = λ rest ts e h. white_kinds (0x2E ∷ rest) (stop ∷ ts) (whole_kinds 0x2E 0 rest rest stop ts refl (omega arith) refl h) }
+
+pub prints_quoted : (q : List ℕ) → list_all is_quotable q ≡ true → Prints (0x20 ∷ 0x22 ∷ (q ++ 0x22 ∷ [])) (quoted q ∷ [])
+prints_quoted q all = record {
+  starts = λ rest e. refl;
+  printed = λ rest ts e h. white_kinds _ _ (moved (0x22 ∷ (q ++ 0x22 ∷ rest)) (0x22 ∷ ((q ++ 0x22 ∷ []) ++ rest)) _ _ (ap (λ o. 0x22 ∷ o) (sym (append_assoc q (0x22 ∷ []) rest))) refl (quoted_kinds q rest ts all h));
+}

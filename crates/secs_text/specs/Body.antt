@@ -1,0 +1,74 @@
+-- The values of an item, by how words spell them.
+use Rattle.std.specs.Prelude.{ℕ, ℤ, ◌^◌, Bool, List, [], length, Option}
+use Rattle.secs_item.specs.declared.format.Format.{Format}
+use Rattle.secs_item.specs.declared.format.Format.TheVariants as format
+use Rattle.secs_item.specs.Item.{Value, list, values, Values, Elements, element, binary, boolean, ascii, jis8, char2, i1, i2, i4, i8, u1, u2, u4, u8, f4, f8, no_elements, count}
+use Rattle.secs_text.specs.Words.{number_below, signed_below, octet_of, float_of, truth_of}
+
+-- how a word spells a value
+pub data Spelling : Type 0 where
+  hex_octet : Spelling
+  truth_letter : Spelling
+  -- at least `-half`, and below `half`
+  signed_number : ℕ → Spelling
+  -- below a limit
+  unsigned_number : ℕ → Spelling
+  -- of so many octets
+  hex_float : ℕ → Spelling
+
+-- what such a word spells
+abbrev pub Spelled : Spelling → Type 0
+Spelled hex_octet = ℕ
+Spelled truth_letter = Bool
+Spelled (signed_number half) = ℤ
+Spelled (unsigned_number limit) = ℕ
+Spelled (hex_float size) = List ℕ
+
+-- the value that a word spells, if it is one
+abbrev pub spelled : (s : Spelling) → List ℕ → Option (Spelled s)
+spelled hex_octet w = octet_of w
+spelled truth_letter w = truth_of w
+spelled (signed_number half) w = signed_below half w
+spelled (unsigned_number limit) w = number_below limit w
+spelled (hex_float size) w = float_of size w
+
+-- octets of text, or values each of which is one word
+pub data Body : Type 0 where
+  in_text : List ℕ → Body
+  in_words : (s : Spelling) → List (Spelled s) → Body
+
+abbrev pub body_of : Values → Body
+body_of (binary xs) = in_words hex_octet xs
+body_of (boolean xs) = in_words truth_letter xs
+body_of (ascii xs) = in_text xs
+body_of (jis8 xs) = in_words hex_octet xs
+body_of (char2 xs) = in_words hex_octet xs
+body_of (i1 xs) = in_words (signed_number (2 ^ 7)) xs
+body_of (i2 xs) = in_words (signed_number (2 ^ 15)) xs
+body_of (i4 xs) = in_words (signed_number (2 ^ 31)) xs
+body_of (i8 xs) = in_words (signed_number (2 ^ 63)) xs
+body_of (u1 xs) = in_words (unsigned_number (2 ^ 8)) xs
+body_of (u2 xs) = in_words (unsigned_number (2 ^ 16)) xs
+body_of (u4 xs) = in_words (unsigned_number (2 ^ 32)) xs
+body_of (u8 xs) = in_words (unsigned_number (2 ^ 64)) xs
+body_of (f4 xs) = in_words (hex_float 4) xs
+body_of (f8 xs) = in_words (hex_float 8) xs
+
+-- nothing yet of a format
+abbrev pub nothing_of : Format → Value
+nothing_of format.List = list no_elements
+nothing_of format.Binary = values (binary [])
+nothing_of format.Boolean = values (boolean [])
+nothing_of format.Ascii = values (ascii [])
+nothing_of format.Jis8 = values (jis8 [])
+nothing_of format.Char2 = values (char2 [])
+nothing_of format.I1 = values (i1 [])
+nothing_of format.I2 = values (i2 [])
+nothing_of format.I4 = values (i4 [])
+nothing_of format.I8 = values (i8 [])
+nothing_of format.U1 = values (u1 [])
+nothing_of format.U2 = values (u2 [])
+nothing_of format.U4 = values (u4 [])
+nothing_of format.U8 = values (u8 [])
+nothing_of format.F4 = values (f4 [])
+nothing_of format.F8 = values (f8 [])

@@ -1,0 +1,17 @@
+-- A message, apart from where its item lies in memory.
+use Rattle.std.specs.Prelude.{ℕ, Bool, List, [], ◌∷◌, Option, MatchOption, ◌≤◌}
+use Rattle.secs_item.specs.Item.{Value, nest}
+
+pub record Content : Type 0 where
+  pub stream : ℕ
+  pub function : ℕ
+  pub wait : Bool
+  pub item : Option Value
+
+-- lists stand in lists at most so deep
+abbrev pub IsWithin : ℕ → Content → Type 0
+IsWithin depth m = MatchOption m.item (Unit {0}) (λ v. nest v ≤ depth)
+
+abbrev pub AllWithin : ℕ → List Content → Type 0
+AllWithin depth [] = Unit {0}
+AllWithin depth (m ∷ ms) = IsWithin depth m × AllWithin depth ms

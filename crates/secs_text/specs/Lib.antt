@@ -1,0 +1,17 @@
+pub mod Octets
+pub mod Token
+pub mod Seen
+pub mod Left
+pub mod Words
+pub mod TypeName
+pub mod Content
+pub mod Body
+pub mod Held
+pub mod Notation
+pub mod Printed
+pub mod Places
+pub mod Fault
+pub mod View
+pub mod Reads
+pub mod SeenWord
+pub mod Laws

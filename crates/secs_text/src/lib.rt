@@ -1,0 +1,32 @@
+//! Messages of SEMI E5 (SECS-II) and their notation, a text form that a person can read and type:
+//! `S6F11 W <L [2] <A [2] "AB"> <U1 [2] 1 255>> .`
+//!
+//! [`print`] gives the one printed form of a message, [`read`] and [`read_all`] read every text that is
+//! the notation of messages, and tell any other text's fault with its place.
+#![tactic(auto)]
+
+mod count;
+mod fault;
+mod items;
+pub mod laws;
+mod message;
+mod number_words;
+mod octet;
+mod octet_words;
+mod opening;
+mod printing;
+mod reading;
+mod token;
+mod tokens;
+mod type_name;
+mod word;
+mod words;
+mod written;
+
+pub use fault::TextFault;
+pub use message::Message;
+pub use printing::print;
+pub use reading::{read, read_all};
+
+#[cfg(test)]
+mod tests;

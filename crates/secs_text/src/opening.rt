@@ -1,0 +1,92 @@
+//! Reading the opening of an item: its type name and its count.
+
+ghost use Rattle.std.specs.Prelude.{◌≡◌, ◌≤◌, ◌<◌, ◌+◌, length, IfOk, Some};
+ghost use Rattle.secs_item.specs.Item.{Value};
+ghost use Rattle.secs_text.specs.Left.{left, octets_left};
+ghost use Rattle.secs_text.specs.Places.{Rules, Before, walk, type_wanted, after_type, count_wanted, in_item};
+ghost use Rattle.secs_text.specs.Body.{nothing_of};
+ghost use Rattle.secs_text.specs.Reads.{Reads, count_seen, Checks};
+ghost use Rattle.secs_item.specs.declared.format.Format.TheVariants as format;
+
+use crate::count::Count;
+use crate::fault::TextFault;
+use crate::token::Token;
+use crate::tokens::Tokens;
+use crate::type_name::format_named;
+use crate::word::number;
+use secs_item::Format;
+
+/// Reads the type name after the `<` that stood at `opening`. Lists may be nested `depth` deep.
+pub fn type_name(tokens: &mut Tokens, opening: usize, depth: u8) -> Result<Format, TextFault>
+    ensures reads { (rules : Rules) (b : Before) → length b.lists + depth ≡ rules.depth
+        → Reads result (walk rules (type_wanted b opening) (left tokens.old))
+        (λ f. walk rules (after_type b (nothing_of f)) (left tokens.new)) }
+    ensures list { IfOk result (λ f. f ≡ format.List → 0 < depth) }
+    ensures no_longer { octets_left tokens.new ≤ octets_left tokens.old }
+{
+    let next = tokens.next();
+    let Token::Word(word) = next.token else {
+        return Err(TextFault::Syntax { at: next.at });
+    };
+    match format_named(word) {
+        None => Err(TextFault::Syntax { at: next.at }),
+        Some(Format::List) if depth == 0 => Err(TextFault::Deep { at: opening }),
+        Some(format) => Ok(format),
+    }
+}
+
+/// Reads the number of a count and the `]`, after the `[`.
+pub fn count_after(tokens: &mut Tokens, opening: usize) -> Result<Count, TextFault>
+    ensures reads { (rules : Rules) (b : Before) (v : Value)
+        → Reads result (walk rules (count_wanted b v opening) (left tokens.old))
+        (λ c. walk rules (in_item b (record { count = count_seen (Some c); so_far = v })) (left tokens.new)) }
+    ensures no_longer { octets_left tokens.new ≤ octets_left tokens.old }
+{
+    let next = tokens.next();
+    let count = match next.token {
+        Token::Word(word) => match number(word) {
+            Some(number) => Count {
+                at: opening,
+                number,
+            },
+            None => return Err(TextFault::Number { at: next.at }),
+        },
+        _ => return Err(TextFault::Syntax { at: next.at }),
+    };
+    let next = tokens.next();
+    match next.token {
+        Token::BracketEnd => Ok(count),
+        _ => Err(TextFault::Syntax { at: next.at }),
+    }
+}
+
+/// Reads the count, if one is written.
+pub fn optional_count(tokens: &mut Tokens) -> Result<Option<Count>, TextFault>
+    ensures reads { (rules : Rules) (b : Before) (v : Value)
+        → Reads result (walk rules (after_type b v) (left tokens.old))
+        (λ c. walk rules (in_item b (record { count = count_seen c; so_far = v })) (left tokens.new)) }
+    ensures no_longer { octets_left tokens.new ≤ octets_left tokens.old }
+{
+    let mut ahead = *tokens;
+    let next = ahead.next();
+    match next.token {
+        Token::Bracket => {
+            *tokens = ahead;
+            match count_after(tokens, next.at) {
+                Ok(count) => Ok(Some(count)),
+                Err(fault) => Err(fault),
+            }
+        }
+        _ => Ok(None),
+    }
+}
+
+/// Tells a count that isn't right.
+pub fn check_count(count: Option<Count>, length: usize) -> Result<(), TextFault>
+    ensures { Checks (count_seen count) length result }
+{
+    match count {
+        Some(count) if count.number != length as u64 => Err(TextFault::Count { at: count.at }),
+        _ => Ok(()),
+    }
+}
