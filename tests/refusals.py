@@ -30,6 +30,15 @@ RUNS = [
     (["show"], "examples/cut-off.bin"),
     (["show", "--depth", "0"], "examples/select.bin"),
     (["show", "--help"], "examples/select.bin"),
+    (["show", "--depth", "1"], "examples/session.bin"),
+    (["show"], "examples/unreadable.bin"),
+    (["encode", "--hex"], "examples/report.txt"),
+    (["encode"], "examples/session.txt"),
+    (["encode", "--hex"], "examples/number.txt"),
+    (["encode", "--max", "256"], "examples/long.txt"),
+    (["audit"], "examples/expired.log"),
+    (["audit"], "examples/late-reply.log"),
+    (["audit"], "examples/unreadable.log"),
 ]
 
 

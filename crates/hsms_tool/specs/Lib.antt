@@ -1,5 +1,7 @@
+pub mod Audit
 pub mod Encode
 pub mod Line
 pub mod Options
 pub mod Show
 pub mod Status
+pub mod Verdict

@@ -100,6 +100,12 @@ IsRead (Device word) = word.now ≡ codes "Read"
 IsRead (Refused _) = ⊥
 IsRead Memory = ⊥
 
+-- a fault of the input: a read failed, or there is more than the command takes
+abbrev pub IsReading : ToolFault → Type 0
+IsReading (Device word) = (word.now ≡ codes "Read") ⊎ (word.now ≡ codes "Endless")
+IsReading (Refused _) = ⊥
+IsReading Memory = Unit {0}
+
 -- a write failed
 abbrev pub IsWrite : ToolFault → Type 0
 IsWrite (Device word) = word.now ≡ codes "Write"

@@ -1,15 +1,19 @@
-//! The command `hsms`: shows the messages of HSMS octets (SEMI E37), and encodes messages that are written in notation.
+//! The command `hsms`: audits HSMS session logs (SEMI E37, E37.1), shows the messages of HSMS octets, and encodes messages
+//! that are written in notation.
 #![tactic(auto)]
 
 ghost use Rattle.std.specs.Prelude.{◌≤◌};
 
+mod auditing;
 mod encoding;
 mod fault;
 mod input;
 mod line;
 mod options;
 mod showing;
+mod verdict;
 
+use auditing::audit_to;
 use encoding::encode_all;
 use fault::ToolFault;
 use hsms_frame::{Reader, Writer};
@@ -26,7 +30,8 @@ const BUFFER: usize = 65536;
 
 fn main(rt: HostRuntime) -> ExitCode {
     match run(&rt) {
-        Ok(()) => ExitCode::SUCCESS,
+        Ok(true) => ExitCode::SUCCESS,
+        Ok(false) => ExitCode::from(1),
         Err(fault) => {
             let _ = eprintln!(rt; "hsms: {fault}");
             ExitCode::from(fault.status())
@@ -34,22 +39,31 @@ fn main(rt: HostRuntime) -> ExitCode {
     }
 }
 
-// Judges the command line, and then does what it asks for.
-fn run<R: AllocGlobal + Env + Input + Print>(rt: &R) -> Result<(), ToolFault> {
+// Judges the command line, and then does what it asks for. All is well but where a log fails its audit.
+fn run<R: AllocGlobal + Env + Input + Print>(rt: &R) -> Result<bool, ToolFault> {
     let alloc = rt.alloc();
     let words = words(alloc, rt)?;
     match options::parse(alloc, words.as_slice())? {
-        Request::Help(text) => rt
-            .print(text.as_str())
-            .map_err(|_| ToolFault::Device("Write")),
-        Request::Show { max, depth } => show_input(rt, max, depth),
+        Request::Help(text) => {
+            rt.print(text.as_str())
+                .map_err(|_| ToolFault::Device("Write"))?;
+            Ok(true)
+        }
+        Request::Audit => audit_input(rt),
+        Request::Show { max, depth } => {
+            show_input(rt, max, depth)?;
+            Ok(true)
+        }
         Request::Encode {
             device,
             system,
             max,
             depth,
             hex,
-        } => encode_input(rt, device, system, max, depth, hex),
+        } => {
+            encode_input(rt, device, system, max, depth, hex)?;
+            Ok(true)
+        }
     }
 }
 
@@ -70,6 +84,13 @@ fn show_input<R: AllocGlobal + Input + Print>(rt: &R, max: u32, depth: u8) -> Re
         Ok(()) => answer,
         Err(_) => Err(ToolFault::Device("Write")),
     }
+}
+
+// Audits the log of standard input, and says whether it passes.
+fn audit_input<R: AllocGlobal + Input + Print>(rt: &R) -> Result<bool, ToolFault> {
+    let mut source = Reader::new(rt.reader());
+    let mut sink = Writer::new(io::writer(rt));
+    audit_to(rt.alloc(), &mut source, &mut sink)
 }
 
 // Encodes the messages of standard input. The frames are put out in one piece.

@@ -20,6 +20,8 @@ pub enum Request {
         max: u32,
         depth: u8,
     },
+    /// The log of standard input is to be audited.
+    Audit,
     /// The messages of standard input, in notation, are to be encoded for a device, with system bytes from `system` on:
     /// as octets, or with `hex` as lines of hexadecimal.
     Encode {
@@ -63,11 +65,13 @@ fn command<'a>(alloc: Global) -> Result<Command<'a>, AllocError> {
         .about("Shows the HSMS messages of standard input, a line each")
         .arg(max_option(alloc))?
         .arg(depth_option(alloc))?;
+    let audit = Command::new(alloc, "audit").about("Audits the session log of standard input");
     Command::new(alloc, "hsms")
         .bin_name("hsms")?
-        .about("Reads and writes HSMS messages")
+        .about("Audits HSMS session logs, and reads and writes HSMS messages")
         .subcommand_required(true)
         .subcommand(show)?
+        .subcommand(audit)?
         .subcommand(encode_command(alloc)?)
 }
 
@@ -118,6 +122,9 @@ fn asked(alloc: Global, matches: &ArgMatches<'_>) -> Result<Request, ToolFault>
     let Some((name, options)) = matches.subcommand() else {
         return Err(no_request(alloc));
     };
+    if name == "audit" {
+        return Ok(Request::Audit);
+    }
     let max = options.get_one::<u32>("max").unwrap_or(DEFAULT_MAX);
     let depth = options.get_one::<u8>("depth").unwrap_or(DEFAULT_DEPTH);
     if max < 256 || max > 33554432 || depth < 1 || depth > 100 {

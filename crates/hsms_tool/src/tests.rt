@@ -1,3 +1,4 @@
+mod auditing;
 mod encoding;
 
 ghost use Rattle.std.specs.Prelude.{◌<◌};

@@ -1,5 +1,5 @@
 -- The laws of reading, and what they say of an answer.
-use Rattle.std.proofs.Common.{◌≡◌, ℕ, ◌+◌, ◌≤◌, max, ◌⊎◌, inl, inr, Bool, true, false, List, [], ◌∷◌, ◌++◌, refl, sym, ap, ◌∙◌, subst, arith}
+use Rattle.std.proofs.Common.{◌≡◌, ℕ, ◌+◌, ◌≤◌, ◌⊎◌, inl, inr, List, [], ◌∷◌, ◌++◌, refl, sym, ap, ◌∙◌, subst, arith}
 use Rattle.std.specs.Prelude.{Ok, Err, Result, Option, Some, None, MatchOption, MatchResult, IfOk, IfErr, IsErrAnd}
 use Rattle.secs_item.specs.Item.{Value, nest}
 use Rattle.secs_text.specs.declared.fault.TextFault.{TextFault}
@@ -11,7 +11,7 @@ use Rattle.secs_text.specs.Notation.{Notation, Notations}
 use Rattle.secs_text.specs.Fault.{one_message, any_messages, FirstFault, NoteFault, NotesFault}
 use Rattle.secs_text.specs.Places.{Rules, Place, Step, start, finished, walk, step, ◌>>=◌, reading}
 use Rattle.secs_text.specs.Reads.{Reads, Fails}
-use Rattle.secs_text.specs.View.{content, contents}
+use Rattle.secs_text.specs.View.{content}
 use Rattle.secs_text.proofs.Completeness.{walk_append}
 use Rattle.secs_text.proofs.MessageLeads.{let_through, all_let_through}
 use Rattle.secs_text.proofs.Soundness.{is_notation, all_are_notations}

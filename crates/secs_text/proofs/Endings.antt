@@ -1,13 +1,13 @@
 -- The last token of a text decides: it leads to the end, or it is at fault.
-use Rattle.std.proofs.Common.{◌≡◌, ℕ, zero, suc, ◌+◌, Bool, true, false, ◌||◌, not, List, [], ◌∷◌, length, refl, sym, ap, ◌∙◌, arith, if◌then◌else◌}
-use Rattle.std.specs.Prelude.{Ok, Err, Result, Option, Some, None}
+use Rattle.std.proofs.Common.{◌≡◌, ℕ, zero, suc, ◌+◌, Bool, true, false, ◌||◌, not, List, [], ◌∷◌, refl, if◌then◌else◌}
+use Rattle.std.specs.Prelude.{Ok, Err, None}
 use Rattle.secs_text.specs.declared.fault.TextFault.{TextFault}
 use Rattle.secs_text.specs.declared.fault.TextFault.TheVariants as fault
 use Rattle.secs_item.specs.Item.{Value, list, values}
 use Rattle.secs_text.specs.Content.{Content}
 use Rattle.secs_text.specs.Token.{Token, word, quoted, less, greater, bracket, bracket_end, stop, broken, end, Placed, Front, white, whole, faulty, front, with_front, tokens_after, tokens}
 use Rattle.secs_text.specs.Seen.{is_last}
-use Rattle.secs_text.specs.Places.{Rules, Place, Step, start, after_head, after_wait, type_wanted, after_type, count_wanted, after_count, in_item, stop_wanted, finished, Opened, Before, Count, walk, step, ◌>>=◌, is_empty, at_in_item, at_value}
+use Rattle.secs_text.specs.Places.{Rules, Place, Step, start, after_head, after_wait, type_wanted, after_type, count_wanted, after_count, in_item, stop_wanted, finished, Opened, Before, walk, step, ◌>>=◌, is_empty, at_in_item}
 
 -- the last of these tokens has nothing behind it
 abbrev pub EndsLast : List Placed → Type 0

@@ -1,16 +1,15 @@
 -- The tokens of an item lead over it.
-use Rattle.std.proofs.Common.{◌≡◌, ℕ, suc, ◌+◌, ◌<◌, ◌≤◌, max, Bool, true, false, List, [], ◌∷◌, ◌++◌, length, map, refl, sym, ap, ◌∙◌, append_assoc, append-nil, arith, if◌then◌else◌}
-use Rattle.std.specs.Prelude.{Ok, Err, Option, Some, None, option_map, nat_lt, ◌^◌}
+use Rattle.std.proofs.Common.{◌≡◌, ℕ, suc, ◌+◌, ◌<◌, ◌≤◌, Bool, true, false, List, [], ◌∷◌, ◌++◌, length, map, refl, sym, ap, ◌∙◌, append_assoc, append-nil, arith, if◌then◌else◌}
+use Rattle.std.specs.Prelude.{Ok, Err, Option, Some, None, option_map, ◌^◌}
 use Rattle.std.proofs.lemmas.Bool.{lt-ltb, eq-eqb}
 use Rattle.std.proofs.Common.{inl, inr}
 use Rattle.secs_item.specs.Item.{Value, list, values, Values, binary, boolean, ascii, jis8, char2, i1, i2, i4, i8, u1, u2, u4, u8, f4, f8, Elements, no_elements, element, nest, nest_of_elements, format_of, format_of_values, count_of, with_element}
-use Rattle.secs_text.specs.Body.{Spelling, Spelled, spelled, Body, in_text, in_words, body_of, nothing_of}
+use Rattle.secs_text.specs.Body.{spelled, Body, in_text, in_words, body_of, nothing_of}
 use Rattle.secs_text.specs.Token.{Token, word, quoted, less, greater, bracket, bracket_end, stop, broken, end, Placed}
 use Rattle.secs_text.specs.TypeName.{format_named}
 use Rattle.secs_text.specs.Words.{number_below, signed_below, octet_of, float_of, truth_of}
 use Rattle.secs_text.specs.Notation.{InWords, IsPiece, InPieces, BodyTokens, CountTokens, Enclosed, ItemTokens, ElementTokens}
-use Rattle.secs_text.specs.Places.{Rules, Count, Opened, Before, Place, Step, walk, step, ◌>>=◌, type_wanted, after_type, count_wanted, after_count, in_item, closed, with_word, or_fault, after_name, after_number, count_place, at_in_item, at_after_type, is_counted}
-use Rattle.secs_text.specs.declared.fault.TextFault.{TextFault}
+use Rattle.secs_text.specs.Places.{Rules, Count, Before, Place, Step, walk, step, ◌>>=◌, type_wanted, after_type, count_wanted, after_count, in_item, closed, with_word, or_fault, after_name, after_number, count_place, at_in_item, at_after_type, is_counted}
 use Rattle.secs_text.specs.declared.fault.TextFault.TheVariants as fault
 use Rattle.secs_text.proofs.Completeness.{token_of, Leads, leads_nowhere, leads_by_one, leads_by_both, leads_to, leads_along}
 

@@ -1,6 +1,6 @@
 -- Steps inside an item let through nothing but the tokens of items.
-use Rattle.std.proofs.Common.{◌≡◌, ℕ, suc, ◌+◌, ◌<◌, ◌≤◌, Bool, true, false, List, [], ◌∷◌, ◌++◌, length, refl, sym, ap, ◌∙◌, subst, append_assoc, arith}
-use Rattle.std.specs.Prelude.{Ok, Err, Option, Some, None, nat_lt, ◌^◌}
+use Rattle.std.proofs.Common.{◌≡◌, ℕ, ◌+◌, ◌<◌, ◌≤◌, true, List, [], ◌∷◌, ◌++◌, length, refl, sym, ap, ◌∙◌, subst, append_assoc, arith}
+use Rattle.std.specs.Prelude.{Ok, Option, Some, None, nat_lt, ◌^◌}
 use Rattle.std.proofs.lemmas.Bool.{ltb-true}
 use Rattle.secs_item.specs.Item.{Value, list, values, Values, no_elements, nest, count_of}
 use Rattle.secs_item.specs.declared.format.Format.{Format}
@@ -13,8 +13,8 @@ use Rattle.secs_text.specs.TypeName.{format_named}
 use Rattle.secs_text.specs.Words.{number_below}
 use Rattle.secs_text.specs.Notation.{ItemTokens}
 use Rattle.secs_text.specs.Places.{Rules, Count, Opened, Before, Place, Step, type_wanted, after_type, count_wanted, after_count, in_item, step, with_word, with_quoted, is_counted, count_place, closed, or_fault, after_name, after_number, at_value, at_in_item}
-use Rattle.secs_text.proofs.SoFar.{OpenedTokens, IsNext, element_taken, nest_taken, value_taken, word_taken, quoted_taken, item_closed, format_of_nothing, nothing_so_far}
-use Rattle.secs_text.proofs.Stands.{Surrounded, Named, InItem, Held, Stands, arrives, chosen}
+use Rattle.secs_text.proofs.SoFar.{OpenedTokens, element_taken, nest_taken, value_taken, word_taken, quoted_taken, item_closed, format_of_nothing, nothing_so_far}
+use Rattle.secs_text.proofs.Stands.{Surrounded, Named, InItem, Stands, arrives, chosen}
 
 -- ---- the type name
 

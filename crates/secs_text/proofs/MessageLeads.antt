@@ -1,12 +1,12 @@
 -- The tokens of messages lead over them, and notations are let through.
-use Rattle.std.proofs.Common.{◌≡◌, ℕ, ◌+◌, ◌≤◌, Bool, true, false, ◌||◌, not, List, [], ◌∷◌, ◌++◌, length, map, refl, sym, ap, ◌∙◌, append_assoc, append-nil, arith, if◌then◌else◌}
+use Rattle.std.proofs.Common.{◌≡◌, ℕ, ◌≤◌, Bool, true, false, ◌||◌, not, List, [], ◌∷◌, ◌++◌, refl, sym, ap, ◌∙◌, append_assoc, append-nil, arith, if◌then◌else◌}
 use Rattle.std.specs.Prelude.{Ok, Err, Option, Some, None, MatchOption}
 use Rattle.secs_item.specs.Item.{Value, nest}
 use Rattle.secs_text.specs.Content.{Content, IsWithin, AllWithin}
-use Rattle.secs_text.specs.Token.{Token, word, less, stop, end, tokens}
-use Rattle.secs_text.specs.Words.{HeadWord, head, head_word}
-use Rattle.secs_text.specs.Notation.{ItemTokens, OptionalItem, wait_tokens, wait_word, MessageTokens, MessagesTokens, HasTokens, Notation, Notations}
-use Rattle.secs_text.specs.Places.{Rules, Place, Step, walk, start, after_head, after_wait, stop_wanted, finished, before_item, after_head_word, is_empty, reading}
+use Rattle.secs_text.specs.Token.{Token, word, stop, end, tokens}
+use Rattle.secs_text.specs.Words.{head, head_word}
+use Rattle.secs_text.specs.Notation.{OptionalItem, wait_tokens, wait_word, MessageTokens, MessagesTokens, Notation, Notations}
+use Rattle.secs_text.specs.Places.{Rules, Step, start, after_head, after_wait, stop_wanted, finished, before_item, after_head_word, is_empty, reading}
 use Rattle.secs_text.specs.Fault.{one_message, any_messages}
 use Rattle.secs_text.specs.declared.fault.TextFault.TheVariants as fault
 use Rattle.secs_text.proofs.Completeness.{Leads, leads_nowhere, leads_by_one, leads_by_both, leads_along, leads_to}

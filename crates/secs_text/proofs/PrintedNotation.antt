@@ -1,7 +1,7 @@
 -- The printed form of a message is its notation.
-use Rattle.std.proofs.Common.{◌≡◌, ℕ, suc, ◌+◌, ◌^◌, ◌<◌, ◌≤◌, Bool, true, false, ◌&&◌, ◌||◌, not, inl, inr, List, [], ◌∷◌, ◌++◌, length, take, drop, map, refl, sym, ap, ◌∙◌, subst, append_assoc, append-nil, arith, codes, if◌then◌else◌}
+use Rattle.std.proofs.Common.{◌≡◌, ℕ, suc, ◌^◌, ◌<◌, Bool, true, false, inr, List, [], ◌∷◌, ◌++◌, length, take, drop, map, refl, sym, ap, ◌∙◌, subst, append_assoc, append-nil, arith, codes, if◌then◌else◌}
 use Rattle.std.specs.Prelude.{Option, Some, None, MatchOption, ◌==◌}
-use Rattle.std.specs.List.{list_all, flat_map, prefix_len, AllByRecursion}
+use Rattle.std.specs.List.{list_all, AllByRecursion}
 use Rattle.std.specs.Fmt.{decimal}
 use Rattle.std.proofs.lemmas.Bool.{ne_eqb}
 use Rattle.std.proofs.lemmas.List.Folds.{list_all-append}
@@ -12,14 +12,14 @@ use Rattle.secs_text.specs.Octets.{is_quotable, is_digit, is_of_word}
 use Rattle.secs_text.specs.Body.{Spelling, Spelled, spelled, Body, in_text, in_words, body_of}
 use Rattle.secs_text.specs.Content.{Content}
 use Rattle.secs_text.specs.Held.{IsOctets, Fits, BodyIsHeld, InnerIsHeld, AllHeld, IsHeld, IsHeldMessage}
-use Rattle.secs_text.specs.Notation.{InPieces, BodyTokens, Enclosed, ItemTokens, ElementTokens, OptionalItem, wait_word, wait_tokens, MessageTokens, Notation}
+use Rattle.secs_text.specs.Notation.{InPieces, BodyTokens, Enclosed, ItemTokens, ElementTokens, OptionalItem, wait_word, wait_tokens, Notation}
 use Rattle.secs_text.specs.Printed.{hexadecimal, spaced, printed_text, written, printed_values, printed_opening, printed_body, printed_elements, printed_item, printed_optional, printed}
 use Rattle.secs_text.specs.Token.{Token, word, quoted, less, greater, bracket, bracket_end, stop, end, tokens}
 use Rattle.secs_text.specs.TypeName.{type_name, format_named}
-use Rattle.secs_text.specs.Words.{HeadWord, head, no_head, number_below, head_of_numbers, head_of_parts, head_word}
+use Rattle.secs_text.specs.Words.{head, number_below, head_of_numbers, head_of_parts, head_word}
 use Rattle.secs_text.proofs.SoFar.{SoFar}
 use Rattle.secs_text.proofs.PrintedWords.{IsWord, and_true, all_digits, decimal_digits, decimal_word, number_read, octet_word, octet_is_read, written_word, written_read}
-use Rattle.secs_text.proofs.Tokenized.{HasKinds, Prints, end_kinds, word_kinds, prefix_front, take_front, drop_front, prints_none, prints_along, prints_both, prints_word, prints_opening, prints_count, prints_close, prints_space, prints_stop, prints_quoted}
+use Rattle.secs_text.proofs.Tokenized.{Prints, end_kinds, word_kinds, prefix_front, take_front, drop_front, prints_none, prints_along, prints_both, prints_word, prints_opening, prints_count, prints_close, prints_space, prints_stop, prints_quoted}
 
 -- ---- octets of text
 

@@ -1,17 +1,16 @@
 -- No token's fault is want of memory.
-use Rattle.std.proofs.Common.{◌≡◌, ℕ, Bool, true, false, ◌||◌, not, ◌⊎◌, inl, inr, List, [], ◌∷◌, length, sym, subst, if◌then◌else◌}
+use Rattle.std.proofs.Common.{ℕ, Bool, true, false, ◌||◌, not, ◌⊎◌, inl, inr, List, length, subst, if◌then◌else◌}
 use Rattle.std.specs.Prelude.{Ok, Err, Option, Some, None, nat_lt, ◌^◌}
 use Rattle.secs_item.specs.Item.{Value, list, values, Values, no_elements, count_of}
 use Rattle.secs_item.specs.declared.format.Format.{Format}
 use Rattle.secs_item.specs.declared.format.Format.TheVariants as format
-use Rattle.secs_text.specs.declared.fault.TextFault.{TextFault}
 use Rattle.secs_text.specs.declared.fault.TextFault.TheVariants as fault
 use Rattle.secs_text.specs.Content.{Content}
 use Rattle.secs_text.specs.Token.{Token, word, quoted, less, greater, bracket, bracket_end, stop, end}
 use Rattle.secs_text.specs.TypeName.{format_named}
 use Rattle.secs_text.specs.Words.{HeadWord, head, bad_head, no_head, head_word, number_below, is_one}
 use Rattle.secs_text.specs.Fault.{one_message, any_messages, FirstFault, NoteFault, NotesFault}
-use Rattle.secs_text.specs.Places.{Rules, Count, Opened, Before, Place, Step, start, after_head, after_wait, type_wanted, after_type, count_wanted, after_count, in_item, stop_wanted, finished, step, is_empty, is_counted, count_place, closed, with_word, with_quoted, or_fault, after_head_word, after_name, after_number, at_in_item}
+use Rattle.secs_text.specs.Places.{Rules, Count, Before, Place, Step, start, after_head, after_wait, type_wanted, after_type, count_wanted, after_count, in_item, stop_wanted, finished, step, is_empty, is_counted, count_place, closed, with_word, with_quoted, or_fault, after_head_word, after_name, after_number, at_in_item}
 
 -- where a step leads, or the fault of a token
 abbrev IsTokenFault : Step → Type 0

@@ -1,16 +1,16 @@
 -- Tokens of what an item holds, taken one after another.
-use Rattle.std.proofs.Common.{◌≡◌, ℕ, suc, ◌+◌, ◌≤◌, max, Bool, true, false, ◌⊎◌, inl, inr, List, [], ◌∷◌, ◌++◌, length, map, refl, sym, ap, ◌∙◌, subst, append_assoc, append-nil, arith}
-use Rattle.std.specs.Prelude.{Option, Some, None, option_map, ◌^◌, ◌==◌}
+use Rattle.std.proofs.Common.{◌≡◌, ℕ, suc, ◌+◌, ◌≤◌, true, inl, inr, List, [], ◌∷◌, ◌++◌, map, refl, sym, ap, ◌∙◌, subst, append_assoc, append-nil, arith}
+use Rattle.std.specs.Prelude.{Option, Some, None, option_map, ◌^◌}
 use Rattle.std.proofs.lemmas.Bool.{eqb-true}
 use Rattle.secs_item.specs.Item.{Value, list, values, Values, binary, boolean, ascii, jis8, char2, i1, i2, i4, i8, u1, u2, u4, u8, f4, f8, Elements, no_elements, element, nest, nest_of_elements, format_of, format_of_values, count_of, with_element}
 use Rattle.secs_item.specs.declared.format.Format.{Format}
 use Rattle.secs_item.specs.declared.format.Format.TheVariants as format
-use Rattle.secs_text.specs.Body.{Spelling, hex_octet, truth_letter, signed_number, unsigned_number, hex_float, Spelled, spelled, Body, in_text, in_words, body_of, nothing_of}
+use Rattle.secs_text.specs.Body.{Spelling, hex_octet, truth_letter, signed_number, unsigned_number, hex_float, Spelled, spelled, Body, in_words, body_of, nothing_of}
 use Rattle.secs_text.specs.Token.{Token, word, quoted, less, greater, bracket, bracket_end}
 use Rattle.secs_text.specs.TypeName.{format_named}
 use Rattle.secs_text.specs.Words.{number_below, octet_of}
 use Rattle.secs_text.specs.Notation.{InWords, IsPiece, InPieces, BodyTokens, CountTokens, Enclosed, ItemTokens, ElementTokens}
-use Rattle.secs_text.specs.Places.{Count, Opened, with_word, with_quoted, with_item, is_counted}
+use Rattle.secs_text.specs.Places.{Count, with_word, with_quoted, with_item, is_counted}
 
 map_push : {X Y : Type 0} (f : X → Y) (xs : List X) (x : X) → map f (xs ++ x ∷ []) ≡ map f xs ++ f x ∷ []
 map_push f [] x = refl

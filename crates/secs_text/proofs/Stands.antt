@@ -1,21 +1,17 @@
 -- What the tokens up to a place are: the place lets through nothing but notations.
-use Rattle.std.proofs.Common.{◌≡◌, ℕ, suc, ◌+◌, ◌<◌, ◌≤◌, Bool, true, false, ◌||◌, not, List, [], ◌∷◌, ◌++◌, length, map, refl, sym, ap, ◌∙◌, subst, append_assoc, append-nil, arith, if◌then◌else◌}
-use Rattle.std.specs.Prelude.{Ok, Err, Result, Option, Some, None, MatchOption, nat_lt, ◌^◌, ◌==◌}
-use Rattle.std.proofs.lemmas.Bool.{ltb-true, eqb-true}
-use Rattle.secs_item.specs.Item.{Value, list, values, Values, Elements, no_elements, element, nest, format_of, count_of}
-use Rattle.secs_item.specs.declared.format.Format.{Format}
-use Rattle.secs_item.specs.declared.format.Format.TheVariants as format
+use Rattle.std.proofs.Common.{◌≡◌, ℕ, ◌+◌, ◌≤◌, Bool, true, false, ◌||◌, not, List, [], ◌∷◌, ◌++◌, length, refl, sym, ap, ◌∙◌, subst, append_assoc, append-nil, arith, if◌then◌else◌}
+use Rattle.std.specs.Prelude.{Ok, Err, Option, Some, None, MatchOption, ◌^◌}
+use Rattle.std.proofs.lemmas.Bool.{eqb-true}
+use Rattle.secs_item.specs.Item.{Value, nest, format_of}
 use Rattle.secs_text.specs.declared.fault.TextFault.{TextFault}
 use Rattle.secs_text.specs.declared.fault.TextFault.TheVariants as fault
-use Rattle.secs_text.specs.Body.{nothing_of}
 use Rattle.secs_text.specs.Content.{Content, IsWithin, AllWithin}
-use Rattle.secs_text.specs.Token.{Token, word, quoted, less, greater, bracket, bracket_end, stop, broken, end, Placed}
+use Rattle.secs_text.specs.Token.{Token, word, quoted, less, greater, bracket, bracket_end, stop, broken, end}
 use Rattle.secs_text.specs.TypeName.{format_named}
 use Rattle.secs_text.specs.Words.{HeadWord, head, bad_head, no_head, head_word, number_below, is_one}
 use Rattle.secs_text.specs.Notation.{ItemTokens, OptionalItem, wait_word, wait_tokens, MessageTokens, MessagesTokens}
-use Rattle.secs_text.specs.Places.{Rules, Count, Opened, Before, Place, Step, start, after_head, after_wait, type_wanted, after_type, count_wanted, after_count, in_item, stop_wanted, finished, walk, step, ◌>>=◌, is_empty, with_item, with_word, with_quoted, is_counted, count_place, closed, or_fault, after_head_word, after_name, after_number, at_after_wait, at_value, at_in_item, at_close}
-use Rattle.secs_text.proofs.Completeness.{token_of}
-use Rattle.secs_text.proofs.SoFar.{SoFar, Counted, OpenedTokens, IsList, element_taken, nest_taken, value_taken, word_taken, quoted_taken, item_closed, format_of_nothing, nothing_so_far}
+use Rattle.secs_text.specs.Places.{Rules, Count, Opened, Before, Place, Step, start, after_head, after_wait, type_wanted, after_type, count_wanted, after_count, in_item, stop_wanted, finished, step, is_empty, after_head_word, at_after_wait}
+use Rattle.secs_text.proofs.SoFar.{SoFar, OpenedTokens, IsList}
 
 -- ---- what the tokens before a place are
 

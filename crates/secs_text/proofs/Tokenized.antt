@@ -1,10 +1,10 @@
 -- The tokens of texts that are put together.
-use Rattle.std.proofs.Common.{◌≡◌, ℕ, zero, suc, ◌+◌, ◌<◌, ◌≤◌, Bool, true, false, ◌&&◌, ◌||◌, List, [], ◌∷◌, ◌++◌, length, take, drop, get_or, map, refl, sym, ap, ◌∙◌, subst, append_assoc, append-nil, arith, codes, cond, if◌then◌else◌}
+use Rattle.std.proofs.Common.{◌≡◌, ℕ, suc, ◌+◌, ◌≤◌, Bool, true, false, ◌&&◌, List, [], ◌∷◌, ◌++◌, length, take, drop, map, refl, sym, ap, ◌∙◌, subst, append_assoc, arith, codes, cond}
 use Rattle.std.specs.Prelude.{◌==◌, slice_index}
 use Rattle.std.specs.List.{list_all, prefix_len}
 use Rattle.std.proofs.lemmas.Bool.{eqb-true}
 use Rattle.secs_text.specs.Octets.{is_white, is_of_word, is_quotable}
-use Rattle.secs_text.specs.Token.{Token, word, quoted, less, greater, bracket, bracket_end, stop, end, Front, white, whole, front, quoted_front, with_front, tokens_after, tokens_from}
+use Rattle.secs_text.specs.Token.{Token, word, quoted, less, greater, bracket, bracket_end, stop, end, Front, whole, front, quoted_front, with_front, tokens_after, tokens_from}
 use Rattle.secs_text.proofs.Completeness.{token_of}
 use Rattle.secs_text.proofs.TokenLists.{skipped}
 use Rattle.secs_text.proofs.PrintedWords.{IsWord}

@@ -1,5 +1,5 @@
 -- Items as values.
-use Rattle.std.proofs.Common.{◌≡◌, ℕ, suc, List, [], ◌∷◌, length, map, refl, ap, ◌++◌, ◌∙◌, sym, append_assoc, append-nil, codes, ◌+◌, ◌<◌, get_or, take, subst}
+use Rattle.std.proofs.Common.{◌≡◌, ℕ, suc, List, [], ◌∷◌, length, refl, ap, ◌++◌, ◌∙◌, sym, append_assoc, append-nil, codes, ◌+◌, ◌<◌, get_or, take, subst}
 use Rattle.std.proofs.lemmas.List.{take_more}
 use Rattle.secs_item.specs.Item.{view, views, count, element, with_element}
 use Rattle.secs_text.specs.Held.{AllHeld, IsHeld}

@@ -1,8 +1,8 @@
 -- The values of an item, by how words spell them.
-use Rattle.std.specs.Prelude.{ℕ, ℤ, ◌^◌, Bool, List, [], length, Option}
+use Rattle.std.specs.Prelude.{ℕ, ℤ, ◌^◌, Bool, List, [], Option}
 use Rattle.secs_item.specs.declared.format.Format.{Format}
 use Rattle.secs_item.specs.declared.format.Format.TheVariants as format
-use Rattle.secs_item.specs.Item.{Value, list, values, Values, Elements, element, binary, boolean, ascii, jis8, char2, i1, i2, i4, i8, u1, u2, u4, u8, f4, f8, no_elements, count}
+use Rattle.secs_item.specs.Item.{Value, list, values, Values, binary, boolean, ascii, jis8, char2, i1, i2, i4, i8, u1, u2, u4, u8, f4, f8, no_elements}
 use Rattle.secs_text.specs.Words.{number_below, signed_below, octet_of, float_of, truth_of}
 
 -- how a word spells a value

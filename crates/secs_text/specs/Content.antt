@@ -1,4 +1,4 @@
--- A message, apart from where its item lies in memory.
+-- A message of SEMI E5 (message naming: stream, function, W), apart from where its item lies in memory.
 use Rattle.std.specs.Prelude.{ℕ, Bool, List, [], ◌∷◌, Option, MatchOption, ◌≤◌}
 use Rattle.secs_item.specs.Item.{Value, nest}
 

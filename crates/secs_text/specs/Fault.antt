@@ -1,4 +1,4 @@
--- The fault of a text: its first token that may not stand where it does.
+-- The fault of a text, its first token that may not stand where it does: this project's own.
 use Rattle.std.specs.Prelude.{◌≡◌, ℕ, true, false, Ok, Err, List, [], ◌∷◌, ◌++◌}
 use Rattle.secs_text.specs.declared.fault.TextFault.{TextFault}
 use Rattle.secs_text.specs.Token.{Placed, tokens}

@@ -1,5 +1,5 @@
--- Which texts are the notation of a message.
-use Rattle.std.specs.Prelude.{◌≡◌, ◌^◌, ◌⊎◌, ℕ, ℤ, Bool, true, false, List, [], ◌∷◌, ◌++◌, map, Option, Some, None}
+-- Which texts are the notation of a message: this project's own.
+use Rattle.std.specs.Prelude.{◌≡◌, ◌^◌, ◌⊎◌, ℕ, Bool, true, false, List, [], ◌∷◌, ◌++◌, map, Option, Some, None}
 use Rattle.secs_item.specs.Item.{Value, list, values, Elements, no_elements, element, format_of, count_of}
 use Rattle.secs_text.specs.Body.{Body, in_text, in_words, spelled, body_of}
 use Rattle.secs_text.specs.Content.{Content}

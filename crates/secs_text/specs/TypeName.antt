@@ -1,4 +1,4 @@
--- The names of the item formats.
+-- The names that the notation has for the item formats of SEMI E5: this project's own.
 use Rattle.std.specs.Prelude.{ℕ, List, [], ◌∷◌, Option, codes}
 use Rattle.std.specs.List.{find}
 use Rattle.std.specs.Str.{bytes_eq}

@@ -1,5 +1,5 @@
 -- What a message and its faults stand for.
-use Rattle.std.specs.Prelude.{◌≡◌, List, map, option_map, Result, Ok, Err}
+use Rattle.std.specs.Prelude.{List, map, option_map}
 use Rattle.secs_item.specs.Item.{view}
 use Rattle.secs_text.specs.Content.{Content}
 use Rattle.secs_text.specs.declared.message.Message.{Message}

@@ -1,6 +1,5 @@
-use Rattle.std.proofs.Common.{◌∙◌, ap}
+use Rattle.std.proofs.Common.{◌∙◌}
 use Rattle.secs_text.specs.Left.{left}
-use Rattle.secs_text.specs.Places.{walk, in_item}
 use Rattle.secs_text.specs.Reads.{count_seen}
 use Rattle.secs_text.proofs.Walks.{no_value}
 use Rattle.secs_text.proofs.items.values.Goals as goal

@@ -1,4 +1,3 @@
-use Rattle.std.proofs.Common.{◌∙◌, sym, ap}
 use Rattle.secs_text.specs.Left.{left}
 use Rattle.secs_text.proofs.Walks.{no_count}
 use Rattle.secs_text.proofs.opening.optional_count.Goals as goal

@@ -1,6 +1,4 @@
-use Rattle.std.proofs.Common.{◌≡◌, ◌++◌, [], ◌∷◌, take, string_bytes}
-use Rattle.std.specs.Prelude.{decimal}
-use Rattle.std.specs.Fmt.{signed_decimal}
+use Rattle.std.proofs.Common.{◌≡◌, ◌++◌, take, string_bytes}
 use Rattle.std.specs.List.{flat_map}
 use Rattle.secs_text.specs.Printed.{two_digits}
 use Rattle.secs_text.proofs.written.put_hexadecimal.Given as goal

@@ -1,0 +1,13 @@
+pub mod Binds
+pub mod Numbers
+pub mod LineLemmas
+pub mod Options
+pub mod SettingsLaws
+pub mod HexLaws
+pub mod EntryLaws
+pub mod JudgeLaws
+pub mod Uniqueness
+pub mod Onward
+pub mod Parts
+pub mod Written
+pub mod Existence

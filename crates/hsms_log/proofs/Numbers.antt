@@ -1,0 +1,195 @@
+-- Decimal numbers and words.
+use Rattle.std.proofs.Common.{◌≡◌, ◌<◌, ◌≤◌, ◌^◌, ◌++◌, ℕ, List, [], ◌∷◌, length, get_or, true, false, eqb, ltb, Ok, Err, Some, None, refl, sym, ap, ◌∙◌, subst, arith, inl, inr, ⊎_elim}
+use Rattle.std.specs.Borrow.{Bor}
+use Rattle.std.specs.Prelude.{◌≢◌, MatchResult, IfSome, IfNone, Option, Result, decimal, nat_lt, option_map}
+use Rattle.std.specs.Result.{result_ok}
+use Rattle.std.specs.Str.{all_ascii_digits, IsUtf8}
+use Rattle.std.proofs.lemmas.Str.{IsUtf8-from_ascii}
+use Rattle.std.specs.List.{list_all}
+use Rattle.std.specs.Char.{is_ascii_digit}
+use Rattle.std.specs.Str.Parse.{digits_value, ParsesUnsigned}
+use Rattle.std.proofs.lemmas.Bool.{and_parts, and_from, lt-ltb, ltb-true, eqb-true, ne_eqb, not-true, eqb-false, cases_eq, false_from_ne_true, cases_Bool, not_from_false, and_cases, and_left, and_right, le-ltb, ltb-false}
+use Rattle.std.proofs.lemmas.Option.{cond_some}
+use Rattle.std.proofs.lemmas.Str.Parse.{IsNumeralModel, numerals_by_value, tells_all_ascii_digits, parse_digits, not_in_digits}
+use Rattle.std.proofs.lemmas.Grind.{get_or_default_zero}
+use Rattle.std.proofs.lemmas.Fmt.{digits_decimal, digits_value-decimal, decimal_nonempty, first_decimal, decimal-digits_value, decimal_digit, IsAscii-from_digits}
+use Rattle.std.proofs.lemmas.List.Elements.{All-head, All-tail}
+use Rattle.hsms_log.specs.Lines.{HasNone}
+use Rattle.hsms_log.specs.Reading.{number_of, is_decimal, has_leading_zero, word_at, number_at, ◌>>=◌}
+use Rattle.hsms_log.proofs.Binds.{bind_some, some_inj}
+
+-- the words of std for digits and their value
+pub own : IsNumeralModel (λ ds. all_ascii_digits ds ≡ true) (digits_value 10)
+own = numerals_by_value _ tells_all_ascii_digits
+
+digits_of_all : (ds : List ℕ) → list_all is_ascii_digit ds ≡ true → all_ascii_digits ds ≡ true
+digits_of_all [] h = refl
+digits_of_all (d ∷ ds) h = let parts = and_parts _ _ h in and_from _ _ parts.0 (digits_of_all ds parts.1)
+
+all_of_digits : (ds : List ℕ) → all_ascii_digits ds ≡ true → list_all is_ascii_digit ds ≡ true
+all_of_digits [] h = refl
+all_of_digits (d ∷ ds) h = let parts = and_parts _ _ h in and_from _ _ parts.0 (all_of_digits ds parts.1)
+
+-- what the test of a decimal word shows
+pub decimal_parts : (word : List ℕ) → is_decimal word ≡ true
+    → (all_ascii_digits word ≡ true) × (0 < length word) × (get_or word 0 0 ≡ 48 → length word ≡ 1)
+decimal_parts word h =
+    let a = and_parts _ _ h in
+    let b = and_parts _ _ a.1 in
+    let some : 0 < length word = ltb-true _ _ b.0 in
+    let last : get_or word 0 0 ≡ 48 → length word ≡ 1 =
+    λ e. ⊎_elim
+    (λ other. absurd (eqb-false _ _ other e))
+    (λ short. let le : length word ≤ 1 = ltb-false _ _ short in omega arith)
+    (and_cases _ _ (not-true _ b.1)) in
+    (digits_of_all word a.0, some, last)
+
+no_leading_zero : (n : ℕ) → n < 2 ^ 64 → has_leading_zero (decimal n) ≡ false
+no_leading_zero n lt =
+    elim (cases_eq n 0) [
+      | inl none ↦
+          let e : length (decimal n) ≡ 1 = ap length (decimal_digit n (omega arith)) in
+          and_right (eqb (get_or (decimal n) 0 0) 48) (ltb 1 (length (decimal n))) (le-ltb 1 (length (decimal n)) (omega arith))
+      | inr more ↦
+          let first : 48 < get_or (decimal n) 0 0 = first_decimal n (omega arith) lt in
+          and_left (eqb (get_or (decimal n) 0 0) 48) (ltb 1 (length (decimal n))) (ne_eqb (get_or (decimal n) 0 0) 48 (λ e. omega (arith, e, first)))
+    ]
+
+-- a decimal word passes the test
+is_decimal-decimal : (n : ℕ) → n < 2 ^ 64 → is_decimal (decimal n) ≡ true
+is_decimal-decimal n lt =
+    let digits : list_all is_ascii_digit (decimal n) ≡ true = all_of_digits (decimal n) (digits_decimal own n lt) in
+    let some : 0 < length (decimal n) = decimal_nonempty n lt in
+    let leading : has_leading_zero (decimal n) ≡ false = no_leading_zero n lt in
+    and_from _ _ digits (and_from _ _ (lt-ltb 0 (length (decimal n)) some) (not_from_false _ leading))
+
+pub number_of-decimal : (n : ℕ) → n < 2 ^ 64 → number_of (decimal n) ≡ Some n
+unfolding number_of
+number_of-decimal n lt =
+    let same : digits_value 10 (decimal n) ≡ n = digits_value-decimal own n lt in
+    let small : nat_lt (digits_value 10 (decimal n)) (2 ^ 64) ≡ true = lt-ltb _ _ (omega arith) in
+    rw (is_decimal-decimal n lt, small, same) refl
+
+pub number_of-some : (word : List ℕ) (n : ℕ) → number_of word ≡ Some n → (n < 2 ^ 64) × (word ≡ decimal n)
+unfolding number_of
+number_of-some word n h =
+    let parts = cond_some _ _ _ h in
+    let tests = and_parts _ _ parts.0 in
+    let d = decimal_parts word tests.0 in
+    let same : digits_value 10 word ≡ n = parts.1 in
+    let small : digits_value 10 word < 2 ^ 64 = ltb-true _ _ tests.1 in
+    let back : decimal (digits_value 10 word) ≡ word = decimal-digits_value own word d.0 d.1 d.2 small in
+    (omega arith, sym back ∙ ap decimal same)
+
+-- what std's parse of a decimal word gives
+pub parsed : {E : Type 0} (word : List ℕ) (r : Result ℕ E) → ParsesUnsigned 64 10 word r → is_decimal word ≡ true → result_ok r ≡ number_of word
+unfolding number_of
+parsed {E} word (Ok x) h d =
+    let parts = decimal_parts word d in
+    let k = parse_digits own {E = E} 64 word (Ok x) h parts.0 in
+    let small : nat_lt (digits_value 10 word) (2 ^ 64) ≡ true = lt-ltb _ _ k.0.1 in
+    rw (d, small) (ap Some k.1)
+parsed {E} word (Err e) h d =
+    let parts = decimal_parts word d in
+    let k = parse_digits own {E = E} 64 word (Err e) h parts.0 in
+    let big : nat_lt (digits_value 10 word) (2 ^ 64) ≡ false = false_from_ne_true _ (λ t. k (parts.1, ltb-true _ _ t)) in
+    rw (d, big) refl
+
+pub number_of-none : (word : List ℕ) → is_decimal word ≡ false → None ≡ number_of word
+unfolding number_of
+number_of-none word h = rw h refl
+
+-- ---- words
+
+-- no digit of a number is a space
+pub HasNone-decimal : (n : ℕ) → n < 2 ^ 64 → HasNone 32 (decimal n)
+HasNone-decimal n lt k d within =
+    let here : get_or (decimal n) k d ≡ get_or (decimal n) k 0 = get_or_default_zero (decimal n) k d within in
+    let other : get_or (decimal n) k 0 ≢ 32 = not_in_digits own (decimal n) 32 (digits_decimal own n lt) (λ r. omega (arith, r)) k within in
+    ne_eqb _ _ (λ e. other (sym here ∙ e))
+
+pub word_at-found : (front rest : List ℕ) → HasNone 32 front → word_at (front ++ 32 ∷ rest) ≡ Some (front, rest)
+word_at-found [] rest h = refl
+word_at-found (octet ∷ front) rest h =
+    let other : eqb octet 32 ≡ false = All-head (λ x. eqb x 32 ≡ false) octet front h in
+    let later = word_at-found front rest (All-tail (λ x. eqb x 32 ≡ false) octet front h) in
+    rw (other, later) refl
+
+pub word_at-none : (text : List ℕ) → HasNone 32 text → word_at text ≡ None
+word_at-none [] h = refl
+word_at-none (octet ∷ text) h =
+    let other : eqb octet 32 ≡ false = All-head (λ x. eqb x 32 ≡ false) octet text h in
+    let later = word_at-none text (All-tail (λ x. eqb x 32 ≡ false) octet text h) in
+    rw (other, later) refl
+
+pub pair_inj : {A B : Type 0} (a c : A) (b d : B) → ◌≡◌ {A = Option (A × B)} (Some (a, b)) (Some (c, d)) → (a ≡ c) × (b ≡ d)
+pair_inj {A} {B} a c b d h =
+    let both = some_inj {A = A × B} (a, b) (c, d) h in
+    (ap (λ p. p.0) both, ap (λ p. p.1) both)
+
+at_space : (octet : ℕ) (text front rest : List ℕ) → octet ≡ 32 → ◌≡◌ {A = Option (List ℕ × List ℕ)} (Some ([], text)) (Some (front, rest)) → octet ∷ text ≡ front ++ 32 ∷ rest
+at_space octet text front rest is h =
+    let both = pair_inj [] front text rest h in
+    let P : List ℕ → Type 0 = λ xs. octet ∷ text ≡ xs ++ 32 ∷ rest in
+    subst P both.0 (ap (λ x. x ∷ text) is ∙ ap (λ xs. 32 ∷ xs) both.1)
+
+past_space : (octet : ℕ) (text front rest : List ℕ) (w : List ℕ × List ℕ) → text ≡ w.0 ++ 32 ∷ w.1 → ◌≡◌ {A = Option (List ℕ × List ℕ)} (Some (octet ∷ w.0, w.1)) (Some (front, rest))
+    → octet ∷ text ≡ front ++ 32 ∷ rest
+past_space octet text front rest w later h =
+    let both = pair_inj (octet ∷ w.0) front w.1 rest h in
+    let P : List ℕ → Type 0 = λ xs. octet ∷ text ≡ xs ++ 32 ∷ rest in
+    subst P both.0 (ap (λ xs. octet ∷ xs) later ∙ ap (λ xs. octet ∷ (w.0 ++ 32 ∷ xs)) both.1)
+
+pub word_at-some : (text front rest : List ℕ) → word_at text ≡ Some (front, rest) → text ≡ front ++ 32 ∷ rest
+word_at-some [] front rest h = cc h
+word_at-some (octet ∷ text) front rest h =
+    elim (cases_Bool (eqb octet 32)) [
+      | inl space ↦ at_space octet text front rest (eqb-true octet 32 space) (rw space at h)
+      | inr other ↦
+          let later : (word_at text >>= λ w. Some (octet ∷ w.0, w.1)) ≡ Some (front, rest) = rw other at h in
+          let a = bind_some (word_at text) (λ w. Some (octet ∷ w.0, w.1)) (front, rest) later in
+          past_space octet text front rest a.0 (word_at-some text a.0.0 a.0.1 a.1) a.2
+    ]
+
+pub number_at-spelled : (n : ℕ) (rest : List ℕ) → n < 2 ^ 64 → number_at (decimal n ++ 32 ∷ rest) ≡ Some (n, rest)
+unfolding number_at
+number_at-spelled n rest lt =
+    rw (word_at-found (decimal n) rest (HasNone-decimal n lt), number_of-decimal n lt) refl
+
+numbered : (text word after : List ℕ) (m n : ℕ) (rest : List ℕ) → word_at text ≡ Some (word, after) → number_of word ≡ Some m
+    → ◌≡◌ {A = Option (ℕ × List ℕ)} (Some (m, after)) (Some (n, rest)) → (n < 2 ^ 64) × (text ≡ decimal n ++ 32 ∷ rest)
+numbered text word after m n rest a b h =
+    let found = number_of-some word m b in
+    let both = pair_inj m n after rest h in
+    let small : m < 2 ^ 64 = found.0 in
+    let same : m ≡ n = both.0 in
+    (omega arith, word_at-some text word after a ∙ ap (λ x. x ++ 32 ∷ after) (found.1 ∙ ap decimal same) ∙ ap (λ x. decimal n ++ 32 ∷ x) both.1)
+
+pub number_at-some : (text : List ℕ) (n : ℕ) (rest : List ℕ) → number_at text ≡ Some (n, rest) → (n < 2 ^ 64) × (text ≡ decimal n ++ 32 ∷ rest)
+unfolding number_at
+number_at-some text n rest h =
+    let a = bind_some (word_at text) _ (n, rest) h in
+    let b = bind_some (number_of a.0.0) _ (n, rest) a.2 in
+    numbered text a.0.0 a.0.1 b.0 n rest a.1 b.1 b.2
+
+-- a split at the first space, by its clauses
+pub split_word : (text : List ℕ) (r : Option (Bor (List ℕ) × Bor (List ℕ)))
+    → IfSome r (λ x. (text ≡ x.0.now ++ 32 ∷ x.1.now) × HasNone 32 x.0.now) → IfNone r (HasNone 32 text)
+    → option_map (λ x. (x.0.now, x.1.now)) r ≡ word_at text
+split_word text (Some x) found none = sym (ap word_at found.0 ∙ word_at-found x.0.now x.1.now found.1)
+split_word text None found none = sym (word_at-none text none)
+
+-- ---- std's text and numbers
+
+utf8_of_decimal : (word : List ℕ) → is_decimal word ≡ true → IsUtf8 word
+utf8_of_decimal word d = IsUtf8-from_ascii word (IsAscii-from_digits word (own.to word (decimal_parts word d).0))
+
+pub text_is : {E : Type 0} (P : Bor (List ℕ) → Type 0) (Q : E → Type 0) (bs : List ℕ) (r : Result (Bor (List ℕ)) E) (x : Bor (List ℕ))
+    → MatchResult r P Q → ((s : Bor (List ℕ)) → P s → s.now ≡ bs) → result_ok r ≡ Some x → x.now ≡ bs
+text_is P Q bs (Ok s) x h is e = sym (ap (λ b. b.now) (some_inj s x e)) ∙ is s h
+text_is P Q bs (Err f) x h is e = cc e
+
+pub text_found : {E : Type 0} (P : Bor (List ℕ) → Type 0) (Q : E → Type 0) (word : List ℕ) (r : Result (Bor (List ℕ)) E)
+    → MatchResult r P Q → ((e : E) → Q e → ¬ (IsUtf8 word)) → is_decimal word ≡ true → result_ok r ≡ None → ⊥
+text_found P Q word (Ok s) h is d e = cc e
+text_found P Q word (Err f) h is d e = is f h (utf8_of_decimal word d)

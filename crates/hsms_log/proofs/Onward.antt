@@ -1,0 +1,248 @@
+-- What was read of a text that goes on.
+use Rattle.std.proofs.Common.{◌≡◌, ◌<◌, ◌≤◌, ◌≢◌, ◌+◌, ◌-◌, ◌*◌, ◌++◌, ◌⊎◌, inl, inr, ℕ, zero, suc, List, [], ◌∷◌, length, take, drop, Bool, true, false, cond, eqb, Some, None, Ok, Err, refl, sym, ap, ◌∙◌, subst, arith, append_assoc, length-append, take-append-drop, rules}
+use Rattle.std.specs.Prelude.{Option, Result, MatchOption, IfOk, IfErr, slice_index, ◌==◌}
+use Rattle.std.specs.Str.Lines.{strip_carriage_return}
+use Rattle.std.proofs.lemmas.List.{append-nil, length-take}
+use Rattle.std.proofs.lemmas.List.Elements.{All-cons, All-nil, All-append}
+use Rattle.std.proofs.lemmas.Bool.{cases_eq, ne_eqb}
+use Rattle.hsms_frame.specs.Device.{WhereTold, Takes, ends_after}
+use Rattle.hsms_machine.specs.declared.entry.Entry.{Entry}
+use Rattle.hsms_machine.specs.Settings.{Parameters}
+use Rattle.hsms_log.specs.declared.session.Session.{Session}
+use Rattle.hsms_log.specs.declared.verdict.Why.{Why}
+use Rattle.hsms_log.specs.declared.verdict.Why.TheVariants.{Unreadable}
+use Rattle.hsms_log.specs.declared.verdict.Verdict.{Verdict}
+use Rattle.hsms_log.specs.declared.verdict.Verdict.TheVariants.{Pass, Fail}
+use Rattle.hsms_log.specs.declared.auditing.AuditFault.{AuditFault}
+use Rattle.hsms_log.specs.declared.auditing.AuditFault.TheVariants.{Read, Endless, Memory}
+use Rattle.hsms_log.specs.declared.judging.Judge.{Judge}
+use Rattle.hsms_log.specs.Counters.{Counters}
+use Rattle.hsms_log.specs.Lines.{HasNone, IsOverlong, ended_lines, open_line, lines_of, last_lines}
+use Rattle.hsms_log.specs.Spelling.{Carries, settings_limit, line_limit}
+use Rattle.hsms_log.specs.Log.{SpellLog}
+use Rattle.hsms_log.specs.Verdict.{FailsAfter, LineFails, Fails, Judges, OverlongAfter, FailsSoFar, FailsOnward}
+use Rattle.hsms_log.specs.Judging.{Follows, Counts, Tracks}
+use Rattle.hsms_log.specs.Auditing.{AuditsAs, HoldsNoFailure, ReadsFront, FrontJudged}
+use Rattle.hsms_log.proofs.LineLemmas.{ended_lines-first, ended_lines-none, open_line-first, open_line-none}
+use Rattle.hsms_log.proofs.Uniqueness.{RunLaws, run_stands, SpellLog-unique}
+
+-- ---- lines of a text that goes on
+
+-- a text has no line feed, or a first one
+first_feed : (text : List ℕ) → HasNone 10 text ⊎ ((part : List ℕ) × (rest : List ℕ) × (text ≡ part ++ 10 ∷ rest) × HasNone 10 part)
+first_feed [] = inl (All-nil (λ x. eqb x 10 ≡ false))
+first_feed (octet ∷ text) =
+    elim (cases_eq octet 10) [
+      | inl feed ↦ inr ([], text, ap (λ x. x ∷ text) feed, All-nil (λ x. eqb x 10 ≡ false))
+      | inr other ↦
+          elim (first_feed text) [
+            | inl none ↦ inl (All-cons (λ x. eqb x 10 ≡ false) octet text (ne_eqb octet 10 other) none)
+            | inr found ↦ inr (octet ∷ found.0, found.1, ap (λ l. octet ∷ l) found.2, All-cons (λ x. eqb x 10 ≡ false) octet found.0 (ne_eqb octet 10 other) found.3)
+          ]
+    ]
+
+append_go : (fuel : ℕ) (a b : List ℕ) → length a ≤ fuel → lines_of (a ++ b) ≡ ended_lines a ++ lines_of (open_line a ++ b)
+append_go zero [] b h = let none = All-nil (λ x. eqb x 10 ≡ false) in
+    ap (λ x. lines_of (x ++ b)) (sym (open_line-none [] none)) ∙ ap (λ l. l ++ lines_of (open_line [] ++ b)) (sym (ended_lines-none [] none))
+append_go zero (x ∷ a) b h = absurd (omega arith)
+append_go (suc fuel) a b h =
+    elim (first_feed a) [
+      | inl none ↦
+          ap (λ x. lines_of (x ++ b)) (sym (open_line-none a none)) ∙ ap (λ l. l ++ lines_of (open_line a ++ b)) (sym (ended_lines-none a none))
+      | inr found ↦
+          let size : length a ≡ length found.0 + length (10 ∷ found.1) = ap length found.2 ∙ length-append found.0 (10 ∷ found.1) in
+          let later = append_go fuel found.1 b (omega (arith, size, h)) in
+          let whole : a ++ b ≡ found.0 ++ 10 ∷ (found.1 ++ b) = ap (λ l. l ++ b) found.2 ∙ append_assoc found.0 (10 ∷ found.1) b in
+          let line = strip_carriage_return found.0 in
+          let ended : ended_lines a ≡ line ∷ ended_lines found.1 = ap ended_lines found.2 ∙ ended_lines-first found.0 found.1 found.3 in
+          let open_is : open_line a ≡ open_line found.1 = ap open_line found.2 ∙ open_line-first found.0 found.1 found.3 in
+          let left : lines_of (a ++ b) ≡ line ∷ lines_of (found.1 ++ b) =
+          ap lines_of whole ∙ ap (λ l. l ++ last_lines (open_line (found.0 ++ 10 ∷ (found.1 ++ b)))) (ended_lines-first found.0 (found.1 ++ b) found.3)
+          ∙ ap (λ o. (line ∷ ended_lines (found.1 ++ b)) ++ last_lines o) (open_line-first found.0 (found.1 ++ b) found.3) in
+          left ∙ ap (λ l. line ∷ l) later ∙ ap (λ l. l ++ lines_of (open_line found.1 ++ b)) (sym ended)
+          ∙ ap (λ o. ended_lines a ++ lines_of (o ++ b)) (sym open_is)
+    ]
+
+-- the lines of what was read stay the first lines
+pub lines_of-append : (a b : List ℕ) → lines_of (a ++ b) ≡ ended_lines a ++ lines_of (open_line a ++ b)
+lines_of-append a b = append_go (length a) a b (omega arith)
+
+-- what follows the last line feed has none
+open_go : (fuel : ℕ) (a : List ℕ) → length a ≤ fuel → HasNone 10 (open_line a)
+open_go zero [] h =
+    let none = All-nil (λ x. eqb x 10 ≡ false) in
+    let P : List ℕ → Type 0 = λ x. HasNone 10 x in subst P (sym (open_line-none [] none)) none
+open_go zero (x ∷ a) h = absurd (omega arith)
+open_go (suc fuel) a h =
+    let P : List ℕ → Type 0 = λ x. HasNone 10 x in
+    elim (first_feed a) [
+      | inl none ↦ subst P (sym (open_line-none a none)) none
+      | inr found ↦
+          let size : length a ≡ length found.0 + length (10 ∷ found.1) = ap length found.2 ∙ length-append found.0 (10 ∷ found.1) in
+          subst P (sym (ap open_line found.2 ∙ open_line-first found.0 found.1 found.3)) (open_go fuel found.1 (omega (arith, size, h)))
+    ]
+
+pub HasNone-open_line : (a : List ℕ) → HasNone 10 (open_line a)
+HasNone-open_line a = open_go (length a) a (omega arith)
+
+-- the lines of a text that has a line feed
+lines_of-first : (part rest : List ℕ) → HasNone 10 part → lines_of (part ++ 10 ∷ rest) ≡ strip_carriage_return part ∷ lines_of rest
+lines_of-first part rest none =
+    ap (λ l. l ++ last_lines (open_line (part ++ 10 ∷ rest))) (ended_lines-first part rest none)
+    ∙ ap (λ o. (strip_carriage_return part ∷ ended_lines rest) ++ last_lines o) (open_line-first part rest none)
+
+-- ---- lines that are too long
+
+strip_go : (b : Bool) (line : List ℕ) → length line ≤ length (cond b (take (length line - 1) line) line) + 1
+strip_go true line = omega (arith, length-take (length line - 1) line)
+strip_go false line = omega arith
+
+strip-length : (line : List ℕ) → length line ≤ length (strip_carriage_return line) + 1
+strip-length line = strip_go (slice_index line (length line - 1) == 13) line
+
+strip_kept : (line : List ℕ) → slice_index line (length line - 1) ≢ 13 → strip_carriage_return line ≡ line
+strip_kept line other = rw (ne_eqb (slice_index line (length line - 1)) 13 other) refl
+
+-- a line that begins with an overlong part is longer than the limit
+overlong_line : (limit : ℕ) (part more : List ℕ) → IsOverlong limit part → limit < length (strip_carriage_return (part ++ more))
+overlong_line limit part more (inl long) =
+    omega (arith, strip-length (part ++ more), length-append part more, long)
+overlong_line limit part [] (inr long) =
+    let P : List ℕ → Type 0 = λ l. limit < length (strip_carriage_return l) in
+    let kept : length (strip_carriage_return part) ≡ length part = ap length (strip_kept part long.1) in
+    subst P (sym (append-nil part)) (omega (arith, kept, long.0))
+overlong_line limit part (octet ∷ more) (inr long) =
+    omega (arith, strip-length (part ++ octet ∷ more), length-append part (octet ∷ more), long.0)
+
+last_lines-some : (text : List ℕ) → 0 < length text → last_lines text ≡ strip_carriage_return text ∷ []
+last_lines-some [] h = absurd (omega arith)
+last_lines-some (octet ∷ octets) h = refl
+
+-- the first line of a text that begins with a part of it
+first_line : (part more : List ℕ) → HasNone 10 part → 0 < length part
+    → (line : List ℕ) × (after : List (List ℕ)) × (lines_of (part ++ more) ≡ line ∷ after) × ((limit : ℕ) → IsOverlong limit part → limit < length line)
+first_line part more none some =
+    elim (first_feed more) [
+      | inl rest ↦
+          let whole = All-append (λ x. eqb x 10 ≡ false) part more none rest in
+          let size : length (part ++ more) ≡ length part + length more = length-append part more in (
+            strip_carriage_return (part ++ more),
+            [],
+            ap (λ l. l ++ last_lines (open_line (part ++ more))) (ended_lines-none (part ++ more) whole)
+                ∙ ap last_lines (open_line-none (part ++ more) whole) ∙ last_lines-some (part ++ more) (omega (arith, size, some)),
+            λ limit long. overlong_line limit part more long,
+          )
+      | inr found ↦
+          let whole = All-append (λ x. eqb x 10 ≡ false) part found.0 none found.3 in (
+            strip_carriage_return (part ++ found.0),
+            lines_of found.1,
+            ap (λ m. lines_of (part ++ m)) found.2 ∙ ap lines_of (sym (append_assoc part found.0 (10 ∷ found.1))) ∙ lines_of-first (part ++ found.0) found.1 whole,
+            λ limit long. overlong_line limit part found.0 long,
+          )
+    ]
+
+overlong_some : (limit : ℕ) (part : List ℕ) → IsOverlong limit part → 0 < length part
+overlong_some limit part (inl long) = omega (arith, long)
+overlong_some limit part (inr long) = omega (arith, long.0)
+
+after_some : (before : List (List ℕ)) (part : List ℕ) → OverlongAfter before part → 0 < length part
+after_some [] part long = overlong_some settings_limit part long
+after_some (first ∷ others) part (s, log, spelled, long) = overlong_some (line_limit s.max) part long
+
+-- ---- failures of a text that goes on
+
+fails_onward : (a b : List (List ℕ)) (n : ℕ) (why : Why) → LineFails a n why → LineFails (a ++ b) n why
+fails_onward a b n why (before, line, after, split, number, fails) =
+    (before, line, after ++ b, ap (λ l. l ++ b) split ∙ append_assoc before (line ∷ after) b, number, fails)
+
+long_carries : (max : ℕ) (line : List ℕ) (carried : Option Entry) → 2 * max + 64 < length line → Carries max line carried → ⊥
+long_carries max line None over h = let fits = h.0 in omega (arith, fits, over)
+long_carries max line (Some entry) over h = let fits = h.0 in omega (arith, fits, over)
+
+-- a line that is too long fails after a run
+long_fails : (before : List (List ℕ)) (part line : List ℕ) → OverlongAfter before part
+    → ((limit : ℕ) → IsOverlong limit part → limit < length line) → FailsAfter before line Unreadable
+long_fails [] part line long is = (λ s spelled. let fits = spelled.fits in let over = is 256 long in omega (arith, fits, over), refl)
+long_fails (first ∷ others) part line (s, log, spelled, long) is =
+    (s, log, spelled, λ carried. long_carries s.max line carried (is (2 * s.max + 64) long))
+
+pub FailsSoFar-onward : (text : List ℕ) (n : ℕ) (why : Why) → FailsSoFar text n why → FailsOnward text n why
+FailsSoFar-onward text n why (inl fails) more =
+    let P : List (List ℕ) → Type 0 = λ l. LineFails l n why in
+    inl (subst P (sym (lines_of-append text more)) (fails_onward (ended_lines text) (lines_of (open_line text ++ more)) n why fails))
+FailsSoFar-onward text n why (inr (number, is, long)) more =
+    let first = first_line (open_line text) more (HasNone-open_line text) (after_some (ended_lines text) (open_line text) long) in
+    let fails = long_fails (ended_lines text) (open_line text) first.0 long first.3 in
+    let P : Why → Type 0 = λ w. FailsAfter (ended_lines text) first.0 w in
+    inl (ended_lines text, first.0, first.1, lines_of-append text more ∙ ap (λ l. ended_lines text ++ l) first.2, number, subst P (sym is) fails)
+
+-- ---- what an audit answers
+
+no_session : (tally : Counters) (lines : List (List ℕ)) (part : List ℕ) (limit : ℕ) → lines ≡ [] → limit ≡ 256 → (IsOverlong limit part → ⊥) → OverlongAfter lines part → ⊥
+no_session tally [] part limit none is short long = let P : ℕ → Type 0 = λ k. IsOverlong k part in short (subst P (sym is) long)
+no_session tally (first ∷ others) part limit none is short long = cc none
+
+some_session : (lines : List (List ℕ)) (part : List ℕ) (limit : ℕ) (s : Parameters) (log : List Entry) → SpellLog lines s log → limit ≡ line_limit s.max
+    → (IsOverlong limit part → ⊥) → OverlongAfter lines part → ⊥
+some_session [] part limit s log spelled is short long = spelled
+some_session (first ∷ others) part limit s log spelled is short (t, front, again, long) =
+    let same = SpellLog-unique (first ∷ others) s t log front spelled again.spelled in
+    let P : ℕ → Type 0 = λ k. IsOverlong k part in
+    short (subst P (sym (is ∙ ap (λ (p : Parameters). line_limit p.max) same.0)) long)
+
+holds_go : (laws : RunLaws) (session : Option Session) (tally : Counters) (lines : List (List ℕ)) (part : List ℕ) (limit : ℕ)
+    → MatchOption session ((lines ≡ []) × Counts tally []) (λ t. Tracks t tally lines) → MatchOption session (limit ≡ 256) (λ t. limit ≡ line_limit t.settings.max)
+    → (IsOverlong limit part → ⊥) → ((n : ℕ) (why : Why) → LineFails lines n why → ⊥) × (OverlongAfter lines part → ⊥)
+holds_go laws None tally lines part limit state is short =
+    (λ n why h. let size = ap length (sym state.0 ∙ h.3) ∙ length-append h.0 (h.1 ∷ h.2) in omega (arith, size), no_session tally lines part limit state.0 is short)
+holds_go laws (Some session) tally lines part limit (log, spelled, has, counts) is short =
+    (run_stands laws lines session.settings log (record { spelled = spelled; run = has.run }), some_session lines part limit session.settings log spelled is short)
+
+pub front_holds : (laws : RunLaws) (judge : Judge) (text : List ℕ) (limit : ℕ) → Follows judge (ended_lines text)
+    → MatchOption judge.session (limit ≡ 256) (λ t. limit ≡ line_limit t.settings.max) → (IsOverlong limit (open_line text) → ⊥) → HoldsNoFailure text
+front_holds laws judge text limit follows is short n why fails =
+    let both = holds_go laws judge.session judge.tally (ended_lines text) (open_line text) limit follows.state is short in
+    elim fails [ inl line ↦ both.0 n why line | inr long ↦ both.1 long.2 ]
+
+whole_is : (input octets : List ℕ) (is_whole : Bool) (left : Option (List ℕ)) → ReadsFront input octets is_whole left → is_whole ≡ true → (input ≡ octets) × (left ≡ Some [])
+whole_is input octets is_whole left front whole =
+    let none = front.end whole in
+    (front.split ∙ ap (λ l. octets ++ l) none ∙ append-nil octets, front.left_is ∙ ap (λ l. Some l) none)
+
+pub whole_audit : (input octets : List ℕ) (is_whole : Bool) (left : Option (List ℕ)) (v : Verdict) → ReadsFront input octets is_whole left → is_whole ≡ true
+    → Judges octets v → AuditsAs input (Ok v) left
+whole_audit input octets is_whole left (Pass summary) front whole h =
+    let is = whole_is input octets is_whole left front whole in
+    let P : List ℕ → Type 0 = λ t. Judges t (Pass summary) in (subst P (sym is.0) h, is.1)
+whole_audit input octets is_whole left (Fail n why) front whole h =
+    let is = whole_is input octets is_whole left front whole in
+    let P : List ℕ → Type 0 = λ t. Judges t (Fail n why) in (subst P (sym is.0) h, inl is.1)
+
+pub front_audit : (input octets : List ℕ) (is_whole : Bool) (left : Option (List ℕ)) (r : Result Verdict AuditFault) → ReadsFront input octets is_whole left
+    → IfOk r (FrontJudged octets) → IfErr r (λ fault. fault ≡ Endless → HoldsNoFailure octets) → AuditsAs input r left
+front_audit input octets is_whole left (Ok (Pass summary)) front h k = absurd h
+front_audit input octets is_whole left (Ok (Fail n why)) front h k =
+    let onward = FailsSoFar-onward octets n why h in
+    let P : List ℕ → Type 0 = λ t. Fails t n why in
+    (subst P (sym front.split) (onward front.rest), inr (octets, front.rest, front.split, onward))
+front_audit input octets is_whole left (Err Endless) front h k = (octets, front.rest, front.split, front.left_is, k refl)
+front_audit input octets is_whole left (Err Read) front h k = tt
+front_audit input octets is_whole left (Err Memory) front h k = tt
+
+-- ---- one read more
+
+pub reads_more : (old mid new : Option (List ℕ)) (n : ℕ) (octets buffer : List ℕ)
+    → WhereTold old (λ input. (rest : List ℕ) × (input ≡ octets ++ rest) × (mid ≡ Some rest)) → Takes mid new n buffer
+    → WhereTold old (λ input. (rest : List ℕ) × (input ≡ (octets ++ take n buffer) ++ rest) × (new ≡ Some rest))
+reads_more old mid new n octets buffer so_far takes input told =
+    let before = so_far input told in
+    let step = takes before.0 before.2 in (
+      drop n before.0,
+      before.1 ∙ ap (λ l. octets ++ l) (sym (take-append-drop n before.0)) ∙ ap (λ l. octets ++ (l ++ drop n before.0)) (sym step.1)
+          ∙ sym (append_assoc octets (take n buffer) (drop n before.0)),
+      step.2,
+    )
+
+-- a read that gave something did not find the end
+pub ends_same : (room n ends : ℕ) → n ≢ 0 → ends_after room (Ok n) ends ≡ ends
+ends_same room n ends some = let is : eqb n 0 ≡ false = ne_eqb n 0 some in search rules

@@ -1,0 +1,129 @@
+-- Octets that are written in parts.
+use Rattle.std.proofs.Common.{◌≡◌, ◌<◌, ◌+◌, ◌/◌, ◌%◌, ◌++◌, ℕ, suc, List, [], ◌∷◌, length, take, drop, get_or, take-append-drop, Some, Ok, Err, refl, sym, ap, ◌∙◌, subst, arith, append_assoc, length-append}
+use Rattle.std.specs.Prelude.{Option, Result, codes, decimal}
+use Rattle.std.proofs.lemmas.List.{take-append-le, append-nil}
+use Rattle.std.specs.Prelude.{slice_index}
+use Rattle.hex.specs.Hex.{encode_lower, encode_with, lower_digits}
+use Rattle.std.specs.List.{flat_map}
+use Rattle.std.proofs.lemmas.Grind.{flat_map-append}
+use Rattle.std.proofs.Math.Seq.{take-append-add, take-suc}
+use Rattle.hsms_frame.specs.declared.frame.Frame.{Frame}
+use Rattle.hsms_frame.specs.Header.{header_octets}
+use Rattle.hsms_log.specs.Spelling.{message_octets}
+use Rattle.hsms_frame.specs.Device.{Grows, GrowsByFront}
+use Rattle.hsms_machine.specs.declared.settings.Role.{Role}
+use Rattle.hsms_machine.specs.declared.settings.Role.TheVariants.{Host, Equipment}
+use Rattle.hsms_machine.specs.declared.settings.Side.{Side}
+use Rattle.hsms_machine.specs.declared.settings.Side.TheVariants.{Active, Passive}
+use Rattle.hsms_machine.specs.Settings.{Parameters}
+use Rattle.hsms_log.specs.Spelling.{settings_line, role_word, link_word}
+use Rattle.hsms_log.specs.Writing.{Puts, spaced, opening_of, numbers_of}
+
+pub grows_then : (old mid new : Option (List ℕ)) (a b : List ℕ) → Grows old mid a → Grows mid new b → Grows old new (a ++ b)
+grows_then old mid new a b h k octets told = k (octets ++ a) (h octets told) ∙ ap Some (append_assoc octets a b)
+
+pub front_of_first : (old mid : Option (List ℕ)) (a b : List ℕ) → GrowsByFront old mid a → GrowsByFront old mid (a ++ b)
+front_of_first old mid a b h octets told =
+    let x = h octets told in
+    let below : x.0 < length a = x.1 in
+    (x.0, omega (arith, length-append a b), x.2 ∙ ap (λ l. Some (octets ++ l)) (sym (take-append-le x.0 a b (omega arith))))
+
+pub front_of_second : (old mid new : Option (List ℕ)) (a b : List ℕ) → Grows old mid a → GrowsByFront mid new b → GrowsByFront old new (a ++ b)
+front_of_second old mid new a b h k octets told =
+    let x = k (octets ++ a) (h octets told) in
+    let below : x.0 < length b = x.1 in (
+      length a + x.0,
+      omega (arith, length-append a b),
+      x.2 ∙ ap Some (append_assoc octets a (take x.0 b)) ∙ ap (λ l. Some (octets ++ l)) (sym (take-append-add a b x.0)),
+    )
+
+-- a last part, whose answer is the answer
+pub puts_then : {F : Type 0} (r : Result (Unit {0}) F) (old mid new : Option (List ℕ)) (a b : List ℕ) → Grows old mid a → Puts r mid new b → Puts r old new (a ++ b)
+puts_then (Ok _) old mid new a b h k = grows_then old mid new a b h k
+puts_then (Err _) old mid new a b h k = front_of_second old mid new a b h k
+
+pub grows_none : (old : Option (List ℕ)) → Grows old old []
+grows_none old octets told = told ∙ ap Some (sym (append-nil octets))
+
+-- digits of octets that are joined
+pub encode-append : (a b : List ℕ) → encode_lower (a ++ b) ≡ encode_lower a ++ encode_lower b
+unfolding encode_with
+encode-append [] b = refl
+encode-append (x ∷ a) b = ap (λ l. slice_index lower_digits (x / 16) ∷ slice_index lower_digits (x % 16) ∷ l) (encode-append a b)
+
+-- the same octets under another name
+pub front_along : (old new : Option (List ℕ)) (a b : List ℕ) → a ≡ b → GrowsByFront old new a → GrowsByFront old new b
+front_along old new a b e h = let P : List ℕ → Type 0 = λ l. GrowsByFront old new l in subst P e h
+
+pub grows_along : (old new : Option (List ℕ)) (a b : List ℕ) → a ≡ b → Grows old new a → Grows old new b
+grows_along old new a b e h = let P : List ℕ → Type 0 = λ l. Grows old new l in subst P e h
+
+pub puts_along : {F : Type 0} (r : Result (Unit {0}) F) (old new : Option (List ℕ)) (a b : List ℕ) → a ≡ b → Puts r old new a → Puts r old new b
+puts_along r old new a b e h = let P : List ℕ → Type 0 = λ l. Puts r old new l in subst P e h
+
+pub encode-nil : encode_lower [] ≡ []
+unfolding encode_with
+encode-nil = refl
+
+pub halves : (n : ℕ) (whole front back : List ℕ) → front ≡ take n whole → back ≡ drop n whole → whole ≡ front ++ back
+halves n whole front back p q = sym (take-append-drop n whole) ∙ ap (λ l. l ++ drop n whole) (sym p) ∙ ap (λ l. front ++ l) (sym q)
+
+pub empty_is : (l : List ℕ) → length l ≡ 0 → l ≡ []
+empty_is [] h = refl
+empty_is (x ∷ l) h = absurd (omega arith)
+
+-- the exit of a part that failed
+pub puts_err : {F : Type 0} (r : Result (Unit {0}) F) (e : F) (old new : Option (List ℕ)) (octets : List ℕ) → r ≡ Err e → GrowsByFront old new octets → Puts r old new octets
+puts_err {F} r e old new octets is h = let P : Result (Unit {0}) F → Type 0 = λ x. Puts x old new octets in subst P (sym is) h
+
+-- the digits of a message are those of its header and of its text
+pub message_digits : (frame : Frame) (front text : List ℕ) → front ≡ header_octets frame.header → text ≡ frame.text
+    → encode_lower (message_octets frame) ≡ encode_lower front ++ encode_lower text
+unfolding message_octets
+message_digits frame front text p q =
+    encode-append (header_octets frame.header) frame.text
+    ∙ ap (λ l. encode_lower l ++ encode_lower frame.text) (sym p) ∙ ap (λ l. encode_lower front ++ encode_lower l) (sym q)
+
+-- what is written of numbers, one number more
+pub numbers_next : (xs : List ℕ) (i : ℕ) → i < length xs → flat_map spaced (take (i + 1) xs) ≡ flat_map spaced (take i xs) ++ spaced (get_or xs i 0)
+numbers_next xs i below =
+    let next : suc i ≡ i + 1 = omega arith in
+    let P : ℕ → Type 0 = λ k. take k xs ≡ take i xs ++ get_or xs i 0 ∷ [] in
+    ap (flat_map spaced) (subst P next (take-suc xs i 0 below)) ∙ flat_map-append spaced (take i xs) (get_or xs i 0 ∷ [])
+    ∙ ap (λ l. flat_map spaced (take i xs) ++ l) (append-nil (spaced (get_or xs i 0)))
+
+-- what is written of numbers, parted at one of them
+pub numbers_parted : (xs : List ℕ) (i : ℕ) (end : List ℕ) → i < length xs
+    → flat_map spaced (take i xs) ++ (spaced (get_or xs i 0) ++ (flat_map spaced (drop (i + 1) xs) ++ end)) ≡ flat_map spaced xs ++ end
+numbers_parted xs i end below =
+    let a = flat_map spaced (take i xs) in
+    let b = spaced (get_or xs i 0) in
+    let rest = flat_map spaced (drop (i + 1) xs) in
+    sym (append_assoc a b (rest ++ end)) ∙ ap (λ l. l ++ (rest ++ end)) (sym (numbers_next xs i below))
+    ∙ sym (append_assoc (flat_map spaced (take (i + 1) xs)) rest end)
+    ∙ ap (λ l. l ++ end) (sym (flat_map-append spaced (take (i + 1) xs) (drop (i + 1) xs)) ∙ ap (flat_map spaced) (take-append-drop (i + 1) xs))
+
+numbers_text : (front : List ℕ) (a b c d e f g : ℕ)
+    → front ++ 32 ∷ (decimal a ++ 32 ∷ (decimal b ++ 32 ∷ (decimal c ++ 32 ∷ (decimal d ++ 32 ∷ (decimal e ++ 32 ∷ (decimal f ++ 32 ∷ decimal g))))))
+    ≡ front ++ flat_map spaced (a ∷ b ∷ c ∷ d ∷ e ∷ f ∷ g ∷ [])
+numbers_text front a b c d e f g =
+    ap (λ l. front ++ 32 ∷ (decimal a ++ 32 ∷ (decimal b ++ 32 ∷ (decimal c ++ 32 ∷ (decimal d ++ 32 ∷ (decimal e ++ 32 ∷ (decimal f ++ 32 ∷ l))))))) (sym (append-nil (decimal g)))
+
+line_text : (role : Role) (link : Side) (a b c d e f g : ℕ)
+    → settings_line (record { role = role; link = link; device = a; t3 = b; t6 = c; t7 = d; t8 = e; max = f; depth = g })
+    ≡ opening_of (record { role = role; link = link; device = a; t3 = b; t6 = c; t7 = d; t8 = e; max = f; depth = g }) ++ flat_map spaced (a ∷ b ∷ c ∷ d ∷ e ∷ f ∷ g ∷ [])
+unfolding settings_line
+line_text Host Active a b c d e f g = numbers_text (codes "hsms-log 1 host active") a b c d e f g
+line_text Host Passive a b c d e f g = numbers_text (codes "hsms-log 1 host passive") a b c d e f g
+line_text Equipment Active a b c d e f g = numbers_text (codes "hsms-log 1 equipment active") a b c d e f g
+line_text Equipment Passive a b c d e f g = numbers_text (codes "hsms-log 1 equipment passive") a b c d e f g
+
+-- the first line in its two parts
+pub line_parts : (s : Parameters) → opening_of s ++ (flat_map spaced (numbers_of s) ++ 10 ∷ []) ≡ settings_line s ++ 10 ∷ []
+line_parts s =
+    sym (append_assoc (opening_of s) (flat_map spaced (numbers_of s)) (10 ∷ []))
+    ∙ ap (λ l. l ++ 10 ∷ []) (sym (line_text s.role s.link s.device s.t3 s.t6 s.t7 s.t8 s.max s.depth))
+
+pub opening_is : (s : Parameters) (role : Role) (link : Side) → s.role ≡ role → s.link ≡ link → codes "hsms-log 1 " ++ (role_word role ++ 32 ∷ link_word link) ≡ opening_of s
+opening_is s role link p q =
+    ap (λ r. codes "hsms-log 1 " ++ (role_word r ++ 32 ∷ link_word link)) (sym p) ∙ ap (λ l. codes "hsms-log 1 " ++ (role_word s.role ++ 32 ∷ link_word l)) (sym q)

@@ -1,0 +1,217 @@
+-- The settings line, read and written.
+use Rattle.std.proofs.Common.{◌≡◌, ◌<◌, ◌≤◌, ◌^◌, ◌++◌, ℕ, List, ◌∷◌, length, take, drop, true, false, Some, None, refl, sym, ap, ◌∙◌, subst, arith, length-append, take-append-drop}
+use Rattle.std.proofs.Common.{inl, inr}
+use Rattle.std.specs.Prelude.{if◌then◌else◌, Option, decimal, codes, IsSome, IfSome, IfNone, ◌↔◌}
+use Rattle.std.specs.Str.{bytes_eq}
+use Rattle.std.proofs.lemmas.Slice.Eq.{bytes_eq-Decides}
+use Rattle.std.proofs.lemmas.Option.{cond_some}
+use Rattle.std.proofs.lemmas.Bool.{cases_Bool}
+use Rattle.std.proofs.lemmas.Fmt.{length-decimal-le}
+use Rattle.hsms_machine.specs.declared.settings.Role.{Role}
+use Rattle.hsms_machine.specs.declared.settings.Role.TheVariants.{Host, Equipment}
+use Rattle.hsms_machine.specs.declared.settings.Side.{Side}
+use Rattle.hsms_machine.specs.declared.settings.Side.TheVariants.{Active, Passive}
+use Rattle.hsms_machine.specs.Settings.{Parameters, IsWithinLimits}
+use Rattle.hsms_log.specs.Spelling.{settings_line, role_word, link_word, SpellsSettings}
+use Rattle.hsms_log.specs.Reading.{settings_at, times_at, number_at, number_of, word_at, role_of, link_of, after, below}
+use Rattle.hsms_log.proofs.Binds.{bind_step, some_inj, below_fits, below_some}
+use Rattle.hsms_log.proofs.Numbers.{number_at-spelled, number_at-some, number_of-decimal, number_of-some, word_at-some}
+
+-- ---- words
+
+word_at-role : (r : Role) (rest : List ℕ) → word_at (role_word r ++ 32 ∷ rest) ≡ Some (role_word r, rest)
+word_at-role Host rest = refl
+word_at-role Equipment rest = refl
+
+word_at-link : (l : Side) (rest : List ℕ) → word_at (link_word l ++ 32 ∷ rest) ≡ Some (link_word l, rest)
+word_at-link Active rest = refl
+word_at-link Passive rest = refl
+
+role_of-word : (r : Role) → role_of (role_word r) ≡ Some r
+unfolding role_of
+role_of-word Host = refl
+role_of-word Equipment = refl
+
+link_of-word : (l : Side) → link_of (link_word l) ≡ Some l
+unfolding link_of
+link_of-word Active = refl
+link_of-word Passive = refl
+
+-- a choice between two words
+two_words : {A : Type 0} (word one two : List ℕ) (x y z : A) (f : A → List ℕ) → f x ≡ one → f y ≡ two
+    → (if bytes_eq word one then Some x else (if bytes_eq word two then Some y else None)) ≡ Some z → word ≡ f z
+two_words word one two x y z f p q h =
+    elim (cases_Bool (bytes_eq word one)) [
+      | inl first ↦
+          let e : Some x ≡ Some z = rw first at h in
+          (bytes_eq-Decides word one).0 first ∙ sym p ∙ ap f (some_inj x z e)
+      | inr other ↦
+          let rest : (if bytes_eq word two then Some y else None) ≡ Some z = rw other at h in
+          let parts = cond_some (bytes_eq word two) y z rest in
+          (bytes_eq-Decides word two).0 parts.0 ∙ sym q ∙ ap f parts.1
+    ]
+
+role_of-some : (word : List ℕ) (r : Role) → role_of word ≡ Some r → word ≡ role_word r
+unfolding role_of
+role_of-some word r h = two_words word (codes "host") (codes "equipment") Host Equipment r role_word refl refl h
+
+link_of-some : (word : List ℕ) (l : Side) → link_of word ≡ Some l → word ≡ link_word l
+unfolding link_of
+link_of-some word l h = two_words word (codes "active") (codes "passive") Active Passive l link_word refl refl h
+
+after-some : (prefix text rest : List ℕ) → after prefix text ≡ Some rest → text ≡ prefix ++ rest
+unfolding after
+after-some prefix text rest h =
+    let parts = cond_some (bytes_eq (take (length prefix) text) prefix) (drop (length prefix) text) rest h in
+    let front = (bytes_eq-Decides (take (length prefix) text) prefix).0 parts.0 in
+    sym (take-append-drop (length prefix) text) ∙ ap (λ x. x ++ drop (length prefix) text) front ∙ ap (λ x. prefix ++ x) parts.1
+
+-- ---- written, then read
+
+times_at-spelled : (a b c d : ℕ) (rest : List ℕ) → a < 2 ^ 32 → b < 2 ^ 32 → c < 2 ^ 32 → d < 2 ^ 32
+    → times_at (decimal a ++ 32 ∷ (decimal b ++ 32 ∷ (decimal c ++ 32 ∷ (decimal d ++ 32 ∷ rest)))) ≡ Some (a, b, c, d, rest)
+unfolding times_at
+times_at-spelled a b c d rest ha hb hc hd =
+    rw (
+      number_at-spelled a (decimal b ++ 32 ∷ (decimal c ++ 32 ∷ (decimal d ++ 32 ∷ rest))) (omega arith),
+      below_fits (2 ^ 32) a ha,
+      number_at-spelled b (decimal c ++ 32 ∷ (decimal d ++ 32 ∷ rest)) (omega arith),
+      below_fits (2 ^ 32) b hb,
+      number_at-spelled c (decimal d ++ 32 ∷ rest) (omega arith),
+      below_fits (2 ^ 32) c hc,
+      number_at-spelled d rest (omega arith),
+      below_fits (2 ^ 32) d hd,
+    ) refl
+
+settings_at-line : (s : Parameters) → IsWithinLimits s → settings_at (settings_line s) ≡ Some s
+unfolding settings_at settings_line after
+settings_at-line s w =
+    rw (
+      word_at-role s.role _,
+      role_of-word s.role,
+      word_at-link s.link _,
+      link_of-word s.link,
+      number_at-spelled s.device _ (omega arith),
+      below_fits (2 ^ 16) s.device (omega arith),
+      times_at-spelled s.t3 s.t6 s.t7 s.t8 _ (omega arith) (omega arith) (omega arith) (omega arith),
+      number_at-spelled s.max _ (omega arith),
+      below_fits (2 ^ 32) s.max (omega arith),
+      number_of-decimal s.depth (omega arith),
+      below_fits (2 ^ 8) s.depth (omega arith),
+    ) refl
+
+-- ---- read, so spelled
+
+numbers_front : (bound : ℕ) (text : List ℕ) (m n : ℕ) (rest : List ℕ) → number_at text ≡ Some (m, rest) → below bound m ≡ Some n
+    → text ≡ decimal n ++ 32 ∷ rest
+numbers_front bound text m n rest a b =
+    (number_at-some text m rest a).1 ∙ ap (λ k. decimal k ++ 32 ∷ rest) (below_some bound m n b).1
+
+times_at-some : (text : List ℕ) (x : ℕ × ℕ × ℕ × ℕ × List ℕ) → times_at text ≡ Some x
+    → text ≡ decimal x.0 ++ 32 ∷ (decimal x.1 ++ 32 ∷ (decimal x.2 ++ 32 ∷ (decimal x.3 ++ 32 ∷ x.4)))
+unfolding times_at
+times_at-some text x h =
+    bind_step (number_at text) _ x h (λ a a_is h.
+    bind_step (below (2 ^ 32) a.0) _ x h (λ t3 t3_is h.
+    bind_step (number_at a.1) _ x h (λ b b_is h.
+    bind_step (below (2 ^ 32) b.0) _ x h (λ t6 t6_is h.
+    bind_step (number_at b.1) _ x h (λ c c_is h.
+    bind_step (below (2 ^ 32) c.0) _ x h (λ t7 t7_is h.
+    bind_step (number_at c.1) _ x h (λ d d_is h.
+    bind_step (below (2 ^ 32) d.0) _ x h (λ t8 t8_is h.
+    let same = some_inj {A = ℕ × ℕ × ℕ × ℕ × List ℕ} (t3, t6, t7, t8, d.1) x h in
+    let P : ℕ × ℕ × ℕ × ℕ × List ℕ → Type 0 =
+    λ y. text ≡ decimal y.0 ++ 32 ∷ (decimal y.1 ++ 32 ∷ (decimal y.2 ++ 32 ∷ (decimal y.3 ++ 32 ∷ y.4))) in
+    subst P same
+    (numbers_front (2 ^ 32) text a.0 t3 a.1 a_is t3_is
+    ∙ ap (λ t. decimal t3 ++ 32 ∷ t) (numbers_front (2 ^ 32) a.1 b.0 t6 b.1 b_is t6_is
+    ∙ ap (λ t. decimal t6 ++ 32 ∷ t) (numbers_front (2 ^ 32) b.1 c.0 t7 c.1 c_is t7_is
+    ∙ ap (λ t. decimal t7 ++ 32 ∷ t) (numbers_front (2 ^ 32) c.1 d.0 t8 d.1 d_is t8_is))))))))))))
+
+last_number : (bound : ℕ) (word : List ℕ) (m n : ℕ) → number_of word ≡ Some m → below bound m ≡ Some n → word ≡ decimal n
+last_number bound word m n a b = (number_of-some word m a).1 ∙ ap decimal (below_some bound m n b).1
+
+settings_at-some : (line : List ℕ) (s : Parameters) → settings_at line ≡ Some s → line ≡ settings_line s
+unfolding settings_at settings_line
+settings_at-some line s h =
+    bind_step (after (codes "hsms-log 1 ") line) _ s h (λ rest rest_is h.
+    bind_step (word_at rest) _ s h (λ a a_is h.
+    bind_step (role_of a.0) _ s h (λ role role_is h.
+    bind_step (word_at a.1) _ s h (λ b b_is h.
+    bind_step (link_of b.0) _ s h (λ link link_is h.
+    bind_step (number_at b.1) _ s h (λ c c_is h.
+    bind_step (below (2 ^ 16) c.0) _ s h (λ device device_is h.
+    bind_step (times_at c.1) _ s h (λ times times_is h.
+    bind_step (number_at times.4) _ s h (λ d d_is h.
+    bind_step (below (2 ^ 32) d.0) _ s h (λ max max_is h.
+    bind_step (number_of d.1) _ s h (λ e e_is h.
+    bind_step (below (2 ^ 8) e) _ s h (λ depth depth_is h.
+    let same = some_inj _ s h in
+    let P : Parameters → Type 0 = λ p. line ≡ settings_line p in
+    subst P same
+    (after-some (codes "hsms-log 1 ") line rest rest_is
+    ∙ ap (λ t. codes "hsms-log 1 " ++ t) (word_at-some rest a.0 a.1 a_is ∙ ap (λ w. w ++ 32 ∷ a.1) (role_of-some a.0 role role_is)
+    ∙ ap (λ t. role_word role ++ 32 ∷ t) (word_at-some a.1 b.0 b.1 b_is ∙ ap (λ w. w ++ 32 ∷ b.1) (link_of-some b.0 link link_is)
+    ∙ ap (λ t. link_word link ++ 32 ∷ t) (numbers_front (2 ^ 16) b.1 c.0 device c.1 c_is device_is
+    ∙ ap (λ t. decimal device ++ 32 ∷ t) (times_at-some c.1 times times_is
+    ∙ ap (λ t. decimal times.0 ++ 32 ∷ (decimal times.1 ++ 32 ∷ (decimal times.2 ++ 32 ∷ (decimal times.3 ++ 32 ∷ t))))
+    (numbers_front (2 ^ 32) times.4 d.0 max d.1 d_is max_is
+    ∙ ap (λ t. decimal max ++ 32 ∷ t) (last_number (2 ^ 8) d.1 e depth e_is depth_is)))))))))))))))))))
+
+-- ---- the limit
+
+role_word-short : (r : Role) → length (role_word r) ≤ 9
+role_word-short Host = omega arith
+role_word-short Equipment = omega arith
+
+link_word-short : (l : Side) → length (link_word l) ≤ 7
+link_word-short Active = omega arith
+link_word-short Passive = omega arith
+
+pub settings_line-short : (s : Parameters) → IsWithinLimits s → length (settings_line s) ≤ 256
+unfolding settings_line
+settings_line-short s w =
+    let role = role_word-short s.role in
+    let link = link_word-short s.link in
+    let device : length (decimal s.device) ≤ 5 = length-decimal-le 5 s.device (omega arith) (omega arith) (omega arith) in
+    let t3 : length (decimal s.t3) ≤ 7 = length-decimal-le 7 s.t3 (omega arith) (omega arith) (omega arith) in
+    let t6 : length (decimal s.t6) ≤ 7 = length-decimal-le 7 s.t6 (omega arith) (omega arith) (omega arith) in
+    let t7 : length (decimal s.t7) ≤ 7 = length-decimal-le 7 s.t7 (omega arith) (omega arith) (omega arith) in
+    let t8 : length (decimal s.t8) ≤ 7 = length-decimal-le 7 s.t8 (omega arith) (omega arith) (omega arith) in
+    let max : length (decimal s.max) ≤ 8 = length-decimal-le 8 s.max (omega arith) (omega arith) (omega arith) in
+    let depth : length (decimal s.depth) ≤ 3 = length-decimal-le 3 s.depth (omega arith) (omega arith) (omega arith) in
+    simp length-append (omega arith)
+
+-- ---- what reading the line says
+
+pub spelled_is_read : (line : List ℕ) (s : Parameters) → SpellsSettings line s → settings_at line ≡ Some s
+spelled_is_read line s h = ap settings_at h.spelled ∙ settings_at-line s h.within
+
+pub read_is_spelled : (line : List ℕ) (s : Parameters) → settings_at line ≡ Some s → IsWithinLimits s → SpellsSettings line s
+read_is_spelled line s h w =
+    let same = settings_at-some line s h in
+    let P : List ℕ → Type 0 = λ x. length x ≤ 256 in
+    record { within = w; fits = subst P (sym same) (settings_line-short s w); spelled = same }
+
+-- a line spells one settings
+pub SpellsSettings-unique : (line : List ℕ) (s t : Parameters) → SpellsSettings line s → SpellsSettings line t → s ≡ t
+SpellsSettings-unique line s t a b = some_inj s t (sym (spelled_is_read line s a) ∙ spelled_is_read line t b)
+
+pub settings_found : (line : List ℕ) (p : Parameters) (r : Option Parameters) → settings_at line ≡ Some p → (IsSome r ↔ IsWithinLimits p)
+    → IfSome r (λ s. s ≡ p) → IfSome r (SpellsSettings line)
+settings_found line p (Some s) h within same =
+    let P : Parameters → Type 0 = λ x. SpellsSettings line x in
+    subst P (sym same) (read_is_spelled line p h (within.0 refl))
+settings_found line p None h within same = tt
+
+pub settings_none : (line : List ℕ) (p : Parameters) (r : Option Parameters) → settings_at line ≡ Some p → (IsSome r ↔ IsWithinLimits p)
+    → IfNone r ((s : Parameters) → SpellsSettings line s → ⊥)
+settings_none line p (Some x) h within = tt
+settings_none line p None h within = λ s spelled.
+    let same = some_inj s p (sym (spelled_is_read line s spelled) ∙ h) in
+    let P : Parameters → Type 0 = λ x. IsWithinLimits x in
+    let no : false ≡ true = within.1 (subst P same spelled.within) in
+    cc no
+
+pub settings_unread : (line : List ℕ) → settings_at line ≡ None → (s : Parameters) → SpellsSettings line s → ⊥
+settings_unread line h s spelled = let e = sym (spelled_is_read line s spelled) ∙ h in cc e

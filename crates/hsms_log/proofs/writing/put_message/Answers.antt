@@ -1,0 +1,55 @@
+use Rattle.std.proofs.Common.{◌≡◌, ◌++◌, ◌∷◌, [], append_assoc, refl, sym, ap, ◌∙◌}
+use Rattle.std.proofs.lemmas.Result.{err_from_is_err_and}
+use Rattle.hex.specs.Hex.{encode_lower}
+use Rattle.hsms_log.specs.Spelling.{message_octets}
+use Rattle.hsms_log.proofs.Parts.{grows_then, front_of_first, front_of_second, front_along, puts_then, puts_along, puts_err, message_digits}
+use Rattle.hsms_log.proofs.writing.put_message.Goals as goal
+
+pub returns-in_err-put_hex-clause-written : goal.returns-in_err-put_hex-clause-written
+returns-in_err-put_hex-clause-written g c =
+    let written = g.W.Sink.written in
+    let front = c.as_slice.result.now in
+    let text = c.args.frame.now.text in
+    let whole : c.args.mark.now ++ (encode_lower (message_octets c.args.frame.now) ++ 10 ∷ []) ≡ c.args.mark.now ++ (encode_lower front ++ (encode_lower text ++ 10 ∷ [])) =
+    ap (λ l. c.args.mark.now ++ (l ++ 10 ∷ [])) (message_digits c.args.frame.now front text (c.as_slice.ensures ∙ c.octets.ensures) refl)
+    ∙ ap (λ l. c.args.mark.now ++ l) (append_assoc (encode_lower front) (encode_lower text) (10 ∷ [])) in
+    let p = err_from_is_err_and c.from_residual-in_err-put_hex.result c.from_residual-in_err-put_hex.ensures.1 in
+    puts_err c.from_residual-in_err-put_hex.result p.0 (written c.args.sink.now) (written c.put_hex.new.sink) (c.args.mark.now ++ (encode_lower (message_octets c.args.frame.now) ++ 10 ∷ [])) p.1
+    (front_along (written c.args.sink.now) (written c.put_hex.new.sink) (c.args.mark.now ++ (encode_lower front ++ (encode_lower text ++ 10 ∷ []))) (c.args.mark.now ++ (encode_lower (message_octets c.args.frame.now) ++ 10 ∷ [])) (sym whole)
+    (front_of_second (written c.args.sink.now) (written c.put.new.sink) (written c.put_hex.new.sink) c.args.mark.now (encode_lower front ++ (encode_lower text ++ 10 ∷ [])) c.in_ok-put.ensures.written
+    (front_of_first (written c.put.new.sink) (written c.put_hex.new.sink) (encode_lower front) (encode_lower text ++ 10 ∷ []) c.in_err-put_hex.ensures.written)))
+
+pub returns-in_err-put_hex-2-clause-written : goal.returns-in_err-put_hex-2-clause-written
+returns-in_err-put_hex-2-clause-written g c =
+    let written = g.W.Sink.written in
+    let mark = c.args.mark.now in
+    let front = c.as_slice.result.now in
+    let text = c.as_slice-2.result.now in
+    let total = mark ++ (encode_lower (message_octets c.args.frame.now) ++ 10 ∷ []) in
+    let parts = (mark ++ encode_lower front) ++ (encode_lower text ++ 10 ∷ []) in
+    let whole : total ≡ parts =
+    ap (λ l. mark ++ (l ++ 10 ∷ [])) (message_digits c.args.frame.now front text (c.as_slice.ensures ∙ c.octets.ensures) c.as_slice-2.ensures)
+    ∙ ap (λ l. mark ++ l) (append_assoc (encode_lower front) (encode_lower text) (10 ∷ [])) ∙ sym (append_assoc mark (encode_lower front) (encode_lower text ++ 10 ∷ [])) in
+    let p = err_from_is_err_and c.from_residual-in_err-put_hex-2.result c.from_residual-in_err-put_hex-2.ensures.1 in
+    puts_err c.from_residual-in_err-put_hex-2.result p.0 (written c.args.sink.now) (written c.put_hex-2.new.sink) total p.1
+    (front_along (written c.args.sink.now) (written c.put_hex-2.new.sink) parts total (sym whole)
+    (front_of_second (written c.args.sink.now) (written c.put_hex.new.sink) (written c.put_hex-2.new.sink) (mark ++ encode_lower front) (encode_lower text ++ 10 ∷ [])
+    (grows_then (written c.args.sink.now) (written c.put.new.sink) (written c.put_hex.new.sink) mark (encode_lower front) c.in_ok-put.ensures.written c.in_ok-put_hex.ensures.written)
+    (front_of_first (written c.put_hex.new.sink) (written c.put_hex-2.new.sink) (encode_lower text) (10 ∷ []) c.in_err-put_hex-2.ensures.written)))
+
+pub returns-clause-written : goal.returns-clause-written
+returns-clause-written g c =
+    let written = g.W.Sink.written in
+    let mark = c.args.mark.now in
+    let front = c.as_slice.result.now in
+    let text = c.as_slice-2.result.now in
+    let total = mark ++ (encode_lower (message_octets c.args.frame.now) ++ 10 ∷ []) in
+    let parts = ((mark ++ encode_lower front) ++ encode_lower text) ++ 10 ∷ [] in
+    let whole : total ≡ parts =
+    ap (λ l. mark ++ (l ++ 10 ∷ [])) (message_digits c.args.frame.now front text (c.as_slice.ensures ∙ c.octets.ensures) c.as_slice-2.ensures)
+    ∙ sym (append_assoc mark (encode_lower front ++ encode_lower text) (10 ∷ [])) ∙ ap (λ l. l ++ 10 ∷ []) (sym (append_assoc mark (encode_lower front) (encode_lower text))) in
+    puts_along c.put-2.result (written c.args.sink.now) (written c.put-2.new.sink) parts total (sym whole)
+    (puts_then c.put-2.result (written c.args.sink.now) (written c.put_hex-2.new.sink) (written c.put-2.new.sink) ((mark ++ encode_lower front) ++ encode_lower text) (10 ∷ [])
+    (grows_then (written c.args.sink.now) (written c.put_hex.new.sink) (written c.put_hex-2.new.sink) (mark ++ encode_lower front) (encode_lower text)
+    (grows_then (written c.args.sink.now) (written c.put.new.sink) (written c.put_hex.new.sink) mark (encode_lower front) c.in_ok-put.ensures.written c.in_ok-put_hex.ensures.written)
+    c.in_ok-put_hex-2.ensures.written) c.put-2.ensures.written)

@@ -1,0 +1,19 @@
+use Rattle.std.proofs.Common.{◌∷◌, []}
+use Rattle.std.specs.Prelude.{decimal}
+use Rattle.std.proofs.lemmas.Result.{err_from_is_err_and}
+use Rattle.hsms_log.specs.Writing.{spaced}
+use Rattle.hsms_log.proofs.Parts.{front_of_first, puts_then, puts_err}
+use Rattle.hsms_log.proofs.writing.put_spaced.Goals as goal
+
+pub returns-in_err-put-clause-written : goal.returns-in_err-put-clause-written
+returns-in_err-put-clause-written g c =
+    let written = g.W.Sink.written in
+    let p = err_from_is_err_and c.from_residual.result c.from_residual.ensures.1 in
+    puts_err c.from_residual.result p.0 (written c.args.sink.now) (written c.put.new.sink) (spaced c.args.number) p.1
+    (front_of_first (written c.args.sink.now) (written c.put.new.sink) (32 ∷ []) (decimal c.args.number) c.in_err-put.ensures.written)
+
+pub returns-clause-written : goal.returns-clause-written
+returns-clause-written g c =
+    let written = g.W.Sink.written in
+    puts_then c.put_number.result (written c.args.sink.now) (written c.put.new.sink) (written c.put_number.new.sink) (32 ∷ []) (decimal c.args.number)
+    c.in_ok-put.ensures.written c.put_number.ensures.written

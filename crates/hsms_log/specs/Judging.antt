@@ -1,0 +1,27 @@
+-- What the judge of a log knows between two lines.
+use Rattle.std.specs.Prelude.{◌≡◌, ℕ, List, [], length, count_by, MatchOption}
+use Rattle.hsms_machine.specs.declared.entry.Entry.{Entry}
+use Rattle.hsms_machine.specs.View.{HasView}
+use Rattle.hsms_log.specs.declared.session.Session.{Session}
+use Rattle.hsms_log.specs.declared.judging.Judge.{Judge}
+use Rattle.hsms_log.specs.Log.{SpellLog}
+use Rattle.hsms_log.specs.Counters.{Counters}
+use Rattle.hsms_log.specs.Verdict.{is_sent, is_taken, is_discarded, is_expired}
+
+-- the numbers of entries by kind
+pub record Counts (tally : Counters) (log : List Entry) : Type 0 where
+  pub entries : tally.entries ≡ length log
+  pub sent : tally.sent ≡ count_by (λ entry. is_sent entry.event) log
+  pub taken : tally.taken ≡ count_by (λ entry. is_taken entry.event) log
+  pub discarded : tally.discarded ≡ count_by (λ entry. is_discarded entry.event) log
+  pub expired : tally.expired ≡ count_by (λ entry. is_expired entry.event) log
+
+-- the session and the tally stand after these lines, which spell a run
+abbrev pub Tracks : Session → Counters → List (List ℕ) → Type 0
+Tracks session tally lines =
+    (log : List Entry) × SpellLog lines session.settings log × HasView session.settings log session.tracker × Counts tally log
+
+-- the judge stands after these lines, which don't fail
+pub record Follows (judge : Judge) (lines : List (List ℕ)) : Type 0 where
+  pub number : judge.tally.lines ≡ length lines
+  pub state : MatchOption judge.session ((lines ≡ []) × Counts judge.tally []) (λ session. Tracks session judge.tally lines)

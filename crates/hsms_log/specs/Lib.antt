@@ -1,0 +1,12 @@
+pub mod Lines
+pub mod Spelling
+pub mod Log
+pub mod Verdict
+pub mod Judging
+pub mod Reading
+pub mod Carried
+pub mod Fields
+pub mod Counters
+pub mod Auditing
+pub mod Writing
+pub mod Laws

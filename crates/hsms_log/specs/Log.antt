@@ -1,0 +1,22 @@
+-- What the lines of a log spell.
+use Rattle.std.specs.Prelude.{◌≡◌, ◌++◌, ℕ, List, [], ◌∷◌, Option, option_to_list}
+use Rattle.hsms_machine.specs.declared.entry.Entry.{Entry}
+use Rattle.hsms_machine.specs.Settings.{Parameters}
+use Rattle.hsms_log.specs.Lines.{lines_of}
+use Rattle.hsms_log.specs.Spelling.{SpellsSettings, Carries}
+
+-- each line is readable, and those that carry something carry the log's entries, in order
+abbrev pub CarryLog : ℕ → List (List ℕ) → List Entry → Type 0
+CarryLog max [] log = log ≡ []
+CarryLog max (line ∷ lines) log =
+    (carried : Option Entry) × (later : List Entry) × Carries max line carried × CarryLog max lines later
+    × (log ≡ option_to_list carried ++ later)
+
+-- the first line spells the settings, and the others carry the log
+abbrev pub SpellLog : List (List ℕ) → Parameters → List Entry → Type 0
+SpellLog [] s log = ⊥
+SpellLog (first ∷ others) s log = SpellsSettings first s × CarryLog s.max others log
+
+-- the text spells the settings and the log
+abbrev pub LogText : List ℕ → Parameters → List Entry → Type 0
+LogText text s log = SpellLog (lines_of text) s log

@@ -1,0 +1,86 @@
+-- What reading a line answers, as functions on lists.
+use Rattle.std.specs.Prelude.{◌==◌, ◌^◌, ◌&&◌, not, ℕ, Bool, List, [], ◌∷◌, Option, Some, None, length, take, drop, slice_index, nat_lt, codes, if◌then◌else◌}
+use Rattle.std.specs.Str.{bytes_eq}
+use Rattle.std.specs.List.{list_all}
+use Rattle.std.specs.Char.{is_ascii_digit}
+use Rattle.std.specs.Str.Parse.{digits_value}
+use Rattle.hsms_machine.specs.declared.settings.Role.{Role}
+use Rattle.hsms_machine.specs.declared.settings.Role.TheVariants.{Host, Equipment}
+use Rattle.hsms_machine.specs.declared.settings.Side.{Side}
+use Rattle.hsms_machine.specs.declared.settings.Side.TheVariants.{Active, Passive}
+use Rattle.hsms_machine.specs.Settings.{Parameters}
+
+-- the ? of the logic
+infixl 10 ◌>>=◌
+abbrev pub ◌>>=◌ : {A B : Type 0} → Option A → (A → Option B) → Option B
+None >>= f = None
+(Some x) >>= f = f x
+
+-- a zero stands before other digits
+abbrev pub has_leading_zero : List ℕ → Bool
+has_leading_zero word = (slice_index word 0 == 48) && nat_lt 1 (length word)
+
+-- a decimal number: digits alone, some, and no zero before others
+abbrev pub is_decimal : List ℕ → Bool
+is_decimal word = list_all is_ascii_digit word && (nat_lt 0 (length word) && not (has_leading_zero word))
+
+-- the decimal number below 2 ^ 64 that the word spells
+unfoldable pub number_of : List ℕ → Option ℕ
+number_of word =
+    if is_decimal word && nat_lt (digits_value 10 word) (2 ^ 64) then Some (digits_value 10 word) else None
+
+-- the text before the first space, and the text after it
+abbrev pub word_at : List ℕ → Option (List ℕ × List ℕ)
+word_at [] = None
+word_at (octet ∷ text) = if octet == 32 then Some ([], text) else (word_at text >>= λ w. Some (octet ∷ w.0, w.1))
+
+-- a number, a space, and what follows it
+unfoldable pub number_at : List ℕ → Option (ℕ × List ℕ)
+number_at text = do
+  w ← word_at text
+  n ← number_of w.0
+  Some (n, w.1)
+
+-- the number, where it is below the bound
+abbrev pub below : ℕ → ℕ → Option ℕ
+below bound n = if nat_lt n bound then Some n else None
+
+unfoldable pub role_of : List ℕ → Option Role
+role_of word = if bytes_eq word (codes "host") then Some Host else if bytes_eq word (codes "equipment") then Some Equipment else None
+
+unfoldable pub link_of : List ℕ → Option Side
+link_of word = if bytes_eq word (codes "active") then Some Active else if bytes_eq word (codes "passive") then Some Passive else None
+
+-- what follows a prefix
+unfoldable pub after : List ℕ → List ℕ → Option (List ℕ)
+after prefix text = if bytes_eq (take (length prefix) text) prefix then Some (drop (length prefix) text) else None
+
+-- the four times, and what follows them
+unfoldable pub times_at : List ℕ → Option (ℕ × ℕ × ℕ × ℕ × List ℕ)
+times_at text = do
+  a ← number_at text
+  t3 ← below (2 ^ 32) a.0
+  b ← number_at a.1
+  t6 ← below (2 ^ 32) b.0
+  c ← number_at b.1
+  t7 ← below (2 ^ 32) c.0
+  d ← number_at c.1
+  t8 ← below (2 ^ 32) d.0
+  Some (t3, t6, t7, t8, d.1)
+
+-- the settings, where their numbers fit their types
+unfoldable pub settings_at : List ℕ → Option Parameters
+settings_at line = do
+  rest ← after (codes "hsms-log 1 ") line
+  a ← word_at rest
+  role ← role_of a.0
+  b ← word_at a.1
+  link ← link_of b.0
+  c ← number_at b.1
+  device ← below (2 ^ 16) c.0
+  times ← times_at c.1
+  d ← number_at times.4
+  max ← below (2 ^ 32) d.0
+  e ← number_of d.1
+  depth ← below (2 ^ 8) e
+  Some (record { role = role; link = link; device = device; t3 = times.0; t6 = times.1; t7 = times.2; t8 = times.3; max = max; depth = depth })

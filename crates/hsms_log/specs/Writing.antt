@@ -1,0 +1,22 @@
+-- What a call that writes these octets leaves.
+use Rattle.std.specs.Prelude.{◌++◌, ℕ, List, [], ◌∷◌, Option, Result, Ok, Err, codes, decimal}
+use Rattle.hsms_frame.specs.Device.{Grows, GrowsByFront}
+use Rattle.hsms_machine.specs.Settings.{Parameters}
+use Rattle.hsms_log.specs.Spelling.{role_word, link_word}
+
+-- all of the octets were written, or a part from their front and the sink failed
+abbrev pub Puts : {F : Type 0} → Result (Unit {0}) F → Option (List ℕ) → Option (List ℕ) → List ℕ → Type 0
+Puts (Ok _) old new octets = Grows old new octets
+Puts (Err _) old new octets = GrowsByFront old new octets
+
+-- a decimal number behind a space
+abbrev pub spaced : ℕ → List ℕ
+spaced n = 32 ∷ decimal n
+
+-- the words of a first line before its numbers
+abbrev pub opening_of : Parameters → List ℕ
+opening_of s = codes "hsms-log 1 " ++ (role_word s.role ++ 32 ∷ link_word s.link)
+
+-- the numbers of a first line
+abbrev pub numbers_of : Parameters → List ℕ
+numbers_of s = s.device ∷ s.t3 ∷ s.t6 ∷ s.t7 ∷ s.t8 ∷ s.max ∷ s.depth ∷ []

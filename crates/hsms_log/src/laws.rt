@@ -1,0 +1,35 @@
+//! Laws over the definitions of log text and of verdicts. Each is the contract of a function that does nothing.
+
+ghost use Rattle.hsms_log.specs.Laws.{EachTextHasAVerdict, NoTextHasTwoVerdicts, TextSpellsOneLog, WrittenEntryIsSpelled, WrittenSettingsAreSpelled, WrittenEntryIsReadBack, WrittenSettingsAreReadBack};
+
+use hsms_machine::laws::{
+    each_entry_has_one_answer, empty_log_is_run, front_of_run_is_run, lawful_entry_extends_run,
+};
+
+/// Each text has exactly one verdict.
+pub fn each_text_has_one_verdict()
+    ensures some { EachTextHasAVerdict }
+    ensures one { NoTextHasTwoVerdicts }
+{
+    front_of_run_is_run();
+    each_entry_has_one_answer();
+    lawful_entry_extends_run();
+    empty_log_is_run();
+}
+
+/// A text spells the settings and the entries of at most one log.
+pub fn text_spells_one_log()
+    ensures { TextSpellsOneLog }
+{}
+
+/// What is written of an entry or of settings spells it.
+pub fn written_is_spelled()
+    ensures entries { WrittenEntryIsSpelled }
+    ensures settings { WrittenSettingsAreSpelled }
+{}
+
+/// What is written of an entry, within the limit of a line, or of settings spells nothing else: so it is read back.
+pub fn written_is_read_back()
+    ensures entries { WrittenEntryIsReadBack }
+    ensures settings { WrittenSettingsAreReadBack }
+{}

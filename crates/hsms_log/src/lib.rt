@@ -1,0 +1,32 @@
+//! The text of a session log, and its audit.
+//!
+//! A log is text: a first line with the settings of the end that logged, then a line for each entry, comments and empty
+//! lines. [`write_settings`] and [`write_entry`] write such lines, [`read_settings`] and [`read_line`] read them, and
+//! [`audit`] judges a whole log: it passes, with a summary of its entries, or fails at its first line that is unreadable or
+//! whose entry breaks a rule of the session machine (SEMI E37, E37.1; `hsms_machine`). The format is this project's own.
+#![tactic(auto)]
+
+mod auditing;
+mod input;
+mod judging;
+mod later;
+pub mod laws;
+mod line;
+mod number;
+mod range;
+mod reading;
+mod session;
+mod settings_line;
+mod verdict;
+mod whole;
+mod writing;
+
+pub use auditing::{AuditFault, audit, audit_within};
+pub use reading::{Line, LineFault, read_line};
+pub use settings_line::read_settings;
+pub use verdict::{Summary, Verdict, Why};
+pub use whole::judge;
+pub use writing::{LogFault, write_entry, write_settings};
+
+#[cfg(test)]
+mod tests;

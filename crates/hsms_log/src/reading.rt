@@ -1,0 +1,140 @@
+//! What a line that is not the first carries.
+
+ghost use Rattle.std.specs.Prelude.{◌≡◌, ◌≢◌, ◌<◌, ◌^◌, ◌++◌, ◌∷◌, ℕ, List, Option, IfOk, IfErr, IfSome, IfNone, codes};
+ghost use Rattle.hsms_frame.specs.declared.frame.Frame.{Frame as Message};
+ghost use Rattle.hsms_machine.specs.declared.entry.Event.{Event as Happening};
+ghost use Rattle.hsms_machine.specs.declared.entry.Entry.{Entry as LogEntry};
+ghost use Rattle.hsms_log.specs.Spelling.{Carries, SpellsEntry, SpellsEvent, IsEvent, IsMessage, IsHexOf, message_octets, system_octets};
+ghost use Rattle.hsms_log.specs.Carried.{carried_by};
+
+use crate::number::{after_prefix, number_at};
+use hex::FromHexError;
+use hsms_frame::{Frame, Header, Text};
+use hsms_machine::{Cause, Entry, Event};
+use std::alloc::{AllocError, Global};
+use thiserror::Error;
+
+/// What a line carries.
+#[derive(Debug, Drop)]
+pub enum Line {
+    /// A comment, or an empty line.
+    Nothing,
+    /// An entry.
+    Entry(Entry),
+}
+
+/// Why a line was not read.
+#[derive(Clone, Copy, Debug, PartialEq, Eq, Error)]
+pub enum LineFault {
+    /// The line spells nothing, or has more than `2 * max + 64` octets.
+    #[error("Unreadable")]
+    Unreadable,
+    /// A growth was refused.
+    #[error("Memory")]
+    Memory,
+}
+
+impl From<AllocError> for LineFault {
+    ghost use Rattle.hsms_log.specs.declared.reading.LineFault.TheVariants.{Memory};
+    ghost use Rattle.std.specs.Prelude.{◌≡◌};
+
+    ghost from_gives = { λ _ e. e ≡ Memory };
+
+    fn from(_: AllocError) -> LineFault {
+        LineFault::Memory
+    }
+}
+
+/// What a line that is not the first carries. It is given without its end, and has at most `2 * max + 64` octets, comments
+/// included. Digits of either case are read.
+pub fn read_line(alloc: Global, line: &[u8], max: u32) -> Result<Line, LineFault>
+    ensures found { IfOk result (λ what. Carries max line.now (carried_by what)) }
+    ensures unreadable { IfErr result (λ fault. fault ≡ LineFault.Unreadable → (carried : Option LogEntry) → Carries max line.now carried → ⊥) }
+{
+    if line.len() > 2 * max as usize + 64 {
+        return Err(LineFault::Unreadable);
+    }
+    if line.is_empty() || line[0] == b'#' {
+        return Ok(Line::Nothing);
+    }
+    Ok(Line::Entry(read_entry(alloc, line)?))
+}
+
+fn read_entry(alloc: Global, line: &[u8]) -> Result<Entry, LineFault>
+    ensures found { IfOk result (SpellsEntry line.now) }
+    ensures unreadable { IfErr result (λ fault. fault ≡ LineFault.Unreadable → (entry : LogEntry) → SpellsEntry line.now entry → ⊥) }
+{
+    let Some((time, text)) = number_at(line) else {
+        return Err(LineFault::Unreadable);
+    };
+    let event = read_event(alloc, text)?;
+    Ok(Entry { time, event })
+}
+
+fn read_event(alloc: Global, text: &[u8]) -> Result<Event, LineFault>
+    ensures found { IfOk result (λ event. IsEvent event × SpellsEvent text.now event) }
+    ensures unreadable { IfErr result (λ fault. fault ≡ LineFault.Unreadable → (event : Happening) → IsEvent event → SpellsEvent text.now event → ⊥) }
+{
+    if let Some(digits) = after_prefix(text, b"> ") {
+        return Ok(Event::Sent(read_message(alloc, digits)?));
+    }
+    if let Some(digits) = after_prefix(text, b"< ") {
+        return Ok(Event::Taken(read_message(alloc, digits)?));
+    }
+    if let Some(digits) = after_prefix(text, b"! ") {
+        return Ok(Event::Discarded(read_message(alloc, digits)?));
+    }
+    if let Some(digits) = after_prefix(text, b"t3 ") {
+        return Ok(Event::T3(read_system(digits)?));
+    }
+    read_plain_event(text)
+}
+
+/// Reads an event that is words alone.
+fn read_plain_event(text: &[u8]) -> Result<Event, LineFault>
+    ensures found { IfOk result (λ event. IsEvent event × SpellsEvent text.now event) }
+    ensures only { IfErr result (λ e. (e ≡ LineFault.Unreadable) × (text.now ≢ codes "up") × (text.now ≢ codes "down")
+        × (text.now ≢ codes "cut t6") × (text.now ≢ codes "cut t7") × (text.now ≢ codes "cut t8") × (text.now ≢ codes "cut length")) }
+{
+    match text {
+        b"up" => Ok(Event::Up),
+        b"down" => Ok(Event::Down),
+        b"cut t6" => Ok(Event::Cut(Cause::T6)),
+        b"cut t7" => Ok(Event::Cut(Cause::T7)),
+        b"cut t8" => Ok(Event::Cut(Cause::T8)),
+        b"cut length" => Ok(Event::Cut(Cause::Length)),
+        _ => Err(LineFault::Unreadable),
+    }
+}
+
+/// Reads the header and the text of a message from hexadecimal digits.
+fn read_message(alloc: Global, digits: &[u8]) -> Result<Frame, LineFault>
+    ensures found { IfOk result (λ frame. IsMessage frame × IsHexOf digits.now (message_octets frame)) }
+    ensures unreadable { IfErr result (λ fault. fault ≡ LineFault.Unreadable → (frame : Message) → IsHexOf digits.now (message_octets frame) → ⊥) }
+{
+    let octets = match hex::decode(alloc, digits) {
+        Ok(octets) => octets,
+        Err(FromHexError::OutOfMemory) => return Err(LineFault::Memory),
+        Err(_) => return Err(LineFault::Unreadable),
+    };
+    let Some((header, text)) = octets.split_first_chunk::<10>() else {
+        return Err(LineFault::Unreadable);
+    };
+    let text = Vec::from_slice(alloc, text)?;
+    Ok(Frame {
+        header: Header::of(*header),
+        text: Text::new(text),
+    })
+}
+
+/// Reads system bytes from eight hexadecimal digits.
+fn read_system(digits: &[u8]) -> Result<u32, LineFault>
+    ensures found { IfOk result (λ system. IsHexOf digits.now (system_octets system)) }
+    ensures only { IfErr result (λ e. (e ≡ LineFault.Unreadable) × ((system : ℕ) → system < 2 ^ 32 → IsHexOf digits.now (system_octets system) → ⊥)) }
+{
+    let mut octets = [0u8; 4];
+    match hex::decode_to_slice(digits, &mut octets) {
+        Ok(()) => Ok(u32::from_be_bytes(octets)),
+        Err(_) => Err(LineFault::Unreadable),
+    }
+}

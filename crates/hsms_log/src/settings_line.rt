@@ -1,0 +1,115 @@
+//! The first line of a log.
+
+ghost use Rattle.std.specs.Prelude.{◌≡◌, IfSome, IfNone, option_map};
+ghost use Rattle.hsms_machine.specs.Settings.{Parameters};
+ghost use Rattle.hsms_log.specs.Spelling.{SpellsSettings};
+ghost use Rattle.hsms_log.specs.Reading.{role_of, link_of, times_at as times_and_rest, settings_at};
+ghost use Rattle.hsms_log.specs.Fields.{parameters_of};
+
+use crate::number::{after_prefix, number, number_at, word_at};
+use hsms_machine::{Role, Settings, Side};
+
+/// The words of a first line, with numbers that fit their types.
+#[derive(Clone, Copy)]
+struct Fields {
+    role: Role,
+    link: Side,
+    device: u16,
+    t3: u32,
+    t6: u32,
+    t7: u32,
+    t8: u32,
+    max: u32,
+    depth: u8,
+}
+
+/// The settings that the first line of a log spells, or None where it spells none: other words, a number out of its limits,
+/// or more than 256 octets. The line is given without its end.
+pub fn read_settings(line: &[u8]) -> Option<Settings>
+    ensures found { IfSome result (SpellsSettings line.now) }
+    ensures none { IfNone result ((settings : Parameters) → SpellsSettings line.now settings → ⊥) }
+{
+    let fields = read_fields(line)?;
+    let Fields {
+        role,
+        link,
+        device,
+        t3,
+        t6,
+        t7,
+        t8,
+        max,
+        depth,
+    } = fields;
+    Settings::new(role, link, device, t3, t6, t7, t8, max, depth)
+}
+
+#[tactic(auto, unfolding(crate::specs::Reading::settings_at))]
+fn read_fields(line: &[u8]) -> Option<Fields>
+    ensures { option_map parameters_of result ≡ settings_at line.now }
+{
+    let rest = after_prefix(line, b"hsms-log 1 ")?;
+    let (role, rest) = word_at(rest)?;
+    let role = read_role(role)?;
+    let (link, rest) = word_at(rest)?;
+    let link = read_link(link)?;
+    let (device, rest) = number_at(rest)?;
+    let device = u16::try_from(device).ok()?;
+    let (t3, t6, t7, t8, rest) = times_at(rest)?;
+    let (max, rest) = number_at(rest)?;
+    let max = u32::try_from(max).ok()?;
+    let depth = u8::try_from(number(rest)?).ok()?;
+    Some(Fields {
+        role,
+        link,
+        device,
+        t3,
+        t6,
+        t7,
+        t8,
+        max,
+        depth,
+    })
+}
+
+#[tactic(auto, unfolding(crate::specs::Reading::role_of))]
+fn read_role(word: &[u8]) -> Option<Role>
+    ensures { result ≡ role_of word.now }
+{
+    if word == b"host".as_slice() {
+        Some(Role::Host)
+    } else if word == b"equipment".as_slice() {
+        Some(Role::Equipment)
+    } else {
+        None
+    }
+}
+
+#[tactic(auto, unfolding(crate::specs::Reading::link_of))]
+fn read_link(word: &[u8]) -> Option<Side>
+    ensures { result ≡ link_of word.now }
+{
+    if word == b"active".as_slice() {
+        Some(Side::Active)
+    } else if word == b"passive".as_slice() {
+        Some(Side::Passive)
+    } else {
+        None
+    }
+}
+
+/// The four times, and what follows them.
+#[tactic(auto, unfolding(crate::specs::Reading::times_at))]
+fn times_at(text: &[u8]) -> Option<(u32, u32, u32, u32, &[u8])>
+    ensures { option_map (λ x. (x.0, x.1, x.2, x.3, x.4.now)) result ≡ times_and_rest text.now }
+{
+    let (t3, text) = number_at(text)?;
+    let t3 = u32::try_from(t3).ok()?;
+    let (t6, text) = number_at(text)?;
+    let t6 = u32::try_from(t6).ok()?;
+    let (t7, text) = number_at(text)?;
+    let t7 = u32::try_from(t7).ok()?;
+    let (t8, text) = number_at(text)?;
+    let t8 = u32::try_from(t8).ok()?;
+    Some((t3, t6, t7, t8, text))
+}

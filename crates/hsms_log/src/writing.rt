@@ -1,0 +1,180 @@
+//! Log text, written.
+
+ghost use Rattle.std.specs.Prelude.{◌≡◌, ◌≤◌, ◌++◌, [], ◌∷◌, length, is_ok, if◌then◌else◌, decimal};
+ghost use Rattle.std.specs.List.{flat_map};
+ghost use Rattle.hex.specs.Hex.{encode_lower};
+ghost use Rattle.hsms_frame.specs.Count.{next_count};
+ghost use Rattle.hsms_log.specs.Writing.{Puts, opening_of, numbers_of, spaced};
+ghost use Rattle.hsms_machine.specs.Settings.{IsWithinLimits};
+ghost use Rattle.hsms_log.specs.Spelling.{SpellsSettings, SpellsEntry, entry_line, settings_line, event_text, message_octets, system_octets};
+
+use crate::range::entry_is_in_range;
+use hsms_frame::{Failed, Frame, Sink, give_all};
+use hsms_machine::{Cause, Entry, Event, Role, Settings, Side};
+use itoa::Buffer;
+use thiserror::Error;
+
+/// Why a line was not written.
+#[derive(Clone, Copy, Debug, PartialEq, Eq, Error)]
+pub enum LogFault {
+    /// A write failed. A part of the line from its front was written, and not all of it.
+    #[error("Write")]
+    Write,
+}
+
+impl From<Failed> for LogFault {
+    fn from(_: Failed) -> LogFault {
+        LogFault::Write
+    }
+}
+
+/// Writes the entry as a line, with LF. Hexadecimal digits are written in lower case.
+pub fn write_entry<W: Sink>(sink: &mut W, entry: &Entry) -> Result<(), LogFault>
+    ensures written { Puts result (W.written sink.old) (W.written sink.new) (entry_line entry.now ++ 10 ∷ []) }
+    ensures spelled { SpellsEntry (entry_line entry.now) entry.now }
+    ensures failures { W.failures sink.new ≡ (if is_ok result then W.failures sink.old else next_count (W.failures sink.old)) }
+{
+    entry_is_in_range(entry);
+    put_number(sink, entry.time)?;
+    put_event(sink, &entry.event)
+}
+
+/// Writes a space, the event and the end of the line.
+fn put_event<W: Sink>(sink: &mut W, event: &Event) -> Result<(), LogFault>
+    ensures written { Puts result (W.written sink.old) (W.written sink.new) (32 ∷ (event_text event.now ++ 10 ∷ [])) }
+    ensures failures { W.failures sink.new ≡ (if is_ok result then W.failures sink.old else next_count (W.failures sink.old)) }
+{
+    match event {
+        Event::Up => put(sink, b" up\n"),
+        Event::Sent(frame) => put_message(sink, b" > ", frame),
+        Event::Taken(frame) => put_message(sink, b" < ", frame),
+        Event::Discarded(frame) => put_message(sink, b" ! ", frame),
+        Event::T3(system) => put_system(sink, *system),
+        Event::Cut(Cause::T6) => put(sink, b" cut t6\n"),
+        Event::Cut(Cause::T7) => put(sink, b" cut t7\n"),
+        Event::Cut(Cause::T8) => put(sink, b" cut t8\n"),
+        Event::Cut(Cause::Length) => put(sink, b" cut length\n"),
+        Event::Down => put(sink, b" down\n"),
+    }
+}
+
+/// Writes a mark, a message's header and text, and the end of the line.
+fn put_message<W: Sink>(sink: &mut W, mark: &[u8], frame: &Frame) -> Result<(), LogFault>
+    ensures written { Puts result (W.written sink.old) (W.written sink.new) (mark.now ++ (encode_lower (message_octets frame.now) ++ 10 ∷ [])) }
+    ensures failures { W.failures sink.new ≡ (if is_ok result then W.failures sink.old else next_count (W.failures sink.old)) }
+{
+    put(sink, mark)?;
+    put_hex(sink, frame.header.octets().as_slice())?;
+    put_hex(sink, frame.text.as_slice())?;
+    put(sink, b"\n")
+}
+
+fn put_system<W: Sink>(sink: &mut W, system: u32) -> Result<(), LogFault>
+    ensures written { Puts result (W.written sink.old) (W.written sink.new) (32 ∷ 116 ∷ 51 ∷ 32 ∷ (encode_lower (system_octets system) ++ 10 ∷ [])) }
+    ensures failures { W.failures sink.new ≡ (if is_ok result then W.failures sink.old else next_count (W.failures sink.old)) }
+{
+    put(sink, b" t3 ")?;
+    put_hex(sink, system.to_be_bytes().as_slice())?;
+    put(sink, b"\n")
+}
+
+const CHUNK: usize = 64;
+
+/// Writes octets as hexadecimal digits in lower case.
+fn put_hex<W: Sink>(sink: &mut W, octets: &[u8]) -> Result<(), LogFault>
+    ensures written { Puts result (W.written sink.old) (W.written sink.new) (encode_lower octets.now) }
+    ensures failures { W.failures sink.new ≡ (if is_ok result then W.failures sink.old else next_count (W.failures sink.old)) }
+{
+    let mut rest = octets;
+    while !rest.is_empty() {
+        let (front, others) = rest.split_at(rest.len().min(CHUNK));
+        put_chunk(sink, front)?;
+        rest = others;
+    }
+    Ok(())
+}
+
+fn put_chunk<W: Sink>(sink: &mut W, octets: &[u8]) -> Result<(), LogFault>
+    requires { length octets.now ≤ 64 }
+    ensures written { Puts result (W.written sink.old) (W.written sink.new) (encode_lower octets.now) }
+    ensures failures { W.failures sink.new ≡ (if is_ok result then W.failures sink.old else next_count (W.failures sink.old)) }
+{
+    let mut room = [0u8; 2 * CHUNK];
+    let digits = &mut room[..2 * octets.len()];
+    let _ = hex::encode_to_slice(octets, &mut *digits);
+    put(sink, digits)
+}
+
+fn put_number<W: Sink>(sink: &mut W, number: u64) -> Result<(), LogFault>
+    ensures written { Puts result (W.written sink.old) (W.written sink.new) (decimal number) }
+    ensures failures { W.failures sink.new ≡ (if is_ok result then W.failures sink.old else next_count (W.failures sink.old)) }
+{
+    let mut buffer = Buffer::new();
+    put(sink, buffer.format(number).as_bytes())
+}
+
+fn put<W: Sink>(sink: &mut W, octets: &[u8]) -> Result<(), LogFault>
+    ensures written { Puts result (W.written sink.old) (W.written sink.new) octets.now }
+    ensures failures { W.failures sink.new ≡ (if is_ok result then W.failures sink.old else next_count (W.failures sink.old)) }
+{
+    give_all(sink, octets)?;
+    Ok(())
+}
+
+/// Writes the settings as the first line of a log, with LF.
+pub fn write_settings<W: Sink>(sink: &mut W, settings: &Settings) -> Result<(), LogFault>
+    ensures written { Puts result (W.written sink.old) (W.written sink.new) (settings_line settings.now ++ 10 ∷ []) }
+    ensures spelled { SpellsSettings (settings_line settings.now) settings.now }
+    ensures failures { W.failures sink.new ≡ (if is_ok result then W.failures sink.old else next_count (W.failures sink.old)) }
+{
+    let numbers = numbers(settings);
+    put(sink, opening(settings))?;
+    put_numbers(sink, &numbers)
+}
+
+/// The words before the numbers.
+fn opening(settings: &Settings) -> &'static [u8]
+    ensures { result.now ≡ opening_of settings.now }
+{
+    match (settings.role(), settings.link()) {
+        (Role::Host, Side::Active) => b"hsms-log 1 host active",
+        (Role::Host, Side::Passive) => b"hsms-log 1 host passive",
+        (Role::Equipment, Side::Active) => b"hsms-log 1 equipment active",
+        (Role::Equipment, Side::Passive) => b"hsms-log 1 equipment passive",
+    }
+}
+
+fn numbers(settings: &Settings) -> [u64; 7]
+    ensures value { result ≡ numbers_of settings.now }
+    ensures within { IsWithinLimits settings.now }
+{
+    [
+        u64::from(settings.device()),
+        u64::from(settings.t3()),
+        u64::from(settings.t6()),
+        u64::from(settings.t7()),
+        u64::from(settings.t8()),
+        u64::from(settings.max()),
+        u64::from(settings.depth()),
+    ]
+}
+
+/// Writes numbers, each behind a space, and the end of the line.
+fn put_numbers<W: Sink>(sink: &mut W, numbers: &[u64]) -> Result<(), LogFault>
+    ensures written { Puts result (W.written sink.old) (W.written sink.new) (flat_map spaced numbers.now ++ 10 ∷ []) }
+    ensures failures { W.failures sink.new ≡ (if is_ok result then W.failures sink.old else next_count (W.failures sink.old)) }
+{
+    for number in numbers {
+        put_spaced(sink, *number)?;
+    }
+    put(sink, b"\n")
+}
+
+/// Writes a number behind a space.
+fn put_spaced<W: Sink>(sink: &mut W, number: u64) -> Result<(), LogFault>
+    ensures written { Puts result (W.written sink.old) (W.written sink.new) (spaced number) }
+    ensures failures { W.failures sink.new ≡ (if is_ok result then W.failures sink.old else next_count (W.failures sink.old)) }
+{
+    put(sink, b" ")?;
+    put_number(sink, number)
+}

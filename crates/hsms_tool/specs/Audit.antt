@@ -1,0 +1,37 @@
+-- What `hsms audit` answers to an input, and what it writes.
+use Rattle.std.specs.Prelude.{◌≡◌, ◌<◌, ◌⊎◌, ◌++◌, ℕ, List, length, take, codes, Bool, true, false, Option, Some, Result, Ok, Err}
+use Rattle.hsms_log.specs.declared.auditing.AuditFault.TheVariants.{Endless}
+use Rattle.hsms_log.specs.declared.verdict.Verdict.{Verdict}
+use Rattle.hsms_log.specs.declared.verdict.Verdict.TheVariants.{Pass, Fail}
+use Rattle.hsms_log.specs.Auditing.{AuditsAs}
+use Rattle.hsms_tool.specs.declared.fault.ToolFault.{ToolFault}
+use Rattle.hsms_tool.specs.declared.fault.ToolFault.TheVariants.{Refused, Device, Memory}
+use Rattle.hsms_tool.specs.Verdict.{verdict_line_of}
+
+abbrev pub is_pass : Verdict → Bool
+is_pass (Pass summary) = true
+is_pass (Fail line why) = false
+
+-- a device's word, and what it leaves written: nothing where the input was at fault, and else a part of the verdict's line
+abbrev pub AuditStopsBy : List ℕ → List ℕ → List ℕ → Option (List ℕ) → Option (List ℕ) → Type 0
+AuditStopsBy input before word left written =
+    ((word ≡ codes "Read") × (written ≡ Some before))
+    ⊎ ((word ≡ codes "Endless") × AuditsAs input (Err Endless) left × (written ≡ Some before))
+    ⊎ ((word ≡ codes "Write") × (verdict : Verdict) × (n : ℕ) × AuditsAs input (Ok verdict) left
+    × (n < length (verdict_line_of verdict)) × (written ≡ Some (before ++ take n (verdict_line_of verdict))))
+
+-- the answers to an input, each with what is left of it and what was written
+abbrev pub AuditsTo : List ℕ → List ℕ → Result Bool ToolFault → Option (List ℕ) → Option (List ℕ) → Type 0
+AuditsTo input before (Ok passes) left written =
+    (verdict : Verdict) × AuditsAs input (Ok verdict) left × (passes ≡ is_pass verdict) × (written ≡ Some (before ++ verdict_line_of verdict))
+AuditsTo input before (Err (Refused words)) left written = ⊥
+AuditsTo input before (Err (Device word)) left written = AuditStopsBy input before word.now left written
+AuditsTo input before (Err Memory) left written = written ≡ Some before
+
+-- a log is judged, or why it isn't
+abbrev pub Judged : List ℕ → Result Verdict ToolFault → Option (List ℕ) → Type 0
+Judged input (Ok verdict) left = AuditsAs input (Ok verdict) left
+Judged input (Err (Refused words)) left = ⊥
+Judged input (Err (Device word)) left =
+    (word.now ≡ codes "Read") ⊎ ((word.now ≡ codes "Endless") × AuditsAs input (Err Endless) left)
+Judged input (Err Memory) left = Unit {0}

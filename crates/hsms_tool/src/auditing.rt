@@ -1,0 +1,53 @@
+//! `hsms audit`: whether a log passes, as a line.
+
+ghost use Rattle.std.specs.Prelude.{◌≡◌, ◌≤◌, ◌+◌, IfOk, IfErr, codes};
+ghost use Rattle.std.specs.Bool.{OnTrue};
+ghost use Rattle.hsms_frame.specs.Count.{next_count};
+ghost use Rattle.hsms_frame.specs.Device.{WhereTold};
+ghost use Rattle.hsms_tool.specs.Audit.{AuditsTo, Judged, is_pass};
+ghost use Rattle.hsms_tool.specs.Show.{CountsFailure, IsReading};
+
+use crate::fault::ToolFault;
+use crate::showing::put;
+use crate::verdict::verdict_line;
+use hsms_frame::{Sink, Source};
+use hsms_log::{AuditFault, Verdict, audit};
+use std::alloc::Global;
+
+/// Writes the line of the verdict on a log, and says whether it passes: exactly where its octets spell a run of the session
+/// machine. Otherwise the line names the first line that continues no run, and why.
+pub fn audit_to<R: Source, W: Sink>(
+    alloc: Global,
+    source: &mut R,
+    sink: &mut W,
+) -> Result<bool, ToolFault>
+    ensures line { WhereTold (R.left source.old) (λ input. WhereTold (W.written sink.old)
+        (λ before. AuditsTo input before result (R.left source.new) (W.written sink.new))) }
+    ensures pass { IfOk result (λ passes. OnTrue passes (R.ends source.new ≡ next_count (R.ends source.old))) }
+    ensures pulls { R.pulls source.new ≤ R.pulls source.old + 4294967295 }
+    ensures empty { R.empty_pulls source.new ≡ R.empty_pulls source.old }
+    ensures reads { CountsFailure (codes "Read") result (R.failures source.old) (R.failures source.new) }
+    ensures writes { CountsFailure (codes "Write") result (W.failures sink.old) (W.failures sink.new) }
+{
+    let verdict = judged(alloc, source)?;
+    let line = verdict_line(alloc, verdict)?;
+    put(sink, line.as_bytes())?;
+    Ok(matches!(verdict, Verdict::Pass(_)))
+}
+
+// The verdict on a log.
+fn judged<R: Source>(alloc: Global, source: &mut R) -> Result<Verdict, ToolFault>
+    ensures answer { WhereTold (R.left source.old) (λ input. Judged input result (R.left source.new)) }
+    ensures pass { IfOk result (λ verdict. OnTrue (is_pass verdict) (R.ends source.new ≡ next_count (R.ends source.old))) }
+    ensures pulls { R.pulls source.new ≤ R.pulls source.old + 4294967295 }
+    ensures empty { R.empty_pulls source.new ≡ R.empty_pulls source.old }
+    ensures word { IfErr result IsReading }
+    ensures reads { CountsFailure (codes "Read") result (R.failures source.old) (R.failures source.new) }
+{
+    match audit(alloc, source) {
+        Ok(verdict) => Ok(verdict),
+        Err(AuditFault::Read) => Err(ToolFault::Device("Read")),
+        Err(AuditFault::Endless) => Err(ToolFault::Device("Endless")),
+        Err(AuditFault::Memory) => Err(ToolFault::Memory),
+    }
+}

@@ -1,0 +1,78 @@
+use crate::auditing::audit_to;
+use crate::fault::ToolFault;
+use hsms_frame::{Feed, Store};
+use std::alloc::{AllocError, Global};
+use std::test::Fail;
+
+const LOG: &[u8] = b"hsms-log 1 host active 0 45000 6000 10000 5000 1048576 32\n\
+    0 up\n\
+    0 > ffff0000000100000001\n\
+    5 < ffff0000000200000001\n\
+    1000 > 00008101000000000002\n\
+    46000 < 000001020000000000020102410141410142\n";
+
+const PASS: &[u8] = b"pass entries=5 sent=2 taken=2 discarded=0 expired=0 waiting=0\n";
+
+#[derive(Drop)]
+struct Run {
+    result: Result<bool, ToolFault>,
+    written: Vec<u8>,
+}
+
+fn audited(alloc: Global, log: &[u8], pulls: u64, gives: u64) -> Result<Run, AllocError> {
+    let mut source = Feed::new(Vec::from_slice(alloc, log)?, 100, pulls);
+    let mut sink = Store::new(vec![in alloc; 0u8; 128]?, 11, gives);
+    let result = audit_to(alloc, &mut source, &mut sink);
+    let written = Vec::from_slice(alloc, sink.written())?;
+    Ok(Run { result, written })
+}
+
+#[test]
+fn tells_the_verdict(rt: HostRuntime) -> Result<(), Fail> {
+    let alloc = rt.alloc();
+    let run = audited(alloc, LOG, u64::MAX, u64::MAX)?;
+    assert!(rt; matches!(run.result, Ok(true)));
+    assert_eq!(rt; run.written.as_slice(), PASS);
+    let mut late = Vec::from_slice(alloc, LOG)?;
+    late.extend_from_slice(b"3 down")?;
+    let run = audited(alloc, &late, u64::MAX, u64::MAX)?;
+    assert!(rt; matches!(run.result, Ok(false)));
+    assert_eq!(rt;
+        run.written.as_slice(),
+        b"fail line=7 rule=Backwards\n".as_slice()
+    );
+    let run = audited(alloc, &[], u64::MAX, u64::MAX)?;
+    assert!(rt; matches!(run.result, Ok(false)));
+    assert_eq!(rt;
+        run.written.as_slice(),
+        b"fail line=1 unreadable\n".as_slice()
+    );
+    Ok(())
+}
+
+#[test]
+fn tells_which_device_failed(rt: HostRuntime) -> Result<(), Fail> {
+    for calls in 0..3 {
+        let run = audited(rt.alloc(), LOG, calls, u64::MAX)?;
+        assert!(rt; matches!(run.result, Err(ToolFault::Device("Read"))));
+        assert!(rt; run.written.is_empty());
+        let run = audited(rt.alloc(), LOG, u64::MAX, calls)?;
+        assert!(rt; matches!(run.result, Err(ToolFault::Device("Write"))));
+        assert_eq!(rt; run.written.len() as u64, 11 * calls);
+    }
+    Ok(())
+}
+
+// Where its own input is refused, this test has nothing to say.
+#[test]
+fn refused_verdicts(rt: HostRuntime) -> Result<(), Fail> {
+    let Ok(run) = audited(rt.alloc(), LOG, u64::MAX, u64::MAX) else {
+        return Ok(());
+    };
+    match &run.result {
+        Ok(true) => assert_eq!(rt; run.written.as_slice(), PASS),
+        Err(ToolFault::Memory) => assert!(rt; run.written.is_empty()),
+        _ => return Err("the verdict, or want of memory".into()),
+    }
+    Ok(())
+}
