@@ -18,7 +18,7 @@ TOP = os.path.dirname(os.path.dirname(os.path.abspath(__file__)))
 PROGRAM = f"{TOP}/crates/hsms_tool/out/hsms_tool"
 
 # The crates whose tests hand want of memory up, each by `?`.
-HAND_UP = {"secs_item"}
+HAND_UP = {"secs_item", "secs_text"}
 
 # The crates whose tests judge each refusal themselves.
 JUDGE = {"hsms_machine"}

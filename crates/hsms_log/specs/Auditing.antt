@@ -1,4 +1,4 @@
--- What an audit answers to an input.
+-- What an audit answers to an input (this project's own).
 use Rattle.std.specs.Prelude.{◌≡◌, ◌+◌, ◌<◌, ◌^◌, ◌++◌, ◌⊎◌, ℕ, Bool, true, List, [], Option, Some, Result, Ok, Err}
 use Rattle.hsms_frame.specs.Count.{next_count}
 use Rattle.hsms_log.specs.declared.auditing.AuditFault.{AuditFault}

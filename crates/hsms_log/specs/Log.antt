@@ -1,4 +1,4 @@
--- What the lines of a log spell.
+-- What the lines of a log spell (this project's own log text).
 use Rattle.std.specs.Prelude.{◌≡◌, ◌++◌, ℕ, List, [], ◌∷◌, Option, option_to_list}
 use Rattle.hsms_machine.specs.declared.entry.Entry.{Entry}
 use Rattle.hsms_machine.specs.Settings.{Parameters}

@@ -1,4 +1,4 @@
--- When a text passes, and where and why it fails.
+-- When a text passes, and where and why it fails (this project's own, over the runs of hsms_machine).
 use Rattle.std.specs.Prelude.{◌≡◌, ◌+◌, ◌++◌, ◌⊎◌, ℕ, Bool, true, false, List, [], ◌∷◌, Option, Some, length, count_by}
 use Rattle.hsms_machine.specs.declared.entry.Entry.{Entry}
 use Rattle.hsms_machine.specs.declared.entry.Event.{Event}
