@@ -35,9 +35,3 @@ Judged input (Err (Refused words)) left = ⊥
 Judged input (Err (Device word)) left =
     (word.now ≡ codes "Read") ⊎ ((word.now ≡ codes "Endless") × AuditsAs input (Err Endless) left)
 Judged input (Err Memory) left = Unit {0}
-
--- all reads were used, and neither the end nor a failing line was found
-abbrev pub IsEndless : ToolFault → Type 0
-IsEndless (Device word) = word.now ≡ codes "Endless"
-IsEndless (Refused words) = ⊥
-IsEndless Memory = ⊥
