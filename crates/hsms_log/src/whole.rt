@@ -6,7 +6,7 @@ ghost use Rattle.hsms_log.specs.Verdict.{Judges, LinesJudged, LineFails};
 ghost use Rattle.hsms_log.specs.Judging.{Follows};
 
 use crate::judging::Judge;
-use crate::line::{split_at_first, without_carriage_return};
+use crate::line::{split_at_first, split_at_last, without_carriage_return};
 use crate::verdict::{Verdict, Why};
 use std::alloc::{AllocError, Global};
 
@@ -44,11 +44,10 @@ pub fn judge_ended(alloc: Global, judge: &mut Judge, text: &[u8]) -> Result<Opti
 pub fn open_line(text: &[u8]) -> &[u8]
     ensures { result.now ≡ rest_of text.now }
 {
-    let mut rest = text;
-    while let Some((_, more)) = split_at_first(rest, b'\n') {
-        rest = more;
+    match split_at_last(text, b'\n') {
+        Some((_, rest)) => rest,
+        None => text,
     }
-    rest
 }
 
 /// Judges what follows the last line feed, at the end of the text.

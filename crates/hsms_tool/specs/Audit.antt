@@ -12,6 +12,12 @@ abbrev pub is_pass : Verdict → Bool
 is_pass (Pass summary) = true
 is_pass (Fail line why) = false
 
+-- all reads were used, and none found the end
+abbrev pub IsEndless : ToolFault → Type 0
+IsEndless (Device word) = word.now ≡ codes "Endless"
+IsEndless (Refused words) = ⊥
+IsEndless Memory = ⊥
+
 -- a device's word, and what it leaves written: nothing where the input was at fault, and else a part of the verdict's line
 abbrev pub AuditStopsBy : List ℕ → List ℕ → List ℕ → Option (List ℕ) → Option (List ℕ) → Type 0
 AuditStopsBy input before word left written =

@@ -4,7 +4,8 @@ ghost use Rattle.std.specs.Prelude.{◌≡◌, ◌≤◌, ◌+◌, IfOk, IfErr, 
 ghost use Rattle.std.specs.Bool.{OnTrue};
 ghost use Rattle.hsms_frame.specs.Count.{next_count};
 ghost use Rattle.hsms_frame.specs.Device.{WhereTold};
-ghost use Rattle.hsms_tool.specs.Audit.{AuditsTo, Judged, is_pass};
+ghost use Rattle.hsms_log.specs.Auditing.{RisesBy};
+ghost use Rattle.hsms_tool.specs.Audit.{AuditsTo, Judged, IsEndless, is_pass};
 ghost use Rattle.hsms_tool.specs.Show.{CountsFailure, IsReading};
 
 use crate::fault::ToolFault;
@@ -24,6 +25,8 @@ pub fn audit_to<R: Source, W: Sink>(
     ensures line { WhereTold (R.left source.old) (λ input. WhereTold (W.written sink.old)
         (λ before. AuditsTo input before result (R.left source.new) (W.written sink.new))) }
     ensures pass { IfOk result (λ passes. OnTrue passes (R.ends source.new ≡ next_count (R.ends source.old))) }
+    ensures endless { IfErr result (λ fault. IsEndless fault
+        → RisesBy (R.pulls source.old) (R.pulls source.new) 4294967295 × (R.ends source.new ≡ R.ends source.old)) }
     ensures pulls { R.pulls source.new ≤ R.pulls source.old + 4294967295 }
     ensures empty { R.empty_pulls source.new ≡ R.empty_pulls source.old }
     ensures reads { CountsFailure (codes "Read") result (R.failures source.old) (R.failures source.new) }
@@ -39,6 +42,8 @@ pub fn audit_to<R: Source, W: Sink>(
 fn judged<R: Source>(alloc: Global, source: &mut R) -> Result<Verdict, ToolFault>
     ensures answer { WhereTold (R.left source.old) (λ input. Judged input result (R.left source.new)) }
     ensures pass { IfOk result (λ verdict. OnTrue (is_pass verdict) (R.ends source.new ≡ next_count (R.ends source.old))) }
+    ensures endless { IfErr result (λ fault. IsEndless fault
+        → RisesBy (R.pulls source.old) (R.pulls source.new) 4294967295 × (R.ends source.new ≡ R.ends source.old)) }
     ensures pulls { R.pulls source.new ≤ R.pulls source.old + 4294967295 }
     ensures empty { R.empty_pulls source.new ≡ R.empty_pulls source.old }
     ensures word { IfErr result IsReading }

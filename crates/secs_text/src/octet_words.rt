@@ -9,7 +9,7 @@ ghost use Rattle.secs_text.specs.Words.{octet_of, float_of, truth_of};
 
 use crate::word::{float_of, octet_of, truth_of};
 use crate::words::Words;
-use crate::written::put_hexadecimal;
+use crate::written::{put_hexadecimal, put_octet};
 use std::alloc::AllocError;
 
 pub struct Binary;
@@ -40,7 +40,7 @@ impl Words for Binary {
     }
 
     fn put(out: &mut String, value: &u8) -> Result<(), AllocError> {
-        put_hexadecimal(out, &[*value])
+        put_octet(out, *value)
     }
 }
 
@@ -104,7 +104,7 @@ impl Words for Jis8 {
     }
 
     fn put(out: &mut String, value: &u8) -> Result<(), AllocError> {
-        put_hexadecimal(out, &[*value])
+        put_octet(out, *value)
     }
 }
 
@@ -136,7 +136,7 @@ impl Words for Char2 {
     }
 
     fn put(out: &mut String, value: &u8) -> Result<(), AllocError> {
-        put_hexadecimal(out, &[*value])
+        put_octet(out, *value)
     }
 }
 

@@ -18,10 +18,13 @@ use crate::octet::is_quotable;
 use crate::octet_words::{Binary, Boolean, Char2, F4, F8, Jis8};
 use crate::type_name::type_name;
 use crate::words::Words;
-use crate::written::put_hexadecimal;
+use crate::written::put_octet;
 use itoa::Buffer;
 use secs_item::{Format, Item};
 use std::alloc::{AllocError, Global};
+
+/// The room, in octets, that a notation takes at first.
+const SHORT_NOTATION: usize = 256;
 
 /// Puts values, each after a space.
 fn put_words<W: Words>(out: &mut String, values: &[W::Value]) -> Result<(), AllocError>
@@ -53,7 +56,7 @@ fn put_other(out: &mut String, quoted: bool, octet: u8) -> Result<(), AllocError
     if quoted {
         out.push_str("\"")?;
     }
-    put_hexadecimal(out, &[octet])
+    put_octet(out, octet)
 }
 
 /// Puts an octet of text, where a quote is open or not.
@@ -243,7 +246,7 @@ pub fn print(alloc: Global, message: &Message) -> Result<String, TextFault>
     ensures held { OnOk result (IsHeldMessage (content message.now)) }
     ensures memory { IfErr result (λ f. f ≡ Memory) }
 {
-    let mut out = String::new(alloc);
+    let mut out = String::with_capacity(alloc, SHORT_NOTATION)?;
     put_message(&mut out, message)?;
     Ok(out)
 }

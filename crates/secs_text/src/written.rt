@@ -36,6 +36,14 @@ fn put_two_digits(out: &mut String, octet: u8) -> Result<(), AllocError>
     put_digit(out, octet % 16)
 }
 
+/// Puts an octet in hexadecimal, after a space.
+pub fn put_octet(out: &mut String, octet: u8) -> Result<(), AllocError>
+    ensures { OnOk result (string_bytes out.new ≡ string_bytes out.old ++ codes " " ++ hexadecimal (octet ∷ [])) }
+{
+    out.push_str(" 0x")?;
+    put_two_digits(out, octet)
+}
+
 /// Puts octets in hexadecimal, after a space.
 pub fn put_hexadecimal(out: &mut String, octets: &[u8]) -> Result<(), AllocError>
     ensures text { OnOk result (string_bytes out.new ≡ string_bytes out.old ++ codes " " ++ hexadecimal octets.now) }
