@@ -307,3 +307,49 @@ fn the_readers_of_settings(rt: HostRuntime) -> Result<(), Fail> {
     );
     Ok(())
 }
+
+/// An equipment that listens is selected, and tells the host of the two primaries that expired.
+#[test]
+fn an_equipment_that_listens(rt: HostRuntime) -> Result<(), Fail> {
+    let settings = Settings::new(
+        Role::Equipment,
+        Side::Passive,
+        0,
+        45000,
+        6000,
+        10000,
+        5000,
+        1_048_576,
+        32,
+    );
+    let mut tracker = Tracker::new(rt.alloc(), settings.ok_or("the settings")?);
+    let entries = [
+        (0, Up),
+        (10, Taken(SELECT_REQ, 1, &[])),
+        (10, Sent(SELECT_RSP, 1, &[])),
+        (1000, Sent(S1F1_W, 0xffff_fffe, &[])),
+        (1000, Sent(S1F1_W, 0xffff_ffff, &[])),
+        (46001, T3(0xffff_fffe)),
+        (46001, T3(0xffff_ffff)),
+        (
+            46001,
+            Sent(
+                0x0000_0909_0000,
+                0,
+                b"\x21\x0a\0\0\x81\x01\0\0\xff\xff\xff\xfe",
+            ),
+        ),
+    ];
+    assert_eq!(rt; broken_by(&rt, rt.alloc(), &mut tracker, &entries)?, None);
+    assert_eq!(rt; told(&tracker), (Phase::Selected, 0, 0, None));
+    for (happening, rule) in [
+        (Sent(SELECT_REQ, 2, &[]), Rule::Direction),
+        (Taken(SELECT_RSP, 2, &[]), Rule::Direction),
+        (Taken(0x0000_0901_0000, 2, &[]), Rule::Direction),
+        (Sent(0x0000_8901_0000, 2, &[]), Rule::WBit),
+    ] {
+        let broken = broken_by(&rt, rt.alloc(), &mut tracker, &[(46001, happening)])?;
+        assert_eq!(rt; broken, Some(rule));
+    }
+    Ok(())
+}

@@ -102,6 +102,16 @@ impl Eq for Item {
     ghost laws = { on_equiv view (decided same_value same_value-Decides) };
 }
 
+// Whether the other item has this format too, and the same values.
+macro_rules! has_values {
+    ($other:expr, $format:ident, $values:expr) => {
+        match $other {
+            Item::$format(others) => $values == others,
+            _ => false,
+        }
+    };
+}
+
 /// Whether two items stand for the same value.
 #[cycle(same)]
 fn same_item(item: &Item, other: &Item) -> bool
@@ -112,66 +122,21 @@ fn same_item(item: &Item, other: &Item) -> bool
             Item::List(others) => same_items(elements, others),
             _ => false,
         },
-        Item::Binary(values) => match other {
-            Item::Binary(others) => values == others,
-            _ => false,
-        },
-        Item::Boolean(values) => match other {
-            Item::Boolean(others) => values == others,
-            _ => false,
-        },
-        Item::Ascii(values) => match other {
-            Item::Ascii(others) => values == others,
-            _ => false,
-        },
-        Item::Jis8(values) => match other {
-            Item::Jis8(others) => values == others,
-            _ => false,
-        },
-        Item::Char2(values) => match other {
-            Item::Char2(others) => values == others,
-            _ => false,
-        },
-        Item::I1(values) => match other {
-            Item::I1(others) => values == others,
-            _ => false,
-        },
-        Item::I2(values) => match other {
-            Item::I2(others) => values == others,
-            _ => false,
-        },
-        Item::I4(values) => match other {
-            Item::I4(others) => values == others,
-            _ => false,
-        },
-        Item::I8(values) => match other {
-            Item::I8(others) => values == others,
-            _ => false,
-        },
-        Item::U1(values) => match other {
-            Item::U1(others) => values == others,
-            _ => false,
-        },
-        Item::U2(values) => match other {
-            Item::U2(others) => values == others,
-            _ => false,
-        },
-        Item::U4(values) => match other {
-            Item::U4(others) => values == others,
-            _ => false,
-        },
-        Item::U8(values) => match other {
-            Item::U8(others) => values == others,
-            _ => false,
-        },
-        Item::F4(values) => match other {
-            Item::F4(others) => values == others,
-            _ => false,
-        },
-        Item::F8(values) => match other {
-            Item::F8(others) => values == others,
-            _ => false,
-        },
+        Item::Binary(values) => has_values!(other, Binary, values),
+        Item::Boolean(values) => has_values!(other, Boolean, values),
+        Item::Ascii(values) => has_values!(other, Ascii, values),
+        Item::Jis8(values) => has_values!(other, Jis8, values),
+        Item::Char2(values) => has_values!(other, Char2, values),
+        Item::I1(values) => has_values!(other, I1, values),
+        Item::I2(values) => has_values!(other, I2, values),
+        Item::I4(values) => has_values!(other, I4, values),
+        Item::I8(values) => has_values!(other, I8, values),
+        Item::U1(values) => has_values!(other, U1, values),
+        Item::U2(values) => has_values!(other, U2, values),
+        Item::U4(values) => has_values!(other, U4, values),
+        Item::U8(values) => has_values!(other, U8, values),
+        Item::F4(values) => has_values!(other, F4, values),
+        Item::F8(values) => has_values!(other, F8, values),
     }
 }
 

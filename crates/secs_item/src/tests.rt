@@ -12,6 +12,7 @@ fn recode(rt: &impl Abort, alloc: Global, octets: &[u8], shortest: &[u8]) -> Res
     assert_eq!(rt; measure_front(octets, DEPTH)?, octets.len());
     let (item, length) = decode_front(alloc, octets, DEPTH)?;
     assert_eq!(rt; length, octets.len());
+    assert_eq!(rt; item.copy(alloc)?, item);
     assert_eq!(rt; encode(alloc, &item)?.as_slice(), shortest);
     assert_eq!(rt; decode_text(alloc, shortest, DEPTH)?, Some(item));
     Ok(())
@@ -91,6 +92,10 @@ fn texts(rt: HostRuntime) -> Result<(), Fail> {
     assert_eq!(rt; decode_text(rt.alloc(), b"", DEPTH)?, None);
     assert_eq!(rt; measure_text(b"", DEPTH), Ok(()));
     assert_eq!(rt; measure_text(b"\x01\x01\x01\x00", 2), Ok(()));
+    let lists = decode_text(rt.alloc(), b"\x01\x01\x01\x00", 2)?;
+    assert_eq!(rt; lists.as_ref().map(nesting), Some(2));
+    let empty = decode_text(rt.alloc(), b"\x41\x00", 0)?;
+    assert_eq!(rt; empty, Some(Item::Ascii(Vec::new(rt.alloc()))));
     let octets = b"\x01\x01\x01\x00\x00\x00";
     let trailing = ItemFault::Trailing { at: 4 };
     assert_eq!(rt; measure_text(octets, DEPTH), Err(trailing));

@@ -1,4 +1,4 @@
--- The values of an item, by how words spell them.
+-- The values of an item, by how words spell them (this project's own notation).
 use Rattle.std.specs.Prelude.{ℕ, ℤ, ◌^◌, Bool, List, [], Option}
 use Rattle.secs_item.specs.declared.format.Format.{Format}
 use Rattle.secs_item.specs.declared.format.Format.TheVariants as format

@@ -1,4 +1,4 @@
--- What a program can hold: numbers within their types, and counts that are numbers of 64 bits.
+-- What a program can hold: numbers within their types, and counts that are numbers of 64 bits (this project's own).
 use Rattle.std.specs.Prelude.{◌≡◌, ◌<◌, ◌≤◌, ℕ, ◌^◌, List, length, slice_index, MatchOption}
 use Rattle.std.specs.List.{AllByRecursion}
 use Rattle.std.specs.Int.Signed.{mag}

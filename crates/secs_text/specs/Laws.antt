@@ -1,4 +1,4 @@
--- The laws of the notation, over the definitions alone.
+-- The laws of the notation, over the definitions alone (this project's own).
 use Rattle.std.specs.Prelude.{◌≡◌, ◌⊎◌, ℕ, List, [], ◌∷◌, Ok}
 use Rattle.secs_text.specs.declared.fault.TextFault.{TextFault}
 use Rattle.secs_text.specs.declared.fault.TextFault.TheVariants.{Memory}

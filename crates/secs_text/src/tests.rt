@@ -54,7 +54,12 @@ fn printed(rt: HostRuntime) -> Result<(), Fail> {
             "S6F11 W <L <A \"AB\"> <U1 1 255>> .",
             "S6F11 W <L [2] <A [2] \"AB\"> <U1 [2] 1 255>> .",
         ),
+        (
+            "S1F1 <A \"a\" 0x0A \"\"> .",
+            "S1F1 <A [2] \"a\" 0x0A> .",
+        ),
         ("S1F1<A\"a\"0x0A\"\">.", "S1F1 <A [2] \"a\" 0x0A> ."),
+        ("S1F1 <U2> .", "S1F1 <U2 [0]> ."),
         (
             "S1F1 <A \"A\" 0x0a 0x22 \"B\"> .",
             "S1F1 <A [4] \"A\" 0x0A 0x22 \"B\"> .",
@@ -97,6 +102,9 @@ fn made(rt: HostRuntime) -> Result<(), Fail> {
     assert!(rt; matches!(message.item(), Some(Item::Ascii(_))));
     let printed = print(rt.alloc(), &message)?;
     assert_eq!(rt; printed.as_str(), "S6F11 W <A [2] \"AB\"> .");
+    let message = read(rt.alloc(), b"S1F1 <A \"a\" 0x0A \"\"> .", 0)?;
+    let octets = Vec::from_slice(rt.alloc(), b"a\n")?;
+    assert!(rt; message.item() == Some(&Item::Ascii(octets)));
     Ok(())
 }
 

@@ -165,4 +165,53 @@ pub const SESSIONS: &[Case] = &[
         broken: None,
         waiting: 0,
     },
+    Case {
+        name: "T3 logged too early",
+        after: SELECTED,
+        entries: &[(1000, Sent(S1F1_W, 2, &[])), (45999, T3(2))],
+        broken: Some(Rule::NotDue),
+        waiting: 1,
+    },
+    Case {
+        name: "T7 unlogged",
+        after: &[],
+        entries: &[(0, Up), (10001, Down)],
+        broken: Some(Rule::LinkOverdue),
+        waiting: 0,
+    },
+    Case {
+        name: "T7 logged",
+        after: &[],
+        entries: &[(0, Up), (10000, Cut(Cause::T7)), (99999, Down)],
+        broken: None,
+        waiting: 0,
+    },
+    Case {
+        name: "T7 logged too early",
+        after: &[],
+        entries: &[(0, Up), (9999, Cut(Cause::T7))],
+        broken: Some(Rule::NotDue),
+        waiting: 0,
+    },
+    Case {
+        name: "a reply after a Reject",
+        after: SELECTED,
+        entries: &[
+            (6, Sent(S1F1_W, 2, &[])),
+            (7, Taken(0x1234_0004_0007, 2, &[])),
+            (8, Taken(S1F2, 2, &[])),
+        ],
+        broken: Some(Rule::NoTransaction),
+        waiting: 0,
+    },
+    Case {
+        name: "data after a refused selection",
+        after: CONNECTED,
+        entries: &[
+            (3, Taken(0xffff_0002_0002, 1, &[])),
+            (4, Taken(S1F1_W, 2, &[])),
+        ],
+        broken: Some(Rule::NotSelected),
+        waiting: 0,
+    },
 ];
