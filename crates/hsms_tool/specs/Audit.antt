@@ -1,6 +1,8 @@
 -- What `hsms audit` answers to an input, and what it writes.
 use Rattle.std.specs.Prelude.{◌≡◌, ◌<◌, ◌⊎◌, ◌++◌, ℕ, List, length, take, codes, Bool, true, false, Option, Some, Result, Ok, Err}
+use Rattle.hsms_log.specs.declared.auditing.AuditFault.{AuditFault}
 use Rattle.hsms_log.specs.declared.auditing.AuditFault.TheVariants.{Endless}
+use Rattle.hsms_log.specs.declared.auditing.AuditFault.TheVariants as audit
 use Rattle.hsms_log.specs.declared.verdict.Verdict.{Verdict}
 use Rattle.hsms_log.specs.declared.verdict.Verdict.TheVariants.{Pass, Fail}
 use Rattle.hsms_log.specs.Auditing.{AuditsAs}
@@ -34,6 +36,16 @@ AuditsTo input before (Err (Refused words)) left written = ⊥
 AuditsTo input before (Err (Device word)) left written = AuditStopsBy input before word.now left written
 AuditsTo input before (Err Memory) left written = written ≡ Some before
 
+-- the answers to an input, whatever the sink tells of what was written
+abbrev pub AuditAnswers : List ℕ → Result Bool ToolFault → Option (List ℕ) → Type 0
+AuditAnswers input (Ok passes) left = (verdict : Verdict) × AuditsAs input (Ok verdict) left × (passes ≡ is_pass verdict)
+AuditAnswers input (Err (Refused words)) left = ⊥
+AuditAnswers input (Err (Device word)) left =
+    (word.now ≡ codes "Read")
+    ⊎ ((word.now ≡ codes "Endless") × AuditsAs input (Err Endless) left)
+    ⊎ ((word.now ≡ codes "Write") × (verdict : Verdict) × AuditsAs input (Ok verdict) left)
+AuditAnswers input (Err Memory) left = Unit {0}
+
 -- a log is judged, or why it isn't
 abbrev pub Judged : List ℕ → Result Verdict ToolFault → Option (List ℕ) → Type 0
 Judged input (Ok verdict) left = AuditsAs input (Ok verdict) left
@@ -41,3 +53,15 @@ Judged input (Err (Refused words)) left = ⊥
 Judged input (Err (Device word)) left =
     (word.now ≡ codes "Read") ⊎ ((word.now ≡ codes "Endless") × AuditsAs input (Err Endless) left)
 Judged input (Err Memory) left = Unit {0}
+
+-- the fault of an audit, as the command tells it
+abbrev pub TellsAudit : AuditFault → ToolFault → Type 0
+TellsAudit audit.Read (Device word) = word.now ≡ codes "Read"
+TellsAudit audit.Read (Refused words) = ⊥
+TellsAudit audit.Read Memory = ⊥
+TellsAudit audit.Endless (Device word) = word.now ≡ codes "Endless"
+TellsAudit audit.Endless (Refused words) = ⊥
+TellsAudit audit.Endless Memory = ⊥
+TellsAudit audit.Memory (Device word) = ⊥
+TellsAudit audit.Memory (Refused words) = ⊥
+TellsAudit audit.Memory Memory = Unit {0}

@@ -111,3 +111,15 @@ abbrev pub IsWrite : ToolFault → Type 0
 IsWrite (Device word) = word.now ≡ codes "Write"
 IsWrite (Refused _) = ⊥
 IsWrite Memory = ⊥
+
+-- a fault that is a device's is a failed read or a failed write
+abbrev pub IsReadOrWrite : ToolFault → Type 0
+IsReadOrWrite (Device word) = (word.now ≡ codes "Read") ⊎ (word.now ≡ codes "Write")
+IsReadOrWrite (Refused _) = Unit {0}
+IsReadOrWrite Memory = Unit {0}
+
+-- the same, or there is more than the command takes
+abbrev pub IsReadWriteOrEndless : ToolFault → Type 0
+IsReadWriteOrEndless (Device word) = (word.now ≡ codes "Read") ⊎ (word.now ≡ codes "Write") ⊎ (word.now ≡ codes "Endless")
+IsReadWriteOrEndless (Refused _) = Unit {0}
+IsReadWriteOrEndless Memory = Unit {0}

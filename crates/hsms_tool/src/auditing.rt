@@ -5,8 +5,8 @@ ghost use Rattle.std.specs.Bool.{OnTrue};
 ghost use Rattle.hsms_frame.specs.Count.{next_count};
 ghost use Rattle.hsms_frame.specs.Device.{WhereTold};
 ghost use Rattle.hsms_log.specs.Auditing.{RisesBy};
-ghost use Rattle.hsms_tool.specs.Audit.{AuditsTo, Judged, IsEndless, is_pass};
-ghost use Rattle.hsms_tool.specs.Show.{CountsFailure, IsReading};
+ghost use Rattle.hsms_tool.specs.Audit.{AuditAnswers, AuditsTo, Judged, IsEndless, TellsAudit, is_pass};
+ghost use Rattle.hsms_tool.specs.Show.{CountsFailure, IsReadWriteOrEndless, IsReading};
 
 use crate::fault::ToolFault;
 use crate::showing::put;
@@ -16,7 +16,11 @@ use hsms_log::{AuditFault, Verdict, audit};
 use std::alloc::Global;
 
 /// Writes the line of the verdict on a log, and says whether it passes: exactly where its octets spell a run of the session
-/// machine. Otherwise the line names the first line that continues no run, and why.
+/// machine. Otherwise the line names the first line that continues no run, and why. Faults:
+///
+/// - `Device`: `Read` or `Write`, where a device failed in this call, and `Endless`, where 4,294,967,295 reads found neither
+///   the end nor a failing line. After a failed write a part of the line may be written.
+/// - `Memory`. Nothing is written.
 pub fn audit_to<R: Source, W: Sink>(
     alloc: Global,
     source: &mut R,
@@ -24,11 +28,14 @@ pub fn audit_to<R: Source, W: Sink>(
 ) -> Result<bool, ToolFault>
     ensures line { WhereTold (R.left source.old) (λ input. WhereTold (W.written sink.old)
         (λ before. AuditsTo input before result (R.left source.new) (W.written sink.new))) }
+    // Where the sink doesn't tell its octets, the answer is right all the same.
+    ensures answer { WhereTold (R.left source.old) (λ input. AuditAnswers input result (R.left source.new)) }
     ensures pass { IfOk result (λ passes. OnTrue passes (R.ends source.new ≡ next_count (R.ends source.old))) }
     ensures endless { IfErr result (λ fault. IsEndless fault
         → RisesBy (R.pulls source.old) (R.pulls source.new) 4294967295 × (R.ends source.new ≡ R.ends source.old)) }
     ensures pulls { R.pulls source.new ≤ R.pulls source.old + 4294967295 }
     ensures empty { R.empty_pulls source.new ≡ R.empty_pulls source.old }
+    ensures word { IfErr result IsReadWriteOrEndless }
     ensures reads { CountsFailure (codes "Read") result (R.failures source.old) (R.failures source.new) }
     ensures writes { CountsFailure (codes "Write") result (W.failures sink.old) (W.failures sink.new) }
 {
@@ -51,8 +58,16 @@ fn judged<R: Source>(alloc: Global, source: &mut R) -> Result<Verdict, ToolFault
 {
     match audit(alloc, source) {
         Ok(verdict) => Ok(verdict),
-        Err(AuditFault::Read) => Err(ToolFault::Device("Read")),
-        Err(AuditFault::Endless) => Err(ToolFault::Device("Endless")),
-        Err(AuditFault::Memory) => Err(ToolFault::Memory),
+        Err(fault) => Err(told(fault)),
+    }
+}
+
+fn told(fault: AuditFault) -> ToolFault
+    ensures { TellsAudit fault result }
+{
+    match fault {
+        AuditFault::Read => ToolFault::Device("Read"),
+        AuditFault::Endless => ToolFault::Device("Endless"),
+        AuditFault::Memory => ToolFault::Memory,
     }
 }

@@ -7,7 +7,7 @@ ghost use Rattle.secs_text.specs.View.{content, contents};
 ghost use Rattle.hsms_frame.specs.Count.{next_count};
 ghost use Rattle.hsms_frame.specs.Device.{WhereTold};
 ghost use Rattle.hsms_tool.specs.Encode.{EncodesAll, Encodes, AreNotEncoded, FrameOf, HasNoText, IsNotFramed, IsNotRead, TextOf, output_of};
-ghost use Rattle.hsms_tool.specs.Show.{CountsFailure};
+ghost use Rattle.hsms_tool.specs.Show.{CountsFailure, IsReadOrWrite};
 
 use crate::fault::{ToolFault, refused};
 use crate::input::read_whole;
@@ -46,6 +46,7 @@ pub fn encode_all<R: Source, W: Sink>(
     ensures frames { WhereTold (R.left source.old) (λ input. WhereTold (W.written sink.old)
         (λ before. EncodesAll device max depth hex system input before result (W.written sink.new))) }
     ensures end { OnOk result (R.ends source.new ≡ next_count (R.ends source.old)) }
+    ensures word { IfErr result IsReadOrWrite }
     ensures reads { CountsFailure (codes "Read") result (R.failures source.old) (R.failures source.new) }
     ensures writes { CountsFailure (codes "Write") result (W.failures sink.old) (W.failures sink.new) }
 {

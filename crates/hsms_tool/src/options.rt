@@ -1,7 +1,8 @@
 //! The command line, which is judged before anything is read.
 
 ghost use Rattle.std.specs.Prelude.{◌≤◌, IfOk, IfErr, codes};
-ghost use Rattle.hsms_tool.specs.Options.{IsWithinLimits};
+ghost use Rattle.clap.specs.Words.{found_of};
+ghost use Rattle.hsms_tool.specs.Options.{Asks, AsksFor, AsksToEncode, IsHelp, IsNumber, IsWithinLimits};
 ghost use Rattle.hsms_tool.specs.Status.{IsRefusedAs};
 
 use crate::fault::{ToolFault, refused};
@@ -117,16 +118,26 @@ fn depth_option<'a>(alloc: Global) -> Arg<'a> {
 
 fn asked(alloc: Global, matches: &ArgMatches<'_>) -> Result<Request, ToolFault>
     ensures limits { IfOk result IsWithinLimits }
+    ensures asks { IfOk result (Asks matches.now) }
     ensures fault { IfErr result (IsRefusedAs (codes "command line")) }
 {
-    let Some((name, options)) = matches.subcommand() else {
-        return Err(no_request(alloc));
-    };
+    match matches.subcommand() {
+        Some((name, options)) => asked_by(alloc, name, options),
+        None => Err(no_request(alloc)),
+    }
+}
+
+// What a subcommand asks for, with these options.
+fn asked_by(alloc: Global, name: &str, options: &ArgMatches<'_>) -> Result<Request, ToolFault>
+    ensures limits { IfOk result IsWithinLimits }
+    ensures asks { IfOk result (AsksFor name.now (found_of options.now)) }
+    ensures fault { IfErr result (IsRefusedAs (codes "command line")) }
+{
     if name == "audit" {
         return Ok(Request::Audit);
     }
-    let max = options.get_one::<u32>("max").unwrap_or(DEFAULT_MAX);
-    let depth = options.get_one::<u8>("depth").unwrap_or(DEFAULT_DEPTH);
+    let max = max_of(options);
+    let depth = depth_of(options);
     if max < 256 || max > 33554432 || depth < 1 || depth > 100 {
         return Err(no_request(alloc));
     }
@@ -145,10 +156,11 @@ fn asked_to_encode(
     requires max { (256 ≤ max) × (max ≤ 33554432) }
     requires depth { (1 ≤ depth) × (depth ≤ 100) }
     ensures limits { IfOk result IsWithinLimits }
+    ensures asks { IfOk result (AsksToEncode max depth (found_of options.now)) }
     ensures fault { IfErr result (IsRefusedAs (codes "command line")) }
 {
-    let device = options.get_one::<u16>("device").unwrap_or(DEFAULT_DEVICE);
-    let system = options.get_one::<u32>("system").unwrap_or(DEFAULT_SYSTEM);
+    let device = device_of(options);
+    let system = system_of(options);
     let hex = options.get_flag("hex");
     if device > 32767 {
         return Err(no_request(alloc));
@@ -162,9 +174,34 @@ fn asked_to_encode(
     })
 }
 
+fn device_of(options: &ArgMatches<'_>) -> u16
+    ensures { IsNumber 16 (codes "device") 0 (found_of options.now) result }
+{
+    options.get_one::<u16>("device").unwrap_or(DEFAULT_DEVICE)
+}
+
+fn system_of(options: &ArgMatches<'_>) -> u32
+    ensures { IsNumber 32 (codes "system") 1 (found_of options.now) result }
+{
+    options.get_one::<u32>("system").unwrap_or(DEFAULT_SYSTEM)
+}
+
+fn max_of(options: &ArgMatches<'_>) -> u32
+    ensures { IsNumber 32 (codes "max") 1048576 (found_of options.now) result }
+{
+    options.get_one::<u32>("max").unwrap_or(DEFAULT_MAX)
+}
+
+fn depth_of(options: &ArgMatches<'_>) -> u8
+    ensures { IsNumber 8 (codes "depth") 32 (found_of options.now) result }
+{
+    options.get_one::<u8>("depth").unwrap_or(DEFAULT_DEPTH)
+}
+
 // Help is asked for, or the command line is refused.
 fn explained(alloc: Global, error: &Error) -> Result<Request, ToolFault>
     ensures limits { IfOk result IsWithinLimits }
+    ensures help { IfOk result IsHelp }
     ensures fault { IfErr result (IsRefusedAs (codes "command line")) }
 {
     match error.kind() {

@@ -3,7 +3,7 @@
 ghost use Rattle.std.specs.Prelude.{◌≡◌, ◌≤◌, IfOk, IfErr, OnOk, OnErr, is_ok, is_some, codes, if◌then◌else◌};
 ghost use Rattle.hsms_frame.specs.Count.{next_count};
 ghost use Rattle.hsms_frame.specs.Device.{WhereTold, Grows, GrowsByFront};
-ghost use Rattle.hsms_tool.specs.Show.{Shows, ShowsNext, ReadsNext, Tells, CountsFailure, HasWord, IsWrite};
+ghost use Rattle.hsms_tool.specs.Show.{Shows, ShowsNext, ReadsNext, Tells, CountsFailure, HasWord, IsReadOrWrite, IsReadWriteOrEndless, IsWrite};
 
 use crate::fault::ToolFault;
 use crate::line::frame_line;
@@ -32,6 +32,7 @@ pub fn show<R: Source, W: Sink>(
         (λ before. Shows max depth input before result (W.written sink.new))) }
     // Where the source doesn't tell its octets, its end was found once all the same.
     ensures end { OnOk result (R.ends source.new ≡ next_count (R.ends source.old)) }
+    ensures word { IfErr result IsReadWriteOrEndless }
     ensures reads { CountsFailure (codes "Read") result (R.failures source.old) (R.failures source.new) }
     ensures writes { CountsFailure (codes "Write") result (W.failures sink.old) (W.failures sink.new) }
 {
@@ -56,6 +57,7 @@ fn show_next<R: Source, W: Sink>(
         (λ before. ShowsNext max depth input before result (R.left source.new) (W.written sink.new))) }
     ensures end { IfOk result (λ is_shown. R.ends source.new
         ≡ (if is_shown then R.ends source.old else next_count (R.ends source.old))) }
+    ensures word { IfErr result IsReadOrWrite }
     ensures reads { CountsFailure (codes "Read") result (R.failures source.old) (R.failures source.new) }
     ensures writes { CountsFailure (codes "Write") result (W.failures sink.old) (W.failures sink.new) }
 {

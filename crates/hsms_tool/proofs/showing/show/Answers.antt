@@ -1,6 +1,7 @@
 use Rattle.std.proofs.Common.{arith, ◌∙◌}
 use Rattle.std.proofs.lemmas.Result.{err_from_is_err_and}
 use Rattle.hsms_tool.proofs.Runs.{goes_on, ends, stops, endless}
+use Rattle.hsms_tool.proofs.Devices.{wider}
 use Rattle.hsms_tool.proofs.showing.show.Goals as goal
 
 pub returns-in_err-show_next-clause-lines : goal.returns-in_err-show_next-clause-lines
@@ -24,3 +25,8 @@ loop-preserved g c =
 
 pub returns-clause-lines : goal.returns-clause-lines
 returns-clause-lines g c = λ input told before holds. endless _ _ _ _ c.loop.counter _ _ (omega arith) (c.loop.invariant.0 input told before holds)
+
+pub returns-in_err-show_next-clause-word : goal.returns-in_err-show_next-clause-word
+returns-in_err-show_next-clause-word g c =
+    let p = err_from_is_err_and c.from_residual.result c.from_residual.ensures.1 in
+    rw (p.1, p.2) (wider _ c.in_err-show_next.ensures.word)
