@@ -3,7 +3,8 @@
 
 A block that begins ```console has commands, each on a line that begins with `$ `, and below each what it writes on
 standard output and standard error. They run at the top of the repository, with `hsms` on the path. Before that, `rt ci`
-has to have built the command. The last line is `N passed, M failed`.
+has to have built the command. The logs of docs/RULES.md are audited too: each is the example of its rule, and has the
+verdict that the page tells. The last line is `N passed, M failed`.
 """
 import glob
 import os
@@ -13,6 +14,9 @@ import sys
 
 TOP = os.path.dirname(os.path.dirname(os.path.abspath(__file__)))
 BLOCK = re.compile(r"^```console\n(.*?)^```$", re.M | re.S)
+SETTINGS = re.compile(r"^```\n(hsms-log .*\n)```$", re.M)
+RULE = re.compile(r"^## \d+\. `(\w+)`\n(?:(?!^## ).*\n)*?```\n((?:.*\n)*?)```\n\n`(fail .*)`$", re.M)
+RULES = 19
 
 
 def commands(text):
@@ -23,24 +27,43 @@ def commands(text):
             yield command, wanted.rstrip("\n")
 
 
+def catalogue(text):
+    """Yields the commands that show and audit the example of each rule, and what the catalogue says that they write."""
+    settings = SETTINGS.search(text).group(1)
+    rules = RULE.findall(text)
+    if len(rules) != RULES:
+        raise ValueError(f"docs/RULES.md has {len(rules)} rules that can be read, not {RULES}")
+    for name, log, verdict in rules:
+        whole = log if log.startswith("hsms-log ") else settings + log
+        if " .. (" not in whole:
+            yield f"cat examples/rules/{name}.log", whole.rstrip("\n")
+        yield f"hsms audit < examples/rules/{name}.log", verdict
+
+
+def wrote(command):
+    """What a command writes, on standard output and standard error."""
+    env = {**os.environ, "PATH": f"{TOP}:{os.environ['PATH']}", "LC_ALL": "C.UTF-8"}
+    ended = subprocess.run(
+        ["sh", "-c", command], cwd=TOP, env=env, stdin=subprocess.DEVNULL,
+        stdout=subprocess.PIPE, stderr=subprocess.STDOUT, timeout=120,
+    )
+    return ended.stdout.decode(errors="replace").rstrip("\n")
+
+
 def main():
     passed = failed = 0
-    env = {**os.environ, "PATH": f"{TOP}:{os.environ['PATH']}", "LC_ALL": "C.UTF-8"}
     documents = [f"{TOP}/README.md", *sorted(glob.glob(f"{TOP}/docs/*.md")), *sorted(glob.glob(f"{TOP}/examples/*.md"))]
     for document in documents:
         with open(document) as file:
             text = file.read()
-        for command, wanted in commands(text):
-            ended = subprocess.run(
-                ["sh", "-c", command], cwd=TOP, env=env, stdin=subprocess.DEVNULL,
-                stdout=subprocess.PIPE, stderr=subprocess.STDOUT, timeout=120,
-            )
-            wrote = ended.stdout.decode(errors="replace").rstrip("\n")
-            if wrote == wanted:
+        shown = [*commands(text), *(catalogue(text) if document.endswith("/RULES.md") else [])]
+        for command, wanted in shown:
+            answer = wrote(command)
+            if answer == wanted:
                 passed += 1
                 continue
             failed += 1
-            print(f"{os.path.relpath(document, TOP)}: $ {command}\nwanted:\n{wanted}\nwrote:\n{wrote}")
+            print(f"{os.path.relpath(document, TOP)}: $ {command}\nwanted:\n{wanted}\nwrote:\n{answer}")
     print(f"{passed} passed, {failed} failed")
     return 1 if failed or not passed else 0
 

@@ -24,8 +24,8 @@ control_header_of stype byte3 system = record {
   system = system;
 }
 
--- Reject: session ID and system bytes of the rejected message, its PType where that is the reason (2) and else its SType, and
--- the reason
+-- Reject: session ID and system bytes of the rejected message, its PType where that is the reason (2) and else its
+-- SType, and the reason
 abbrev pub reject_header_of : Header → ℕ → Header
 reject_header_of h reason = record {
   session = h.session;

@@ -1,4 +1,5 @@
--- What a call does to the octets that a source has left and to those that a sink was given, where the device tells them.
+-- What a call does to the octets that a source has left and to those that a sink was given, where the device tells
+-- them.
 use Rattle.std.specs.Prelude.{◌≡◌, ◌≤◌, ◌<◌, ◌==◌, ◌&&◌, nat_lt, if◌then◌else◌, ℕ, List, [], ◌++◌, length, take, drop, Option, Some, Result, Ok, Err}
 use Rattle.hsms_frame.specs.declared.device.Failed.{Failed}
 use Rattle.hsms_frame.specs.Count.{next_count}
@@ -20,7 +21,8 @@ Takes old new n buffer =
 abbrev pub IsAtEnd : Option (List ℕ) → Type 0
 IsAtEnd told = WhereTold told (λ octets. octets ≡ [])
 
--- how often a source was found at its end, after a read into so much room: once more where there was room and nothing came
+-- how often a source was found at its end, after a read into so much room: once more where there was room and nothing
+-- came
 abbrev pub ends_after : ℕ → Result ℕ Failed → ℕ → ℕ
 ends_after room (Ok n) ends = if nat_lt 0 room && (n == 0) then next_count ends else ends
 ends_after room (Err _) ends = ends

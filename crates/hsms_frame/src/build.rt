@@ -59,8 +59,8 @@ pub fn separate(system: u32) -> Header
     control_header(9, 0, system)
 }
 
-/// The header of Reject.req that refuses a message, with its session ID and system bytes. Reason 1 is an SType that isn't
-/// supported, 2 a PType that isn't, 3 a transaction that isn't open, 4 a session that isn't established.
+/// The header of Reject.req that refuses a message, with its session ID and system bytes. Reason 1 is an SType that
+/// isn't supported, 2 a PType that isn't, 3 a transaction that isn't open, 4 a session that isn't established.
 pub fn reject_of(header: Header, reason: u8) -> Header
     ensures { result ≡ reject_header_of header reason }
 {

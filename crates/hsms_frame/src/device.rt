@@ -43,7 +43,8 @@ pub trait Source {
             ≡ (if is_ok result then failures self.old else next_count (failures self.old)) };
 }
 
-/// What octets are written to. A call that fails writes none, and one that takes none of a slice that isn't empty fails.
+/// What octets are written to. A call that fails writes none, and one that takes none of a slice that isn't empty
+/// fails.
 pub trait Sink {
     /// The octets that were written, where the device tells them.
     ghost written: { Self → Option (List ℕ) };

@@ -62,12 +62,12 @@ impl Framer {
         Ok(())
     }
 
-    /// Gives the message at the front of the pending octets, and takes its octets away. There is none where they end within
-    /// a message.
+    /// Gives the message at the front of the pending octets, and takes its octets away. There is none where they end
+    /// within a message.
     ///
-    /// Faults, each of which leaves the pending octets as they are: `TooShort`, once four octets are there, where they count
-    /// fewer than ten; `TooLong`, once fourteen are there, where the first four count more than the limit; `Memory`, only
-    /// where a whole message is there.
+    /// Faults, each of which leaves the pending octets as they are: `TooShort`, once four octets are there, where they
+    /// count fewer than ten; `TooLong`, once fourteen are there, where the first four count more than the limit;
+    /// `Memory`, only where a whole message is there.
     pub fn next(&mut self) -> Result<Option<Frame>, FrameFault>
         // The answer is one to the pending octets.
         ensures answer { FramesAs self.old.max self.old.pending result self.new.pending }

@@ -1,9 +1,9 @@
 //! HSMS messages (SEMI E37): the devices that octets are read from and written to, headers, and messages read whole.
 //!
-//! A message is four octets that count what follows, a header of ten octets, and a text. [`read_frame`] reads one from a
-//! [`Source`] and nothing of what stands behind it. [`Source`] and [`Sink`] tell contracts how often they were called and
-//! how often they failed and, where they know it, which octets are left or were written; so a contract can say what a
-//! program did to them.
+//! A message is four octets that count what follows, a header of ten octets, and a text. [`read_frame`] reads one from
+//! a [`Source`] and nothing of what stands behind it. [`Source`] and [`Sink`] tell contracts how often they were called
+//! and how often they failed and, where they know it, which octets are left or were written; so a contract can say what
+//! a program did to them.
 #![tactic(auto)]
 
 mod build;

@@ -54,30 +54,32 @@ const ALL_READS: u32 = u32::MAX;
 
 /// Audits a log that is read from a source, with at most 4,294,967,295 reads.
 ///
-/// **`audit` passes a log exactly when its bytes spell a run of the session machine: data flows only while selected, each
-/// reply answers exactly one open primary with its stream, system bytes and next function or zero, and every awaited reply
-/// came within T3 unless its logged expiry, a reject, or the end of connection or log came first; otherwise it names the
-/// first line continuing no run, and why.**
+/// **`audit` passes a log exactly when its bytes spell a run of the session machine: data flows only while selected,
+/// each reply answers exactly one open primary with its stream, system bytes and next function or zero, and every
+/// awaited reply came within T3 unless its logged expiry, a reject, or the end of connection or log came first;
+/// otherwise it names the first line continuing no run, and why.**
 ///
 /// What its words stand for:
 /// - *its bytes*: what the source had left. `AuditsAs` is claimed of a source that tells its octets, the counts of any.
-/// - *spell*: `LogText` of `specs/Log.antt`, by the lines of `specs/Lines.antt` and what a line says in `specs/Spelling.antt`.
-///   A text spells at most one log: `laws::text_spells_one_log`.
-/// - *a run of the session machine*: `IsRun` of `hsms_machine`, `specs/Run.antt`: no entry breaks a rule after those before it.
-/// - *data flows only while selected*: `laws::data_flows_while_selected` of `hsms_machine`. Data flows where it is sent or
-///   taken; a discarded frame doesn't flow.
-/// - *answers exactly one open primary*: `laws::each_response_answers_one` of `hsms_machine`, by `answers` and `IsOpen` of
-///   its `specs/Transaction.antt`.
-/// - *awaited*, *within T3*, *unless .. came first*: `laws::expiry_is_logged_first` and `laws::replies_come_within_t3` of
-///   `hsms_machine`. A reply is awaited by the end that sent a primary with the W bit; one at exactly T3 is in time (SEMI E5,
-///   SEMI E37). After a Separate.req or a cut nothing is overdue, and a log may end while replies are awaited.
+/// - *spell*: `LogText` of `specs/Log.antt`, by the lines of `specs/Lines.antt` and what a line says in
+///   `specs/Spelling.antt`. A text spells at most one log: `laws::text_spells_one_log`.
+/// - *a run of the session machine*: `IsRun` of `hsms_machine`, `specs/Run.antt`: no entry breaks a rule after those
+///   before it.
+/// - *data flows only while selected*: `laws::data_flows_while_selected` of `hsms_machine`. Data flows where it is sent
+///   or taken; a discarded frame doesn't flow.
+/// - *answers exactly one open primary*: `laws::each_response_answers_one` of `hsms_machine`, by `answers` and `IsOpen`
+///   of its `specs/Transaction.antt`.
+/// - *awaited*, *within T3*, *unless .. came first*: `laws::expiry_is_logged_first` and `laws::replies_come_within_t3`
+///   of `hsms_machine`. A reply is awaited by the end that sent a primary with the W bit; one at exactly T3 is in time
+///   (SEMI E5, SEMI E37). After a Separate.req or a cut nothing is overdue, and a log may end while replies are
+///   awaited.
 /// - *passes*, *names the first line, and why*: `Passes` and `Fails` of `specs/Verdict.antt`. Each text has exactly one
 ///   verdict: `laws::each_text_has_one_verdict`.
 ///
-/// It passes only where the end of the input was read. `Read` is answered only where a read failed, `Endless` only where all
-/// reads were used, none found the end, and no line of what was read fails; where the input did not end, a `Fail` holds of
-/// every log that begins with what was read. Each read is into a slice with room. After a `Fail` or a fault nothing is said
-/// of how much was read.
+/// It passes only where the end of the input was read. `Read` is answered only where a read failed, `Endless` only
+/// where all reads were used, none found the end, and no line of what was read fails; where the input did not end, a
+/// `Fail` holds of every log that begins with what was read. Each read is into a slice with room. After a `Fail` or a
+/// fault nothing is said of how much was read.
 ///
 /// What it does not say: that times and lines are what happened, that a timer fired in time, or that memory is there
 /// (`Memory`, where a growth was refused).
@@ -91,9 +93,9 @@ pub fn audit<R: Source>(alloc: Global, source: &mut R) -> Result<Verdict, AuditF
     audit_within(alloc, source, ALL_READS)
 }
 
-/// Audits a log as [`audit`] does, with at most `reads` reads, each into a slice with room. Where they are used up before
-/// the end was found, the answer is a failure of what was read, or `Endless`. A last line that no LF ended fails then only
-/// if it is already too long, however it goes on.
+/// Audits a log as [`audit`] does, with at most `reads` reads, each into a slice with room. Where they are used up
+/// before the end was found, the answer is a failure of what was read, or `Endless`. A last line that no LF ended fails
+/// then only if it is already too long, however it goes on.
 pub fn audit_within<R: Source>(
     alloc: Global,
     source: &mut R,

@@ -45,8 +45,8 @@ impl From<AllocError> for LineFault {
     }
 }
 
-/// What a line that is not the first carries. It is given without its end, and has at most `2 * max + 64` octets, comments
-/// included. Digits of either case are read.
+/// What a line that is not the first carries. It is given without its end, and has at most `2 * max + 64` octets,
+/// comments included. Digits of either case are read.
 pub fn read_line(alloc: Global, line: &[u8], max: u32) -> Result<Line, LineFault>
     ensures found { IfOk result (λ what. Carries max line.now (carried_by what)) }
     ensures unreadable { IfErr result (λ fault. fault ≡ LineFault.Unreadable → (carried : Option LogEntry) → Carries max line.now carried → ⊥) }

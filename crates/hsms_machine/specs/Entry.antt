@@ -20,7 +20,8 @@ abbrev pub is_t3 : Event → Bool
 is_t3 (T3 system) = true
 is_t3 _ = false
 
--- The entry at k stands before position i, on the same connection. A log holds one connection, so each entry before i does.
+-- The entry at k stands before position i, on the same connection. A log holds one connection, so each entry before i
+-- does.
 abbrev pub IsOnConnection : List Entry → ℕ → ℕ → Type 0
 IsOnConnection log k i = k < i
 

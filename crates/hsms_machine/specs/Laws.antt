@@ -100,7 +100,8 @@ abbrev pub Ascends : List ℕ → Type 0
 Ascends [] = Unit {0}
 Ascends (j ∷ positions) = ((k : ℕ) → IsIn k positions → j < k) × Ascends positions
 
--- these are the positions whose transactions are open after the log, in order, and the view's lists are made of their entries
+-- these are the positions whose transactions are open after the log, in order, and the view's lists are made of their
+-- entries
 pub record AreOpen (log : List Entry) (positions : List ℕ) : Type 0 where
   pub ascends : Ascends positions
   pub all_open : (j : ℕ) → IsIn j positions → IsOpen log j (length log)

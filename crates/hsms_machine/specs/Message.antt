@@ -1,5 +1,5 @@
--- What a header says of its message (SEMI E37, section 8, message format; SEMI E37.1 for the session ID and the ends that
--- may select).
+-- What a header says of its message (SEMI E37, section 8, message format; SEMI E37.1 for the session ID and the ends
+-- that may select).
 use Rattle.std.specs.Prelude.{ℕ, ◌==◌, Bool, true, false, ◌&&◌, ◌||◌, not}
 use Rattle.hsms_frame.specs.Header.{kind_of, stream_of, wait_of}
 use Rattle.hsms_frame.specs.declared.header.Header.{Header}

@@ -1,5 +1,5 @@
--- How a view answers what the rules ask, and how one entry changes it. Private functions alone speak of this; lemmas tie
--- it to the definitions of the whole log.
+-- How a view answers what the rules ask, and how one entry changes it. Private functions alone speak of this; lemmas
+-- tie it to the definitions of the whole log.
 use Rattle.std.specs.Prelude.{◌≡◌, ◌≢◌, ◌<◌, ◌==◌, Bool, true, false, ◌&&◌, ◌||◌, not, List, ◌++◌, filter, IsTrue, if◌then◌else◌, option_to_list}
 use Rattle.std.specs.List.{list_any}
 use Rattle.hsms_machine.specs.declared.entry.Entry.{Entry}

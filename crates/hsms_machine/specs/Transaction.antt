@@ -1,5 +1,5 @@
--- Transactions: what answers, opens and closes one, and which are open (SEMI E37, section 7, message exchange procedures;
--- SEMI E5, section 8, transactions).
+-- Transactions: what answers, opens and closes one, and which are open (SEMI E37, section 7, message exchange
+-- procedures; SEMI E5, section 8, transactions).
 use Rattle.std.specs.Prelude.{ℕ, ◌+◌, ◌<◌, ◌==◌, Bool, true, false, ◌&&◌, ◌||◌, List, Option, Some, None, IsTrue, if◌then◌else◌}
 use Rattle.hsms_frame.specs.Header.{kind_of, stream_of, wait_of}
 use Rattle.hsms_frame.specs.declared.header.Header.{Header}

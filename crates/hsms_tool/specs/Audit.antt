@@ -20,7 +20,8 @@ IsEndless (Device word) = word.now ≡ codes "Endless"
 IsEndless (Refused words) = ⊥
 IsEndless Memory = ⊥
 
--- a device's word, and what it leaves written: nothing where the input was at fault, and else a part of the verdict's line
+-- a device's word, and what it leaves written: nothing where the input was at fault, and else a part of the verdict's
+-- line
 abbrev pub AuditStopsBy : List ℕ → List ℕ → List ℕ → Option (List ℕ) → Option (List ℕ) → Type 0
 AuditStopsBy input before word left written =
     ((word ≡ codes "Read") × (written ≡ Some before))

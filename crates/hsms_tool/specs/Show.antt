@@ -25,8 +25,8 @@ abbrev pub LinesOf : ℕ → List Frame → List ℕ → Type 0
 LinesOf depth [] lines = lines ≡ []
 LinesOf depth (f ∷ fs) lines = (first rest : List ℕ) × LineOf depth f first × LinesOf depth fs rest × (lines ≡ first ++ rest)
 
--- octets at which reading a message is refused: their length field is too small or too large, or they end within a message;
--- and the words for it
+-- octets at which reading a message is refused: their length field is too small or too large, or they end within a
+-- message; and the words for it
 abbrev pub IsRefused : ℕ → List ℕ → List ℕ → Type 0
 IsRefused max octets words =
     (fault : ReadFault) × (left : Option (List ℕ)) × ReadsAs max octets (Err fault) left × (fault ≢ read.Memory) × (fault ≢ read.Read)
@@ -40,14 +40,16 @@ StopsBy max depth count rest shown word written =
     × LineOf depth f line × (n < length line) × (written ≡ Some (shown ++ take n line)))
     ⊎ ((word ≡ codes "Endless") × (count ≡ 4294967295) × (written ≡ Some shown))
 
--- where so many messages were shown, and rest is what follows them in the input: the answers, each with what is written then
+-- where so many messages were shown, and rest is what follows them in the input: the answers, each with what is written
+-- then
 abbrev pub Stops : ℕ → ℕ → ℕ → List ℕ → List ℕ → Result (Unit {0}) ToolFault → Option (List ℕ) → Type 0
 Stops max depth count rest shown (Ok _) written = (rest ≡ []) × (written ≡ Some shown)
 Stops max depth count rest shown (Err (Refused words)) written = IsRefused max rest (string_bytes words) × (written ≡ Some shown)
 Stops max depth count rest shown (Err (Device word)) written = StopsBy max depth count rest shown word.now written
 Stops max depth count rest shown (Err Memory) written = written ≡ Some shown
 
--- The input begins with some messages, and their lines were written behind what was there before, up to where the run stopped.
+-- The input begins with some messages, and their lines were written behind what was there before, up to where the run
+-- stopped.
 abbrev pub Shows : ℕ → ℕ → List ℕ → List ℕ → Result (Unit {0}) ToolFault → Option (List ℕ) → Type 0
 Shows max depth input before result written =
     (messages : List Frame) × (lines rest : List ℕ) × (input ≡ octets_of messages ++ rest) × All (IsWithin max) messages

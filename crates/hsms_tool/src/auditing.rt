@@ -15,11 +15,11 @@ use hsms_frame::{Sink, Source};
 use hsms_log::{AuditFault, Verdict, audit};
 use std::alloc::Global;
 
-/// Writes the line of the verdict on a log, and says whether it passes: exactly where its octets spell a run of the session
-/// machine. Otherwise the line names the first line that continues no run, and why. Faults:
+/// Writes the line of the verdict on a log, and says whether it passes: exactly where its octets spell a run of the
+/// session machine. Otherwise the line names the first line that continues no run, and why. Faults:
 ///
-/// - `Device`: `Read` or `Write`, where a device failed in this call, and `Endless`, where 4,294,967,295 reads found neither
-///   the end nor a failing line. After a failed write a part of the line may be written.
+/// - `Device`: `Read` or `Write`, where a device failed in this call, and `Endless`, where 4,294,967,295 reads found
+///   neither the end nor a failing line. After a failed write a part of the line may be written.
 /// - `Memory`. Nothing is written.
 pub fn audit_to<R: Source, W: Sink>(
     alloc: Global,

@@ -20,15 +20,16 @@ use std::alloc::{AllocError, Global};
 /// The longest input, in octets.
 const INPUT_LIMIT: usize = 67_108_864;
 
-/// Reads the whole input as messages in notation, and writes their frames in order, for a device, with system bytes counted
-/// up from `system` and wrapping: as octets, or with `hex` as a line of hexadecimal each. Nothing is written before all are
-/// encoded.
+/// Reads the whole input as messages in notation, and writes their frames in order, for a device, with system bytes
+/// counted up from `system` and wrapping: as octets, or with `hex` as a line of hexadecimal each. Nothing is written
+/// before all are encoded.
 ///
-/// `max` is the greatest count of octets of header and text of a message, and `depth` the deepest nesting of lists. Faults:
+/// `max` is the greatest count of octets of header and text of a message, and `depth` the deepest nesting of lists.
+/// Faults:
 ///
-/// - `Refused`: the input has more than 67,108,864 octets (`Input`), or isn't messages within the depth (`Syntax`, `Number`,
-///   `Count`, `Deep`), or a message of it has no frame (`TooLarge`, `TooLong`). The first refusal is told, and nothing is
-///   written.
+/// - `Refused`: the input has more than 67,108,864 octets (`Input`), or isn't messages within the depth (`Syntax`,
+///   `Number`, `Count`, `Deep`), or a message of it has no frame (`TooLarge`, `TooLong`). The first refusal is told,
+///   and nothing is written.
 /// - `Device`: `Read` or `Write`, where a device failed in this call. After a failed write a part of the frames may be
 ///   written.
 /// - `Memory`. Nothing is written.

@@ -1,5 +1,5 @@
-//! The command `hsms`: audits HSMS session logs (SEMI E37, E37.1), shows the messages of HSMS octets, and encodes messages
-//! that are written in notation.
+//! The command `hsms`: audits HSMS session logs (SEMI E37, E37.1), shows the messages of HSMS octets, and encodes
+//! messages that are written in notation.
 #![tactic(auto)]
 
 ghost use Rattle.std.specs.Prelude.{◌≤◌};

@@ -12,8 +12,9 @@ use std::alloc::Global;
 
 /// Writes the line of each message of the input, in order, up to the end of the input or the first fault.
 ///
-/// `max` is the greatest count of octets of header and text of a message. A data message is shown in notation where its text
-/// is empty or one item whose lists are nested at most `depth` deep, and else with its text in hexadecimal. Faults:
+/// `max` is the greatest count of octets of header and text of a message. A data message is shown in notation where its
+/// text is empty or one item whose lists are nested at most `depth` deep, and else with its text in hexadecimal.
+/// Faults:
 ///
 /// - `Refused`, where the input isn't messages: `TooShort`, `TooLong` or `CutOff`. The lines of the messages before are
 ///   written.

@@ -1,5 +1,5 @@
--- A data item of SEMI E5 (data structures: items and lists): what it holds, apart from where that lies in memory, and the value
--- that an `Item` of the code stands for.
+-- A data item of SEMI E5 (data structures: items and lists): what it holds, apart from where that lies in memory, and
+-- the value that an `Item` of the code stands for.
 use Rattle.std.specs.Prelude.{◌≡◌, ◌<◌, ◌^◌, ℕ, suc, max, ℤ, Bool, List, [], ◌∷◌, length, map, FitsSigned}
 use Rattle.std.specs.Int.{w8, w16, w32, w64}
 use Rattle.std.specs.List.{AllByRecursion}

@@ -1,5 +1,5 @@
--- Which octets spell a value, by SEMI E5 (data structures): a format octet, a length field of one to three octets, and the body.
--- That a text is empty or one item is this project's own.
+-- Which octets spell a value, by SEMI E5 (data structures): a format octet, a length field of one to three octets, and
+-- the body. That a text is empty or one item is this project's own.
 use Rattle.std.specs.Prelude.{◌≡◌, ◌≤◌, ◌<◌, ℕ, ℤ, take, ◌+◌, ◌*◌, ◌^◌, Bool, not, ◌==◌, List, [], ◌∷◌, ◌++◌, length, slice_index, Option, Some, None, FitsSigned}
 use Rattle.std.specs.Int.{Width, byte_len, cast_unsigned, w8, w16, w32, w64}
 use Rattle.byteorder.specs.Endian.{big_bytes}

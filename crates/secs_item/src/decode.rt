@@ -1,6 +1,6 @@
 //! Items from octets.
 
-ghost use Rattle.std.specs.Prelude.{◌≡◌, ◌≤◌, ◌<◌, ◌%◌, ◌⊎◌, ℕ, false, length, drop, IfOk, IfErr, MatchResult, IsOk, Option, option_map};
+ghost use Rattle.std.specs.Prelude.{◌≡◌, ◌≤◌, ◌<◌, ◌%◌, ◌⊎◌, ℕ, false, length, drop, IfOk, IfErr, MatchResult, IsOk, Option, None, Ok, [], option_map};
 ghost use Rattle.secs_item.specs.Fault.{Faults, TextFaults, IsTold, fault_at};
 ghost use Rattle.secs_item.specs.Format.{is_list, value_size};
 ghost use Rattle.secs_item.specs.Header.{Reason};
@@ -140,10 +140,12 @@ pub fn decode_front(alloc: Global, octets: &[u8], depth: u8) -> Result<(Item, us
     Ok(build_item(alloc, octets, 0, depth)?)
 }
 
-/// The item of a message's text, or None where the text is empty. A text is one item, whose lists are nested at most `depth`
-/// deep, and nothing else: octets behind it are `Trailing`. Every fault but `Memory` is told before memory is asked for.
+/// The item of a message's text, or None where the text is empty. A text is one item, whose lists are nested at most
+/// `depth` deep, and nothing else: octets behind it are `Trailing`. Every fault but `Memory` is told before memory is
+/// asked for.
 pub fn decode_text(alloc: Global, octets: &[u8], depth: u8) -> Result<Option<Item>, ItemFault>
     requires { depth ≤ 100 }
+    ensures none { octets.now ≡ [] → result ≡ Ok None }
     ensures ok { IfOk result (λ item. IsTextOf depth octets.now (option_map view item)) }
     ensures ok_where { (text : Option ItemValue) → IsTextOf depth octets.now text
         → MatchResult result (λ item. option_map view item ≡ text) (λ f. f ≡ ItemFault.Memory) }

@@ -8,9 +8,10 @@ use thiserror::Error;
 
 /// Why octets are no item, or an item has no octets.
 ///
-/// `at` counts octets from 0 at the front of the input. It is the place of the header at fault; where an element is missing it is
-/// the place where its header would begin. The faults of one header are tried in this order: nothing is there (`Truncated`),
-/// `NoLength`, `Format`, `Deep`, a length octet is missing (`Truncated`), `Ragged`, the body is cut off (`Truncated`).
+/// `at` counts octets from 0 at the front of the input. It is the place of the header at fault; where an element is
+/// missing it is the place where its header would begin. The faults of one header are tried in this order: nothing is
+/// there (`Truncated`), `NoLength`, `Format`, `Deep`, a length octet is missing (`Truncated`), `Ragged`, the body is
+/// cut off (`Truncated`).
 #[derive(Clone, Copy, Debug, PartialEq, Eq, Error)]
 pub enum ItemFault {
     /// 1: the header's format octet says that there are no length octets, which SEMI E5 forbids.

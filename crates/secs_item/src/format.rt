@@ -3,8 +3,8 @@
 ghost use Rattle.std.specs.Prelude.{◌≡◌, ◌%◌, ◌↔◌, IsTrue};
 ghost use Rattle.secs_item.specs.Format.{code_of, format_with_code, value_size};
 
-/// What an item holds: elements, or values of one kind (SEMI E5, item formats). The number behind a variant is its format
-/// code, in octal.
+/// What an item holds: elements, or values of one kind (SEMI E5, item formats). The number behind a variant is its
+/// format code, in octal.
 #[derive(Clone, Copy, Debug, PartialEq, Eq)]
 pub enum Format {
     /// `L`, a list of items: 00.

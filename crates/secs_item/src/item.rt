@@ -7,8 +7,9 @@ use std::alloc::{AllocError, Global};
 
 /// A data item (SEMI E5): a list of items, or any number of values of one format, none included.
 ///
-/// Two items are equal exactly where they have one format and the same elements or values in the same order. `Ascii`, `Jis8` and
-/// `Char2` hold octets of any value; `F4` and `F8` hold the octets of each number, most significant first, unread.
+/// Two items are equal exactly where they have one format and the same elements or values in the same order. `Ascii`,
+/// `Jis8` and `Char2` hold octets of any value; `F4` and `F8` hold the octets of each number, most significant first,
+/// unread.
 #[derive(Debug, Drop)]
 pub enum Item {
     List(Vec<Item>),
@@ -61,8 +62,8 @@ impl Item {
     }
 }
 
-/// How deep lists stand in the item: 0 for an item of values, else one more than the deepest element, and 1 for an empty list.
-/// Where that is past the greatest `usize`, which no item in memory reaches, it is that number.
+/// How deep lists stand in the item: 0 for an item of values, else one more than the deepest element, and 1 for an
+/// empty list. Where that is past the greatest `usize`, which no item in memory reaches, it is that number.
 pub fn nesting(item: &Item) -> usize
     ensures { result ≡ min (nest (view item.now)) usize.MAX }
 {

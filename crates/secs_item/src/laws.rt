@@ -1,5 +1,5 @@
-//! Laws of the spellings of items. They speak of the definitions alone, so nothing is computed: each function proves that its
-//! clauses hold.
+//! Laws of the spellings of items. They speak of the definitions alone, so nothing is computed: each function proves
+//! that its clauses hold.
 
 ghost use Rattle.secs_item.specs.Laws.{OneSpellingAtFront, ShortSpells, NoneIsShorter, SpelledInRange, ShortIsReadAgain, SomeAnswer, OneItem, OneFault, NotBoth, SomeTextAnswer, OneText, OneTextFault, NotBothOfText};
 

@@ -1,9 +1,10 @@
 //! Data items of SEMI E5 (SECS-II) and their octets: measured, decoded and encoded.
 //!
-//! An item is a list of items, or any number of values of one format. Its octets are a format octet, one to three length
-//! octets and the body. `measure_front` and `measure_text` tell whether octets are an item, and how long it is, without
-//! memory; `decode_front` and `decode_text` give the item, after measuring it; `encode` gives the shortest octets. What spells
-//! an item is said in `specs/Spelling.antt`, what is a fault and where in `specs/Fault.antt`; `laws` has what holds of both.
+//! An item is a list of items, or any number of values of one format. Its octets are a format octet, one to three
+//! length octets and the body. `measure_front` and `measure_text` tell whether octets are an item, and how long it is,
+//! without memory; `decode_front` and `decode_text` give the item, after measuring it; `encode` gives the shortest
+//! octets. What spells an item is said in `specs/Spelling.antt`, what is a fault and where in `specs/Fault.antt`;
+//! `laws` has what holds of both.
 #![tactic(auto)]
 
 mod decode;

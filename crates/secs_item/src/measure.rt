@@ -40,8 +40,8 @@ fn end_of_elements(octets: &[u8], place: usize, count: usize, depth: u8) -> Resu
     Ok(end)
 }
 
-/// How many octets spell the item at the front, whose lists are nested at most `depth` deep. What follows isn't looked at.
-/// Takes no memory, and never answers `Trailing`, `TooLarge` or `Memory`.
+/// How many octets spell the item at the front, whose lists are nested at most `depth` deep. What follows isn't looked
+/// at. Takes no memory, and never answers `Trailing`, `TooLarge` or `Memory`.
 pub fn measure_front(octets: &[u8], depth: u8) -> Result<usize, ItemFault>
     requires { depth ≤ 100 }
     ensures ok { IfOk result (λ n. (v : Value) × IsAtFront depth octets.now v n) }

@@ -23,7 +23,8 @@ truth_word false = codes "F"
 abbrev pub spaced : {X : Type 0} → (X → List ℕ) → List X → List ℕ
 spaced one xs = flat_map (λ x. codes " " ++ one x) xs
 
--- An octet of text, where a quote is open or not: one that may stand between quotes stands there, every other one is a word.
+-- An octet of text, where a quote is open or not: one that may stand between quotes stands there, every other one is a
+-- word.
 abbrev pub printed_octet : Bool → ℕ → List ℕ
 printed_octet quoted c =
     if is_quotable c then (if quoted then [] else codes " \"") ++ c ∷ []

@@ -1,5 +1,5 @@
 use super::{DATA, LONG, SELECT};
-use crate::{FrameFault, Framer};
+use crate::{FrameFault, Framer, encode_frame};
 use std::alloc::Global;
 use std::process::Abort;
 use std::test::Fail;
@@ -30,6 +30,53 @@ fn gives_the_same_from_any_two_pieces(rt: HostRuntime) -> Result<(), Fail> {
         assert!(rt; framer.push(last).is_ok());
         given.extend_from_slice(&systems(alloc, &mut framer)?)?;
         assert_eq!(rt; given.as_slice(), [1, 1].as_slice(), "cut at {cut}");
+        assert!(rt; framer.pending().is_empty());
+    }
+    Ok(())
+}
+
+// Messages of each kind, with and without a text.
+const MESSAGES: [&[u8]; 14] = [
+    b"\0\0\0\n\xff\xff\0\0\0\x01\0\0\0\x01",
+    b"\0\0\0\x0c\0\0\x81\x0d\0\0\0\0\0\x01\x01\0",
+    b"\0\0\0\x0b\0\0\x81\x01\0\0\0\0\0\x02@",
+    b"\0\0\0\n\0\0\x81\x01\0\0\0\0\0\x02",
+    b"\0\0\0\n\xff\xff\0\0\0\x02\0\0\0\x01",
+    b"\0\0\0\n\0\0\0\x04\0\x07\0\0\0\x02",
+    b"\0\0\0\n\xff\xff\0\0\0\x03\0\0\0\x05",
+    b"\0\0\0\n\xff\xff\0\0\x01\x01\0\0\0\x05",
+    b"\0\0\0\x0b\xff\xff\0\0\0\x05\0\0\0\x02\0",
+    b"\0\0\0\x14\0\0\x86\x0b\0\0\0\0\0\x01\x01\x02A\x02AB\xa5\x02\x01\xff",
+    b"\0\0\0\x17\0\0\x01\x0e\0\0\0\0\0\x07\x01\x02!\x01\0\x01\x02A\x01MA\x011",
+    b"\0\0\0\x0e\0\0\x82\x19\0\0\0\0\0\t!\x02\x01\x02",
+    b"\0\0\0\x16\0\0\t\x03\0\0\0\0\0\x01!\n\0\0\x87\x03\0\0\0\0\0\x08",
+    b"\0\0\0\n\xff\xff\0\0\0\t\0\0\0\x03",
+];
+
+#[test]
+fn gives_each_message_from_any_two_pieces(rt: HostRuntime) -> Result<(), Fail> {
+    for octets in MESSAGES {
+        gives_back_from_any_two_pieces(&rt, rt.alloc(), octets)?;
+    }
+    Ok(())
+}
+
+fn gives_back_from_any_two_pieces(
+    rt: &impl Abort,
+    alloc: Global,
+    octets: &[u8],
+) -> Result<(), Fail> {
+    for cut in 0..octets.len() {
+        let (first, last) = octets.split_at(cut);
+        let mut framer = Framer::new(alloc, 256);
+        assert!(rt; framer.push(first).is_ok() && matches!(framer.next(), Ok(None)));
+        assert!(rt; framer.push(last).is_ok());
+        let frame = framer.next().ok().flatten().ok_or("a message")?;
+        assert_eq!(rt;
+            encode_frame(alloc, &frame)?.as_slice(),
+            octets,
+            "cut at {cut}"
+        );
         assert!(rt; framer.pending().is_empty());
     }
     Ok(())
