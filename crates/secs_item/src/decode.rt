@@ -126,7 +126,8 @@ fn build_elements(
 }
 
 /// The item at the front, whose lists are nested at most `depth` deep, and how many octets spell it. What follows isn't
-/// looked at. The item is measured first, so every fault but `Memory` is told before memory is asked for.
+/// looked at. The depth is at most 100. The item is measured first, so every fault but `Memory` is told before memory
+/// is asked for.
 pub fn decode_front(alloc: Global, octets: &[u8], depth: u8) -> Result<(Item, usize), ItemFault>
     requires { depth ≤ 100 }
     ensures ok { IfOk result (λ x. IsAtFront depth octets.now (view x.0) x.1) }
@@ -142,7 +143,7 @@ pub fn decode_front(alloc: Global, octets: &[u8], depth: u8) -> Result<(Item, us
 
 /// The item of a message's text, or None where the text is empty. A text is one item, whose lists are nested at most
 /// `depth` deep, and nothing else: octets behind it are `Trailing`. Every fault but `Memory` is told before memory is
-/// asked for.
+/// asked for. The depth is at most 100.
 pub fn decode_text(alloc: Global, octets: &[u8], depth: u8) -> Result<Option<Item>, ItemFault>
     requires { depth ≤ 100 }
     ensures none { octets.now ≡ [] → result ≡ Ok None }

@@ -41,7 +41,7 @@ fn end_of_elements(octets: &[u8], place: usize, count: usize, depth: u8) -> Resu
 }
 
 /// How many octets spell the item at the front, whose lists are nested at most `depth` deep. What follows isn't looked
-/// at. Takes no memory, and never answers `Trailing`, `TooLarge` or `Memory`.
+/// at. The depth is at most 100. Takes no memory, and never answers `Trailing`, `TooLarge` or `Memory`.
 pub fn measure_front(octets: &[u8], depth: u8) -> Result<usize, ItemFault>
     requires { depth ≤ 100 }
     ensures ok { IfOk result (λ n. (v : Value) × IsAtFront depth octets.now v n) }
@@ -54,7 +54,7 @@ pub fn measure_front(octets: &[u8], depth: u8) -> Result<usize, ItemFault>
 }
 
 /// Whether the octets are a message's text: nothing, or one item whose lists are nested at most `depth` deep.
-/// Takes no memory, and never answers `TooLarge` or `Memory`.
+/// The depth is at most 100. Takes no memory, and never answers `TooLarge` or `Memory`.
 pub fn measure_text(octets: &[u8], depth: u8) -> Result<(), ItemFault>
     requires { depth ≤ 100 }
     ensures ok { OnOk result (IsText depth octets.now) }

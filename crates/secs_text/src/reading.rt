@@ -112,7 +112,7 @@ fn read_several(alloc: Global, text: &[u8], depth: u8) -> Result<Vec<Message>, T
     }
 }
 
-/// The message that a text is the notation of, where lists may be nested `depth` deep.
+/// The message that a text is the notation of, where lists may be nested `depth` deep, at most 100.
 ///
 /// A text that isn't one message within the depth has a fault: that of its first token that may not
 /// stand where it does.
@@ -132,7 +132,8 @@ pub fn read(alloc: Global, text: &[u8], depth: u8) -> Result<Message, TextFault>
     read_one(alloc, text, depth)
 }
 
-/// The messages that a text is the notation of, one after another; none in a text of white space.
+/// The messages that a text is the notation of, one after another; none in a text of white space. Lists may be nested
+/// `depth` deep, at most 100.
 ///
 /// # Errors
 ///
