@@ -1,11 +1,11 @@
 #!/usr/bin/env python3
-"""How fast the commands are: MB/s of their input in processor time, beside `cat` over the same input in the same run.
+"""How fast the commands are: MB/s of their input in processor time, beside `cat` over the same input in the same run,
+and the most memory that they held.
 
-Use: bench/commands.py [MEGABYTES], 100 if left out. It runs what `rt ci` or the first use of `hsms` has built. The texts of
-`encode` are kept below its limit of 67,108,864 octets.
+Use: bench/commands.py [MEGABYTES], 100 if left out. It runs what `rt ci` or the first use of `hsms` has built. The
+texts of `encode` are kept below its limit of 67,108,864 octets.
 """
 import os
-import resource
 import subprocess
 import sys
 import tempfile
@@ -23,7 +23,8 @@ def frame(header, text=b""):
 def report(count):
     """The octets of an event report: two numbers and a list of values with a name each."""
     value = b"\x01\x02" + b"\x41\x08WaferMap" + b"\xb1\x04\x00\x01\x86\xa0"
-    return b"\x01\x03" + b"\xb1\x04\x00\x00\x00\x07" + b"\xb1\x04\x00\x00\x01\x00" + b"\x01" + bytes([count]) + value * count
+    numbers = b"\xb1\x04\x00\x00\x00\x07" + b"\xb1\x04\x00\x00\x01\x00"
+    return b"\x01\x03" + numbers + b"\x01" + bytes([count]) + value * count
 
 
 def stream(size):
@@ -67,34 +68,52 @@ def log(size):
     return "\n".join(lines).encode() + b"\n"
 
 
-def seconds(words, path):
-    """The processor time that a program takes for a file."""
-    before = resource.getrusage(resource.RUSAGE_CHILDREN)
+def write(path, make, size):
+    """Writes an input, from a process of its own, so that the commands don't begin with its memory."""
+    child = os.fork()
+    if child == 0:
+        with open(path, "wb") as file:
+            file.write(make(size))
+        os._exit(0)
+    os.waitpid(child, 0)
+
+
+def lines_of(path):
+    """How many lines an input has."""
+    with open(path, "rb") as file:
+        return sum(block.count(b"\n") for block in iter(lambda: file.read(MB), b""))
+
+
+def run(words, path):
+    """The processor time in seconds that a program takes for a file, and the most memory in MB that it held."""
     with open(path, "rb") as given, open(os.devnull, "wb") as taken:
-        subprocess.run(words, stdin=given, stdout=taken, check=True)
-    after = resource.getrusage(resource.RUSAGE_CHILDREN)
-    return after.ru_utime + after.ru_stime - before.ru_utime - before.ru_stime
+        started = subprocess.Popen(words, stdin=given, stdout=taken)
+        _, status, usage = os.wait4(started.pid, 0)
+    started.returncode = status
+    if status != 0:
+        raise SystemExit(f"{words}: status {status}")
+    return usage.ru_utime + usage.ru_stime, usage.ru_maxrss * 1024 / MB
 
 
 def main():
     size = int(sys.argv[1] if len(sys.argv) > 1 else 100) * MB
     bare = frame("ffff0000000500000003")
     runs = [
-        ("show", "ordinary traffic", stream(size)),
-        ("show", "bare headers", bare * (size // len(bare))),
-        ("encode", "event reports", notation(min(size, 67 * MB))),
-        ("audit", "ordinary traffic", log(size)),
+        ("show", "ordinary traffic", stream, size),
+        ("show", "bare headers", lambda size: bare * (size // len(bare)), size),
+        ("encode", "event reports", notation, min(size, 67 * MB)),
+        ("audit", "ordinary traffic", log, size),
     ]
     with tempfile.TemporaryDirectory(prefix="hsms-bench-") as room:
         path = f"{room}/input"
-        for command, what, octets in runs:
-            with open(path, "wb") as file:
-                file.write(octets)
-            copied = seconds(["cat"], path)
-            taken = seconds([PROGRAM, command], path)
-            lines = f", {octets.count(10) / taken / 1e6:.2f} million lines/s" if command == "audit" else ""
-            speed = len(octets) / MB / taken
-            print(f"hsms {command}, {what}, {len(octets) // MB} MB: {speed:.0f} MB/s{lines}, {taken / max(copied, 1e-3):.0f} times cat")
+        for command, what, make, size in runs:
+            write(path, make, size)
+            given = os.path.getsize(path)
+            copied, _ = run(["cat"], path)
+            taken, held = run([PROGRAM, command], path)
+            lines = f", {lines_of(path) / taken / 1e6:.2f} million lines/s" if command == "audit" else ""
+            print(f"hsms {command}, {what}, {given // MB} MB: {given / MB / taken:.0f} MB/s{lines}, ", end="")
+            print(f"{taken / max(copied, 1e-3):.0f} times cat, {held:.0f} MB held")
 
 
 if __name__ == "__main__":

@@ -2,9 +2,10 @@
 """Refuses each allocation in turn, the first, the second and so on, until a run meets no refusal.
 
 This is done to each test whose name begins with `refused`, which has to pass, since it looks at the answer and at what
-stands after it; to each test of the crates below that hand want of memory up, which has to pass or to end with that error, or
-that judge each refusal themselves; and to the command, on the inputs below. The command has to answer as ever, or with status 3 and `hsms: Memory`, and what it wrote then
-has to be whole lines of what it writes with ample memory.
+stands after it; to each test of the crates below that hand want of memory up, which has to pass or to end with that
+error, or that judge each refusal themselves; and to the command, on the inputs below. The command has to answer as
+ever, or with status 3 and `hsms: Memory`, and what it wrote then has to be whole lines of what it writes with ample
+memory.
 
 It runs what `rt ci` has built. The last line is `N passed, M failed`.
 """
