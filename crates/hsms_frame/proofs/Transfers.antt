@@ -1,7 +1,7 @@
 -- Steps of a transfer that goes on where the one before it stopped.
 use Rattle.std.proofs.Common.{Ok, ◌≡◌, ◌≤◌, ◌+◌, ◌-◌, ◌++◌, ℕ, List, length, take, drop, min, ◌^◌, Some, sym, ◌∙◌, ap, arith}
 use Rattle.std.specs.Prelude.{Option}
-use Rattle.std.proofs.lemmas.List.{length-take, drop_at, take_at, drop-drop, length-drop, length-take-le, take-append-le, append_assoc}
+use Rattle.std.proofs.lemmas.List.{length-take, drop_at, take_at, take_all, drop_all, drop-drop, length-append, length-drop, length-take-le, take-append-le, append-nil, append_assoc}
 use Rattle.std.proofs.Math.Seq.{take-add}
 use borrow.Rule.Slice.PartMut.{put_mid, post_of}
 use Rattle.std.specs.Prelude.{◌==◌, ◌&&◌, ◌<◌, if◌then◌else◌, nat_lt}
@@ -19,6 +19,25 @@ take-put_mid_add n k m buffer part within fits =
     ∙ ap (λ x. x ++ take k (drop n (take n buffer ++ (part ++ post)))) (take_at (take n buffer) (part ++ post) n front)
     ∙ ap (λ x. take n buffer ++ take k x) (drop_at (take n buffer) (part ++ post) n front)
     ∙ ap (λ x. take n buffer ++ x) (take-append-le k part post fits)
+
+-- what stands behind the octets that were written to a room from a place on
+pub behind_written : (place n size : ℕ) (old part given after : List ℕ) → place ≤ length old → size ≡ length old → length given ≡ n
+    → n ≤ length old - place → part ≡ given ++ drop n (take (length old - place) (drop place old))
+    → drop (place + n) (take size (put_mid place (length old - place) old part ++ after)) ≡ drop n (drop place old)
+behind_written place n size old part given after within whole count fits is =
+    let rest : List ℕ = drop place old in
+    let left : length rest ≡ length old - place = length-drop place old in
+    let tail : List ℕ = given ++ drop n rest in
+    let same : put_mid place (length old - place) old part ≡ take place old ++ tail =
+    ap (λ x. take place old ++ (part ++ x)) (drop_all (length old - place) rest (omega (arith, left)))
+    ∙ ap (λ x. take place old ++ x) (append-nil part ∙ is ∙ ap (λ x. given ++ drop n x) (take_all (length old - place) rest (omega (arith, left)))) in
+    let front : length (take place old) ≡ place = length-take-le place old within in
+    let long : length (put_mid place (length old - place) old part) ≡ size =
+    ap length same ∙ omega (arith, length-append (take place old) tail, length-append given (drop n rest), length-drop n rest, front, count, left, whole, fits, within) in
+    ap (λ x. drop (place + n) x) (take_at (put_mid place (length old - place) old part) after size long ∙ same)
+    ∙ sym (drop-drop n place (take place old ++ tail))
+    ∙ ap (λ x. drop n x) (drop_at (take place old) tail place front)
+    ∙ drop_at given (drop n rest) n count
 
 -- a pull into the part of a buffer behind what was filled
 pub takes_more : (old mid new : Option (List ℕ)) (n k m : ℕ) (buffer part : List ℕ) → n ≤ length buffer → k ≤ length part

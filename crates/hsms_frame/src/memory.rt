@@ -172,9 +172,11 @@ impl Sink for Store {
         ensures failures { self.new.failures
             ≡ (if is_ok result then self.old.failures else next_count self.old.failures) }
 
-        // Beyond what each sink ensures: when it fails, and that it moves as much as it may.
+        // Beyond what each sink ensures: when it fails, that it moves as much as it may, and which room is left.
         ensures fails { IsErr result ↔ ((self.old.fuse ≤ self.old.gives) ⊎ (length self.old.room ≡ 0)) }
         ensures count { IfOk result (λ n. n ≡ min (min (length from.now) (length self.old.room)) self.old.piece) }
+        ensures room { IfOk result (λ n. self.new.room ≡ drop n self.old.room) }
+        ensures room_stays { OnErr result (self.new.room ≡ self.old.room) }
         ensures same { (self.new.piece ≡ self.old.piece) × (self.new.fuse ≡ self.old.fuse) }
     {
         let is_spent = self.tally.calls >= self.fuse;
@@ -206,6 +208,7 @@ fn overwrite(room: &mut Vec<u8>, place: usize, from: &[u8], piece: usize) -> usi
     ensures count { result ≡ min (min (length from.now) (vec_len room.old - place)) piece }
     ensures len { vec_len room.new ≡ vec_len room.old }
     ensures written { take (place + result) room.new.items ≡ take place room.old.items ++ take result from.now }
+    ensures behind { drop (place + result) room.new.items ≡ drop result (drop place room.old.items) }
 {
     copy_front(from, &mut room[place..], piece)
 }

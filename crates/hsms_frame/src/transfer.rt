@@ -35,6 +35,7 @@ pub fn fill<R: Source>(source: &mut R, into: &mut [u8]) -> Result<usize, Failed>
 pub fn give_all<W: Sink>(sink: &mut W, octets: &[u8]) -> Result<(), Failed>
     ensures ok { OnOk result (Grows (W.written sink.old) (W.written sink.new) octets.now) }
     ensures err { OnErr result (GrowsByFront (W.written sink.old) (W.written sink.new) octets.now) }
+    ensures gives { W.gives sink.new ≤ W.gives sink.old + length octets.now }
     ensures failures { W.failures sink.new
         ≡ (if is_ok result then W.failures sink.old else next_count (W.failures sink.old)) }
 {

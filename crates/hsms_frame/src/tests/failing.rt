@@ -1,0 +1,51 @@
+use crate::{Failed, Reader, Sink, Source, Writer};
+use std::io;
+use std::io::{ErrorKind, Read, Write};
+
+// Fails at its first call as one that was interrupted, which std's own helpers would try again. From then on it moves
+// one octet a call.
+#[derive(Drop)]
+struct Flaky {
+    is_well: bool,
+}
+
+impl Flaky {
+    fn call(&mut self) -> io::Result<()> {
+        if self.is_well {
+            return Ok(());
+        }
+        self.is_well = true;
+        Err(io::Error::from(ErrorKind::Interrupted))
+    }
+}
+
+impl Read for Flaky {
+    fn read(&mut self, into: &mut [u8]) -> io::Result<usize> {
+        self.call()?;
+        Ok(into.len().min(1))
+    }
+}
+
+impl Write for Flaky {
+    fn write(&mut self, from: &[u8]) -> io::Result<usize> {
+        self.call()?;
+        Ok(from.len().min(1))
+    }
+
+    fn flush(&mut self) -> io::Result<()> {
+        self.call()
+    }
+}
+
+#[test]
+fn tells_each_error_of_std_at_once(rt: HostRuntime) {
+    let mut source = Reader::new(Flaky { is_well: false });
+    assert!(rt; source.pull(&mut [0u8; 2]) == Err(Failed));
+    assert!(rt; source.pull(&mut [0u8; 2]) == Ok(1));
+    let mut sink = Writer::new(Flaky { is_well: false });
+    assert!(rt; sink.give(b"ab") == Err(Failed));
+    assert!(rt; sink.give(b"ab") == Ok(1));
+    let mut sink = Writer::new(Flaky { is_well: false });
+    assert!(rt; sink.flush() == Err(Failed));
+    assert!(rt; sink.flush() == Ok(()));
+}
