@@ -1,0 +1,7 @@
+"""A second reading of the formats and the rules, written from their descriptions in docs/ and the public standards.
+
+It shares no line with the command, and is made for being read, not for speed. `tests/second_reading.py` compares the
+two readings on random inputs.
+
+`items`, `notation`, `messages` and `session` are the reading; `inputs` and `walks` make the inputs.
+"""
