@@ -10,4 +10,5 @@ pub mod Uniqueness
 pub mod Onward
 pub mod Parts
 pub mod Written
+pub mod WrittenLog
 pub mod Existence

@@ -26,7 +26,7 @@ digits_of_all : (ds : List ℕ) → list_all is_ascii_digit ds ≡ true → all_
 digits_of_all [] h = refl
 digits_of_all (d ∷ ds) h = let parts = and_parts _ _ h in and_from _ _ parts.0 (digits_of_all ds parts.1)
 
-all_of_digits : (ds : List ℕ) → all_ascii_digits ds ≡ true → list_all is_ascii_digit ds ≡ true
+pub all_of_digits : (ds : List ℕ) → all_ascii_digits ds ≡ true → list_all is_ascii_digit ds ≡ true
 all_of_digits [] h = refl
 all_of_digits (d ∷ ds) h = let parts = and_parts _ _ h in and_from _ _ parts.0 (all_of_digits ds parts.1)
 

@@ -86,7 +86,7 @@ pub HasNone-open_line : (a : List ℕ) → HasNone 10 (open_line a)
 HasNone-open_line a = open_go (length a) a (omega arith)
 
 -- the lines of a text that has a line feed
-lines_of-first : (part rest : List ℕ) → HasNone 10 part → lines_of (part ++ 10 ∷ rest) ≡ strip_carriage_return part ∷ lines_of rest
+pub lines_of-first : (part rest : List ℕ) → HasNone 10 part → lines_of (part ++ 10 ∷ rest) ≡ strip_carriage_return part ∷ lines_of rest
 lines_of-first part rest none =
     ap (λ l. l ++ last_lines (open_line (part ++ 10 ∷ rest))) (ended_lines-first part rest none)
     ∙ ap (λ o. (strip_carriage_return part ∷ ended_lines rest) ++ last_lines o) (open_line-first part rest none)
@@ -100,7 +100,7 @@ strip_go false line = omega arith
 strip-length : (line : List ℕ) → length line ≤ length (strip_carriage_return line) + 1
 strip-length line = strip_go (slice_index line (length line - 1) == 13) line
 
-strip_kept : (line : List ℕ) → slice_index line (length line - 1) ≢ 13 → strip_carriage_return line ≡ line
+pub strip_kept : (line : List ℕ) → slice_index line (length line - 1) ≢ 13 → strip_carriage_return line ≡ line
 strip_kept line other = rw (ne_eqb (slice_index line (length line - 1)) 13 other) refl
 
 -- a line that begins with an overlong part is longer than the limit
@@ -209,25 +209,25 @@ whole_is input octets is_whole left front whole =
     let none = front.end whole in
     (front.split ∙ ap (λ l. octets ++ l) none ∙ append-nil octets, front.left_is ∙ ap (λ l. Some l) none)
 
-pub whole_audit : (input octets : List ℕ) (is_whole : Bool) (left : Option (List ℕ)) (v : Verdict) → ReadsFront input octets is_whole left → is_whole ≡ true
-    → Judges octets v → AuditsAs input (Ok v) left
-whole_audit input octets is_whole left (Pass summary) front whole h =
+pub whole_audit : (input octets : List ℕ) (is_whole : Bool) (left : Option (List ℕ)) (ended : Type 0) (v : Verdict) → ReadsFront input octets is_whole left
+    → is_whole ≡ true → ended → Judges octets v → AuditsAs input (Ok v) left ended
+whole_audit input octets is_whole left ended (Pass summary) front whole found h =
     let is = whole_is input octets is_whole left front whole in
     let P : List ℕ → Type 0 = λ t. Judges t (Pass summary) in (subst P (sym is.0) h, is.1)
-whole_audit input octets is_whole left (Fail n why) front whole h =
+whole_audit input octets is_whole left ended (Fail n why) front whole found h =
     let is = whole_is input octets is_whole left front whole in
-    let P : List ℕ → Type 0 = λ t. Judges t (Fail n why) in (subst P (sym is.0) h, inl is.1)
+    let P : List ℕ → Type 0 = λ t. Judges t (Fail n why) in (subst P (sym is.0) h, inl (is.1, found))
 
-pub front_audit : (input octets : List ℕ) (is_whole : Bool) (left : Option (List ℕ)) (r : Result Verdict AuditFault) → ReadsFront input octets is_whole left
-    → IfOk r (FrontJudged octets) → IfErr r (λ fault. fault ≡ Endless → HoldsNoFailure octets) → AuditsAs input r left
-front_audit input octets is_whole left (Ok (Pass summary)) front h k = absurd h
-front_audit input octets is_whole left (Ok (Fail n why)) front h k =
+pub front_audit : (input octets : List ℕ) (is_whole : Bool) (left : Option (List ℕ)) (ended : Type 0) (r : Result Verdict AuditFault) → ReadsFront input octets is_whole left
+    → IfOk r (FrontJudged octets) → IfErr r (λ fault. fault ≡ Endless → HoldsNoFailure octets) → AuditsAs input r left ended
+front_audit input octets is_whole left ended (Ok (Pass summary)) front h k = absurd h
+front_audit input octets is_whole left ended (Ok (Fail n why)) front h k =
     let onward = FailsSoFar-onward octets n why h in
     let P : List ℕ → Type 0 = λ t. Fails t n why in
-    (subst P (sym front.split) (onward front.rest), inr (octets, front.rest, front.split, onward))
-front_audit input octets is_whole left (Err Endless) front h k = (octets, front.rest, front.split, front.left_is, k refl)
-front_audit input octets is_whole left (Err Read) front h k = tt
-front_audit input octets is_whole left (Err Memory) front h k = tt
+    (subst P (sym front.split) (onward front.rest), inr (octets, front.rest, front.split, front.left_is, onward))
+front_audit input octets is_whole left ended (Err Endless) front h k = (octets, front.rest, front.split, front.left_is, k refl)
+front_audit input octets is_whole left ended (Err Read) front h k = tt
+front_audit input octets is_whole left ended (Err Memory) front h k = tt
 
 -- ---- one read more
 

@@ -109,7 +109,7 @@ numbers_text : (front : List ℕ) (a b c d e f g : ℕ)
 numbers_text front a b c d e f g =
     ap (λ l. front ++ 32 ∷ (decimal a ++ 32 ∷ (decimal b ++ 32 ∷ (decimal c ++ 32 ∷ (decimal d ++ 32 ∷ (decimal e ++ 32 ∷ (decimal f ++ 32 ∷ l))))))) (sym (append-nil (decimal g)))
 
-line_text : (role : Role) (link : Side) (a b c d e f g : ℕ)
+pub line_text : (role : Role) (link : Side) (a b c d e f g : ℕ)
     → settings_line (record { role = role; link = link; device = a; t3 = b; t6 = c; t7 = d; t8 = e; max = f; depth = g })
     ≡ opening_of (record { role = role; link = link; device = a; t3 = b; t6 = c; t7 = d; t8 = e; max = f; depth = g }) ++ flat_map spaced (a ∷ b ∷ c ∷ d ∷ e ∷ f ∷ g ∷ [])
 unfolding settings_line

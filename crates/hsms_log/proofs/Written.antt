@@ -34,11 +34,11 @@ header_fits h f (suc (suc (suc (suc (suc (suc (suc (suc zero)))))))) = omega ari
 header_fits h f (suc (suc (suc (suc (suc (suc (suc (suc (suc zero))))))))) = omega arith
 header_fits h f (suc (suc (suc (suc (suc (suc (suc (suc (suc (suc i)))))))))) = omega arith
 
-message_fits : (frame : Frame) → IsMessage frame → IsOctets (message_octets frame)
+pub message_fits : (frame : Frame) → IsMessage frame → IsOctets (message_octets frame)
 unfolding message_octets
 message_fits frame f = IsOctets-append (header_octets frame.header) frame.text (header_fits frame.header f.header) f.text
 
-system_fits : (system : ℕ) → IsOctets (system_octets system)
+pub system_fits : (system : ℕ) → IsOctets (system_octets system)
 unfolding system_octets
 system_fits system zero = omega arith
 system_fits system (suc zero) = omega arith

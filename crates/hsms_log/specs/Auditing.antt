@@ -12,19 +12,26 @@ use Rattle.hsms_log.specs.Verdict.{Passes, Fails, FailsOnward, FailsSoFar}
 abbrev pub HoldsNoFailure : List ℕ → Type 0
 HoldsNoFailure text = (n : ℕ) (why : Why) → FailsSoFar text n why → ⊥
 
--- the audit's answer to an input, which it may have read in part, and what is left of the input
-abbrev pub AuditsAs : List ℕ → Result Verdict AuditFault → Option (List ℕ) → Type 0
-AuditsAs input (Ok (Pass summary)) left = Passes input summary × (left ≡ Some [])
-AuditsAs input (Ok (Fail n why)) left =
-    Fails input n why
-    × ((left ≡ Some []) ⊎ ((read rest : List ℕ) × (input ≡ read ++ rest) × FailsOnward read n why))
-AuditsAs input (Err Endless) left = (read rest : List ℕ) × (input ≡ read ++ rest) × (left ≡ Some rest) × HoldsNoFailure read
-AuditsAs input (Err Read) left = Unit {0}
-AuditsAs input (Err Memory) left = Unit {0}
+-- a front of the input was read, and each text that begins with it fails at line n
+abbrev pub FrontFails : List ℕ → ℕ → Why → Option (List ℕ) → Type 0
+FrontFails input n why left = (read rest : List ℕ) × (input ≡ read ++ rest) × (left ≡ Some rest) × FailsOnward read n why
+
+-- the audit's answer to an input, which it may have read in part, what is left of the input, and whether its end was
+-- found
+abbrev pub AuditsAs : List ℕ → Result Verdict AuditFault → Option (List ℕ) → Type 0 → Type 0
+AuditsAs input (Ok (Pass summary)) left ended = Passes input summary × (left ≡ Some [])
+AuditsAs input (Ok (Fail n why)) left ended = Fails input n why × (((left ≡ Some []) × ended) ⊎ FrontFails input n why left)
+AuditsAs input (Err Endless) left ended = (read rest : List ℕ) × (input ≡ read ++ rest) × (left ≡ Some rest) × HoldsNoFailure read
+AuditsAs input (Err Read) left ended = Unit {0}
+AuditsAs input (Err Memory) left ended = Unit {0}
 
 -- a stored count rose by k, unless it came to its greatest value
 abbrev pub RisesBy : ℕ → ℕ → ℕ → Type 0
 RisesBy old new k = old + k < 2 ^ 64 → new ≡ old + k
+
+-- a read found the end
+abbrev pub HasEnded : ℕ → ℕ → Type 0
+HasEnded old_ends new_ends = new_ends ≡ next_count old_ends
 
 -- how often a source has failed, by the answer
 abbrev pub failures_after : {T : Type 0} → Result T AuditFault → ℕ → ℕ
@@ -35,7 +42,7 @@ failures_after (Ok _) n = n
 
 -- which reads an answer needs: a pass the one that found the end, Endless all of them, and none that found the end
 abbrev pub UsesReads : Result Verdict AuditFault → ℕ → ℕ → ℕ → ℕ → ℕ → Type 0
-UsesReads (Ok (Pass summary)) reads old_pulls new_pulls old_ends new_ends = new_ends ≡ next_count old_ends
+UsesReads (Ok (Pass summary)) reads old_pulls new_pulls old_ends new_ends = HasEnded old_ends new_ends
 UsesReads (Ok (Fail n why)) reads old_pulls new_pulls old_ends new_ends = Unit {0}
 UsesReads (Err Endless) reads old_pulls new_pulls old_ends new_ends = RisesBy old_pulls new_pulls reads × (new_ends ≡ old_ends)
 UsesReads (Err Read) reads old_pulls new_pulls old_ends new_ends = Unit {0}

@@ -1,10 +1,10 @@
 -- The laws of log text and of verdicts (this project's own).
-use Rattle.std.specs.Prelude.{◌≡◌, ◌≤◌, ℕ, List, Option, Some, length}
+use Rattle.std.specs.Prelude.{◌≡◌, ◌≤◌, ℕ, List, Option, Some, All, length}
 use Rattle.hsms_machine.specs.declared.entry.Entry.{Entry}
 use Rattle.hsms_machine.specs.Settings.{Parameters, IsWithinLimits}
 use Rattle.hsms_log.specs.declared.verdict.Verdict.{Verdict}
 use Rattle.hsms_log.specs.Spelling.{SpellsSettings, SpellsEntry, Carries, IsEntry, entry_line, settings_line, line_limit}
-use Rattle.hsms_log.specs.Log.{LogText}
+use Rattle.hsms_log.specs.Log.{LogText, written_log}
 use Rattle.hsms_log.specs.Verdict.{Judges}
 
 -- each text has a verdict
@@ -38,3 +38,9 @@ WrittenEntryIsReadBack =
 -- what is written of settings spells no others
 abbrev pub WrittenSettingsAreReadBack : Type 0
 WrittenSettingsAreReadBack = (s t : Parameters) → SpellsSettings (settings_line s) t → IsWithinLimits s → t ≡ s
+
+-- what is written of a log, whose entries are within the limit of a line, is a text of it
+abbrev pub WrittenLogIsItsText : Type 0
+WrittenLogIsItsText =
+    (s : Parameters) (log : List Entry) → IsWithinLimits s
+    → All (λ entry. IsEntry entry × (length (entry_line entry) ≤ line_limit s.max)) log → LogText (written_log s log) s log

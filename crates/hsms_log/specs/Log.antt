@@ -1,9 +1,10 @@
 -- What the lines of a log spell (this project's own log text).
 use Rattle.std.specs.Prelude.{◌≡◌, ◌++◌, ℕ, List, [], ◌∷◌, Option, option_to_list}
+use Rattle.std.specs.List.{flat_map}
 use Rattle.hsms_machine.specs.declared.entry.Entry.{Entry}
 use Rattle.hsms_machine.specs.Settings.{Parameters}
 use Rattle.hsms_log.specs.Lines.{lines_of}
-use Rattle.hsms_log.specs.Spelling.{SpellsSettings, Carries}
+use Rattle.hsms_log.specs.Spelling.{SpellsSettings, Carries, settings_line, entry_line}
 
 -- each line is readable, and those that carry something carry the log's entries, in order
 abbrev pub CarryLog : ℕ → List (List ℕ) → List Entry → Type 0
@@ -20,3 +21,7 @@ SpellLog (first ∷ others) s log = SpellsSettings first s × CarryLog s.max oth
 -- the text spells the settings and the log
 abbrev pub LogText : List ℕ → Parameters → List Entry → Type 0
 LogText text s log = SpellLog (lines_of text) s log
+
+-- a log as it is written: each line ends with a line feed
+abbrev pub written_log : Parameters → List Entry → List ℕ
+written_log s log = settings_line s ++ 10 ∷ flat_map (λ entry. entry_line entry ++ 10 ∷ []) log

@@ -2,7 +2,7 @@
 
 ghost use Rattle.std.specs.Prelude.{◌≡◌, ◌≢◌, ◌≤◌, ◌+◌, IfOk, IfErr};
 ghost use Rattle.hsms_frame.specs.Device.{WhereTold};
-ghost use Rattle.hsms_log.specs.Auditing.{AuditsAs, UsesReads, FrontJudged, HoldsNoFailure, failures_after};
+ghost use Rattle.hsms_log.specs.Auditing.{AuditsAs, HasEnded, UsesReads, FrontJudged, HoldsNoFailure, failures_after};
 
 use crate::input::read_input;
 use crate::judging::Judge;
@@ -84,7 +84,8 @@ const ALL_READS: u32 = u32::MAX;
 /// What it does not say: that times and lines are what happened, that a timer fired in time, or that memory is there
 /// (`Memory`, where a growth was refused).
 pub fn audit<R: Source>(alloc: Global, source: &mut R) -> Result<Verdict, AuditFault>
-    ensures answer { WhereTold (R.left source.old) (λ input. AuditsAs input result (R.left source.new)) }
+    ensures answer { WhereTold (R.left source.old)
+        (λ input. AuditsAs input result (R.left source.new) (HasEnded (R.ends source.old) (R.ends source.new))) }
     ensures reads { UsesReads result 4294967295 (R.pulls source.old) (R.pulls source.new) (R.ends source.old) (R.ends source.new) }
     ensures pulls { R.pulls source.new ≤ R.pulls source.old + 4294967295 }
     ensures empty { R.empty_pulls source.new ≡ R.empty_pulls source.old }
@@ -101,7 +102,8 @@ pub fn audit_within<R: Source>(
     source: &mut R,
     reads: u32,
 ) -> Result<Verdict, AuditFault>
-    ensures answer { WhereTold (R.left source.old) (λ input. AuditsAs input result (R.left source.new)) }
+    ensures answer { WhereTold (R.left source.old)
+        (λ input. AuditsAs input result (R.left source.new) (HasEnded (R.ends source.old) (R.ends source.new))) }
     ensures reads { UsesReads result reads (R.pulls source.old) (R.pulls source.new) (R.ends source.old) (R.ends source.new) }
     ensures pulls { R.pulls source.new ≤ R.pulls source.old + reads }
     ensures empty { R.empty_pulls source.new ≡ R.empty_pulls source.old }

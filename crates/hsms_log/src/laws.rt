@@ -1,6 +1,6 @@
 //! Laws over the definitions of log text and of verdicts. Each is the contract of a function that does nothing.
 
-ghost use Rattle.hsms_log.specs.Laws.{EachTextHasAVerdict, NoTextHasTwoVerdicts, TextSpellsOneLog, WrittenEntryIsSpelled, WrittenSettingsAreSpelled, WrittenEntryIsReadBack, WrittenSettingsAreReadBack};
+ghost use Rattle.hsms_log.specs.Laws.{EachTextHasAVerdict, NoTextHasTwoVerdicts, TextSpellsOneLog, WrittenEntryIsSpelled, WrittenSettingsAreSpelled, WrittenEntryIsReadBack, WrittenSettingsAreReadBack, WrittenLogIsItsText};
 
 use hsms_machine::laws::{
     each_entry_has_one_answer, empty_log_is_run, front_of_run_is_run, lawful_entry_extends_run,
@@ -32,4 +32,10 @@ pub fn written_is_spelled()
 pub fn written_is_read_back()
     ensures entries { WrittenEntryIsReadBack }
     ensures settings { WrittenSettingsAreReadBack }
+{}
+
+/// What is written of settings and then of entries, each within the limit of a line, is a text of that log: each call
+/// wrote one line.
+pub fn written_log_is_its_text()
+    ensures { WrittenLogIsItsText }
 {}

@@ -11,44 +11,44 @@ use Rattle.hsms_tool.specs.Audit.{AuditAnswers, AuditsTo, IsEndless, Judged, Tel
 use Rattle.hsms_tool.specs.Show.{CountsFailure, IsReading, IsWrite}
 
 -- there is no verdict, and nothing was written
-pub stops_unjudged : (input before : List ℕ) (fault : ToolFault) (left written : Option (List ℕ)) → Judged input (Err fault) left → written ≡ Some before
-    → AuditsTo input before (Err fault) left written
-stops_unjudged input before (Refused words) left written why same = absurd why
-stops_unjudged input before (Device word) left written (inl read) same = inl (read, same)
-stops_unjudged input before (Device word) left written (inr endless) same = inr (inl (endless.0, endless.1, same))
-stops_unjudged input before Memory left written why same = same
+pub stops_unjudged : (input before : List ℕ) (fault : ToolFault) (left : Option (List ℕ)) (ended : Type 0) (written : Option (List ℕ)) → Judged input (Err fault) left ended
+    → written ≡ Some before → AuditsTo input before (Err fault) left ended written
+stops_unjudged input before (Refused words) left ended written why same = absurd why
+stops_unjudged input before (Device word) left ended written (inl read) same = inl (read, same)
+stops_unjudged input before (Device word) left ended written (inr endless) same = inr (inl (endless.0, endless.1, same))
+stops_unjudged input before Memory left ended written why same = same
 
 -- there is no verdict
-pub answers_unjudged : (input : List ℕ) (fault : ToolFault) (left : Option (List ℕ)) → Judged input (Err fault) left
-    → AuditAnswers input (Err fault) left
-answers_unjudged input (Refused words) left why = absurd why
-answers_unjudged input (Device word) left (inl read) = inl read
-answers_unjudged input (Device word) left (inr endless) = inr (inl endless)
-answers_unjudged input Memory left why = tt
+pub answers_unjudged : (input : List ℕ) (fault : ToolFault) (left : Option (List ℕ)) (ended : Type 0) → Judged input (Err fault) left ended
+    → AuditAnswers input (Err fault) left ended
+answers_unjudged input (Refused words) left ended why = absurd why
+answers_unjudged input (Device word) left ended (inl read) = inl read
+answers_unjudged input (Device word) left ended (inr endless) = inr (inl endless)
+answers_unjudged input Memory left ended why = tt
 
 -- the line of a verdict was not written
-pub answers_unwritten : (input : List ℕ) (verdict : Verdict) (fault : ToolFault) (left : Option (List ℕ)) → AuditsAs input (Ok verdict) left → IsWrite fault
-    → AuditAnswers input (Err fault) left
-answers_unwritten input verdict (Refused words) left audits word = absurd word
-answers_unwritten input verdict (Device given) left audits word = inr (inr (word, verdict, audits))
-answers_unwritten input verdict Memory left audits word = absurd word
+pub answers_unwritten : (input : List ℕ) (verdict : Verdict) (fault : ToolFault) (left : Option (List ℕ)) (ended : Type 0) → AuditsAs input (Ok verdict) left ended → IsWrite fault
+    → AuditAnswers input (Err fault) left ended
+answers_unwritten input verdict (Refused words) left ended audits word = absurd word
+answers_unwritten input verdict (Device given) left ended audits word = inr (inr (word, verdict, audits))
+answers_unwritten input verdict Memory left ended audits word = absurd word
 
 -- ---- a fault of the audit that is told
 
 other_word : (given : List ℕ) → given ≡ codes "Endless" → given ≢ codes "Read"
 other_word given e w = let first : ◌≡◌ {A = ℕ} 69 82 = ap (λ xs. get_or xs 0 0) (sym e ∙ w) in absurd (omega arith)
 
-pub told_answer : (input : List ℕ) (fault : AuditFault) (tool : ToolFault) (left : Option (List ℕ)) → AuditsAs input (Err fault) left
-    → TellsAudit fault tool → Judged input (Err tool) left
-told_answer input audit.Read (Device word) left audits told = inl told
-told_answer input audit.Read (Refused words) left audits told = absurd told
-told_answer input audit.Read Memory left audits told = absurd told
-told_answer input audit.Endless (Device word) left audits told = inr (told, audits)
-told_answer input audit.Endless (Refused words) left audits told = absurd told
-told_answer input audit.Endless Memory left audits told = absurd told
-told_answer input audit.Memory (Device word) left audits told = absurd told
-told_answer input audit.Memory (Refused words) left audits told = absurd told
-told_answer input audit.Memory Memory left audits told = tt
+pub told_answer : (input : List ℕ) (fault : AuditFault) (tool : ToolFault) (left : Option (List ℕ)) (ended : Type 0) → AuditsAs input (Err fault) left ended
+    → TellsAudit fault tool → Judged input (Err tool) left ended
+told_answer input audit.Read (Device word) left ended audits told = inl told
+told_answer input audit.Read (Refused words) left ended audits told = absurd told
+told_answer input audit.Read Memory left ended audits told = absurd told
+told_answer input audit.Endless (Device word) left ended audits told = inr (told, audits)
+told_answer input audit.Endless (Refused words) left ended audits told = absurd told
+told_answer input audit.Endless Memory left ended audits told = absurd told
+told_answer input audit.Memory (Device word) left ended audits told = absurd told
+told_answer input audit.Memory (Refused words) left ended audits told = absurd told
+told_answer input audit.Memory Memory left ended audits told = tt
 
 pub told_endless : (fault : AuditFault) (tool : ToolFault) (reads old_pulls new_pulls old_ends new_ends : ℕ)
     → UsesReads (Err fault) reads old_pulls new_pulls old_ends new_ends → TellsAudit fault tool → IsEndless tool

@@ -22,38 +22,38 @@ IsEndless Memory = ⊥
 
 -- a device's word, and what it leaves written: nothing where the input was at fault, and else a part of the verdict's
 -- line
-abbrev pub AuditStopsBy : List ℕ → List ℕ → List ℕ → Option (List ℕ) → Option (List ℕ) → Type 0
-AuditStopsBy input before word left written =
+abbrev pub AuditStopsBy : List ℕ → List ℕ → List ℕ → Option (List ℕ) → Type 0 → Option (List ℕ) → Type 0
+AuditStopsBy input before word left ended written =
     ((word ≡ codes "Read") × (written ≡ Some before))
-    ⊎ ((word ≡ codes "Endless") × AuditsAs input (Err Endless) left × (written ≡ Some before))
-    ⊎ ((word ≡ codes "Write") × (verdict : Verdict) × (n : ℕ) × AuditsAs input (Ok verdict) left
+    ⊎ ((word ≡ codes "Endless") × AuditsAs input (Err Endless) left ended × (written ≡ Some before))
+    ⊎ ((word ≡ codes "Write") × (verdict : Verdict) × (n : ℕ) × AuditsAs input (Ok verdict) left ended
     × (n < length (verdict_line_of verdict)) × (written ≡ Some (before ++ take n (verdict_line_of verdict))))
 
--- the answers to an input, each with what is left of it and what was written
-abbrev pub AuditsTo : List ℕ → List ℕ → Result Bool ToolFault → Option (List ℕ) → Option (List ℕ) → Type 0
-AuditsTo input before (Ok passes) left written =
-    (verdict : Verdict) × AuditsAs input (Ok verdict) left × (passes ≡ is_pass verdict) × (written ≡ Some (before ++ verdict_line_of verdict))
-AuditsTo input before (Err (Refused words)) left written = ⊥
-AuditsTo input before (Err (Device word)) left written = AuditStopsBy input before word.now left written
-AuditsTo input before (Err Memory) left written = written ≡ Some before
+-- the answers to an input, each with what is left of it, whether its end was found, and what was written
+abbrev pub AuditsTo : List ℕ → List ℕ → Result Bool ToolFault → Option (List ℕ) → Type 0 → Option (List ℕ) → Type 0
+AuditsTo input before (Ok passes) left ended written =
+    (verdict : Verdict) × AuditsAs input (Ok verdict) left ended × (passes ≡ is_pass verdict) × (written ≡ Some (before ++ verdict_line_of verdict))
+AuditsTo input before (Err (Refused words)) left ended written = ⊥
+AuditsTo input before (Err (Device word)) left ended written = AuditStopsBy input before word.now left ended written
+AuditsTo input before (Err Memory) left ended written = written ≡ Some before
 
 -- the answers to an input, whatever the sink tells of what was written
-abbrev pub AuditAnswers : List ℕ → Result Bool ToolFault → Option (List ℕ) → Type 0
-AuditAnswers input (Ok passes) left = (verdict : Verdict) × AuditsAs input (Ok verdict) left × (passes ≡ is_pass verdict)
-AuditAnswers input (Err (Refused words)) left = ⊥
-AuditAnswers input (Err (Device word)) left =
+abbrev pub AuditAnswers : List ℕ → Result Bool ToolFault → Option (List ℕ) → Type 0 → Type 0
+AuditAnswers input (Ok passes) left ended = (verdict : Verdict) × AuditsAs input (Ok verdict) left ended × (passes ≡ is_pass verdict)
+AuditAnswers input (Err (Refused words)) left ended = ⊥
+AuditAnswers input (Err (Device word)) left ended =
     (word.now ≡ codes "Read")
-    ⊎ ((word.now ≡ codes "Endless") × AuditsAs input (Err Endless) left)
-    ⊎ ((word.now ≡ codes "Write") × (verdict : Verdict) × AuditsAs input (Ok verdict) left)
-AuditAnswers input (Err Memory) left = Unit {0}
+    ⊎ ((word.now ≡ codes "Endless") × AuditsAs input (Err Endless) left ended)
+    ⊎ ((word.now ≡ codes "Write") × (verdict : Verdict) × AuditsAs input (Ok verdict) left ended)
+AuditAnswers input (Err Memory) left ended = Unit {0}
 
 -- a log is judged, or why it isn't
-abbrev pub Judged : List ℕ → Result Verdict ToolFault → Option (List ℕ) → Type 0
-Judged input (Ok verdict) left = AuditsAs input (Ok verdict) left
-Judged input (Err (Refused words)) left = ⊥
-Judged input (Err (Device word)) left =
-    (word.now ≡ codes "Read") ⊎ ((word.now ≡ codes "Endless") × AuditsAs input (Err Endless) left)
-Judged input (Err Memory) left = Unit {0}
+abbrev pub Judged : List ℕ → Result Verdict ToolFault → Option (List ℕ) → Type 0 → Type 0
+Judged input (Ok verdict) left ended = AuditsAs input (Ok verdict) left ended
+Judged input (Err (Refused words)) left ended = ⊥
+Judged input (Err (Device word)) left ended =
+    (word.now ≡ codes "Read") ⊎ ((word.now ≡ codes "Endless") × AuditsAs input (Err Endless) left ended)
+Judged input (Err Memory) left ended = Unit {0}
 
 -- the fault of an audit, as the command tells it
 abbrev pub TellsAudit : AuditFault → ToolFault → Type 0

@@ -4,7 +4,7 @@ ghost use Rattle.std.specs.Prelude.{◌≡◌, ◌≤◌, ◌+◌, IfOk, IfErr, 
 ghost use Rattle.std.specs.Bool.{OnTrue};
 ghost use Rattle.hsms_frame.specs.Count.{next_count};
 ghost use Rattle.hsms_frame.specs.Device.{WhereTold};
-ghost use Rattle.hsms_log.specs.Auditing.{RisesBy};
+ghost use Rattle.hsms_log.specs.Auditing.{HasEnded, RisesBy};
 ghost use Rattle.hsms_tool.specs.Audit.{AuditAnswers, AuditsTo, Judged, IsEndless, TellsAudit, is_pass};
 ghost use Rattle.hsms_tool.specs.Show.{CountsFailure, IsReadWriteOrEndless, IsReading};
 
@@ -27,9 +27,11 @@ pub fn audit_to<R: Source, W: Sink>(
     sink: &mut W,
 ) -> Result<bool, ToolFault>
     ensures line { WhereTold (R.left source.old) (λ input. WhereTold (W.written sink.old)
-        (λ before. AuditsTo input before result (R.left source.new) (W.written sink.new))) }
+        (λ before. AuditsTo input before result (R.left source.new) (HasEnded (R.ends source.old) (R.ends source.new))
+        (W.written sink.new))) }
     // Where the sink doesn't tell its octets, the answer is right all the same.
-    ensures answer { WhereTold (R.left source.old) (λ input. AuditAnswers input result (R.left source.new)) }
+    ensures answer { WhereTold (R.left source.old)
+        (λ input. AuditAnswers input result (R.left source.new) (HasEnded (R.ends source.old) (R.ends source.new))) }
     ensures pass { IfOk result (λ passes. OnTrue passes (R.ends source.new ≡ next_count (R.ends source.old))) }
     ensures endless { IfErr result (λ fault. IsEndless fault
         → RisesBy (R.pulls source.old) (R.pulls source.new) 4294967295 × (R.ends source.new ≡ R.ends source.old)) }
@@ -47,7 +49,8 @@ pub fn audit_to<R: Source, W: Sink>(
 
 // The verdict on a log.
 fn judged<R: Source>(alloc: Global, source: &mut R) -> Result<Verdict, ToolFault>
-    ensures answer { WhereTold (R.left source.old) (λ input. Judged input result (R.left source.new)) }
+    ensures answer { WhereTold (R.left source.old)
+        (λ input. Judged input result (R.left source.new) (HasEnded (R.ends source.old) (R.ends source.new))) }
     ensures pass { IfOk result (λ verdict. OnTrue (is_pass verdict) (R.ends source.new ≡ next_count (R.ends source.old))) }
     ensures endless { IfErr result (λ fault. IsEndless fault
         → RisesBy (R.pulls source.old) (R.pulls source.new) 4294967295 × (R.ends source.new ≡ R.ends source.old)) }

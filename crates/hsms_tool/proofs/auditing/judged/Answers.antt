@@ -2,7 +2,7 @@ use Rattle.hsms_tool.proofs.Audits.{told_answer, told_endless, told_reads, told_
 use Rattle.hsms_tool.proofs.auditing.judged.Goals as goal
 
 pub returns-in-Err-clause-answer : goal.returns-in-Err-clause-answer
-returns-in-Err-clause-answer g c = λ input told. told_answer _ _ _ _ (c.in-Err.ensures.answer input told) c.told.ensures
+returns-in-Err-clause-answer g c = λ input told. told_answer _ _ _ _ _ (c.in-Err.ensures.answer input told) c.told.ensures
 
 pub returns-in-Err-clause-endless : goal.returns-in-Err-clause-endless
 returns-in-Err-clause-endless g c = told_endless _ _ _ _ _ _ _ c.in-Err.ensures.reads c.told.ensures
