@@ -29,7 +29,7 @@ body_ok false false short x y e = absurd cc
 body_ok false true true x y e = absurd cc
 body_ok false true false x y e = (cc, λ f. (refl, refl))
 
-ok_body : (lists whole short : Bool) (x : Head) → (lists ≡ false → (whole ≡ true) × (short ≡ false)) → cond lists (Ok x) (cond (not whole) (Err ragged) (cond short (Err truncated) (Ok x))) ≡ Ok x
+pub ok_body : (lists whole short : Bool) (x : Head) → (lists ≡ false → (whole ≡ true) × (short ≡ false)) → cond lists (Ok x) (cond (not whole) (Err ragged) (cond short (Err truncated) (Ok x))) ≡ Ok x
 ok_body true whole short x h = refl
 ok_body false whole short x h = let p = h refl in rw (p.0, p.1) refl
 
@@ -131,6 +131,11 @@ header_is depth (first ∷ rest) head h e =
     let a = guard_ok (eqb (first % 4) 0) no_length (with_format depth (format_with_code (first / 4)) (first % 4) rest) head e in
     formatted depth first rest head (format_with_code (first / 4)) refl (some_field (first % 4) a.0) (IsOctets-tail first rest h) a.1
 
+pub is_deep : (lists : Bool) (depth : ℕ) → (lists ≡ true → 0 < depth) → lists && eqb depth 0 ≡ false
+is_deep false depth h = refl
+is_deep true zero h = absurd (omega (arith, h refl))
+is_deep true (suc depth) h = eqb-suc-zero depth
+
 -- what is spelled is read, whatever follows
 pub header_reads : (depth : ℕ) (f : Format) (field number : ℕ) (rest : List ℕ) → 1 ≤ field → field ≤ 3 → number < 256 ^ field → (is_list f ≡ true → 0 < depth)
     → (is_list f ≡ false → (number % value_size f ≡ 0) × (number ≤ length rest)) → header_at depth (header f field number ++ rest) ≡ Ok (record { format = f; size = 1 + field; length = number })
@@ -148,8 +153,3 @@ header_reads depth f field number rest some few fits deep_enough whole =
     let left : length after - field ≡ length rest = omega arith in
     rw (low, high, there, format_with_code-code_of f, allowed, long, value, left)
     (ok_body (is_list f) (eqb (number % value_size f) 0) (ltb (length rest) number) (record { format = f; size = 1 + field; length = number }) (λ lists. (eq-eqb _ 0 (whole lists).0, le-ltb _ _ (whole lists).1)))
-  where
-    is_deep : (lists : Bool) (depth : ℕ) → (lists ≡ true → 0 < depth) → lists && eqb depth 0 ≡ false
-    is_deep false depth h = refl
-    is_deep true zero h = absurd (omega (arith, h refl))
-    is_deep true (suc depth) h = eqb-suc-zero depth

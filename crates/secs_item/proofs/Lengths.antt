@@ -19,7 +19,7 @@ behind_element : (place size : ℕ) (v : Value) (others : Result (Elements × �
 behind_element place size v (Ok o) = ap (λ (n : ℕ). Ok n) (sym (add_assoc place size o.1))
 behind_element place size v (Err f) = ap (λ (n : ℕ). Err (fault_at n f.reason)) (sym (add_assoc place size f.at))
 
-first_is : (one : List ℕ → Result (Value × ℕ) Fault) (place n : ℕ) (octets : List ℕ) (r : Result (Value × ℕ) Fault) (end : ℕ) → Ok end ≡ end_from place r → one (drop place octets) ≡ r
+pub first_is : (one : List ℕ → Result (Value × ℕ) Fault) (place n : ℕ) (octets : List ℕ) (r : Result (Value × ℕ) Fault) (end : ℕ) → Ok end ≡ end_from place r → one (drop place octets) ≡ r
     → end_from place (elements_by one (suc n) (drop place octets)) ≡ end_from end (elements_by one n (drop end octets))
 unfolding elements_by
 first_is one place n octets (Ok x) end ended is =
@@ -28,7 +28,7 @@ first_is one place n octets (Ok x) end ended is =
     ∙ ap (λ (o : List ℕ). end_from (place + x.1) (elements_by one n o)) (drop-drop x.1 place octets))
 first_is one place n octets (Err f) end ended is = absurd cc
 
-first_fails : (one : List ℕ → Result (Value × ℕ) Fault) (place n : ℕ) (octets : List ℕ) (r : Result (Value × ℕ) Fault) (e : ItemFault) → Err e ≡ end_from place r → one (drop place octets) ≡ r
+pub first_fails : (one : List ℕ → Result (Value × ℕ) Fault) (place n : ℕ) (octets : List ℕ) (r : Result (Value × ℕ) Fault) (e : ItemFault) → Err e ≡ end_from place r → one (drop place octets) ≡ r
     → end_from place (elements_by one (suc n) (drop place octets)) ≡ Err e
 unfolding elements_by
 first_fails one place n octets (Ok x) e ended is = absurd cc

@@ -1,20 +1,52 @@
 -- What the functions over places give, beside what is read behind the place.
-use Rattle.std.specs.Prelude.{◌≡◌, ℕ, ◌+◌, Result, Ok, Err}
+use Rattle.std.specs.Prelude.{◌≡◌, ◌≤◌, ◌<◌, ℕ, zero, suc, ◌+◌, ◌-◌, true, false, List, slice_index, drop, if◌then◌else◌, Option, Some, None, Result, Ok, Err}
 use Rattle.secs_item.specs.declared.fault.ItemFault.{ItemFault}
+use Rattle.secs_item.specs.declared.format.Format.{Format}
 use Rattle.secs_item.specs.declared.header.Header.{Header}
+use Rattle.secs_item.specs.declared.extent.Extent.{Extent}
 use Rattle.secs_item.specs.Fault.{fault_at}
+use Rattle.secs_item.specs.Format.{is_list, value_size}
 use Rattle.secs_item.specs.Header.{Reason, Head}
-use Rattle.secs_item.specs.Reading.{Fault}
+use Rattle.secs_item.specs.Reading.{Fault, elements_by, item_at}
 
 -- the header that is read at a place
 abbrev pub header_from : ℕ → Result Head Reason → Result Header ItemFault
 header_from place (Ok head) = Ok (record { format = head.format; body = place + head.size; length = head.length })
 header_from place (Err reason) = Err (fault_at place reason)
 
+-- the same, where only lists are told from values
+abbrev pub extent_from : ℕ → Result Head Reason → Result Extent ItemFault
+extent_from place (Ok head) = Ok (record { of_items = is_list head.format; body = place + head.size; length = head.length })
+extent_from place (Err reason) = Err (fault_at place reason)
+
+-- by format: the octets of one value, less one; 0x80 for a list, and 0xff where no format has the code
+abbrev pub mask_for : Option Format → ℕ
+mask_for None = 0xff
+mask_for (Some format) = if is_list format then 0x80 else (value_size format - 1)
+
+-- what is known of an extent that is read at a place of so many octets
+pub record LiesIn (depth place octets : ℕ) (extent : Extent) : Type 0 where
+  pub deep_enough : extent.of_items ≡ true → 0 < depth
+  pub behind : place < extent.body
+  pub body : extent.body ≤ octets
+  pub values : extent.of_items ≡ false → extent.body + extent.length ≤ octets
+
 -- the place after what is read at a place
 abbrev pub end_from : {A : Type 0} → ℕ → Result (A × ℕ) Fault → Result ℕ ItemFault
 end_from place (Ok x) = Ok (place + x.1)
 end_from place (Err f) = Err (fault_at (place + f.at) f.reason)
+
+-- what follows where an end was found
+abbrev pub and_from_there : Result ℕ ItemFault → (ℕ → Result ℕ ItemFault) → Result ℕ ItemFault
+and_from_there (Ok end) next = next end
+and_from_there (Err fault) next = Err fault
+
+-- Where the outermost of `lists` lists that stand open ends. The first of them was allowed `depth`, and each has as many
+-- elements still to come as `counts` says, the outermost first.
+unfoldable pub end_of_lists : List ℕ → ℕ → List ℕ → ℕ → ℕ → Result ℕ ItemFault
+end_of_lists counts depth octets zero place = Ok place
+end_of_lists counts depth octets (suc lists) place =
+    and_from_there (end_from place (elements_by (item_at (depth - suc lists)) (slice_index counts lists) (drop place octets))) (end_of_lists counts depth octets lists)
 
 -- what is read at a place is this value, and ends here
 abbrev pub EndsAt : {A : Type 0} → ℕ → Result (A × ℕ) Fault → A → ℕ → Type 0

@@ -21,7 +21,7 @@ pub struct Header {
 }
 
 /// The number in a length field of one to three octets.
-fn read_length(octets: &[u8], field: usize) -> usize
+pub fn read_length(octets: &[u8], field: usize) -> usize
     requires one_at_least { 1 ≤ field }
     requires three_at_most { field ≤ 3 }
     requires there { field ≤ length octets.now }
@@ -40,6 +40,7 @@ pub fn read_header(octets: &[u8], place: usize, depth: u8) -> Result<Header, Ite
     requires { place ≤ length octets.now }
     ensures read { result ≡ header_from place (header_at depth (drop place octets.now)) }
     ensures list { IfOk result (λ h. is_list h.format ≡ true → 0 < depth) }
+    ensures behind { IfOk result (λ h. place < h.body) }
     ensures header { IfOk result (λ h. h.body ≤ length octets.now) }
     ensures whole { IfOk result (λ h. is_list h.format ≡ false → h.length % value_size h.format ≡ 0) }
     ensures values { IfOk result (λ h. is_list h.format ≡ false → h.body + h.length ≤ length octets.now) }

@@ -9,6 +9,7 @@
 
 mod decode;
 mod encoding;
+mod extent;
 mod fault;
 mod format;
 mod header;

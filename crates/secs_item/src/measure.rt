@@ -1,6 +1,6 @@
 //! The length of an item, measured without making the item.
 
-ghost use Rattle.std.specs.Prelude.{◌≡◌, ◌≤◌, ℕ, length, drop, IfOk, IfErr, OnOk, IsOk};
+ghost use Rattle.std.specs.Prelude.{◌≡◌, ◌≤◌, ◌<◌, ◌-◌, ℕ, length, drop, IfOk, IfErr, OnOk, IsOk};
 ghost use Rattle.secs_item.specs.Fault.{Faults, TextFaults, IsTold, fault_at};
 ghost use Rattle.secs_item.specs.Header.{Reason};
 ghost use Rattle.secs_item.specs.Measure.{end_from};
@@ -8,38 +8,55 @@ ghost use Rattle.secs_item.specs.Reading.{item_at, elements_by};
 ghost use Rattle.secs_item.specs.Spelling.{IsAtFront, IsText};
 ghost use Rattle.secs_item.specs.Item.{Value};
 
+use crate::extent::read_extent;
 use crate::fault::ItemFault;
-use crate::format::Format;
-use crate::header::read_header;
 
-/// The place after the item at `place`.
-#[cycle(measure)]
-fn end_of_item(octets: &[u8], place: usize, depth: u8) -> Result<usize, ItemFault>
-    requires { place ≤ length octets.now }
-    ensures end { result ≡ end_from place (item_at depth (drop place octets.now)) }
-    ensures within { IfOk result (λ end. end ≤ length octets.now) }
-{
-    let header = read_header(octets, place, depth)?;
-    match header.format {
-        Format::List => end_of_elements(octets, header.body, header.length, depth - 1),
-        _ => Ok(header.body + header.length),
-    }
-}
+/// How deep lists nest at most.
+const MAX_DEPTH: usize = 100;
 
-/// The place after `count` items from `place` on.
-#[cycle(measure)]
+/// The place after the `count` elements of a list whose header was read where lists could be nested `depth` deep, and
+/// whose body begins at `place`. For each list that stands open it keeps how many elements are still to come.
 fn end_of_elements(octets: &[u8], place: usize, count: usize, depth: u8) -> Result<usize, ItemFault>
-    requires { place ≤ length octets.now }
-    ensures end { result ≡ end_from place (elements_by (item_at depth) count (drop place octets.now)) }
-    ensures within { IfOk result (λ end. end ≤ length octets.now) }
+    requires within { place ≤ length octets.now }
+    requires some { 0 < depth }
+    requires few { depth ≤ 100 }
+    ensures { result ≡ end_from place (elements_by (item_at (depth - 1)) count (drop place octets.now)) }
 {
+    let mut counts = [0; MAX_DEPTH];
+    counts[0] = count;
+    let mut lists = 1u8;
     let mut end = place;
-    for _ in 0..count {
-        end = end_of_item(octets, end, depth)?;
+    while lists > 0 {
+        let innermost = usize::from(lists) - 1;
+        let left = counts[innermost];
+        if left == 0 {
+            lists -= 1;
+            continue;
+        }
+        counts[innermost] = left - 1;
+        let element = read_extent(octets, end, depth - lists)?;
+        end = element.body;
+        if element.of_items {
+            counts[usize::from(lists)] = element.length;
+            lists += 1;
+        } else {
+            end += element.length;
+        }
     }
     Ok(end)
 }
 
+/// The place after the item at the front. An item of values is told apart before a list's counts are made.
+fn end_of_item(octets: &[u8], depth: u8) -> Result<usize, ItemFault>
+    requires { depth ≤ 100 }
+    ensures { result ≡ end_from 0 (item_at depth octets.now) }
+{
+    let item = read_extent(octets, 0, depth)?;
+    if item.of_items {
+        return end_of_elements(octets, item.body, item.length, depth);
+    }
+    Ok(item.body + item.length)
+}
 /// How many octets spell the item at the front, whose lists are nested at most `depth` deep. What follows isn't looked
 /// at. The depth is at most 100. Takes no memory, and never answers `Trailing`, `TooLarge` or `Memory`.
 pub fn measure_front(octets: &[u8], depth: u8) -> Result<usize, ItemFault>
@@ -50,7 +67,7 @@ pub fn measure_front(octets: &[u8], depth: u8) -> Result<usize, ItemFault>
     ensures err_where { (at : ℕ) (reason : Reason) → Faults depth octets.now at reason
         → result ≡ Err (fault_at at reason) }
 {
-    end_of_item(octets, 0, depth)
+    end_of_item(octets, depth)
 }
 
 /// Whether the octets are a message's text: nothing, or one item whose lists are nested at most `depth` deep.

@@ -1,0 +1,115 @@
+-- Extents: what the table of masks says, and headers that have no fault.
+use Rattle.std.proofs.Common.{◌≡◌, ℕ, ◌+◌, ◌-◌, ◌/◌, ◌%◌, ◌<◌, ◌≤◌, Bool, true, false, eqb, ltb, List, ◌∷◌, length, drop, get_or, bit_and, Option, Some, None, Result, Ok, refl, sym, ap, ◌∙◌, arith}
+use Rattle.std.specs.Prelude.{◌&&◌}
+use Rattle.std.proofs.lemmas.Bool.{eqb-true, le-ltb, ne_eqb, eq-eqb, agree_below_at}
+use Rattle.std.proofs.lemmas.Nat.{and_mask}
+use Rattle.byteorder.specs.Endian.{big_number}
+use Rattle.secs_item.specs.declared.extent.TheConstants.{MASKS}
+use Rattle.secs_item.specs.declared.fault.ItemFault.{ItemFault}
+use Rattle.secs_item.specs.declared.extent.Extent.{Extent}
+use Rattle.secs_item.specs.declared.format.Format.{Format}
+use Rattle.secs_item.specs.declared.format.Format.TheVariants as format
+use Rattle.secs_item.specs.Format.{format_with_code, is_list, value_size}
+use Rattle.secs_item.specs.Header.{Reason, Head, header_at}
+use Rattle.secs_item.specs.Measure.{extent_from, mask_for}
+use Rattle.secs_item.proofs.Headers.{ok_body, is_deep}
+
+-- ---- masks
+
+pub masks_right : (code : ℕ) → code < 64 → get_or MASKS code 0 ≡ mask_for (format_with_code code)
+unfolding format_with_code
+masks_right code lt = eqb-true _ _ (agree_below_at (λ k. eqb (get_or MASKS k 0) (mask_for (format_with_code k))) (λ k. true) 64 code refl lt)
+
+-- where a number has none of the bits of a format's mask, it is a number of whole values
+mask_is_size : (f : Format) (n : ℕ) → bit_and n (value_size f - 1) ≡ n % value_size f
+mask_is_size format.List n = and_mask n 0
+mask_is_size format.Binary n = and_mask n 0
+mask_is_size format.Boolean n = and_mask n 0
+mask_is_size format.Ascii n = and_mask n 0
+mask_is_size format.Jis8 n = and_mask n 0
+mask_is_size format.Char2 n = and_mask n 0
+mask_is_size format.I8 n = and_mask n 3
+mask_is_size format.I1 n = and_mask n 0
+mask_is_size format.I2 n = and_mask n 1
+mask_is_size format.I4 n = and_mask n 2
+mask_is_size format.F8 n = and_mask n 3
+mask_is_size format.F4 n = and_mask n 2
+mask_is_size format.U8 n = and_mask n 3
+mask_is_size format.U1 n = and_mask n 0
+mask_is_size format.U2 n = and_mask n 1
+mask_is_size format.U4 n = and_mask n 2
+
+-- ---- headers that have no fault
+
+faultless : (depth first : ℕ) (rest : List ℕ) (f : Format) → (first % 4 ≡ 0 → ⊥) → first % 4 ≤ length rest → format_with_code (first / 4) ≡ Some f → (is_list f ≡ true → 0 < depth)
+    → (is_list f ≡ false → (big_number (first % 4) rest % value_size f ≡ 0) × (big_number (first % 4) rest ≤ length rest - first % 4))
+    → header_at depth (first ∷ rest) ≡ Ok (record { format = f; size = 1 + first % 4; length = big_number (first % 4) rest })
+unfolding header_at
+faultless depth first rest f some long code deep whole =
+    let there : eqb (first % 4) 0 ≡ false = ne_eqb (first % 4) 0 some in
+    let allowed : is_list f && eqb depth 0 ≡ false = is_deep (is_list f) depth deep in
+    let enough : ltb (length rest) (first % 4) ≡ false = le-ltb (length rest) (first % 4) long in
+    rw (there, code, allowed, enough)
+    (ok_body (is_list f) (eqb (big_number (first % 4) rest % value_size f) 0) (ltb (length rest - first % 4) (big_number (first % 4) rest)) (record { format = f; size = 1 + first % 4; length = big_number (first % 4) rest })
+    (λ lists. (eq-eqb _ 0 (whole lists).0, le-ltb _ _ (whole lists).1)))
+
+from_head : (place : ℕ) (r : Result Head Reason) (head : Head) → r ≡ Ok head → ◌≡◌ {A = Result Extent ItemFault} (Ok (record { of_items = is_list head.format; body = place + head.size; length = head.length })) (extent_from place r)
+from_head place r head is = rw is refl
+
+same_extent : (b c : Bool) (x y n m : ℕ) → b ≡ c → x ≡ y → n ≡ m → ◌≡◌ {A = Result Extent ItemFault} (Ok (record { of_items = b; body = x; length = n })) (Ok (record { of_items = c; body = y; length = m }))
+same_extent b c x y n m bs xs ns = cc
+
+-- the format with this code has this mask
+values_with : (o : Option Format) (mask : ℕ) → mask ≡ mask_for o → mask < 128 → (f : Format) × (o ≡ Some f) × (is_list f ≡ false) × (mask ≡ value_size f - 1)
+values_with None mask is low = absurd (omega arith)
+values_with (Some f) mask is low = by_kind (is_list f) refl
+  where
+    by_kind : (b : Bool) → is_list f ≡ b → (g : Format) × (Some f ≡ Some g) × (is_list g ≡ false) × (mask ≡ value_size g - 1)
+    by_kind true lists = let m : mask ≡ 0x80 = is ∙ rw lists refl in absurd (omega arith)
+    by_kind false lists = (f, refl, lists, is ∙ rw lists refl)
+
+sizes_are_small : (f : Format) → value_size f ≤ 8
+sizes_are_small format.List = omega arith
+sizes_are_small format.Binary = omega arith
+sizes_are_small format.Boolean = omega arith
+sizes_are_small format.Ascii = omega arith
+sizes_are_small format.Jis8 = omega arith
+sizes_are_small format.Char2 = omega arith
+sizes_are_small format.I8 = omega arith
+sizes_are_small format.I1 = omega arith
+sizes_are_small format.I2 = omega arith
+sizes_are_small format.I4 = omega arith
+sizes_are_small format.F8 = omega arith
+sizes_are_small format.F4 = omega arith
+sizes_are_small format.U8 = omega arith
+sizes_are_small format.U1 = omega arith
+sizes_are_small format.U2 = omega arith
+sizes_are_small format.U4 = omega arith
+
+list_with : (o : Option Format) (mask : ℕ) → mask ≡ mask_for o → mask ≡ 128 → (f : Format) × (o ≡ Some f) × (is_list f ≡ true)
+list_with None mask is high = absurd (omega arith)
+list_with (Some f) mask is high = by_kind (is_list f) refl
+  where
+    by_kind : (b : Bool) → is_list f ≡ b → (g : Format) × (Some f ≡ Some g) × (is_list g ≡ true)
+    by_kind true lists = (f, refl, lists)
+    by_kind false lists = let m : mask ≡ value_size f - 1 = is ∙ rw lists refl in absurd (omega (arith, sizes_are_small f))
+
+-- a header of values, and of a list
+pub values_read : (depth place first number field : ℕ) (octets rest : List ℕ) (mask : ℕ) → drop place octets ≡ first ∷ rest → field ≡ first % 4 → (field ≡ 0 → ⊥) → field ≤ length rest → mask ≡ mask_for (format_with_code (first / 4)) → mask < 128
+    → number ≡ big_number field rest → bit_and number mask ≡ 0 → number ≤ length rest - field
+    → ◌≡◌ {A = Result Extent ItemFault} (Ok (record { of_items = false; body = place + 1 + field; length = number })) (extent_from place (header_at depth (drop place octets)))
+values_read depth place first number field octets rest mask front field_is some long is low number_is whole there =
+    let p = values_with (format_with_code (first / 4)) mask is low in
+    let sized : big_number field rest % value_size p.0 ≡ 0 = sym (mask_is_size p.0 (big_number field rest)) ∙ rw (← number_is, ← p.3) whole in
+    let read = faultless depth first rest p.0 (rw field_is at some) (rw field_is at long) p.1 (λ lists. absurd cc) (λ lists. (rw field_is at sized, rw field_is at (rw number_is at there))) in
+    same_extent false (is_list p.0) (place + 1 + field) (place + (1 + first % 4)) number (big_number (first % 4) rest) (sym p.2) (omega (arith, field_is)) (rw field_is at number_is)
+    ∙ from_head place (header_at depth (drop place octets)) (record { format = p.0; size = 1 + first % 4; length = big_number (first % 4) rest }) (ap (header_at depth) front ∙ read)
+
+pub list_read : (depth place first number field : ℕ) (octets rest : List ℕ) (mask : ℕ) → drop place octets ≡ first ∷ rest → field ≡ first % 4 → (field ≡ 0 → ⊥) → field ≤ length rest → mask ≡ mask_for (format_with_code (first / 4)) → mask ≡ 128
+    → number ≡ big_number field rest → 0 < depth
+    → ◌≡◌ {A = Result Extent ItemFault} (Ok (record { of_items = true; body = place + 1 + field; length = number })) (extent_from place (header_at depth (drop place octets)))
+list_read depth place first number field octets rest mask front field_is some long is list number_is deep =
+    let p = list_with (format_with_code (first / 4)) mask is list in
+    let read = faultless depth first rest p.0 (rw field_is at some) (rw field_is at long) p.1 (λ lists. deep) (λ lists. absurd cc) in
+    same_extent true (is_list p.0) (place + 1 + field) (place + (1 + first % 4)) number (big_number (first % 4) rest) (sym p.2) (omega (arith, field_is)) (rw field_is at number_is)
+    ∙ from_head place (header_at depth (drop place octets)) (record { format = p.0; size = 1 + first % 4; length = big_number (first % 4) rest }) (ap (header_at depth) front ∙ read)
