@@ -31,6 +31,10 @@ abbrev pub Takes : Option (List ℕ) → Option (List ℕ) → ℕ → List ℕ 
 Takes old new n buffer =
     WhereTold old (λ octets. (n ≤ length octets) × (take n buffer ≡ take n octets) × (new ≡ Some (drop n octets)))
 
+-- fewer octets than fill a buffer were taken to its front, and the others are left
+abbrev pub TakesFewer : Option (List ℕ) → Option (List ℕ) → List ℕ → Type 0
+TakesFewer old new buffer = (n : ℕ) × (n < length buffer) × Takes old new n buffer
+
 -- nothing is left
 abbrev pub IsAtEnd : Option (List ℕ) → Type 0
 IsAtEnd told = WhereTold told (λ octets. octets ≡ [])

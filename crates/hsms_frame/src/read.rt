@@ -18,9 +18,9 @@ use std::alloc::Global;
 ///
 /// - `TooShort`, once four octets are there, where they count fewer than ten: four octets were read.
 /// - `TooLong`, once fourteen are there, where the first four count more than `max`: fourteen were read.
-/// - `Memory`, where there is no room for the text: fourteen were read.
+/// - `Memory`, where there is no room for the text, which isn't empty: fourteen were read.
 /// - `CutOff`, where the input ends within the message.
-/// - `Read`, where the source failed: nothing is said of how much was read.
+/// - `Read`, where the source failed: less than the message was read.
 pub fn read_frame<R: Source>(
     alloc: Global,
     source: &mut R,
@@ -102,7 +102,8 @@ fn read_text<R: Source>(alloc: Global, source: &mut R, size: usize) -> Result<Te
         (λ input. TakesFront (λ text. text) size input result (R.state source.new).left) }
     ensures counts { CountsPart result (R.state source.old) (R.state source.new) }
 {
-    let mut octets = vec![in alloc; 0u8; size]?;
+    let mut octets = Vec::with_capacity(alloc, size)?;
+    octets.resize(size, 0)?;
     read_all(source, &mut octets)?;
     Ok(Text::new(octets))
 }

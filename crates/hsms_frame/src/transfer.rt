@@ -2,12 +2,13 @@
 
 ghost use Rattle.std.specs.Prelude.{◌≡◌, ◌<◌, ◌≤◌, ◌+◌, length, IfOk, OnOk, OnErr};
 ghost use Rattle.hsms_frame.specs.Count.{count_failure};
-ghost use Rattle.hsms_frame.specs.Device.{WhereTold, Takes, Grows, GrowsByFront, CountsFill};
+ghost use Rattle.hsms_frame.specs.Device.{WhereTold, Takes, TakesFewer, Grows, GrowsByFront, CountsFill};
 ghost use Rattle.hsms_frame.specs.Frame.{IsOctets};
 
 use crate::device::{Failed, Sink, Source};
 
-/// Fills a slice, and says how many octets were read: fewer than its length only at the end of the input.
+/// Fills a slice, and says how many octets were read: fewer than its length only at the end of the input. Where it
+/// fails, fewer than its length were read.
 pub fn fill<R: Source>(source: &mut R, into: &mut [u8]) -> Result<usize, Failed>
     ensures bound { IfOk result (λ n. n ≤ length into.new) }
     ensures len { length into.new ≡ length into.old }
@@ -15,6 +16,7 @@ pub fn fill<R: Source>(source: &mut R, into: &mut [u8]) -> Result<usize, Failed>
     ensures octets { IfOk result (λ n. Takes (R.state source.old).left (R.state source.new).left n into.new) }
     ensures end { IfOk result
         (λ n. n < length into.new → WhereTold (R.state source.old).left (λ octets. length octets ≡ n)) }
+    ensures err { OnErr result (TakesFewer (R.state source.old).left (R.state source.new).left into.new) }
     ensures pulls { (R.state source.new).pulls ≤ (R.state source.old).pulls + length into.old }
     ensures counts { CountsFill (length into.old) result (R.state source.old) (R.state source.new) }
 {

@@ -1,7 +1,7 @@
 use Rattle.std.proofs.Common.{Ok, ap, arith, rules, ◌∙◌, ◌<◌, ◌-◌, length, take, drop}
 use Rattle.std.proofs.lemmas.Grind.{common_steps}
 use Rattle.hsms_frame.specs.Device.{ends_after_fill}
-use Rattle.hsms_frame.proofs.Transfers.{no_end, found_end, takes_more, counts_more, ends_at}
+use Rattle.hsms_frame.proofs.Transfers.{no_end, found_end, takes_more, stops_short, counts_more, ends_at}
 use Rattle.hsms_frame.proofs.transfer.fill.Goals as goal
 
 pub loop-filled-preserved : goal.loop-filled-preserved
@@ -28,3 +28,7 @@ returns-then-count-eq0-clause-counts g c =
           ∙ ap (λ n. ends_after_fill (length c.args.into.now) (Ok c.loop-filled.filled) n) c.loop-filled.invariant.5;
       failures = grind (arith, common_steps);
     }
+
+pub returns-in_err-count-clause-err : goal.returns-in_err-count-clause-err
+returns-in_err-count-clause-err g c =
+    stops_short _ _ _ _ _ _ _ _ c.loop-filled.invariant.0 (search rules) c.loop-filled.invariant.2 c.in_err-count.ensures.none_lost
