@@ -1,5 +1,5 @@
 -- What stands at the front of pending octets.
-use Rattle.std.proofs.Common.{◌≡◌, ◌≤◌, ◌<◌, ◌+◌, ◌-◌, ◌^◌, ◌++◌, ℕ, List, length, take, drop, Some, None, Ok, Err, refl, sym, ◌∙◌, ap, subst, arith}
+use Rattle.std.proofs.Common.{◌≡◌, ◌≤◌, ◌<◌, ◌+◌, ◌^◌, ◌++◌, ℕ, List, length, take, drop, Some, Ok, Err, refl, sym, ◌∙◌, ap, subst, arith}
 use Rattle.std.proofs.lemmas.List.{length-take-le, length-drop, drop-drop}
 use Rattle.hsms_frame.specs.declared.header.Header.{Header}
 use Rattle.hsms_frame.specs.declared.fault.FrameFault.TheVariants.{Memory}
@@ -44,7 +44,8 @@ whole_at_front max octets text h size front same =
     )
 
 -- the same where its text finds no memory
-pub whole_unread : (max : ℕ) (octets : List ℕ) (h : Header) (size : ℕ) → IsFrontOf max octets h size → FramesAs max octets (Err Memory) octets
-whole_unread max octets h size front =
+pub whole_unread : (max : ℕ) (octets : List ℕ) (h : Header) (size : ℕ) → IsFrontOf max octets h size → 0 < length (take size (drop 14 octets))
+    → FramesAs max octets (Err Memory) octets
+whole_unread max octets h size front some =
     let a = whole_at_front max octets (take size (drop 14 octets)) h size front refl in
-    (_, _, a.0, a.1, a.2, refl)
+    (_, _, a.0, a.1, a.2, some, refl)

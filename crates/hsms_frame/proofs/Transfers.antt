@@ -1,13 +1,12 @@
 -- Steps of a transfer that goes on where the one before it stopped.
-use Rattle.std.proofs.Common.{Ok, ◌≡◌, ◌≤◌, ◌+◌, ◌-◌, ◌++◌, ℕ, List, length, take, drop, min, ◌^◌, Some, sym, ◌∙◌, ap, arith}
-use Rattle.std.specs.Prelude.{Option}
+use Rattle.std.proofs.Common.{Ok, Err, ◌≡◌, ◌≤◌, ◌+◌, ◌-◌, ◌++◌, ℕ, List, length, take, drop, min, ◌^◌, Some, sym, ◌∙◌, ap, arith}
+use Rattle.std.specs.Prelude.{Option, Result, OnErr}
 use Rattle.std.proofs.lemmas.List.{length-take, drop_at, take_at, take_all, drop_all, drop-drop, length-append, length-drop, length-take-le, take-append-le, append-nil, append_assoc}
 use Rattle.std.proofs.Math.Seq.{take-add}
 use borrow.Rule.Slice.PartMut.{put_mid, post_of}
-use Rattle.std.specs.Prelude.{◌==◌, ◌&&◌, ◌<◌, if◌then◌else◌, nat_lt}
+use Rattle.std.specs.Prelude.{◌<◌}
 use Rattle.std.proofs.lemmas.Bool.Decides.{nat_tests}
-use Rattle.hsms_frame.specs.Count.{next_count}
-use Rattle.hsms_frame.specs.Device.{Takes, Grows, IsAtEnd, ends_after, ends_after_fill}
+use Rattle.hsms_frame.specs.Device.{Takes, TakesFewer, Stays, Grows, IsAtEnd, ends_after, ends_after_fill}
 
 -- what a buffer has at its front once a part behind the front was written
 pub take-put_mid_add : (n k m : ℕ) (buffer part : List ℕ) → n ≤ length buffer → k ≤ length part
@@ -52,6 +51,23 @@ takes_more old mid new n k m buffer part within fits first next octets told =
     take-put_mid_add n k m buffer part within fits
     ∙ ap (λ x. x ++ take k part) a.1 ∙ ap (λ x. take n octets ++ x) b.1 ∙ sym (take-add n k octets) in
     (omega arith, same, b.2 ∙ ap Some (drop-drop k n octets))
+
+-- a pull that failed takes none, and leaves what was filled
+takes_none : (old mid new : Option (List ℕ)) (n m : ℕ) (buffer part : List ℕ) → n ≤ length buffer
+    → Takes old mid n buffer → Stays mid new → Takes old new n (put_mid n m buffer part)
+takes_none old mid new n m buffer part within first stays octets told =
+    let a = first octets told in
+    let front : length (take n buffer) ≡ n = length-take-le n buffer within in (
+      a.0,
+      take_at (take n buffer) (part ++ post_of n m buffer) n front ∙ a.1,
+      stays (drop n octets) a.2,
+    )
+
+-- so less than the buffer was filled
+pub stops_short : {T E : Type 0} (r : Result T E) (old mid new : Option (List ℕ)) (n m : ℕ) (buffer part : List ℕ) → n ≤ length buffer
+    → n < length (put_mid n m buffer part) → Takes old mid n buffer → Stays mid new → OnErr r (TakesFewer old new (put_mid n m buffer part))
+stops_short (Ok x) old mid new n m buffer part within less first stays = tt
+stops_short (Err e) old mid new n m buffer part within less first stays = (n, less, takes_none old mid new n m buffer part within first stays)
 
 -- a give of what was left of a slice
 pub grows_more : (old mid new : Option (List ℕ)) (n k : ℕ) (octets : List ℕ)

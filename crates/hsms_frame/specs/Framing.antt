@@ -1,5 +1,5 @@
 -- Messages from octets that come in pieces.
-use Rattle.std.specs.Prelude.{◌≡◌, ◌≤◌, ◌+◌, ◌++◌, ℕ, List, length, take, drop, Option, Some, None, Result, Ok, Err}
+use Rattle.std.specs.Prelude.{◌≡◌, ◌≤◌, ◌<◌, ◌+◌, ◌++◌, ℕ, List, length, take, drop, Option, Some, None, Result, Ok, Err}
 use Rattle.hsms_frame.specs.declared.header.Header.{Header}
 use Rattle.hsms_frame.specs.declared.frame.Frame.{Frame}
 use Rattle.hsms_frame.specs.declared.fault.FrameFault.{FrameFault}
@@ -12,6 +12,10 @@ pub record FramerState : Type 0 where
   pub max : ℕ
   pub pending : List ℕ
 
+-- the octets came in behind the pending ones
+abbrev pub IsPushed : FramerState → List ℕ → FramerState → Type 0
+IsPushed old octets new = new ≡ record old { pending = old.pending ++ octets }
+
 -- the answers to pending octets, each with what is pending afterwards
 abbrev pub FramesAs : ℕ → List ℕ → Result (Option Frame) FrameFault → List ℕ → Type 0
 FramesAs max pending (Ok (Some f)) rest = (pending ≡ frame_octets f ++ rest) × IsFrame f × (10 + length f.text ≤ max)
@@ -19,7 +23,8 @@ FramesAs max pending (Ok None) rest = IsFaultless max pending × IsProperFront p
 FramesAs max pending (Err (TooShort n)) rest = IsTooShort pending n × (rest ≡ pending)
 FramesAs max pending (Err (TooLong n h)) rest = IsTooLong max pending n h × (rest ≡ pending)
 FramesAs max pending (Err Memory) rest =
-    (f : Frame) × (more : List ℕ) × (pending ≡ frame_octets f ++ more) × IsFrame f × (10 + length f.text ≤ max) × (rest ≡ pending)
+    (f : Frame) × (more : List ℕ) × (pending ≡ frame_octets f ++ more) × IsFrame f × (10 + length f.text ≤ max)
+    × (0 < length f.text) × (rest ≡ pending)
 
 -- what an answer leaves of octets: they stay, or the message that was given is taken away
 abbrev pub rest_after : Result (Option Frame) FrameFault → List ℕ → List ℕ

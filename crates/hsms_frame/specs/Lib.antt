@@ -1,10 +1,12 @@
 pub mod Build
+pub mod Calls
 pub mod Count
 pub mod Device
 pub mod Fault
 pub mod Frame
 pub mod Framing
 pub mod Header
+pub mod Laws
 pub mod Memory
 pub mod Reading
 pub mod Writing

@@ -4,18 +4,24 @@ use Rattle.hsms_frame.specs.declared.frame.Frame.{Frame}
 use Rattle.hsms_frame.specs.declared.fault.ReadFault.{ReadFault}
 use Rattle.hsms_frame.specs.declared.fault.ReadFault.TheVariants.{TooShort, TooLong, Memory, CutOff, Read}
 use Rattle.hsms_frame.specs.Count.{next_count}
+use Rattle.hsms_frame.specs.Device.{SourceState}
 use Rattle.hsms_frame.specs.Frame.{frame_octets, IsFrame, IsTooShort, IsTooLong, IsFaultless, IsProperFront, IsOctets, length_field}
 
--- the answers to an input, each with what is left of it; nothing is said of what a failing device has left
+-- of the input a front was taken that begins a message and doesn't reach its end, and in which no fault can be told
+abbrev pub StopsWithin : ℕ → List ℕ → Option (List ℕ) → Type 0
+StopsWithin max input left =
+    (taken rest : List ℕ) × (input ≡ taken ++ rest) × (left ≡ Some rest) × IsFaultless max taken × IsProperFront taken
+
+-- the answers to an input, each with what is left of it
 abbrev pub ReadsAs : ℕ → List ℕ → Result (Option Frame) ReadFault → Option (List ℕ) → Type 0
 ReadsAs max input (Ok (Some f)) left =
     (rest : List ℕ) × (input ≡ frame_octets f ++ rest) × (left ≡ Some rest) × IsFrame f × (10 + length f.text ≤ max)
 ReadsAs max input (Ok None) left = (input ≡ []) × (left ≡ Some [])
 ReadsAs max input (Err (TooShort n)) left = IsTooShort input n × (left ≡ Some (drop 4 input))
 ReadsAs max input (Err (TooLong n h)) left = IsTooLong max input n h × (left ≡ Some (drop 14 input))
-ReadsAs max input (Err Memory) left = (14 ≤ length input) × IsFaultless max input × (left ≡ Some (drop 14 input))
+ReadsAs max input (Err Memory) left = (14 ≤ length input) × (left ≡ Some (drop 14 input)) × StopsWithin max input left
 ReadsAs max input (Err CutOff) left = (input ≢ []) × IsFaultless max input × IsProperFront input × (left ≡ Some [])
-ReadsAs max input (Err Read) left = Unit {0}
+ReadsAs max input (Err Read) left = StopsWithin max input left
 
 -- an answer that the input doesn't decide: want of memory, or a failure of the device
 abbrev pub IsRefusal : Result (Option Frame) ReadFault → Type 0
@@ -45,13 +51,30 @@ ends_after_whole (Ok None) n = next_count n
 ends_after_whole (Ok (Some _)) n = n
 ends_after_whole (Err fault) n = ends_after_part {T = ℕ} (Err fault) n
 
+-- what a read of what has to be there counts
+pub record CountsPart {T : Type 0} (result : Result T ReadFault) (old new : SourceState) : Type 0 where
+  pub empty_pulls : new.empty_pulls ≡ old.empty_pulls
+  pub ends : new.ends ≡ ends_after_part result old.ends
+  pub failures : new.failures ≡ failures_after result old.failures
+
+-- what a read of what may be missing counts
+pub record CountsWhole {T : Type 0} (result : Result (Option T) ReadFault) (old new : SourceState) : Type 0 where
+  pub empty_pulls : new.empty_pulls ≡ old.empty_pulls
+  pub ends : new.ends ≡ ends_after_whole result old.ends
+  pub failures : new.failures ≡ failures_after result old.failures
+
+-- fewer than k octets of the input were taken
+abbrev pub StopsBefore : ℕ → List ℕ → Option (List ℕ) → Type 0
+StopsBefore k input left =
+    (n : ℕ) × (n < k) × (n ≤ length input) × IsOctets (take n input) × (left ≡ Some (drop n input))
+
 -- A read of k octets, seen by view: they are the front of the input, or the input is shorter and at its end.
 abbrev pub TakesFront : {T : Type 0} → (T → List ℕ) → ℕ → List ℕ → Result T ReadFault → Option (List ℕ) → Type 0
 TakesFront view k input (Ok x) left =
     (k ≤ length input) × (view x ≡ take k input) × IsOctets (view x) × (left ≡ Some (drop k input))
 TakesFront view k input (Err CutOff) left = (length input < k) × IsOctets input × (left ≡ Some [])
-TakesFront view k input (Err Memory) left = left ≡ Some input
-TakesFront view k input (Err Read) left = Unit {0}
+TakesFront view k input (Err Memory) left = (0 < k) × (left ≡ Some input)
+TakesFront view k input (Err Read) left = StopsBefore k input left
 TakesFront view k input (Err (TooShort _)) left = ⊥
 TakesFront view k input (Err (TooLong _ _)) left = ⊥
 
@@ -61,7 +84,7 @@ TakesLength input (Ok (Some n)) left =
     (4 ≤ length input) × (n ≡ length_field input) × IsOctets (take 4 input) × (left ≡ Some (drop 4 input))
 TakesLength input (Ok None) left = (input ≡ []) × (left ≡ Some [])
 TakesLength input (Err CutOff) left = (0 < length input) × (length input < 4) × IsOctets input × (left ≡ Some [])
-TakesLength input (Err Read) left = Unit {0}
+TakesLength input (Err Read) left = StopsBefore 4 input left
 TakesLength input (Err Memory) left = ⊥
 TakesLength input (Err (TooShort _)) left = ⊥
 TakesLength input (Err (TooLong _ _)) left = ⊥

@@ -1,16 +1,19 @@
 //! Messages from octets that come in pieces.
 
-ghost use Rattle.std.specs.Prelude.{◌≡◌, ◌≤◌, ◌+◌, [], ◌++◌, ◌⊎◌, drop, length, vec_len, IfOk, IfSome, OnOk, OnErr, IsOkUnless, Err};
-ghost use Rattle.hsms_frame.specs.Framing.{FramesAs, FrontAs, rest_after};
+ghost use Rattle.std.specs.Prelude.{◌≡◌, ◌≤◌, ◌<◌, ◌+◌, [], ◌++◌, ◌⊎◌, drop, length, vec_len, IfOk, IfSome, OnOk, OnErr, IsOkUnless, Err};
+ghost use Rattle.hsms_frame.specs.Framing.{FramesAs, FrontAs, IsPushed, rest_after};
 
 use crate::fault::FrameFault;
 use crate::frame::{Frame, Text};
 use crate::header::Header;
-use std::alloc::Global;
+use std::alloc::{AllocError, Global};
 use std::marker::Model;
 
 /// Octets that came so far, and the messages at their front (SEMI E37, section 8.1). However the octets were cut into
 /// pieces, the messages are the same.
+///
+/// Giving a message moves none of them: the framer keeps the place of the first that belongs to none. A push that finds
+/// no room behind them moves those to the front.
 #[derive(Drop)]
 pub struct Framer {
     max: u32,
@@ -48,10 +51,11 @@ impl Framer {
         &self.octets[self.place..]
     }
 
-    /// Takes in the next octets. The only fault is `Memory`, and then none were taken in.
+    /// Takes in the next octets. The only fault is `Memory`, never of no octets, and then none were taken in.
     pub fn push(&mut self, octets: &[u8]) -> Result<(), FrameFault>
-        ensures ok { OnOk result (self.new ≡ record self.old { pending = self.old.pending ++ octets.now }) }
+        ensures ok { OnOk result (IsPushed self.old octets.now self.new) }
         ensures memory { IsOkUnless result FrameFault.Memory }
+        ensures some { OnErr result (0 < length octets.now) }
         ensures err { OnErr result (self.new ≡ self.old) }
     {
         if self.octets.capacity() - self.octets.len() < octets.len() {
@@ -67,7 +71,7 @@ impl Framer {
     ///
     /// Faults, each of which leaves the pending octets as they are: `TooShort`, once four octets are there, where they
     /// count fewer than ten; `TooLong`, once fourteen are there, where the first four count more than the limit;
-    /// `Memory`, only where a whole message is there.
+    /// `Memory`, only where a whole message is there that has a text.
     pub fn next(&mut self) -> Result<Option<Frame>, FrameFault>
         // The answer is one to the pending octets.
         ensures answer { FramesAs self.old.max self.old.pending result self.new.pending }
@@ -100,11 +104,18 @@ fn front_frame(alloc: Global, octets: &[u8], max: u32) -> Result<Option<Frame>, 
     let Some((header, size)) = front(octets, max)? else {
         return Ok(None);
     };
-    let text = Vec::from_slice(alloc, &octets[14..14 + size])?;
-    Ok(Some(Frame {
-        header,
-        text: Text::new(text),
-    }))
+    let text = text_of(alloc, &octets[14..14 + size])?;
+    Ok(Some(Frame { header, text }))
+}
+
+// The octets as a text. None takes no memory.
+fn text_of(alloc: Global, octets: &[u8]) -> Result<Text, AllocError>
+    ensures ok { IfOk result (λ text. text ≡ octets.now) }
+    ensures err { OnErr result (0 < length octets.now) }
+{
+    let mut text = Vec::with_capacity(alloc, octets.len())?;
+    text.extend_from_slice(octets)?;
+    Ok(Text::new(text))
 }
 
 // The header and the size of the text of the message at the front, if it is there whole.

@@ -3,7 +3,7 @@
 //! A message is four octets that count what follows, a header of ten octets, and a text. [`read_frame`] reads one from
 //! a [`Source`] and nothing of what stands behind it. [`Source`] and [`Sink`] tell contracts how often they were called
 //! and how often they failed and, where they know it, which octets are left or were written; so a contract can say what
-//! a program did to them.
+//! a program did to them. [`laws`] has what holds of messages, whatever a program does.
 #![tactic(auto)]
 
 mod build;
@@ -14,6 +14,7 @@ mod frame;
 mod framer;
 mod header;
 mod kinds;
+pub mod laws;
 mod memory;
 mod read;
 mod standard;

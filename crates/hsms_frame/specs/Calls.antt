@@ -1,0 +1,38 @@
+-- Calls of a framer, one after the other.
+use Rattle.std.specs.Prelude.{◌≡◌, ℕ, List, [], ◌∷◌, Option, Some, None, Result, Ok, Err}
+use Rattle.hsms_frame.specs.declared.frame.Frame.{Frame}
+use Rattle.hsms_frame.specs.declared.fault.FrameFault.{FrameFault}
+use Rattle.hsms_frame.specs.Framing.{FramerState, FramesAs, IsPushed}
+
+-- a call and its answer: octets that are pushed, or the question for the next message
+pub data Call : Type 0 where
+  Push : List ℕ → Result (Unit {0}) FrameFault → Call
+  Next : Result (Option Frame) FrameFault → Call
+
+-- what a call does, as the contracts of `push` and `next` say it
+abbrev pub Does : FramerState → Call → FramerState → Type 0
+Does old (Push octets (Ok _)) new = IsPushed old octets new
+Does old (Push octets (Err _)) new = new ≡ old
+Does old (Next answer) new = FramesAs old.max old.pending answer new.pending × (new.max ≡ old.max)
+
+-- what calls do, in order
+abbrev pub DoesAll : FramerState → List Call → FramerState → Type 0
+DoesAll old [] new = new ≡ old
+DoesAll old (call ∷ calls) new = (mid : FramerState) × Does old call mid × DoesAll mid calls new
+
+-- the octets that a call took in
+abbrev pub octets_of : Call → List ℕ
+octets_of (Push octets (Ok _)) = octets
+octets_of (Push octets (Err _)) = []
+octets_of (Next answer) = []
+
+-- the message that a call gave, if it gave one
+abbrev pub message_of : Call → List Frame
+message_of (Push octets result) = []
+message_of (Next (Ok (Some f))) = f ∷ []
+message_of (Next (Ok None)) = []
+message_of (Next (Err fault)) = []
+
+-- no message is pending whole
+abbrev pub IsDrained : FramerState → Type 0
+IsDrained framer = (f : Frame) (rest : List ℕ) → FramesAs framer.max framer.pending (Ok (Some f)) rest → ⊥

@@ -1,0 +1,65 @@
+-- What holds of messages, whatever the code does.
+use Rattle.std.specs.Prelude.{◌≡◌, ◌≢◌, ◌++◌, ℕ, List, flat_map, Option, Result, Err}
+use Rattle.hsms_frame.specs.declared.header.Header.{Header}
+use Rattle.hsms_frame.specs.declared.frame.Frame.{Frame}
+use Rattle.hsms_frame.specs.declared.fault.ReadFault.{ReadFault}
+use Rattle.hsms_frame.specs.declared.fault.FrameFault.{FrameFault}
+use Rattle.hsms_frame.specs.declared.fault.FrameFault.TheVariants.{Memory}
+use Rattle.hsms_frame.specs.Header.{header_octets, IsHeader}
+use Rattle.hsms_frame.specs.Frame.{frame_octets, IsFrame, IsOctets}
+use Rattle.hsms_frame.specs.Reading.{ReadsAs, IsRefusal}
+use Rattle.hsms_frame.specs.Framing.{FramerState, FramesAs}
+use Rattle.hsms_frame.specs.Calls.{Call, DoesAll, octets_of, message_of, IsDrained}
+
+-- What spells a header is octets.
+abbrev pub HeadersAreOctets : Type 0
+HeadersAreOctets = (h : Header) → IsHeader h → IsOctets (header_octets h)
+
+-- What spells a message is octets.
+abbrev pub MessagesAreOctets : Type 0
+MessagesAreOctets = (f : Frame) → IsFrame f → IsOctets (frame_octets f)
+
+-- No message stands at the front of another, and no octets are two messages.
+abbrev pub OneMessageAtFront : Type 0
+OneMessageAtFront =
+    (f g : Frame) (x y : List ℕ) → IsFrame f → IsFrame g → frame_octets f ++ x ≡ frame_octets g ++ y → (f ≡ g) × (x ≡ y)
+
+-- ---- exactly one answer to an input that is read, but for a refusal
+
+abbrev pub SomeAnswer : Type 0
+SomeAnswer =
+    (max : ℕ) (input : List ℕ) → IsOctets input
+    → (answer : Result (Option Frame) ReadFault) × (left : Option (List ℕ)) × (IsRefusal answer → ⊥) × ReadsAs max input answer left
+
+abbrev pub OneAnswer : Type 0
+OneAnswer =
+    (max : ℕ) (input : List ℕ) (a b : Result (Option Frame) ReadFault) (left other : Option (List ℕ))
+    → (IsRefusal a → ⊥) → (IsRefusal b → ⊥) → ReadsAs max input a left → ReadsAs max input b other → (a ≡ b) × (left ≡ other)
+
+-- ---- and to what is pending in a framer, but for want of memory
+
+abbrev pub SomeAnswerToPending : Type 0
+SomeAnswerToPending =
+    (max : ℕ) (pending : List ℕ) → IsOctets pending
+    → (answer : Result (Option Frame) FrameFault) × (rest : List ℕ) × (answer ≢ Err Memory) × FramesAs max pending answer rest
+
+abbrev pub OneAnswerToPending : Type 0
+OneAnswerToPending =
+    (max : ℕ) (pending : List ℕ) (a b : Result (Option Frame) FrameFault) (rest other : List ℕ)
+    → a ≢ Err Memory → b ≢ Err Memory → FramesAs max pending a rest → FramesAs max pending b other → (a ≡ b) × (rest ≡ other)
+
+-- ---- any calls of a framer, in order
+
+-- What was pending and what was pushed are the messages that were given, in order, and then what is pending.
+abbrev pub GivesWhatWasPushed : Type 0
+GivesWhatWasPushed =
+    (old new : FramerState) (calls : List Call) → DoesAll old calls new
+    → old.pending ++ flat_map octets_of calls ≡ flat_map frame_octets (flat_map message_of calls) ++ new.pending
+
+-- However the same octets are cut into pieces, the messages are the same, once none is pending whole, and so is the
+-- framer.
+abbrev pub AnyPiecesGiveTheSame : Type 0
+AnyPiecesGiveTheSame =
+    (old new end : FramerState) (calls others : List Call) → DoesAll old calls new → DoesAll old others end
+    → flat_map octets_of calls ≡ flat_map octets_of others → IsDrained new → IsDrained end
+    → (flat_map message_of calls ≡ flat_map message_of others) × (new ≡ end)
