@@ -38,7 +38,7 @@ fn mask_of(first: u8) -> u8
     MASKS[usize::from(first / 4)]
 }
 
-/// The part at `place`, or None where its header has a fault.
+/// The part at `place`; None where its header may have a fault.
 #[inline(always)]
 fn quick_part(octets: &[u8], place: usize, depth: u8) -> Option<Part>
     requires { place ≤ length octets.now }
