@@ -11,6 +11,7 @@ import sys
 import tempfile
 
 sys.dont_write_bytecode = True
+from commands import log as one_at_a_time
 from commands import notation, report, stream
 from running import MB, PROGRAM, Runner, lines_of, write
 
@@ -120,6 +121,7 @@ def open_at_once(count, newest_first):
 
 def logs(size):
     """Each kind of log: what it is, how it is made, its size, and the size over which instructions are counted."""
+    yield "ordinary traffic, one open at a time", lambda size: [one_at_a_time(size)], size, 3 * MB
     yield "ordinary traffic, 200 open each way", sized(traffic), size, 3 * MB
     yield "bare headers", sized(headers), size, 3 * MB
     yield "nested to 32", sized(texts(nested())), size, 3 * MB
@@ -152,10 +154,10 @@ def measure(runner, path, words, what, make, size, counted):
     write(path, make, size)
     octets = os.path.getsize(path)
     taken, held = runner.run([PROGRAM, *words], path, times=3)
-    lines = f", {lines_of(path) / taken / 1e6:.2f} million lines/s" if words == ["audit"] else ""
+    lines = f", {lines_of(path) / taken:,.0f} lines/s" if words == ["audit"] else ""
     each = instructions(runner, path, words, make, counted)
     counted_as = "" if each is None else f", {each:.1f} instructions an octet"
-    rate = f"{octets / MB / taken:.0f} MB/s{lines}{counted_as}"
+    rate = f"{octets / MB / taken:.1f} MB/s{lines}{counted_as}"
     print(f"hsms {words[0]}, {what}, {octets / MB:.0f} MB: {rate}, {held:.1f} MB held", flush=True)
 
 
