@@ -6,13 +6,11 @@ Use: bench/commands.py [MEGABYTES], 100 if left out. It runs what `rt ci` or the
 texts of `encode` are kept below its limit of 67,108,864 octets.
 """
 import os
-import subprocess
 import sys
 import tempfile
 
-TOP = os.path.dirname(os.path.dirname(os.path.abspath(__file__)))
-PROGRAM = f"{TOP}/crates/hsms_tool/out/hsms_tool"
-MB = 1_000_000
+sys.dont_write_bytecode = True
+from running import MB, PROGRAM, Runner, lines_of, write
 
 
 def frame(header, text=b""):
@@ -68,33 +66,6 @@ def log(size):
     return "\n".join(lines).encode() + b"\n"
 
 
-def write(path, make, size):
-    """Writes an input, from a process of its own, so that the commands don't begin with its memory."""
-    child = os.fork()
-    if child == 0:
-        with open(path, "wb") as file:
-            file.write(make(size))
-        os._exit(0)
-    os.waitpid(child, 0)
-
-
-def lines_of(path):
-    """How many lines an input has."""
-    with open(path, "rb") as file:
-        return sum(block.count(b"\n") for block in iter(lambda: file.read(MB), b""))
-
-
-def run(words, path):
-    """The processor time in seconds that a program takes for a file, and the most memory in MB that it held."""
-    with open(path, "rb") as given, open(os.devnull, "wb") as taken:
-        started = subprocess.Popen(words, stdin=given, stdout=taken)
-        _, status, usage = os.wait4(started.pid, 0)
-    started.returncode = status
-    if status != 0:
-        raise SystemExit(f"{words}: status {status}")
-    return usage.ru_utime + usage.ru_stime, usage.ru_maxrss * 1024 / MB
-
-
 def main():
     size = int(sys.argv[1] if len(sys.argv) > 1 else 100) * MB
     bare = frame("ffff0000000500000003")
@@ -105,12 +76,13 @@ def main():
         ("audit", "ordinary traffic", log, size),
     ]
     with tempfile.TemporaryDirectory(prefix="hsms-bench-") as room:
+        runner = Runner(room)
         path = f"{room}/input"
         for command, what, make, size in runs:
-            write(path, make, size)
+            write(path, lambda size: [make(size)], size)
             given = os.path.getsize(path)
-            copied, _ = run(["cat"], path)
-            taken, held = run([PROGRAM, command], path)
+            copied, _ = runner.run(["cat"], path)
+            taken, held = runner.run([PROGRAM, command], path)
             lines = f", {lines_of(path) / taken / 1e6:.2f} million lines/s" if command == "audit" else ""
             print(f"hsms {command}, {what}, {given // MB} MB: {given / MB / taken:.0f} MB/s{lines}, ", end="")
             print(f"{taken / max(copied, 1e-3):.0f} times cat, {held:.0f} MB held")

@@ -129,6 +129,16 @@ item_of_elements place (suc d) octets h is lists deep =
     let less : suc d - 1 ≡ d = omega arith in
     rw less (elements_end (elements_by (item_at d)) place octets (header_at (suc d) (drop place octets)) h is lists)
 
+-- an empty list ends behind its header
+pub empty_list : (place depth : ℕ) (octets : List ℕ) (h : Header) → Ok h ≡ header_from place (header_at depth (drop place octets)) → is_list h.format ≡ true → h.length ≡ 0
+    → Ok h.body ≡ end_from place (item_at depth (drop place octets))
+unfolding item_at elements_by
+empty_list place zero octets h is lists none =
+    ap (λ (n : ℕ). Ok n) (sym (add-zero h.body)) ∙ elements_end (λ n rest. Ok (no_elements, 0)) place octets (header_at 0 (drop place octets)) h is lists
+empty_list place (suc d) octets h is lists none =
+    let ended : end_from h.body (elements_by (item_at d) h.length (drop h.body octets)) ≡ Ok h.body = rw none (ap (λ (n : ℕ). Ok n) (add-zero h.body)) in
+    sym ended ∙ elements_end (elements_by (item_at d)) place octets (header_at (suc d) (drop place octets)) h is lists
+
 -- ---- what was measured is there
 
 measured_not : {A : Type 0} (r : Result (A × ℕ) Fault) (place : ℕ) (e : ItemFault) → Err e ≡ end_from place r → IsOk r → ⊥

@@ -14,5 +14,5 @@ pub mod Lengths
 pub mod Uniqueness
 pub mod Shortest
 pub mod Texts
-pub mod Extents
+pub mod Parts
 pub mod Opened

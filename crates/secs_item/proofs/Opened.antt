@@ -1,63 +1,67 @@
 -- Measuring lists that stand open, one element after another.
-use Rattle.std.proofs.Common.{◌≡◌, ℕ, zero, suc, ◌+◌, ◌-◌, ◌<◌, ◌≤◌, true, false, List, length, drop, get_or, Result, Ok, Err, refl, sym, ap, ◌∙◌, arith, add-zero, ◌≢◌}
+use Rattle.std.proofs.Common.{◌≡◌, ℕ, zero, suc, ◌+◌, ◌-◌, ◌<◌, ◌≤◌, Bool, true, false, List, length, drop, get_or, Result, Ok, Err, refl, sym, ap, ◌∙◌, arith, inl, inr, add-zero, ◌≢◌}
+use Rattle.std.specs.Prelude.{◌⊎◌}
 use Rattle.std.proofs.Math.ListN.{set, length-set}
 use Rattle.std.proofs.lemmas.List.{get_or-set_other, get_or-set_same}
 use Rattle.secs_item.specs.declared.fault.ItemFault.{ItemFault}
 use Rattle.secs_item.specs.declared.header.Header.{Header}
-use Rattle.secs_item.specs.declared.extent.Extent.{Extent}
+use Rattle.secs_item.specs.declared.part.Part.{Part}
+use Rattle.secs_item.specs.Fault.{fault_at}
 use Rattle.secs_item.specs.Format.{is_list}
 use Rattle.secs_item.specs.Header.{Reason, Head, header_at}
 use Rattle.secs_item.specs.Item.{Value}
 use Rattle.secs_item.specs.Reading.{Fault, elements_by, item_at}
-use Rattle.secs_item.specs.Measure.{header_from, extent_from, end_from, and_from_there, end_of_lists}
-use Rattle.secs_item.proofs.Lengths.{first_is, first_fails, item_fails, item_of_values, item_of_elements}
+use Rattle.secs_item.specs.Measure.{header_from, part_from, end_from, and_from_there, end_of_lists}
+use Rattle.secs_item.proofs.Lengths.{first_is, first_fails, item_fails, item_of_values, item_of_elements, empty_list}
 
--- ---- extents as headers
+-- ---- parts as headers
 
--- the header that an extent is of
-record Measured (place : ℕ) (r : Result Head Reason) (x : Extent) : Type 0 where
-  pub header : Header
-  pub is : Ok header ≡ header_from place r
-  pub lists : is_list header.format ≡ x.of_items
-  pub body : header.body ≡ x.body
-  pub length : header.length ≡ x.length
+-- the header that a part is read from
+abbrev pub IsPartOf : Header → Part → Type 0
+IsPartOf h p = ((is_list h.format ≡ true) × (p.end ≡ h.body) × (p.elements ≡ h.length)) ⊎ ((is_list h.format ≡ false) × (p.end ≡ h.body + h.length) × (p.elements ≡ 0))
 
-measured : (place : ℕ) (r : Result Head Reason) (x : Extent) → Ok x ≡ extent_from place r → Measured place r x
-measured place (Ok head) x is =
-    let same : x ≡ record { of_items = is_list head.format; body = place + head.size; length = head.length } = cc in
-    record {
-      header = record { format = head.format; body = place + head.size; length = head.length };
-      is = refl;
-      lists = ap (λ (y : Extent). y.of_items) (sym same);
-      body = ap (λ (y : Extent). y.body) (sym same);
-      length = ap (λ (y : Extent). y.length) (sym same);
-    }
-measured place (Err reason) x is = absurd cc
+header_of : (place : ℕ) (r : Result Head Reason) (p : Part) → Ok p ≡ part_from place r → (h : Header) × (Ok h ≡ header_from place r) × IsPartOf h p
+header_of place (Ok head) p is = (record { format = head.format; body = place + head.size; length = head.length }, refl, by_kind (is_list head.format) refl)
+  where
+    by_kind : (b : Bool) → is_list head.format ≡ b → IsPartOf (record { format = head.format; body = place + head.size; length = head.length }) p
+    by_kind true lists =
+        let is' : ◌≡◌ {A = Result Part ItemFault} (Ok p) (Ok (record { end = place + head.size; elements = head.length })) = rw lists at is in
+        let same : p ≡ record { end = place + head.size; elements = head.length } = cc in
+        inl (lists, ap (λ (q : Part). q.end) same, ap (λ (q : Part). q.elements) same)
+    by_kind false lists =
+        let is' : ◌≡◌ {A = Result Part ItemFault} (Ok p) (Ok (record { end = place + head.size + head.length; elements = 0 })) = rw lists at is in
+        let same : p ≡ record { end = place + head.size + head.length; elements = 0 } = cc in
+        inr (lists, ap (λ (q : Part). q.end) same, ap (λ (q : Part). q.elements) same)
+header_of place (Err reason) p is = absurd cc
 
-same_fault : (place : ℕ) (r : Result Head Reason) (e : ItemFault) → Err e ≡ extent_from place r → Err e ≡ header_from place r
+same_fault : (place : ℕ) (r : Result Head Reason) (e : ItemFault) → Err e ≡ part_from place r → Err e ≡ header_from place r
 same_fault place (Ok head) e is = absurd cc
-same_fault place (Err reason) e is = let same : e ≡ e = refl in cc
+same_fault place (Err reason) e is = let same : e ≡ fault_at place reason = cc in ap (λ (f : ItemFault). Err f) same
 
 -- an item whose header is at fault
-pub extent_fails : (place depth : ℕ) (octets : List ℕ) (e : ItemFault) → Err e ≡ extent_from place (header_at depth (drop place octets)) → Err e ≡ end_from place (item_at depth (drop place octets))
-extent_fails place depth octets e is = item_fails place depth octets e (same_fault place (header_at depth (drop place octets)) e is)
+pub part_fails : (place depth : ℕ) (octets : List ℕ) (e : ItemFault) → Err e ≡ part_from place (header_at depth (drop place octets)) → Err e ≡ end_from place (item_at depth (drop place octets))
+part_fails place depth octets e is = item_fails place depth octets e (same_fault place (header_at depth (drop place octets)) e is)
 
--- an item of values ends where its body does
-pub extent_of_values : (place depth : ℕ) (octets : List ℕ) (x : Extent) → Ok x ≡ extent_from place (header_at depth (drop place octets)) → x.of_items ≡ false
-    → Ok (x.body + x.length) ≡ end_from place (item_at depth (drop place octets))
-extent_of_values place depth octets x is values =
-    let m = measured place (header_at depth (drop place octets)) x is in
-    let end : x.body + x.length ≡ m.header.body + m.header.length = omega (arith, m.body, m.length) in
-    ap (λ (n : ℕ). Ok n) end ∙ item_of_values place depth octets m.header m.is (m.lists ∙ values)
+-- an item of values, or an empty list, is a part
+pub part_is_whole : (place depth : ℕ) (octets : List ℕ) (p : Part) → Ok p ≡ part_from place (header_at depth (drop place octets)) → p.elements ≡ 0 → Ok p.end ≡ end_from place (item_at depth (drop place octets))
+part_is_whole place depth octets p is none =
+    let x = header_of place (header_at depth (drop place octets)) p is in
+    elim x.2 [
+      | inl k ↦ ap (λ (n : ℕ). Ok n) k.1 ∙ empty_list place depth octets x.0 x.1 k.0 (sym k.2 ∙ none)
+      | inr k ↦ ap (λ (n : ℕ). Ok n) k.1 ∙ item_of_values place depth octets x.0 x.1 k.0
+    ]
 
 -- a list ends where its elements do
-pub extent_of_items : (place depth : ℕ) (octets : List ℕ) (x : Extent) → Ok x ≡ extent_from place (header_at depth (drop place octets)) → x.of_items ≡ true → 0 < depth
-    → end_from x.body (elements_by (item_at (depth - 1)) x.length (drop x.body octets)) ≡ end_from place (item_at depth (drop place octets))
-extent_of_items place depth octets x is items deep =
-    let m = measured place (header_at depth (drop place octets)) x is in
-    ap (λ (n : ℕ). end_from n (elements_by (item_at (depth - 1)) x.length (drop n octets))) (sym m.body)
-    ∙ ap (λ (n : ℕ). end_from m.header.body (elements_by (item_at (depth - 1)) n (drop m.header.body octets))) (sym m.length)
-    ∙ item_of_elements place depth octets m.header m.is (m.lists ∙ items) deep
+pub part_of_list : (place depth : ℕ) (octets : List ℕ) (p : Part) → Ok p ≡ part_from place (header_at depth (drop place octets)) → 0 < p.elements → 0 < depth
+    → end_from p.end (elements_by (item_at (depth - 1)) p.elements (drop p.end octets)) ≡ end_from place (item_at depth (drop place octets))
+part_of_list place depth octets p is some deep =
+    let x = header_of place (header_at depth (drop place octets)) p is in
+    elim x.2 [
+      | inl k ↦ ap (λ (n : ℕ). end_from n (elements_by (item_at (depth - 1)) p.elements (drop n octets))) k.1
+          ∙ ap (λ (n : ℕ). end_from x.0.body (elements_by (item_at (depth - 1)) n (drop x.0.body octets))) k.2
+          ∙ item_of_elements place depth octets x.0 x.1 k.0 deep
+      | inr k ↦ absurd (omega (arith, k.2, some))
+    ]
 
 -- ---- lists that stand open
 
@@ -137,25 +141,25 @@ module _ (counts : List ℕ) (depth : ℕ) (octets : List ℕ) (lists i place : 
       let left : get_or counts i 0 ≡ suc (get_or counts i 0 - 1) = omega arith in
       rw lists_is (sym (next_element counts depth octets i (get_or counts i 0 - 1) place within left) ∙ rw lists_is at so_far)
 
-  pub element_fails : (e : ItemFault) → Err e ≡ extent_from place (header_at (depth - lists) (drop place octets)) → Err e ≡ total
+  pub element_fails : (e : ItemFault) → Err e ≡ part_from place (header_at (depth - lists) (drop place octets)) → Err e ≡ total
   element_fails e is =
-      ap (λ (r : Result ℕ ItemFault). and_from_there r (end_of_lists (set counts i (get_or counts i 0 - 1)) depth octets lists)) (extent_fails place (depth - lists) octets e is) ∙ element_next
+      ap (λ (r : Result ℕ ItemFault). and_from_there r (end_of_lists (set counts i (get_or counts i 0 - 1)) depth octets lists)) (part_fails place (depth - lists) octets e is) ∙ element_next
 
-  pub element_of_values : (x : Extent) → Ok x ≡ extent_from place (header_at (depth - lists) (drop place octets)) → x.of_items ≡ false
-      → end_of_lists (set counts i (get_or counts i 0 - 1)) depth octets lists (x.body + x.length) ≡ total
-  element_of_values x is values =
-      ap (λ (r : Result ℕ ItemFault). and_from_there r (end_of_lists (set counts i (get_or counts i 0 - 1)) depth octets lists)) (extent_of_values place (depth - lists) octets x is values) ∙ element_next
+  pub element_whole : (p : Part) → Ok p ≡ part_from place (header_at (depth - lists) (drop place octets)) → p.elements ≡ 0
+      → end_of_lists (set counts i (get_or counts i 0 - 1)) depth octets lists p.end ≡ total
+  element_whole p is none =
+      ap (λ (r : Result ℕ ItemFault). and_from_there r (end_of_lists (set counts i (get_or counts i 0 - 1)) depth octets lists)) (part_is_whole place (depth - lists) octets p is none) ∙ element_next
 
-  pub element_of_items : (x : Extent) (j : ℕ) → Ok x ≡ extent_from place (header_at (depth - lists) (drop place octets)) → x.of_items ≡ true → 0 < depth - lists → j ≡ lists → lists < length counts
-      → end_of_lists (set (set counts i (get_or counts i 0 - 1)) j x.length) depth octets (lists + 1) x.body ≡ total
+  pub element_opens : (p : Part) (j : ℕ) → Ok p ≡ part_from place (header_at (depth - lists) (drop place octets)) → 0 < p.elements → 0 < depth - lists → j ≡ lists → lists < length counts
+      → end_of_lists (set (set counts i (get_or counts i 0 - 1)) j p.elements) depth octets (lists + 1) p.end ≡ total
   unfolding end_of_lists
-  element_of_items x j is items deep j_is room =
+  element_opens p j is some_elements deep j_is room =
       let counts' = set counts i (get_or counts i 0 - 1) in
       let one = item_at (depth - lists - 1) in
       let inner : depth - suc lists ≡ depth - lists - 1 = omega arith in
       let more : lists + 1 ≡ suc lists = omega arith in
       let room' : lists < length (set counts i (get_or counts i 0 - 1)) = rw length-set room in
-      let got : get_or (set counts' lists x.length) lists 0 ≡ x.length = get_or-set_same counts' lists x.length 0 room' in
+      let got : get_or (set counts' lists p.elements) lists 0 ≡ p.elements = get_or-set_same counts' lists p.elements 0 room' in
       rw (j_is, more, inner, got)
-      (same_after (end_from x.body (elements_by one x.length (drop x.body octets))) (end_of_lists (set counts' lists x.length) depth octets lists) (end_of_lists counts' depth octets lists) (λ end. further_in counts' depth octets lists lists x.length end (omega arith))
-      ∙ ap (λ (r : Result ℕ ItemFault). and_from_there r (end_of_lists counts' depth octets lists)) (extent_of_items place (depth - lists) octets x is items deep) ∙ element_next)
+      (same_after (end_from p.end (elements_by one p.elements (drop p.end octets))) (end_of_lists (set counts' lists p.elements) depth octets lists) (end_of_lists counts' depth octets lists) (λ end. further_in counts' depth octets lists lists p.elements end (omega arith))
+      ∙ ap (λ (r : Result ℕ ItemFault). and_from_there r (end_of_lists counts' depth octets lists)) (part_of_list place (depth - lists) octets p is some_elements deep) ∙ element_next)

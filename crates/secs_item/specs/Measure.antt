@@ -1,9 +1,9 @@
 -- What the functions over places give, beside what is read behind the place.
-use Rattle.std.specs.Prelude.{◌≡◌, ◌≤◌, ◌<◌, ℕ, zero, suc, ◌+◌, ◌-◌, true, false, List, slice_index, drop, if◌then◌else◌, Option, Some, None, Result, Ok, Err}
+use Rattle.std.specs.Prelude.{◌≡◌, ◌≤◌, ◌<◌, ℕ, zero, suc, ◌+◌, ◌-◌, List, slice_index, drop, if◌then◌else◌, Option, Some, None, Result, Ok, Err}
 use Rattle.secs_item.specs.declared.fault.ItemFault.{ItemFault}
 use Rattle.secs_item.specs.declared.format.Format.{Format}
 use Rattle.secs_item.specs.declared.header.Header.{Header}
-use Rattle.secs_item.specs.declared.extent.Extent.{Extent}
+use Rattle.secs_item.specs.declared.part.Part.{Part}
 use Rattle.secs_item.specs.Fault.{fault_at}
 use Rattle.secs_item.specs.Format.{is_list, value_size}
 use Rattle.secs_item.specs.Header.{Reason, Head}
@@ -14,22 +14,22 @@ abbrev pub header_from : ℕ → Result Head Reason → Result Header ItemFault
 header_from place (Ok head) = Ok (record { format = head.format; body = place + head.size; length = head.length })
 header_from place (Err reason) = Err (fault_at place reason)
 
--- the same, where only lists are told from values
-abbrev pub extent_from : ℕ → Result Head Reason → Result Extent ItemFault
-extent_from place (Ok head) = Ok (record { of_items = is_list head.format; body = place + head.size; length = head.length })
-extent_from place (Err reason) = Err (fault_at place reason)
+-- the part that is read at a place
+abbrev pub part_from : ℕ → Result Head Reason → Result Part ItemFault
+part_from place (Ok head) =
+    Ok (if is_list head.format then record { end = place + head.size; elements = head.length } else record { end = place + head.size + head.length; elements = 0 })
+part_from place (Err reason) = Err (fault_at place reason)
 
 -- by format: the octets of one value, less one; 0x80 for a list, and 0xff where no format has the code
 abbrev pub mask_for : Option Format → ℕ
 mask_for None = 0xff
 mask_for (Some format) = if is_list format then 0x80 else (value_size format - 1)
 
--- what is known of an extent that is read at a place of so many octets
-pub record LiesIn (depth place octets : ℕ) (extent : Extent) : Type 0 where
-  pub deep_enough : extent.of_items ≡ true → 0 < depth
-  pub behind : place < extent.body
-  pub body : extent.body ≤ octets
-  pub values : extent.of_items ≡ false → extent.body + extent.length ≤ octets
+-- what is known of a part that is read at a place of so many octets
+pub record LiesIn (depth place octets : ℕ) (part : Part) : Type 0 where
+  pub deep_enough : 0 < part.elements → 0 < depth
+  pub behind : place < part.end
+  pub within : part.end ≤ octets
 
 -- the place after what is read at a place
 abbrev pub end_from : {A : Type 0} → ℕ → Result (A × ℕ) Fault → Result ℕ ItemFault

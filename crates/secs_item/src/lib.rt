@@ -9,13 +9,13 @@
 
 mod decode;
 mod encoding;
-mod extent;
 mod fault;
 mod format;
 mod header;
 mod item;
 pub mod laws;
 mod measure;
+mod part;
 mod value;
 
 pub use decode::{decode_front, decode_text};

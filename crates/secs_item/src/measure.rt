@@ -8,8 +8,8 @@ ghost use Rattle.secs_item.specs.Reading.{item_at, elements_by};
 ghost use Rattle.secs_item.specs.Spelling.{IsAtFront, IsText};
 ghost use Rattle.secs_item.specs.Item.{Value};
 
-use crate::extent::read_extent;
 use crate::fault::ItemFault;
+use crate::part::read_part;
 
 /// How deep lists nest at most.
 const MAX_DEPTH: usize = 100;
@@ -34,13 +34,11 @@ fn end_of_elements(octets: &[u8], place: usize, count: usize, depth: u8) -> Resu
             continue;
         }
         counts[innermost] = left - 1;
-        let element = read_extent(octets, end, depth - lists)?;
-        end = element.body;
-        if element.of_items {
-            counts[usize::from(lists)] = element.length;
+        let part = read_part(octets, end, depth - lists)?;
+        end = part.end;
+        if part.elements > 0 {
+            counts[usize::from(lists)] = part.elements;
             lists += 1;
-        } else {
-            end += element.length;
         }
     }
     Ok(end)
@@ -51,12 +49,13 @@ fn end_of_item(octets: &[u8], depth: u8) -> Result<usize, ItemFault>
     requires { depth ≤ 100 }
     ensures { result ≡ end_from 0 (item_at depth octets.now) }
 {
-    let item = read_extent(octets, 0, depth)?;
-    if item.of_items {
-        return end_of_elements(octets, item.body, item.length, depth);
+    let part = read_part(octets, 0, depth)?;
+    if part.elements > 0 {
+        return end_of_elements(octets, part.end, part.elements, depth);
     }
-    Ok(item.body + item.length)
+    Ok(part.end)
 }
+
 /// How many octets spell the item at the front, whose lists are nested at most `depth` deep. What follows isn't looked
 /// at. The depth is at most 100. Takes no memory, and never answers `Trailing`, `TooLarge` or `Memory`.
 pub fn measure_front(octets: &[u8], depth: u8) -> Result<usize, ItemFault>

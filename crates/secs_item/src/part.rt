@@ -1,23 +1,21 @@
-//! Item headers, as far as measuring needs them.
+//! What measuring reads at a time.
 
 ghost use Rattle.std.specs.Prelude.{◌≡◌, ◌≤◌, ◌/◌, length, drop, IfOk, IfSome};
 ghost use Rattle.secs_item.specs.Format.{format_with_code};
 ghost use Rattle.secs_item.specs.Header.{header_at};
-ghost use Rattle.secs_item.specs.Measure.{mask_for, extent_from, LiesIn};
+ghost use Rattle.secs_item.specs.Measure.{mask_for, part_from, LiesIn};
 
 use crate::fault::ItemFault;
 use crate::format::Format;
 use crate::header::{read_header, read_length};
 
-/// Where an item's body is, and what it is made of.
+/// What stands at a place, up to where the next item can begin: an item of values, or the header of a list.
 #[derive(Clone, Copy)]
-pub struct Extent {
-    /// Whether the body is items, and not values.
-    pub of_items: bool,
-    /// The place of the body's first octet.
-    pub body: usize,
-    /// The octets of the body, or the elements of a list.
-    pub length: usize,
+pub struct Part {
+    /// The place after it.
+    pub end: usize,
+    /// How many elements of the list follow; 0 after values.
+    pub elements: usize,
 }
 
 /// Stands for a list in `MASKS`.
@@ -40,11 +38,11 @@ fn mask_of(first: u8) -> u8
     MASKS[usize::from(first / 4)]
 }
 
-/// The extent of the item at `place`, or None where its header has a fault.
+/// The part at `place`; None where its header may have a fault.
 #[inline(always)]
-fn quick_extent(octets: &[u8], place: usize, depth: u8) -> Option<Extent>
+fn quick_part(octets: &[u8], place: usize, depth: u8) -> Option<Part>
     requires { place ≤ length octets.now }
-    ensures read { IfSome result (λ x. Ok x ≡ extent_from place (header_at depth (drop place octets.now))) }
+    ensures read { IfSome result (λ p. Ok p ≡ part_from place (header_at depth (drop place octets.now))) }
     ensures within { IfSome result (LiesIn depth place (length octets.now)) }
 {
     let (&first, rest) = octets[place..].split_first()?;
@@ -59,48 +57,51 @@ fn quick_extent(octets: &[u8], place: usize, depth: u8) -> Option<Extent>
         if length & usize::from(mask) != 0 || rest.len() - field < length {
             return None;
         }
-        return Some(Extent {
-            of_items: false,
-            body,
-            length,
+        return Some(Part {
+            end: body + length,
+            elements: 0,
         });
     }
     if mask > LIST || depth == 0 {
         return None;
     }
-    Some(Extent {
-        of_items: true,
-        body,
-        length,
+    Some(Part {
+        end: body,
+        elements: length,
     })
 }
 
-/// The extent of the item at `place`, or the first fault of its header.
+/// The part at `place`, or the first fault of its header.
 #[cold]
 #[inline(never)]
-fn extent_or_fault(octets: &[u8], place: usize, depth: u8) -> Result<Extent, ItemFault>
+fn part_or_fault(octets: &[u8], place: usize, depth: u8) -> Result<Part, ItemFault>
     requires { place ≤ length octets.now }
-    ensures read { result ≡ extent_from place (header_at depth (drop place octets.now)) }
+    ensures read { result ≡ part_from place (header_at depth (drop place octets.now)) }
     ensures within { IfOk result (LiesIn depth place (length octets.now)) }
 {
     let header = read_header(octets, place, depth)?;
-    Ok(Extent {
-        of_items: header.format == Format::List,
-        body: header.body,
-        length: header.length,
+    if header.format == Format::List {
+        return Ok(Part {
+            end: header.body,
+            elements: header.length,
+        });
+    }
+    Ok(Part {
+        end: header.body + header.length,
+        elements: 0,
     })
 }
 
-/// Reads the extent of the item at `place`. The body of values is there whole. Faults are told apart only once there is
-/// one.
+/// Reads the part at `place`. The body of values is there whole. Faults are told apart only once there is one.
 #[inline(always)]
-pub fn read_extent(octets: &[u8], place: usize, depth: u8) -> Result<Extent, ItemFault>
+pub fn read_part(octets: &[u8], place: usize, depth: u8) -> Result<Part, ItemFault>
     requires { place ≤ length octets.now }
-    ensures read { result ≡ extent_from place (header_at depth (drop place octets.now)) }
+    ensures read { result ≡ part_from place (header_at depth (drop place octets.now)) }
     ensures within { IfOk result (LiesIn depth place (length octets.now)) }
 {
-    match quick_extent(octets, place, depth) {
-        Some(extent) => Ok(extent),
-        None => extent_or_fault(octets, place, depth),
+    if let Some(part) = quick_part(octets, place, depth) {
+        return Ok(part);
     }
+    let part = part_or_fault(octets, place, depth)?;
+    Ok(part)
 }

@@ -1,17 +1,17 @@
--- Extents: what the table of masks says, and headers that have no fault.
+-- Parts: what the table of masks says, and headers that have no fault.
 use Rattle.std.proofs.Common.{◌≡◌, ℕ, ◌+◌, ◌-◌, ◌/◌, ◌%◌, ◌<◌, ◌≤◌, Bool, true, false, eqb, ltb, List, ◌∷◌, length, drop, get_or, bit_and, Option, Some, None, Result, Ok, refl, sym, ap, ◌∙◌, arith}
 use Rattle.std.specs.Prelude.{◌&&◌}
 use Rattle.std.proofs.lemmas.Bool.{eqb-true, le-ltb, ne_eqb, eq-eqb, agree_below_at}
 use Rattle.std.proofs.lemmas.Nat.{and_mask}
 use Rattle.byteorder.specs.Endian.{big_number}
-use Rattle.secs_item.specs.declared.extent.TheConstants.{MASKS}
+use Rattle.secs_item.specs.declared.part.TheConstants.{MASKS}
 use Rattle.secs_item.specs.declared.fault.ItemFault.{ItemFault}
-use Rattle.secs_item.specs.declared.extent.Extent.{Extent}
+use Rattle.secs_item.specs.declared.part.Part.{Part}
 use Rattle.secs_item.specs.declared.format.Format.{Format}
 use Rattle.secs_item.specs.declared.format.Format.TheVariants as format
 use Rattle.secs_item.specs.Format.{format_with_code, is_list, value_size}
 use Rattle.secs_item.specs.Header.{Reason, Head, header_at}
-use Rattle.secs_item.specs.Measure.{extent_from, mask_for}
+use Rattle.secs_item.specs.Measure.{part_from, mask_for}
 use Rattle.secs_item.proofs.Headers.{ok_body, is_deep}
 
 -- ---- masks
@@ -53,11 +53,14 @@ faultless depth first rest f some long code deep whole =
     (ok_body (is_list f) (eqb (big_number (first % 4) rest % value_size f) 0) (ltb (length rest - first % 4) (big_number (first % 4) rest)) (record { format = f; size = 1 + first % 4; length = big_number (first % 4) rest })
     (λ lists. (eq-eqb _ 0 (whole lists).0, le-ltb _ _ (whole lists).1)))
 
-from_head : (place : ℕ) (r : Result Head Reason) (head : Head) → r ≡ Ok head → ◌≡◌ {A = Result Extent ItemFault} (Ok (record { of_items = is_list head.format; body = place + head.size; length = head.length })) (extent_from place r)
-from_head place r head is = rw is refl
+from_values : (place : ℕ) (r : Result Head Reason) (head : Head) → r ≡ Ok head → is_list head.format ≡ false → ◌≡◌ {A = Result Part ItemFault} (Ok (record { end = place + head.size + head.length; elements = 0 })) (part_from place r)
+from_values place r head is lists = rw (is, lists) refl
 
-same_extent : (b c : Bool) (x y n m : ℕ) → b ≡ c → x ≡ y → n ≡ m → ◌≡◌ {A = Result Extent ItemFault} (Ok (record { of_items = b; body = x; length = n })) (Ok (record { of_items = c; body = y; length = m }))
-same_extent b c x y n m bs xs ns = cc
+from_list : (place : ℕ) (r : Result Head Reason) (head : Head) → r ≡ Ok head → is_list head.format ≡ true → ◌≡◌ {A = Result Part ItemFault} (Ok (record { end = place + head.size; elements = head.length })) (part_from place r)
+from_list place r head is lists = rw (is, lists) refl
+
+same_part : (x y n m : ℕ) → x ≡ y → n ≡ m → ◌≡◌ {A = Result Part ItemFault} (Ok (record { end = x; elements = n })) (Ok (record { end = y; elements = m }))
+same_part x y n m xs ns = cc
 
 -- the format with this code has this mask
 values_with : (o : Option Format) (mask : ℕ) → mask ≡ mask_for o → mask < 128 → (f : Format) × (o ≡ Some f) × (is_list f ≡ false) × (mask ≡ value_size f - 1)
@@ -97,19 +100,20 @@ list_with (Some f) mask is high = by_kind (is_list f) refl
 -- a header of values, and of a list
 pub values_read : (depth place first number field : ℕ) (octets rest : List ℕ) (mask : ℕ) → drop place octets ≡ first ∷ rest → field ≡ first % 4 → (field ≡ 0 → ⊥) → field ≤ length rest → mask ≡ mask_for (format_with_code (first / 4)) → mask < 128
     → number ≡ big_number field rest → bit_and number mask ≡ 0 → number ≤ length rest - field
-    → ◌≡◌ {A = Result Extent ItemFault} (Ok (record { of_items = false; body = place + 1 + field; length = number })) (extent_from place (header_at depth (drop place octets)))
+    → ◌≡◌ {A = Result Part ItemFault} (Ok (record { end = place + 1 + field + number; elements = 0 })) (part_from place (header_at depth (drop place octets)))
 values_read depth place first number field octets rest mask front field_is some long is low number_is whole there =
     let p = values_with (format_with_code (first / 4)) mask is low in
     let sized : big_number field rest % value_size p.0 ≡ 0 = sym (mask_is_size p.0 (big_number field rest)) ∙ rw (← number_is, ← p.3) whole in
     let read = faultless depth first rest p.0 (rw field_is at some) (rw field_is at long) p.1 (λ lists. absurd cc) (λ lists. (rw field_is at sized, rw field_is at (rw number_is at there))) in
-    same_extent false (is_list p.0) (place + 1 + field) (place + (1 + first % 4)) number (big_number (first % 4) rest) (sym p.2) (omega (arith, field_is)) (rw field_is at number_is)
-    ∙ from_head place (header_at depth (drop place octets)) (record { format = p.0; size = 1 + first % 4; length = big_number (first % 4) rest }) (ap (header_at depth) front ∙ read)
+    let same : number ≡ big_number (first % 4) rest = rw field_is at number_is in
+    same_part (place + 1 + field + number) (place + (1 + first % 4) + big_number (first % 4) rest) 0 0 (omega (arith, field_is, same)) refl
+    ∙ from_values place (header_at depth (drop place octets)) (record { format = p.0; size = 1 + first % 4; length = big_number (first % 4) rest }) (ap (header_at depth) front ∙ read) p.2
 
 pub list_read : (depth place first number field : ℕ) (octets rest : List ℕ) (mask : ℕ) → drop place octets ≡ first ∷ rest → field ≡ first % 4 → (field ≡ 0 → ⊥) → field ≤ length rest → mask ≡ mask_for (format_with_code (first / 4)) → mask ≡ 128
     → number ≡ big_number field rest → 0 < depth
-    → ◌≡◌ {A = Result Extent ItemFault} (Ok (record { of_items = true; body = place + 1 + field; length = number })) (extent_from place (header_at depth (drop place octets)))
+    → ◌≡◌ {A = Result Part ItemFault} (Ok (record { end = place + 1 + field; elements = number })) (part_from place (header_at depth (drop place octets)))
 list_read depth place first number field octets rest mask front field_is some long is list number_is deep =
     let p = list_with (format_with_code (first / 4)) mask is list in
     let read = faultless depth first rest p.0 (rw field_is at some) (rw field_is at long) p.1 (λ lists. deep) (λ lists. absurd cc) in
-    same_extent true (is_list p.0) (place + 1 + field) (place + (1 + first % 4)) number (big_number (first % 4) rest) (sym p.2) (omega (arith, field_is)) (rw field_is at number_is)
-    ∙ from_head place (header_at depth (drop place octets)) (record { format = p.0; size = 1 + first % 4; length = big_number (first % 4) rest }) (ap (header_at depth) front ∙ read)
+    same_part (place + 1 + field) (place + (1 + first % 4)) number (big_number (first % 4) rest) (omega (arith, field_is)) (rw field_is at number_is)
+    ∙ from_list place (header_at depth (drop place octets)) (record { format = p.0; size = 1 + first % 4; length = big_number (first % 4) rest }) (ap (header_at depth) front ∙ read) p.2

@@ -1,7 +1,7 @@
 use Rattle.std.proofs.Common.{◌≡◌, ◌∷◌, ◌-◌, bit_and, length, drop, sym, ap, ◌∙◌, arith}
 use Rattle.std.proofs.lemmas.List.{take_all, length-drop}
-use Rattle.secs_item.proofs.Extents.{values_read, list_read}
-use Rattle.secs_item.proofs.extent.quick_extent.Goals as goal
+use Rattle.secs_item.proofs.Parts.{values_read, list_read}
+use Rattle.secs_item.proofs.part.quick_part.Goals as goal
 
 pub returns-then-mask-lt-LIST-clause-read : goal.returns-then-mask-lt-LIST-clause-read
 returns-then-mask-lt-LIST-clause-read c =
