@@ -8,6 +8,7 @@ pub mod EntryLaws
 pub mod JudgeLaws
 pub mod Uniqueness
 pub mod Onward
+pub mod Standing
 pub mod Parts
 pub mod Written
 pub mod WrittenLog

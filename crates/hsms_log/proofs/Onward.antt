@@ -41,31 +41,47 @@ first_feed (octet ∷ text) =
           ]
     ]
 
-append_go : (fuel : ℕ) (a b : List ℕ) → length a ≤ fuel → lines_of (a ++ b) ≡ ended_lines a ++ lines_of (open_line a ++ b)
-append_go zero [] b h = let none = All-nil (λ x. eqb x 10 ≡ false) in
-    ap (λ x. lines_of (x ++ b)) (sym (open_line-none [] none)) ∙ ap (λ l. l ++ lines_of (open_line [] ++ b)) (sym (ended_lines-none [] none))
+append_go : (fuel : ℕ) (a b : List ℕ) → length a ≤ fuel
+    → (ended_lines (a ++ b) ≡ ended_lines a ++ ended_lines (open_line a ++ b)) × (open_line (a ++ b) ≡ open_line (open_line a ++ b))
+append_go zero [] b h =
+    let none = All-nil (λ x. eqb x 10 ≡ false) in (
+      ap (λ x. ended_lines (x ++ b)) (sym (open_line-none [] none)) ∙ ap (λ l. l ++ ended_lines (open_line [] ++ b)) (sym (ended_lines-none [] none)),
+      ap (λ x. open_line (x ++ b)) (sym (open_line-none [] none)),
+    )
 append_go zero (x ∷ a) b h = absurd (omega arith)
 append_go (suc fuel) a b h =
     elim (first_feed a) [
-      | inl none ↦
-          ap (λ x. lines_of (x ++ b)) (sym (open_line-none a none)) ∙ ap (λ l. l ++ lines_of (open_line a ++ b)) (sym (ended_lines-none a none))
+      | inl none ↦ (
+          ap (λ x. ended_lines (x ++ b)) (sym (open_line-none a none)) ∙ ap (λ l. l ++ ended_lines (open_line a ++ b)) (sym (ended_lines-none a none)),
+          ap (λ x. open_line (x ++ b)) (sym (open_line-none a none)),
+        )
       | inr found ↦
           let size : length a ≡ length found.0 + length (10 ∷ found.1) = ap length found.2 ∙ length-append found.0 (10 ∷ found.1) in
           let later = append_go fuel found.1 b (omega (arith, size, h)) in
           let whole : a ++ b ≡ found.0 ++ 10 ∷ (found.1 ++ b) = ap (λ l. l ++ b) found.2 ∙ append_assoc found.0 (10 ∷ found.1) b in
           let line = strip_carriage_return found.0 in
           let ended : ended_lines a ≡ line ∷ ended_lines found.1 = ap ended_lines found.2 ∙ ended_lines-first found.0 found.1 found.3 in
-          let open_is : open_line a ≡ open_line found.1 = ap open_line found.2 ∙ open_line-first found.0 found.1 found.3 in
-          let left : lines_of (a ++ b) ≡ line ∷ lines_of (found.1 ++ b) =
-          ap lines_of whole ∙ ap (λ l. l ++ last_lines (open_line (found.0 ++ 10 ∷ (found.1 ++ b)))) (ended_lines-first found.0 (found.1 ++ b) found.3)
-          ∙ ap (λ o. (line ∷ ended_lines (found.1 ++ b)) ++ last_lines o) (open_line-first found.0 (found.1 ++ b) found.3) in
-          left ∙ ap (λ l. line ∷ l) later ∙ ap (λ l. l ++ lines_of (open_line found.1 ++ b)) (sym ended)
-          ∙ ap (λ o. ended_lines a ++ lines_of (o ++ b)) (sym open_is)
+          let open_is : open_line a ≡ open_line found.1 = ap open_line found.2 ∙ open_line-first found.0 found.1 found.3 in (
+            ap ended_lines whole ∙ ended_lines-first found.0 (found.1 ++ b) found.3 ∙ ap (λ l. line ∷ l) later.0
+                ∙ ap (λ l. l ++ ended_lines (open_line found.1 ++ b)) (sym ended) ∙ ap (λ o. ended_lines a ++ ended_lines (o ++ b)) (sym open_is),
+            ap open_line whole ∙ open_line-first found.0 (found.1 ++ b) found.3 ∙ later.1 ∙ ap (λ o. open_line (o ++ b)) (sym open_is),
+          )
     ]
+
+-- the lines that have ended in what was read stay the first ones
+pub ended_lines-append : (a b : List ℕ) → ended_lines (a ++ b) ≡ ended_lines a ++ ended_lines (open_line a ++ b)
+ended_lines-append a b = let both = append_go (length a) a b (omega arith) in both.0
+
+pub open_line-append : (a b : List ℕ) → open_line (a ++ b) ≡ open_line (open_line a ++ b)
+open_line-append a b = let both = append_go (length a) a b (omega arith) in both.1
 
 -- the lines of what was read stay the first lines
 pub lines_of-append : (a b : List ℕ) → lines_of (a ++ b) ≡ ended_lines a ++ lines_of (open_line a ++ b)
-lines_of-append a b = append_go (length a) a b (omega arith)
+lines_of-append a b =
+    let rest = open_line a ++ b in
+    ap (λ l. l ++ last_lines (open_line (a ++ b))) (ended_lines-append a b)
+    ∙ ap (λ o. (ended_lines a ++ ended_lines rest) ++ last_lines o) (open_line-append a b)
+    ∙ append_assoc (ended_lines a) (ended_lines rest) (last_lines (open_line rest))
 
 -- what follows the last line feed has none
 open_go : (fuel : ℕ) (a : List ℕ) → length a ≤ fuel → HasNone 10 (open_line a)

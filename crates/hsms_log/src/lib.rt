@@ -13,6 +13,7 @@ mod judging;
 mod later;
 pub mod laws;
 mod line;
+mod line_reader;
 mod number;
 mod range;
 mod reading;
