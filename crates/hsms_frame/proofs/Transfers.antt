@@ -4,9 +4,8 @@ use Rattle.std.specs.Prelude.{Option}
 use Rattle.std.proofs.lemmas.List.{length-take, drop_at, take_at, take_all, drop_all, drop-drop, length-append, length-drop, length-take-le, take-append-le, append-nil, append_assoc}
 use Rattle.std.proofs.Math.Seq.{take-add}
 use borrow.Rule.Slice.PartMut.{put_mid, post_of}
-use Rattle.std.specs.Prelude.{◌==◌, ◌&&◌, ◌<◌, if◌then◌else◌, nat_lt}
+use Rattle.std.specs.Prelude.{◌<◌}
 use Rattle.std.proofs.lemmas.Bool.Decides.{nat_tests}
-use Rattle.hsms_frame.specs.Count.{next_count}
 use Rattle.hsms_frame.specs.Device.{Takes, Grows, IsAtEnd, ends_after, ends_after_fill}
 
 -- what a buffer has at its front once a part behind the front was written

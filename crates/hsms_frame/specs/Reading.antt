@@ -4,6 +4,7 @@ use Rattle.hsms_frame.specs.declared.frame.Frame.{Frame}
 use Rattle.hsms_frame.specs.declared.fault.ReadFault.{ReadFault}
 use Rattle.hsms_frame.specs.declared.fault.ReadFault.TheVariants.{TooShort, TooLong, Memory, CutOff, Read}
 use Rattle.hsms_frame.specs.Count.{next_count}
+use Rattle.hsms_frame.specs.Device.{SourceState}
 use Rattle.hsms_frame.specs.Frame.{frame_octets, IsFrame, IsTooShort, IsTooLong, IsFaultless, IsProperFront, IsOctets, length_field}
 
 -- the answers to an input, each with what is left of it; nothing is said of what a failing device has left
@@ -44,6 +45,18 @@ abbrev pub ends_after_whole : {T : Type 0} → Result (Option T) ReadFault → �
 ends_after_whole (Ok None) n = next_count n
 ends_after_whole (Ok (Some _)) n = n
 ends_after_whole (Err fault) n = ends_after_part {T = ℕ} (Err fault) n
+
+-- what a read of what has to be there counts
+pub record CountsPart {T : Type 0} (result : Result T ReadFault) (old new : SourceState) : Type 0 where
+  pub empty_pulls : new.empty_pulls ≡ old.empty_pulls
+  pub ends : new.ends ≡ ends_after_part result old.ends
+  pub failures : new.failures ≡ failures_after result old.failures
+
+-- what a read of what may be missing counts
+pub record CountsWhole {T : Type 0} (result : Result (Option T) ReadFault) (old new : SourceState) : Type 0 where
+  pub empty_pulls : new.empty_pulls ≡ old.empty_pulls
+  pub ends : new.ends ≡ ends_after_whole result old.ends
+  pub failures : new.failures ≡ failures_after result old.failures
 
 -- A read of k octets, seen by view: they are the front of the input, or the input is shorter and at its end.
 abbrev pub TakesFront : {T : Type 0} → (T → List ℕ) → ℕ → List ℕ → Result T ReadFault → Option (List ℕ) → Type 0

@@ -1,8 +1,7 @@
 //! What octets are read from and written to.
 
-ghost use Rattle.std.specs.Prelude.{◌≡◌, ◌<◌, ◌≤◌, ℕ, List, Option, IfOk, OnErr, is_ok, length, take, ◌==◌, if◌then◌else◌};
-ghost use Rattle.hsms_frame.specs.Count.{next_count};
-ghost use Rattle.hsms_frame.specs.Device.{Takes, IsAtEnd, Stays, Grows, ends_after};
+ghost use Rattle.std.specs.Prelude.{◌≡◌, ◌<◌, ◌≤◌, IfOk, OnErr, length, take};
+ghost use Rattle.hsms_frame.specs.Device.{SourceState, SinkState, Takes, IsAtEnd, Stays, Grows, CountsPull, CountsGive};
 
 use thiserror::Error;
 
@@ -13,55 +12,32 @@ pub struct Failed;
 
 /// What octets are read from. A call that fails takes none.
 pub trait Source {
-    /// The octets that are left, where the device tells them.
-    ghost left: { Self → Option (List ℕ) };
-
-    /// How often it was called. Each count stays at its greatest value.
-    ghost pulls: { Self → ℕ };
-
-    /// How often it was called with no room for an octet.
-    ghost empty_pulls: { Self → ℕ };
-
-    /// How often its end was found: it was called with room, and no octet came.
-    ghost ends: { Self → ℕ };
-
-    /// How often it failed.
-    ghost failures: { Self → ℕ };
+    /// The octets that are left, where it tells them, and how often it was called, with no room among them, found its
+    /// end, and failed. Each count stays at its greatest value.
+    ghost state: { Self → SourceState };
 
     /// Reads some octets to the front of a slice, and says how many. None are read into a slice with room only at
     /// the end of the input.
     fn pull(&mut self, into: &mut [u8]) -> Result<usize, Failed>
         ensures bound { IfOk result (λ n. n ≤ length into.new) }
-        ensures octets { IfOk result (λ n. Takes (left self.old) (left self.new) n into.new) }
-        ensures end { IfOk result (λ n. n ≡ 0 → 0 < length into.new → IsAtEnd (left self.old)) }
-        ensures none_lost { OnErr result (Stays (left self.old) (left self.new)) }
-        ensures pulls { pulls self.new ≡ next_count (pulls self.old) }
-        ensures empty { empty_pulls self.new
-            ≡ (if length into.old == 0 then next_count (empty_pulls self.old) else empty_pulls self.old) }
-        ensures ends { ends self.new ≡ ends_after (length into.new) result (ends self.old) }
-        ensures failures { failures self.new
-            ≡ (if is_ok result then failures self.old else next_count (failures self.old)) };
+        ensures octets { IfOk result (λ n. Takes (state self.old).left (state self.new).left n into.new) }
+        ensures end { IfOk result (λ n. n ≡ 0 → 0 < length into.new → IsAtEnd (state self.old).left) }
+        ensures none_lost { OnErr result (Stays (state self.old).left (state self.new).left) }
+        ensures counts { CountsPull (length into.old) result (state self.old) (state self.new) };
 }
 
 /// What octets are written to. A call that fails writes none, and one that takes none of a slice that isn't empty
 /// fails.
 pub trait Sink {
-    /// The octets that were written, where the device tells them.
-    ghost written: { Self → Option (List ℕ) };
-
-    /// How often it was called. Each count stays at its greatest value.
-    ghost gives: { Self → ℕ };
-
-    /// How often it failed.
-    ghost failures: { Self → ℕ };
+    /// The octets that were written, where it tells them, and how often it was called and failed. Each count stays at
+    /// its greatest value.
+    ghost state: { Self → SinkState };
 
     /// Writes some octets from the front of a slice, and says how many.
     fn give(&mut self, from: &[u8]) -> Result<usize, Failed>
         ensures bound { IfOk result (λ n. n ≤ length from.now) }
         ensures some { IfOk result (λ n. 0 < length from.now → 0 < n) }
-        ensures octets { IfOk result (λ n. Grows (written self.old) (written self.new) (take n from.now)) }
-        ensures none_written { OnErr result (Stays (written self.old) (written self.new)) }
-        ensures gives { gives self.new ≡ next_count (gives self.old) }
-        ensures failures { failures self.new
-            ≡ (if is_ok result then failures self.old else next_count (failures self.old)) };
+        ensures octets { IfOk result (λ n. Grows (state self.old).written (state self.new).written (take n from.now)) }
+        ensures none_written { OnErr result (Stays (state self.old).written (state self.new).written) }
+        ensures counts { CountsGive result (state self.old) (state self.new) };
 }

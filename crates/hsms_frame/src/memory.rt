@@ -1,8 +1,8 @@
 //! Devices in memory that fail on purpose, for tests.
 
-ghost use Rattle.std.specs.Prelude.{◌≡◌, ◌<◌, ◌≤◌, ◌+◌, ◌-◌, ◌⊎◌, ◌↔◌, ◌==◌, [], ◌++◌, Some, drop, take, length, vec_len, min, is_ok, IsErr, IfOk, OnErr, if◌then◌else◌};
-ghost use Rattle.hsms_frame.specs.Count.{next_count};
-ghost use Rattle.hsms_frame.specs.Device.{Takes, IsAtEnd, Stays, Grows, ends_after};
+ghost use Rattle.std.specs.Prelude.{◌≡◌, ◌<◌, ◌≤◌, ◌+◌, ◌-◌, ◌⊎◌, ◌↔◌, [], ◌++◌, Some, drop, take, length, vec_len, min, IsErr, IfOk, OnErr};
+ghost use Rattle.hsms_frame.specs.Device.{Takes, IsAtEnd, Stays, Grows, CountsPull, CountsGive};
+ghost use Rattle.hsms_frame.specs.Memory.{source_of, sink_of};
 
 use crate::device::{Failed, Sink, Source};
 use crate::tally::Tally;
@@ -62,27 +62,14 @@ impl Feed {
 }
 
 impl Source for Feed {
-    ghost left = { λ s. Some s.left };
-
-    ghost pulls = { λ s. s.pulls };
-
-    ghost empty_pulls = { λ s. s.empty_pulls };
-
-    ghost ends = { λ s. s.ends };
-
-    ghost failures = { λ s. s.failures };
+    ghost state = { source_of };
 
     fn pull(&mut self, into: &mut [u8]) -> Result<usize, Failed>
         ensures bound { IfOk result (λ n. n ≤ length into.new) }
         ensures octets { IfOk result (λ n. Takes (Some self.old.left) (Some self.new.left) n into.new) }
         ensures end { IfOk result (λ n. n ≡ 0 → 0 < length into.new → IsAtEnd (Some self.old.left)) }
         ensures none_lost { OnErr result (Stays (Some self.old.left) (Some self.new.left)) }
-        ensures pulls { self.new.pulls ≡ next_count self.old.pulls }
-        ensures empty { self.new.empty_pulls
-            ≡ (if length into.old == 0 then next_count self.old.empty_pulls else self.old.empty_pulls) }
-        ensures ends { self.new.ends ≡ ends_after (length into.new) result self.old.ends }
-        ensures failures { self.new.failures
-            ≡ (if is_ok result then self.old.failures else next_count self.old.failures) }
+        ensures counts { CountsPull (length into.old) result (source_of self.old) (source_of self.new) }
 
         // Beyond what each source ensures: when it fails, and that it moves as much as it may.
         ensures fails { IsErr result ↔ (self.old.fuse ≤ self.old.pulls) }
@@ -157,20 +144,14 @@ impl Store {
 }
 
 impl Sink for Store {
-    ghost written = { λ s. Some s.written };
-
-    ghost gives = { λ s. s.gives };
-
-    ghost failures = { λ s. s.failures };
+    ghost state = { sink_of };
 
     fn give(&mut self, from: &[u8]) -> Result<usize, Failed>
         ensures bound { IfOk result (λ n. n ≤ length from.now) }
         ensures some { IfOk result (λ n. 0 < length from.now → 0 < n) }
         ensures octets { IfOk result (λ n. Grows (Some self.old.written) (Some self.new.written) (take n from.now)) }
         ensures none_written { OnErr result (Stays (Some self.old.written) (Some self.new.written)) }
-        ensures gives { self.new.gives ≡ next_count self.old.gives }
-        ensures failures { self.new.failures
-            ≡ (if is_ok result then self.old.failures else next_count self.old.failures) }
+        ensures counts { CountsGive result (sink_of self.old) (sink_of self.new) }
 
         // Beyond what each sink ensures: when it fails, that it moves as much as it may, and which room is left.
         ensures fails { IsErr result ↔ ((self.old.fuse ≤ self.old.gives) ⊎ (length self.old.room ≡ 0)) }

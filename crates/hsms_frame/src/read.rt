@@ -2,7 +2,7 @@
 
 ghost use Rattle.std.specs.Prelude.{◌≡◌, ◌⊎◌, Option, Result, Err, length};
 ghost use Rattle.hsms_frame.specs.Device.{WhereTold};
-ghost use Rattle.hsms_frame.specs.Reading.{ends_after_part, ends_after_whole, failures_after, ReadsAs, IsRefusal, TakesFront, TakesLength};
+ghost use Rattle.hsms_frame.specs.Reading.{CountsPart, CountsWhole, ReadsAs, IsRefusal, TakesFront, TakesLength};
 
 use crate::device::Source;
 use crate::fault::ReadFault;
@@ -27,12 +27,11 @@ pub fn read_frame<R: Source>(
     max: u32,
 ) -> Result<Option<Frame>, ReadFault>
     // The answer is one to the octets that the source had left.
-    ensures answer { WhereTold (R.left source.old) (λ input. ReadsAs max input result (R.left source.new)) }
+    ensures answer { WhereTold (R.state source.old).left (λ input. ReadsAs max input result (R.state source.new).left) }
     // No other answer is.
-    ensures only { WhereTold (R.left source.old) (λ input. (answer : _) (left : _) → ReadsAs max input answer left
+    ensures only { WhereTold (R.state source.old).left (λ input. (answer : _) (left : _) → ReadsAs max input answer left
         → IsRefusal answer ⊎ IsRefusal result ⊎ (result ≡ answer)) }
-    ensures ends { R.ends source.new ≡ ends_after_whole result (R.ends source.old) }
-    ensures failures { R.failures source.new ≡ failures_after result (R.failures source.old) }
+    ensures counts { CountsWhole result (R.state source.old) (R.state source.new) }
 {
     read_message(alloc, source, max)
 }
@@ -42,9 +41,8 @@ fn read_message<R: Source>(
     source: &mut R,
     max: u32,
 ) -> Result<Option<Frame>, ReadFault>
-    ensures answer { WhereTold (R.left source.old) (λ input. ReadsAs max input result (R.left source.new)) }
-    ensures ends { R.ends source.new ≡ ends_after_whole result (R.ends source.old) }
-    ensures failures { R.failures source.new ≡ failures_after result (R.failures source.old) }
+    ensures answer { WhereTold (R.state source.old).left (λ input. ReadsAs max input result (R.state source.new).left) }
+    ensures counts { CountsWhole result (R.state source.old) (R.state source.new) }
 {
     let Some(length) = read_length(source)? else {
         return Ok(None);
@@ -69,9 +67,8 @@ fn read_message<R: Source>(
 
 // The length field of the next message, if there is one.
 fn read_length<R: Source>(source: &mut R) -> Result<Option<u32>, ReadFault>
-    ensures answer { WhereTold (R.left source.old) (λ input. TakesLength input result (R.left source.new)) }
-    ensures ends { R.ends source.new ≡ ends_after_whole result (R.ends source.old) }
-    ensures failures { R.failures source.new ≡ failures_after result (R.failures source.old) }
+    ensures answer { WhereTold (R.state source.old).left (λ input. TakesLength input result (R.state source.new).left) }
+    ensures counts { CountsWhole result (R.state source.old) (R.state source.new) }
 {
     let mut field = [0u8; 4];
     let count = fill(source, &mut field)?;
@@ -86,12 +83,11 @@ fn read_length<R: Source>(source: &mut R) -> Result<Option<u32>, ReadFault>
 
 // Fills a slice.
 fn read_all<R: Source>(source: &mut R, into: &mut [u8]) -> Result<(), ReadFault>
-    ensures answer { WhereTold (R.left source.old)
-        (λ input. TakesFront (λ _. into.new) (length into.old) input result (R.left source.new)) }
+    ensures answer { WhereTold (R.state source.old).left
+        (λ input. TakesFront (λ _. into.new) (length into.old) input result (R.state source.new).left) }
     ensures len { length into.new ≡ length into.old }
     ensures memory { result ≡ Err ReadFault.Memory → ⊥ }
-    ensures ends { R.ends source.new ≡ ends_after_part result (R.ends source.old) }
-    ensures failures { R.failures source.new ≡ failures_after result (R.failures source.old) }
+    ensures counts { CountsPart result (R.state source.old) (R.state source.new) }
 {
     let count = fill(source, into)?;
     if count < into.len() {
@@ -102,10 +98,9 @@ fn read_all<R: Source>(source: &mut R, into: &mut [u8]) -> Result<(), ReadFault>
 
 // The text of a message.
 fn read_text<R: Source>(alloc: Global, source: &mut R, size: usize) -> Result<Text, ReadFault>
-    ensures answer { WhereTold (R.left source.old)
-        (λ input. TakesFront (λ text. text) size input result (R.left source.new)) }
-    ensures ends { R.ends source.new ≡ ends_after_part result (R.ends source.old) }
-    ensures failures { R.failures source.new ≡ failures_after result (R.failures source.old) }
+    ensures answer { WhereTold (R.state source.old).left
+        (λ input. TakesFront (λ text. text) size input result (R.state source.new).left) }
+    ensures counts { CountsPart result (R.state source.old) (R.state source.new) }
 {
     let mut octets = vec![in alloc; 0u8; size]?;
     read_all(source, &mut octets)?;

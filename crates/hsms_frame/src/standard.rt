@@ -17,11 +17,8 @@ pub struct Reader<R> {
 impl<R: Read> Reader<R> {
     /// A source of what the reader has left.
     pub fn new(inner: R) -> Reader<R>
-        ensures left { ⟦<Reader<R> as Source>⟧.left result ≡ R.remaining inner }
-        ensures pulls { ⟦<Reader<R> as Source>⟧.pulls result ≡ 0 }
-        ensures empty { ⟦<Reader<R> as Source>⟧.empty_pulls result ≡ 0 }
-        ensures ends { ⟦<Reader<R> as Source>⟧.ends result ≡ 0 }
-        ensures failures { ⟦<Reader<R> as Source>⟧.failures result ≡ 0 }
+        ensures { ⟦<Reader<R> as Source>⟧.state result
+            ≡ record { left = R.remaining inner; pulls = 0; empty_pulls = 0; ends = 0; failures = 0 } }
     {
         Reader {
             inner,
@@ -31,15 +28,13 @@ impl<R: Read> Reader<R> {
 }
 
 impl<R: Read> Source for Reader<R> {
-    ghost left = { λ s. R.remaining s.inner };
-
-    ghost pulls = { λ s. s.tally.calls };
-
-    ghost empty_pulls = { λ s. s.tally.empty };
-
-    ghost ends = { λ s. s.tally.ends };
-
-    ghost failures = { λ s. s.tally.failures };
+    ghost state = { λ s. record {
+      left = R.remaining s.inner;
+      pulls = s.tally.calls;
+      empty_pulls = s.tally.empty;
+      ends = s.tally.ends;
+      failures = s.tally.failures;
+    } };
 
     fn pull(&mut self, into: &mut [u8]) -> Result<usize, Failed> {
         self.tally.count(into.is_empty());
@@ -68,9 +63,7 @@ pub struct Writer<W> {
 impl<W: Write> Writer<W> {
     /// A sink that adds to what the writer holds.
     pub fn new(inner: W) -> Writer<W>
-        ensures written { ⟦<Writer<W> as Sink>⟧.written result ≡ W.contents inner }
-        ensures gives { ⟦<Writer<W> as Sink>⟧.gives result ≡ 0 }
-        ensures failures { ⟦<Writer<W> as Sink>⟧.failures result ≡ 0 }
+        ensures { ⟦<Writer<W> as Sink>⟧.state result ≡ record { written = W.contents inner; gives = 0; failures = 0 } }
     {
         Writer {
             inner,
@@ -80,17 +73,16 @@ impl<W: Write> Writer<W> {
 }
 
 impl<W: Write> Writer<W> {
-    ghost use Rattle.std.specs.Prelude.{is_ok, if◌then◌else◌};
-    ghost use Rattle.hsms_frame.specs.Count.{next_count};
+    ghost use Rattle.hsms_frame.specs.Count.{count_failure};
     ghost use Rattle.hsms_frame.specs.Device.{Stays};
 
     /// Has the writer put out what it holds back, as a buffered one does. Nothing is written that wasn't.
     pub fn flush(&mut self) -> Result<(), Failed>
-        ensures octets { Stays (⟦<Writer<W> as Sink>⟧.written self.old) (⟦<Writer<W> as Sink>⟧.written self.new) }
-        ensures gives { ⟦<Writer<W> as Sink>⟧.gives self.new ≡ ⟦<Writer<W> as Sink>⟧.gives self.old }
-        ensures failures { ⟦<Writer<W> as Sink>⟧.failures self.new
-            ≡ (if is_ok result then ⟦<Writer<W> as Sink>⟧.failures self.old
-            else next_count (⟦<Writer<W> as Sink>⟧.failures self.old)) }
+        ensures octets { Stays (⟦<Writer<W> as Sink>⟧.state self.old).written
+            (⟦<Writer<W> as Sink>⟧.state self.new).written }
+        ensures gives { (⟦<Writer<W> as Sink>⟧.state self.new).gives ≡ (⟦<Writer<W> as Sink>⟧.state self.old).gives }
+        ensures failures { (⟦<Writer<W> as Sink>⟧.state self.new).failures
+            ≡ count_failure result (⟦<Writer<W> as Sink>⟧.state self.old).failures }
     {
         match self.inner.flush() {
             Ok(()) => Ok(()),
@@ -103,11 +95,7 @@ impl<W: Write> Writer<W> {
 }
 
 impl<W: Write> Sink for Writer<W> {
-    ghost written = { λ s. W.contents s.inner };
-
-    ghost gives = { λ s. s.tally.calls };
-
-    ghost failures = { λ s. s.tally.failures };
+    ghost state = { λ s. record { written = W.contents s.inner; gives = s.tally.calls; failures = s.tally.failures } };
 
     fn give(&mut self, from: &[u8]) -> Result<usize, Failed> {
         self.tally.count(from.is_empty());

@@ -38,8 +38,8 @@ pub fn encode_frame(alloc: Global, frame: &Frame) -> Result<Vec<u8>, FrameFault>
 /// Faults: `TooLong` where header and text have more than 4,294,967,295 octets, and nothing was written; `Write` where
 /// the sink failed, and some of the octets from their front were written.
 pub fn write_frame<W: Sink>(sink: &mut W, frame: &Frame) -> Result<(), WriteFault>
-    ensures octets { WritesAs frame.now result (W.written sink.old) (W.written sink.new) }
-    ensures failures { W.failures sink.new ≡ failures_after_write result (W.failures sink.old) }
+    ensures octets { WritesAs frame.now result (W.state sink.old).written (W.state sink.new).written }
+    ensures failures { (W.state sink.new).failures ≡ failures_after_write result (W.state sink.old).failures }
 {
     let header = frame.header;
     let length = frame.length();

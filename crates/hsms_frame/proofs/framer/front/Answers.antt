@@ -1,6 +1,6 @@
 use Rattle.std.proofs.Common.{◌≡◌, ◌<◌, ◌+◌, ◌∙◌, length, sym, ap, arith}
 use Rattle.std.specs.Int.{w32, from_be_bytes}
-use Rattle.hsms_frame.specs.Frame.{IsOctets, length_field}
+use Rattle.hsms_frame.specs.Frame.{length_field}
 use Rattle.hsms_frame.proofs.Fronts.{cut_in_field, cut_behind_field}
 use Rattle.hsms_frame.proofs.framer.front.Goals as goal
 

@@ -8,11 +8,11 @@ abbrev pub invariant-loop-filled : goal.invariant-loop-filled
 invariant-loop-filled g l =
     (l.filled ≤ length l.into)
     × IsOctets l.into
-    × Takes (g.R.Source.left l.initial.source) (g.R.Source.left l.source) l.filled l.into
-    × (g.R.Source.pulls l.source ≤ g.R.Source.pulls l.initial.source + l.filled)
-    × (g.R.Source.empty_pulls l.source ≡ g.R.Source.empty_pulls l.initial.source)
-    × (g.R.Source.ends l.source ≡ g.R.Source.ends l.initial.source)
-    × (g.R.Source.failures l.source ≡ g.R.Source.failures l.initial.source)
+    × Takes (g.R.Source.state l.initial.source).left (g.R.Source.state l.source).left l.filled l.into
+    × ((g.R.Source.state l.source).pulls ≤ (g.R.Source.state l.initial.source).pulls + l.filled)
+    × ((g.R.Source.state l.source).empty_pulls ≡ (g.R.Source.state l.initial.source).empty_pulls)
+    × ((g.R.Source.state l.source).ends ≡ (g.R.Source.state l.initial.source).ends)
+    × ((g.R.Source.state l.source).failures ≡ (g.R.Source.state l.initial.source).failures)
 
 abbrev pub decreases-loop-filled : goal.decreases-loop-filled
 decreases-loop-filled g l = length l.initial.into - l.filled

@@ -11,11 +11,11 @@ returns-in_err-give_all-clause-octets g c =
 
 pub returns-in_err-give_all-2-clause-octets : goal.returns-in_err-give_all-2-clause-octets
 returns-in_err-give_all-2-clause-octets g c =
-    let P : List ℕ → Type 0 = λ xs. GrowsByFront (g.W.Sink.written c.give_all.new.sink) (g.W.Sink.written c.give_all-2.new.sink) xs in
+    let P : List ℕ → Type 0 = λ xs. GrowsByFront (g.W.Sink.state c.give_all.new.sink).written (g.W.Sink.state c.give_all-2.new.sink).written xs in
     let p = err_from_is_err_and c.from_residual-in_err-give_all-2.result c.from_residual-in_err-give_all-2.ensures.1 in
     rw (p.1, p.2) (omega (arith, c.length-length.ensures), wrote_part c.args.frame.now c.front.result _ _ _ (c.front.ensures ∙ counted _ _ c.length-length.ensures) c.in_ok-give_all.ensures.ok (subst P c.as_slice.ensures c.in_err-give_all-2.ensures.err))
 
 pub returns-clause-octets : goal.returns-clause-octets
 returns-clause-octets g c =
-    let P : List ℕ → Type 0 = λ xs. Grows (g.W.Sink.written c.give_all.new.sink) (g.W.Sink.written c.give_all-2.new.sink) xs in
+    let P : List ℕ → Type 0 = λ xs. Grows (g.W.Sink.state c.give_all.new.sink).written (g.W.Sink.state c.give_all-2.new.sink).written xs in
     (omega (arith, c.length-length.ensures), wrote_all c.args.frame.now c.front.result _ _ _ (c.front.ensures ∙ counted _ _ c.length-length.ensures) c.in_ok-give_all.ensures.ok (subst P c.as_slice.ensures c.in_ok-give_all-2.ensures.ok))
