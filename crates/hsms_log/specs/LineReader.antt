@@ -22,3 +22,7 @@ pub record Stands (reader : Reading) (text : List ℕ) : Type 0 where
 abbrev pub FailsAs : List ℕ → Verdict → Type 0
 FailsAs text (Pass summary) = ⊥
 FailsAs text (Fail n why) = FailsOnward text n why
+
+abbrev pub IsFailure : Verdict → Type 0
+IsFailure (Pass summary) = ⊥
+IsFailure (Fail n why) = Unit {0}

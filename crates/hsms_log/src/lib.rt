@@ -8,7 +8,6 @@
 #![tactic(auto)]
 
 mod auditing;
-mod input;
 mod judging;
 mod later;
 pub mod laws;

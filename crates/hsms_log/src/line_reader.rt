@@ -36,7 +36,7 @@ impl LineReader {
     ghost use Rattle.hsms_log.specs.Lines.{HasNone, IsOverlong};
     ghost use Rattle.hsms_log.specs.Verdict.{Judges, FailsOnward};
     ghost use Rattle.hsms_log.specs.Judging.{limit_after};
-    ghost use Rattle.hsms_log.specs.LineReader.{Stands, FailsAs};
+    ghost use Rattle.hsms_log.specs.LineReader.{Stands, FailsAs, IsFailure};
 
     /// The reader of a text of which nothing was read.
     pub fn new(alloc: Global) -> LineReader
@@ -55,6 +55,7 @@ impl LineReader {
         requires { self.old.judge.tally.lines + length octets.now < 2 ^ 64 - 1 }
         ensures stands { result ≡ Ok None → (text : List ℕ) → Stands self.old text → Stands self.new (text ++ octets.now) }
         ensures room { result ≡ Ok None → self.new.judge.tally.lines ≤ self.old.judge.tally.lines + length octets.now }
+        ensures failure { IfOk result (λ answer. IfSome answer IsFailure) }
         ensures fails { IfOk result (λ answer. IfSome answer (λ verdict. (text : List ℕ) → Stands self.old text → FailsAs (text ++ octets.now) verdict)) }
     {
         let mut rest = octets;
@@ -64,10 +65,10 @@ impl LineReader {
             }
             rest = more;
         }
-        match self.hold(rest)? {
-            Some(why) => Ok(Some(self.judge.failure(why))),
-            None => Ok(None),
+        if let Some(why) = self.hold(rest)? {
+            return Ok(Some(self.judge.failure(why)));
         }
+        Ok(None)
     }
 
     /// Judges the line that ends with this part. Where nothing is held, it is judged where it lies.
