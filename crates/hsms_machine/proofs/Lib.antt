@@ -4,6 +4,7 @@ pub mod First
 pub mod Steps
 pub mod Push
 pub mod Alike
+pub mod Parts
 pub mod Told
 pub mod Runs
 pub mod Lawful

@@ -1,5 +1,6 @@
 pub mod Settings
 pub mod Entry
+pub mod Act
 pub mod Message
 pub mod Transaction
 pub mod Session

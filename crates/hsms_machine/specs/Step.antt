@@ -5,17 +5,20 @@ use Rattle.std.specs.List.{list_any}
 use Rattle.hsms_machine.specs.declared.entry.Entry.{Entry}
 use Rattle.hsms_machine.specs.declared.entry.Event.{Event}
 use Rattle.hsms_machine.specs.declared.entry.Event.TheVariants.{Sent, Taken, T3}
+use Rattle.hsms_machine.specs.declared.act.Act.{Act}
+use Rattle.hsms_machine.specs.declared.act.Act.TheVariants.{Sent as ActSent, Taken as ActTaken}
 use Rattle.hsms_machine.specs.declared.phase.Phase.{Phase}
 use Rattle.hsms_machine.specs.declared.phase.Phase.TheVariants.{Before, Selected, Over, Gone}
 use Rattle.hsms_machine.specs.declared.rule.Rule.{Rule}
 use Rattle.hsms_machine.specs.declared.open.Transaction.{Transaction}
 use Rattle.hsms_machine.specs.declared.view.View.{View}
 use Rattle.hsms_machine.specs.Entry.{is_up, is_down}
+use Rattle.hsms_machine.specs.Message.{is_request}
 use Rattle.hsms_machine.specs.Transaction.{Pool, SentData, SentControl, TakenData, TakenControl, concludes, opened_as}
 use Rattle.hsms_machine.specs.Session.{Facts, selects, ends_session}
 use Rattle.hsms_machine.specs.View.{phase_by}
 use Rattle.hsms_machine.specs.Rule.{Breaks, IsFirst, all_rules}
-use Rattle.hsms_machine.specs.Ordered.{IsOrdered, AreUntil}
+use Rattle.hsms_machine.specs.Ordered.{IsOrdered, AreUntil, uses}
 
 -- ---- what the rules ask
 
@@ -102,6 +105,14 @@ pub record IsInOrder (view : View) : Type 0 where
   pub sent_control : IsOrdered view.last_time view.sent_control
   pub taken_data : IsOrdered view.last_time view.taken_data
   pub taken_control : IsOrdered view.last_time view.taken_control
+
+-- a request has the system bytes of no open transaction of its direction
+abbrev pub IsFresh : View → Act → Type 0
+IsFresh view (ActSent header) =
+    IsTrue (is_request header) → (uses header.system view.sent_data ≡ false) × (uses header.system view.sent_control ≡ false)
+IsFresh view (ActTaken header) =
+    IsTrue (is_request header) → (uses header.system view.taken_data ≡ false) × (uses header.system view.taken_control ≡ false)
+IsFresh view act = Unit {0}
 
 -- nothing that is open was opened after this time
 pub record IsUntil (time : ℕ) (view : View) : Type 0 where

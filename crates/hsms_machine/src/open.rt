@@ -1,6 +1,6 @@
 //! Transactions that are open, of one direction and kind.
 
-use crate::message::{answers, concludes};
+use crate::message::{Message, answers, concludes};
 use hsms_frame::Header;
 use indexmap::IndexMap;
 use std::alloc::{AllocError, Global};
@@ -161,10 +161,10 @@ impl Transactions {
     }
 
     /// Whether the message, which goes in the other direction, answers a transaction.
-    pub fn has_request_of(&self, response: Header) -> bool
+    pub fn has_request_of(&self, response: Message) -> bool
         ensures { result ≡ list_any (λ opened. is_answer opened.header response) self.now }
     {
-        match self.get(response.system) {
+        match self.get(response.header().system) {
             Some(opened) => answers(opened.header, response),
             None => false,
         }
@@ -199,22 +199,22 @@ impl Transactions {
     }
 
     /// Whether the message, which goes in the other direction, answers or rejects a transaction.
-    fn is_concluded(&self, other: Header) -> bool
+    fn is_concluded(&self, other: Message) -> bool
         ensures concluded { result ≡ list_any (λ opened. is_conclusion opened.header other) self.now }
         ensures apart { AreApart self.now }
     {
-        match self.get(other.system) {
+        match self.get(other.header().system) {
             Some(opened) => concludes(opened.header, other),
             None => false,
         }
     }
 
     /// Takes out what the message, which goes in the other direction, answers or rejects.
-    pub fn remove_concluded(&mut self, other: Header)
+    pub fn remove_concluded(&mut self, other: Message)
         ensures { self.new ≡ filter (λ opened. not (is_conclusion opened.header other)) self.old }
     {
         if self.is_concluded(other) {
-            self.remove_system(other.system);
+            self.remove_system(other.header().system);
         }
     }
 

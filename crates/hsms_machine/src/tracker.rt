@@ -1,6 +1,7 @@
 //! The judge of a session, entry by entry.
 
-use crate::entry::Entry;
+use crate::act::Act;
+use crate::entry::{Entry, Mark};
 use crate::phase::Phase;
 use crate::rule::Rule;
 use crate::settings::Settings;
@@ -32,6 +33,8 @@ impl Model for Tracker {
 impl Tracker {
     ghost use Rattle.std.specs.Prelude.{◌≡◌, [], Some, None, IsTrue, IfOk, OnErr};
     ghost use Rattle.hsms_machine.specs.declared.rule.Rule.{Rule};
+    ghost use Rattle.hsms_machine.specs.Entry.{frame_entry};
+    ghost use Rattle.hsms_machine.specs.Act.{event_of, entry_of};
     ghost use Rattle.hsms_machine.specs.Transaction.{opens};
     ghost use Rattle.hsms_machine.specs.View.{HasView, IsBrokenAfter, LeadsTo, waiting_of, own_open_of, next_due_of, in_use_of, oldest_of};
     ghost use Rattle.hsms_machine.specs.Step.{IsBrokenAt, IsInOrder, view_after};
@@ -51,7 +54,9 @@ impl Tracker {
         ensures answer { IsBrokenAfter self.now entry.now result }
         ensures told { IsBrokenAt self.now entry.now result }
     {
-        self.view.first_broken(entry)
+        let act = Act::of(&entry.event);
+        self.view
+            .first_broken(entry.time, &act, Act::text_of(&entry.event))
     }
 
     /// The first rule that the entry breaks as the next one, or None where it is lawful, and then it is
@@ -67,9 +72,45 @@ impl Tracker {
         ensures err_lawful { OnErr result (IsBrokenAfter self.old entry.now None) }
         ensures err_opens { OnErr result (IsTrue (opens entry.now.event)) }
     {
-        let broken = self.view.first_broken(entry);
+        let act = Act::of(&entry.event);
+        self.judge(entry.time, &act, Act::text_of(&entry.event))
+    }
+
+    /// As `step`, of the entry of a frame, by its parts. The text stays where it lies.
+    pub fn step_frame(
+        &mut self,
+        time: u64,
+        mark: Mark,
+        header: Header,
+        text: &[u8],
+    ) -> Result<Option<Rule>, AllocError>
+        ensures answer { IfOk result (λ answer. IsBrokenAfter self.old (frame_entry time mark header text.now) answer) }
+        ensures told { IfOk result (λ answer. IsBrokenAt self.old (frame_entry time mark header text.now) answer) }
+        ensures lawful { IfOk result (λ answer. answer ≡ None → LeadsTo self.old (frame_entry time mark header text.now) self.new) }
+        ensures next { IfOk result (λ answer. answer ≡ None → self.new ≡ view_after self.old (frame_entry time mark header text.now)) }
+        ensures broken { IfOk result (λ answer. (rule : Rule) → answer ≡ Some rule → self.new ≡ self.old) }
+        ensures err { OnErr result (self.new ≡ self.old) }
+        ensures err_lawful { OnErr result (IsBrokenAfter self.old (frame_entry time mark header text.now) None) }
+        ensures err_opens { OnErr result (IsTrue (opens (frame_entry time mark header text.now).event)) }
+    {
+        let act = Act::of_frame(mark, header);
+        self.judge(time, &act, text)
+    }
+
+    // The first rule that the entry of these parts breaks, or none, and then it is taken in.
+    fn judge(&mut self, time: u64, act: &Act, text: &[u8]) -> Result<Option<Rule>, AllocError>
+        ensures answer { IfOk result (λ answer. IsBrokenAfter self.old (entry_of time act.now text.now) answer) }
+        ensures told { IfOk result (λ answer. IsBrokenAt self.old (entry_of time act.now text.now) answer) }
+        ensures lawful { IfOk result (λ answer. answer ≡ None → LeadsTo self.old (entry_of time act.now text.now) self.new) }
+        ensures next { IfOk result (λ answer. answer ≡ None → self.new ≡ view_after self.old (entry_of time act.now text.now)) }
+        ensures broken { IfOk result (λ answer. (rule : Rule) → answer ≡ Some rule → self.new ≡ self.old) }
+        ensures err { OnErr result (self.new ≡ self.old) }
+        ensures err_lawful { OnErr result (IsBrokenAfter self.old (entry_of time act.now text.now) None) }
+        ensures err_opens { OnErr result (IsTrue (opens (event_of act.now text.now))) }
+    {
+        let broken = self.view.first_broken(time, act, text);
         if broken.is_none() {
-            self.view.take_in(entry)?;
+            self.view.take_in(time, act)?;
         }
         Ok(broken)
     }

@@ -7,7 +7,8 @@ use Rattle.hsms_machine.proofs.open.Transactions.remove_concluded.Goals as goal
 pub returns-then-is_concluded : goal.returns-then-is_concluded
 returns-then-is_concluded c =
     let some : list_any (λ opened. concludes opened.header c.args.other) c.args.self.now ≡ true = cc in
-    c.remove_system.ensures
+    let removed = rw c.header.ensures at c.remove_system.ensures in
+    removed
     ∙ filter_one (λ opened. concludes opened.header c.args.other) c.args.other.system (concludes_only c.args.other) c.args.self.now c.is_concluded.ensures.apart some
 
 pub returns-else-is_concluded : goal.returns-else-is_concluded
