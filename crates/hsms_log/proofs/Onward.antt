@@ -51,9 +51,9 @@ append_go zero (x ∷ a) b h = absurd (omega arith)
 append_go (suc fuel) a b h =
     elim (first_feed a) [
       | inl none ↦ (
-          ap (λ x. ended_lines (x ++ b)) (sym (open_line-none a none)) ∙ ap (λ l. l ++ ended_lines (open_line a ++ b)) (sym (ended_lines-none a none)),
-          ap (λ x. open_line (x ++ b)) (sym (open_line-none a none)),
-        )
+        ap (λ x. ended_lines (x ++ b)) (sym (open_line-none a none)) ∙ ap (λ l. l ++ ended_lines (open_line a ++ b)) (sym (ended_lines-none a none)),
+        ap (λ x. open_line (x ++ b)) (sym (open_line-none a none)),
+      )
       | inr found ↦
           let size : length a ≡ length found.0 + length (10 ∷ found.1) = ap length found.2 ∙ length-append found.0 (10 ∷ found.1) in
           let later = append_go fuel found.1 b (omega (arith, size, h)) in
