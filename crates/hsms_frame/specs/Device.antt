@@ -12,7 +12,8 @@ pub record SourceState : Type 0 where
   pub ends : ℕ
   pub failures : ℕ
 
--- what octets are written to: those that were written, where it tells them; how often it was called; how often it failed
+-- what octets are written to: those that were written, where it tells them; how often it was called, and how often it
+-- failed
 pub record SinkState : Type 0 where
   pub written : Option (List ℕ)
   pub gives : ℕ

@@ -29,24 +29,28 @@ OneMessageAtFront =
 abbrev pub SomeAnswer : Type 0
 SomeAnswer =
     (max : ℕ) (input : List ℕ) → IsOctets input
-    → (answer : Result (Option Frame) ReadFault) × (left : Option (List ℕ)) × (IsRefusal answer → ⊥) × ReadsAs max input answer left
+    → (answer : Result (Option Frame) ReadFault) × (left : Option (List ℕ)) × (IsRefusal answer → ⊥)
+    × ReadsAs max input answer left
 
 abbrev pub OneAnswer : Type 0
 OneAnswer =
     (max : ℕ) (input : List ℕ) (a b : Result (Option Frame) ReadFault) (left other : Option (List ℕ))
-    → (IsRefusal a → ⊥) → (IsRefusal b → ⊥) → ReadsAs max input a left → ReadsAs max input b other → (a ≡ b) × (left ≡ other)
+    → (IsRefusal a → ⊥) → (IsRefusal b → ⊥) → ReadsAs max input a left → ReadsAs max input b other
+    → (a ≡ b) × (left ≡ other)
 
 -- ---- and to what is pending in a framer, but for want of memory
 
 abbrev pub SomeAnswerToPending : Type 0
 SomeAnswerToPending =
     (max : ℕ) (pending : List ℕ) → IsOctets pending
-    → (answer : Result (Option Frame) FrameFault) × (rest : List ℕ) × (answer ≢ Err Memory) × FramesAs max pending answer rest
+    → (answer : Result (Option Frame) FrameFault) × (rest : List ℕ) × (answer ≢ Err Memory)
+    × FramesAs max pending answer rest
 
 abbrev pub OneAnswerToPending : Type 0
 OneAnswerToPending =
     (max : ℕ) (pending : List ℕ) (a b : Result (Option Frame) FrameFault) (rest other : List ℕ)
-    → a ≢ Err Memory → b ≢ Err Memory → FramesAs max pending a rest → FramesAs max pending b other → (a ≡ b) × (rest ≡ other)
+    → a ≢ Err Memory → b ≢ Err Memory → FramesAs max pending a rest → FramesAs max pending b other
+    → (a ≡ b) × (rest ≡ other)
 
 -- ---- any calls of a framer, in order
 

@@ -1,5 +1,5 @@
-//! Laws of messages. They speak of the definitions that the contracts are made of, so nothing is computed: each function
-//! proves that its clauses hold.
+//! Laws of messages. They speak of the definitions that the contracts are made of, so nothing is computed: each
+//! function proves that its clauses hold.
 
 ghost use Rattle.hsms_frame.specs.Laws.{HeadersAreOctets, MessagesAreOctets, OneMessageAtFront, SomeAnswer, OneAnswer, SomeAnswerToPending, OneAnswerToPending, GivesWhatWasPushed, AnyPiecesGiveTheSame};
 
@@ -26,8 +26,8 @@ pub fn one_answer_to_pending()
     ensures one { OneAnswerToPending }
 {}
 
-/// Over any calls of a framer, what was pushed is the octets of the messages that were given, in order, and then what is
-/// pending.
+/// Over any calls of a framer, what was pushed is the octets of the messages that were given, in order, and then what
+/// is pending.
 pub fn messages_are_what_was_pushed()
     ensures { GivesWhatWasPushed }
 {}

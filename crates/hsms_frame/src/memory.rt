@@ -42,7 +42,15 @@ impl Feed {
     /// A source of these octets. `piece` is at least 1.
     pub fn new(octets: Vec<u8>, piece: usize, fuse: u64) -> Feed
         requires { 0 < piece }
-        ensures { result ≡ record { left = octets.items; piece = piece; fuse = fuse; pulls = 0; empty_pulls = 0; ends = 0; failures = 0 } }
+        ensures { result ≡ record {
+          left = octets.items;
+          piece = piece;
+          fuse = fuse;
+          pulls = 0;
+          empty_pulls = 0;
+          ends = 0;
+          failures = 0;
+        } }
     {
         Feed {
             octets,
@@ -124,7 +132,8 @@ impl Store {
     /// A sink that writes over this room, from its front up to its length. `piece` is at least 1.
     pub fn new(room: Vec<u8>, piece: usize, fuse: u64) -> Store
         requires { 0 < piece }
-        ensures { result ≡ record { written = []; room = room.items; piece = piece; fuse = fuse; gives = 0; failures = 0 } }
+        ensures { result
+            ≡ record { written = []; room = room.items; piece = piece; fuse = fuse; gives = 0; failures = 0 } }
     {
         Store {
             room,

@@ -20,7 +20,8 @@ const LONGEST: u64 = 0xffff_ffff;
 ///
 /// Faults: `TooLong` where header and text have more than 4,294,967,295 octets, before any memory is taken; `Memory`.
 pub fn encode_frame(alloc: Global, frame: &Frame) -> Result<Vec<u8>, FrameFault>
-    ensures ok { IfOk result (λ octets. (octets.items ≡ frame_octets frame.now) × (10 + length frame.now.text < 2 ^ 32)) }
+    ensures ok { IfOk result
+        (λ octets. (octets.items ≡ frame_octets frame.now) × (10 + length frame.now.text < 2 ^ 32)) }
     ensures err { IfErr result (IsNotEncoded frame.now) }
 {
     let header = frame.header;
