@@ -1,15 +1,18 @@
 -- What a map keeps of open transactions, as the list of its values tells it.
-use Rattle.std.proofs.Common.{◌≡◌, ℕ, ◌+◌, ◌-◌, ◌^◌, ◌<◌, ◌≤◌, min, Bool, true, false, not, cond, ◌==◌, ◌&&◌, ◌||◌, List, [], ◌∷◌, ◌++◌, Option, Some, None, is_some, inl, inr, refl, sym, ap, subst, ◌∙◌, arith, filter, nat_lt, nat_le, nat_eq, slice_get}
+use Rattle.std.proofs.Common.{◌≡◌, ℕ, ◌+◌, ◌-◌, ◌^◌, ◌<◌, ◌≤◌, min, Bool, true, false, not, cond, ◌==◌, ◌&&◌, ◌||◌, List, [], ◌∷◌, ◌++◌, Option, Some, None, is_some, inl, inr, refl, sym, ap, subst, ◌∙◌, arith, filter, nat_lt, nat_le, nat_eq, slice_get, length, remove, position, zero, suc}
 use Rattle.std.specs.List.{AllByRecursion, list_any, find, cons_option}
 use Rattle.std.specs.Cmp.{nat_eq_equiv}
 use Rattle.std.specs.Option.{option_map}
-use Rattle.std.specs.Map.{values_of, lookup, remove_entry}
+use Rattle.std.specs.Map.{values_of, keys_of, lookup, remove_entry}
+use Rattle.indexmap.proofs.MapLemmas.{Found-position, remove_entry-first}
 use Rattle.std.proofs.lemmas.Bool.{cases_Bool, and_parts, or_cases, eqb-true, eq-eqb, ltb-true, ltb-false, lt-ltb, le-ltb, leb-true, le-leb}
 use Rattle.std.proofs.lemmas.List.Folds.{list_any-append}
 use Rattle.hsms_frame.specs.Header.{kind_of}
 use Rattle.hsms_frame.specs.declared.header.Header.{Header}
 use Rattle.hsms_machine.specs.declared.open.Transaction.{Transaction}
-use Rattle.hsms_machine.specs.Message.{is_reject_kind}
+use Rattle.hsms_frame.specs.declared.kinds.Kind.{Kind}
+use Rattle.hsms_frame.specs.declared.kinds.Kind.TheVariants.{Primary, Reply, SelectReq, SelectRsp, LinktestReq, LinktestRsp, Reject}
+use Rattle.hsms_machine.specs.Message.{is_reject_kind, is_response_kind, may_conclude}
 use Rattle.hsms_machine.specs.Transaction.{passes, answers, answers_kind, rejects, concludes}
 use Rattle.hsms_machine.specs.Timer.{due_at, due_times, least_of, least_in}
 use Rattle.hsms_machine.specs.Ordered.{IsOrdered, AreKeyed, AreSince, AreUntil, AreInOrder, AreApart, AreKept, uses, first_of}
@@ -36,7 +39,7 @@ some_cond : (b : Bool) (x : Transaction) (r : Option Transaction) (c : Bool) →
 some_cond true x r c e = refl
 some_cond false x r c e = e
 
-find-some : (test : Transaction → Bool) (xs : List Transaction) → is_some (find test xs) ≡ list_any test xs
+pub find-some : (test : Transaction → Bool) (xs : List Transaction) → is_some (find test xs) ≡ list_any test xs
 find-some test [] = refl
 find-some test (x ∷ xs) = some_cond (test x) x (find test xs) (list_any test xs) (find-some test xs)
 
@@ -49,6 +52,11 @@ is_none_at (Some x) e = absurd (let d : true ≡ false = e in cc)
 
 pub lookup-fresh : (system : ℕ) (es : List (ℕ × Transaction)) → AreKeyed es → uses system (values_of es) ≡ false → lookup (nat_eq system) es ≡ None
 lookup-fresh system es keyed fresh = is_none_at (lookup (nat_eq system) es) (lookup-uses system es keyed ∙ fresh)
+
+-- nothing is found where nothing is
+pub find-empty : (system : ℕ) (es : List (ℕ × Transaction)) → length es ≡ 0 → find (λ opened. opened.header.system == system) (values_of es) ≡ None
+find-empty system [] e = refl
+find-empty system (x ∷ es) e = absurd (omega arith)
 
 -- ---- a test that only the transaction of some system bytes can pass
 
@@ -228,6 +236,95 @@ kept-push es opened h fresh until =
       apart = subst AreApart (sym values) (apart-push (values_of es) opened h.apart fresh);
       in_order = subst AreInOrder (sym values) (in_order-push (values_of es) opened h.in_order until);
     }
+
+-- ---- the entry at a place taken out
+
+pub values-remove : (es : List (ℕ × Transaction)) (i : ℕ) → values_of (remove es i) ≡ remove (values_of es) i
+values-remove [] zero = refl
+values-remove [] (suc i) = refl
+values-remove (e ∷ es) zero = refl
+values-remove (e ∷ es) (suc i) = ap (λ l. e.1 ∷ l) (values-remove es i)
+
+keyed-remove : (es : List (ℕ × Transaction)) (i : ℕ) → AreKeyed es → AreKeyed (remove es i)
+keyed-remove [] zero h = tt
+keyed-remove [] (suc i) h = tt
+keyed-remove (e ∷ es) zero h = h.1
+keyed-remove (e ∷ es) (suc i) h = (h.0, keyed-remove es i h.1)
+
+uses-remove : (system : ℕ) (xs : List Transaction) (i : ℕ) → uses system xs ≡ false → uses system (remove xs i) ≡ false
+uses-remove system [] zero h = refl
+uses-remove system [] (suc i) h = refl
+uses-remove system (x ∷ xs) zero h = (or_parts (x.header.system == system) (uses system xs) h).1
+uses-remove system (x ∷ xs) (suc i) h =
+    let parts = or_parts (x.header.system == system) (uses system xs) h in
+    rw parts.0 (uses-remove system xs i parts.1)
+
+apart-remove : (xs : List Transaction) (i : ℕ) → AreApart xs → AreApart (remove xs i)
+apart-remove [] zero h = tt
+apart-remove [] (suc i) h = tt
+apart-remove (x ∷ xs) zero h = h.1
+apart-remove (x ∷ xs) (suc i) h = (uses-remove x.header.system xs i h.0, apart-remove xs i h.1)
+
+since-remove : (time : ℕ) (xs : List Transaction) (i : ℕ) → AreSince time xs → AreSince time (remove xs i)
+since-remove time [] zero h = tt
+since-remove time [] (suc i) h = tt
+since-remove time (x ∷ xs) zero h = h.1
+since-remove time (x ∷ xs) (suc i) h = (h.0, since-remove time xs i h.1)
+
+in_order-remove : (xs : List Transaction) (i : ℕ) → AreInOrder xs → AreInOrder (remove xs i)
+in_order-remove [] zero h = tt
+in_order-remove [] (suc i) h = tt
+in_order-remove (x ∷ xs) zero h = h.1
+in_order-remove (x ∷ xs) (suc i) h = (since-remove x.time xs i h.0, in_order-remove xs i h.1)
+
+pub kept-remove : (es : List (ℕ × Transaction)) (i : ℕ) → AreKept es → AreKept (remove es i)
+kept-remove es i h =
+    let values = values-remove es i in
+    record {
+      keyed = keyed-remove es i h.keyed;
+      apart = subst AreApart (sym values) (apart-remove (values_of es) i h.apart);
+      in_order = subst AreInOrder (sym values) (in_order-remove (values_of es) i h.in_order);
+    }
+
+-- the place of a transaction's system bytes is where it is taken out
+pub removed-place : (system : ℕ) (es : List (ℕ × Transaction)) (i : ℕ) → AreKeyed es → AreApart (values_of es) → position (nat_eq system) (keys_of es) ≡ Some i → remove (values_of es) i ≡ filter (λ opened. not (opened.header.system == system)) (values_of es)
+removed-place system es i keyed apart at =
+    sym (values-remove es i)
+    ∙ ap values_of (sym (remove_entry-first (nat_eq system) es i (Found-position (nat_eq system) es i at).first))
+    ∙ removed-values system es keyed apart
+
+-- ---- no message of another kind ends a transaction
+
+answers_none : (request other : Kind) (one two : Header) → (is_response_kind other || is_reject_kind other) ≡ false → answers_kind request other one two ≡ false
+answers_none Primary Reply one two e = absurd (let d : true ≡ false = e in cc)
+answers_none SelectReq SelectRsp one two e = absurd (let d : true ≡ false = e in cc)
+answers_none LinktestReq LinktestRsp one two e = absurd (let d : true ≡ false = e in cc)
+answers_none request other one two e = refl
+
+rejects_none : (other : Kind) → (is_response_kind other || is_reject_kind other) ≡ false → is_reject_kind other ≡ false
+rejects_none Reject e = absurd (let d : true ≡ false = e in cc)
+rejects_none other e = refl
+
+neither : (a b : Bool) → a ≡ false → b ≡ false → (a || b) ≡ false
+neither true b e f = absurd (let d : true ≡ false = e in cc)
+neither false b e f = f
+
+and_false : (a b : Bool) → b ≡ false → (a && b) ≡ false
+and_false true b e = e
+and_false false b e = refl
+
+concludes_none : (request other : Header) → may_conclude other ≡ false → concludes request other ≡ false
+unfolding may_conclude answers rejects
+concludes_none request other e =
+    neither _ _ (and_false _ _ (answers_none (kind_of request) (kind_of other) request other e)) (and_false _ _ (rejects_none (kind_of other) e))
+
+pub any_concluded-none : (other : Header) → may_conclude other ≡ false → (xs : List Transaction) → list_any (λ opened. concludes opened.header other) xs ≡ false
+any_concluded-none other e [] = refl
+any_concluded-none other e (x ∷ xs) = neither _ _ (concludes_none x.header other e) (any_concluded-none other e xs)
+
+pub any_empty : (test : Transaction → Bool) (es : List (ℕ × Transaction)) → length es ≡ 0 → list_any test (values_of es) ≡ false
+any_empty test [] e = refl
+any_empty test (x ∷ es) e = absurd (omega arith)
 
 -- ---- they are in order
 

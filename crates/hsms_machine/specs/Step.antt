@@ -1,4 +1,4 @@
--- How a view answers what the rules ask, and how one entry changes it: the rules and the log once more, without positions.
+-- How a view answers what the rules ask, and how one entry changes it: the rules once more, without positions of a log.
 -- What a tracker answers is said both ways, of each log with its view and of the view alone.
 use Rattle.std.specs.Prelude.{◌≡◌, ◌≢◌, ℕ, ◌<◌, ◌==◌, Bool, true, false, ◌&&◌, ◌||◌, not, List, ◌++◌, Option, filter, IsTrue, if◌then◌else◌, option_to_list}
 use Rattle.std.specs.List.{list_any}
@@ -109,9 +109,11 @@ pub record IsInOrder (view : View) : Type 0 where
 -- a request has the system bytes of no open transaction of its direction
 abbrev pub IsFresh : View → Act → Type 0
 IsFresh view (ActSent header) =
-    IsTrue (is_request header) → (uses header.system view.sent_data ≡ false) × (uses header.system view.sent_control ≡ false)
+    IsTrue (is_request header)
+    → (uses header.system view.sent_data ≡ false) × (uses header.system view.sent_control ≡ false)
 IsFresh view (ActTaken header) =
-    IsTrue (is_request header) → (uses header.system view.taken_data ≡ false) × (uses header.system view.taken_control ≡ false)
+    IsTrue (is_request header)
+    → (uses header.system view.taken_data ≡ false) × (uses header.system view.taken_control ≡ false)
 IsFresh view act = Unit {0}
 
 -- nothing that is open was opened after this time

@@ -1,5 +1,5 @@
 -- What a tracker keeps of a log (this project's profile): the phase, two times, and what is open.
-use Rattle.std.specs.Prelude.{◌≡◌, ℕ, ◌+◌, ◌-◌, ◌==◌, Bool, true, false, ◌&&◌, ◌||◌, not, List, [], ◌∷◌, ◌++◌, Option, Some, None, length, fold, option_to_list, if◌then◌else◌}
+use Rattle.std.specs.Prelude.{◌≡◌, ℕ, ◌+◌, ◌-◌, ◌==◌, Bool, true, false, ◌&&◌, ◌||◌, not, List, [], ◌∷◌, ◌++◌, Option, Some, None, Result, IfOk, length, fold, option_to_list, if◌then◌else◌}
 use Rattle.std.specs.List.{list_any, filter_map}
 use Rattle.hsms_frame.specs.declared.header.Header.{Header}
 use Rattle.hsms_machine.specs.declared.entry.Entry.{Entry}
@@ -89,6 +89,10 @@ IsBrokenAfter view entry answer = ForEachRun view (λ log. Broken view.settings 
 -- every run that has this view is a run with the entry at its end too, and has the later view then
 abbrev pub LeadsTo : View → Entry → View → Type 0
 LeadsTo view entry later = ForEachRun view (λ log. HasView view.settings (log ++ entry ∷ []) later)
+
+-- where the answer is that no rule is broken, the fact holds
+abbrev pub IfLawful : {E : Type 0} → Result (Option Rule) E → Type 0 → Type 0
+IfLawful result Holds = IfOk result (λ answer. answer ≡ None → Holds)
 
 -- ---- what is read from a view
 

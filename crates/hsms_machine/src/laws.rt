@@ -2,8 +2,6 @@
 
 ghost use Rattle.hsms_machine.specs.Laws.{EachResponseAnswersOne, DataFlowsWhileSelected, ExpiryIsLoggedFirst, RepliesComeWithinT3, SystemBytesAreUnique, ViewListsWhatIsOpen, LawfulEntryExtendsRun, FrontOfRunIsRun, NextOfRunIsLawful, EachEntryHasAnAnswer, NoEntryHasTwoAnswers, EmptyLogIsRun};
 
-use secs_item::laws::one_answer_of_text;
-
 /// Each sent or taken response of a run answers exactly one open transaction, which it closes.
 pub fn each_response_answers_one()
     ensures { EachResponseAnswersOne }
@@ -49,9 +47,7 @@ pub fn front_of_run_is_run()
 pub fn each_entry_has_one_answer()
     ensures some { EachEntryHasAnAnswer }
     ensures one { NoEntryHasTwoAnswers }
-{
-    one_answer_of_text();
-}
+{}
 
 /// The empty log is a run.
 pub fn empty_log_is_run()

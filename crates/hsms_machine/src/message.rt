@@ -1,7 +1,7 @@
 //! What the rules ask of a header.
 
 ghost use Rattle.std.specs.Prelude.{◌≡◌, ◌==◌, ◌&&◌, ◌||◌};
-ghost use Rattle.hsms_machine.specs.Message.{is_data_request as opens_data_transaction, is_control_request as opens_control_transaction, establishes as is_establishment, separates as is_separation, is_data as carries_data, is_control as is_control_message, is_response as is_response_message, has_session as is_session_right, has_direction as is_direction_right, has_wait as is_wait_right, is_from_active as comes_from_active, is_from_equipment as comes_from_equipment};
+ghost use Rattle.hsms_machine.specs.Message.{is_data_request as opens_data_transaction, is_control_request as opens_control_transaction, establishes as is_establishment, separates as is_separation, is_data as carries_data, is_control as is_control_message, is_response as is_response_message, may_conclude as is_of_conclusive_kind, has_session as is_session_right, has_direction as is_direction_right, has_wait as is_wait_right, is_from_active as comes_from_active, is_from_equipment as comes_from_equipment};
 ghost use Rattle.hsms_machine.specs.Transaction.{answers as is_answer, is_reply_to as is_reply, concludes as is_conclusion, rejects as is_reject};
 
 use crate::open::Flow;
@@ -126,6 +126,17 @@ pub fn concludes(request: Header, other: Message) -> bool
     ensures { result ≡ is_conclusion request other }
 {
     answers(request, other) || rejects(request, other)
+}
+
+/// Whether the message is of a kind that may end a transaction.
+#[tactic(auto, unfolding(crate::specs::Message::may_conclude))]
+pub fn may_conclude(message: Message) -> bool
+    ensures { result ≡ is_of_conclusive_kind message }
+{
+    matches!(
+        message.kind(),
+        Kind::Reply | Kind::SelectRsp | Kind::LinktestRsp | Kind::Reject
+    )
 }
 
 /// Whether the message is a Select.rsp with status 0.

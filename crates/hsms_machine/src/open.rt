@@ -1,6 +1,6 @@
 //! Transactions that are open, of one direction and kind.
 
-use crate::message::{Message, answers, concludes};
+use crate::message::{Message, answers, concludes, may_conclude};
 use hsms_frame::Header;
 use indexmap::IndexMap;
 use std::alloc::{AllocError, Global};
@@ -39,7 +39,7 @@ impl Model for Transactions {
     ghost invariant = { λ t. AreKept t.items.entries };
 }
 
-// Written out: a proof over a tracker that is dropped then has one step for each map, and not one for each of its parts.
+// Written out: a proof over a tracker that is dropped then has one step for each map, not one for each of its parts.
 impl Drop for Transactions {
     fn drop(self) {
         let Transactions { items } = self;
@@ -48,7 +48,7 @@ impl Drop for Transactions {
 }
 
 impl Transactions {
-    ghost use Rattle.std.specs.Prelude.{◌≡◌, ◌-◌, ◌^◌, ◌<◌, ◌==◌, ◌&&◌, not, [], ◌∷◌, ◌++◌, length, filter, false, nat_lt, nat_le, OnOk, OnErr};
+    ghost use Rattle.std.specs.Prelude.{◌≡◌, ◌-◌, ◌^◌, ◌<◌, ◌==◌, ◌&&◌, not, [], ◌∷◌, ◌++◌, length, filter, remove, false, nat_lt, nat_le, OnOk, OnErr, IfSome, IfNone};
     ghost use Rattle.std.specs.List.{list_any, find};
     ghost use Rattle.hsms_machine.specs.Timer.{least_in, due_times, due_at, least_of};
     ghost use Rattle.hsms_machine.specs.Transaction.{answers as is_answer, concludes as is_conclusion};
@@ -106,6 +106,9 @@ impl Transactions {
         ensures found { result ≡ find (λ opened. opened.header.system == system) self.now }
         ensures apart { AreApart self.now }
     {
+        if self.items.is_empty() {
+            return None;
+        }
         match self.items.get(&system) {
             Some(opened) => Some(*opened),
             None => None,
@@ -157,7 +160,7 @@ impl Transactions {
     pub fn is_in_use(&self, system: u32) -> bool
         ensures { result ≡ uses system self.now }
     {
-        self.items.contains_key(&system)
+        self.get(system).is_some()
     }
 
     /// Whether the message, which goes in the other direction, answers a transaction.
@@ -198,23 +201,41 @@ impl Transactions {
         }
     }
 
-    /// Whether the message, which goes in the other direction, answers or rejects a transaction.
-    fn is_concluded(&self, other: Message) -> bool
-        ensures concluded { result ≡ list_any (λ opened. is_conclusion opened.header other) self.now }
-        ensures apart { AreApart self.now }
+    /// The place of the transaction that the message, which goes in the other direction, answers or rejects.
+    fn place_concluded(&self, other: Message) -> Option<usize>
+        ensures none { IfNone result (list_any (λ opened. is_conclusion opened.header other) self.now ≡ false) }
+        ensures place { IfSome result (λ place. remove self.now place ≡ filter (λ opened. not (is_conclusion opened.header other)) self.now) }
     {
-        match self.get(other.header().system) {
-            Some(opened) => concludes(opened.header, other),
-            None => false,
+        if self.items.is_empty() {
+            return None;
         }
+        match self.items.get_full(&other.header().system) {
+            Some((place, _, opened)) => {
+                if concludes(opened.header, other) {
+                    Some(place)
+                } else {
+                    None
+                }
+            }
+            None => None,
+        }
+    }
+
+    fn remove_at(&mut self, place: usize)
+        ensures { self.new ≡ remove self.old place }
+    {
+        self.items.shift_remove_index(place);
     }
 
     /// Takes out what the message, which goes in the other direction, answers or rejects.
     pub fn remove_concluded(&mut self, other: Message)
         ensures { self.new ≡ filter (λ opened. not (is_conclusion opened.header other)) self.old }
     {
-        if self.is_concluded(other) {
-            self.remove_system(other.header().system);
+        if may_conclude(other) {
+            match self.place_concluded(other) {
+                Some(place) => self.remove_at(place),
+                None => {}
+            }
         }
     }
 

@@ -5,7 +5,7 @@ mod limits;
 mod rules;
 mod sessions;
 
-use crate::{Cause, Entry, Event, Phase, Role, Rule, Settings, Side, Tracker};
+use crate::{Cause, Entry, Event, Mark, Phase, Role, Rule, Settings, Side, Tracker};
 use hsms_frame::{Frame, Header, Text};
 use std::alloc::{AllocError, Global};
 use std::process::Abort;
@@ -317,17 +317,18 @@ fn the_oldest_and_what_is_in_use(rt: HostRuntime) -> Result<(), Fail> {
     Ok(())
 }
 
+/// As many as are open, in any order: each is answered by its own number.
 #[test]
 fn many_are_answered_from_the_newest(rt: HostRuntime) -> Result<(), Fail> {
     let mut tracker = Tracker::new(rt.alloc(), settings(256).ok_or("the settings")?);
     assert_eq!(rt; broken_by(&rt, rt.alloc(), &mut tracker, SELECTED)?, None);
     for system in 0u32..10_000 {
-        let primary = [(6, Taken(S1F1_W, system, &[]))];
-        assert_eq!(rt; broken_by(&rt, rt.alloc(), &mut tracker, &primary)?, None);
+        let broken = tracker.step_frame(6, Mark::Taken, header(S1F1_W, system), &[])?;
+        assert_eq!(rt; broken, None);
     }
     for system in (0u32..10_000).rev() {
-        let reply = [(7, Sent(S1F2, system, &[]))];
-        assert_eq!(rt; broken_by(&rt, rt.alloc(), &mut tracker, &reply)?, None);
+        let broken = tracker.step_frame(7, Mark::Sent, header(S1F2, system), &[])?;
+        assert_eq!(rt; broken, None);
     }
     Ok(())
 }

@@ -36,7 +36,7 @@ impl Tracker {
     ghost use Rattle.hsms_machine.specs.Entry.{frame_entry};
     ghost use Rattle.hsms_machine.specs.Act.{event_of, entry_of};
     ghost use Rattle.hsms_machine.specs.Transaction.{opens};
-    ghost use Rattle.hsms_machine.specs.View.{HasView, IsBrokenAfter, LeadsTo, waiting_of, own_open_of, next_due_of, in_use_of, oldest_of};
+    ghost use Rattle.hsms_machine.specs.View.{HasView, IsBrokenAfter, LeadsTo, IfLawful, waiting_of, own_open_of, next_due_of, in_use_of, oldest_of};
     ghost use Rattle.hsms_machine.specs.Step.{IsBrokenAt, IsInOrder, view_after};
 
     /// The tracker of a session without an entry.
@@ -65,8 +65,8 @@ impl Tracker {
     pub fn step(&mut self, entry: &Entry) -> Result<Option<Rule>, AllocError>
         ensures answer { IfOk result (λ answer. IsBrokenAfter self.old entry.now answer) }
         ensures told { IfOk result (λ answer. IsBrokenAt self.old entry.now answer) }
-        ensures lawful { IfOk result (λ answer. answer ≡ None → LeadsTo self.old entry.now self.new) }
-        ensures next { IfOk result (λ answer. answer ≡ None → self.new ≡ view_after self.old entry.now) }
+        ensures lawful { IfLawful result (LeadsTo self.old entry.now self.new) }
+        ensures next { IfLawful result (self.new ≡ view_after self.old entry.now) }
         ensures broken { IfOk result (λ answer. (rule : Rule) → answer ≡ Some rule → self.new ≡ self.old) }
         ensures err { OnErr result (self.new ≡ self.old) }
         ensures err_lawful { OnErr result (IsBrokenAfter self.old entry.now None) }
@@ -86,8 +86,8 @@ impl Tracker {
     ) -> Result<Option<Rule>, AllocError>
         ensures answer { IfOk result (λ answer. IsBrokenAfter self.old (frame_entry time mark header text.now) answer) }
         ensures told { IfOk result (λ answer. IsBrokenAt self.old (frame_entry time mark header text.now) answer) }
-        ensures lawful { IfOk result (λ answer. answer ≡ None → LeadsTo self.old (frame_entry time mark header text.now) self.new) }
-        ensures next { IfOk result (λ answer. answer ≡ None → self.new ≡ view_after self.old (frame_entry time mark header text.now)) }
+        ensures lawful { IfLawful result (LeadsTo self.old (frame_entry time mark header text.now) self.new) }
+        ensures next { IfLawful result (self.new ≡ view_after self.old (frame_entry time mark header text.now)) }
         ensures broken { IfOk result (λ answer. (rule : Rule) → answer ≡ Some rule → self.new ≡ self.old) }
         ensures err { OnErr result (self.new ≡ self.old) }
         ensures err_lawful { OnErr result (IsBrokenAfter self.old (frame_entry time mark header text.now) None) }
@@ -101,8 +101,8 @@ impl Tracker {
     fn judge(&mut self, time: u64, act: &Act, text: &[u8]) -> Result<Option<Rule>, AllocError>
         ensures answer { IfOk result (λ answer. IsBrokenAfter self.old (entry_of time act.now text.now) answer) }
         ensures told { IfOk result (λ answer. IsBrokenAt self.old (entry_of time act.now text.now) answer) }
-        ensures lawful { IfOk result (λ answer. answer ≡ None → LeadsTo self.old (entry_of time act.now text.now) self.new) }
-        ensures next { IfOk result (λ answer. answer ≡ None → self.new ≡ view_after self.old (entry_of time act.now text.now)) }
+        ensures lawful { IfLawful result (LeadsTo self.old (entry_of time act.now text.now) self.new) }
+        ensures next { IfLawful result (self.new ≡ view_after self.old (entry_of time act.now text.now)) }
         ensures broken { IfOk result (λ answer. (rule : Rule) → answer ≡ Some rule → self.new ≡ self.old) }
         ensures err { OnErr result (self.new ≡ self.old) }
         ensures err_lawful { OnErr result (IsBrokenAfter self.old (entry_of time act.now text.now) None) }

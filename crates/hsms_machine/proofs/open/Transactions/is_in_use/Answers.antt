@@ -1,9 +1,7 @@
-use Rattle.std.proofs.Common.{◌∙◌, ap}
-use Rattle.hsms_machine.specs.Ordered.{uses}
-use Rattle.hsms_machine.proofs.Mapped.{lookup-uses}
+use Rattle.std.proofs.Common.{◌∙◌, ◌==◌, ap, is_some}
+use Rattle.hsms_machine.proofs.Mapped.{find-some}
 use Rattle.hsms_machine.proofs.open.Transactions.is_in_use.Goals as goal
 
 pub returns : goal.returns
 returns c =
-    c.contains_key.ensures ∙ lookup-uses c.args.system c.self.inside.items.entries c.self.invariant.keyed
-    ∙ ap (uses c.args.system) c.self.view_is
+    c.is_some.ensures ∙ ap is_some c.get.ensures.found ∙ find-some (λ opened. opened.header.system == c.args.system) c.args.self.now

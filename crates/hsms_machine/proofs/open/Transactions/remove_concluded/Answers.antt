@@ -1,17 +1,13 @@
-use Rattle.std.proofs.Common.{◌≡◌, ◌∙◌, sym, true, false}
-use Rattle.std.specs.List.{list_any}
+use Rattle.std.proofs.Common.{◌≡◌, sym, false}
+use Rattle.hsms_machine.specs.Message.{may_conclude}
 use Rattle.hsms_machine.specs.Transaction.{concludes}
-use Rattle.hsms_machine.proofs.Mapped.{filter_one, filter_none, concludes_only}
+use Rattle.hsms_machine.proofs.Mapped.{filter_none, any_concluded-none}
 use Rattle.hsms_machine.proofs.open.Transactions.remove_concluded.Goals as goal
 
-pub returns-then-is_concluded : goal.returns-then-is_concluded
-returns-then-is_concluded c =
-    let some : list_any (λ opened. concludes opened.header c.args.other) c.args.self.now ≡ true = cc in
-    let removed = rw c.header.ensures at c.remove_system.ensures in
-    removed
-    ∙ filter_one (λ opened. concludes opened.header c.args.other) c.args.other.system (concludes_only c.args.other) c.args.self.now c.is_concluded.ensures.apart some
+pub returns-in-None : goal.returns-in-None
+returns-in-None c = sym (filter_none (λ opened. concludes opened.header c.args.other) c.args.self.now c.in-None.ensures.none)
 
-pub returns-else-is_concluded : goal.returns-else-is_concluded
-returns-else-is_concluded c =
-    let none : list_any (λ opened. concludes opened.header c.args.other) c.args.self.now ≡ false = cc in
-    sym (filter_none (λ opened. concludes opened.header c.args.other) c.args.self.now none)
+pub returns-else-may_conclude : goal.returns-else-may_conclude
+returns-else-may_conclude c =
+    let e : may_conclude c.args.other ≡ false = cc in
+    sym (filter_none (λ opened. concludes opened.header c.args.other) c.args.self.now (any_concluded-none c.args.other e c.args.self.now))
