@@ -41,8 +41,8 @@ abbrev pub and_from_there : Result ℕ ItemFault → (ℕ → Result ℕ ItemFau
 and_from_there (Ok end) next = next end
 and_from_there (Err fault) next = Err fault
 
--- Where the outermost of `lists` lists that stand open ends. The first of them was allowed `depth`, and each has as many
--- elements still to come as `counts` says, the outermost first.
+-- Where the outermost of `lists` lists that stand open ends. It was allowed `depth`, and each has as many elements still
+-- to come as `counts` says, the outermost first.
 unfoldable pub end_of_lists : List ℕ → ℕ → List ℕ → ℕ → ℕ → Result ℕ ItemFault
 end_of_lists counts depth octets zero place = Ok place
 end_of_lists counts depth octets (suc lists) place =
