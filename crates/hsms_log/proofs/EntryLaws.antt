@@ -4,6 +4,7 @@ use Rattle.std.specs.Prelude.{Option}
 use Rattle.hsms_machine.specs.declared.entry.Entry.{Entry}
 use Rattle.hsms_machine.specs.declared.entry.Event.{Event}
 use Rattle.hsms_log.specs.Spelling.{Carries, SpellsEntry, SpellsEvent, IsEvent}
+use Rattle.hsms_log.specs.Carried.{HasFrame, CarriesFrame}
 use Rattle.hsms_log.specs.Reading.{number_at}
 use Rattle.hsms_log.proofs.Numbers.{number_at-spelled, number_at-some, pair_inj}
 
@@ -37,3 +38,18 @@ line_unread max line some other none (Some entry) h = none entry h.1
 -- a line has one time, and one text after it
 pub entry_parts : (line : List ℕ) (a b : Entry) (h : SpellsEntry line a) (k : SpellsEntry line b) → (a.time ≡ b.time) × (h.spelled.0 ≡ k.spelled.0)
 entry_parts line a b h k = pair_inj a.time b.time h.spelled.0 k.spelled.0 (sym (front_of line a h) ∙ front_of line b k)
+
+-- ---- lines that carry a frame
+
+pub event_marked : (line text : List ℕ) (time : ℕ) → number_at line ≡ Some (time, text)
+    → ((event : Event) → SpellsEvent text event → HasFrame event) → (entry : Entry) → SpellsEntry line entry → HasFrame entry.event
+event_marked line text time h framed entry spelled =
+    let both = pair_inj entry.time time spelled.spelled.0 text (sym (front_of line entry spelled) ∙ h) in
+    let P : List ℕ → Type 0 = λ t. SpellsEvent t entry.event in
+    framed entry.event (subst P both.1 spelled.spelled.1)
+
+pub line_marked : (max : ℕ) (line : List ℕ) → 0 < length line → (get_or line 0 0 ≡ 35 → ⊥)
+    → ((entry : Entry) → SpellsEntry line entry → HasFrame entry.event) → (carried : Option Entry) → Carries max line carried → CarriesFrame carried
+line_marked max [] some other framed None h = omega (arith, some)
+line_marked max (octet ∷ line) some other framed None h = other h.1
+line_marked max line some other framed (Some entry) h = framed entry h.1

@@ -18,7 +18,7 @@ use Rattle.hsms_log.specs.Spelling.{SpellsSettings, Carries}
 use Rattle.hsms_log.specs.Log.{CarryLog, SpellLog}
 use Rattle.hsms_log.specs.Verdict.{FailsAfter, LineFails, is_sent, is_taken, is_discarded, is_expired}
 use Rattle.hsms_log.specs.declared.judging.Judge.{Judge}
-use Rattle.hsms_log.specs.Judging.{Counts, Tracks, Follows}
+use Rattle.hsms_log.specs.Judging.{Counts, Tracks, Follows, counted}
 
 pub carry_more : (max : ℕ) (lines : List (List ℕ)) (log : List Entry) (line : List ℕ) (carried : Option Entry) → CarryLog max lines log → Carries max line carried
     → CarryLog max (lines ++ line ∷ []) (log ++ option_to_list carried)
@@ -55,17 +55,6 @@ tracks_nothing session old new before line carries is (log, spelled, has, counts
     let Q : Counters → Type 0 = λ t. Counts t log in
     let kept : Counts (record old { lines = old.lines + 1 }) log = record { entries = counts.entries; sent = counts.sent; taken = counts.taken; discarded = counts.discarded; expired = counts.expired } in
     (log, more, has, subst Q (sym is) kept)
-
--- the counts after one entry more
-abbrev pub counted : Counters → Entry → Counters
-counted old entry = record {
-  lines = old.lines + 1;
-  entries = old.entries + 1;
-  sent = old.sent + (if is_sent entry.event then 1 else 0);
-  taken = old.taken + (if is_taken entry.event then 1 else 0);
-  discarded = old.discarded + (if is_discarded entry.event then 1 else 0);
-  expired = old.expired + (if is_expired entry.event then 1 else 0);
-}
 
 count_more : (p : Entry → Bool) (log : List Entry) (entry : Entry) → count_by p (log ++ entry ∷ []) ≡ count_by p log + (if p entry then 1 else 0)
 count_more p log entry =
@@ -113,7 +102,7 @@ broken_fails session tally (first ∷ others) line entry rule carries breaks (lo
 -- the first line, where it spells settings
 pub first_follows : (judge : Judge) (session : Session) (tally : Counters) (before : List (List ℕ)) (line : List ℕ) → judge.session ≡ None
     → SpellsSettings line session.settings → HasView session.settings [] session.tracker → tally ≡ record judge.tally { lines = judge.tally.lines + 1 } → Follows judge before
-    → Follows (record { session = Some session; tally = tally }) (before ++ line ∷ [])
+    → Follows (record judge { session = Some session; tally = tally }) (before ++ line ∷ [])
 first_follows judge session tally before line none spelled has tally_is follows =
     let P : Option Session → Type 0 = λ o. MatchOption o ((before ≡ []) × Counts judge.tally []) (λ t. Tracks t judge.tally before) in
     let state = subst P none follows.state in

@@ -4,7 +4,9 @@ pub mod LineLemmas
 pub mod Options
 pub mod SettingsLaws
 pub mod HexLaws
+pub mod Decoding
 pub mod EntryLaws
+pub mod FrameLines
 pub mod JudgeLaws
 pub mod Uniqueness
 pub mod Onward

@@ -1,18 +1,22 @@
 -- Decimal numbers and words.
-use Rattle.std.proofs.Common.{◌≡◌, ◌<◌, ◌≤◌, ◌^◌, ◌++◌, ℕ, List, [], ◌∷◌, length, get_or, true, false, eqb, ltb, Ok, Err, Some, None, refl, sym, ap, ◌∙◌, subst, arith, inl, inr, ⊎_elim}
+use Rattle.std.proofs.Common.{◌≡◌, ◌<◌, ◌≤◌, ◌+◌, ◌-◌, ◌*◌, ◌^◌, ◌++◌, ℕ, List, [], ◌∷◌, length, take, drop, take-append-drop, get_or, true, false, eqb, ltb, Ok, Err, Some, None, refl, sym, ap, ◌∙◌, subst, arith, inl, inr, ⊎_elim}
 use Rattle.std.specs.Borrow.{Bor}
 use Rattle.std.specs.Prelude.{◌≢◌, MatchResult, IfSome, IfNone, Option, Result, decimal, nat_lt, option_map}
 use Rattle.std.specs.Result.{result_ok}
 use Rattle.std.specs.Str.{all_ascii_digits, IsUtf8}
 use Rattle.std.proofs.lemmas.Str.{IsUtf8-from_ascii}
 use Rattle.std.specs.List.{list_all}
-use Rattle.std.specs.Char.{is_ascii_digit}
+use Rattle.std.specs.Char.{is_ascii_digit, digit_value}
 use Rattle.std.specs.Str.Parse.{digits_value, ParsesUnsigned}
-use Rattle.std.proofs.lemmas.Bool.{and_parts, and_from, lt-ltb, ltb-true, eqb-true, ne_eqb, not-true, eqb-false, cases_eq, false_from_ne_true, cases_Bool, not_from_false, and_cases, and_left, and_right, le-ltb, ltb-false}
+use Rattle.std.proofs.lemmas.Bool.{leb-true, and_parts, and_from, lt-ltb, ltb-true, eqb-true, ne_eqb, not-true, eqb-false, cases_eq, false_from_ne_true, cases_Bool, not_from_false, and_cases, and_left, and_right, le-ltb, ltb-false}
+use Rattle.std.proofs.lemmas.Str.{digit_value_digit}
+use Rattle.std.proofs.lemmas.Int.Digits.{digits_value_more}
+use Rattle.std.proofs.lemmas.List.Folds.{list_all_more}
 use Rattle.std.proofs.lemmas.Option.{cond_some}
-use Rattle.std.proofs.lemmas.Str.Parse.{IsNumeralModel, numerals_by_value, tells_all_ascii_digits, parse_digits, not_in_digits}
+use Rattle.std.proofs.lemmas.Str.Parse.{IsNumeralModel, numerals_by_value, tells_all_ascii_digits, parse_digits, not_in_digits, digits_value_short}
 use Rattle.std.proofs.lemmas.Grind.{get_or_default_zero}
 use Rattle.std.proofs.lemmas.Fmt.{digits_decimal, digits_value-decimal, decimal_nonempty, first_decimal, decimal-digits_value, decimal_digit, IsAscii-from_digits}
+use Rattle.std.proofs.lemmas.List.{length-take, drop_more, get_or-take}
 use Rattle.std.proofs.lemmas.List.Elements.{All-head, All-tail}
 use Rattle.hsms_log.specs.Lines.{HasNone}
 use Rattle.hsms_log.specs.Reading.{number_of, is_decimal, has_leading_zero, word_at, number_at, ◌>>=◌}
@@ -100,6 +104,21 @@ unfolding number_of
 number_of-none word h = rw h refl
 
 -- ---- words
+
+-- no digit is a space
+spaceless : (word : List ℕ) → list_all is_ascii_digit word ≡ true → HasNone 32 word
+spaceless word digits k d within =
+    let here : get_or word k d ≡ get_or word k 0 = get_or_default_zero word k d within in
+    let other : get_or word k 0 ≢ 32 = not_in_digits own word 32 (digits_of_all word digits) (λ r. omega (arith, r)) k within in
+    ne_eqb _ _ (λ e. other (sym here ∙ e))
+
+-- no zero stands before other digits
+plain : (word : List ℕ) → (get_or word 0 0 ≡ 48 → length word ≤ 1) → has_leading_zero word ≡ false
+plain word short =
+    elim (cases_eq (get_or word 0 0) 48) [
+      | inl zero ↦ and_right (eqb (get_or word 0 0) 48) (ltb 1 (length word)) (le-ltb 1 (length word) (short zero))
+      | inr other ↦ and_left (eqb (get_or word 0 0) 48) (ltb 1 (length word)) (ne_eqb (get_or word 0 0) 48 other)
+    ]
 
 -- no digit of a number is a space
 pub HasNone-decimal : (n : ℕ) → n < 2 ^ 64 → HasNone 32 (decimal n)
@@ -193,3 +212,51 @@ pub text_found : {E : Type 0} (P : Bor (List ℕ) → Type 0) (Q : E → Type 0)
     → MatchResult r P Q → ((e : E) → Q e → ¬ (IsUtf8 word)) → is_decimal word ≡ true → result_ok r ≡ None → ⊥
 text_found P Q word (Ok s) h is d e = cc e
 text_found P Q word (Err f) h is d e = is f h (utf8_of_decimal word d)
+
+-- ---- a number, digit by digit
+
+-- a number of so few digits has room for one more
+pub front_fits : (text : List ℕ) (i : ℕ) → i < 19 → list_all is_ascii_digit (take i text) ≡ true → digits_value 10 (take i text) < 10 ^ 18
+front_fits text i few digits =
+    digits_value_short own (take i text) 18 (digits_of_all (take i text) digits) (omega (arith, length-take i text))
+
+digit_is : (c : ℕ) → is_ascii_digit c ≡ true → c - 48 ≡ digit_value c
+digit_is c h =
+    let parts = and_parts _ _ h in
+    let low : 48 ≤ c = leb-true 48 c parts.0 in
+    let high : c ≤ 57 = leb-true c 57 parts.1 in
+    let same = digit_value_digit c (low, high) in
+    omega (arith, same, low)
+
+pub digit_small : (c : ℕ) → is_ascii_digit c ≡ true → c ≤ 57
+digit_small c h = let parts = and_parts _ _ h in leb-true c 57 parts.1
+
+-- one digit more
+pub front_more : (text : List ℕ) (i n : ℕ) → i < length text → is_ascii_digit (get_or text i 0) ≡ true → list_all is_ascii_digit (take i text) ≡ true
+    → n ≡ digits_value 10 (take i text)
+    → (list_all is_ascii_digit (take (i + 1) text) ≡ true) × (10 * n + (get_or text i 0 - 48) ≡ digits_value 10 (take (i + 1) text))
+front_more text i n within digit digits n_is =
+    let more = digits_value_more 10 text i within in
+    let value = digit_is (get_or text i 0) digit in (
+      list_all_more is_ascii_digit text i 0 within ∙ and_from _ _ digits digit,
+      omega (arith, more, value, n_is),
+    )
+
+-- a number of digits alone, with no zero before others, and a space behind it
+pub number_here : (text : List ℕ) (count n : ℕ) → count < length text → count ≤ 19 → 0 < count → get_or text count 0 ≡ 32
+    → (get_or text 0 0 ≡ 48 → count ≡ 1) → list_all is_ascii_digit (take count text) ≡ true → n ≡ digits_value 10 (take count text)
+    → Some (n, drop (count + 1) text) ≡ number_at text
+unfolding number_at number_of
+number_here text count n within few some space zero digits n_is =
+    let word = take count text in
+    let size : length word ≡ count = omega (arith, length-take count text) in
+    let split : text ≡ word ++ 32 ∷ drop (count + 1) text =
+    sym (take-append-drop count text) ∙ ap (λ l. word ++ l) (drop_more text count 0 within ∙ ap (λ o. o ∷ drop (count + 1) text) space) in
+    let none : HasNone 32 word = spaceless word digits in
+    let big : digits_value 10 word < 10 ^ 19 = digits_value_short own word 19 (digits_of_all word digits) (omega (arith, size)) in
+    let small : nat_lt (digits_value 10 word) (2 ^ 64) ≡ true = lt-ltb _ _ (omega (arith, big)) in
+    let first : get_or word 0 0 ≡ get_or text 0 0 = get_or-take count text 0 0 some in
+    let leading : has_leading_zero word ≡ false = plain word (λ e. let one = zero (sym first ∙ e) in omega (arith, one, size)) in
+    let whole : is_decimal word ≡ true = and_from _ _ digits (and_from _ _ (lt-ltb 0 (length word) (omega (arith, size, some))) (not_from_false _ leading)) in
+    let found : word_at text ≡ Some (word, drop (count + 1) text) = ap word_at split ∙ word_at-found word (drop (count + 1) text) none in
+    rw (found, whole, small, n_is) refl

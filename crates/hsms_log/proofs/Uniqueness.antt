@@ -19,6 +19,7 @@ use Rattle.hsms_machine.specs.Run.{Broken as IsFirstBroken, IsRun}
 use Rattle.hsms_machine.specs.Laws.{NextOfRunIsLawful, NoEntryHasTwoAnswers}
 use Rattle.hsms_log.specs.declared.verdict.Why.{Why}
 use Rattle.hsms_log.specs.declared.verdict.Why.TheVariants.{Unreadable, Broken}
+use Rattle.hsms_log.specs.Carried.{HasFrame}
 use Rattle.hsms_log.specs.Spelling.{SpellsEntry, SpellsEvent, SpellsOctets, IsEvent, IsMessage, message_octets, system_octets, cause_word, Carries, IsBlank}
 use Rattle.hsms_log.specs.Log.{CarryLog, SpellLog}
 use Rattle.hsms_log.specs.declared.verdict.Verdict.{Verdict}
@@ -89,6 +90,21 @@ first_is text (Discarded frame) h = ap (λ t. get_or t 0 0) h.2
 first_is text (T3 system) h = ap (λ t. get_or t 0 0) h.2
 first_is text (Cut cause) h = ap (λ t. get_or t 0 0) h
 first_is text Down h = ap (λ t. get_or t 0 0) h
+
+-- a text that begins with the mark of a frame spells no other event
+pub marked : (text : List ℕ) (event : Event) → get_or text 0 0 < 64 → SpellsEvent text event → HasFrame event
+unfolding first_of
+marked text Up mark h = omega (arith, mark, first_is text Up h)
+marked text (Sent frame) mark h = tt
+marked text (Taken frame) mark h = tt
+marked text (Discarded frame) mark h = tt
+marked text (T3 system) mark h = omega (arith, mark, first_is text (T3 system) h)
+marked text (Cut cause) mark h = omega (arith, mark, first_is text (Cut cause) h)
+marked text Down mark h = omega (arith, mark, first_is text Down h)
+
+pub marked_after : (text rest : List ℕ) (mark : ℕ) (event : Event) → text ≡ mark ∷ 32 ∷ rest → mark < 64 → SpellsEvent text event → HasFrame event
+marked_after text rest mark event is small h =
+    let first : get_or text 0 0 ≡ mark = ap (λ t. get_or t 0 0) is in marked text event (omega (arith, first, small)) h
 
 -- the place of a cause among the causes, by the octets of its word
 cause_number : Cause → ℕ

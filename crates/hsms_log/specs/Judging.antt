@@ -1,5 +1,5 @@
 -- What the judge of a log knows between two lines.
-use Rattle.std.specs.Prelude.{◌≡◌, ℕ, List, [], length, count_by, Option, Some, None, MatchOption}
+use Rattle.std.specs.Prelude.{◌≡◌, ◌+◌, if◌then◌else◌, ℕ, List, [], length, count_by, Option, Some, None, MatchOption}
 use Rattle.hsms_machine.specs.declared.entry.Entry.{Entry}
 use Rattle.hsms_machine.specs.View.{HasView}
 use Rattle.hsms_log.specs.declared.session.Session.{Session}
@@ -16,6 +16,17 @@ pub record Counts (tally : Counters) (log : List Entry) : Type 0 where
   pub taken : tally.taken ≡ count_by (λ entry. is_taken entry.event) log
   pub discarded : tally.discarded ≡ count_by (λ entry. is_discarded entry.event) log
   pub expired : tally.expired ≡ count_by (λ entry. is_expired entry.event) log
+
+-- the counts after one entry more
+abbrev pub counted : Counters → Entry → Counters
+counted old entry = record {
+  lines = old.lines + 1;
+  entries = old.entries + 1;
+  sent = old.sent + (if is_sent entry.event then 1 else 0);
+  taken = old.taken + (if is_taken entry.event then 1 else 0);
+  discarded = old.discarded + (if is_discarded entry.event then 1 else 0);
+  expired = old.expired + (if is_expired entry.event then 1 else 0);
+}
 
 -- the session and the tally stand after these lines, which spell a run
 abbrev pub Tracks : Session → Counters → List (List ℕ) → Type 0

@@ -6,6 +6,7 @@ pub mod Judging
 pub mod LineReader
 pub mod Reading
 pub mod Carried
+pub mod FrameLine
 pub mod Fields
 pub mod Counters
 pub mod Auditing

@@ -2,7 +2,7 @@ use crate::later::later_line;
 use crate::session::Session;
 use crate::settings_line::read_settings;
 use crate::verdict::{Summary, Verdict, Why};
-use hsms_machine::{Entry, Event, Tracker};
+use hsms_machine::{Entry, Event, Mark, Tracker};
 use std::alloc::{AllocError, Global};
 use std::marker::Model;
 
@@ -28,8 +28,10 @@ impl Model for Tally {
 }
 
 impl Tally {
-    ghost use Rattle.std.specs.Prelude.{◌≡◌, ◌+◌, ◌-◌, ◌<◌, ◌^◌, if◌then◌else◌};
-    ghost use Rattle.hsms_log.specs.Verdict.{is_sent, is_taken, is_discarded, is_expired};
+    ghost use Rattle.std.specs.Prelude.{◌≡◌, ◌+◌, ◌-◌, ◌<◌, ◌^◌, ℕ, List};
+    ghost use Rattle.hsms_frame.specs.declared.header.Header.{Header};
+    ghost use Rattle.hsms_machine.specs.Entry.{frame_entry};
+    ghost use Rattle.hsms_log.specs.Judging.{counted};
 
     pub fn new() -> Tally
         ensures { result ≡ record { lines = 0; entries = 0; sent = 0; taken = 0; discarded = 0; expired = 0 } }
@@ -55,14 +57,7 @@ impl Tally {
     /// Counts a line that carries an entry.
     pub fn count_entry(&mut self, entry: &Entry)
         requires { self.old.lines < 2 ^ 64 - 1 }
-        ensures { self.new ≡ record {
-          lines = self.old.lines + 1;
-          entries = self.old.entries + 1;
-          sent = self.old.sent + (if is_sent entry.now.event then 1 else 0);
-          taken = self.old.taken + (if is_taken entry.now.event then 1 else 0);
-          discarded = self.old.discarded + (if is_discarded entry.now.event then 1 else 0);
-          expired = self.old.expired + (if is_expired entry.now.event then 1 else 0);
-        } }
+        ensures { self.new ≡ counted self.old entry.now }
     {
         self.lines += 1;
         self.entries += 1;
@@ -72,6 +67,20 @@ impl Tally {
             Event::Discarded(_) => self.discarded += 1,
             Event::T3(_) => self.expired += 1,
             Event::Up | Event::Cut(_) | Event::Down => {}
+        }
+    }
+
+    /// Counts a line that carries a frame with this mark.
+    pub fn count_frame(&mut self, mark: Mark)
+        requires { self.old.lines < 2 ^ 64 - 1 }
+        ensures { (time : ℕ) (header : Header) (text : List ℕ) → self.new ≡ counted self.old (frame_entry time mark header text) }
+    {
+        self.lines += 1;
+        self.entries += 1;
+        match mark {
+            Mark::Sent => self.sent += 1,
+            Mark::Taken => self.taken += 1,
+            Mark::Discarded => self.discarded += 1,
         }
     }
 
@@ -97,11 +106,12 @@ impl Tally {
     }
 }
 
-/// What is known of a log between two lines.
+/// What is known of a log between two lines, and memory for the octets of a frame, used again from line to line.
 #[derive(Drop)]
 pub struct Judge {
     pub session: Option<Session>,
     pub tally: Tally,
+    pub octets: Vec<u8>,
 }
 
 impl Judge {
@@ -109,12 +119,13 @@ impl Judge {
     ghost use Rattle.hsms_log.specs.Verdict.{FailsAfter, LinesJudged};
     ghost use Rattle.hsms_log.specs.Judging.{Follows, limit_after};
 
-    pub fn new() -> Judge
+    pub fn new(alloc: Global) -> Judge
         ensures { Follows result [] }
     {
         Judge {
             session: None,
             tally: Tally::new(),
+            octets: Vec::new(alloc),
         }
     }
 
@@ -138,7 +149,7 @@ impl Judge {
                     Ok(None)
                 }
             },
-            Some(session) => later_line(session, &mut self.tally, alloc, line),
+            Some(session) => { later_line(session, &mut self.tally, &mut self.octets, alloc, line) }
         }
     }
 

@@ -1,19 +1,22 @@
 //! A line that is not the first.
 
-ghost use Rattle.std.specs.Prelude.{◌≡◌, ◌+◌, ◌-◌, ◌<◌, ◌^◌, ◌++◌, [], ◌∷◌, List, ℕ, None, Ok, IfOk, IfSome, IsSome};
+ghost use Rattle.std.specs.Prelude.{◌≡◌, ◌+◌, ◌-◌, ◌<◌, ◌^◌, ◌++◌, [], ◌∷◌, List, ℕ, Some, None, Ok, IfOk, IfSome, IsSome};
 ghost use Rattle.hsms_log.specs.Verdict.{FailsAfter};
+ghost use Rattle.hsms_machine.specs.Entry.{frame_entry};
+ghost use Rattle.hsms_log.specs.Spelling.{Carries};
 ghost use Rattle.hsms_log.specs.Judging.{Tracks};
 
 use crate::judging::Tally;
-use crate::reading::{Line, LineFault, read_line};
+use crate::reading::{FrameLine, Line, LineFault, read_frame_line, read_line};
 use crate::session::Session;
 use crate::verdict::Why;
 use std::alloc::{AllocError, Global};
 
-/// Judges a line that is not the first.
+/// Judges a line that is not the first. The octets of its frame take the place of what the vector holds.
 pub fn later_line(
     session: &mut Session,
     tally: &mut Tally,
+    octets: &mut Vec<u8>,
     alloc: Global,
     line: &[u8],
 ) -> Result<Option<Why>, AllocError>
@@ -23,7 +26,58 @@ pub fn later_line(
     ensures number { result ≡ Ok None → tally.new.lines ≡ tally.old.lines + 1 }
     ensures fails { IfOk result (λ answer. IfSome answer (λ why. (before : List (List ℕ)) → Tracks session.old tally.old before → FailsAfter before line.now why)) }
 {
-    let entry = match read_line(alloc, line, session.settings.max()) {
+    let max = session.settings.max();
+    if line.len() > 2 * max as usize + 64 {
+        return Ok(Some(Why::Unreadable));
+    }
+    match read_frame_line(line, octets)? {
+        Some(frame) => {
+            let (_, text) = octets.split_at(10);
+            frame_line(session, tally, frame, text)
+        }
+        None => other_line(session, tally, alloc, line, max),
+    }
+}
+
+/// Judges the frame of a line.
+fn frame_line(
+    session: &mut Session,
+    tally: &mut Tally,
+    frame: FrameLine,
+    text: &[u8],
+) -> Result<Option<Why>, AllocError>
+    requires { tally.old.lines < 2 ^ 64 - 1 }
+    ensures follows { result ≡ Ok None → (line : List ℕ) → Carries session.old.settings.max line (Some (frame_entry frame.time frame.mark frame.header text.now))
+        → (before : List (List ℕ)) → Tracks session.old tally.old before → Tracks session.new tally.new (before ++ line ∷ []) }
+    ensures same { IfOk result (λ answer. IsSome answer → tally.new.lines ≡ tally.old.lines) }
+    ensures number { result ≡ Ok None → tally.new.lines ≡ tally.old.lines + 1 }
+    ensures fails { IfOk result (λ answer. IfSome answer (λ why. (line : List ℕ) → Carries session.old.settings.max line (Some (frame_entry frame.time frame.mark frame.header text.now))
+        → (before : List (List ℕ)) → Tracks session.old tally.old before → FailsAfter before line why)) }
+{
+    let FrameLine { time, mark, header } = frame;
+    if let Some(rule) = session.tracker.step_frame(time, mark, header, text)? {
+        return Ok(Some(Why::Broken(rule)));
+    }
+    tally.count_frame(mark);
+    Ok(None)
+}
+
+/// Judges a line that carries no frame, or is unreadable.
+fn other_line(
+    session: &mut Session,
+    tally: &mut Tally,
+    alloc: Global,
+    line: &[u8],
+    max: u32,
+) -> Result<Option<Why>, AllocError>
+    requires room { tally.old.lines < 2 ^ 64 - 1 }
+    requires max { max ≡ session.old.settings.max }
+    ensures follows { result ≡ Ok None → (before : List (List ℕ)) → Tracks session.old tally.old before → Tracks session.new tally.new (before ++ line.now ∷ []) }
+    ensures same { IfOk result (λ answer. IsSome answer → tally.new.lines ≡ tally.old.lines) }
+    ensures number { result ≡ Ok None → tally.new.lines ≡ tally.old.lines + 1 }
+    ensures fails { IfOk result (λ answer. IfSome answer (λ why. (before : List (List ℕ)) → Tracks session.old tally.old before → FailsAfter before line.now why)) }
+{
+    let entry = match read_line(alloc, line, max) {
         Ok(Line::Entry(entry)) => entry,
         Ok(Line::Nothing) => {
             tally.count_line();

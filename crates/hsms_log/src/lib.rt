@@ -8,6 +8,7 @@
 #![tactic(auto)]
 
 mod auditing;
+mod digits;
 mod judging;
 mod later;
 pub mod laws;

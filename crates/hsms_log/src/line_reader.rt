@@ -44,7 +44,7 @@ impl LineReader {
         ensures none { result.judge.tally.lines ≡ 0 }
     {
         LineReader {
-            judge: Judge::new(),
+            judge: Judge::new(alloc),
             held: Vec::new(alloc),
         }
     }

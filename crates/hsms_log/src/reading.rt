@@ -1,16 +1,18 @@
 //! What a line that is not the first carries.
 
-ghost use Rattle.std.specs.Prelude.{◌≡◌, ◌≢◌, ◌<◌, ◌^◌, ◌++◌, ◌∷◌, ℕ, List, Option, IfOk, IfErr, IfSome, IfNone, codes};
+ghost use Rattle.std.specs.Prelude.{◌≡◌, ◌≢◌, ◌<◌, ◌≤◌, ◌^◌, ◌++◌, ◌∷◌, ℕ, List, Option, None, Ok, IfOk, IfErr, IfSome, length, vec_len, drop, codes};
 ghost use Rattle.hsms_frame.specs.declared.frame.Frame.{Frame as Message};
 ghost use Rattle.hsms_machine.specs.declared.entry.Event.{Event as Happening};
 ghost use Rattle.hsms_machine.specs.declared.entry.Entry.{Entry as LogEntry};
 ghost use Rattle.hsms_log.specs.Spelling.{Carries, SpellsEntry, SpellsEvent, IsEvent, IsMessage, IsHexOf, message_octets, system_octets};
-ghost use Rattle.hsms_log.specs.Carried.{carried_by};
+ghost use Rattle.hsms_machine.specs.Entry.{frame_entry};
+ghost use Rattle.hsms_log.specs.Carried.{carried_by, CarriesFrame, HasFrame};
+ghost use Rattle.hsms_log.specs.FrameLine.{IsSpelled, mark_word};
 
+use crate::digits::decode;
 use crate::number::{after_prefix, number_at};
-use hex::FromHexError;
 use hsms_frame::{Frame, Header, Text};
-use hsms_machine::{Cause, Entry, Event};
+use hsms_machine::{Cause, Entry, Event, Mark};
 use std::alloc::{AllocError, Global};
 use thiserror::Error;
 
@@ -46,10 +48,14 @@ impl From<AllocError> for LineFault {
 }
 
 /// What a line that is not the first carries. It is given without its end, and has at most `2 * max + 64` octets,
-/// comments included. Digits of either case are read.
+/// comments included. Digits of either case are read. `Memory` is answered only of a line that carries a frame, or is
+/// unreadable.
 pub fn read_line(alloc: Global, line: &[u8], max: u32) -> Result<Line, LineFault>
     ensures found { IfOk result (λ what. Carries max line.now (carried_by what)) }
-    ensures unreadable { IfErr result (λ fault. fault ≡ LineFault.Unreadable → (carried : Option LogEntry) → Carries max line.now carried → ⊥) }
+    ensures unreadable { IfErr result (λ fault. fault ≡ LineFault.Unreadable
+        → (carried : Option LogEntry) → Carries max line.now carried → ⊥) }
+    ensures memory { IfErr result (λ fault. fault ≡ LineFault.Memory
+        → (carried : Option LogEntry) → Carries max line.now carried → CarriesFrame carried) }
 {
     if line.len() > 2 * max as usize + 64 {
         return Err(LineFault::Unreadable);
@@ -63,6 +69,7 @@ pub fn read_line(alloc: Global, line: &[u8], max: u32) -> Result<Line, LineFault
 fn read_entry(alloc: Global, line: &[u8]) -> Result<Entry, LineFault>
     ensures found { IfOk result (SpellsEntry line.now) }
     ensures unreadable { IfErr result (λ fault. fault ≡ LineFault.Unreadable → (entry : LogEntry) → SpellsEntry line.now entry → ⊥) }
+    ensures memory { IfErr result (λ fault. fault ≡ LineFault.Memory → (entry : LogEntry) → SpellsEntry line.now entry → HasFrame entry.event) }
 {
     let Some((time, text)) = number_at(line) else {
         return Err(LineFault::Unreadable);
@@ -74,6 +81,7 @@ fn read_entry(alloc: Global, line: &[u8]) -> Result<Entry, LineFault>
 fn read_event(alloc: Global, text: &[u8]) -> Result<Event, LineFault>
     ensures found { IfOk result (λ event. IsEvent event × SpellsEvent text.now event) }
     ensures unreadable { IfErr result (λ fault. fault ≡ LineFault.Unreadable → (event : Happening) → IsEvent event → SpellsEvent text.now event → ⊥) }
+    ensures memory { IfErr result (λ fault. fault ≡ LineFault.Memory → (event : Happening) → SpellsEvent text.now event → HasFrame event) }
 {
     if let Some(digits) = after_prefix(text, b"> ") {
         return Ok(Event::Sent(read_message(alloc, digits)?));
@@ -107,24 +115,91 @@ fn read_plain_event(text: &[u8]) -> Result<Event, LineFault>
     }
 }
 
+/// What a line that carries a frame says, but for the octets of its header and text.
+#[derive(Clone, Copy)]
+pub struct FrameLine {
+    pub time: u64,
+    pub mark: Mark,
+    pub header: Header,
+}
+
+/// Reads a line that carries a frame. The octets of its header and text take the place of what the vector holds.
+pub fn read_frame_line(line: &[u8], octets: &mut Vec<u8>) -> Result<Option<FrameLine>, AllocError>
+    ensures found { IfOk result (λ answer. IfSome answer (λ x. SpellsEntry line.now (frame_entry x.time x.mark x.header (drop 10 octets.new.items)))) }
+    ensures size { IfOk result (λ answer. IfSome answer (λ x. 10 ≤ length octets.new.items)) }
+{
+    let Some((time, text)) = number_at(line) else {
+        return Ok(None);
+    };
+    let Some((mark, digits)) = mark_at(text) else {
+        return Ok(None);
+    };
+    let Some(header) = read_octets(digits, octets)? else {
+        return Ok(None);
+    };
+    Ok(Some(FrameLine { time, mark, header }))
+}
+
+/// The mark of a frame, and what follows it and a space.
+fn mark_at(text: &[u8]) -> Option<(Mark, &[u8])>
+    ensures { IfSome result (λ x. text.now ≡ mark_word x.0 ++ 32 ∷ x.1.now) }
+{
+    match text {
+        [b'>', b' ', digits @ ..] => Some((Mark::Sent, digits)),
+        [b'<', b' ', digits @ ..] => Some((Mark::Taken, digits)),
+        [b'!', b' ', digits @ ..] => Some((Mark::Discarded, digits)),
+        _ => None,
+    }
+}
+
 /// Reads the header and the text of a message from hexadecimal digits.
 fn read_message(alloc: Global, digits: &[u8]) -> Result<Frame, LineFault>
     ensures found { IfOk result (λ frame. IsMessage frame × IsHexOf digits.now (message_octets frame)) }
     ensures unreadable { IfErr result (λ fault. fault ≡ LineFault.Unreadable → (frame : Message) → IsHexOf digits.now (message_octets frame) → ⊥) }
 {
-    let octets = match hex::decode(alloc, digits) {
-        Ok(octets) => octets,
-        Err(FromHexError::OutOfMemory) => return Err(LineFault::Memory),
-        Err(_) => return Err(LineFault::Unreadable),
-    };
-    let Some((header, text)) = octets.split_first_chunk::<10>() else {
+    let mut octets = Vec::new(alloc);
+    let Some(header) = read_octets(digits, &mut octets)? else {
         return Err(LineFault::Unreadable);
     };
-    let text = Vec::from_slice(alloc, text)?;
+    drop_front(&mut octets, 10);
     Ok(Frame {
-        header: Header::of(*header),
-        text: Text::new(text),
+        header,
+        text: Text::new(octets),
     })
+}
+
+/// Takes octets away from the front.
+fn drop_front(octets: &mut Vec<u8>, count: usize)
+    requires { count ≤ vec_len octets.old }
+    ensures { octets.new.items ≡ drop count octets.old.items }
+{
+    let rest = octets.len() - count;
+    octets.copy_within(count.., 0);
+    octets.truncate(rest);
+}
+
+/// Reads a message from hexadecimal digits, and gives its header, or None where they spell no message. The octets of
+/// header and text take the place of what the vector holds.
+fn read_octets(digits: &[u8], octets: &mut Vec<u8>) -> Result<Option<Header>, AllocError>
+    ensures found { IfOk result (λ answer. IfSome answer (λ header. IsSpelled digits.now header (drop 10 octets.new.items))) }
+    ensures size { IfOk result (λ answer. IfSome answer (λ header. 10 ≤ length octets.new.items)) }
+    ensures none { result ≡ Ok None → (frame : Message) → IsHexOf digits.now (message_octets frame) → ⊥ }
+{
+    if digits.len() < 20 {
+        return Ok(None);
+    }
+    if digits.len() % 2 != 0 {
+        return Ok(None);
+    }
+    octets.clear();
+    octets.resize(digits.len() / 2, 0)?;
+    if !decode(digits, octets.as_mut_slice()) {
+        return Ok(None);
+    }
+    let Some((header, _)) = octets.split_first_chunk::<10>() else {
+        return Ok(None);
+    };
+    Ok(Some(Header::of(*header)))
 }
 
 /// Reads system bytes from eight hexadecimal digits.

@@ -30,7 +30,8 @@ impl From<Failed> for LogFault {
 
 /// Writes the entry as a line, with LF. Hexadecimal digits are written in lower case.
 pub fn write_entry<W: Sink>(sink: &mut W, entry: &Entry) -> Result<(), LogFault>
-    ensures written { Puts result (W.state sink.old).written (W.state sink.new).written (entry_line entry.now ++ 10 ∷ []) }
+    ensures written { Puts result (W.state sink.old).written (W.state sink.new).written
+        (entry_line entry.now ++ 10 ∷ []) }
     ensures spelled { SpellsEntry (entry_line entry.now) entry.now }
     ensures failures { (W.state sink.new).failures ≡ count_failure result (W.state sink.old).failures }
 {
@@ -123,7 +124,8 @@ fn put<W: Sink>(sink: &mut W, octets: &[u8]) -> Result<(), LogFault>
 
 /// Writes the settings as the first line of a log, with LF.
 pub fn write_settings<W: Sink>(sink: &mut W, settings: &Settings) -> Result<(), LogFault>
-    ensures written { Puts result (W.state sink.old).written (W.state sink.new).written (settings_line settings.now ++ 10 ∷ []) }
+    ensures written { Puts result (W.state sink.old).written (W.state sink.new).written
+        (settings_line settings.now ++ 10 ∷ []) }
     ensures spelled { SpellsSettings (settings_line settings.now) settings.now }
     ensures failures { (W.state sink.new).failures ≡ count_failure result (W.state sink.old).failures }
 {

@@ -1,13 +1,13 @@
 use Rattle.std.proofs.Common.{refl, ℕ, None, Some, subst}
 use Rattle.hsms_log.specs.Spelling.{Carries}
 use Rattle.hsms_log.proofs.JudgeLaws.{tracks_nothing, tracks_entry}
-use Rattle.hsms_log.proofs.later.later_line.Goals as goal
+use Rattle.hsms_log.proofs.later.other_line.Goals as goal
 
 pub returns-in-Ok-Nothing-clause-follows : goal.returns-in-Ok-Nothing-clause-follows
 returns-in-Ok-Nothing-clause-follows c =
     let P : ℕ → Type 0 = λ max. Carries max c.args.line.now None in
     let found = rw c.in-Ok-Nothing.field-0-is at c.in-Ok-Nothing.ensures.found in
-    λ e before. tracks_nothing c.args.session.now c.args.tally.now c.count_line.new.self before c.args.line.now (subst P c.max.ensures.value found) c.count_line.ensures
+    λ e before. tracks_nothing c.args.session.now c.args.tally.now c.count_line.new.self before c.args.line.now (subst P c.requires.max found) c.count_line.ensures
 
 pub returns-clause-follows : goal.returns-clause-follows
 returns-clause-follows c =
@@ -15,4 +15,4 @@ returns-clause-follows c =
     let found = rw c.in-Ok-Entry.field-0-is at c.in-Ok-Entry.ensures.found in
     let lawful = rw c.in_default.is at c.in_ok-rule.ensures.lawful in
     λ e before. tracks_entry c.args.session.now c.step.new.self c.args.tally.now c.count_entry.new.self before c.args.line.now c.in-Ok-Entry.entry
-    (subst P c.max.ensures.value found) (lawful refl) c.count_entry.ensures
+    (subst P c.requires.max found) (lawful refl) c.count_entry.ensures

@@ -1,0 +1,78 @@
+#!/usr/bin/env python3
+"""Audits logs over a pipe that is held open: a failing line has to be named while its writer may still write.
+
+It runs what `rt ci` has built. The last line is `N passed, M failed`.
+"""
+import os
+import subprocess
+import sys
+
+TOP = os.path.dirname(os.path.dirname(os.path.abspath(__file__)))
+PROGRAM = f"{TOP}/crates/hsms_tool/out/hsms_tool"
+
+# How long a verdict may take that has to come, and how long one is waited for that must not, in seconds.
+SOON = 30
+A_WHILE = 0.5
+
+FIRST = b"hsms-log 1 host active 0 45000 6000 10000 5000 1048576 32\n"
+FRONT = FIRST + b"0 up\n0 > ffff0000000100000001\n"
+
+# Each begins a log, and fails at once, whatever follows.
+FAILING = [
+    (b"x\n", b"fail line=1 unreadable\n"),
+    (b"x" * 258, b"fail line=1 unreadable\n"),
+    (FRONT + b"3 < 00008101000000000002\n", b"fail line=4 rule=NotSelected\n"),
+    (FRONT + b"# a comment\n" * 6000 + b"3 < 00008101000000000002\n", b"fail line=6004 rule=NotSelected\n"),
+]
+
+# Each begins a log that may still pass. The second ends it.
+PASSING = [
+    (FRONT, b"", b"pass entries=2 sent=1 taken=0 discarded=0 expired=0 waiting=0\n"),
+    (FRONT + b"3 < 000081010000", b"00000002\n", b"fail line=4 rule=NotSelected\n"),
+]
+
+
+def started():
+    return subprocess.Popen([PROGRAM, "audit"], stdin=subprocess.PIPE, stdout=subprocess.PIPE, stderr=subprocess.STDOUT)
+
+
+def given(audit, octets):
+    audit.stdin.write(octets)
+    audit.stdin.flush()
+
+
+def told_while_open(octets):
+    """What the audit of these octets has written when it ends by itself, while the pipe is open."""
+    with started() as audit:
+        given(audit, octets)
+        try:
+            audit.wait(SOON)
+        except subprocess.TimeoutExpired:
+            audit.kill()
+            return b"nothing while the pipe was open"
+        return audit.stdout.read()
+
+
+def told_at_the_end(front, rest):
+    """What the audit writes once the pipe is closed behind the rest; before that, it may write nothing."""
+    with started() as audit:
+        given(audit, front)
+        try:
+            audit.wait(A_WHILE)
+            return b"too early: " + audit.stdout.read()
+        except subprocess.TimeoutExpired:
+            return audit.communicate(rest, SOON)[0]
+
+
+def main():
+    answers = [(told_while_open(octets), wanted) for octets, wanted in FAILING]
+    answers += [(told_at_the_end(front, rest), wanted) for front, rest, wanted in PASSING]
+    differing = [(told, wanted) for told, wanted in answers if told != wanted]
+    for told, wanted in differing:
+        print(f"wanted {wanted!r}, told {told!r}")
+    print(f"{len(answers) - len(differing)} passed, {len(differing)} failed")
+    return 1 if differing else 0
+
+
+if __name__ == "__main__":
+    sys.exit(main())
