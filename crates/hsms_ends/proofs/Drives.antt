@@ -1,11 +1,11 @@
 -- Inputs one after the other.
-use Rattle.std.proofs.Common.{◌≡◌, ℕ, ◌+◌, ◌<◌, ◌≤◌, List, [], ◌∷◌, ◌++◌, map, take, get_or, Some, None, length, refl, sym, ap, subst, ◌∙◌, append-nil, append_assoc, arith}
+use Rattle.std.proofs.Common.{◌≡◌, ℕ, ◌+◌, ◌<◌, ◌≤◌, List, [], ◌∷◌, ◌++◌, map, take, get_or, Some, length, refl, sym, ap, subst, ◌∙◌, append-nil, append_assoc, arith}
 use Rattle.std.proofs.lemmas.List.{map-append, take_more, take_all}
 use Rattle.secs_text.specs.Content.{Content}
 use Rattle.hsms_machine.specs.declared.entry.Entry.{Entry}
 use Rattle.hsms_machine.specs.Settings.{Parameters}
 use Rattle.hsms_machine.specs.Run.{IsRun}
-use Rattle.hsms_machine.specs.View.{HasView, view_of}
+use Rattle.hsms_machine.specs.View.{HasView}
 use Rattle.hsms_ends.specs.declared.input.Input.{Input}
 use Rattle.hsms_ends.specs.declared.fault.EndFault.{EndFault}
 use Rattle.hsms_ends.specs.declared.fault.EndFault.TheVariants.{Spent, NotUp, NotSelected, NotPrimary, Nine, Full, TooLong, TooDeep, Memory}
@@ -14,7 +14,7 @@ use Rattle.hsms_ends.specs.Known.{Known, EndOf, untold}
 use Rattle.hsms_ends.specs.Turn.{Told, Turn}
 use Rattle.hsms_ends.specs.Fault.{Meets}
 use Rattle.hsms_ends.specs.End.{Accepts, Refuses}
-use Rattle.hsms_ends.specs.Drive.{told, Responds, is_refused, is_accepted, Drives, octets_told, octets_received, IsDriven}
+use Rattle.hsms_ends.specs.Drive.{told, Responds, is_refused, is_accepted, Drives, octets_received, IsDriven}
 use Rattle.hsms_ends.specs.Driving.{HasDriven}
 use Rattle.hsms_ends.proofs.Doings.{settings_of}
 use Rattle.hsms_ends.proofs.Kept.{drive_keeps_octets}
