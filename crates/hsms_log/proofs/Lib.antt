@@ -8,6 +8,8 @@ pub mod EntryLaws
 pub mod JudgeLaws
 pub mod Uniqueness
 pub mod Onward
+pub mod Standing
+pub mod Audits
 pub mod Parts
 pub mod Written
 pub mod WrittenLog

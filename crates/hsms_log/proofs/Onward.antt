@@ -22,7 +22,6 @@ use Rattle.hsms_log.specs.Spelling.{Carries, settings_limit, line_limit}
 use Rattle.hsms_log.specs.Log.{SpellLog}
 use Rattle.hsms_log.specs.Verdict.{FailsAfter, LineFails, Fails, Judges, OverlongAfter, FailsSoFar, FailsOnward}
 use Rattle.hsms_log.specs.Judging.{Follows, Counts, Tracks}
-use Rattle.hsms_log.specs.Auditing.{AuditsAs, HoldsNoFailure, ReadsFront, FrontJudged}
 use Rattle.hsms_log.proofs.LineLemmas.{ended_lines-first, ended_lines-none, open_line-first, open_line-none}
 use Rattle.hsms_log.proofs.Uniqueness.{RunLaws, run_stands, SpellLog-unique}
 
@@ -41,31 +40,47 @@ first_feed (octet ∷ text) =
           ]
     ]
 
-append_go : (fuel : ℕ) (a b : List ℕ) → length a ≤ fuel → lines_of (a ++ b) ≡ ended_lines a ++ lines_of (open_line a ++ b)
-append_go zero [] b h = let none = All-nil (λ x. eqb x 10 ≡ false) in
-    ap (λ x. lines_of (x ++ b)) (sym (open_line-none [] none)) ∙ ap (λ l. l ++ lines_of (open_line [] ++ b)) (sym (ended_lines-none [] none))
+append_go : (fuel : ℕ) (a b : List ℕ) → length a ≤ fuel
+    → (ended_lines (a ++ b) ≡ ended_lines a ++ ended_lines (open_line a ++ b)) × (open_line (a ++ b) ≡ open_line (open_line a ++ b))
+append_go zero [] b h =
+    let none = All-nil (λ x. eqb x 10 ≡ false) in (
+      ap (λ x. ended_lines (x ++ b)) (sym (open_line-none [] none)) ∙ ap (λ l. l ++ ended_lines (open_line [] ++ b)) (sym (ended_lines-none [] none)),
+      ap (λ x. open_line (x ++ b)) (sym (open_line-none [] none)),
+    )
 append_go zero (x ∷ a) b h = absurd (omega arith)
 append_go (suc fuel) a b h =
     elim (first_feed a) [
-      | inl none ↦
-          ap (λ x. lines_of (x ++ b)) (sym (open_line-none a none)) ∙ ap (λ l. l ++ lines_of (open_line a ++ b)) (sym (ended_lines-none a none))
+      | inl none ↦ (
+        ap (λ x. ended_lines (x ++ b)) (sym (open_line-none a none)) ∙ ap (λ l. l ++ ended_lines (open_line a ++ b)) (sym (ended_lines-none a none)),
+        ap (λ x. open_line (x ++ b)) (sym (open_line-none a none)),
+      )
       | inr found ↦
           let size : length a ≡ length found.0 + length (10 ∷ found.1) = ap length found.2 ∙ length-append found.0 (10 ∷ found.1) in
           let later = append_go fuel found.1 b (omega (arith, size, h)) in
           let whole : a ++ b ≡ found.0 ++ 10 ∷ (found.1 ++ b) = ap (λ l. l ++ b) found.2 ∙ append_assoc found.0 (10 ∷ found.1) b in
           let line = strip_carriage_return found.0 in
           let ended : ended_lines a ≡ line ∷ ended_lines found.1 = ap ended_lines found.2 ∙ ended_lines-first found.0 found.1 found.3 in
-          let open_is : open_line a ≡ open_line found.1 = ap open_line found.2 ∙ open_line-first found.0 found.1 found.3 in
-          let left : lines_of (a ++ b) ≡ line ∷ lines_of (found.1 ++ b) =
-          ap lines_of whole ∙ ap (λ l. l ++ last_lines (open_line (found.0 ++ 10 ∷ (found.1 ++ b)))) (ended_lines-first found.0 (found.1 ++ b) found.3)
-          ∙ ap (λ o. (line ∷ ended_lines (found.1 ++ b)) ++ last_lines o) (open_line-first found.0 (found.1 ++ b) found.3) in
-          left ∙ ap (λ l. line ∷ l) later ∙ ap (λ l. l ++ lines_of (open_line found.1 ++ b)) (sym ended)
-          ∙ ap (λ o. ended_lines a ++ lines_of (o ++ b)) (sym open_is)
+          let open_is : open_line a ≡ open_line found.1 = ap open_line found.2 ∙ open_line-first found.0 found.1 found.3 in (
+            ap ended_lines whole ∙ ended_lines-first found.0 (found.1 ++ b) found.3 ∙ ap (λ l. line ∷ l) later.0
+                ∙ ap (λ l. l ++ ended_lines (open_line found.1 ++ b)) (sym ended) ∙ ap (λ o. ended_lines a ++ ended_lines (o ++ b)) (sym open_is),
+            ap open_line whole ∙ open_line-first found.0 (found.1 ++ b) found.3 ∙ later.1 ∙ ap (λ o. open_line (o ++ b)) (sym open_is),
+          )
     ]
+
+-- the lines that have ended in what was read stay the first ones
+pub ended_lines-append : (a b : List ℕ) → ended_lines (a ++ b) ≡ ended_lines a ++ ended_lines (open_line a ++ b)
+ended_lines-append a b = let both = append_go (length a) a b (omega arith) in both.0
+
+pub open_line-append : (a b : List ℕ) → open_line (a ++ b) ≡ open_line (open_line a ++ b)
+open_line-append a b = let both = append_go (length a) a b (omega arith) in both.1
 
 -- the lines of what was read stay the first lines
 pub lines_of-append : (a b : List ℕ) → lines_of (a ++ b) ≡ ended_lines a ++ lines_of (open_line a ++ b)
-lines_of-append a b = append_go (length a) a b (omega arith)
+lines_of-append a b =
+    let rest = open_line a ++ b in
+    ap (λ l. l ++ last_lines (open_line (a ++ b))) (ended_lines-append a b)
+    ∙ ap (λ o. (ended_lines a ++ ended_lines rest) ++ last_lines o) (open_line-append a b)
+    ∙ append_assoc (ended_lines a) (ended_lines rest) (last_lines (open_line rest))
 
 -- what follows the last line feed has none
 open_go : (fuel : ℕ) (a : List ℕ) → length a ≤ fuel → HasNone 10 (open_line a)
@@ -175,74 +190,3 @@ FailsSoFar-onward text n why (inr (number, is, long)) more =
     let fails = long_fails (ended_lines text) (open_line text) first.0 long first.3 in
     let P : Why → Type 0 = λ w. FailsAfter (ended_lines text) first.0 w in
     inl (ended_lines text, first.0, first.1, lines_of-append text more ∙ ap (λ l. ended_lines text ++ l) first.2, number, subst P (sym is) fails)
-
--- ---- what an audit answers
-
-no_session : (tally : Counters) (lines : List (List ℕ)) (part : List ℕ) (limit : ℕ) → lines ≡ [] → limit ≡ 256 → (IsOverlong limit part → ⊥) → OverlongAfter lines part → ⊥
-no_session tally [] part limit none is short long = let P : ℕ → Type 0 = λ k. IsOverlong k part in short (subst P (sym is) long)
-no_session tally (first ∷ others) part limit none is short long = cc none
-
-some_session : (lines : List (List ℕ)) (part : List ℕ) (limit : ℕ) (s : Parameters) (log : List Entry) → SpellLog lines s log → limit ≡ line_limit s.max
-    → (IsOverlong limit part → ⊥) → OverlongAfter lines part → ⊥
-some_session [] part limit s log spelled is short long = spelled
-some_session (first ∷ others) part limit s log spelled is short (t, front, again, long) =
-    let same = SpellLog-unique (first ∷ others) s t log front spelled again.spelled in
-    let P : ℕ → Type 0 = λ k. IsOverlong k part in
-    short (subst P (sym (is ∙ ap (λ (p : Parameters). line_limit p.max) same.0)) long)
-
-holds_go : (laws : RunLaws) (session : Option Session) (tally : Counters) (lines : List (List ℕ)) (part : List ℕ) (limit : ℕ)
-    → MatchOption session ((lines ≡ []) × Counts tally []) (λ t. Tracks t tally lines) → MatchOption session (limit ≡ 256) (λ t. limit ≡ line_limit t.settings.max)
-    → (IsOverlong limit part → ⊥) → ((n : ℕ) (why : Why) → LineFails lines n why → ⊥) × (OverlongAfter lines part → ⊥)
-holds_go laws None tally lines part limit state is short =
-    (λ n why h. let size = ap length (sym state.0 ∙ h.3) ∙ length-append h.0 (h.1 ∷ h.2) in omega (arith, size), no_session tally lines part limit state.0 is short)
-holds_go laws (Some session) tally lines part limit (log, spelled, has, counts) is short =
-    (run_stands laws lines session.settings log (record { spelled = spelled; run = has.run }), some_session lines part limit session.settings log spelled is short)
-
-pub front_holds : (laws : RunLaws) (judge : Judge) (text : List ℕ) (limit : ℕ) → Follows judge (ended_lines text)
-    → MatchOption judge.session (limit ≡ 256) (λ t. limit ≡ line_limit t.settings.max) → (IsOverlong limit (open_line text) → ⊥) → HoldsNoFailure text
-front_holds laws judge text limit follows is short n why fails =
-    let both = holds_go laws judge.session judge.tally (ended_lines text) (open_line text) limit follows.state is short in
-    elim fails [ inl line ↦ both.0 n why line | inr long ↦ both.1 long.2 ]
-
-whole_is : (input octets : List ℕ) (is_whole : Bool) (left : Option (List ℕ)) → ReadsFront input octets is_whole left → is_whole ≡ true → (input ≡ octets) × (left ≡ Some [])
-whole_is input octets is_whole left front whole =
-    let none = front.end whole in
-    (front.split ∙ ap (λ l. octets ++ l) none ∙ append-nil octets, front.left_is ∙ ap (λ l. Some l) none)
-
-pub whole_audit : (input octets : List ℕ) (is_whole : Bool) (left : Option (List ℕ)) (ended : Type 0) (v : Verdict) → ReadsFront input octets is_whole left
-    → is_whole ≡ true → ended → Judges octets v → AuditsAs input (Ok v) left ended
-whole_audit input octets is_whole left ended (Pass summary) front whole found h =
-    let is = whole_is input octets is_whole left front whole in
-    let P : List ℕ → Type 0 = λ t. Judges t (Pass summary) in (subst P (sym is.0) h, is.1)
-whole_audit input octets is_whole left ended (Fail n why) front whole found h =
-    let is = whole_is input octets is_whole left front whole in
-    let P : List ℕ → Type 0 = λ t. Judges t (Fail n why) in (subst P (sym is.0) h, inl (is.1, found))
-
-pub front_audit : (input octets : List ℕ) (is_whole : Bool) (left : Option (List ℕ)) (ended : Type 0) (r : Result Verdict AuditFault) → ReadsFront input octets is_whole left
-    → IfOk r (FrontJudged octets) → IfErr r (λ fault. fault ≡ Endless → HoldsNoFailure octets) → AuditsAs input r left ended
-front_audit input octets is_whole left ended (Ok (Pass summary)) front h k = absurd h
-front_audit input octets is_whole left ended (Ok (Fail n why)) front h k =
-    let onward = FailsSoFar-onward octets n why h in
-    let P : List ℕ → Type 0 = λ t. Fails t n why in
-    (subst P (sym front.split) (onward front.rest), inr (octets, front.rest, front.split, front.left_is, onward))
-front_audit input octets is_whole left ended (Err Endless) front h k = (octets, front.rest, front.split, front.left_is, k refl)
-front_audit input octets is_whole left ended (Err Read) front h k = tt
-front_audit input octets is_whole left ended (Err Memory) front h k = tt
-
--- ---- one read more
-
-pub reads_more : (old mid new : Option (List ℕ)) (n : ℕ) (octets buffer : List ℕ)
-    → WhereTold old (λ input. (rest : List ℕ) × (input ≡ octets ++ rest) × (mid ≡ Some rest)) → Takes mid new n buffer
-    → WhereTold old (λ input. (rest : List ℕ) × (input ≡ (octets ++ take n buffer) ++ rest) × (new ≡ Some rest))
-reads_more old mid new n octets buffer so_far takes input told =
-    let before = so_far input told in
-    let step = takes before.0 before.2 in (
-      drop n before.0,
-      before.1 ∙ ap (λ l. octets ++ l) (sym (take-append-drop n before.0)) ∙ ap (λ l. octets ++ (l ++ drop n before.0)) (sym step.1)
-          ∙ sym (append_assoc octets (take n buffer) (drop n before.0)),
-      step.2,
-    )
-
--- a read that gave something did not find the end
-pub ends_same : (room n ends : ℕ) → n ≢ 0 → ends_after room (Ok n) ends ≡ ends
-ends_same room n ends some = let is : eqb n 0 ≡ false = ne_eqb n 0 some in search rules

@@ -1,28 +1,42 @@
 -- What an audit answers to an input (this project's own).
-use Rattle.std.specs.Prelude.{◌≡◌, ◌+◌, ◌<◌, ◌^◌, ◌++◌, ◌⊎◌, ℕ, Bool, true, List, [], Option, Some, Result, Ok, Err}
+use Rattle.std.specs.Prelude.{◌≡◌, ◌≤◌, ◌+◌, ◌<◌, ◌^◌, ◌++◌, ◌⊎◌, ℕ, Bool, true, List, [], length, Option, Some, Result, Ok, Err}
 use Rattle.hsms_frame.specs.Count.{next_count}
+use Rattle.hsms_frame.specs.Device.{SourceState, WhereTold}
 use Rattle.hsms_log.specs.declared.auditing.AuditFault.{AuditFault}
 use Rattle.hsms_log.specs.declared.auditing.AuditFault.TheVariants.{Read, Endless, Memory}
 use Rattle.hsms_log.specs.declared.verdict.Why.{Why}
 use Rattle.hsms_log.specs.declared.verdict.Verdict.{Verdict}
 use Rattle.hsms_log.specs.declared.verdict.Verdict.TheVariants.{Pass, Fail}
 use Rattle.hsms_log.specs.Verdict.{Passes, Fails, FailsOnward, FailsSoFar}
+use Rattle.hsms_log.specs.LineReader.{Reading, Stands}
 
 -- no line of what was read fails: a line that has ended, or one that is already too long
 abbrev pub HoldsNoFailure : List ℕ → Type 0
 HoldsNoFailure text = (n : ℕ) (why : Why) → FailsSoFar text n why → ⊥
 
--- a front of the input was read, and each text that begins with it fails at line n
+-- the greatest number of octets that one read takes
+abbrev pub block_size : ℕ
+block_size = 4096
+
+-- a front of the input was read, and no line of it fails
+abbrev pub FrontHolds : List ℕ → Option (List ℕ) → Type 0
+FrontHolds input left = (read rest : List ℕ) × (input ≡ read ++ rest) × (left ≡ Some rest) × HoldsNoFailure read
+
+-- a front of the input was read, and each text that begins with it fails at line n; no line of it fails before its last
+-- block, so nothing was read after a failing line was found
 abbrev pub FrontFails : List ℕ → ℕ → Why → Option (List ℕ) → Type 0
-FrontFails input n why left = (read rest : List ℕ) × (input ≡ read ++ rest) × (left ≡ Some rest) × FailsOnward read n why
+FrontFails input n why left =
+    (read block rest : List ℕ) × (input ≡ read ++ (block ++ rest)) × (left ≡ Some rest) × (length block ≤ block_size)
+    × HoldsNoFailure read × FailsOnward (read ++ block) n why
 
 -- the audit's answer to an input, which it may have read in part, what is left of the input, and whether its end was
--- found
+-- found. Where the end was found, a line that fails is one that the end alone ended
 abbrev pub AuditsAs : List ℕ → Result Verdict AuditFault → Option (List ℕ) → Type 0 → Type 0
 AuditsAs input (Ok (Pass summary)) left ended = Passes input summary × (left ≡ Some [])
-AuditsAs input (Ok (Fail n why)) left ended = Fails input n why × (((left ≡ Some []) × ended) ⊎ FrontFails input n why left)
-AuditsAs input (Err Endless) left ended = (read rest : List ℕ) × (input ≡ read ++ rest) × (left ≡ Some rest) × HoldsNoFailure read
-AuditsAs input (Err Read) left ended = Unit {0}
+AuditsAs input (Ok (Fail n why)) left ended =
+    Fails input n why × (((left ≡ Some []) × ended × HoldsNoFailure input) ⊎ FrontFails input n why left)
+AuditsAs input (Err Endless) left ended = FrontHolds input left
+AuditsAs input (Err Read) left ended = FrontHolds input left
 AuditsAs input (Err Memory) left ended = Unit {0}
 
 -- a stored count rose by k, unless it came to its greatest value
@@ -41,21 +55,23 @@ failures_after (Err Memory) n = n
 failures_after (Ok _) n = n
 
 -- which reads an answer needs: a pass the one that found the end, Endless all of them, and none that found the end
-abbrev pub UsesReads : Result Verdict AuditFault → ℕ → ℕ → ℕ → ℕ → ℕ → Type 0
-UsesReads (Ok (Pass summary)) reads old_pulls new_pulls old_ends new_ends = HasEnded old_ends new_ends
-UsesReads (Ok (Fail n why)) reads old_pulls new_pulls old_ends new_ends = Unit {0}
-UsesReads (Err Endless) reads old_pulls new_pulls old_ends new_ends = RisesBy old_pulls new_pulls reads × (new_ends ≡ old_ends)
-UsesReads (Err Read) reads old_pulls new_pulls old_ends new_ends = Unit {0}
-UsesReads (Err Memory) reads old_pulls new_pulls old_ends new_ends = Unit {0}
+abbrev pub UsesReads : ℕ → Result Verdict AuditFault → SourceState → SourceState → Type 0
+UsesReads reads (Ok (Pass summary)) old new = HasEnded old.ends new.ends
+UsesReads reads (Ok (Fail n why)) old new = Unit {0}
+UsesReads reads (Err Endless) old new = RisesBy old.pulls new.pulls reads × (new.ends ≡ old.ends)
+UsesReads reads (Err Read) old new = Unit {0}
+UsesReads reads (Err Memory) old new = Unit {0}
 
--- what was read of an input: a front of it, and where its end was found all of it
-pub record ReadsFront (input : List ℕ) (octets : List ℕ) (is_whole : Bool) (left : Option (List ℕ)) : Type 0 where
-  pub rest : List ℕ
-  pub split : input ≡ octets ++ rest
-  pub left_is : left ≡ Some rest
-  pub end : is_whole ≡ true → rest ≡ []
+-- what an audit with so many reads at most does to the counts of a source: each read is into a slice with room, and one
+-- failed exactly where the answer says so
+pub record CountsAudit (reads : ℕ) (result : Result Verdict AuditFault) (old new : SourceState) : Type 0 where
+  pub uses : UsesReads reads result old new
+  pub pulls : new.pulls ≤ old.pulls + reads
+  pub empty_pulls : new.empty_pulls ≡ old.empty_pulls
+  pub failures : new.failures ≡ failures_after result old.failures
 
--- the answer to a front of a text that may go on
-abbrev pub FrontJudged : List ℕ → Verdict → Type 0
-FrontJudged text (Pass summary) = ⊥
-FrontJudged text (Fail n why) = FailsSoFar text n why
+-- for private contracts: what was read of an input, of which no line fails so far, is the text after which a reader
+-- stands
+abbrev pub HasRead : Option (List ℕ) → Reading → Option (List ℕ) → Type 0
+HasRead old reader new =
+    WhereTold old (λ input. (text rest : List ℕ) × (input ≡ text ++ rest) × (new ≡ Some rest) × Stands reader text)

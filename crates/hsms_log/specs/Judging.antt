@@ -1,9 +1,10 @@
 -- What the judge of a log knows between two lines.
-use Rattle.std.specs.Prelude.{◌≡◌, ℕ, List, [], length, count_by, MatchOption}
+use Rattle.std.specs.Prelude.{◌≡◌, ℕ, List, [], length, count_by, Option, Some, None, MatchOption}
 use Rattle.hsms_machine.specs.declared.entry.Entry.{Entry}
 use Rattle.hsms_machine.specs.View.{HasView}
 use Rattle.hsms_log.specs.declared.session.Session.{Session}
 use Rattle.hsms_log.specs.declared.judging.Judge.{Judge}
+use Rattle.hsms_log.specs.Spelling.{settings_limit, line_limit}
 use Rattle.hsms_log.specs.Log.{SpellLog}
 use Rattle.hsms_log.specs.Counters.{Counters}
 use Rattle.hsms_log.specs.Verdict.{is_sent, is_taken, is_discarded, is_expired}
@@ -25,3 +26,8 @@ Tracks session tally lines =
 pub record Follows (judge : Judge) (lines : List (List ℕ)) : Type 0 where
   pub number : judge.tally.lines ≡ length lines
   pub state : MatchOption judge.session ((lines ≡ []) × Counts judge.tally []) (λ session. Tracks session judge.tally lines)
+
+-- the greatest length of the next line, without its end
+abbrev pub limit_after : Option Session → ℕ
+limit_after None = settings_limit
+limit_after (Some session) = line_limit session.settings.max

@@ -3,6 +3,7 @@ pub mod Spelling
 pub mod Log
 pub mod Verdict
 pub mod Judging
+pub mod LineReader
 pub mod Reading
 pub mod Carried
 pub mod Fields

@@ -1,14 +1,10 @@
 //! The audit of a log that is read from a source.
 
-ghost use Rattle.std.specs.Prelude.{◌≡◌, ◌≢◌, ◌≤◌, ◌+◌, IfOk, IfErr};
 ghost use Rattle.hsms_frame.specs.Device.{WhereTold};
-ghost use Rattle.hsms_log.specs.Auditing.{AuditsAs, HasEnded, UsesReads, FrontJudged, HoldsNoFailure, failures_after};
+ghost use Rattle.hsms_log.specs.Auditing.{AuditsAs, HasEnded, CountsAudit};
 
-use crate::input::read_input;
-use crate::judging::Judge;
-use crate::line::is_overlong;
-use crate::verdict::{Verdict, Why};
-use crate::whole::{judge, judge_ended, open_line};
+use crate::line_reader::LineReader;
+use crate::verdict::Verdict;
 use hsms_frame::{Failed, Source};
 use hsms_machine::laws::{each_entry_has_one_answer, front_of_run_is_run};
 use std::alloc::{AllocError, Global};
@@ -52,6 +48,9 @@ impl From<AllocError> for AuditFault {
 
 const ALL_READS: u32 = u32::MAX;
 
+// The octets that one read takes at most.
+const BLOCK: usize = 4096;
+
 /// Audits a log that is read from a source, with at most 4,294,967,295 reads.
 ///
 /// **`audit` passes a log exactly when its bytes spell a run of the session machine: data flows only while selected,
@@ -76,61 +75,47 @@ const ALL_READS: u32 = u32::MAX;
 /// - *passes*, *names the first line, and why*: `Passes` and `Fails` of `specs/Verdict.antt`. Each text has exactly one
 ///   verdict: `laws::each_text_has_one_verdict`.
 ///
+/// A line is judged as soon as it has ended or is too long. Each read is into a block of 4,096 octets, none is made after
+/// a failing line was found, and of the log no more is held than that block and a line that goes on.
+///
 /// It passes only where the end of the input was read. `Read` is answered only where a read failed, `Endless` only
-/// where all reads were used, none found the end, and no line of what was read fails; where the input did not end, a
-/// `Fail` holds of every log that begins with what was read. Each read is into a slice with room. After a `Fail` or a
-/// fault nothing is said of how much was read.
+/// where all reads were used and none found the end, and either only where no line of what was read fails; where the
+/// input did not end, a `Fail` holds of every log that begins with what was read.
 ///
 /// What it does not say: that times and lines are what happened, that a timer fired in time, or that memory is there
 /// (`Memory`, where a growth was refused).
 pub fn audit<R: Source>(alloc: Global, source: &mut R) -> Result<Verdict, AuditFault>
-    ensures answer { WhereTold (R.left source.old)
-        (λ input. AuditsAs input result (R.left source.new) (HasEnded (R.ends source.old) (R.ends source.new))) }
-    ensures reads { UsesReads result 4294967295 (R.pulls source.old) (R.pulls source.new) (R.ends source.old) (R.ends source.new) }
-    ensures pulls { R.pulls source.new ≤ R.pulls source.old + 4294967295 }
-    ensures empty { R.empty_pulls source.new ≡ R.empty_pulls source.old }
-    ensures failures { R.failures source.new ≡ failures_after result (R.failures source.old) }
+    ensures answer { WhereTold (R.state source.old).left (λ input. AuditsAs input result (R.state source.new).left
+        (HasEnded (R.state source.old).ends (R.state source.new).ends)) }
+    ensures counts { CountsAudit 4294967295 result (R.state source.old) (R.state source.new) }
 {
     audit_within(alloc, source, ALL_READS)
 }
 
-/// Audits a log as [`audit`] does, with at most `reads` reads, each into a slice with room. Where they are used up
-/// before the end was found, the answer is a failure of what was read, or `Endless`. A last line that no LF ended fails
-/// then only if it is already too long, however it goes on.
+/// Audits a log as [`audit`] does, with at most `reads` reads. Where they are used up before the end was found, the
+/// answer is a failure of what was read, or `Endless`. A last line that no LF ended fails then only if it is already
+/// too long, however it goes on.
 pub fn audit_within<R: Source>(
     alloc: Global,
     source: &mut R,
     reads: u32,
 ) -> Result<Verdict, AuditFault>
-    ensures answer { WhereTold (R.left source.old)
-        (λ input. AuditsAs input result (R.left source.new) (HasEnded (R.ends source.old) (R.ends source.new))) }
-    ensures reads { UsesReads result reads (R.pulls source.old) (R.pulls source.new) (R.ends source.old) (R.ends source.new) }
-    ensures pulls { R.pulls source.new ≤ R.pulls source.old + reads }
-    ensures empty { R.empty_pulls source.new ≡ R.empty_pulls source.old }
-    ensures failures { R.failures source.new ≡ failures_after result (R.failures source.old) }
+    ensures answer { WhereTold (R.state source.old).left (λ input. AuditsAs input result (R.state source.new).left
+        (HasEnded (R.state source.old).ends (R.state source.new).ends)) }
+    ensures counts { CountsAudit reads result (R.state source.old) (R.state source.new) }
 {
-    let input = read_input(alloc, source, reads)?;
-    if input.is_whole {
-        Ok(judge(alloc, &input.octets)?)
-    } else {
-        judge_front(alloc, &input.octets)
-    }
-}
-
-/// The failure of a text that may go on, where a line that has ended fails or the next one is already too long.
-fn judge_front(alloc: Global, text: &[u8]) -> Result<Verdict, AuditFault>
-    ensures fail { IfOk result (FrontJudged text.now) }
-    ensures endless { IfErr result (λ fault. fault ≡ AuditFault.Endless → HoldsNoFailure text.now) }
-    ensures fault { IfErr result (λ fault. fault ≢ AuditFault.Read) }
-{
-    let mut judge = Judge::new();
-    if let Some(why) = judge_ended(alloc, &mut judge, text)? {
-        return Ok(judge.failure(why));
-    }
-    if is_overlong(open_line(text), judge.line_limit()) {
-        return Ok(judge.failure(Why::Unreadable));
-    }
     front_of_run_is_run();
     each_entry_has_one_answer();
+    let mut reader = LineReader::new(alloc);
+    let mut block = [0u8; BLOCK];
+    for _ in 0..reads {
+        let count = source.pull(&mut block)?;
+        if count == 0 {
+            return Ok(reader.finish(alloc)?);
+        }
+        if let Some(failure) = reader.take(alloc, &block[..count])? {
+            return Ok(failure);
+        }
+    }
     Err(AuditFault::Endless)
 }

@@ -105,10 +105,9 @@ pub struct Judge {
 }
 
 impl Judge {
-    ghost use Rattle.std.specs.Prelude.{◌≡◌, ◌+◌, ◌-◌, ◌<◌, ◌^◌, ◌++◌, [], ◌∷◌, List, ℕ, None, Ok, IfOk, IfSome, IsSome, MatchOption};
+    ghost use Rattle.std.specs.Prelude.{◌≡◌, ◌+◌, ◌-◌, ◌<◌, ◌^◌, ◌++◌, [], ◌∷◌, List, ℕ, None, Ok, IfOk, IfSome, IsSome};
     ghost use Rattle.hsms_log.specs.Verdict.{FailsAfter, LinesJudged};
-    ghost use Rattle.hsms_log.specs.Spelling.{settings_limit, line_limit as limit_of};
-    ghost use Rattle.hsms_log.specs.Judging.{Follows};
+    ghost use Rattle.hsms_log.specs.Judging.{Follows, limit_after};
 
     pub fn new() -> Judge
         ensures { Follows result [] }
@@ -169,7 +168,7 @@ impl Judge {
 
     /// The greatest length of the next line, without its end.
     pub fn line_limit(&self) -> usize
-        ensures value { MatchOption self.now.session (result ≡ settings_limit) (λ session. result ≡ limit_of session.settings.max) }
+        ensures value { result ≡ limit_after self.now.session }
         ensures small { result < 2 ^ 33 }
     {
         match &self.session {

@@ -8,11 +8,11 @@
 #![tactic(auto)]
 
 mod auditing;
-mod input;
 mod judging;
 mod later;
 pub mod laws;
 mod line;
+mod line_reader;
 mod number;
 mod range;
 mod reading;

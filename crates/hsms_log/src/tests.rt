@@ -20,7 +20,7 @@ fn joined(alloc: Global, parts: &[&str]) -> Result<Vec<u8>, AllocError> {
 #[test]
 fn judges_each_log(rt: HostRuntime) -> Result<(), Fail> {
     for case in CASES {
-        for piece in [1, 4096] {
+        for piece in [1, 2, 3, 4096] {
             let text = joined(rt.alloc(), &[case.after, case.lines])?;
             let mut feed = Feed::new(text, piece, u64::MAX);
             assert_eq!(rt;
@@ -46,6 +46,18 @@ fn tells_each_fault(rt: HostRuntime) -> Result<(), Fail> {
         let mut feed = Feed::new(text, piece, fuse);
         assert_eq!(rt; audit_within(rt.alloc(), &mut feed, reads), Err(fault));
     }
+    Ok(())
+}
+
+// The reads after the second fail.
+#[test]
+fn names_a_failing_line_before_a_failing_read(rt: HostRuntime) -> Result<(), Fail> {
+    let mut feed = Feed::new(joined(rt.alloc(), &["x\n"])?, 1, 2);
+    let first = Verdict::Fail {
+        line: 1,
+        why: Why::Unreadable,
+    };
+    assert_eq!(rt; audit(rt.alloc(), &mut feed), Ok(first));
     Ok(())
 }
 

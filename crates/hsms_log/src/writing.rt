@@ -1,9 +1,9 @@
 //! Log text, written.
 
-ghost use Rattle.std.specs.Prelude.{◌≡◌, ◌≤◌, ◌++◌, [], ◌∷◌, length, is_ok, if◌then◌else◌, decimal};
+ghost use Rattle.std.specs.Prelude.{◌≡◌, ◌≤◌, ◌++◌, [], ◌∷◌, length, decimal};
 ghost use Rattle.std.specs.List.{flat_map};
 ghost use Rattle.hex.specs.Hex.{encode_lower};
-ghost use Rattle.hsms_frame.specs.Count.{next_count};
+ghost use Rattle.hsms_frame.specs.Count.{count_failure};
 ghost use Rattle.hsms_log.specs.Writing.{Puts, opening_of, numbers_of, spaced};
 ghost use Rattle.hsms_machine.specs.Settings.{IsWithinLimits};
 ghost use Rattle.hsms_log.specs.Spelling.{SpellsSettings, SpellsEntry, entry_line, settings_line, event_text, message_octets, system_octets};
@@ -30,9 +30,9 @@ impl From<Failed> for LogFault {
 
 /// Writes the entry as a line, with LF. Hexadecimal digits are written in lower case.
 pub fn write_entry<W: Sink>(sink: &mut W, entry: &Entry) -> Result<(), LogFault>
-    ensures written { Puts result (W.written sink.old) (W.written sink.new) (entry_line entry.now ++ 10 ∷ []) }
+    ensures written { Puts result (W.state sink.old).written (W.state sink.new).written (entry_line entry.now ++ 10 ∷ []) }
     ensures spelled { SpellsEntry (entry_line entry.now) entry.now }
-    ensures failures { W.failures sink.new ≡ (if is_ok result then W.failures sink.old else next_count (W.failures sink.old)) }
+    ensures failures { (W.state sink.new).failures ≡ count_failure result (W.state sink.old).failures }
 {
     entry_is_in_range(entry);
     put_number(sink, entry.time)?;
@@ -41,8 +41,8 @@ pub fn write_entry<W: Sink>(sink: &mut W, entry: &Entry) -> Result<(), LogFault>
 
 /// Writes a space, the event and the end of the line.
 fn put_event<W: Sink>(sink: &mut W, event: &Event) -> Result<(), LogFault>
-    ensures written { Puts result (W.written sink.old) (W.written sink.new) (32 ∷ (event_text event.now ++ 10 ∷ [])) }
-    ensures failures { W.failures sink.new ≡ (if is_ok result then W.failures sink.old else next_count (W.failures sink.old)) }
+    ensures written { Puts result (W.state sink.old).written (W.state sink.new).written (32 ∷ (event_text event.now ++ 10 ∷ [])) }
+    ensures failures { (W.state sink.new).failures ≡ count_failure result (W.state sink.old).failures }
 {
     match event {
         Event::Up => put(sink, b" up\n"),
@@ -60,8 +60,8 @@ fn put_event<W: Sink>(sink: &mut W, event: &Event) -> Result<(), LogFault>
 
 /// Writes a mark, a message's header and text, and the end of the line.
 fn put_message<W: Sink>(sink: &mut W, mark: &[u8], frame: &Frame) -> Result<(), LogFault>
-    ensures written { Puts result (W.written sink.old) (W.written sink.new) (mark.now ++ (encode_lower (message_octets frame.now) ++ 10 ∷ [])) }
-    ensures failures { W.failures sink.new ≡ (if is_ok result then W.failures sink.old else next_count (W.failures sink.old)) }
+    ensures written { Puts result (W.state sink.old).written (W.state sink.new).written (mark.now ++ (encode_lower (message_octets frame.now) ++ 10 ∷ [])) }
+    ensures failures { (W.state sink.new).failures ≡ count_failure result (W.state sink.old).failures }
 {
     put(sink, mark)?;
     put_hex(sink, frame.header.octets().as_slice())?;
@@ -70,8 +70,8 @@ fn put_message<W: Sink>(sink: &mut W, mark: &[u8], frame: &Frame) -> Result<(), 
 }
 
 fn put_system<W: Sink>(sink: &mut W, system: u32) -> Result<(), LogFault>
-    ensures written { Puts result (W.written sink.old) (W.written sink.new) (32 ∷ 116 ∷ 51 ∷ 32 ∷ (encode_lower (system_octets system) ++ 10 ∷ [])) }
-    ensures failures { W.failures sink.new ≡ (if is_ok result then W.failures sink.old else next_count (W.failures sink.old)) }
+    ensures written { Puts result (W.state sink.old).written (W.state sink.new).written (32 ∷ 116 ∷ 51 ∷ 32 ∷ (encode_lower (system_octets system) ++ 10 ∷ [])) }
+    ensures failures { (W.state sink.new).failures ≡ count_failure result (W.state sink.old).failures }
 {
     put(sink, b" t3 ")?;
     put_hex(sink, system.to_be_bytes().as_slice())?;
@@ -82,8 +82,8 @@ const CHUNK: usize = 64;
 
 /// Writes octets as hexadecimal digits in lower case.
 fn put_hex<W: Sink>(sink: &mut W, octets: &[u8]) -> Result<(), LogFault>
-    ensures written { Puts result (W.written sink.old) (W.written sink.new) (encode_lower octets.now) }
-    ensures failures { W.failures sink.new ≡ (if is_ok result then W.failures sink.old else next_count (W.failures sink.old)) }
+    ensures written { Puts result (W.state sink.old).written (W.state sink.new).written (encode_lower octets.now) }
+    ensures failures { (W.state sink.new).failures ≡ count_failure result (W.state sink.old).failures }
 {
     let mut rest = octets;
     while !rest.is_empty() {
@@ -96,8 +96,8 @@ fn put_hex<W: Sink>(sink: &mut W, octets: &[u8]) -> Result<(), LogFault>
 
 fn put_chunk<W: Sink>(sink: &mut W, octets: &[u8]) -> Result<(), LogFault>
     requires { length octets.now ≤ 64 }
-    ensures written { Puts result (W.written sink.old) (W.written sink.new) (encode_lower octets.now) }
-    ensures failures { W.failures sink.new ≡ (if is_ok result then W.failures sink.old else next_count (W.failures sink.old)) }
+    ensures written { Puts result (W.state sink.old).written (W.state sink.new).written (encode_lower octets.now) }
+    ensures failures { (W.state sink.new).failures ≡ count_failure result (W.state sink.old).failures }
 {
     let mut room = [0u8; 2 * CHUNK];
     let digits = &mut room[..2 * octets.len()];
@@ -106,16 +106,16 @@ fn put_chunk<W: Sink>(sink: &mut W, octets: &[u8]) -> Result<(), LogFault>
 }
 
 fn put_number<W: Sink>(sink: &mut W, number: u64) -> Result<(), LogFault>
-    ensures written { Puts result (W.written sink.old) (W.written sink.new) (decimal number) }
-    ensures failures { W.failures sink.new ≡ (if is_ok result then W.failures sink.old else next_count (W.failures sink.old)) }
+    ensures written { Puts result (W.state sink.old).written (W.state sink.new).written (decimal number) }
+    ensures failures { (W.state sink.new).failures ≡ count_failure result (W.state sink.old).failures }
 {
     let mut buffer = Buffer::new();
     put(sink, buffer.format(number).as_bytes())
 }
 
 fn put<W: Sink>(sink: &mut W, octets: &[u8]) -> Result<(), LogFault>
-    ensures written { Puts result (W.written sink.old) (W.written sink.new) octets.now }
-    ensures failures { W.failures sink.new ≡ (if is_ok result then W.failures sink.old else next_count (W.failures sink.old)) }
+    ensures written { Puts result (W.state sink.old).written (W.state sink.new).written octets.now }
+    ensures failures { (W.state sink.new).failures ≡ count_failure result (W.state sink.old).failures }
 {
     give_all(sink, octets)?;
     Ok(())
@@ -123,9 +123,9 @@ fn put<W: Sink>(sink: &mut W, octets: &[u8]) -> Result<(), LogFault>
 
 /// Writes the settings as the first line of a log, with LF.
 pub fn write_settings<W: Sink>(sink: &mut W, settings: &Settings) -> Result<(), LogFault>
-    ensures written { Puts result (W.written sink.old) (W.written sink.new) (settings_line settings.now ++ 10 ∷ []) }
+    ensures written { Puts result (W.state sink.old).written (W.state sink.new).written (settings_line settings.now ++ 10 ∷ []) }
     ensures spelled { SpellsSettings (settings_line settings.now) settings.now }
-    ensures failures { W.failures sink.new ≡ (if is_ok result then W.failures sink.old else next_count (W.failures sink.old)) }
+    ensures failures { (W.state sink.new).failures ≡ count_failure result (W.state sink.old).failures }
 {
     let numbers = numbers(settings);
     put(sink, opening(settings))?;
@@ -161,8 +161,8 @@ fn numbers(settings: &Settings) -> [u64; 7]
 
 /// Writes numbers, each behind a space, and the end of the line.
 fn put_numbers<W: Sink>(sink: &mut W, numbers: &[u64]) -> Result<(), LogFault>
-    ensures written { Puts result (W.written sink.old) (W.written sink.new) (flat_map spaced numbers.now ++ 10 ∷ []) }
-    ensures failures { W.failures sink.new ≡ (if is_ok result then W.failures sink.old else next_count (W.failures sink.old)) }
+    ensures written { Puts result (W.state sink.old).written (W.state sink.new).written (flat_map spaced numbers.now ++ 10 ∷ []) }
+    ensures failures { (W.state sink.new).failures ≡ count_failure result (W.state sink.old).failures }
 {
     for number in numbers {
         put_spaced(sink, *number)?;
@@ -172,8 +172,8 @@ fn put_numbers<W: Sink>(sink: &mut W, numbers: &[u64]) -> Result<(), LogFault>
 
 /// Writes a number behind a space.
 fn put_spaced<W: Sink>(sink: &mut W, number: u64) -> Result<(), LogFault>
-    ensures written { Puts result (W.written sink.old) (W.written sink.new) (spaced number) }
-    ensures failures { W.failures sink.new ≡ (if is_ok result then W.failures sink.old else next_count (W.failures sink.old)) }
+    ensures written { Puts result (W.state sink.old).written (W.state sink.new).written (spaced number) }
+    ensures failures { (W.state sink.new).failures ≡ count_failure result (W.state sink.old).failures }
 {
     put(sink, b" ")?;
     put_number(sink, number)

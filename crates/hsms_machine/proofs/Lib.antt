@@ -1,11 +1,13 @@
-pub mod Kept
+pub mod Mapped
 pub mod Least
 pub mod First
 pub mod Steps
 pub mod Push
 pub mod Alike
+pub mod Parts
 pub mod Told
 pub mod Runs
 pub mod Lawful
 pub mod Decided
+pub mod Timely
 pub mod Listed

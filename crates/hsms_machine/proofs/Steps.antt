@@ -9,6 +9,8 @@ use Rattle.hsms_frame.specs.declared.kinds.Kind.TheVariants.{Primary, SelectReq,
 use Rattle.hsms_machine.specs.declared.entry.Entry.{Entry}
 use Rattle.hsms_machine.specs.declared.entry.Event.{Event}
 use Rattle.hsms_machine.specs.declared.entry.Event.TheVariants.{Sent, Taken, Discarded, T3}
+use Rattle.hsms_machine.specs.declared.act.Act.{Act}
+use Rattle.hsms_machine.specs.declared.act.Act.TheVariants.{Sent as ActSent, Taken as ActTaken, T3 as ActT3}
 use Rattle.hsms_machine.specs.declared.rule.Rule.{Rule}
 use Rattle.hsms_machine.specs.declared.rule.Rule.TheVariants.{TooLong, PType, SType, ControlText, Session, Direction, NotSelected, WBit, Text, SystemInUse, NoTransaction, SelectStatus, NoCause}
 use Rattle.hsms_machine.specs.declared.open.Transaction.{Transaction}
@@ -17,6 +19,7 @@ use Rattle.hsms_machine.specs.Message.{is_data_request, is_control_request, open
 use Rattle.hsms_machine.specs.Transaction.{Pool, SentData, SentControl, TakenData, TakenControl, opened_by, concludes}
 use Rattle.hsms_machine.specs.Session.{Facts}
 use Rattle.hsms_machine.specs.Rule.{Breaks, FrameBreaks, IsNoCause, IsFirst, format_rules, transaction_rules}
+use Rattle.hsms_machine.specs.Act.{entry_of}
 use Rattle.hsms_machine.specs.Step.{pool_after}
 use Rattle.hsms_machine.specs.declared.open.Flow.{Flow}
 use Rattle.hsms_machine.specs.declared.open.Flow.TheVariants.{Outgoing, Incoming}
@@ -163,20 +166,20 @@ sent_data-t3 xs time system = append-nil (filter (λ opened. not (opened.header.
 pub pool-idle : (xs : List Transaction) → filter (λ (transaction : Transaction). not false) xs ++ [] ≡ xs
 pool-idle xs = append-nil (filter (λ transaction. not false) xs) ∙ keep_all (λ transaction. not false) (λ x. refl) xs
 
-pub pool-quiet : (pool : Pool) (xs : List Transaction) (time : ℕ) (event : Event) → ((frame : Frame) → event ≡ Sent frame → ⊥) → ((frame : Frame) → event ≡ Taken frame → ⊥) → ((system : ℕ) → event ≡ T3 system → ⊥) → pool_after pool xs (record { time = time; event = event }) ≡ xs
-pool-quiet pool xs time (Sent frame) sent taken t3 = absurd (sent frame refl)
-pool-quiet pool xs time (Taken frame) sent taken t3 = absurd (taken frame refl)
-pool-quiet pool xs time (T3 system) sent taken t3 = absurd (t3 system refl)
-pool-quiet SentData xs time event sent taken t3 = pool-idle xs
-pool-quiet SentControl xs time event sent taken t3 = pool-idle xs
-pool-quiet TakenData xs time event sent taken t3 = pool-idle xs
-pool-quiet TakenControl xs time event sent taken t3 = pool-idle xs
+pool-quiet : (pool : Pool) (xs : List Transaction) (time : ℕ) (act : Act) → ((header : Header) → act ≡ ActSent header → ⊥) → ((header : Header) → act ≡ ActTaken header → ⊥) → ((system : ℕ) → act ≡ ActT3 system → ⊥) → pool_after pool xs (entry_of time act []) ≡ xs
+pool-quiet pool xs time (ActSent header) sent taken t3 = absurd (sent header refl)
+pool-quiet pool xs time (ActTaken header) sent taken t3 = absurd (taken header refl)
+pool-quiet pool xs time (ActT3 system) sent taken t3 = absurd (t3 system refl)
+pool-quiet SentData xs time act sent taken t3 = pool-idle xs
+pool-quiet SentControl xs time act sent taken t3 = pool-idle xs
+pool-quiet TakenData xs time act sent taken t3 = pool-idle xs
+pool-quiet TakenControl xs time act sent taken t3 = pool-idle xs
 
--- an event that neither opens nor closes a transaction leaves the pools
-pub view-quiet : (view : View) (entry : Entry) → ((frame : Frame) → entry.event ≡ Sent frame → ⊥) → ((frame : Frame) → entry.event ≡ Taken frame → ⊥) → ((system : ℕ) → entry.event ≡ T3 system → ⊥) → view ≡ record view { sent_data = pool_after SentData view.sent_data entry; sent_control = pool_after SentControl view.sent_control entry; taken_data = pool_after TakenData view.taken_data entry; taken_control = pool_after TakenControl view.taken_control entry }
-view-quiet view entry sent taken t3 =
-    let e1 = pool-quiet SentData view.sent_data entry.time entry.event sent taken t3 in
-    let e2 = pool-quiet SentControl view.sent_control entry.time entry.event sent taken t3 in
-    let e3 = pool-quiet TakenData view.taken_data entry.time entry.event sent taken t3 in
-    let e4 = pool-quiet TakenControl view.taken_control entry.time entry.event sent taken t3 in
+-- what neither opens nor closes a transaction leaves the pools
+pub view-quiet : (view : View) (time : ℕ) (act : Act) → ((header : Header) → act ≡ ActSent header → ⊥) → ((header : Header) → act ≡ ActTaken header → ⊥) → ((system : ℕ) → act ≡ ActT3 system → ⊥) → view ≡ record view { sent_data = pool_after SentData view.sent_data (entry_of time act []); sent_control = pool_after SentControl view.sent_control (entry_of time act []); taken_data = pool_after TakenData view.taken_data (entry_of time act []); taken_control = pool_after TakenControl view.taken_control (entry_of time act []) }
+view-quiet view time act sent taken t3 =
+    let e1 = pool-quiet SentData view.sent_data time act sent taken t3 in
+    let e2 = pool-quiet SentControl view.sent_control time act sent taken t3 in
+    let e3 = pool-quiet TakenData view.taken_data time act sent taken t3 in
+    let e4 = pool-quiet TakenControl view.taken_control time act sent taken t3 in
     rw (e1, e2, e3, e4) refl

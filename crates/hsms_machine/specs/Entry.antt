@@ -1,12 +1,27 @@
 -- Entries of a session log by their places (this project's own log of the messages of SEMI E37).
 use Rattle.std.specs.Prelude.{ℕ, ◌<◌, Bool, true, false, List, slice_index_or, IsTrue}
+use Rattle.hsms_frame.specs.declared.header.Header.{Header}
+use Rattle.hsms_frame.specs.declared.frame.Frame.{Frame}
 use Rattle.hsms_machine.specs.declared.entry.Entry.{Entry}
 use Rattle.hsms_machine.specs.declared.entry.Event.{Event}
-use Rattle.hsms_machine.specs.declared.entry.Event.TheVariants.{Up, T3, Down}
+use Rattle.hsms_machine.specs.declared.entry.Event.TheVariants.{Up, Sent, Taken, Discarded, T3, Down}
+use Rattle.hsms_machine.specs.declared.entry.Mark.{Mark}
+use Rattle.hsms_machine.specs.declared.entry.Mark.TheVariants.{Sent as MarkSent, Taken as MarkTaken, Discarded as MarkDiscarded}
 
 -- the entry at a position, counted from 0
 abbrev pub entry_at : List Entry → ℕ → Entry
 entry_at log i = slice_index_or log i (record { time = 0; event = Up })
+
+-- the event of a frame that has this mark
+abbrev pub frame_event : Mark → Frame → Event
+frame_event MarkSent frame = Sent frame
+frame_event MarkTaken frame = Taken frame
+frame_event MarkDiscarded frame = Discarded frame
+
+-- the entry of the frame with this header and text
+abbrev pub frame_entry : ℕ → Mark → Header → List ℕ → Entry
+frame_entry time mark header text =
+    record { time = time; event = frame_event mark (record { header = header; text = text }) }
 
 abbrev pub is_up : Event → Bool
 is_up Up = true

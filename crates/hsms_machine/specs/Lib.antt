@@ -1,5 +1,6 @@
 pub mod Settings
 pub mod Entry
+pub mod Act
 pub mod Message
 pub mod Transaction
 pub mod Session
@@ -8,4 +9,5 @@ pub mod Rule
 pub mod Run
 pub mod View
 pub mod Step
+pub mod Ordered
 pub mod Laws

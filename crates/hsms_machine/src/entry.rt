@@ -15,6 +15,17 @@ pub enum Cause {
     Length,
 }
 
+/// What a log says of a frame.
+#[derive(Clone, Copy, Debug, PartialEq, Eq)]
+pub enum Mark {
+    /// It was sent.
+    Sent,
+    /// It was received and taken.
+    Taken,
+    /// It was received and thrown away, since taking it would break a rule.
+    Discarded,
+}
+
 /// What happened, as the end that logs saw it.
 #[derive(Debug, Drop)]
 pub enum Event {

@@ -1,109 +1,110 @@
 //! Which rule an entry breaks first, as the view tells it.
 
-use crate::entry::{Cause, Entry, Event};
+use crate::act::Act;
+use crate::entry::Cause;
 use crate::message::{
-    establishes, has_direction, has_session, has_wait, is_control, is_control_request, is_data,
-    is_data_request, is_response,
+    Message, establishes, has_direction, has_session, has_wait, is_control, is_control_request,
+    is_data, is_data_request, is_response,
 };
 use crate::open::Flow;
 use crate::phase::Phase;
 use crate::rule::Rule;
 use crate::view::View;
-use hsms_frame::{Frame, Header, Kind, kind};
+use hsms_frame::Kind;
 use secs_item::measure_text;
 
 /// How many octets a header has (SEMI E37, section 8).
 const HEADER_LENGTH: usize = 10;
 
 impl View {
-    ghost use Rattle.std.specs.Prelude.{◌≡◌, ◌↔◌, ◌++◌, [], ◌∷◌, IsTrue};
+    ghost use Rattle.std.specs.Prelude.{◌≡◌, ◌↔◌, ◌+◌, ◌<◌, ◌++◌, [], ◌∷◌, length, IsTrue};
+    ghost use Rattle.hsms_machine.specs.declared.entry.Event.{Event};
+    ghost use Rattle.hsms_machine.specs.declared.rule.Rule.{Rule};
     ghost use Rattle.secs_item.specs.Spelling.{IsText};
     ghost use Rattle.hsms_machine.specs.Message.{is_request, is_response as is_response_message};
     ghost use Rattle.hsms_machine.specs.Timer.{IsT6Overdue, IsT7Overdue, IsNotDue, IsCutNotDue};
-    ghost use Rattle.hsms_machine.specs.Rule.{Breaks, FrameBreaks, IsNotUp, IsNoCause, IsInUse, IsAnswer, IsFirst, needs_session, all_rules, order_rules, timer_rules, format_rules, transaction_rules};
-    ghost use Rattle.hsms_machine.specs.Step.{facts_of};
+    ghost use Rattle.hsms_machine.specs.Rule.{Breaks, FrameBreaks, IsNotUp, IsNoCause, IsInUse, IsAnswer, IsFirst, needs_session, order_rules, timer_rules, format_rules, transaction_rules};
+    ghost use Rattle.hsms_machine.specs.Act.{event_of, entry_of, frame_of};
+    ghost use Rattle.hsms_machine.specs.Step.{facts_of, IsBrokenAt};
 
     /// The first rule that the entry breaks.
-    pub fn first_broken(&self, entry: &Entry) -> Option<Rule>
-        ensures { IsFirst (Breaks (facts_of self.now) self.now.settings entry.now) all_rules result }
+    pub fn first_broken(&self, time: u64, act: &Act, text: &[u8]) -> Option<Rule>
+        ensures { IsBrokenAt self.now (entry_of time act.now text.now) result }
     {
-        let order = self.broken_order(entry);
+        let order = self.broken_order(time, act);
         if order.is_some() {
             return order;
         }
-        let timer = self.broken_timer(entry);
+        let timer = self.broken_timer(time, act);
         if timer.is_some() {
             return timer;
         }
-        self.broken_event(entry)
+        self.broken_event(act, text)
     }
 
-    fn broken_order(&self, entry: &Entry) -> Option<Rule>
-        ensures { IsFirst (Breaks (facts_of self.now) self.now.settings entry.now) order_rules result }
+    fn broken_order(&self, time: u64, act: &Act) -> Option<Rule>
+        ensures { IsFirst (Breaks (facts_of self.now) self.now.settings (entry_of time act.now [])) order_rules result }
     {
-        if entry.time < self.last_time {
+        if time < self.last_time {
             Some(Rule::Backwards)
-        } else if self.is_not_up(&entry.event) {
+        } else if self.is_not_up(act) {
             Some(Rule::NotUp)
-        } else if self.is_ended(&entry.event) {
+        } else if self.is_ended(act) {
             Some(Rule::Ended)
         } else {
             None
         }
     }
 
-    fn is_not_up(&self, event: &Event) -> bool
-        ensures { IsTrue result ↔ IsNotUp (facts_of self.now) event.now }
+    fn is_not_up(&self, act: &Act) -> bool
+        ensures { IsTrue result ↔ IsNotUp (facts_of self.now) (event_of act.now []) }
     {
-        match event {
-            Event::Up => self.phase != Phase::Before,
+        match act {
+            Act::Up => self.phase != Phase::Before,
             _ => matches!(self.phase, Phase::Before | Phase::Gone),
         }
     }
 
-    fn is_ended(&self, event: &Event) -> bool
-        ensures { IsTrue result ↔ IsTrue (needs_session event.now) × (facts_of self.now).IsOver }
+    fn is_ended(&self, act: &Act) -> bool
+        ensures { IsTrue result ↔ IsTrue (needs_session (event_of act.now [])) × (facts_of self.now).IsOver }
     {
-        match event {
-            Event::Sent(_) | Event::Taken(_) | Event::T3(_) | Event::Cut(_) => {
-                self.phase == Phase::Over
-            }
+        match act {
+            Act::Sent(_) | Act::Taken(_) | Act::T3(_) | Act::Cut(_) => { self.phase == Phase::Over }
             _ => false,
         }
     }
 
-    fn broken_timer(&self, entry: &Entry) -> Option<Rule>
-        ensures { IsFirst (Breaks (facts_of self.now) self.now.settings entry.now) timer_rules result }
+    fn broken_timer(&self, time: u64, act: &Act) -> Option<Rule>
+        ensures { IsFirst (Breaks (facts_of self.now) self.now.settings (entry_of time act.now [])) timer_rules result }
     {
-        if self.is_t3_overdue(entry) {
+        if self.is_t3_overdue(time, act) {
             Some(Rule::T3Overdue)
-        } else if self.is_link_overdue(entry) {
+        } else if self.is_link_overdue(time, act) {
             Some(Rule::LinkOverdue)
-        } else if self.is_not_due(entry) {
+        } else if self.is_not_due(time, act) {
             Some(Rule::NotDue)
         } else {
             None
         }
     }
 
-    fn is_t3_overdue(&self, entry: &Entry) -> bool
-        ensures { IsTrue result ↔ Breaks (facts_of self.now) self.now.settings entry.now Rule.T3Overdue }
+    fn is_t3_overdue(&self, time: u64, act: &Act) -> bool
+        ensures { IsTrue result ↔ Breaks (facts_of self.now) self.now.settings (entry_of time act.now []) Rule.T3Overdue }
     {
-        match &entry.event {
-            Event::T3(_) => false,
+        match act {
+            Act::T3(_) => false,
             _ => {
-                self.phase != Phase::Over
-                    && self.sent_data.has_overdue(entry.time, self.settings.t3())
+                self.phase != Phase::Over && self.sent_data.has_overdue(time, self.settings.t3())
             }
         }
     }
 
-    fn is_link_overdue(&self, entry: &Entry) -> bool
-        ensures { IsTrue result ↔ Breaks (facts_of self.now) self.now.settings entry.now Rule.LinkOverdue }
+    fn is_link_overdue(&self, time: u64, act: &Act) -> bool
+        ensures { IsTrue result ↔ Breaks (facts_of self.now) self.now.settings (entry_of time act.now []) Rule.LinkOverdue }
     {
-        match &entry.event {
-            Event::T3(_) | Event::Cut(Cause::T6) | Event::Cut(Cause::T7) => false,
-            _ => self.is_t6_overdue(entry.time) || self.is_t7_overdue(entry.time),
+        match act {
+            Act::T3(_) | Act::Cut(Cause::T6) | Act::Cut(Cause::T7) => false,
+            _ => self.is_t6_overdue(time) || self.is_t7_overdue(time),
         }
     }
 
@@ -120,14 +121,12 @@ impl View {
             && u64::from(self.settings.t7()) < time.saturating_sub(self.up_time)
     }
 
-    fn is_not_due(&self, entry: &Entry) -> bool
-        ensures { IsTrue result ↔ IsNotDue (facts_of self.now) self.now.settings entry.now.time entry.now.event }
+    fn is_not_due(&self, time: u64, act: &Act) -> bool
+        ensures { IsTrue result ↔ IsNotDue (facts_of self.now) self.now.settings time (event_of act.now []) }
     {
-        match &entry.event {
-            Event::T3(system) => !self
-                .sent_data
-                .is_due(*system, entry.time, self.settings.t3()),
-            Event::Cut(cause) => self.is_cut_not_due(entry.time, *cause),
+        match act {
+            Act::T3(system) => !self.sent_data.is_due(*system, time, self.settings.t3()),
+            Act::Cut(cause) => self.is_cut_not_due(time, *cause),
             _ => false,
         }
     }
@@ -147,133 +146,130 @@ impl View {
         }
     }
 
-    fn broken_event(&self, entry: &Entry) -> Option<Rule>
-        ensures { IsFirst (Breaks (facts_of self.now) self.now.settings entry.now) (format_rules ++ (transaction_rules ++ Rule.NoCause ∷ [])) result }
+    fn broken_event(&self, act: &Act, text: &[u8]) -> Option<Rule>
+        ensures { IsFirst (Breaks (facts_of self.now) self.now.settings (entry_of 0 act.now text.now)) (format_rules ++ (transaction_rules ++ Rule.NoCause ∷ [])) result }
     {
-        match &entry.event {
-            Event::Sent(frame) => self.broken_frame(Flow::Outgoing, frame),
-            Event::Taken(frame) => self.broken_frame(Flow::Incoming, frame),
-            Event::Discarded(frame) => self.broken_discard(frame),
-            Event::Up | Event::T3(_) | Event::Cut(_) | Event::Down => None,
+        match act {
+            Act::Sent(message) => self.broken_frame(Flow::Outgoing, *message, text),
+            Act::Taken(message) => self.broken_frame(Flow::Incoming, *message, text),
+            Act::Discarded(message) => self.broken_discard(*message, text),
+            Act::Up | Act::T3(_) | Act::Cut(_) | Act::Down => None,
         }
     }
 
-    fn broken_discard(&self, frame: &Frame) -> Option<Rule>
-        ensures { IsFirst (λ rule. IsNoCause (facts_of self.now) self.now.settings (Event.Discarded frame.now)) (Rule.NoCause ∷ []) result }
+    fn broken_discard(&self, message: Message, text: &[u8]) -> Option<Rule>
+        ensures { IsFirst (λ rule. IsNoCause (facts_of self.now) self.now.settings (Event.Discarded (frame_of message text.now))) (Rule.NoCause ∷ []) result }
     {
-        if self.is_without_cause(frame) {
+        if self.is_without_cause(message, text) {
             Some(Rule::NoCause)
         } else {
             None
         }
     }
 
-    fn is_without_cause(&self, frame: &Frame) -> bool
-        ensures { IsTrue result ↔ IsNoCause (facts_of self.now) self.now.settings (Event.Discarded frame.now) }
+    fn is_without_cause(&self, message: Message, text: &[u8]) -> bool
+        ensures { IsTrue result ↔ IsNoCause (facts_of self.now) self.now.settings (Event.Discarded (frame_of message text.now)) }
     {
-        self.phase != Phase::Over && self.broken_frame(Flow::Incoming, frame).is_none()
+        self.phase != Phase::Over && self.broken_frame(Flow::Incoming, message, text).is_none()
     }
 
     /// The first rule that a frame breaks which goes this way.
-    fn broken_frame(&self, flow: Flow, frame: &Frame) -> Option<Rule>
-        ensures { IsFirst (FrameBreaks (facts_of self.now) self.now.settings flow frame.now) (format_rules ++ transaction_rules) result }
+    fn broken_frame(&self, flow: Flow, message: Message, text: &[u8]) -> Option<Rule>
+        ensures { IsFirst (FrameBreaks (facts_of self.now) self.now.settings flow (frame_of message text.now)) (format_rules ++ transaction_rules) result }
     {
-        let format = self.broken_format(flow, frame);
+        let format = self.broken_format(flow, message, text);
         if format.is_some() {
             return format;
         }
-        self.broken_transaction(flow, frame)
+        self.broken_transaction(flow, message, text)
     }
 
-    fn broken_format(&self, flow: Flow, frame: &Frame) -> Option<Rule>
-        ensures { IsFirst (FrameBreaks (facts_of self.now) self.now.settings flow frame.now) format_rules result }
+    fn broken_format(&self, flow: Flow, message: Message, text: &[u8]) -> Option<Rule>
+        ensures { IsFirst (FrameBreaks (facts_of self.now) self.now.settings flow (frame_of message text.now)) format_rules result }
     {
-        if self.is_too_long(frame) {
+        if self.is_too_long(text) {
             return Some(Rule::TooLong);
         }
-        match kind(frame.header) {
+        match message.kind() {
             Kind::OtherPType => return Some(Rule::PType),
             Kind::OtherSType => return Some(Rule::SType),
             _ => {}
         }
-        if is_control(frame.header) && !frame.text.as_slice().is_empty() {
+        if is_control(message) && !text.is_empty() {
             Some(Rule::ControlText)
-        } else if !has_session(self.settings, frame.header) {
+        } else if !has_session(self.settings, message) {
             Some(Rule::Session)
-        } else if !has_direction(self.settings, flow, frame.header) {
+        } else if !has_direction(self.settings, flow, message) {
             Some(Rule::Direction)
         } else {
             None
         }
     }
 
-    fn is_too_long(&self, frame: &Frame) -> bool
-        ensures { IsTrue result ↔ FrameBreaks (facts_of self.now) self.now.settings Flow.Outgoing frame.now Rule.TooLong }
+    fn is_too_long(&self, text: &[u8]) -> bool
+        ensures { IsTrue result ↔ (self.now.settings.max < 10 + length text.now) }
     {
         let max = self.settings.max() as usize;
-        max - HEADER_LENGTH < frame.text.as_slice().len()
+        max - HEADER_LENGTH < text.len()
     }
 
-    fn broken_transaction(&self, flow: Flow, frame: &Frame) -> Option<Rule>
-        ensures { IsFirst (FrameBreaks (facts_of self.now) self.now.settings flow frame.now) transaction_rules result }
+    fn broken_transaction(&self, flow: Flow, message: Message, text: &[u8]) -> Option<Rule>
+        ensures { IsFirst (FrameBreaks (facts_of self.now) self.now.settings flow (frame_of message text.now)) transaction_rules result }
     {
-        let header = frame.header;
         let selected = self.phase == Phase::Selected;
-        if is_data(header) && !selected {
+        if is_data(message) && !selected {
             Some(Rule::NotSelected)
-        } else if !has_wait(header) {
+        } else if !has_wait(message) {
             Some(Rule::WBit)
-        } else if is_data(header) && !self.is_text(frame) {
+        } else if is_data(message) && !self.is_text(text) {
             Some(Rule::Text)
-        } else if self.is_in_use(flow, header) {
+        } else if self.is_in_use(flow, message) {
             Some(Rule::SystemInUse)
-        } else if self.is_without_transaction(flow, header) {
+        } else if self.is_without_transaction(flow, message) {
             Some(Rule::NoTransaction)
-        } else if establishes(header) && selected {
+        } else if establishes(message) && selected {
             Some(Rule::SelectStatus)
         } else {
             None
         }
     }
 
-    fn is_text(&self, frame: &Frame) -> bool
-        ensures { IsTrue result ↔ IsText self.now.settings.depth frame.now.text }
+    fn is_text(&self, text: &[u8]) -> bool
+        ensures { IsTrue result ↔ IsText self.now.settings.depth text.now }
     {
-        measure_text(frame.text.as_slice(), self.settings.depth()).is_ok()
+        measure_text(text, self.settings.depth()).is_ok()
     }
 
     /// Whether the frame opens a transaction while one of its direction has its system bytes.
-    fn is_in_use(&self, flow: Flow, header: Header) -> bool
-        ensures { IsTrue result ↔ IsTrue (is_request header) × IsInUse (facts_of self.now) flow header.system }
+    fn is_in_use(&self, flow: Flow, message: Message) -> bool
+        ensures { IsTrue result ↔ IsTrue (is_request message) × IsInUse (facts_of self.now) flow message.system }
     {
-        if !is_data_request(header) && !is_control_request(header) {
+        if !is_data_request(message) && !is_control_request(message) {
             return false;
         }
+        let system = message.header().system;
         match flow {
-            Flow::Outgoing => {
-                self.sent_data.is_in_use(header.system)
-                    || self.sent_control.is_in_use(header.system)
-            }
-            Flow::Incoming => {
-                self.taken_data.is_in_use(header.system)
-                    || self.taken_control.is_in_use(header.system)
-            }
+            Flow::Outgoing => self.sent_data.is_in_use(system)
+                || self.sent_control.is_in_use(system),
+            Flow::Incoming => self.taken_data.is_in_use(system)
+                || self.taken_control.is_in_use(system),
         }
     }
 
     /// Whether the frame is a response that answers no open transaction.
-    fn is_without_transaction(&self, flow: Flow, header: Header) -> bool
-        ensures { IsTrue result ↔ IsTrue (is_response_message header) × ¬ IsAnswer (facts_of self.now) flow header }
+    fn is_without_transaction(&self, flow: Flow, message: Message) -> bool
+        ensures { IsTrue result ↔ IsTrue (is_response_message message) × ¬ IsAnswer (facts_of self.now) flow message }
     {
-        if !is_response(header) {
+        if !is_response(message) {
             return false;
         }
         let answered = match flow {
             Flow::Outgoing => {
-                self.taken_data.has_request_of(header) || self.taken_control.has_request_of(header)
+                self.taken_data.has_request_of(message)
+                    || self.taken_control.has_request_of(message)
             }
             Flow::Incoming => {
-                self.sent_data.has_request_of(header) || self.sent_control.has_request_of(header)
+                self.sent_data.has_request_of(message) || self.sent_control.has_request_of(message)
             }
         };
         !answered

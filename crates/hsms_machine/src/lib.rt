@@ -6,6 +6,7 @@
 //! asks it about logged entries, and an end of a connection about what it is going to do.
 #![tactic(auto)]
 
+mod act;
 mod entry;
 mod judge;
 pub mod laws;
@@ -17,7 +18,7 @@ mod settings;
 mod tracker;
 mod view;
 
-pub use entry::{Cause, Entry, Event};
+pub use entry::{Cause, Entry, Event, Mark};
 pub use phase::Phase;
 pub use rule::Rule;
 pub use settings::{Role, Settings, Side};

@@ -7,6 +7,7 @@ ghost use Rattle.hsms_machine.specs.Transaction.{answers as is_answer, is_reply_
 use crate::open::Flow;
 use crate::settings::{Role, Settings, Side};
 use hsms_frame::{Header, Kind, kind};
+use std::marker::Model;
 
 /// The session ID of control messages (SEMI E37.1).
 const CONTROL_SESSION: u16 = 0xffff;
@@ -14,23 +15,75 @@ const CONTROL_SESSION: u16 = 0xffff;
 /// The stream by which equipment tells of errors (SEMI E5).
 const ERROR_STREAM: u8 = 9;
 
+/// A header, and the kind of its message: many rules ask for the kind, and it is found once.
+#[derive(Clone, Copy)]
+pub struct Message {
+    kind: Kind,
+    header: Header,
+}
+
+impl Model for Message {
+    ghost use Rattle.std.specs.Prelude.{◌≡◌};
+    ghost use Rattle.std.proofs.Common.{sym};
+    ghost use Rattle.hsms_frame.specs.Header.{kind_of};
+    ghost use Rattle.hsms_frame.specs.declared.header.Header.{Header};
+
+    ghost Value = { Header };
+
+    ghost view = { λ m. m.header };
+
+    ghost invariant = { λ m. m.kind ≡ kind_of m.header };
+
+    ghost inverse = { λ h. record { kind = kind_of h; header = h } };
+
+    ghost inverse_ok = { λ m is i. record { kind = sym is i; header = m.header } };
+}
+
+impl Message {
+    ghost use Rattle.hsms_frame.specs.Header.{kind_of};
+
+    /// The message of a header.
+    pub fn of(header: Header) -> Message
+        ensures { result ≡ header }
+    {
+        Message {
+            kind: kind(header),
+            header,
+        }
+    }
+
+    /// Its header.
+    pub fn header(self) -> Header
+        ensures { result ≡ self }
+    {
+        self.header
+    }
+
+    /// Its kind.
+    pub fn kind(self) -> Kind
+        ensures { result ≡ kind_of self }
+    {
+        self.kind
+    }
+}
+
 /// Whether the message is a primary that asks for a reply.
 #[tactic(auto, unfolding(crate::specs::Message::is_data_request))]
-pub fn is_data_request(header: Header) -> bool
-    ensures { result ≡ opens_data_transaction header }
+pub fn is_data_request(message: Message) -> bool
+    ensures { result ≡ opens_data_transaction message }
 {
-    match kind(header) {
-        Kind::Primary => header.wait(),
+    match message.kind() {
+        Kind::Primary => message.header().wait(),
         _ => false,
     }
 }
 
 /// Whether the message is a Select.req or a Linktest.req.
 #[tactic(auto, unfolding(crate::specs::Message::is_control_request))]
-pub fn is_control_request(header: Header) -> bool
-    ensures { result ≡ opens_control_transaction header }
+pub fn is_control_request(message: Message) -> bool
+    ensures { result ≡ opens_control_transaction message }
 {
-    match kind(header) {
+    match message.kind() {
         Kind::SelectReq | Kind::LinktestReq => true,
         _ => false,
     }
@@ -47,14 +100,14 @@ fn is_reply_to(primary: Header, reply: Header) -> bool
 
 /// Whether the response, which goes in the other direction, answers the request.
 #[tactic(auto, unfolding(crate::specs::Transaction::answers))]
-pub fn answers(request: Header, response: Header) -> bool
+pub fn answers(request: Header, response: Message) -> bool
     ensures { result ≡ is_answer request response }
 {
-    if response.system != request.system {
+    if response.header().system != request.system {
         return false;
     }
-    match (kind(request), kind(response)) {
-        (Kind::Primary, Kind::Reply) => is_reply_to(request, response),
+    match (kind(request), response.kind()) {
+        (Kind::Primary, Kind::Reply) => is_reply_to(request, response.header()),
         (Kind::SelectReq, Kind::SelectRsp) => true,
         (Kind::LinktestReq, Kind::LinktestRsp) => true,
         _ => false,
@@ -62,14 +115,14 @@ pub fn answers(request: Header, response: Header) -> bool
 }
 
 #[tactic(auto, unfolding(crate::specs::Transaction::rejects))]
-fn rejects(request: Header, other: Header) -> bool
+fn rejects(request: Header, other: Message) -> bool
     ensures { result ≡ is_reject request other }
 {
-    other.system == request.system && matches!(kind(other), Kind::Reject)
+    other.header().system == request.system && matches!(other.kind(), Kind::Reject)
 }
 
 /// Whether the message, which goes in the other direction, ends the request's transaction.
-pub fn concludes(request: Header, other: Header) -> bool
+pub fn concludes(request: Header, other: Message) -> bool
     ensures { result ≡ is_conclusion request other }
 {
     answers(request, other) || rejects(request, other)
@@ -77,55 +130,55 @@ pub fn concludes(request: Header, other: Header) -> bool
 
 /// Whether the message is a Select.rsp with status 0.
 #[tactic(auto, unfolding(crate::specs::Message::establishes))]
-pub fn establishes(header: Header) -> bool
-    ensures { result ≡ is_establishment header }
+pub fn establishes(message: Message) -> bool
+    ensures { result ≡ is_establishment message }
 {
-    matches!(kind(header), Kind::SelectRsp) && header.byte3 == 0
+    matches!(message.kind(), Kind::SelectRsp) && message.header().byte3 == 0
 }
 
 #[tactic(auto, unfolding(crate::specs::Message::separates))]
-pub fn separates(header: Header) -> bool
-    ensures { result ≡ is_separation header }
+pub fn separates(message: Message) -> bool
+    ensures { result ≡ is_separation message }
 {
-    matches!(kind(header), Kind::Separate)
+    matches!(message.kind(), Kind::Separate)
 }
 
 #[tactic(auto, unfolding(crate::specs::Message::is_data))]
-pub fn is_data(header: Header) -> bool
-    ensures { result ≡ carries_data header }
+pub fn is_data(message: Message) -> bool
+    ensures { result ≡ carries_data message }
 {
-    matches!(kind(header), Kind::Primary | Kind::Reply)
+    matches!(message.kind(), Kind::Primary | Kind::Reply)
 }
 
 #[tactic(auto, unfolding(crate::specs::Message::is_control))]
-pub fn is_control(header: Header) -> bool
-    ensures { result ≡ is_control_message header }
+pub fn is_control(message: Message) -> bool
+    ensures { result ≡ is_control_message message }
 {
-    match kind(header) {
+    match message.kind() {
         Kind::Primary | Kind::Reply | Kind::OtherSType | Kind::OtherPType => false,
         _ => true,
     }
 }
 
 #[tactic(auto, unfolding(crate::specs::Message::is_response))]
-pub fn is_response(header: Header) -> bool
-    ensures { result ≡ is_response_message header }
+pub fn is_response(message: Message) -> bool
+    ensures { result ≡ is_response_message message }
 {
     matches!(
-        kind(header),
+        message.kind(),
         Kind::Reply | Kind::SelectRsp | Kind::LinktestRsp
     )
 }
 
 /// Whether the session ID is the one that the message's kind has.
 #[tactic(auto, unfolding(crate::specs::Message::has_session))]
-pub fn has_session(settings: Settings, header: Header) -> bool
-    ensures { result ≡ is_session_right settings header }
+pub fn has_session(settings: Settings, message: Message) -> bool
+    ensures { result ≡ is_session_right settings message }
 {
-    match kind(header) {
-        Kind::Primary | Kind::Reply => header.session == settings.device(),
+    match message.kind() {
+        Kind::Primary | Kind::Reply => message.header().session == settings.device(),
         Kind::Reject | Kind::OtherSType | Kind::OtherPType => true,
-        _ => header.session == CONTROL_SESSION,
+        _ => message.header().session == CONTROL_SESSION,
     }
 }
 
@@ -149,15 +202,15 @@ fn is_from_equipment(role: Role, flow: Flow) -> bool
 
 /// Whether the end from which the message comes may send it.
 #[tactic(auto, unfolding(crate::specs::Message::has_direction))]
-pub fn has_direction(settings: Settings, flow: Flow, header: Header) -> bool
-    ensures { result ≡ is_direction_right settings flow header }
+pub fn has_direction(settings: Settings, flow: Flow, message: Message) -> bool
+    ensures { result ≡ is_direction_right settings flow message }
 {
     let from_active = is_from_active(settings.link(), flow);
-    match kind(header) {
+    match message.kind() {
         Kind::SelectReq => from_active,
         Kind::SelectRsp => !from_active,
         Kind::Primary => {
-            header.stream() != ERROR_STREAM || is_from_equipment(settings.role(), flow)
+            message.header().stream() != ERROR_STREAM || is_from_equipment(settings.role(), flow)
         }
         _ => true,
     }
@@ -165,12 +218,12 @@ pub fn has_direction(settings: Settings, flow: Flow, header: Header) -> bool
 
 /// Whether the W bit is one that the message may have.
 #[tactic(auto, unfolding(crate::specs::Message::has_wait))]
-pub fn has_wait(header: Header) -> bool
-    ensures { result ≡ is_wait_right header }
+pub fn has_wait(message: Message) -> bool
+    ensures { result ≡ is_wait_right message }
 {
-    match kind(header) {
-        Kind::Primary => !(header.wait() && header.stream() == ERROR_STREAM),
-        Kind::Reply => !header.wait(),
+    match message.kind() {
+        Kind::Primary => !(message.header().wait() && message.header().stream() == ERROR_STREAM),
+        Kind::Reply => !message.header().wait(),
         _ => true,
     }
 }

@@ -1,10 +1,12 @@
 //! The judge of a session, entry by entry.
 
-use crate::entry::Entry;
+use crate::act::Act;
+use crate::entry::{Entry, Mark};
 use crate::phase::Phase;
 use crate::rule::Rule;
 use crate::settings::Settings;
 use crate::view::View;
+use hsms_frame::Header;
 use std::alloc::{AllocError, Global};
 use std::marker::Model;
 
@@ -19,20 +21,23 @@ pub struct Tracker {
 impl Model for Tracker {
     ghost use Rattle.hsms_machine.specs.declared.view.View.{View};
     ghost use Rattle.hsms_machine.specs.View.{HasRun};
+    ghost use Rattle.hsms_machine.specs.Step.{IsUntil};
 
     ghost Value = { View };
 
     ghost view = { λ tracker. tracker.view };
 
-    ghost invariant = { λ tracker. ∥ HasRun tracker.view ∥₁ };
+    ghost invariant = { λ tracker. ∥ HasRun tracker.view ∥₁ × IsUntil tracker.view.last_time tracker.view };
 }
 
 impl Tracker {
-    ghost use Rattle.std.specs.Prelude.{◌≡◌, ◌++◌, [], ◌∷◌, Some, None, IsTrue, IfOk, OnErr};
+    ghost use Rattle.std.specs.Prelude.{◌≡◌, [], Some, None, IsTrue, IfOk, OnErr};
     ghost use Rattle.hsms_machine.specs.declared.rule.Rule.{Rule};
+    ghost use Rattle.hsms_machine.specs.Entry.{frame_entry};
+    ghost use Rattle.hsms_machine.specs.Act.{event_of, entry_of};
     ghost use Rattle.hsms_machine.specs.Transaction.{opens};
-    ghost use Rattle.hsms_machine.specs.Run.{Broken};
-    ghost use Rattle.hsms_machine.specs.View.{ForEachRun, HasView, waiting_of, own_open_of, next_due_of};
+    ghost use Rattle.hsms_machine.specs.View.{HasView, IsBrokenAfter, LeadsTo, waiting_of, own_open_of, next_due_of, in_use_of, oldest_of};
+    ghost use Rattle.hsms_machine.specs.Step.{IsBrokenAt, IsInOrder, view_after};
 
     /// The tracker of a session without an entry.
     pub fn new(alloc: Global, settings: Settings) -> Tracker
@@ -46,25 +51,66 @@ impl Tracker {
     /// The first rule that the entry would break as the next one, or None where it is lawful. Takes no
     /// memory.
     pub fn check(&self, entry: &Entry) -> Option<Rule>
-        ensures { ForEachRun self.now (λ log. Broken self.now.settings log entry.now result) }
+        ensures answer { IsBrokenAfter self.now entry.now result }
+        ensures told { IsBrokenAt self.now entry.now result }
     {
-        self.view.first_broken(entry)
+        let act = Act::of(&entry.event);
+        self.view
+            .first_broken(entry.time, &act, Act::text_of(&entry.event))
     }
 
     /// The first rule that the entry breaks as the next one, or None where it is lawful, and then it is
     /// taken in. A broken rule leaves the tracker as it was, and so does want of memory, which is answered
     /// only of a lawful entry that opens a transaction.
     pub fn step(&mut self, entry: &Entry) -> Result<Option<Rule>, AllocError>
-        ensures answer { IfOk result (λ answer. ForEachRun self.old (λ log. Broken self.old.settings log entry.now answer)) }
-        ensures lawful { IfOk result (λ answer. answer ≡ None → ForEachRun self.old (λ log. HasView self.old.settings (log ++ entry.now ∷ []) self.new)) }
+        ensures answer { IfOk result (λ answer. IsBrokenAfter self.old entry.now answer) }
+        ensures told { IfOk result (λ answer. IsBrokenAt self.old entry.now answer) }
+        ensures lawful { IfOk result (λ answer. answer ≡ None → LeadsTo self.old entry.now self.new) }
+        ensures next { IfOk result (λ answer. answer ≡ None → self.new ≡ view_after self.old entry.now) }
         ensures broken { IfOk result (λ answer. (rule : Rule) → answer ≡ Some rule → self.new ≡ self.old) }
         ensures err { OnErr result (self.new ≡ self.old) }
-        ensures err_lawful { OnErr result (ForEachRun self.old (λ log. Broken self.old.settings log entry.now None)) }
+        ensures err_lawful { OnErr result (IsBrokenAfter self.old entry.now None) }
         ensures err_opens { OnErr result (IsTrue (opens entry.now.event)) }
     {
-        let broken = self.view.first_broken(entry);
+        let act = Act::of(&entry.event);
+        self.judge(entry.time, &act, Act::text_of(&entry.event))
+    }
+
+    /// As `step`, of the entry of a frame, by its parts. The text stays where it lies.
+    pub fn step_frame(
+        &mut self,
+        time: u64,
+        mark: Mark,
+        header: Header,
+        text: &[u8],
+    ) -> Result<Option<Rule>, AllocError>
+        ensures answer { IfOk result (λ answer. IsBrokenAfter self.old (frame_entry time mark header text.now) answer) }
+        ensures told { IfOk result (λ answer. IsBrokenAt self.old (frame_entry time mark header text.now) answer) }
+        ensures lawful { IfOk result (λ answer. answer ≡ None → LeadsTo self.old (frame_entry time mark header text.now) self.new) }
+        ensures next { IfOk result (λ answer. answer ≡ None → self.new ≡ view_after self.old (frame_entry time mark header text.now)) }
+        ensures broken { IfOk result (λ answer. (rule : Rule) → answer ≡ Some rule → self.new ≡ self.old) }
+        ensures err { OnErr result (self.new ≡ self.old) }
+        ensures err_lawful { OnErr result (IsBrokenAfter self.old (frame_entry time mark header text.now) None) }
+        ensures err_opens { OnErr result (IsTrue (opens (frame_entry time mark header text.now).event)) }
+    {
+        let act = Act::of_frame(mark, header);
+        self.judge(time, &act, text)
+    }
+
+    // The first rule that the entry of these parts breaks, or none, and then it is taken in.
+    fn judge(&mut self, time: u64, act: &Act, text: &[u8]) -> Result<Option<Rule>, AllocError>
+        ensures answer { IfOk result (λ answer. IsBrokenAfter self.old (entry_of time act.now text.now) answer) }
+        ensures told { IfOk result (λ answer. IsBrokenAt self.old (entry_of time act.now text.now) answer) }
+        ensures lawful { IfOk result (λ answer. answer ≡ None → LeadsTo self.old (entry_of time act.now text.now) self.new) }
+        ensures next { IfOk result (λ answer. answer ≡ None → self.new ≡ view_after self.old (entry_of time act.now text.now)) }
+        ensures broken { IfOk result (λ answer. (rule : Rule) → answer ≡ Some rule → self.new ≡ self.old) }
+        ensures err { OnErr result (self.new ≡ self.old) }
+        ensures err_lawful { OnErr result (IsBrokenAfter self.old (entry_of time act.now text.now) None) }
+        ensures err_opens { OnErr result (IsTrue (opens (event_of act.now text.now))) }
+    {
+        let broken = self.view.first_broken(time, act, text);
         if broken.is_none() {
-            self.view.take_in(entry)?;
+            self.view.take_in(time, act)?;
         }
         Ok(broken)
     }
@@ -97,5 +143,39 @@ impl Tracker {
         ensures { result ≡ next_due_of self.now }
     {
         self.view.next_due()
+    }
+
+    /// Whether an open sent transaction, of data or of control, has these system bytes. Takes no memory.
+    pub fn in_use(&self, system: u32) -> bool
+        ensures { result ≡ in_use_of self.now system }
+    {
+        self.view.sent_data.is_in_use(system) || self.view.sent_control.is_in_use(system)
+    }
+
+    /// The time and the header of the sent primary with the W bit that was opened first of those that are
+    /// open. Takes no memory.
+    pub fn oldest_data(&self) -> Option<(u64, Header)>
+        ensures { result ≡ oldest_of self.now.sent_data }
+    {
+        self.view.sent_data.oldest()
+    }
+
+    /// The time and the header of the sent Select.req or Linktest.req that was opened first of those that
+    /// are open. Takes no memory.
+    pub fn oldest_control(&self) -> Option<(u64, Header)>
+        ensures { result ≡ oldest_of self.now.sent_control }
+    {
+        self.view.sent_control.oldest()
+    }
+
+    /// That what is open is in order: in each of the four lists of the view no time falls, none is later than that of
+    /// the last entry, and no two transactions have the same system bytes. Called for this fact alone; it does nothing.
+    pub fn keeps_order(&self)
+        ensures { IsInOrder self.now }
+    {
+        self.view.sent_data.keeps_order();
+        self.view.sent_control.keeps_order();
+        self.view.taken_data.keeps_order();
+        self.view.taken_control.keeps_order();
     }
 }

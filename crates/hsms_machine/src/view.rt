@@ -1,7 +1,7 @@
 //! What the rules need to know of the entries so far, and how an entry changes it.
 
-use crate::entry::{Entry, Event};
-use crate::message::{establishes, is_control_request, is_data_request, separates};
+use crate::act::Act;
+use crate::message::{Message, establishes, is_control_request, is_data_request, separates};
 use crate::open::{Transaction, Transactions};
 use crate::phase::Phase;
 use crate::settings::Settings;
@@ -21,12 +21,14 @@ pub struct View {
 }
 
 impl View {
-    ghost use Rattle.std.specs.Prelude.{◌≡◌, ◌++◌, [], IsTrue, OnOk, OnErr, option_to_list};
+    ghost use Rattle.std.specs.Prelude.{◌≡◌, ◌++◌, [], None, false, IsTrue, OnOk, OnErr, option_to_list};
     ghost use Rattle.hsms_machine.specs.Message.{is_request, is_data_request as opens_data_transaction, is_control_request as opens_control_transaction};
     ghost use Rattle.hsms_machine.specs.Transaction.{opens, opened_by, SentData, SentControl, TakenData, TakenControl};
     ghost use Rattle.hsms_machine.specs.Session.{ends_session as is_end_of_session, selects as is_selection};
     ghost use Rattle.hsms_machine.specs.View.{view_of, own_open_of, next_due_of};
-    ghost use Rattle.hsms_machine.specs.Step.{view_after, pool_after, phase_after};
+    ghost use Rattle.hsms_machine.specs.Act.{event_of, entry_of};
+    ghost use Rattle.hsms_machine.specs.Step.{view_after, pool_after, phase_after, IsUntil, IsFresh};
+    ghost use Rattle.hsms_machine.specs.Ordered.{AreUntil, uses};
 
     /// The view of an empty log.
     pub fn new(alloc: Global, settings: Settings) -> View
@@ -67,103 +69,111 @@ impl View {
     }
 
     /// Takes a lawful entry in.
-    pub fn take_in(&mut self, entry: &Entry) -> Result<(), AllocError>
-        ensures ok { OnOk result (self.new ≡ view_after self.old entry.now) }
+    pub fn take_in(&mut self, time: u64, act: &Act) -> Result<(), AllocError>
+        requires fresh { IsFresh self.old act.now }
+        requires until { IsUntil time self.old }
+        ensures ok { OnOk result (self.new ≡ view_after self.old (entry_of time act.now [])) }
         ensures err { OnErr result (self.new ≡ self.old) }
-        ensures opens { OnErr result (IsTrue (opens entry.now.event)) }
+        ensures opens { OnErr result (IsTrue (opens (event_of act.now []))) }
     {
-        self.take_transactions_in(entry)?;
-        self.phase = Self::next_phase(self.phase, &entry.event);
-        if matches!(entry.event, Event::Up) {
-            self.up_time = entry.time;
+        self.take_transactions_in(time, act)?;
+        self.phase = Self::next_phase(self.phase, act);
+        if matches!(act, Act::Up) {
+            self.up_time = time;
         }
-        self.last_time = entry.time;
+        self.last_time = time;
         Ok(())
     }
 
-    fn take_transactions_in(&mut self, entry: &Entry) -> Result<(), AllocError>
+    fn take_transactions_in(&mut self, time: u64, act: &Act) -> Result<(), AllocError>
+        requires fresh { IsFresh self.old act.now }
+        requires until { IsUntil time self.old }
         ensures ok { OnOk result (self.new ≡ record self.old {
-          sent_data = pool_after SentData self.old.sent_data entry.now;
-          sent_control = pool_after SentControl self.old.sent_control entry.now;
-          taken_data = pool_after TakenData self.old.taken_data entry.now;
-          taken_control = pool_after TakenControl self.old.taken_control entry.now;
+          sent_data = pool_after SentData self.old.sent_data (entry_of time act.now []);
+          sent_control = pool_after SentControl self.old.sent_control (entry_of time act.now []);
+          taken_data = pool_after TakenData self.old.taken_data (entry_of time act.now []);
+          taken_control = pool_after TakenControl self.old.taken_control (entry_of time act.now []);
         }) }
         ensures err { OnErr result (self.new ≡ self.old) }
-        ensures opens { OnErr result (IsTrue (opens entry.now.event)) }
+        ensures opens { OnErr result (IsTrue (opens (event_of act.now []))) }
     {
-        match &entry.event {
-            Event::Sent(frame) => {
-                let opened = Transaction {
-                    time: entry.time,
-                    header: frame.header,
-                };
-                Self::open_in(&mut self.sent_data, &mut self.sent_control, opened)?;
-                self.taken_data.remove_concluded(frame.header);
-                self.taken_control.remove_concluded(frame.header);
+        match act {
+            Act::Sent(message) => {
+                Self::open_in(&mut self.sent_data, &mut self.sent_control, time, *message)?;
+                self.taken_data.remove_concluded(*message);
+                self.taken_control.remove_concluded(*message);
             }
-            Event::Taken(frame) => {
-                let opened = Transaction {
-                    time: entry.time,
-                    header: frame.header,
-                };
-                Self::open_in(&mut self.taken_data, &mut self.taken_control, opened)?;
-                self.sent_data.remove_concluded(frame.header);
-                self.sent_control.remove_concluded(frame.header);
+            Act::Taken(message) => {
+                Self::open_in(
+                    &mut self.taken_data,
+                    &mut self.taken_control,
+                    time,
+                    *message,
+                )?;
+                self.sent_data.remove_concluded(*message);
+                self.sent_control.remove_concluded(*message);
             }
-            Event::T3(system) => self.sent_data.remove_system(*system),
+            Act::T3(system) => self.sent_data.remove_system(*system),
             _ => {}
         }
         Ok(())
     }
 
-    /// Puts the transaction that the header opens, if it opens one, at the end of its list.
+    /// Puts the transaction that the message opens, if it opens one, at the end of its list.
     fn open_in(
         primaries: &mut Transactions,
         requests: &mut Transactions,
-        opened: Transaction,
+        time: u64,
+        message: Message,
     ) -> Result<(), AllocError>
-        ensures data { OnOk result (primaries.new ≡ primaries.old ++ option_to_list (opened_by opens_data_transaction opened.time opened.header)) }
-        ensures control { OnOk result (requests.new ≡ requests.old ++ option_to_list (opened_by opens_control_transaction opened.time opened.header)) }
+        requires fresh { IsTrue (is_request message) → (uses message.system primaries.old ≡ false) × (uses message.system requests.old ≡ false) }
+        requires later { AreUntil time primaries.old × AreUntil time requests.old }
+        ensures data { OnOk result (primaries.new ≡ primaries.old ++ option_to_list (opened_by opens_data_transaction time message)) }
+        ensures control { OnOk result (requests.new ≡ requests.old ++ option_to_list (opened_by opens_control_transaction time message)) }
         ensures err { OnErr result ((primaries.new ≡ primaries.old) × (requests.new ≡ requests.old)) }
-        ensures opens { OnErr result (IsTrue (is_request opened.header)) }
+        ensures opens { OnErr result (IsTrue (is_request message)) }
     {
-        if is_data_request(opened.header) {
+        let opened = Transaction {
+            time,
+            header: message.header(),
+        };
+        if is_data_request(message) {
             primaries.push(opened)?;
-        } else if is_control_request(opened.header) {
+        } else if is_control_request(message) {
             requests.push(opened)?;
         }
         Ok(())
     }
 
-    fn next_phase(phase: Phase, event: &Event) -> Phase
-        ensures { result ≡ phase_after phase event.now }
+    fn next_phase(phase: Phase, act: &Act) -> Phase
+        ensures { result ≡ phase_after phase (event_of act.now []) }
     {
-        if phase == Phase::Gone || matches!(event, Event::Down) {
+        if phase == Phase::Gone || matches!(act, Act::Down) {
             Phase::Gone
-        } else if phase == Phase::Over || Self::ends_session(event) {
+        } else if phase == Phase::Over || Self::ends_session(act) {
             Phase::Over
-        } else if phase == Phase::Selected || Self::selects(event) {
+        } else if phase == Phase::Selected || Self::selects(act) {
             Phase::Selected
         } else {
             Phase::NotSelected
         }
     }
 
-    fn ends_session(event: &Event) -> bool
-        ensures { result ≡ is_end_of_session event.now }
+    fn ends_session(act: &Act) -> bool
+        ensures { result ≡ is_end_of_session (event_of act.now []) }
     {
-        match event {
-            Event::Sent(frame) | Event::Taken(frame) => separates(frame.header),
-            Event::Cut(_) => true,
+        match act {
+            Act::Sent(message) | Act::Taken(message) => separates(*message),
+            Act::Cut(_) => true,
             _ => false,
         }
     }
 
-    fn selects(event: &Event) -> bool
-        ensures { result ≡ is_selection event.now }
+    fn selects(act: &Act) -> bool
+        ensures { result ≡ is_selection (event_of act.now []) }
     {
-        match event {
-            Event::Sent(frame) | Event::Taken(frame) => establishes(frame.header),
+        match act {
+            Act::Sent(message) | Act::Taken(message) => establishes(*message),
             _ => false,
         }
     }

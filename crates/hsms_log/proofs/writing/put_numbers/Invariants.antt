@@ -7,5 +7,5 @@ use Rattle.hsms_log.proofs.writing.put_numbers.Given as goal
 -- the numbers that were passed are written
 abbrev pub invariant-loop-number : goal.invariant-loop-number
 invariant-loop-number g l =
-    Grows (g.W.Sink.written l.initial.sink) (g.W.Sink.written l.sink) (flat_map spaced (take l.number-index l.numbers))
-    × (g.W.Sink.failures l.sink ≡ g.W.Sink.failures l.initial.sink)
+    Grows (g.W.Sink.state l.initial.sink).written (g.W.Sink.state l.sink).written (flat_map spaced (take l.number-index l.numbers))
+    × ((g.W.Sink.state l.sink).failures ≡ (g.W.Sink.state l.initial.sink).failures)

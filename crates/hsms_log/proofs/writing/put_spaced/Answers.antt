@@ -7,13 +7,11 @@ use Rattle.hsms_log.proofs.writing.put_spaced.Goals as goal
 
 pub returns-in_err-put-clause-written : goal.returns-in_err-put-clause-written
 returns-in_err-put-clause-written g c =
-    let written = g.W.Sink.written in
     let p = err_from_is_err_and c.from_residual.result c.from_residual.ensures.1 in
-    puts_err c.from_residual.result p.0 (written c.args.sink.now) (written c.put.new.sink) (spaced c.args.number) p.1
-    (front_of_first (written c.args.sink.now) (written c.put.new.sink) (32 ∷ []) (decimal c.args.number) c.in_err-put.ensures.written)
+    puts_err c.from_residual.result p.0 (g.W.Sink.state c.args.sink.now).written (g.W.Sink.state c.put.new.sink).written (spaced c.args.number) p.1
+    (front_of_first (g.W.Sink.state c.args.sink.now).written (g.W.Sink.state c.put.new.sink).written (32 ∷ []) (decimal c.args.number) c.in_err-put.ensures.written)
 
 pub returns-clause-written : goal.returns-clause-written
 returns-clause-written g c =
-    let written = g.W.Sink.written in
-    puts_then c.put_number.result (written c.args.sink.now) (written c.put.new.sink) (written c.put_number.new.sink) (32 ∷ []) (decimal c.args.number)
+    puts_then c.put_number.result (g.W.Sink.state c.args.sink.now).written (g.W.Sink.state c.put.new.sink).written (g.W.Sink.state c.put_number.new.sink).written (32 ∷ []) (decimal c.args.number)
     c.in_ok-put.ensures.written c.put_number.ensures.written

@@ -1,35 +1,37 @@
-use Rattle.std.proofs.Common.{◌≡◌, true, None, is_none, rules}
-use Rattle.hsms_machine.specs.Run.{Broken}
-use Rattle.hsms_machine.specs.View.{ForEachRun}
-use Rattle.hsms_machine.proofs.Runs.{told_for_each, after_for_each, kept_run, stepped_run, lawful_none, on_err}
+use Rattle.std.proofs.Common.{None, IsTrue, IfOk, OnErr, ◌≡◌, subst}
+use Rattle.hsms_machine.specs.declared.entry.Entry.{Entry}
+use Rattle.hsms_machine.specs.Transaction.{opens}
+use Rattle.hsms_machine.specs.View.{IsBrokenAfter, LeadsTo}
+use Rattle.hsms_machine.specs.Step.{IsBrokenAt, view_after}
+use Rattle.hsms_machine.proofs.Parts.{both}
 use Rattle.hsms_machine.proofs.tracker.Tracker.step.Goals as goal
 
-pub invariant_of-self : goal.invariant_of-self
-invariant_of-self c =
-    let none : is_none c.first_broken-broken.result ≡ true = search rules in
-    stepped_run c.self.inside.view c.take_in.new.self c.args.entry.now
-    (lawful_none c.self.inside.view c.args.entry.now c.first_broken-broken.result none c.first_broken-broken.ensures) c.in_ok-take_in.ensures.ok c.self.invariant
+pub returns-clause-answer : goal.returns-clause-answer
+returns-clause-answer c =
+    subst (λ (x : Entry). IfOk c.judge.result (λ answer. IsBrokenAfter c.args.self.now x answer))
+    (both c.args.entry.now c.of-act.result c.text_of.result.now c.of-act.ensures c.text_of.ensures) c.judge.ensures.answer
 
-pub invariant_of-self-in_err-take_in : goal.invariant_of-self-in_err-take_in
-invariant_of-self-in_err-take_in c = kept_run c.self.inside.view c.take_in.new.self c.in_err-take_in.ensures.err c.self.invariant
+pub returns-clause-told : goal.returns-clause-told
+returns-clause-told c =
+    subst (λ (x : Entry). IfOk c.judge.result (λ answer. IsBrokenAt c.args.self.now x answer))
+    (both c.args.entry.now c.of-act.result c.text_of.result.now c.of-act.ensures c.text_of.ensures) c.judge.ensures.told
 
-pub returns-in_err-take_in-clause-err_lawful : goal.returns-in_err-take_in-clause-err_lawful
-returns-in_err-take_in-clause-err_lawful c =
-    let none : is_none c.first_broken-broken.result ≡ true = search rules in
-    on_err (ForEachRun c.args.self.now (λ log. Broken c.args.self.now.settings log c.args.entry.now None)) c.from_residual.result
-    (told_for_each c.self.inside.view c.args.self.now c.self.view_is c.args.entry.now None
-    (lawful_none c.self.inside.view c.args.entry.now c.first_broken-broken.result none c.first_broken-broken.ensures))
+pub returns-clause-lawful : goal.returns-clause-lawful
+returns-clause-lawful c =
+    subst (λ (x : Entry). IfOk c.judge.result (λ answer. answer ≡ None → LeadsTo c.args.self.now x c.judge.new.self))
+    (both c.args.entry.now c.of-act.result c.text_of.result.now c.of-act.ensures c.text_of.ensures) c.judge.ensures.lawful
 
-pub returns-in_ok-take_in-clause-answer : goal.returns-in_ok-take_in-clause-answer
-returns-in_ok-take_in-clause-answer c =
-    told_for_each c.self.inside.view c.args.self.now c.self.view_is c.args.entry.now c.first_broken-broken.result c.first_broken-broken.ensures
+pub returns-clause-next : goal.returns-clause-next
+returns-clause-next c =
+    subst (λ (x : Entry). IfOk c.judge.result (λ answer. answer ≡ None → c.judge.new.self ≡ view_after c.args.self.now x))
+    (both c.args.entry.now c.of-act.result c.text_of.result.now c.of-act.ensures c.text_of.ensures) c.judge.ensures.next
 
-pub returns-in_ok-take_in-clause-lawful : goal.returns-in_ok-take_in-clause-lawful
-returns-in_ok-take_in-clause-lawful c =
-    let none : is_none c.first_broken-broken.result ≡ true = search rules in
-    λ e. after_for_each c.self.inside.view c.args.self.now c.take_in.new.self c.self.view_is c.args.entry.now
-    (lawful_none c.self.inside.view c.args.entry.now c.first_broken-broken.result none c.first_broken-broken.ensures) c.in_ok-take_in.ensures.ok
+pub returns-clause-err_lawful : goal.returns-clause-err_lawful
+returns-clause-err_lawful c =
+    subst (λ (x : Entry). OnErr c.judge.result (IsBrokenAfter c.args.self.now x None))
+    (both c.args.entry.now c.of-act.result c.text_of.result.now c.of-act.ensures c.text_of.ensures) c.judge.ensures.err_lawful
 
-pub returns-else-is_none-clause-answer : goal.returns-else-is_none-clause-answer
-returns-else-is_none-clause-answer c =
-    told_for_each c.self.inside.view c.args.self.now c.self.view_is c.args.entry.now c.first_broken-broken.result c.first_broken-broken.ensures
+pub returns-clause-err_opens : goal.returns-clause-err_opens
+returns-clause-err_opens c =
+    subst (λ (x : Entry). OnErr c.judge.result (IsTrue (opens x.event)))
+    (both c.args.entry.now c.of-act.result c.text_of.result.now c.of-act.ensures c.text_of.ensures) c.judge.ensures.err_opens

@@ -6,6 +6,6 @@ use Rattle.hsms_machine.proofs.view.View.open_in.Goals as goal
 
 pub returns-in_ok-push-clause-control : goal.returns-in_ok-push-clause-control
 returns-in_ok-push-clause-control c =
-    let opens : is_data_request c.args.opened.header ≡ true = cc in
-    let other : is_control_request c.args.opened.header ≡ false = data_not_control c.args.opened.header opens in
+    let opens : is_data_request c.args.message ≡ true = cc in
+    let other : is_control_request c.args.message ≡ false = data_not_control c.args.message opens in
     rw other (sym (append-nil _))

@@ -1,0 +1,136 @@
+//! A text that is read in pieces, and judged line by line.
+
+ghost use Rattle.std.specs.Prelude.{◌-◌, ◌<◌, ◌^◌, ◌++◌, List, ℕ, IfOk};
+ghost use Rattle.hsms_log.specs.Lines.{last_lines};
+ghost use Rattle.hsms_log.specs.Verdict.{LinesJudged};
+ghost use Rattle.hsms_log.specs.Judging.{Follows};
+
+use crate::judging::Judge;
+use crate::line::{is_overlong, split_at_first, without_carriage_return};
+use crate::verdict::{Verdict, Why};
+use std::alloc::{AllocError, Global};
+use std::marker::Model;
+
+/// What is known of a text that was read in pieces: the judge stands after its lines that have ended, and of the line
+/// that may go on the octets are held, at most one more than the line's limit.
+#[derive(Drop)]
+pub struct LineReader {
+    judge: Judge,
+    held: Vec<u8>,
+}
+
+impl Model for LineReader {
+    ghost use Rattle.std.specs.Prelude.{◌≤◌, ◌+◌, length};
+    ghost use Rattle.hsms_log.specs.LineReader.{Reading};
+    ghost use Rattle.hsms_log.specs.Judging.{limit_after};
+
+    ghost Value = { Reading };
+
+    ghost view = { λ r. record { judge = r.judge; held = r.held.items } };
+
+    ghost invariant = { λ r. length r.held.items ≤ limit_after r.judge.session + 1 };
+}
+
+impl LineReader {
+    ghost use Rattle.std.specs.Prelude.{◌≡◌, ◌+◌, ◌-◌, ◌<◌, ◌≤◌, ◌^◌, ◌++◌, [], ◌∷◌, List, ℕ, None, Ok, IfOk, IfSome, IsSome, length};
+    ghost use Rattle.hsms_log.specs.Lines.{HasNone, IsOverlong};
+    ghost use Rattle.hsms_log.specs.Verdict.{Judges, FailsOnward};
+    ghost use Rattle.hsms_log.specs.Judging.{limit_after};
+    ghost use Rattle.hsms_log.specs.LineReader.{Stands, FailsAs, IsFailure};
+
+    /// The reader of a text of which nothing was read.
+    pub fn new(alloc: Global) -> LineReader
+        ensures stands { Stands result [] }
+        ensures none { result.judge.tally.lines ≡ 0 }
+    {
+        LineReader {
+            judge: Judge::new(),
+            held: Vec::new(alloc),
+        }
+    }
+
+    /// Takes the next octets in, up to the first line that fails, and gives the failure. A line fails as soon as it has
+    /// ended, or is too long however it goes on.
+    pub fn take(&mut self, alloc: Global, octets: &[u8]) -> Result<Option<Verdict>, AllocError>
+        requires { self.old.judge.tally.lines + length octets.now < 2 ^ 64 - 1 }
+        ensures stands { result ≡ Ok None → (text : List ℕ) → Stands self.old text → Stands self.new (text ++ octets.now) }
+        ensures room { result ≡ Ok None → self.new.judge.tally.lines ≤ self.old.judge.tally.lines + length octets.now }
+        ensures failure { IfOk result (λ answer. IfSome answer IsFailure) }
+        ensures fails { IfOk result (λ answer. IfSome answer (λ verdict. (text : List ℕ) → Stands self.old text → FailsAs (text ++ octets.now) verdict)) }
+    {
+        let mut rest = octets;
+        while let Some((part, more)) = split_at_first(rest, b'\n') {
+            if let Some(why) = self.end_line(alloc, part)? {
+                return Ok(Some(self.judge.failure(why)));
+            }
+            rest = more;
+        }
+        if let Some(why) = self.hold(rest)? {
+            return Ok(Some(self.judge.failure(why)));
+        }
+        Ok(None)
+    }
+
+    /// Judges the line that ends with this part. Where nothing is held, it is judged where it lies.
+    fn end_line(&mut self, alloc: Global, part: &[u8]) -> Result<Option<Why>, AllocError>
+        requires room { self.old.judge.tally.lines < 2 ^ 64 - 1 }
+        requires part { HasNone 10 part.now }
+        ensures stands { result ≡ Ok None → (text : List ℕ) → Stands self.old text → Stands self.new (text ++ (part.now ++ 10 ∷ [])) }
+        ensures number { result ≡ Ok None → self.new.judge.tally.lines ≡ self.old.judge.tally.lines + 1 }
+        ensures same { IfOk result (λ answer. IsSome answer → self.new.judge.tally.lines ≡ self.old.judge.tally.lines) }
+        ensures fails { IfOk result (λ answer. IfSome answer (λ why. (text : List ℕ) → Stands self.old text
+            → FailsOnward (text ++ (part.now ++ 10 ∷ [])) (self.old.judge.tally.lines + 1) why)) }
+    {
+        if self.held.is_empty() {
+            return self.judge.line(alloc, without_carriage_return(part));
+        }
+        if let Some(why) = self.hold(part)? {
+            return Ok(Some(why));
+        }
+        let answer = self.judge.line(alloc, without_carriage_return(&self.held));
+        self.held.clear();
+        answer
+    }
+
+    /// Holds further octets of the line, unless it is then too long, however it goes on.
+    fn hold(&mut self, part: &[u8]) -> Result<Option<Why>, AllocError>
+        ensures judge { self.new.judge ≡ self.old.judge }
+        ensures held { result ≡ Ok None → self.new.held ≡ self.old.held ++ part.now }
+        ensures goes_on { result ≡ Ok None → IsOverlong (limit_after self.old.judge.session) self.new.held → ⊥ }
+        ensures overlong { IfOk result (λ answer. IfSome answer (λ why. (why ≡ Why.Unreadable)
+            × IsOverlong (limit_after self.old.judge.session) (self.old.held ++ part.now))) }
+    {
+        let limit = self.judge.line_limit();
+        if self.held.len() + part.len() > limit + 1 {
+            return Ok(Some(Why::Unreadable));
+        }
+        self.held.extend_from_slice(part)?;
+        if is_overlong(&self.held, limit) {
+            return Ok(Some(Why::Unreadable));
+        }
+        Ok(None)
+    }
+
+    /// The verdict where the text ends here.
+    pub fn finish(self, alloc: Global) -> Result<Verdict, AllocError>
+        requires { self.judge.tally.lines < 2 ^ 64 - 1 }
+        ensures { IfOk result (λ verdict. (text : List ℕ) → Stands self text → Judges text verdict) }
+    {
+        let LineReader { mut judge, held } = self;
+        judge_last(alloc, &mut judge, &held)
+    }
+}
+
+/// Judges what follows the last line feed, at the end of the text.
+fn judge_last(alloc: Global, judge: &mut Judge, rest: &[u8]) -> Result<Verdict, AllocError>
+    requires { judge.old.tally.lines < 2 ^ 64 - 1 }
+    ensures { IfOk result (λ verdict. (before : List (List ℕ)) → Follows judge.old before → LinesJudged (before ++ last_lines rest.now) verdict) }
+{
+    if rest.is_empty() {
+        return Ok(judge.verdict());
+    }
+    if let Some(why) = judge.line(alloc, without_carriage_return(rest))? {
+        return Ok(judge.failure(why));
+    }
+    Ok(judge.verdict())
+}
