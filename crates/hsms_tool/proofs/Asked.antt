@@ -141,9 +141,9 @@ asks_explained words app k (Ok (asked.Help text)) is fails (help, kind) =
     elim (fails (ap is_simple_and_free is ∙ command_is_free)) [
       | inl memory ↦ let bad : ◌≡◌ {A = ErrorKind} DisplayHelp OutOfMemory = sym kind ∙ memory in absurd cc
       | inr among ↦
-        let P : ErrorKind → Type 0 = λ x. IsAmong x (fault_of app words) in
-        let Q : App → Type 0 = λ a. IsAmong DisplayHelp (fault_of a words) in
-        subst Q is (subst P kind among)
+          let P : ErrorKind → Type 0 = λ x. IsAmong x (fault_of app words) in
+          let Q : App → Type 0 = λ a. IsAmong DisplayHelp (fault_of a words) in
+          subst Q is (subst P kind among)
     ]
 asks_explained words app k (Ok asked.Audit) is fails (help, kind) = absurd help
 asks_explained words app k (Ok (asked.Show max depth)) is fails (help, kind) = absurd help
@@ -167,9 +167,9 @@ nothing_explained words app k text (Err (Refused given)) is fails (told, (no_hel
     elim (fails (ap is_simple_and_free is ∙ command_is_free)) [
       | inl memory ↦ absurd (no_memory memory)
       | inr among ↦
-        let Q : App → Type 0 = λ a. IsAmong k (fault_of a words) in
-        let other = another_kind k (fault_of command_line words) no_help (subst Q is among) in
-        (told, (other.0, (λ request work. other.1 work.0)))
+          let Q : App → Type 0 = λ a. IsAmong k (fault_of a words) in
+          let other = another_kind k (fault_of command_line words) no_help (subst Q is among) in
+          (told, (other.0, (λ request work. other.1 work.0)))
     ]
 nothing_explained words app k text (Err (Device word)) is fails why = why
 nothing_explained words app k text (Err Memory) is fails why = tt

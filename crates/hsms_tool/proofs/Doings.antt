@@ -1,5 +1,5 @@
 -- The answers of the command to a request.
-use Rattle.std.proofs.Common.{◌≡◌, ◌≢◌, ℕ, Bool, true, List, Ok, Err, inl, inr, codes, refl, sym, ◌∙◌, ap, arith, get_or}
+use Rattle.std.proofs.Common.{◌≡◌, ◌≢◌, ℕ, Bool, true, List, Ok, Err, inl, inr, codes, refl, sym, ◌∙◌, ap, subst, arith, get_or}
 use Rattle.std.specs.Prelude.{Option, Result, IfErr, OnOk, OnErr}
 use Rattle.hsms_frame.specs.Count.{count_failure, next_count}
 use Rattle.hsms_frame.specs.Device.{SourceState, WhereTold, Grows, GrowsByFront}
@@ -43,12 +43,14 @@ encodes_all device max depth hex system r old new before after end encodes =
     (is_done r old new end, (λ input told. encodes_well device max depth hex system input r before after (encodes input told)))
 
 -- a text was printed
-pub prints : (text line : List ℕ) (r : Result (Unit {0}) ToolFault) (old new : Option (List ℕ)) → OnOk r (Grows old new text) → OnErr r (GrowsByFront old new text)
-    → IfErr r IsWrite → Prints text (well r) old new
-prints text line (Ok _) old new ok err word = (refl, ok)
-prints text line (Err (Refused words)) old new ok err word = absurd word
-prints text line (Err (Device given)) old new ok err word = (word, err)
-prints text line (Err Memory) old new ok err word = absurd word
+pub prints : (text octets : List ℕ) (r : Result (Unit {0}) ToolFault) (old new : Option (List ℕ)) → octets ≡ text → OnOk r (Grows old new octets)
+    → OnErr r (GrowsByFront old new octets) → IfErr r IsWrite → Prints text (well r) old new
+prints text octets (Ok _) old new is ok err word =
+    let P : List ℕ → Type 0 = λ xs. Grows old new xs in (refl, subst P is ok)
+prints text octets (Err (Refused words)) old new is ok err word = absurd word
+prints text octets (Err (Device given)) old new is ok err word =
+    let P : List ℕ → Type 0 = λ xs. GrowsByFront old new xs in (word, subst P is err)
+prints text octets (Err Memory) old new is ok err word = absurd word
 
 write_is_no_read : (given : List ℕ) → given ≡ codes "Write" → given ≢ codes "Read"
 write_is_no_read given w e = let first : ◌≡◌ {A = ℕ} 87 82 = ap (λ xs. get_or xs 0 0) (sym w ∙ e) in absurd (omega arith)

@@ -21,7 +21,7 @@ leaves max input (read.TooShort n) left reads = (take 4 input, drop 4 input, sym
 leaves max input (read.TooLong n h) left reads = (take 14 input, drop 14 input, sym (take-append-drop 14 input), reads.1)
 leaves max input read.Memory left reads = (take 14 input, drop 14 input, sym (take-append-drop 14 input), reads.1)
 leaves max input read.CutOff left reads = (input, [], sym (append-nil input), reads.3)
-leaves max input read.Read left (taken, rest, parts, is, begun) = (taken, rest, parts, is)
+leaves max input read.Read left (taken, rest, parts, is, fine, begun) = (taken, rest, parts, is)
 
 -- a reading's fault, told by the command
 pub tells : (max : ℕ) (input : List ℕ) (fault : ReadFault) (left : Option (List ℕ)) (tool : ToolFault)
@@ -75,7 +75,7 @@ no_more max input Memory left word reads = reads
 pub read_of_input : (fault : ToolFault) → HasWord (codes "Read") fault → IsOfInput fault
 read_of_input (Refused words) word = tt
 read_of_input (Device given) word = inl word
-of_input Memory word = tt
+read_of_input Memory word = tt
 
 pub counts_as : (T U : Type 0) (word : List ℕ) (fault : ToolFault) (old new : ℕ) → CountsFailure {T = T} word (Err fault) old new
     → CountsFailure {T = U} word (Err fault) old new
@@ -124,9 +124,7 @@ grows_stay : (old mid new : Option (List ℕ)) (lines : List ℕ) → Grows old 
 grows_stay old mid new lines grows stays = λ octets told. stays (octets ++ lines) (grows octets told)
 
 grows_front : (old mid new : Option (List ℕ)) (lines line : List ℕ) → Grows old mid lines → GrowsByFront mid new line → GrowsThenByFront old new lines line
-grows_front old mid new lines line grows front = λ octets told.
-    let f = front (octets ++ lines) (grows octets told) in
-    (f.0, f.1, f.2 ∙ ap Some (append_assoc octets lines (take f.0 line)))
+grows_front old mid new lines line grows front = λ octets told. front (octets ++ lines) (grows octets told)
 
 -- ---- the run
 

@@ -37,8 +37,8 @@ AuditsTo input (Err (Device word)) left ended old new =
     × GrowsByFront old new (verdict_line_of verdict))
 AuditsTo input (Err Memory) left ended old new = Stays old new
 
--- What an audit does to the counts of its source, where `passed` says whether an answer is a pass: a pass found the end,
--- and Endless used all reads; each was into a slice with room, and one failed exactly where the answer says so.
+-- What an audit does to the counts of its source, where `passed` says whether an answer is a pass: a pass found the
+-- end, and Endless used all reads; each was into a slice with room, and one failed exactly where the answer says so.
 pub record CountsVerdict {T : Type 0} (passed : T → Bool) (result : Result T ToolFault) (old new : SourceState) : Type 0 where
   pub pass : IfOk result (λ answer. OnTrue (passed answer) (HasEnded old.ends new.ends))
   pub endless : IfErr result (λ fault. IsEndless fault → RisesBy old.pulls new.pulls 4294967295 × (new.ends ≡ old.ends))

@@ -22,8 +22,8 @@ Prints text (Err Memory) old new = ⊥
 abbrev pub IsDone : Result Bool ToolFault → SourceState → SourceState → Type 0
 IsDone result old new = IfOk result (λ well. (well ≡ true) × HasEnded old.ends new.ends)
 
--- What is done for a request, with the states of input and output before and now: help is printed; messages are shown, or
--- encoded; a log is audited, and all is well where it passes.
+-- What is done for a request, with the states of input and output before and now: help is printed; messages are shown,
+-- or encoded; a log is audited, and all is well where it passes.
 abbrev pub Performs : Request → Result Bool ToolFault → SourceState → SourceState → SinkState → SinkState → Type 0
 Performs (asked.Help text) result old new before after = Prints (string_bytes text) result before.written after.written
 Performs (asked.Show max depth) result old new before after =

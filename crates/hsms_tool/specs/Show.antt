@@ -57,8 +57,8 @@ StopsBy max depth count rest lines word left old new =
     ⊎ ((word ≡ codes "Endless") × (count ≡ 4294967295) × (f : Frame) × (after : List ℕ) × Begins max rest f after
     × LeavesPart after left × Grows old new lines)
 
--- The answers, where so many messages were shown, rest is what follows them in the input, and lines are theirs: each with
--- what is left of the input, and with what was written before and is now.
+-- The answers, where so many messages were shown, rest is what follows them in the input, and lines are theirs: each
+-- with what is left of the input, and with what was written before and is now.
 abbrev pub Stops : {T : Type 0} → ℕ → ℕ → ℕ → List ℕ → List ℕ → Result T ToolFault → Option (List ℕ) → Option (List ℕ)
     → Option (List ℕ) → Type 0
 Stops max depth count rest lines (Ok _) left old new = (rest ≡ []) × (left ≡ Some []) × Grows old new lines

@@ -38,9 +38,7 @@ pub fn perform<R: Source, W: Sink>(
             max,
             depth,
             hex,
-        } => well(encode_all(
-            alloc, source, sink, device, system, max, depth, hex,
-        )),
+        } => well(encode_all(alloc, source, sink, device, system, max, depth, hex)),
     }
 }
 

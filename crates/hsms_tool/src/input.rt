@@ -19,7 +19,8 @@ pub fn read_whole<R: Source>(
     limit: usize,
 ) -> Result<Vec<u8>, ToolFault>
     ensures ok { IfOk result (λ octets. WhereTold (R.state source.old).left (IsWholeInput limit octets.items)) }
-    ensures err { IfErr result (λ fault. WhereTold (R.state source.old).left (λ input. IsPartOfInput limit input fault)) }
+    ensures err { IfErr result (λ fault. WhereTold (R.state source.old).left
+        (λ input. IsPartOfInput limit input fault)) }
     ensures word { IfErr result (HasWord (codes "Read")) }
     ensures end { OnOk result ((R.state source.new).ends ≡ next_count (R.state source.old).ends) }
     ensures reads { CountsFailure (codes "Read") result (R.state source.old).failures (R.state source.new).failures }

@@ -91,7 +91,8 @@ fn asked_by(alloc: Global, name: &str, options: &ArgMatches<'_>) -> Result<Reque
 fn asked_to_show(options: &ArgMatches<'_>) -> Option<Request>
     ensures asks { IfSome result (AsksFor (codes "show") (rows_of (found_of options.now))) }
     ensures limits { IfSome result IsWithinLimits }
-    ensures none { result ≡ None → (request : Request) → AsksFor (codes "show") (rows_of (found_of options.now)) request → ⊥ }
+    ensures none { result ≡ None → (request : Request)
+        → AsksFor (codes "show") (rows_of (found_of options.now)) request → ⊥ }
 {
     let max = max_of(options)?;
     let depth = depth_of(options)?;
@@ -101,7 +102,8 @@ fn asked_to_show(options: &ArgMatches<'_>) -> Option<Request>
 fn asked_to_encode(options: &ArgMatches<'_>) -> Option<Request>
     ensures asks { IfSome result (AsksFor (codes "encode") (rows_of (found_of options.now))) }
     ensures limits { IfSome result IsWithinLimits }
-    ensures none { result ≡ None → (request : Request) → AsksFor (codes "encode") (rows_of (found_of options.now)) request → ⊥ }
+    ensures none { result ≡ None → (request : Request)
+        → AsksFor (codes "encode") (rows_of (found_of options.now)) request → ⊥ }
 {
     let device = device_of(options)?;
     let system = system_of(options)?;
@@ -156,10 +158,10 @@ fn number_of(
 ) -> Option<u32>
     requires { (least ≤ left_out) × (left_out ≤ greatest) }
     ensures value { result ≡ number_in (record {
-        name = name.now;
-        least = least;
-        greatest = greatest;
-        left_out = left_out;
+      name = name.now;
+      least = least;
+      greatest = greatest;
+      left_out = left_out;
     }) (rows_of (found_of options.now)) }
     ensures within { IfSome result (λ number. (least ≤ number) × (number ≤ greatest)) }
 {

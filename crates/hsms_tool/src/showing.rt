@@ -53,11 +53,10 @@ fn find_end<R: Source>(alloc: Global, source: &mut R, max: u32) -> Result<(), To
     ensures word { IfErr result IsOfInput }
     ensures reads { CountsFailure (codes "Read") result (R.state source.old).failures (R.state source.new).failures }
 {
-    match next_frame(alloc, source, max) {
-        Ok(None) => Ok(()),
-        Ok(Some(_)) => Err(ToolFault::Device("Endless")),
-        Err(fault) => Err(fault),
-    }
+    let Some(_) = next_frame(alloc, source, max)? else {
+        return Ok(());
+    };
+    Err(ToolFault::Device("Endless"))
 }
 
 // Shows one message, if there is one.
@@ -90,7 +89,8 @@ fn next_frame<R: Source>(
     source: &mut R,
     max: u32,
 ) -> Result<Option<Frame>, ToolFault>
-    ensures frame { WhereTold (R.state source.old).left (λ input. ReadsNext max input result (R.state source.new).left) }
+    ensures frame { WhereTold (R.state source.old).left
+        (λ input. ReadsNext max input result (R.state source.new).left) }
     ensures end { IfOk result (λ frame. (R.state source.new).ends
         ≡ (if is_some frame then (R.state source.old).ends else next_count (R.state source.old).ends)) }
     ensures word { IfErr result (HasWord (codes "Read")) }

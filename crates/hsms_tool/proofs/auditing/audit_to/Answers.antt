@@ -1,5 +1,5 @@
 use Rattle.std.proofs.lemmas.Result.{err_from_is_err_and}
-use Rattle.hsms_tool.proofs.Audits.{answers_written, counts_unjudged, counts_unlined, counts_unwritten, counts_written, stops_unjudged, stops_unwritten}
+use Rattle.hsms_tool.proofs.Audits.{counts_unjudged, counts_unlined, counts_unwritten, stops_unjudged, stops_unwritten}
 use Rattle.hsms_tool.proofs.Devices.{of_reading, of_write, wider}
 use Rattle.hsms_tool.proofs.auditing.audit_to.Goals as goal
 
@@ -14,7 +14,9 @@ returns-in_err-verdict-clause-counts g c =
     rw (p.1, p.2) (counts_unjudged _ _ _ c.in_err-verdict.ensures.counts)
 
 pub returns-in_err-line-clause-counts : goal.returns-in_err-line-clause-counts
-returns-in_err-line-clause-counts g c = ?
+returns-in_err-line-clause-counts g c =
+    let p = err_from_is_err_and c.from_residual-in_err-line.result c.from_residual-in_err-line.ensures.1 in
+    rw (p.1, p.2) (counts_unlined _ _ _ c.in_ok-verdict.ensures.counts)
 
 pub returns-in_err-put-clause-line : goal.returns-in_err-put-clause-line
 returns-in_err-put-clause-line g c = λ input told.
@@ -26,12 +28,6 @@ pub returns-in_err-put-clause-counts : goal.returns-in_err-put-clause-counts
 returns-in_err-put-clause-counts g c =
     let p = err_from_is_err_and c.from_residual-in_err-put.result c.from_residual-in_err-put.ensures.1 in
     rw (p.1, p.2) (counts_unwritten _ _ _ _ c.in_ok-verdict.ensures.counts c.in_err-put.ensures.word)
-
-pub returns-clause-line : goal.returns-clause-line
-returns-clause-line g c = ?
-
-pub returns-clause-counts : goal.returns-clause-counts
-returns-clause-counts g c = ?
 
 pub returns-in_err-verdict-clause-word : goal.returns-in_err-verdict-clause-word
 returns-in_err-verdict-clause-word g c =

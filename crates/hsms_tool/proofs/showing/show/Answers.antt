@@ -38,4 +38,4 @@ pub returns-clause-word : goal.returns-clause-word
 returns-clause-word g c = of_input _ c.find_end.ensures.word
 
 pub returns-clause-writes : goal.returns-clause-writes
-returns-clause-writes g c = ?
+returns-clause-writes g c = rw c.loop.invariant.3 (input_is_no_write _ _ _ c.find_end.ensures.word)
