@@ -1,49 +1,175 @@
--- What the options of a subcommand say.
-use Rattle.std.proofs.Common.{◌≡◌, ◌<◌, ◌^◌, ℕ, List, Some, None, Ok, Err, refl, sym, subst, codes}
-use Rattle.std.specs.Prelude.{Option, Result, IfOk, decimal, option_map, unwrap_or}
-use Rattle.std.specs.Str.Parse.{ParsesUnsigned}
-use Rattle.std.proofs.lemmas.Fmt.{parse-decimal}
-use Rattle.clap.specs.Words.{ReadsOne, one_text, rows_of, subcommand_name_of, subcommand_rows_of}
+-- What the words of a command line ask for.
+use Rattle.std.proofs.Common.{◌≡◌, ◌≢◌, ◌<◌, ◌≤◌, ◌^◌, ◌&&◌, ◌⊎◌, ℕ, Bool, true, false, List, [], ◌∷◌, Some, None, Ok, Err, refl, sym, ◌∙◌, ap, subst, inl, inr, codes, arith}
+use Rattle.std.specs.Prelude.{Option, Result, IfOk, IfErr, if◌then◌else◌, nat_le}
+use Rattle.std.specs.Str.Parse.{ParsesUnsigned, digits_value, without_leading_plus}
+use Rattle.std.proofs.lemmas.Bool.Decides.{nat_tests}
+use Rattle.clap.proofs.OnLiterals.{clap_on_literals}
+use Rattle.clap.proofs.ValueTestLemmas.{accepts-Accepts, Accepts-accepts}
+use Rattle.clap.proofs.WalkLemmas.{one_text-rows}
+use Rattle.clap.specs.ValueTests.{is_unsigned_in}
+use Rattle.clap.specs.Words.{App, HasMatchesOf, IsAmong, Kinds, Row, Text, TriesOne, fault_of, is_simple, is_simple_and_free, one_of, one_text, rows_of, subcommand_of, subcommand_rows_of}
+use Rattle.clap.specs.declared.builder.value_parser.ValueParser.TheVariants.{Unsigned}
+use Rattle.clap.specs.declared.error.kind.ErrorKind.{ErrorKind}
+use Rattle.clap.specs.declared.error.kind.ErrorKind.TheVariants.{DisplayHelp, OutOfMemory}
 use Rattle.clap.specs.declared.parser.matches.ArgMatches.{ArgMatches}
 use Rattle.clap.specs.declared.parser.matches.Found.{Found}
 use Rattle.hsms_tool.specs.declared.fault.ToolFault.{ToolFault}
+use Rattle.hsms_tool.specs.declared.fault.ToolFault.TheVariants.{Refused, Device, Memory}
 use Rattle.hsms_tool.specs.declared.options.Request.{Request}
 use Rattle.hsms_tool.specs.declared.options.Request.TheVariants as asked
-use Rattle.hsms_tool.specs.Options.{Asks, AsksFor, AsksToEncode, IsNumber}
+use Rattle.hsms_tool.specs.Options.{AsksBy, IsFlag, IsHelp, Number, Spells, SpellsNothing, SpellsWork, command_line, number_between, number_in}
+use Rattle.hsms_tool.specs.Status.{IsRefusedFor}
 
--- the text of a number is read as that number
-read_number : {E : Type 0} (gives : List ℕ → Result ℕ E → Type 0) (bits default n : ℕ) (r : Option ℕ)
-    → ((t : List ℕ) (x : Result ℕ E) → gives t x → ParsesUnsigned bits 10 t x) → n < 2 ^ bits → n < 2 ^ 64
-    → ReadsOne gives (decimal n) r → unwrap_or r default ≡ n
-read_number {E} gives bits default n (Some v) parses below wide given =
-    let same : ◌≡◌ {A = Result ℕ E} (Ok v) (Ok n) = parse-decimal bits n (decimal n) (Ok v) below wide refl (parses (decimal n) (Ok v) given) in cc
-read_number {E} gives bits default n None parses below wide (e, given) =
-    let same : ◌≡◌ {A = Result ℕ E} (Err e) (Ok n) = parse-decimal bits n (decimal n) (Err e) below wide refl (parses (decimal n) (Err e) given) in
-    absurd cc
+-- ---- numbers and flags
 
-pub number_given : {E : Type 0} (gives : List ℕ → Result ℕ E → Type 0) (bits default : ℕ) (name : List ℕ) (found : Found) (r : Option ℕ)
-    → ((t : List ℕ) (x : Result ℕ E) → gives t x → ParsesUnsigned bits 10 t x) → ((n : ℕ) → n < 2 ^ bits → n < 2 ^ 64)
-    → (one_text found name ≡ None → r ≡ None) → ((t : List ℕ) → one_text found name ≡ Some t → ReadsOne gives t r)
-    → IsNumber bits name default found (unwrap_or r default)
-number_given gives bits default name found r parses wide none value = (
-  (λ missing. rw (none missing) refl),
-  (λ n below told. read_number gives bits default n r parses below (wide n below) (value (decimal n) told)),
+-- what is made of the number that was read
+abbrev pub made_of : {E : Type 0} → Number → Result (Option ℕ) E → Option ℕ
+made_of n (Ok (Some v)) = if nat_le n.least v && nat_le v n.greatest then Some v else None
+made_of n (Ok None) = Some n.left_out
+made_of n (Err e) = None
+
+-- a text that spells a number
+spelled : (least greatest v : ℕ) (t : Text) (b : Bool) → is_unsigned_in least greatest t ≡ b
+    → ParsesUnsigned {E = ℕ} 32 10 t (Ok v)
+    → (if nat_le least v && nat_le v greatest then Some v else None) ≡ (if b then Some (digits_value 10 (without_leading_plus t)) else None)
+spelled least greatest v t true is parses =
+    let a = accepts-Accepts false (Unsigned least greatest) t is in
+    grind (arith, nat_tests, a.2, parses.1)
+spelled least greatest v t false is parses = go (nat_le least v && nat_le v greatest) refl
+  where
+    go : (c : Bool) → (nat_le least v && nat_le v greatest) ≡ c → (if c then Some v else None) ≡ None
+    go false tests = refl
+    go true tests =
+        let low : least ≤ digits_value 10 (without_leading_plus t) = grind (arith, nat_tests, tests, parses.1) in
+        let high : digits_value 10 (without_leading_plus t) ≤ greatest = grind (arith, nat_tests, tests, parses.1) in
+        let yes : is_unsigned_in least greatest t ≡ true =
+        Accepts-accepts false (Unsigned least greatest) t (parses.0.0, omega (arith, parses.0.1), low, high) in
+        absurd cc
+
+-- a text that doesn't
+unspelled : {E : Type 0} (e : E) (least greatest : ℕ) (t : Text) (b : Bool) → is_unsigned_in least greatest t ≡ b → greatest < 2 ^ 32
+    → ParsesUnsigned {E = E} 32 10 t (Err e) → ◌≡◌ {A = Option ℕ} None (if b then Some (digits_value 10 (without_leading_plus t)) else None)
+unspelled e least greatest t false is few parses = refl
+unspelled e least greatest t true is few parses =
+    let a = accepts-Accepts false (Unsigned least greatest) t is in
+    absurd (parses (a.0, omega (arith, a.3, few)))
+
+tried : {E : Type 0} (gives : List ℕ → Result ℕ E → Type 0) (n : Number) (t : Text) (r : Result (Option ℕ) E)
+    → ((u : List ℕ) (y : Result ℕ E) → gives u y → ParsesUnsigned 32 10 u y) → n.greatest < 2 ^ 32 → TriesOne gives t r
+    → made_of n r ≡ number_between n.least n.greatest t
+tried gives n t (Ok (Some v)) parses few given = spelled n.least n.greatest v t (is_unsigned_in n.least n.greatest t) refl (parses t (Ok v) given)
+tried gives n t (Ok None) parses few given = absurd given
+tried gives n t (Err e) parses few given = unspelled e n.least n.greatest t (is_unsigned_in n.least n.greatest t) refl few (parses t (Err e) given)
+
+-- the number of an option
+pub number_read : {E : Type 0} (gives : List ℕ → Result ℕ E → Type 0) (n : Number) (found : Found) (r : Result (Option ℕ) E)
+    → ((u : List ℕ) (y : Result ℕ E) → gives u y → ParsesUnsigned 32 10 u y) → n.greatest < 2 ^ 32
+    → (one_text found n.name ≡ None → r ≡ Ok None) → ((t : List ℕ) → one_text found n.name ≡ Some t → TriesOne gives t r)
+    → made_of n r ≡ number_in n (rows_of found)
+number_read {E} gives n found r parses few none value = go (one_of n.name (rows_of found)) (one_text-rows found n.name)
+  where
+    go : (o : Option Text) → one_text found n.name ≡ o
+        → made_of n r ≡ number_in n (rows_of found)
+    go None is = rw (none is, sym (sym is ∙ one_text-rows found n.name)) refl
+    go (Some t) is = rw (sym (sym is ∙ one_text-rows found n.name)) (tried gives n t r parses few (value t is))
+
+-- a flag
+pub flag_read : (name : Text) (found : Found) (flag : Bool) → (one_text found name ≡ None → flag ≡ false)
+    → (one_text found name ≡ Some (codes "true") → flag ≡ true) → (one_text found name ≡ Some (codes "false") → flag ≡ false)
+    → IsFlag name (rows_of found) flag
+flag_read name found flag none set unset = (
+  (λ is. none (one_text-rows found name ∙ is)),
+  (λ is. unset (one_text-rows found name ∙ is)),
+  (λ is. set (one_text-rows found name ∙ is)),
 )
 
-pub asks_for_encode : (name : List ℕ) (max depth : ℕ) (found : Found) (r : Result Request ToolFault) → name ≡ codes "encode"
-    → IsNumber 32 (codes "max") 1048576 found max → IsNumber 8 (codes "depth") 32 found depth
-    → IfOk r (AsksToEncode max depth found) → IfOk r (AsksFor name found)
-asks_for_encode name max depth found (Ok (asked.Help text)) same max_is depth_is asks = absurd asks
-asks_for_encode name max depth found (Ok asked.Audit) same max_is depth_is asks = absurd asks
-asks_for_encode name max depth found (Ok (asked.Show m d)) same max_is depth_is asks = absurd asks
-asks_for_encode name max depth found (Ok (asked.Encode device system m d hex)) same max_is depth_is (m_is, d_is, device_is, system_is, hex_is) =
-    let M : ℕ → Type 0 = λ k. IsNumber 32 (codes "max") 1048576 found k in
-    let D : ℕ → Type 0 = λ k. IsNumber 8 (codes "depth") 32 found k in
-    (same, subst M (sym m_is) max_is, subst D (sym d_is) depth_is, device_is, system_is, hex_is)
-asks_for_encode name max depth found (Err fault) same max_is depth_is asks = tt
+-- ---- the command line
 
--- the subcommand that was found has this name, and these options
-pub asks : (matches : ArgMatches) (name : List ℕ) (found : Found) (r : Result Request ToolFault) → subcommand_name_of matches ≡ Some name
-    → option_map (λ p. p.1) (subcommand_rows_of matches) ≡ Some (rows_of found) → IfOk r (AsksFor name found) → IfOk r (Asks matches)
-asks matches name found (Ok request) named rows asked = (name, found, named, rows, asked)
-asks matches name found (Err fault) named rows asked = tt
+command_is_simple : is_simple command_line ≡ true
+unfolding clap_on_literals
+command_is_simple = refl
+
+command_is_free : is_simple_and_free command_line ≡ true
+unfolding clap_on_literals
+command_is_free = refl
+
+spells : (words : List Text) (request : Request) → SpellsWork words request → Spells words request
+spells words (asked.Help text) (fine, (name, rows, entered, asks)) = absurd asks
+spells words asked.Audit work = work
+spells words (asked.Show max depth) work = work
+spells words (asked.Encode device system max depth hex) work = work
+
+-- the matches are those of the words
+pub entered_by : (words : List Text) (m : ArgMatches) (app : App) → app ≡ command_line → HasMatchesOf app words m
+    → subcommand_rows_of m ≡ subcommand_of command_line words
+entered_by words m app is has =
+    (has (ap is_simple is ∙ command_is_simple)).1 ∙ ap (λ a. subcommand_of a words) is
+
+-- the words were taken
+pub asks_parsed : (words : List Text) (m : ArgMatches) (app : App) (r : Result Request ToolFault) → app ≡ command_line → HasMatchesOf app words m
+    → (is_simple_and_free app ≡ true → fault_of app words ≡ []) → IfOk r (AsksBy (subcommand_rows_of m)) → IfOk r (Spells words)
+asks_parsed words m app (Ok request) is has fine asks =
+    let P : Option (Text × List Row) → Type 0 = λ e. AsksBy e request in
+    let F : App → Type 0 = λ a. fault_of a words ≡ [] in
+    spells words request (subst F is (fine (ap is_simple_and_free is ∙ command_is_free)), subst P (entered_by words m app is has) asks)
+asks_parsed words m app (Err fault) is has fine asks = tt
+
+pub nothing_parsed : (words : List Text) (m : ArgMatches) (app : App) (text : List ℕ) (r : Result Request ToolFault) → app ≡ command_line
+    → HasMatchesOf app words m → (is_simple_and_free app ≡ true → fault_of app words ≡ [])
+    → IfErr r (IsRefusedFor ((request : Request) → AsksBy (subcommand_rows_of m) request → ⊥) text)
+    → IfErr r (IsRefusedFor (SpellsNothing words) text)
+nothing_parsed words m app text (Ok request) is has fine why = tt
+nothing_parsed words m app text (Err (Refused given)) is has fine (told, none) =
+    let F : App → Type 0 = λ a. fault_of a words ≡ [] in
+    let no_fault : fault_of command_line words ≡ [] = subst F is (fine (ap is_simple_and_free is ∙ command_is_free)) in (
+      told,
+      (
+        (λ help. let bad : ◌≡◌ {A = Kinds} [] (DisplayHelp ∷ []) = sym no_fault ∙ help in absurd cc),
+        (λ request work.
+            let P : Option (Text × List Row) → Type 0 = λ e. AsksBy e request in
+            none request (subst P (sym (entered_by words m app is has)) work.1)),
+      ),
+    )
+nothing_parsed words m app text (Err (Device word)) is has fine why = why
+nothing_parsed words m app text (Err Memory) is has fine why = tt
+
+-- the words were refused, or call for help
+pub asks_explained : (words : List Text) (app : App) (k : ErrorKind) (r : Result Request ToolFault) → app ≡ command_line
+    → (is_simple_and_free app ≡ true → (k ≡ OutOfMemory) ⊎ IsAmong k (fault_of app words)) → IfOk r (λ request. IsHelp request × (k ≡ DisplayHelp))
+    → IfOk r (Spells words)
+asks_explained words app k (Ok (asked.Help text)) is fails (help, kind) =
+    elim (fails (ap is_simple_and_free is ∙ command_is_free)) [
+      | inl memory ↦ let bad : ◌≡◌ {A = ErrorKind} DisplayHelp OutOfMemory = sym kind ∙ memory in absurd cc
+      | inr among ↦
+          let P : ErrorKind → Type 0 = λ x. IsAmong x (fault_of app words) in
+          let Q : App → Type 0 = λ a. IsAmong DisplayHelp (fault_of a words) in
+          subst Q is (subst P kind among)
+    ]
+asks_explained words app k (Ok asked.Audit) is fails (help, kind) = absurd help
+asks_explained words app k (Ok (asked.Show max depth)) is fails (help, kind) = absurd help
+asks_explained words app k (Ok (asked.Encode device system max depth hex)) is fails (help, kind) = absurd help
+asks_explained words app k (Err fault) is fails help = tt
+
+another_kind : (k : ErrorKind) (kinds : Kinds) → k ≢ DisplayHelp → IsAmong k kinds → (kinds ≢ DisplayHelp ∷ []) × (kinds ≢ [])
+another_kind k kinds no_help among = (
+  (λ is. let P : Kinds → Type 0 = λ ks. IsAmong k ks in elim (subst P is among) [
+    | inl same ↦ no_help same
+    | inr none ↦ none
+  ]),
+  (λ is. let P : Kinds → Type 0 = λ ks. IsAmong k ks in subst P is among),
+)
+
+pub nothing_explained : (words : List Text) (app : App) (k : ErrorKind) (text : List ℕ) (r : Result Request ToolFault) → app ≡ command_line
+    → (is_simple_and_free app ≡ true → (k ≡ OutOfMemory) ⊎ IsAmong k (fault_of app words))
+    → IfErr r (IsRefusedFor ((k ≢ DisplayHelp) × (k ≢ OutOfMemory)) text) → IfErr r (IsRefusedFor (SpellsNothing words) text)
+nothing_explained words app k text (Ok request) is fails why = tt
+nothing_explained words app k text (Err (Refused given)) is fails (told, (no_help, no_memory)) =
+    elim (fails (ap is_simple_and_free is ∙ command_is_free)) [
+      | inl memory ↦ absurd (no_memory memory)
+      | inr among ↦
+          let Q : App → Type 0 = λ a. IsAmong k (fault_of a words) in
+          let other = another_kind k (fault_of command_line words) no_help (subst Q is among) in
+          (told, (other.0, (λ request work. other.1 work.0)))
+    ]
+nothing_explained words app k text (Err (Device word)) is fails why = why
+nothing_explained words app k text (Err Memory) is fails why = tt

@@ -1,9 +1,10 @@
 -- The words of a device's fault.
-use Rattle.std.proofs.Common.{◌≡◌, ℕ, Bool, List, inl, inr, codes}
+use Rattle.std.proofs.Common.{◌≡◌, ℕ, Bool, List, Ok, Err, inl, inr, codes}
+use Rattle.std.specs.Prelude.{Result, IfErr}
 use Rattle.secs_text.specs.Content.{Content}
 use Rattle.hsms_tool.specs.declared.fault.ToolFault.{ToolFault}
 use Rattle.hsms_tool.specs.declared.fault.ToolFault.TheVariants.{Refused, Device, Memory}
-use Rattle.hsms_tool.specs.Show.{HasWord, IsRead, IsReadOrWrite, IsReadWriteOrEndless, IsReading, IsWrite}
+use Rattle.hsms_tool.specs.Show.{HasWord, IsRead, IsOfInput, IsReadOrWrite, IsReadWriteOrEndless, IsReading, IsWrite}
 use Rattle.hsms_tool.specs.Encode.{AreNotEncoded, IsNotRead}
 
 pub of_read : (fault : ToolFault) → HasWord (codes "Read") fault → IsReadOrWrite fault
@@ -38,3 +39,10 @@ of_reading (Refused words) word = absurd word
 of_reading (Device given) (inl read) = inl read
 of_reading (Device given) (inr endless) = inr (inr endless)
 of_reading Memory word = tt
+
+pub of_input : (r : Result (Unit {0}) ToolFault) → IfErr r IsOfInput → IfErr r IsReadWriteOrEndless
+of_input (Ok _) word = tt
+of_input (Err (Refused words)) word = tt
+of_input (Err (Device given)) (inl read) = inl read
+of_input (Err (Device given)) (inr endless) = inr (inr endless)
+of_input (Err Memory) word = tt

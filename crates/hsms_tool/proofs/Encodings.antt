@@ -78,17 +78,16 @@ spells depth octets input ms whole noted =
     let P : List ℕ → Type 0 = λ text. Notations ms text in
     (whole.1, subst P whole.0 noted.0, noted.1)
 
-pub stops_writing : (device max depth : ℕ) (hex : Bool) (system : ℕ) (octets input before output : List ℕ) (ms : List Content) (fault : ToolFault) (old written : Option (List ℕ))
+pub stops_writing : (device max depth : ℕ) (hex : Bool) (system : ℕ) (octets input output : List ℕ) (ms : List Content) (fault : ToolFault) (old written : Option (List ℕ))
     → IsWholeInput input_limit octets input → Notations ms octets × AllWithin depth ms → Encodes device max hex system ms output → IsWrite fault
-    → GrowsByFront old written output → old ≡ Some before → EncodesAll device max depth hex system input before (Err fault) written
-stops_writing device max depth hex system octets input before output ms (Refused words) old written whole noted encoded word grows told = absurd word
-stops_writing device max depth hex system octets input before output ms (Device given) old written whole noted encoded word grows told =
-    let g = grows before told in
-    inr (word, ms, output, g.0, spells depth octets input ms whole noted, encoded, g.1, g.2)
-stops_writing device max depth hex system octets input before output ms Memory old written whole noted encoded word grows told = absurd word
+    → GrowsByFront old written output → EncodesAll {T = Unit {0}} device max depth hex system input (Err fault) old written
+stops_writing device max depth hex system octets input output ms (Refused words) old written whole noted encoded word grows = absurd word
+stops_writing device max depth hex system octets input output ms (Device given) old written whole noted encoded word grows =
+    inr (word, ms, output, spells depth octets input ms whole noted, encoded, grows)
+stops_writing device max depth hex system octets input output ms Memory old written whole noted encoded word grows = absurd word
 
-pub writes_all : (device max depth : ℕ) (hex : Bool) (system : ℕ) (octets input before output : List ℕ) (ms : List Content) (old written : Option (List ℕ))
+pub writes_all : (device max depth : ℕ) (hex : Bool) (system : ℕ) (octets input output : List ℕ) (ms : List Content) (old written : Option (List ℕ))
     → IsWholeInput input_limit octets input → Notations ms octets × AllWithin depth ms → Encodes device max hex system ms output
-    → Grows old written output → old ≡ Some before → EncodesAll device max depth hex system input before (Ok tt) written
-writes_all device max depth hex system octets input before output ms old written whole noted encoded grows told =
-    (ms, output, spells depth octets input ms whole noted, encoded, grows before told)
+    → Grows old written output → EncodesAll {T = Unit {0}} device max depth hex system input (Ok tt) old written
+writes_all device max depth hex system octets input output ms old written whole noted encoded grows =
+    (ms, output, spells depth octets input ms whole noted, encoded, grows)

@@ -1,5 +1,5 @@
 -- What `hsms encode` writes of an input.
-use Rattle.std.specs.Prelude.{◌≡◌, ◌<◌, ◌≤◌, ◌+◌, ◌%◌, ◌^◌, ◌⊎◌, ◌++◌, ℕ, zero, suc, Bool, List, [], ◌∷◌, length, take, codes, decimal, string_bytes, if◌then◌else◌, Option, Some, None, Result, Ok, Err}
+use Rattle.std.specs.Prelude.{◌≡◌, ◌<◌, ◌≤◌, ◌+◌, ◌%◌, ◌^◌, ◌⊎◌, ◌++◌, ℕ, zero, suc, Bool, List, [], ◌∷◌, length, codes, decimal, string_bytes, if◌then◌else◌, Option, Some, None, Result, Ok, Err}
 use Rattle.hex.specs.Hex.{encode_lower}
 use Rattle.secs_item.specs.Item.{Value}
 use Rattle.secs_item.specs.Short.{short}
@@ -10,6 +10,7 @@ use Rattle.secs_text.specs.Notation.{Notations}
 use Rattle.secs_text.specs.Fault.{NotesFault}
 use Rattle.hsms_frame.specs.declared.frame.Frame.{Frame}
 use Rattle.hsms_frame.specs.Build.{data_header_of}
+use Rattle.hsms_frame.specs.Device.{Stays, Grows, GrowsByFront}
 use Rattle.hsms_frame.specs.Frame.{frame_octets}
 use Rattle.hsms_tool.specs.declared.fault.ToolFault.{ToolFault}
 use Rattle.hsms_tool.specs.declared.fault.ToolFault.TheVariants.{Refused, Device, Memory}
@@ -89,18 +90,19 @@ IsRefusedInput device max depth hex system input words =
     ⊎ ((fault : TextFault) × (length input ≤ input_limit) × NotesFault input depth fault × (words ≡ text_fault_text fault))
     ⊎ ((ms : List Content) × SpellsMessages depth input ms × FirstWithoutFrame device max hex system ms words)
 
--- the answers to an input, each with what is written then
-abbrev pub EncodesAll : ℕ → ℕ → ℕ → Bool → ℕ → List ℕ → List ℕ → Result (Unit {0}) ToolFault → Option (List ℕ) → Type 0
-EncodesAll device max depth hex system input before (Ok _) written =
+-- the answers to an input, each with what was written before and is now
+abbrev pub EncodesAll : {T : Type 0} → ℕ → ℕ → ℕ → Bool → ℕ → List ℕ → Result T ToolFault → Option (List ℕ) → Option (List ℕ)
+    → Type 0
+EncodesAll device max depth hex system input (Ok _) old new =
     (ms : List Content) × (output : List ℕ) × SpellsMessages depth input ms × Encodes device max hex system ms output
-    × (written ≡ Some (before ++ output))
-EncodesAll device max depth hex system input before (Err (Refused words)) written =
-    IsRefusedInput device max depth hex system input (string_bytes words) × (written ≡ Some before)
-EncodesAll device max depth hex system input before (Err (Device word)) written =
-    ((word.now ≡ codes "Read") × (written ≡ Some before))
-    ⊎ ((word.now ≡ codes "Write") × (ms : List Content) × (output : List ℕ) × (n : ℕ) × SpellsMessages depth input ms
-    × Encodes device max hex system ms output × (n < length output) × (written ≡ Some (before ++ take n output)))
-EncodesAll device max depth hex system input before (Err Memory) written = written ≡ Some before
+    × Grows old new output
+EncodesAll device max depth hex system input (Err (Refused words)) old new =
+    IsRefusedInput device max depth hex system input (string_bytes words) × Stays old new
+EncodesAll device max depth hex system input (Err (Device word)) old new =
+    ((word.now ≡ codes "Read") × Stays old new)
+    ⊎ ((word.now ≡ codes "Write") × (ms : List Content) × (output : List ℕ) × SpellsMessages depth input ms
+    × Encodes device max hex system ms output × GrowsByFront old new output)
+EncodesAll device max depth hex system input (Err Memory) old new = Stays old new
 
 -- ---- the steps
 

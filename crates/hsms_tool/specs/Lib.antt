@@ -1,4 +1,5 @@
 pub mod Audit
+pub mod Doing
 pub mod Encode
 pub mod Line
 pub mod Options

@@ -1,11 +1,9 @@
 //! `hsms audit`: whether a log passes, as a line.
 
-ghost use Rattle.std.specs.Prelude.{◌≡◌, ◌≤◌, ◌+◌, IfOk, IfErr, codes};
-ghost use Rattle.std.specs.Bool.{OnTrue};
-ghost use Rattle.hsms_frame.specs.Count.{next_count};
+ghost use Rattle.std.specs.Prelude.{◌≡◌, IfErr, codes};
 ghost use Rattle.hsms_frame.specs.Device.{WhereTold};
-ghost use Rattle.hsms_log.specs.Auditing.{HasEnded, RisesBy};
-ghost use Rattle.hsms_tool.specs.Audit.{AuditAnswers, AuditsTo, Judged, IsEndless, TellsAudit, is_pass};
+ghost use Rattle.hsms_log.specs.Auditing.{HasEnded};
+ghost use Rattle.hsms_tool.specs.Audit.{AuditsTo, CountsVerdict, Judged, TellsAudit, is_pass};
 ghost use Rattle.hsms_tool.specs.Show.{CountsFailure, IsReadWriteOrEndless, IsReading};
 
 use crate::fault::ToolFault;
@@ -26,20 +24,12 @@ pub fn audit_to<R: Source, W: Sink>(
     source: &mut R,
     sink: &mut W,
 ) -> Result<bool, ToolFault>
-    ensures line { WhereTold (R.left source.old) (λ input. WhereTold (W.written sink.old)
-        (λ before. AuditsTo input before result (R.left source.new) (HasEnded (R.ends source.old) (R.ends source.new))
-        (W.written sink.new))) }
-    // Where the sink doesn't tell its octets, the answer is right all the same.
-    ensures answer { WhereTold (R.left source.old)
-        (λ input. AuditAnswers input result (R.left source.new) (HasEnded (R.ends source.old) (R.ends source.new))) }
-    ensures pass { IfOk result (λ passes. OnTrue passes (R.ends source.new ≡ next_count (R.ends source.old))) }
-    ensures endless { IfErr result (λ fault. IsEndless fault
-        → RisesBy (R.pulls source.old) (R.pulls source.new) 4294967295 × (R.ends source.new ≡ R.ends source.old)) }
-    ensures pulls { R.pulls source.new ≤ R.pulls source.old + 4294967295 }
-    ensures empty { R.empty_pulls source.new ≡ R.empty_pulls source.old }
+    ensures line { WhereTold (R.state source.old).left (λ input. AuditsTo input result (R.state source.new).left
+        (HasEnded (R.state source.old).ends (R.state source.new).ends)
+        (W.state sink.old).written (W.state sink.new).written) }
+    ensures counts { CountsVerdict (λ passes. passes) result (R.state source.old) (R.state source.new) }
     ensures word { IfErr result IsReadWriteOrEndless }
-    ensures reads { CountsFailure (codes "Read") result (R.failures source.old) (R.failures source.new) }
-    ensures writes { CountsFailure (codes "Write") result (W.failures sink.old) (W.failures sink.new) }
+    ensures writes { CountsFailure (codes "Write") result (W.state sink.old).failures (W.state sink.new).failures }
 {
     let verdict = judged(alloc, source)?;
     let line = verdict_line(alloc, verdict)?;
@@ -49,15 +39,10 @@ pub fn audit_to<R: Source, W: Sink>(
 
 // The verdict on a log.
 fn judged<R: Source>(alloc: Global, source: &mut R) -> Result<Verdict, ToolFault>
-    ensures answer { WhereTold (R.left source.old)
-        (λ input. Judged input result (R.left source.new) (HasEnded (R.ends source.old) (R.ends source.new))) }
-    ensures pass { IfOk result (λ verdict. OnTrue (is_pass verdict) (R.ends source.new ≡ next_count (R.ends source.old))) }
-    ensures endless { IfErr result (λ fault. IsEndless fault
-        → RisesBy (R.pulls source.old) (R.pulls source.new) 4294967295 × (R.ends source.new ≡ R.ends source.old)) }
-    ensures pulls { R.pulls source.new ≤ R.pulls source.old + 4294967295 }
-    ensures empty { R.empty_pulls source.new ≡ R.empty_pulls source.old }
+    ensures answer { WhereTold (R.state source.old).left (λ input. Judged input result (R.state source.new).left
+        (HasEnded (R.state source.old).ends (R.state source.new).ends)) }
+    ensures counts { CountsVerdict is_pass result (R.state source.old) (R.state source.new) }
     ensures word { IfErr result IsReading }
-    ensures reads { CountsFailure (codes "Read") result (R.failures source.old) (R.failures source.new) }
 {
     match audit(alloc, source) {
         Ok(verdict) => Ok(verdict),

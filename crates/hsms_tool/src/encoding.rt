@@ -44,12 +44,13 @@ pub fn encode_all<R: Source, W: Sink>(
     hex: bool,
 ) -> Result<(), ToolFault>
     requires { depth ≤ 100 }
-    ensures frames { WhereTold (R.left source.old) (λ input. WhereTold (W.written sink.old)
-        (λ before. EncodesAll device max depth hex system input before result (W.written sink.new))) }
-    ensures end { OnOk result (R.ends source.new ≡ next_count (R.ends source.old)) }
+    ensures frames { WhereTold (R.state source.old).left (λ input. EncodesAll device max depth hex system input result
+        (W.state sink.old).written (W.state sink.new).written) }
+    // Where the source doesn't tell its octets, its end was found once all the same.
+    ensures end { OnOk result ((R.state source.new).ends ≡ next_count (R.state source.old).ends) }
     ensures word { IfErr result IsReadOrWrite }
-    ensures reads { CountsFailure (codes "Read") result (R.failures source.old) (R.failures source.new) }
-    ensures writes { CountsFailure (codes "Write") result (W.failures sink.old) (W.failures sink.new) }
+    ensures reads { CountsFailure (codes "Read") result (R.state source.old).failures (R.state source.new).failures }
+    ensures writes { CountsFailure (codes "Write") result (W.state sink.old).failures (W.state sink.new).failures }
 {
     let input = read_whole(alloc, source, INPUT_LIMIT)?;
     let messages = messages_of(alloc, &input, depth)?;

@@ -18,11 +18,12 @@ pub fn read_whole<R: Source>(
     source: &mut R,
     limit: usize,
 ) -> Result<Vec<u8>, ToolFault>
-    ensures ok { IfOk result (λ octets. WhereTold (R.left source.old) (IsWholeInput limit octets.items)) }
-    ensures err { IfErr result (λ fault. WhereTold (R.left source.old) (λ input. IsPartOfInput limit input fault)) }
+    ensures ok { IfOk result (λ octets. WhereTold (R.state source.old).left (IsWholeInput limit octets.items)) }
+    ensures err { IfErr result (λ fault. WhereTold (R.state source.old).left
+        (λ input. IsPartOfInput limit input fault)) }
     ensures word { IfErr result (HasWord (codes "Read")) }
-    ensures end { OnOk result (R.ends source.new ≡ next_count (R.ends source.old)) }
-    ensures reads { CountsFailure (codes "Read") result (R.failures source.old) (R.failures source.new) }
+    ensures end { OnOk result ((R.state source.new).ends ≡ next_count (R.state source.old).ends) }
+    ensures reads { CountsFailure (codes "Read") result (R.state source.old).failures (R.state source.new).failures }
 {
     let mut octets = Vec::new(alloc);
     let mut block = vec![in alloc; 0u8; BLOCK]?;
@@ -40,11 +41,12 @@ pub fn read_whole<R: Source>(
 fn pull<R: Source>(source: &mut R, into: &mut [u8]) -> Result<usize, ToolFault>
     ensures len { length into.new ≡ length into.old }
     ensures bound { IfOk result (λ n. n ≤ length into.new) }
-    ensures octets { IfOk result (λ n. Takes (R.left source.old) (R.left source.new) n into.new) }
-    ensures end { IfOk result (λ n. n ≡ 0 → 0 < length into.new → IsAtEnd (R.left source.old)) }
-    ensures ends { IfOk result (λ n. R.ends source.new ≡ ends_after (length into.new) (Ok n) (R.ends source.old)) }
+    ensures octets { IfOk result (λ n. Takes (R.state source.old).left (R.state source.new).left n into.new) }
+    ensures end { IfOk result (λ n. n ≡ 0 → 0 < length into.new → IsAtEnd (R.state source.old).left) }
+    ensures ends { IfOk result (λ n. (R.state source.new).ends
+        ≡ ends_after (length into.new) (Ok n) (R.state source.old).ends) }
     ensures word { IfErr result IsRead }
-    ensures reads { CountsFailure (codes "Read") result (R.failures source.old) (R.failures source.new) }
+    ensures reads { CountsFailure (codes "Read") result (R.state source.old).failures (R.state source.new).failures }
 {
     match source.pull(into) {
         Ok(count) => Ok(count),

@@ -1,14 +1,17 @@
 //! The command line, which is judged before anything is read.
 
-ghost use Rattle.std.specs.Prelude.{◌≤◌, IfOk, IfErr, codes};
-ghost use Rattle.clap.specs.Words.{found_of};
-ghost use Rattle.hsms_tool.specs.Options.{Asks, AsksFor, AsksToEncode, IsHelp, IsNumber, IsWithinLimits};
-ghost use Rattle.hsms_tool.specs.Status.{IsRefusedAs};
+ghost use Rattle.std.specs.Prelude.{◌≡◌, ◌≢◌, ◌≤◌, ◌&&◌, IfOk, IfErr, IfSome, Some, None, codes, if◌then◌else◌, map, nat_le, string_bytes};
+ghost use Rattle.clap.specs.Words.{found_of, kind_of, rows_of, subcommand_rows_of};
+ghost use Rattle.clap.specs.declared.error.kind.ErrorKind.TheVariants.{DisplayHelp, OutOfMemory};
+ghost use Rattle.hsms_tool.specs.Options.{AsksBy, AsksFor, IsFlag, IsHelp, IsWithinLimits, Spells, SpellsNothing, depth_number, device_number, max_number, number_in, system_number};
+ghost use Rattle.hsms_tool.specs.Status.{IsRefusedAs, IsRefusedFor};
+ghost use Rattle.hsms_tool.specs.declared.options.Request.{Request};
 
+use crate::describing::command;
 use crate::fault::{ToolFault, refused};
 use clap::error::ErrorKind;
-use clap::{Arg, ArgAction, ArgMatches, Command, Error, value_parser};
-use std::alloc::{AllocError, Global};
+use clap::{ArgMatches, Error};
+use std::alloc::Global;
 
 /// What the user asks for.
 #[derive(Debug, Drop)]
@@ -34,18 +37,11 @@ pub enum Request {
     },
 }
 
-const DEFAULT_DEVICE: u16 = 0;
-
-const DEFAULT_SYSTEM: u32 = 1;
-
-const DEFAULT_MAX: u32 = 1048576;
-
-const DEFAULT_DEPTH: u8 = 32;
-
 /// What the words of the command line ask for, the first of which is the command's name.
 pub fn parse(alloc: Global, words: &[String]) -> Result<Request, ToolFault>
+    ensures asks { IfOk result (Spells (map string_bytes words.now)) }
     ensures limits { IfOk result IsWithinLimits }
-    ensures fault { IfErr result (IsRefusedAs (codes "command line")) }
+    ensures refusal { IfErr result (IsRefusedFor (SpellsNothing (map string_bytes words.now)) (codes "command line")) }
 {
     let command = command(alloc)?;
     match command.try_get_matches_from(words) {
@@ -61,65 +57,11 @@ pub fn no_request(alloc: Global) -> ToolFault
     refused(alloc, "command line")
 }
 
-fn command<'a>(alloc: Global) -> Result<Command<'a>, AllocError> {
-    let show = Command::new(alloc, "show")
-        .about("Shows the HSMS messages of standard input, a line each")
-        .arg(max_option(alloc))?
-        .arg(depth_option(alloc))?;
-    let audit = Command::new(alloc, "audit").about("Audits the session log of standard input");
-    Command::new(alloc, "hsms")
-        .bin_name("hsms")?
-        .about("Audits HSMS session logs, and reads and writes HSMS messages")
-        .subcommand_required(true)
-        .subcommand(show)?
-        .subcommand(audit)?
-        .subcommand(encode_command(alloc)?)
-}
-
-fn encode_command<'a>(alloc: Global) -> Result<Command<'a>, AllocError> {
-    let device = Arg::new(alloc, "device")
-        .long("device")
-        .value_name("N")
-        .help("Device, the session ID of the messages")
-        .value_parser(value_parser!(u16).range(0..=32767));
-    let system = Arg::new(alloc, "system")
-        .long("system")
-        .value_name("N")
-        .help("System bytes of the first message, from which they are counted up")
-        .value_parser(value_parser!(u32));
-    let hex = Arg::new(alloc, "hex")
-        .long("hex")
-        .help("Write each message as a line of hexadecimal")
-        .action(ArgAction::SetTrue);
-    Command::new(alloc, "encode")
-        .about("Encodes the messages of standard input, in notation, as HSMS octets")
-        .arg(device)?
-        .arg(system)?
-        .arg(max_option(alloc))?
-        .arg(depth_option(alloc))?
-        .arg(hex)
-}
-
-fn max_option<'a>(alloc: Global) -> Arg<'a> {
-    Arg::new(alloc, "max")
-        .long("max")
-        .value_name("N")
-        .help("Longest header and text of a message, in octets")
-        .value_parser(value_parser!(u32).range(256..=33554432))
-}
-
-fn depth_option<'a>(alloc: Global) -> Arg<'a> {
-    Arg::new(alloc, "depth")
-        .long("depth")
-        .value_name("N")
-        .help("Deepest nesting of lists")
-        .value_parser(value_parser!(u8).range(1..=100))
-}
-
 fn asked(alloc: Global, matches: &ArgMatches<'_>) -> Result<Request, ToolFault>
+    ensures asks { IfOk result (AsksBy (subcommand_rows_of matches.now)) }
     ensures limits { IfOk result IsWithinLimits }
-    ensures asks { IfOk result (Asks matches.now) }
-    ensures fault { IfErr result (IsRefusedAs (codes "command line")) }
+    ensures refusal { IfErr result (IsRefusedFor
+        ((request : Request) → AsksBy (subcommand_rows_of matches.now) request → ⊥) (codes "command line")) }
 {
     match matches.subcommand() {
         Some((name, options)) => asked_by(alloc, name, options),
@@ -129,43 +71,46 @@ fn asked(alloc: Global, matches: &ArgMatches<'_>) -> Result<Request, ToolFault>
 
 // What a subcommand asks for, with these options.
 fn asked_by(alloc: Global, name: &str, options: &ArgMatches<'_>) -> Result<Request, ToolFault>
+    ensures asks { IfOk result (AsksFor name.now (rows_of (found_of options.now))) }
     ensures limits { IfOk result IsWithinLimits }
-    ensures asks { IfOk result (AsksFor name.now (found_of options.now)) }
-    ensures fault { IfErr result (IsRefusedAs (codes "command line")) }
+    ensures refusal { IfErr result (IsRefusedFor
+        ((request : Request) → AsksFor name.now (rows_of (found_of options.now)) request → ⊥) (codes "command line")) }
 {
-    if name == "audit" {
-        return Ok(Request::Audit);
+    let request = match name {
+        "audit" => Some(Request::Audit),
+        "show" => asked_to_show(options),
+        "encode" => asked_to_encode(options),
+        _ => None,
+    };
+    match request {
+        Some(request) => Ok(request),
+        None => Err(no_request(alloc)),
     }
-    let max = max_of(options);
-    let depth = depth_of(options);
-    if max < 256 || max > 33554432 || depth < 1 || depth > 100 {
-        return Err(no_request(alloc));
-    }
-    if name == "encode" {
-        return asked_to_encode(alloc, options, max, depth);
-    }
-    Ok(Request::Show { max, depth })
 }
 
-fn asked_to_encode(
-    alloc: Global,
-    options: &ArgMatches<'_>,
-    max: u32,
-    depth: u8,
-) -> Result<Request, ToolFault>
-    requires max { (256 ≤ max) × (max ≤ 33554432) }
-    requires depth { (1 ≤ depth) × (depth ≤ 100) }
-    ensures limits { IfOk result IsWithinLimits }
-    ensures asks { IfOk result (AsksToEncode max depth (found_of options.now)) }
-    ensures fault { IfErr result (IsRefusedAs (codes "command line")) }
+fn asked_to_show(options: &ArgMatches<'_>) -> Option<Request>
+    ensures asks { IfSome result (AsksFor (codes "show") (rows_of (found_of options.now))) }
+    ensures limits { IfSome result IsWithinLimits }
+    ensures none { result ≡ None → (request : Request)
+        → AsksFor (codes "show") (rows_of (found_of options.now)) request → ⊥ }
 {
-    let device = device_of(options);
-    let system = system_of(options);
-    let hex = options.get_flag("hex");
-    if device > 32767 {
-        return Err(no_request(alloc));
-    }
-    Ok(Request::Encode {
+    let max = max_of(options)?;
+    let depth = depth_of(options)?;
+    Some(Request::Show { max, depth })
+}
+
+fn asked_to_encode(options: &ArgMatches<'_>) -> Option<Request>
+    ensures asks { IfSome result (AsksFor (codes "encode") (rows_of (found_of options.now))) }
+    ensures limits { IfSome result IsWithinLimits }
+    ensures none { result ≡ None → (request : Request)
+        → AsksFor (codes "encode") (rows_of (found_of options.now)) request → ⊥ }
+{
+    let device = device_of(options)?;
+    let system = system_of(options)?;
+    let max = max_of(options)?;
+    let depth = depth_of(options)?;
+    let hex = hex_of(options);
+    Some(Request::Encode {
         device,
         system,
         max,
@@ -174,35 +119,80 @@ fn asked_to_encode(
     })
 }
 
-fn device_of(options: &ArgMatches<'_>) -> u16
-    ensures { IsNumber 16 (codes "device") 0 (found_of options.now) result }
+fn device_of(options: &ArgMatches<'_>) -> Option<u16>
+    ensures value { result ≡ number_in device_number (rows_of (found_of options.now)) }
+    ensures within { IfSome result (λ device. device ≤ 32767) }
 {
-    options.get_one::<u16>("device").unwrap_or(DEFAULT_DEVICE)
+    let device = number_of(options, "device", 0, 32767, 0)?;
+    Some(device as u16)
 }
 
-fn system_of(options: &ArgMatches<'_>) -> u32
-    ensures { IsNumber 32 (codes "system") 1 (found_of options.now) result }
+fn system_of(options: &ArgMatches<'_>) -> Option<u32>
+    ensures { result ≡ number_in system_number (rows_of (found_of options.now)) }
 {
-    options.get_one::<u32>("system").unwrap_or(DEFAULT_SYSTEM)
+    number_of(options, "system", 0, 4294967295, 1)
 }
 
-fn max_of(options: &ArgMatches<'_>) -> u32
-    ensures { IsNumber 32 (codes "max") 1048576 (found_of options.now) result }
+fn max_of(options: &ArgMatches<'_>) -> Option<u32>
+    ensures value { result ≡ number_in max_number (rows_of (found_of options.now)) }
+    ensures within { IfSome result (λ max. (256 ≤ max) × (max ≤ 33554432)) }
 {
-    options.get_one::<u32>("max").unwrap_or(DEFAULT_MAX)
+    number_of(options, "max", 256, 33554432, 1048576)
 }
 
-fn depth_of(options: &ArgMatches<'_>) -> u8
-    ensures { IsNumber 8 (codes "depth") 32 (found_of options.now) result }
+fn depth_of(options: &ArgMatches<'_>) -> Option<u8>
+    ensures value { result ≡ number_in depth_number (rows_of (found_of options.now)) }
+    ensures within { IfSome result (λ depth. (1 ≤ depth) × (depth ≤ 100)) }
 {
-    options.get_one::<u8>("depth").unwrap_or(DEFAULT_DEPTH)
+    let depth = number_of(options, "depth", 1, 100, 32)?;
+    Some(depth as u8)
+}
+
+// The number of an option, if it is from `least` to `greatest`; where the option is left out, it is `left_out`.
+fn number_of(
+    options: &ArgMatches<'_>,
+    name: &str,
+    least: u32,
+    greatest: u32,
+    left_out: u32,
+) -> Option<u32>
+    requires { (least ≤ left_out) × (left_out ≤ greatest) }
+    ensures value { result ≡ number_in (record {
+      name = name.now;
+      least = least;
+      greatest = greatest;
+      left_out = left_out;
+    }) (rows_of (found_of options.now)) }
+    ensures within { IfSome result (λ number. (least ≤ number) × (number ≤ greatest)) }
+{
+    match options.try_get_one::<u32>(name) {
+        Ok(Some(number)) => within(number, least, greatest),
+        Ok(None) => Some(left_out),
+        Err(_) => None,
+    }
+}
+
+fn within(number: u32, least: u32, greatest: u32) -> Option<u32>
+    ensures { result ≡ (if nat_le least number && nat_le number greatest then Some number else None) }
+{
+    if number < least || number > greatest {
+        return None;
+    }
+    Some(number)
+}
+
+fn hex_of(options: &ArgMatches<'_>) -> bool
+    ensures { IsFlag (codes "hex") (rows_of (found_of options.now)) result }
+{
+    options.get_flag("hex")
 }
 
 // Help is asked for, or the command line is refused.
 fn explained(alloc: Global, error: &Error) -> Result<Request, ToolFault>
+    ensures help { IfOk result (λ request. IsHelp request × (kind_of error.now ≡ DisplayHelp)) }
     ensures limits { IfOk result IsWithinLimits }
-    ensures help { IfOk result IsHelp }
-    ensures fault { IfErr result (IsRefusedAs (codes "command line")) }
+    ensures refusal { IfErr result (IsRefusedFor
+        ((kind_of error.now ≢ DisplayHelp) × (kind_of error.now ≢ OutOfMemory)) (codes "command line")) }
 {
     match error.kind() {
         ErrorKind::DisplayHelp => Ok(Request::Help(error.to_string(alloc)?)),

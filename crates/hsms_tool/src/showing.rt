@@ -1,9 +1,9 @@
 //! `hsms show`: messages in octets, as lines.
 
-ghost use Rattle.std.specs.Prelude.{◌≡◌, ◌≤◌, IfOk, IfErr, OnOk, OnErr, is_ok, is_some, codes, if◌then◌else◌};
-ghost use Rattle.hsms_frame.specs.Count.{next_count};
+ghost use Rattle.std.specs.Prelude.{◌≡◌, ◌≤◌, IfOk, IfErr, OnOk, OnErr, is_some, codes, if◌then◌else◌};
+ghost use Rattle.hsms_frame.specs.Count.{count_failure, next_count};
 ghost use Rattle.hsms_frame.specs.Device.{WhereTold, Grows, GrowsByFront};
-ghost use Rattle.hsms_tool.specs.Show.{Shows, ShowsNext, ReadsNext, Tells, CountsFailure, HasWord, IsReadOrWrite, IsReadWriteOrEndless, IsWrite};
+ghost use Rattle.hsms_tool.specs.Show.{Shows, ShowsNext, ReadsNext, IsEnded, Tells, CountsFailure, HasWord, IsOfInput, IsReadOrWrite, IsReadWriteOrEndless, IsWrite};
 
 use crate::fault::ToolFault;
 use crate::line::frame_line;
@@ -18,8 +18,9 @@ use std::alloc::Global;
 ///
 /// - `Refused`, where the input isn't messages: `TooShort`, `TooLong` or `CutOff`. The lines of the messages before are
 ///   written.
-/// - `Device`: `Read` or `Write`, where a device failed in this call, and `Endless` after 4,294,967,295 messages.
-///   After a failed write a part of the next line may be written.
+/// - `Device`: `Read` or `Write`, where a device failed in this call, and `Endless`, where 4,294,967,295 messages are
+///   shown and one more is there. After a failed write a part of the next line may be written. After a failed read all
+///   messages that were taken whole are shown.
 /// - `Memory`. The lines of the messages before are written.
 pub fn show<R: Source, W: Sink>(
     alloc: Global,
@@ -29,19 +30,32 @@ pub fn show<R: Source, W: Sink>(
     depth: u8,
 ) -> Result<(), ToolFault>
     requires { depth ≤ 100 }
-    ensures lines { WhereTold (R.left source.old) (λ input. WhereTold (W.written sink.old)
-        (λ before. Shows max depth input before result (W.written sink.new))) }
+    ensures lines { WhereTold (R.state source.old).left (λ input. Shows max depth input result
+        (R.state source.new).left (W.state sink.old).written (W.state sink.new).written) }
     // Where the source doesn't tell its octets, its end was found once all the same.
-    ensures end { OnOk result (R.ends source.new ≡ next_count (R.ends source.old)) }
+    ensures end { OnOk result ((R.state source.new).ends ≡ next_count (R.state source.old).ends) }
     ensures word { IfErr result IsReadWriteOrEndless }
-    ensures reads { CountsFailure (codes "Read") result (R.failures source.old) (R.failures source.new) }
-    ensures writes { CountsFailure (codes "Write") result (W.failures sink.old) (W.failures sink.new) }
+    ensures reads { CountsFailure (codes "Read") result (R.state source.old).failures (R.state source.new).failures }
+    ensures writes { CountsFailure (codes "Write") result (W.state sink.old).failures (W.state sink.new).failures }
 {
     for _ in 0..u32::MAX {
         if !show_next(alloc, source, sink, max, depth)? {
             return Ok(());
         }
     }
+    find_end(alloc, source, max)
+}
+
+// Looks for the end of the input, where as many messages are shown as the command shows.
+fn find_end<R: Source>(alloc: Global, source: &mut R, max: u32) -> Result<(), ToolFault>
+    ensures answer { WhereTold (R.state source.old).left (λ input. IsEnded max input result (R.state source.new).left) }
+    ensures end { OnOk result ((R.state source.new).ends ≡ next_count (R.state source.old).ends) }
+    ensures word { IfErr result IsOfInput }
+    ensures reads { CountsFailure (codes "Read") result (R.state source.old).failures (R.state source.new).failures }
+{
+    let Some(_) = next_frame(alloc, source, max)? else {
+        return Ok(());
+    };
     Err(ToolFault::Device("Endless"))
 }
 
@@ -54,13 +68,13 @@ fn show_next<R: Source, W: Sink>(
     depth: u8,
 ) -> Result<bool, ToolFault>
     requires { depth ≤ 100 }
-    ensures line { WhereTold (R.left source.old) (λ input. WhereTold (W.written sink.old)
-        (λ before. ShowsNext max depth input before result (R.left source.new) (W.written sink.new))) }
-    ensures end { IfOk result (λ is_shown. R.ends source.new
-        ≡ (if is_shown then R.ends source.old else next_count (R.ends source.old))) }
+    ensures line { WhereTold (R.state source.old).left (λ input. ShowsNext max depth input result
+        (R.state source.new).left (W.state sink.old).written (W.state sink.new).written) }
+    ensures end { IfOk result (λ is_shown. (R.state source.new).ends
+        ≡ (if is_shown then (R.state source.old).ends else next_count (R.state source.old).ends)) }
     ensures word { IfErr result IsReadOrWrite }
-    ensures reads { CountsFailure (codes "Read") result (R.failures source.old) (R.failures source.new) }
-    ensures writes { CountsFailure (codes "Write") result (W.failures sink.old) (W.failures sink.new) }
+    ensures reads { CountsFailure (codes "Read") result (R.state source.old).failures (R.state source.new).failures }
+    ensures writes { CountsFailure (codes "Write") result (W.state sink.old).failures (W.state sink.new).failures }
 {
     let Some(frame) = next_frame(alloc, source, max)? else {
         return Ok(false);
@@ -75,11 +89,12 @@ fn next_frame<R: Source>(
     source: &mut R,
     max: u32,
 ) -> Result<Option<Frame>, ToolFault>
-    ensures frame { WhereTold (R.left source.old) (λ input. ReadsNext max input result (R.left source.new)) }
-    ensures end { IfOk result (λ frame. R.ends source.new
-        ≡ (if is_some frame then R.ends source.old else next_count (R.ends source.old))) }
+    ensures frame { WhereTold (R.state source.old).left
+        (λ input. ReadsNext max input result (R.state source.new).left) }
+    ensures end { IfOk result (λ frame. (R.state source.new).ends
+        ≡ (if is_some frame then (R.state source.old).ends else next_count (R.state source.old).ends)) }
     ensures word { IfErr result (HasWord (codes "Read")) }
-    ensures reads { CountsFailure (codes "Read") result (R.failures source.old) (R.failures source.new) }
+    ensures reads { CountsFailure (codes "Read") result (R.state source.old).failures (R.state source.new).failures }
 {
     match read_frame(alloc, source, max) {
         Ok(frame) => Ok(frame),
@@ -104,10 +119,10 @@ fn told(alloc: Global, fault: ReadFault) -> ToolFault
 
 /// Writes all octets.
 pub fn put<W: Sink>(sink: &mut W, octets: &[u8]) -> Result<(), ToolFault>
-    ensures ok { OnOk result (Grows (W.written sink.old) (W.written sink.new) octets.now) }
-    ensures err { OnErr result (GrowsByFront (W.written sink.old) (W.written sink.new) octets.now) }
+    ensures ok { OnOk result (Grows (W.state sink.old).written (W.state sink.new).written octets.now) }
+    ensures err { OnErr result (GrowsByFront (W.state sink.old).written (W.state sink.new).written octets.now) }
     ensures word { IfErr result IsWrite }
-    ensures writes { W.failures sink.new ≡ (if is_ok result then W.failures sink.old else next_count (W.failures sink.old)) }
+    ensures writes { (W.state sink.new).failures ≡ count_failure result (W.state sink.old).failures }
 {
     match give_all(sink, octets) {
         Ok(()) => Ok(()),

@@ -115,23 +115,6 @@ fn tells_which_device_failed(rt: HostRuntime) -> Result<(), Fail> {
     Ok(())
 }
 
-// The line of the first message stays written, where the second one can't be read.
-#[test]
-fn keeps_the_lines_before_a_failed_read(rt: HostRuntime) -> Result<(), Fail> {
-    let alloc = rt.alloc();
-    let mut octets = Vec::from_slice(alloc, &SELECT)?;
-    octets.extend_from_slice(&SELECT)?;
-    for calls in 14..28 {
-        let run = shown(alloc, &octets, 1, calls, u64::MAX)?;
-        assert!(rt; matches!(run.result, Err(ToolFault::Device("Read"))));
-        assert_eq!(rt;
-            run.written.as_slice(),
-            b"select.req ffff 00000001\n".as_slice()
-        );
-    }
-    Ok(())
-}
-
 // Where its own input is refused, this test has nothing to say.
 #[test]
 fn refused_lines(rt: HostRuntime) -> Result<(), Fail> {

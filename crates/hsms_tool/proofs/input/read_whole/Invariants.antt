@@ -5,10 +5,10 @@ use Rattle.hsms_tool.proofs.input.read_whole.Given as goal
 -- what was read so far is the front of the input, and its end wasn't found
 abbrev pub invariant-loop-source : goal.invariant-loop-source
 invariant-loop-source g l =
-    ReadSoFar (g.R.Source.left l.initial.source) (g.R.Source.left l.source) l.octets.items
+    ReadSoFar (g.R.Source.state l.initial.source).left (g.R.Source.state l.source).left l.octets.items
     × (vec_len l.block ≡ 65536)
-    × (g.R.Source.ends l.source ≡ g.R.Source.ends l.initial.source)
-    × (g.R.Source.failures l.source ≡ g.R.Source.failures l.initial.source)
+    × ((g.R.Source.state l.source).ends ≡ (g.R.Source.state l.initial.source).ends)
+    × ((g.R.Source.state l.source).failures ≡ (g.R.Source.state l.initial.source).failures)
 
 abbrev pub decreases-loop-source : goal.decreases-loop-source
 decreases-loop-source g l = l.limit + 1 - vec_len l.octets

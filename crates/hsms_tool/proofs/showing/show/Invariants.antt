@@ -1,12 +1,13 @@
-use Rattle.std.proofs.Common.{◌≡◌, ℕ, List, Some}
+use Rattle.std.proofs.Common.{◌≡◌}
+use Rattle.hsms_frame.specs.Device.{WhereTold}
 use Rattle.hsms_tool.proofs.Runs.{Begun}
 use Rattle.hsms_tool.proofs.showing.show.Given as goal
 
 -- the messages so far were shown, the end wasn't found, and no device failed
 abbrev pub invariant-loop : goal.invariant-loop
 invariant-loop g l =
-    ((input : List ℕ) → g.R.Source.left l.initial.source ≡ Some input → (before : List ℕ) → g.W.Sink.written l.initial.sink ≡ Some before
-    → Begun l.max l.depth input before l.counter (g.R.Source.left l.source) (g.W.Sink.written l.sink))
-    × (g.R.Source.ends l.source ≡ g.R.Source.ends l.initial.source)
-    × (g.R.Source.failures l.source ≡ g.R.Source.failures l.initial.source)
-    × (g.W.Sink.failures l.sink ≡ g.W.Sink.failures l.initial.sink)
+    WhereTold (g.R.Source.state l.initial.source).left (λ input. Begun l.max l.depth input l.counter (g.R.Source.state l.source).left
+    (g.W.Sink.state l.initial.sink).written (g.W.Sink.state l.sink).written)
+    × ((g.R.Source.state l.source).ends ≡ (g.R.Source.state l.initial.source).ends)
+    × ((g.R.Source.state l.source).failures ≡ (g.R.Source.state l.initial.source).failures)
+    × ((g.W.Sink.state l.sink).failures ≡ (g.W.Sink.state l.initial.sink).failures)
