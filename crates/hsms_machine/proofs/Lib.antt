@@ -1,4 +1,4 @@
-pub mod Kept
+pub mod Mapped
 pub mod Least
 pub mod First
 pub mod Steps
@@ -8,4 +8,5 @@ pub mod Told
 pub mod Runs
 pub mod Lawful
 pub mod Decided
+pub mod Timely
 pub mod Listed

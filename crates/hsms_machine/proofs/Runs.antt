@@ -113,6 +113,9 @@ pub told_for_each : (view value : View) → view ≡ value → (entry : Entry) (
 told_for_each view value is entry a h = λ log has.
     broken-view value.settings log has.run entry a (subst (λ w. IsFirst (Breaks (facts_of w) value.settings entry) all_rules a) (is ∙ sym has.seen) (subst (λ w. IsFirst (Breaks (facts_of view) w.settings entry) all_rules a) is h))
 
+pub told_by : (view value : View) → view ≡ value → (entry : Entry) (a : Option Rule) → IsFirst (Breaks (facts_of view) view.settings entry) all_rules a → IsFirst (Breaks (facts_of value) value.settings entry) all_rules a
+told_by view value is entry a h = subst (λ w. IsFirst (Breaks (facts_of w) w.settings entry) all_rules a) is h
+
 pub after_for_each : (view value new : View) → view ≡ value → (entry : Entry) → IsFirst (Breaks (facts_of view) view.settings entry) all_rules None → new ≡ view_after view entry → ForEachRun value (λ log. HasView value.settings (log ++ entry ∷ []) new)
 after_for_each view value new is entry h e = λ log has.
     record {

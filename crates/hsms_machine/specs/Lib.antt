@@ -8,4 +8,5 @@ pub mod Rule
 pub mod Run
 pub mod View
 pub mod Step
+pub mod Ordered
 pub mod Laws

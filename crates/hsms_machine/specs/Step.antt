@@ -1,18 +1,21 @@
--- How a view answers what the rules ask, and how one entry changes it. Private functions alone speak of this; lemmas
--- tie it to the definitions of the whole log.
-use Rattle.std.specs.Prelude.{◌≡◌, ◌≢◌, ◌<◌, ◌==◌, Bool, true, false, ◌&&◌, ◌||◌, not, List, ◌++◌, filter, IsTrue, if◌then◌else◌, option_to_list}
+-- How a view answers what the rules ask, and how one entry changes it: the rules and the log once more, without positions.
+-- What a tracker answers is said both ways, of each log with its view and of the view alone.
+use Rattle.std.specs.Prelude.{◌≡◌, ◌≢◌, ℕ, ◌<◌, ◌==◌, Bool, true, false, ◌&&◌, ◌||◌, not, List, ◌++◌, Option, filter, IsTrue, if◌then◌else◌, option_to_list}
 use Rattle.std.specs.List.{list_any}
 use Rattle.hsms_machine.specs.declared.entry.Entry.{Entry}
 use Rattle.hsms_machine.specs.declared.entry.Event.{Event}
 use Rattle.hsms_machine.specs.declared.entry.Event.TheVariants.{Sent, Taken, T3}
 use Rattle.hsms_machine.specs.declared.phase.Phase.{Phase}
 use Rattle.hsms_machine.specs.declared.phase.Phase.TheVariants.{Before, Selected, Over, Gone}
+use Rattle.hsms_machine.specs.declared.rule.Rule.{Rule}
 use Rattle.hsms_machine.specs.declared.open.Transaction.{Transaction}
 use Rattle.hsms_machine.specs.declared.view.View.{View}
 use Rattle.hsms_machine.specs.Entry.{is_up, is_down}
 use Rattle.hsms_machine.specs.Transaction.{Pool, SentData, SentControl, TakenData, TakenControl, concludes, opened_as}
 use Rattle.hsms_machine.specs.Session.{Facts, selects, ends_session}
 use Rattle.hsms_machine.specs.View.{phase_by}
+use Rattle.hsms_machine.specs.Rule.{Breaks, IsFirst, all_rules}
+use Rattle.hsms_machine.specs.Ordered.{IsOrdered, AreUntil}
 
 -- ---- what the rules ask
 
@@ -39,6 +42,10 @@ facts_of view = record {
   IsOver = view.phase ≡ Over;
   SomeOpen = λ pool test. IsTrue (list_any test (pool_of view pool));
 }
+
+-- the answer is the first rule that the entry breaks, as the view tells it, or none
+abbrev pub IsBrokenAt : View → Entry → Option Rule → Type 0
+IsBrokenAt view entry answer = IsFirst (Breaks (facts_of view) view.settings entry) all_rules answer
 
 -- ---- one entry more
 
@@ -86,3 +93,19 @@ view_after view entry = record {
   taken_data = pool_after TakenData view.taken_data entry;
   taken_control = pool_after TakenControl view.taken_control entry;
 }
+
+-- ---- in order of opening
+
+-- what is open was opened by the time of the last entry, and is in order in each of the four lists
+pub record IsInOrder (view : View) : Type 0 where
+  pub sent_data : IsOrdered view.last_time view.sent_data
+  pub sent_control : IsOrdered view.last_time view.sent_control
+  pub taken_data : IsOrdered view.last_time view.taken_data
+  pub taken_control : IsOrdered view.last_time view.taken_control
+
+-- nothing that is open was opened after this time
+pub record IsUntil (time : ℕ) (view : View) : Type 0 where
+  pub sent_data : AreUntil time view.sent_data
+  pub sent_control : AreUntil time view.sent_control
+  pub taken_data : AreUntil time view.taken_data
+  pub taken_control : AreUntil time view.taken_control

@@ -1,9 +1,11 @@
 -- What a tracker keeps of a log (this project's profile): the phase, two times, and what is open.
-use Rattle.std.specs.Prelude.{◌≡◌, ℕ, ◌+◌, ◌-◌, Bool, true, false, ◌&&◌, not, List, [], ◌∷◌, ◌++◌, Option, length, fold, option_to_list, if◌then◌else◌}
+use Rattle.std.specs.Prelude.{◌≡◌, ℕ, ◌+◌, ◌-◌, ◌==◌, Bool, true, false, ◌&&◌, ◌||◌, not, List, [], ◌∷◌, ◌++◌, Option, Some, None, length, fold, option_to_list, if◌then◌else◌}
 use Rattle.std.specs.List.{list_any, filter_map}
+use Rattle.hsms_frame.specs.declared.header.Header.{Header}
 use Rattle.hsms_machine.specs.declared.entry.Entry.{Entry}
 use Rattle.hsms_machine.specs.declared.phase.Phase.{Phase}
 use Rattle.hsms_machine.specs.declared.phase.Phase.TheVariants.{Before, NotSelected, Selected, Over, Gone}
+use Rattle.hsms_machine.specs.declared.rule.Rule.{Rule}
 use Rattle.hsms_machine.specs.declared.open.Transaction.{Transaction}
 use Rattle.hsms_machine.specs.declared.view.View.{View}
 use Rattle.hsms_machine.specs.Settings.{Parameters}
@@ -11,7 +13,7 @@ use Rattle.hsms_machine.specs.Entry.{entry_at, is_up, is_down, connection_of}
 use Rattle.hsms_machine.specs.Transaction.{Pool, SentData, SentControl, TakenData, TakenControl, opens, closes, opened_as}
 use Rattle.hsms_machine.specs.Session.{selects, ends_session}
 use Rattle.hsms_machine.specs.Timer.{due_at, due_times, least_in}
-use Rattle.hsms_machine.specs.Run.{IsRun}
+use Rattle.hsms_machine.specs.Run.{Broken, IsRun}
 
 -- ---- what is open
 
@@ -80,6 +82,14 @@ HasRun view = (log : List Entry) × HasView view.settings log view
 abbrev pub ForEachRun : View → (List Entry → Type 0) → Type 0
 ForEachRun view Holds = (log : List Entry) → HasView view.settings log view → Holds log
 
+-- after every run that has this view, the answer is the first rule that the entry breaks, or none
+abbrev pub IsBrokenAfter : View → Entry → Option Rule → Type 0
+IsBrokenAfter view entry answer = ForEachRun view (λ log. Broken view.settings log entry answer)
+
+-- every run that has this view is a run with the entry at its end too, and has the later view then
+abbrev pub LeadsTo : View → Entry → View → Type 0
+LeadsTo view entry later = ForEachRun view (λ log. HasView view.settings (log ++ entry ∷ []) later)
+
 -- ---- what is read from a view
 
 -- the open sent data primaries
@@ -105,3 +115,14 @@ due_times_of view =
 -- the least of them
 abbrev pub next_due_of : View → Option ℕ
 next_due_of view = least_in (due_times_of view)
+
+-- an open sent transaction has these system bytes
+abbrev pub in_use_of : View → ℕ → Bool
+in_use_of view system =
+    list_any (λ opened. opened.header.system == system) view.sent_data
+    || list_any (λ opened. opened.header.system == system) view.sent_control
+
+-- the time and the header of the first of the transactions
+abbrev pub oldest_of : List Transaction → Option (ℕ × Header)
+oldest_of [] = None
+oldest_of (opened ∷ later) = Some (opened.time, opened.header)

@@ -2,6 +2,7 @@
 
 use crate::message::{answers, concludes};
 use hsms_frame::Header;
+use indexmap::IndexMap;
 use std::alloc::{AllocError, Global};
 use std::marker::Model;
 
@@ -19,33 +20,47 @@ pub struct Transaction {
     pub header: Header,
 }
 
-/// Open transactions, in order of opening.
-#[derive(Debug, Drop)]
+/// Open transactions, in order of opening: no two with the same system bytes, and none before an earlier one.
+#[derive(Debug)]
 pub struct Transactions {
-    items: Vec<Transaction>,
+    items: IndexMap<u32, Transaction>,
 }
 
 impl Model for Transactions {
     ghost use Rattle.std.specs.Prelude.{List};
+    ghost use Rattle.indexmap.specs.IndexMap.{values};
     ghost use Rattle.hsms_machine.specs.declared.open.Transaction.{Transaction};
+    ghost use Rattle.hsms_machine.specs.Ordered.{AreKept};
 
     ghost Value = { List Transaction };
 
-    ghost view = { λ t. t.items.items };
+    ghost view = { λ t. values t.items };
+
+    ghost invariant = { λ t. AreKept t.items.entries };
+}
+
+// Written out: a proof over a tracker that is dropped then has one step for each map, and not one for each of its parts.
+impl Drop for Transactions {
+    fn drop(self) {
+        let Transactions { items } = self;
+        drop(items);
+    }
 }
 
 impl Transactions {
-    ghost use Rattle.std.specs.Prelude.{◌≡◌, ◌-◌, ◌^◌, ◌<◌, ◌==◌, ◌&&◌, not, [], ◌∷◌, ◌++◌, length, filter, nat_lt, nat_le, OnOk, OnErr};
-    ghost use Rattle.std.specs.List.{list_any};
+    ghost use Rattle.std.specs.Prelude.{◌≡◌, ◌-◌, ◌^◌, ◌<◌, ◌==◌, ◌&&◌, not, [], ◌∷◌, ◌++◌, length, filter, false, nat_lt, nat_le, OnOk, OnErr};
+    ghost use Rattle.std.specs.List.{list_any, find};
     ghost use Rattle.hsms_machine.specs.Timer.{least_in, due_times, due_at, least_of};
     ghost use Rattle.hsms_machine.specs.Transaction.{answers as is_answer, concludes as is_conclusion};
+    ghost use Rattle.hsms_machine.specs.View.{oldest_of};
+    ghost use Rattle.hsms_machine.specs.Ordered.{AreInOrder, AreApart, AreUntil, uses, first_of};
 
     /// No transaction.
     pub fn new(alloc: Global) -> Self
         ensures { result ≡ [] }
     {
         Transactions {
-            items: Vec::new(alloc),
+            items: IndexMap::new(alloc),
         }
     }
 
@@ -57,12 +72,54 @@ impl Transactions {
         self.items.len()
     }
 
+    /// That they are in order of opening, and apart.
+    pub fn keeps_order(&self)
+        ensures in_order { AreInOrder self.now }
+        ensures apart { AreApart self.now }
+    {
+        let _items = &self.items;
+    }
+
+    /// The transaction that was opened first.
+    pub fn first(&self) -> Option<Transaction>
+        ensures first { result ≡ first_of self.now }
+        ensures in_order { AreInOrder self.now }
+    {
+        match self.items.first() {
+            Some((_, opened)) => Some(*opened),
+            None => None,
+        }
+    }
+
+    /// The time and the header of the transaction that was opened first.
+    pub fn oldest(&self) -> Option<(u64, Header)>
+        ensures { result ≡ oldest_of self.now }
+    {
+        match self.first() {
+            Some(opened) => Some((opened.time, opened.header)),
+            None => None,
+        }
+    }
+
+    /// The transaction of these system bytes.
+    pub fn get(&self, system: u32) -> Option<Transaction>
+        ensures found { result ≡ find (λ opened. opened.header.system == system) self.now }
+        ensures apart { AreApart self.now }
+    {
+        match self.items.get(&system) {
+            Some(opened) => Some(*opened),
+            None => None,
+        }
+    }
+
     /// Puts a transaction at the end.
     pub fn push(&mut self, transaction: Transaction) -> Result<(), AllocError>
+        requires fresh { uses transaction.header.system self.old ≡ false }
+        requires later { AreUntil transaction.time self.old }
         ensures ok { OnOk result (self.new ≡ self.old ++ transaction ∷ []) }
         ensures err { OnErr result (self.new ≡ self.old) }
     {
-        self.items.push(transaction)?;
+        self.items.insert(transaction.header.system, transaction)?;
         Ok(())
     }
 
@@ -70,58 +127,57 @@ impl Transactions {
     pub fn has_overdue(&self, now: u64, limit: u32) -> bool
         ensures { result ≡ list_any (λ opened. nat_lt limit (now - opened.time)) self.now }
     {
-        self.items.iter().any(|opened| u64::from(limit) < now.saturating_sub(opened.time))
+        match self.first() {
+            Some(opened) => u64::from(limit) < now.saturating_sub(opened.time),
+            None => false,
+        }
     }
 
     /// Whether some transaction has waited for at least the limit.
     pub fn has_due(&self, now: u64, limit: u32) -> bool
         ensures { result ≡ list_any (λ opened. nat_le limit (now - opened.time)) self.now }
     {
-        self.items.iter().any(|opened| u64::from(limit) <= now.saturating_sub(opened.time))
+        match self.first() {
+            Some(opened) => u64::from(limit) <= now.saturating_sub(opened.time),
+            None => false,
+        }
     }
 
     /// Whether the transaction of these system bytes has waited for at least the limit.
     pub fn is_due(&self, system: u32, now: u64, limit: u32) -> bool
         ensures { result ≡ list_any (λ opened. (opened.header.system == system) && nat_le limit (now - opened.time)) self.now }
     {
-        self.items.iter().any(|opened| {
-            opened.header.system == system && u64::from(limit) <= now.saturating_sub(opened.time)
-        })
+        match self.get(system) {
+            Some(opened) => u64::from(limit) <= now.saturating_sub(opened.time),
+            None => false,
+        }
     }
 
     /// Whether some transaction has these system bytes.
     pub fn is_in_use(&self, system: u32) -> bool
-        ensures { result ≡ list_any (λ opened. opened.header.system == system) self.now }
+        ensures { result ≡ uses system self.now }
     {
-        self.items
-            .iter()
-            .any(|opened| opened.header.system == system)
+        self.items.contains_key(&system)
     }
 
     /// Whether the message, which goes in the other direction, answers a transaction.
     pub fn has_request_of(&self, response: Header) -> bool
         ensures { result ≡ list_any (λ opened. is_answer opened.header response) self.now }
     {
-        self.items
-            .iter()
-            .any(|opened| answers(opened.header, response))
+        match self.get(response.system) {
+            Some(opened) => answers(opened.header, response),
+            None => false,
+        }
     }
 
     /// The least moment at which a transaction has waited for the limit.
     pub fn first_due(&self, limit: u32) -> Option<u64>
         ensures { result ≡ least_in (due_times limit self.now) }
     {
-        Self::first_due_of(self.items.as_slice(), limit)
-    }
-
-    fn first_due_of(items: &[Transaction], limit: u32) -> Option<u64>
-        ensures { result ≡ least_in (due_times limit items.now) }
-    {
-        let mut least = None;
-        for opened in items {
-            least = Self::earlier(least, Self::due_at(opened.time, limit));
+        match self.first() {
+            Some(opened) => Self::due_at(opened.time, limit),
+            None => None,
         }
-        least
     }
 
     /// The moment at which the limit has passed since a time.
@@ -142,29 +198,30 @@ impl Transactions {
         }
     }
 
-    fn remove_concluded_from(items: &mut Vec<Transaction>, other: Header)
-        ensures { items.new.items ≡ filter (λ opened. not (is_conclusion opened.header other)) items.old.items }
+    /// Whether the message, which goes in the other direction, answers or rejects a transaction.
+    fn is_concluded(&self, other: Header) -> bool
+        ensures concluded { result ≡ list_any (λ opened. is_conclusion opened.header other) self.now }
+        ensures apart { AreApart self.now }
     {
-        items.retain(|opened| !concludes(opened.header, other));
-    }
-
-    fn remove_system_from(items: &mut Vec<Transaction>, system: u32)
-        ensures { items.new.items ≡ filter (λ opened. not (opened.header.system == system)) items.old.items }
-    {
-        items.retain(|opened| opened.header.system != system);
+        match self.get(other.system) {
+            Some(opened) => concludes(opened.header, other),
+            None => false,
+        }
     }
 
     /// Takes out what the message, which goes in the other direction, answers or rejects.
     pub fn remove_concluded(&mut self, other: Header)
         ensures { self.new ≡ filter (λ opened. not (is_conclusion opened.header other)) self.old }
     {
-        Self::remove_concluded_from(&mut self.items, other);
+        if self.is_concluded(other) {
+            self.remove_system(other.system);
+        }
     }
 
     /// Takes out the transaction of these system bytes.
     pub fn remove_system(&mut self, system: u32)
         ensures { self.new ≡ filter (λ opened. not (opened.header.system == system)) self.old }
     {
-        Self::remove_system_from(&mut self.items, system);
+        self.items.shift_remove(&system);
     }
 }

@@ -287,3 +287,47 @@ fn an_equipment_that_listens(rt: HostRuntime) -> Result<(), Fail> {
     }
     Ok(())
 }
+
+/// The readers of what is open: the first of the sent primaries, and the numbers in use.
+#[test]
+fn the_oldest_and_what_is_in_use(rt: HostRuntime) -> Result<(), Fail> {
+    let mut tracker = Tracker::new(rt.alloc(), settings(256).ok_or("the settings")?);
+    let entries = [
+        (1000, Sent(S1F1_W, 0xffff_fffe, &[])),
+        (1000, Sent(S1F1_W, 0xffff_ffff, &[])),
+        (1000, Taken(S1F1_W, 7, &[])),
+    ];
+    assert_eq!(rt; broken_by(&rt, rt.alloc(), &mut tracker, SELECTED)?, None);
+    assert_eq!(rt; tracker.oldest_data(), None);
+    assert_eq!(rt; broken_by(&rt, rt.alloc(), &mut tracker, &entries)?, None);
+    assert_eq!(rt;
+        tracker.oldest_data(),
+        Some((1000, header(S1F1_W, 0xffff_fffe)))
+    );
+    assert_eq!(rt; tracker.oldest_control(), None);
+    assert!(rt; tracker.in_use(0xffff_ffff));
+    assert!(rt; !tracker.in_use(7));
+    let linktest = [(1001, Sent(LINKTEST_REQ, 3, &[]))];
+    assert_eq!(rt; broken_by(&rt, rt.alloc(), &mut tracker, &linktest)?, None);
+    assert_eq!(rt;
+        tracker.oldest_control(),
+        Some((1001, header(LINKTEST_REQ, 3)))
+    );
+    assert!(rt; tracker.in_use(3));
+    Ok(())
+}
+
+#[test]
+fn many_are_answered_from_the_newest(rt: HostRuntime) -> Result<(), Fail> {
+    let mut tracker = Tracker::new(rt.alloc(), settings(256).ok_or("the settings")?);
+    assert_eq!(rt; broken_by(&rt, rt.alloc(), &mut tracker, SELECTED)?, None);
+    for system in 0u32..10_000 {
+        let primary = [(6, Taken(S1F1_W, system, &[]))];
+        assert_eq!(rt; broken_by(&rt, rt.alloc(), &mut tracker, &primary)?, None);
+    }
+    for system in (0u32..10_000).rev() {
+        let reply = [(7, Sent(S1F2, system, &[]))];
+        assert_eq!(rt; broken_by(&rt, rt.alloc(), &mut tracker, &reply)?, None);
+    }
+    Ok(())
+}

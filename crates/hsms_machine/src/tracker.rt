@@ -5,6 +5,7 @@ use crate::phase::Phase;
 use crate::rule::Rule;
 use crate::settings::Settings;
 use crate::view::View;
+use hsms_frame::Header;
 use std::alloc::{AllocError, Global};
 use std::marker::Model;
 
@@ -19,20 +20,21 @@ pub struct Tracker {
 impl Model for Tracker {
     ghost use Rattle.hsms_machine.specs.declared.view.View.{View};
     ghost use Rattle.hsms_machine.specs.View.{HasRun};
+    ghost use Rattle.hsms_machine.specs.Step.{IsUntil};
 
     ghost Value = { View };
 
     ghost view = { λ tracker. tracker.view };
 
-    ghost invariant = { λ tracker. ∥ HasRun tracker.view ∥₁ };
+    ghost invariant = { λ tracker. ∥ HasRun tracker.view ∥₁ × IsUntil tracker.view.last_time tracker.view };
 }
 
 impl Tracker {
-    ghost use Rattle.std.specs.Prelude.{◌≡◌, ◌++◌, [], ◌∷◌, Some, None, IsTrue, IfOk, OnErr};
+    ghost use Rattle.std.specs.Prelude.{◌≡◌, [], Some, None, IsTrue, IfOk, OnErr};
     ghost use Rattle.hsms_machine.specs.declared.rule.Rule.{Rule};
     ghost use Rattle.hsms_machine.specs.Transaction.{opens};
-    ghost use Rattle.hsms_machine.specs.Run.{Broken};
-    ghost use Rattle.hsms_machine.specs.View.{ForEachRun, HasView, waiting_of, own_open_of, next_due_of};
+    ghost use Rattle.hsms_machine.specs.View.{HasView, IsBrokenAfter, LeadsTo, waiting_of, own_open_of, next_due_of, in_use_of, oldest_of};
+    ghost use Rattle.hsms_machine.specs.Step.{IsBrokenAt, IsInOrder, view_after};
 
     /// The tracker of a session without an entry.
     pub fn new(alloc: Global, settings: Settings) -> Tracker
@@ -46,7 +48,8 @@ impl Tracker {
     /// The first rule that the entry would break as the next one, or None where it is lawful. Takes no
     /// memory.
     pub fn check(&self, entry: &Entry) -> Option<Rule>
-        ensures { ForEachRun self.now (λ log. Broken self.now.settings log entry.now result) }
+        ensures answer { IsBrokenAfter self.now entry.now result }
+        ensures told { IsBrokenAt self.now entry.now result }
     {
         self.view.first_broken(entry)
     }
@@ -55,11 +58,13 @@ impl Tracker {
     /// taken in. A broken rule leaves the tracker as it was, and so does want of memory, which is answered
     /// only of a lawful entry that opens a transaction.
     pub fn step(&mut self, entry: &Entry) -> Result<Option<Rule>, AllocError>
-        ensures answer { IfOk result (λ answer. ForEachRun self.old (λ log. Broken self.old.settings log entry.now answer)) }
-        ensures lawful { IfOk result (λ answer. answer ≡ None → ForEachRun self.old (λ log. HasView self.old.settings (log ++ entry.now ∷ []) self.new)) }
+        ensures answer { IfOk result (λ answer. IsBrokenAfter self.old entry.now answer) }
+        ensures told { IfOk result (λ answer. IsBrokenAt self.old entry.now answer) }
+        ensures lawful { IfOk result (λ answer. answer ≡ None → LeadsTo self.old entry.now self.new) }
+        ensures next { IfOk result (λ answer. answer ≡ None → self.new ≡ view_after self.old entry.now) }
         ensures broken { IfOk result (λ answer. (rule : Rule) → answer ≡ Some rule → self.new ≡ self.old) }
         ensures err { OnErr result (self.new ≡ self.old) }
-        ensures err_lawful { OnErr result (ForEachRun self.old (λ log. Broken self.old.settings log entry.now None)) }
+        ensures err_lawful { OnErr result (IsBrokenAfter self.old entry.now None) }
         ensures err_opens { OnErr result (IsTrue (opens entry.now.event)) }
     {
         let broken = self.view.first_broken(entry);
@@ -97,5 +102,39 @@ impl Tracker {
         ensures { result ≡ next_due_of self.now }
     {
         self.view.next_due()
+    }
+
+    /// Whether an open sent transaction, of data or of control, has these system bytes. Takes no memory.
+    pub fn in_use(&self, system: u32) -> bool
+        ensures { result ≡ in_use_of self.now system }
+    {
+        self.view.sent_data.is_in_use(system) || self.view.sent_control.is_in_use(system)
+    }
+
+    /// The time and the header of the sent primary with the W bit that was opened first of those that are
+    /// open. Takes no memory.
+    pub fn oldest_data(&self) -> Option<(u64, Header)>
+        ensures { result ≡ oldest_of self.now.sent_data }
+    {
+        self.view.sent_data.oldest()
+    }
+
+    /// The time and the header of the sent Select.req or Linktest.req that was opened first of those that
+    /// are open. Takes no memory.
+    pub fn oldest_control(&self) -> Option<(u64, Header)>
+        ensures { result ≡ oldest_of self.now.sent_control }
+    {
+        self.view.sent_control.oldest()
+    }
+
+    /// That what is open is in order: in each of the four lists of the view no time falls, none is later than that of
+    /// the last entry, and no two transactions have the same system bytes. Called for this fact alone; it does nothing.
+    pub fn keeps_order(&self)
+        ensures { IsInOrder self.now }
+    {
+        self.view.sent_data.keeps_order();
+        self.view.sent_control.keeps_order();
+        self.view.taken_data.keeps_order();
+        self.view.taken_control.keeps_order();
     }
 }

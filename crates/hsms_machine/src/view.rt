@@ -21,12 +21,14 @@ pub struct View {
 }
 
 impl View {
-    ghost use Rattle.std.specs.Prelude.{◌≡◌, ◌++◌, [], IsTrue, OnOk, OnErr, option_to_list};
+    ghost use Rattle.std.specs.Prelude.{◌≡◌, ◌++◌, [], None, false, IsTrue, OnOk, OnErr, option_to_list};
     ghost use Rattle.hsms_machine.specs.Message.{is_request, is_data_request as opens_data_transaction, is_control_request as opens_control_transaction};
     ghost use Rattle.hsms_machine.specs.Transaction.{opens, opened_by, SentData, SentControl, TakenData, TakenControl};
     ghost use Rattle.hsms_machine.specs.Session.{ends_session as is_end_of_session, selects as is_selection};
     ghost use Rattle.hsms_machine.specs.View.{view_of, own_open_of, next_due_of};
-    ghost use Rattle.hsms_machine.specs.Step.{view_after, pool_after, phase_after};
+    ghost use Rattle.hsms_machine.specs.Rule.{Breaks, IsFirst, all_rules};
+    ghost use Rattle.hsms_machine.specs.Step.{facts_of, view_after, pool_after, phase_after, IsUntil};
+    ghost use Rattle.hsms_machine.specs.Ordered.{AreUntil, uses};
 
     /// The view of an empty log.
     pub fn new(alloc: Global, settings: Settings) -> View
@@ -68,6 +70,8 @@ impl View {
 
     /// Takes a lawful entry in.
     pub fn take_in(&mut self, entry: &Entry) -> Result<(), AllocError>
+        requires lawful { IsFirst (Breaks (facts_of self.old) self.old.settings entry.now) all_rules None }
+        requires until { IsUntil entry.now.time self.old }
         ensures ok { OnOk result (self.new ≡ view_after self.old entry.now) }
         ensures err { OnErr result (self.new ≡ self.old) }
         ensures opens { OnErr result (IsTrue (opens entry.now.event)) }
@@ -82,6 +86,8 @@ impl View {
     }
 
     fn take_transactions_in(&mut self, entry: &Entry) -> Result<(), AllocError>
+        requires lawful { IsFirst (Breaks (facts_of self.old) self.old.settings entry.now) all_rules None }
+        requires until { IsUntil entry.now.time self.old }
         ensures ok { OnOk result (self.new ≡ record self.old {
           sent_data = pool_after SentData self.old.sent_data entry.now;
           sent_control = pool_after SentControl self.old.sent_control entry.now;
@@ -122,6 +128,8 @@ impl View {
         requests: &mut Transactions,
         opened: Transaction,
     ) -> Result<(), AllocError>
+        requires fresh { IsTrue (is_request opened.header) → (uses opened.header.system primaries.old ≡ false) × (uses opened.header.system requests.old ≡ false) }
+        requires later { AreUntil opened.time primaries.old × AreUntil opened.time requests.old }
         ensures data { OnOk result (primaries.new ≡ primaries.old ++ option_to_list (opened_by opens_data_transaction opened.time opened.header)) }
         ensures control { OnOk result (requests.new ≡ requests.old ++ option_to_list (opened_by opens_control_transaction opened.time opened.header)) }
         ensures err { OnErr result ((primaries.new ≡ primaries.old) × (requests.new ≡ requests.old)) }

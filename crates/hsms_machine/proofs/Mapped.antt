@@ -1,0 +1,326 @@
+-- What a map keeps of open transactions, as the list of its values tells it.
+use Rattle.std.proofs.Common.{◌≡◌, ℕ, ◌+◌, ◌-◌, ◌^◌, ◌<◌, ◌≤◌, min, Bool, true, false, not, cond, ◌==◌, ◌&&◌, ◌||◌, List, [], ◌∷◌, ◌++◌, Option, Some, None, is_some, inl, inr, refl, sym, ap, subst, ◌∙◌, arith, filter, nat_lt, nat_le, nat_eq, slice_get}
+use Rattle.std.specs.List.{AllByRecursion, list_any, find, cons_option}
+use Rattle.std.specs.Cmp.{nat_eq_equiv}
+use Rattle.std.specs.Option.{option_map}
+use Rattle.std.specs.Map.{values_of, lookup, remove_entry}
+use Rattle.std.proofs.lemmas.Bool.{cases_Bool, and_parts, or_cases, eqb-true, eq-eqb, ltb-true, ltb-false, lt-ltb, le-ltb, leb-true, le-leb}
+use Rattle.std.proofs.lemmas.List.Folds.{list_any-append}
+use Rattle.hsms_frame.specs.Header.{kind_of}
+use Rattle.hsms_frame.specs.declared.header.Header.{Header}
+use Rattle.hsms_machine.specs.declared.open.Transaction.{Transaction}
+use Rattle.hsms_machine.specs.Message.{is_reject_kind}
+use Rattle.hsms_machine.specs.Transaction.{passes, answers, answers_kind, rejects, concludes}
+use Rattle.hsms_machine.specs.Timer.{due_at, due_times, least_of, least_in}
+use Rattle.hsms_machine.specs.Ordered.{IsOrdered, AreKeyed, AreSince, AreUntil, AreInOrder, AreApart, AreKept, uses, first_of}
+
+-- the parts of an `||` that is false
+or_parts : (a b : Bool) → (a || b) ≡ false → (a ≡ false) × (b ≡ false)
+or_parts true b e = absurd (let d : true ≡ false = e in cc)
+or_parts false b e = (refl, e)
+
+or_false : (a b : Bool) → b ≡ false → (a || b) ≡ a
+or_false true b e = refl
+or_false false b e = e
+
+-- ---- a look-up by system bytes
+
+pub lookup-find : (system : ℕ) (es : List (ℕ × Transaction)) → AreKeyed es → lookup (nat_eq system) es ≡ find (λ opened. opened.header.system == system) (values_of es)
+lookup-find system [] keyed = refl
+lookup-find system (e ∷ es) keyed =
+    let same : nat_eq system e.0 ≡ (e.1.header.system == system) = ap (nat_eq system) keyed.0 ∙ nat_eq_equiv.symm system e.1.header.system in
+    let rest : lookup (nat_eq system) es ≡ find (λ opened. opened.header.system == system) (values_of es) = lookup-find system es keyed.1 in
+    (λ i. cond (same i) (Some e.1) (rest i))
+
+some_cond : (b : Bool) (x : Transaction) (r : Option Transaction) (c : Bool) → is_some r ≡ c → is_some (cond b (Some x) r) ≡ (b || c)
+some_cond true x r c e = refl
+some_cond false x r c e = e
+
+find-some : (test : Transaction → Bool) (xs : List Transaction) → is_some (find test xs) ≡ list_any test xs
+find-some test [] = refl
+find-some test (x ∷ xs) = some_cond (test x) x (find test xs) (list_any test xs) (find-some test xs)
+
+pub lookup-uses : (system : ℕ) (es : List (ℕ × Transaction)) → AreKeyed es → is_some (lookup (nat_eq system) es) ≡ uses system (values_of es)
+lookup-uses system es keyed = ap is_some (lookup-find system es keyed) ∙ find-some (λ opened. opened.header.system == system) (values_of es)
+
+is_none_at : (r : Option Transaction) → is_some r ≡ false → r ≡ None
+is_none_at None e = refl
+is_none_at (Some x) e = absurd (let d : true ≡ false = e in cc)
+
+pub lookup-fresh : (system : ℕ) (es : List (ℕ × Transaction)) → AreKeyed es → uses system (values_of es) ≡ false → lookup (nat_eq system) es ≡ None
+lookup-fresh system es keyed fresh = is_none_at (lookup (nat_eq system) es) (lookup-uses system es keyed ∙ fresh)
+
+-- ---- a test that only the transaction of some system bytes can pass
+
+module _ (test : Transaction → Bool) (system : ℕ) (only : (x : Transaction) → test x ≡ true → x.header.system ≡ system) where
+  other_fails : (x : Transaction) → (x.header.system == system) ≡ false → test x ≡ false
+  other_fails x differs = elim (cases_Bool (test x)) [
+    | inl t ↦ absurd (let d : true ≡ false = sym (eq-eqb x.header.system system (only x t)) ∙ differs in cc)
+    | inr f ↦ f
+  ]
+
+  any_none : (xs : List Transaction) → uses system xs ≡ false → list_any test xs ≡ false
+  any_none [] none = refl
+  any_none (x ∷ xs) none =
+      let parts = or_parts (x.header.system == system) (uses system xs) none in
+      let here : test x ≡ false = other_fails x parts.0 in
+      rw here (any_none xs parts.1)
+
+  -- no other transaction has the system bytes of the first
+  unused_after : (x : Transaction) (xs : List Transaction) → (x.header.system == system) ≡ true → uses x.header.system xs ≡ false → uses system xs ≡ false
+  unused_after x xs is apart = subst (λ s. uses s xs ≡ false) (eqb-true x.header.system system is) apart
+
+  pub any_at : (xs : List Transaction) → AreApart xs → list_any test xs ≡ passes test (find (λ opened. opened.header.system == system) xs)
+  any_at [] apart = refl
+  any_at (x ∷ xs) apart = elim (cases_Bool (x.header.system == system)) [
+    | inl is ↦ rw is (or_false (test x) (list_any test xs) (any_none xs (unused_after x xs is apart.0)))
+    | inr differs ↦
+        let here : test x ≡ false = other_fails x differs in
+        rw (differs, here) (any_at xs apart.1)
+  ]
+
+-- among those that have the system bytes, the rest of a test decides
+pub passes_found : (test : Transaction → Bool) (system : ℕ) (xs : List Transaction) → passes (λ opened. (opened.header.system == system) && test opened) (find (λ opened. opened.header.system == system) xs) ≡ passes test (find (λ opened. opened.header.system == system) xs)
+passes_found test system [] = refl
+passes_found test system (x ∷ xs) = by_case (passes_found test system xs) (x.header.system == system) refl
+  where
+    by_case : passes (λ opened. (opened.header.system == system) && test opened) (find (λ opened. opened.header.system == system) xs) ≡ passes test (find (λ opened. opened.header.system == system) xs) → (b : Bool) → (x.header.system == system) ≡ b → passes (λ opened. (opened.header.system == system) && test opened) (cond b (Some x) (find (λ opened. opened.header.system == system) xs)) ≡ passes test (cond b (Some x) (find (λ opened. opened.header.system == system) xs))
+    by_case later true e = ap (λ c. c && test x) e
+    by_case later false e = later
+
+pub due_only : (system now limit : ℕ) (x : Transaction) → ((x.header.system == system) && nat_le limit (now - x.time)) ≡ true → x.header.system ≡ system
+due_only system now limit x e = eqb-true x.header.system system (and_parts (x.header.system == system) (nat_le limit (now - x.time)) e).0
+
+pub answers_only : (response : Header) (x : Transaction) → answers x.header response ≡ true → x.header.system ≡ response.system
+unfolding answers
+answers_only response x e =
+    sym (eqb-true response.system x.header.system (and_parts (response.system == x.header.system) (answers_kind (kind_of x.header) (kind_of response) x.header response) e).0)
+
+rejects_only : (other : Header) (x : Transaction) → rejects x.header other ≡ true → x.header.system ≡ other.system
+unfolding rejects
+rejects_only other x e =
+    sym (eqb-true other.system x.header.system (and_parts (other.system == x.header.system) (is_reject_kind (kind_of other)) e).0)
+
+pub concludes_only : (other : Header) (x : Transaction) → concludes x.header other ≡ true → x.header.system ≡ other.system
+concludes_only other x e = elim (or_cases (answers x.header other) (rejects x.header other) e) [
+  | inl a ↦ answers_only other x a
+  | inr r ↦ rejects_only other x r
+]
+
+pub filter_none : (test : Transaction → Bool) (xs : List Transaction) → list_any test xs ≡ false → filter (λ x. not (test x)) xs ≡ xs
+filter_none test [] none = refl
+filter_none test (x ∷ xs) none =
+    let parts = or_parts (test x) (list_any test xs) none in
+    rw parts.0 (ap (λ l. x ∷ l) (filter_none test xs parts.1))
+
+module _ (test : Transaction → Bool) (system : ℕ) (only : (x : Transaction) → test x ≡ true → x.header.system ≡ system) where
+  -- where one passes, it is the one with the system bytes
+  pub filter_one : (xs : List Transaction) → AreApart xs → list_any test xs ≡ true → filter (λ x. not (x.header.system == system)) xs ≡ filter (λ x. not (test x)) xs
+  filter_one [] apart some = refl
+  filter_one (x ∷ xs) apart some = elim (cases_Bool (x.header.system == system)) [
+    | inl is ↦
+        let unused : uses system xs ≡ false = unused_after test system only x xs is apart.0 in
+        let none : list_any test xs ≡ false = any_none test system only xs unused in
+        let here : test x ≡ true = sym (or_false (test x) (list_any test xs) none) ∙ some in
+        rw (is, here) (filter_none (λ opened. opened.header.system == system) xs unused ∙ sym (filter_none test xs none))
+    | inr differs ↦
+        let here : test x ≡ false = other_fails test system only x differs in
+        let later : list_any test xs ≡ true = sym (ap (λ b. b || list_any test xs) here) ∙ some in
+        rw (differs, here) (ap (λ l. x ∷ l) (filter_one xs apart.1 later))
+  ]
+
+-- ---- an entry taken out
+
+pub removed-values : (system : ℕ) (es : List (ℕ × Transaction)) → AreKeyed es → AreApart (values_of es) → values_of (remove_entry (nat_eq system) es) ≡ filter (λ opened. not (opened.header.system == system)) (values_of es)
+removed-values system [] keyed apart = refl
+removed-values system (e ∷ es) keyed apart =
+    let same : nat_eq system e.0 ≡ (e.1.header.system == system) = ap (nat_eq system) keyed.0 ∙ nat_eq_equiv.symm system e.1.header.system in
+    elim (cases_Bool (e.1.header.system == system)) [
+      | inl is ↦
+          let unused : uses system (values_of es) ≡ false = subst (λ s. uses s (values_of es) ≡ false) (eqb-true e.1.header.system system is) apart.0 in
+          let here : nat_eq system e.0 ≡ true = same ∙ is in
+          rw (here, is) (sym (filter_none (λ opened. opened.header.system == system) (values_of es) unused))
+      | inr differs ↦
+          let here : nat_eq system e.0 ≡ false = same ∙ differs in
+          rw (here, differs) (ap (λ l. e.1 ∷ l) (removed-values system es keyed.1 apart.1))
+    ]
+
+module _ (key : ℕ → Bool) where
+  keyed-removed : (es : List (ℕ × Transaction)) → AreKeyed es → AreKeyed (remove_entry key es)
+  keyed-removed [] h = tt
+  keyed-removed (e ∷ es) h = by_case (keyed-removed es h.1) (key e.0)
+    where
+      by_case : AreKeyed (remove_entry key es) → (b : Bool) → AreKeyed (cond b es (e ∷ remove_entry key es))
+      by_case later true = h.1
+      by_case later false = (h.0, later)
+
+  since-removed : (time : ℕ) (es : List (ℕ × Transaction)) → AreSince time (values_of es) → AreSince time (values_of (remove_entry key es))
+  since-removed time [] h = tt
+  since-removed time (e ∷ es) h = by_case (since-removed time es h.1) (key e.0)
+    where
+      by_case : AreSince time (values_of (remove_entry key es)) → (b : Bool) → AreSince time (values_of (cond b es (e ∷ remove_entry key es)))
+      by_case later true = h.1
+      by_case later false = (h.0, later)
+
+  in_order-removed : (es : List (ℕ × Transaction)) → AreInOrder (values_of es) → AreInOrder (values_of (remove_entry key es))
+  in_order-removed [] h = tt
+  in_order-removed (e ∷ es) h = by_case (in_order-removed es h.1) (key e.0)
+    where
+      by_case : AreInOrder (values_of (remove_entry key es)) → (b : Bool) → AreInOrder (values_of (cond b es (e ∷ remove_entry key es)))
+      by_case later true = h.1
+      by_case later false = (since-removed e.1.time es h.0, later)
+
+  uses-removed : (system : ℕ) (es : List (ℕ × Transaction)) → uses system (values_of es) ≡ false → uses system (values_of (remove_entry key es)) ≡ false
+  uses-removed system [] h = h
+  uses-removed system (e ∷ es) h = by_case (uses-removed system es (or_parts (e.1.header.system == system) (uses system (values_of es)) h).1) (key e.0)
+    where
+      parts : ((e.1.header.system == system) ≡ false) × (uses system (values_of es) ≡ false)
+      parts = or_parts (e.1.header.system == system) (uses system (values_of es)) h
+
+      by_case : uses system (values_of (remove_entry key es)) ≡ false → (b : Bool) → uses system (values_of (cond b es (e ∷ remove_entry key es))) ≡ false
+      by_case later true = parts.1
+      by_case later false = ap (λ c. c || uses system (values_of (remove_entry key es))) parts.0 ∙ later
+
+  apart-removed : (es : List (ℕ × Transaction)) → AreApart (values_of es) → AreApart (values_of (remove_entry key es))
+  apart-removed [] h = tt
+  apart-removed (e ∷ es) h = by_case (apart-removed es h.1) (key e.0)
+    where
+      by_case : AreApart (values_of (remove_entry key es)) → (b : Bool) → AreApart (values_of (cond b es (e ∷ remove_entry key es)))
+      by_case later true = h.1
+      by_case later false = (uses-removed e.1.header.system es h.0, later)
+
+  pub kept-removed : (es : List (ℕ × Transaction)) → AreKept es → AreKept (remove_entry key es)
+  kept-removed es h = record { keyed = keyed-removed es h.keyed; apart = apart-removed es h.apart; in_order = in_order-removed es h.in_order }
+
+-- ---- an entry put at the end
+
+pub values-push : (es : List (ℕ × Transaction)) (e : ℕ × Transaction) → values_of (es ++ e ∷ []) ≡ values_of es ++ e.1 ∷ []
+values-push [] e = refl
+values-push (x ∷ xs) e = ap (λ l. x.1 ∷ l) (values-push xs e)
+
+keyed-push : (es : List (ℕ × Transaction)) (opened : Transaction) → AreKeyed es → AreKeyed (es ++ (opened.header.system, opened) ∷ [])
+keyed-push [] opened h = (refl, tt)
+keyed-push (e ∷ es) opened h = (h.0, keyed-push es opened h.1)
+
+apart-push : (xs : List Transaction) (opened : Transaction) → AreApart xs → uses opened.header.system xs ≡ false → AreApart (xs ++ opened ∷ [])
+apart-push [] opened h fresh = (refl, tt)
+apart-push (x ∷ xs) opened h fresh =
+    let parts = or_parts (x.header.system == opened.header.system) (uses opened.header.system xs) fresh in
+    let other : (opened.header.system == x.header.system) ≡ false = nat_eq_equiv.symm opened.header.system x.header.system ∙ parts.0 in
+    let last : uses x.header.system (opened ∷ []) ≡ false = ap (λ b. b || false) other in (
+      list_any-append (λ transaction. transaction.header.system == x.header.system) xs (opened ∷ []) ∙ ap (λ b. b || uses x.header.system (opened ∷ [])) h.0 ∙ last,
+      apart-push xs opened h.1 parts.1,
+    )
+
+since-push : (time : ℕ) (xs : List Transaction) (opened : Transaction) → AreSince time xs → time ≤ opened.time → AreSince time (xs ++ opened ∷ [])
+since-push time [] opened h le = (le, tt)
+since-push time (x ∷ xs) opened h le = (h.0, since-push time xs opened h.1 le)
+
+in_order-push : (xs : List Transaction) (opened : Transaction) → AreInOrder xs → AreUntil opened.time xs → AreInOrder (xs ++ opened ∷ [])
+in_order-push [] opened h until = (tt, tt)
+in_order-push (x ∷ xs) opened h until = (since-push x.time xs opened h.0 until.0, in_order-push xs opened h.1 until.1)
+
+pub kept-push : (es : List (ℕ × Transaction)) (opened : Transaction) → AreKept es → uses opened.header.system (values_of es) ≡ false → AreUntil opened.time (values_of es) → AreKept (es ++ (opened.header.system, opened) ∷ [])
+kept-push es opened h fresh until =
+    let values = values-push es (opened.header.system, opened) in
+    record {
+      keyed = keyed-push es opened h.keyed;
+      apart = subst AreApart (sym values) (apart-push (values_of es) opened h.apart fresh);
+      in_order = subst AreInOrder (sym values) (in_order-push (values_of es) opened h.in_order until);
+    }
+
+-- ---- they are in order
+
+all_since : (time : ℕ) (xs : List Transaction) → AreSince time xs → AllByRecursion (λ other. time ≤ other.time) xs
+all_since time [] h = tt
+all_since time (x ∷ xs) h = (h.0, all_since time xs h.1)
+
+all_apart : (system : ℕ) (xs : List Transaction) → uses system xs ≡ false → AllByRecursion (λ other. (other.header.system == system) ≡ false) xs
+all_apart system [] none = tt
+all_apart system (x ∷ xs) none =
+    let parts = or_parts (x.header.system == system) (uses system xs) none in
+    (parts.0, all_apart system xs parts.1)
+
+pub ordered : (moment : ℕ) (xs : List Transaction) → AreUntil moment xs → AreInOrder xs → AreApart xs → IsOrdered moment xs
+ordered moment [] until in_order apart = tt
+ordered moment (x ∷ xs) until in_order apart = (
+  until.0,
+  all_since x.time xs in_order.0,
+  all_apart x.header.system xs apart.0,
+  ordered moment xs until.1 in_order.1 apart.1,
+)
+
+-- ---- the first is the oldest
+
+pub value-first : (es : List (ℕ × Transaction)) → option_map (λ e. e.1) (slice_get es 0) ≡ first_of (values_of es)
+value-first [] = refl
+value-first (e ∷ es) = refl
+
+module _ (test : ℕ → Bool) (falls : (a b : ℕ) → a ≤ b → test b ≡ true → test a ≡ true) where
+  none_since : (time : ℕ) → test time ≡ false → (xs : List Transaction) → AreSince time xs → list_any (λ opened. test opened.time) xs ≡ false
+  none_since time none [] h = refl
+  none_since time none (x ∷ xs) h = elim (cases_Bool (test x.time)) [
+    | inl t ↦ absurd (let d : true ≡ false = sym (falls time x.time h.0 t) ∙ none in cc)
+    | inr f ↦ rw f (none_since time none xs h.1)
+  ]
+
+  pub any_first : (xs : List Transaction) → AreInOrder xs → list_any (λ opened. test opened.time) xs ≡ passes (λ opened. test opened.time) (first_of xs)
+  any_first [] h = refl
+  any_first (x ∷ xs) h = elim (cases_Bool (test x.time)) [
+    | inl t ↦ rw t refl
+    | inr f ↦ rw f (none_since x.time f xs h.0)
+  ]
+
+pub overdue_falls : (now limit a b : ℕ) → a ≤ b → nat_lt limit (now - b) ≡ true → nat_lt limit (now - a) ≡ true
+overdue_falls now limit a b le late =
+    let h : limit < now - b = ltb-true limit (now - b) late in
+    lt-ltb limit (now - a) (omega arith)
+
+pub due_falls : (now limit a b : ℕ) → a ≤ b → nat_le limit (now - b) ≡ true → nat_le limit (now - a) ≡ true
+due_falls now limit a b le late =
+    let h : limit ≤ now - b = leb-true limit (now - b) late in
+    le-leb limit (now - a) (omega arith)
+
+module _ (limit : ℕ) where
+  -- the moment of a transaction, if there is one
+  abbrev pub due_of : Option Transaction → Option ℕ
+  due_of None = None
+  due_of (Some opened) = due_at limit opened.time
+
+  no_due : (time : ℕ) → nat_lt (time + limit) (2 ^ 64) ≡ false → (xs : List Transaction) → AreSince time xs → due_times limit xs ≡ []
+  no_due time far [] h = refl
+  no_due time far (x ∷ xs) h =
+      let above : 2 ^ 64 ≤ time + limit = ltb-false (time + limit) (2 ^ 64) far in
+      let le : time ≤ x.time = h.0 in
+      let here : nat_lt (x.time + limit) (2 ^ 64) ≡ false = le-ltb (x.time + limit) (2 ^ 64) (omega arith) in
+      rw here (no_due time far xs h.1)
+
+  -- the moment is none, or not before this one
+  abbrev IsNotBefore : ℕ → Option ℕ → Type 0
+  IsNotBefore moment None = Unit {0}
+  IsNotBefore moment (Some other) = moment ≤ other
+
+  not_before_cons : (moment one : ℕ) (rest : Option ℕ) → moment ≤ one → IsNotBefore moment rest → IsNotBefore moment (least_of (Some one) rest)
+  not_before_cons moment one None le h = le
+  not_before_cons moment one (Some other) le h = omega arith
+
+  not_before_option : (moment one : ℕ) (b : Bool) (rest : List ℕ) → moment ≤ one → IsNotBefore moment (least_in rest) → IsNotBefore moment (least_in (cons_option (cond b (Some one) None) rest))
+  not_before_option moment one true rest le h = not_before_cons moment one (least_in rest) le h
+  not_before_option moment one false rest le h = h
+
+  due_since : (time : ℕ) (xs : List Transaction) → AreSince time xs → IsNotBefore (time + limit) (least_in (due_times limit xs))
+  due_since time [] h = tt
+  due_since time (x ∷ xs) h =
+      let le : time ≤ x.time = h.0 in
+      not_before_option (time + limit) (x.time + limit) (nat_lt (x.time + limit) (2 ^ 64)) (due_times limit xs) (omega arith) (due_since time xs h.1)
+
+  least_first : (moment : ℕ) (rest : Option ℕ) → IsNotBefore moment rest → least_of (Some moment) rest ≡ Some moment
+  least_first moment None h = refl
+  least_first moment (Some other) h = ap (λ n. Some n) (let e : min moment other ≡ moment = omega arith in e)
+
+  pub due_first : (xs : List Transaction) → AreInOrder xs → least_in (due_times limit xs) ≡ due_of (first_of xs)
+  due_first [] h = refl
+  due_first (x ∷ xs) h = elim (cases_Bool (nat_lt (x.time + limit) (2 ^ 64))) [
+    | inl near ↦ rw near (least_first (x.time + limit) (least_in (due_times limit xs)) (due_since x.time xs h.0))
+    | inr far ↦ rw far (ap least_in (no_due x.time far xs h.0))
+  ]

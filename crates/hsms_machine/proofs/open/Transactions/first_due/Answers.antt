@@ -1,0 +1,7 @@
+use Rattle.std.proofs.Common.{◌∙◌, ap, sym}
+use Rattle.hsms_machine.proofs.Mapped.{due_of, due_first}
+use Rattle.hsms_machine.proofs.open.Transactions.first_due.Goals as goal
+
+pub returns-in-Some : goal.returns-in-Some
+returns-in-Some c =
+    c.due_at.ensures ∙ ap (due_of c.args.limit) c.in-Some.ensures.first ∙ sym (due_first c.args.limit c.args.self.now c.in-Some.ensures.in_order)

@@ -1,0 +1,14 @@
+use Rattle.std.proofs.Common.{◌∙◌, ap, sym}
+use Rattle.hsms_machine.specs.Transaction.{passes, answers}
+use Rattle.hsms_machine.proofs.Mapped.{any_at, answers_only}
+use Rattle.hsms_machine.proofs.open.Transactions.has_request_of.Goals as goal
+
+pub returns-in-Some : goal.returns-in-Some
+returns-in-Some c =
+    c.answers.ensures ∙ ap (passes (λ opened. answers opened.header c.args.response)) c.in-Some.ensures.found
+    ∙ sym (any_at (λ opened. answers opened.header c.args.response) c.args.response.system (answers_only c.args.response) c.args.self.now c.in-Some.ensures.apart)
+
+pub returns-in-None : goal.returns-in-None
+returns-in-None c =
+    ap (passes (λ opened. answers opened.header c.args.response)) c.in-None.ensures.found
+    ∙ sym (any_at (λ opened. answers opened.header c.args.response) c.args.response.system (answers_only c.args.response) c.args.self.now c.in-None.ensures.apart)

@@ -1,0 +1,57 @@
+-- Open transactions of one direction and kind are in order of opening. After that, how they are kept: each under the
+-- system bytes of its request. Private functions alone speak of this last part.
+use Rattle.std.specs.Prelude.{◌≡◌, ℕ, ◌≤◌, ◌==◌, Bool, false, List, [], ◌∷◌, Option, Some, None}
+use Rattle.std.specs.List.{AllByRecursion, list_any}
+use Rattle.std.specs.Map.{values_of}
+use Rattle.hsms_machine.specs.declared.open.Transaction.{Transaction}
+
+-- None was opened after the moment. None was opened before an earlier one of the list, or has its system bytes.
+abbrev pub IsOrdered : ℕ → List Transaction → Type 0
+IsOrdered moment [] = Unit {0}
+IsOrdered moment (first ∷ later) =
+    (first.time ≤ moment)
+    × AllByRecursion (λ other. first.time ≤ other.time) later
+    × AllByRecursion (λ other. (other.header.system == first.header.system) ≡ false) later
+    × IsOrdered moment later
+
+-- ---- how they are kept
+
+-- each key is the system bytes of its transaction
+abbrev pub AreKeyed : List (ℕ × Transaction) → Type 0
+AreKeyed [] = Unit {0}
+AreKeyed (entry ∷ entries) = (entry.0 ≡ entry.1.header.system) × AreKeyed entries
+
+-- no transaction was opened before this time
+abbrev pub AreSince : ℕ → List Transaction → Type 0
+AreSince time [] = Unit {0}
+AreSince time (opened ∷ later) = (time ≤ opened.time) × AreSince time later
+
+-- no transaction was opened after this time
+abbrev pub AreUntil : ℕ → List Transaction → Type 0
+AreUntil time [] = Unit {0}
+AreUntil time (opened ∷ later) = (opened.time ≤ time) × AreUntil time later
+
+-- times do not fall along the list
+abbrev pub AreInOrder : List Transaction → Type 0
+AreInOrder [] = Unit {0}
+AreInOrder (opened ∷ later) = AreSince opened.time later × AreInOrder later
+
+-- a transaction has these system bytes
+abbrev pub uses : ℕ → List Transaction → Bool
+uses system opened = list_any (λ transaction. transaction.header.system == system) opened
+
+-- no two transactions have the same system bytes
+abbrev pub AreApart : List Transaction → Type 0
+AreApart [] = Unit {0}
+AreApart (opened ∷ later) = (uses opened.header.system later ≡ false) × AreApart later
+
+-- the transaction that was opened first
+abbrev pub first_of : List Transaction → Option Transaction
+first_of [] = None
+first_of (opened ∷ later) = Some opened
+
+-- what a map of open transactions keeps
+pub record AreKept (entries : List (ℕ × Transaction)) : Type 0 where
+  pub keyed : AreKeyed entries
+  pub apart : AreApart (values_of entries)
+  pub in_order : AreInOrder (values_of entries)
