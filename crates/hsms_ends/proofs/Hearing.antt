@@ -32,8 +32,6 @@ heard_sound end end' octets is sound =
             taken_control = steady.taken_control;
             few = steady.few;
             unselected = steady.unselected;
-            data_ordered = steady.data_ordered;
-            control_ordered = steady.control_ordered;
           });
     })
 

@@ -29,11 +29,11 @@ use Rattle.hsms_ends.specs.Drive.{Responds, is_refused, is_accepted, Drives, oct
 
 -- ---- what acts receive
 
-receipt : Act → List ℕ
+abbrev receipt : Act → List ℕ
 receipt (logs event) = octets_in event
 receipt (asks frame) = []
 
-receipts : List Act → List ℕ
+abbrev receipts : List Act → List ℕ
 receipts [] = []
 receipts (act ∷ acts) = receipt act ++ receipts acts
 
@@ -164,8 +164,8 @@ handled_keeps desk end frame entries end' h =
     let broken : Option Rule = h.0 in
     let received = acts_receive (logs (received_as frame broken) ∷ reaction end.settings (is_selected end.view.phase) frame.header broken h.1) end entries end' h.4 in (
       received.0
-      ∙ ap (λ xs. octets_in (received_as frame broken) ++ xs) (reaction_none end.settings (is_selected end.view.phase) frame.header broken h.1)
-      ∙ append-nil (octets_in (received_as frame broken)) ∙ received_frame frame broken,
+          ∙ ap (λ xs. octets_in (received_as frame broken) ++ xs) (reaction_none end.settings (is_selected end.view.phase) frame.header broken h.1)
+          ∙ append-nil (octets_in (received_as frame broken)) ∙ received_frame frame broken,
       received.1,
     )
 

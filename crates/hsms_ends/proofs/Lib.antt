@@ -23,6 +23,7 @@ pub mod Primaries
 pub mod Takings
 pub mod Hearing
 pub mod Kept
-pub mod Driven
+pub mod Drives
 pub mod Numbers
 pub mod TickLaws
+pub mod Single

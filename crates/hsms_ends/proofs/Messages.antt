@@ -184,7 +184,6 @@ module _ (end : State) (sound : IsSound end) (message : Content) (text : List �
         no_selection = no_selection;
         room = omega arith;
         data_selected = inr selected;
-        fresh = λ e. free;
       }
 
   pub message_sound : (end' : State) → end' ≡ after_number end (message_frame end.settings message text number) number → IsSound end'

@@ -1,64 +1,13 @@
 -- Open own transactions, in order of opening.
-use Rattle.std.proofs.Common.{◌≡◌, ℕ, ◌-◌, ◌≤◌, ◌==◌, Bool, true, false, cond, ◌||◌, not, nat_lt, List, [], ◌∷◌, ◌++◌, filter, option_to_list, None, Some, refl, sym, ap, subst, ◌∙◌, arith, if◌then◌else◌, append-nil}
+use Rattle.std.proofs.Common.{◌≡◌, ℕ, ◌-◌, ◌≤◌, ◌==◌, Bool, true, false, cond, ◌||◌, not, nat_lt, List, [], ◌∷◌, ◌++◌, filter, refl, ap, ◌∙◌, arith, append-nil}
 use Rattle.std.specs.List.{list_any, AllByRecursion}
 use Rattle.std.proofs.lemmas.Bool.Decides.{nat_tests}
-use Rattle.hsms_frame.specs.declared.header.Header.{Header}
 use Rattle.hsms_machine.specs.declared.open.Transaction.{Transaction}
-use Rattle.hsms_machine.specs.Transaction.{opened_by}
 use Rattle.hsms_machine.specs.Ordered.{IsOrdered}
-
--- ---- what all of a list are
-
-all_cond : (P : Transaction → Type 0) (x : Transaction) (ys : List Transaction) (b : Bool) → P x → AllByRecursion P ys → AllByRecursion P (cond b (x ∷ ys) ys)
-all_cond P x ys true p all = (p, all)
-all_cond P x ys false p all = all
-
-all_filter : (P : Transaction → Type 0) (test : Transaction → Bool) (xs : List Transaction) → AllByRecursion P xs → AllByRecursion P (filter test xs)
-all_filter P test [] all = tt
-all_filter P test (x ∷ xs) all = all_cond P x (filter test xs) (test x) all.0 (all_filter P test xs all.1)
-
-all_then : (P : Transaction → Type 0) (xs : List Transaction) (y : Transaction) → AllByRecursion P xs → P y → AllByRecursion P (xs ++ y ∷ [])
-all_then P [] y all p = (p, tt)
-all_then P (x ∷ xs) y all p = (all.0, all_then P xs y all.1 p)
-
--- ---- what keeps the order
-
-ordered_cond : (moment : ℕ) (x : Transaction) (ys : List Transaction) (b : Bool) → x.time ≤ moment → AllByRecursion (λ (other : Transaction). x.time ≤ other.time) ys → AllByRecursion (λ (other : Transaction). (other.header.system == x.header.system) ≡ false) ys → IsOrdered moment ys → IsOrdered moment (cond b (x ∷ ys) ys)
-ordered_cond moment x ys true until since apart h = (until, since, apart, h)
-ordered_cond moment x ys false until since apart h = h
-
-pub ordered_filter : (moment : ℕ) (test : Transaction → Bool) (xs : List Transaction) → IsOrdered moment xs → IsOrdered moment (filter test xs)
-ordered_filter moment test [] h = tt
-ordered_filter moment test (x ∷ xs) h =
-    ordered_cond moment x (filter test xs) (test x) h.0
-    (all_filter (λ (other : Transaction). x.time ≤ other.time) test xs h.1)
-    (all_filter (λ (other : Transaction). (other.header.system == x.header.system) ≡ false) test xs h.2)
-    (ordered_filter moment test xs h.3)
-
--- a pool after an entry that closes some and opens none
-pub ordered_closed : (moment : ℕ) (test : Transaction → Bool) (xs : List Transaction) → IsOrdered moment xs → IsOrdered moment (filter test xs ++ [])
-ordered_closed moment test xs h = subst (IsOrdered moment) (sym (append-nil _)) (ordered_filter moment test xs h)
 
 pub ordered_later : (moment later : ℕ) (xs : List Transaction) → moment ≤ later → IsOrdered moment xs → IsOrdered later xs
 ordered_later moment later [] le h = tt
 ordered_later moment later (x ∷ xs) le h = ((let at : x.time ≤ moment = h.0 in omega arith), h.1, h.2, ordered_later moment later xs le h.3)
-
-neither : (a b : Bool) → (a || b) ≡ false → (a ≡ false) × (b ≡ false)
-neither true b e = absurd (let d : true ≡ false = e in cc)
-neither false b e = (refl, e)
-
-turned : (a b : ℕ) → (a == b) ≡ false → (b == a) ≡ false
-turned a b e = grind (arith, nat_tests)
-
-ordered_more : (moment : ℕ) (xs : List Transaction) (y : Transaction) → y.time ≡ moment → list_any (λ (opened : Transaction). opened.header.system == y.header.system) xs ≡ false → IsOrdered moment xs → IsOrdered moment (xs ++ y ∷ [])
-ordered_more moment [] y e fresh h = (omega arith, tt, tt, tt)
-ordered_more moment (x ∷ xs) y e fresh h =
-    let new : ((x.header.system == y.header.system) ≡ false) × (list_any (λ (opened : Transaction). opened.header.system == y.header.system) xs ≡ false) = neither _ _ fresh in (
-      h.0,
-      all_then (λ (other : Transaction). x.time ≤ other.time) xs y h.1 (let at : x.time ≤ moment = h.0 in omega arith),
-      all_then (λ (other : Transaction). (other.header.system == x.header.system) ≡ false) xs y h.2 (turned x.header.system y.header.system new.0),
-      ordered_more moment xs y e new.1 h.3,
-    )
 
 unfiltered : (xs : List Transaction) → filter (λ (transaction : Transaction). not false) xs ≡ xs
 unfiltered [] = refl
@@ -67,17 +16,6 @@ unfiltered (x ∷ xs) = ap (λ ys. x ∷ ys) (unfiltered xs)
 -- a pool that loses nothing
 pub as_it_was : (xs : List Transaction) → filter (λ (transaction : Transaction). not false) xs ++ [] ≡ xs
 as_it_was xs = append-nil _ ∙ unfiltered xs
-
-opened_if : (moment : ℕ) (xs : List Transaction) (header : Header) (opens : Bool) → (opens ≡ true → list_any (λ (opened : Transaction). opened.header.system == header.system) xs ≡ false) → IsOrdered moment xs → IsOrdered moment (xs ++ option_to_list (if opens then Some (record { time = moment; header = header }) else None))
-opened_if moment xs header true fresh h = ordered_more moment xs (record { time = moment; header = header }) refl (fresh refl) h
-opened_if moment xs header false fresh h = subst (IsOrdered moment) (sym (append-nil xs)) h
-
--- a request that is sent with system bytes that none has
-pub ordered_opened : (test : Header → Bool) (moment : ℕ) (header : Header) (xs : List Transaction) → (test header ≡ true → list_any (λ (opened : Transaction). opened.header.system == header.system) xs ≡ false) → IsOrdered moment xs → IsOrdered moment (filter (λ (transaction : Transaction). not false) xs ++ option_to_list (opened_by test moment header))
-ordered_opened test moment header xs fresh h =
-    subst (λ ys. IsOrdered moment (ys ++ option_to_list (opened_by test moment header))) (sym (unfiltered xs)) (opened_if moment xs header (test header) fresh h)
-
--- ---- the first of them
 
 same_system : (n : ℕ) → (n == n) ≡ true
 same_system n = grind (arith, nat_tests)
@@ -116,6 +54,10 @@ all_in_time limit moment at x xs h e = or_both (nat_lt limit (moment - x.time)) 
 
 none_kept : (test : Transaction → Bool) (x : Transaction) (ys : List Transaction) → test x ≡ false → ys ≡ [] → cond (test x) (x ∷ ys) ys ≡ []
 none_kept test x ys e same = ap (λ t. cond t (x ∷ ys) ys) e ∙ same
+
+neither : (a b : Bool) → (a || b) ≡ false → (a ≡ false) × (b ≡ false)
+neither true b e = absurd (let d : true ≡ false = e in cc)
+neither false b e = (refl, e)
 
 -- where none passes the test, none is picked
 pub none_picked : (test : Transaction → Bool) (xs : List Transaction) → list_any test xs ≡ false → filter test xs ≡ []

@@ -221,8 +221,6 @@ module _ (end : State) (late : IsLate end) (in_time : is_data_overdue end ≡ fa
           taken_control = late.taken_control;
           few = late.few;
           unselected = late.unselected;
-          data_ordered = late.data_ordered;
-          control_ordered = late.control_ordered;
         };
       }
 

@@ -20,9 +20,7 @@ use Rattle.hsms_machine.specs.View.{HasView}
 use Rattle.hsms_ends.specs.Doing.{Does}
 use Rattle.hsms_ends.specs.Turn.{is_up, is_unselected}
 use Rattle.hsms_ends.specs.Sound.{IsSound}
-use Rattle.hsms_machine.specs.Ordered.{IsOrdered}
 use Rattle.hsms_ends.specs.Owing.{IsOwing, IsMild}
-use Rattle.hsms_ends.proofs.Ordering.{ordered_closed}
 use Rattle.hsms_ends.proofs.Steadiness.{or_first, or_second, or_both, up_is_not_before, up_is_not_over}
 
 -- ---- the phase
@@ -112,8 +110,6 @@ module _ (end : State) (event : Event) (primaries controls : List Transaction) (
             let h = owing.few in
             omega arith);
         unselected = λ u. data_is ∙ ap (λ (xs : List Transaction). filter (λ transaction. not (is_closed_by SentData event transaction)) xs ++ []) (owing.unselected (still_unselected u));
-        data_ordered = subst (IsOrdered end.moment) (sym data_is) (ordered_closed end.moment (λ transaction. not (is_closed_by SentData event transaction)) end.tracker.sent_data owing.data_ordered);
-        control_ordered = subst (IsOrdered end.moment) (sym control_is) (ordered_closed end.moment (λ transaction. not (is_closed_by SentControl event transaction)) end.tracker.sent_control owing.control_ordered);
       }
 
 -- ---- between calls
@@ -131,8 +127,6 @@ sound_owing end sound up =
       taken_control = steady.taken_control;
       few = steady.few;
       unselected = steady.unselected;
-      data_ordered = steady.data_ordered;
-      control_ordered = steady.control_ordered;
     }
 
 -- the peer's transactions are none between calls: an end that owes no answer is as it is between calls
@@ -144,7 +138,7 @@ peers_transactions_are_none_between_calls end owing =
       limit = owing.limit;
       not_over = up_is_not_over end.tracker.phase owing.up;
       fresh = λ e. absurd (up_is_not_before end.tracker.phase owing.up e);
-      steady = λ up. record { calm = owing.calm; taken_data = owing.taken_data; taken_control = owing.taken_control; few = owing.few; unselected = owing.unselected; data_ordered = owing.data_ordered; control_ordered = owing.control_ordered };
+      steady = λ up. record { calm = owing.calm; taken_data = owing.taken_data; taken_control = owing.taken_control; few = owing.few; unselected = owing.unselected };
     }
 
 -- the next number has no part in it
@@ -160,8 +154,6 @@ owing_numbered end number primaries controls owing =
       taken_control = owing.taken_control;
       few = owing.few;
       unselected = owing.unselected;
-      data_ordered = owing.data_ordered;
-      control_ordered = owing.control_ordered;
     }
 
 -- ---- frames

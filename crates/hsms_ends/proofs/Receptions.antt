@@ -106,8 +106,6 @@ reframed end end' rest is sound =
             taken_control = steady.taken_control;
             few = steady.few;
             unselected = steady.unselected;
-            data_ordered = steady.data_ordered;
-            control_ordered = steady.control_ordered;
           });
     })
 

@@ -51,11 +51,11 @@ module _ (end : State) (sound : IsSound end) (up : is_up end.tracker.phase ≡ t
 
   select_send : (number : ℕ) → own_open_of end.tracker < 64 → IsFree end.tracker number → IsSteadySend end (select_req number)
   unfolding is_data_request is_control_request establishes separates
-  select_send number room free = record { stays = refl; no_selection = refl; room = omega arith; data_selected = inl refl; fresh = λ e. free }
+  select_send number room free = record { stays = refl; no_selection = refl; room = omega arith; data_selected = inl refl }
 
   linktest_send : (number : ℕ) → own_open_of end.tracker < 64 → IsFree end.tracker number → IsSteadySend end (linktest_req number)
   unfolding is_data_request is_control_request establishes separates
-  linktest_send number room free = record { stays = refl; no_selection = refl; room = omega arith; data_selected = inl refl; fresh = λ e. free }
+  linktest_send number room free = record { stays = refl; no_selection = refl; room = omega arith; data_selected = inl refl }
 
   pub select_sound : (number : ℕ) → own_open_of end.tracker < 64 → IsFree end.tracker number → IsSound (after_number end (select_req number) number)
   select_sound number room free =

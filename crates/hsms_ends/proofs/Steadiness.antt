@@ -1,5 +1,5 @@
 -- What holds of an end between calls is kept by what it does.
-use Rattle.std.proofs.Common.{◌≡◌, ℕ, ◌+◌, ◌-◌, ◌≤◌, ◌==◌, Bool, true, false, ◌&&◌, ◌||◌, not, nat_lt, List, [], ◌∷◌, ◌++◌, length, filter, option_to_list, None, Some, refl, sym, ap, subst, ◌∙◌, inl, inr, ◌⊎◌, arith, if◌then◌else◌}
+use Rattle.std.proofs.Common.{◌≡◌, ℕ, ◌+◌, ◌-◌, ◌≤◌, Bool, true, false, ◌&&◌, ◌||◌, not, nat_lt, List, [], ◌∷◌, ◌++◌, length, filter, option_to_list, None, Some, refl, sym, ap, subst, ◌∙◌, inl, inr, ◌⊎◌, arith, if◌then◌else◌}
 use Rattle.std.specs.List.{list_any}
 use Rattle.std.proofs.lemmas.Bool.Decides.{nat_tests}
 use Rattle.hsms_frame.specs.declared.header.Header.{Header}
@@ -10,7 +10,7 @@ use Rattle.hsms_machine.specs.declared.phase.Phase.TheVariants as phase
 use Rattle.hsms_machine.specs.declared.rule.Rule.{Rule}
 use Rattle.hsms_machine.specs.declared.rule.Rule.TheVariants.{Backwards, NotUp, Ended, T3Overdue, LinkOverdue, NotDue, NoCause}
 use Rattle.hsms_machine.specs.declared.open.Transaction.{Transaction}
-use Rattle.hsms_machine.specs.Message.{is_data_request, is_control_request, is_request, establishes, separates}
+use Rattle.hsms_machine.specs.Message.{is_data_request, is_control_request, establishes, separates}
 use Rattle.hsms_machine.specs.Transaction.{opened_by, concludes}
 use Rattle.hsms_machine.specs.Settings.{IsWithinLimits}
 use Rattle.hsms_machine.specs.Rule.{Breaks, all_rules}
@@ -21,10 +21,7 @@ use Rattle.hsms_ends.specs.Inside.{entry_of, after_event}
 use Rattle.hsms_ends.specs.Turn.{is_up, is_unselected}
 use Rattle.hsms_ends.specs.Doing.{IsLawful}
 use Rattle.hsms_ends.specs.Sound.{IsFresh, IsSteady, IsSound}
-use Rattle.hsms_ends.specs.Number.{IsFree}
-use Rattle.hsms_machine.specs.Ordered.{IsOrdered}
 use Rattle.hsms_ends.proofs.Lawfuls.{none_of}
-use Rattle.hsms_ends.proofs.Ordering.{ordered_opened}
 
 -- ---- a connection that goes down
 
@@ -103,8 +100,6 @@ module _ (end : State) (before : end.tracker.phase ≡ phase.Before) (fresh : Is
             let e2 = ap (λ (xs : List Transaction). length xs) (idle end.tracker.sent_control fresh.sent_control) in
             omega arith);
         unselected = λ e. idle end.tracker.sent_data fresh.sent_data;
-        data_ordered = subst (IsOrdered end.moment) (sym (idle end.tracker.sent_data fresh.sent_data)) tt;
-        control_ordered = subst (IsOrdered end.moment) (sym (idle end.tracker.sent_control fresh.sent_control)) tt;
       }
 
   pub up_none : own_open_of (after_event end Up).tracker ≡ 0
@@ -140,13 +135,6 @@ or_first false b e = refl
 pub or_second : (a b : Bool) → (a || b) ≡ false → b ≡ false
 or_second true b e = absurd (let d : true ≡ false = e in cc)
 or_second false b e = e
-
-or_left : (a b : Bool) → a ≡ true → (a || b) ≡ true
-or_left a b e = ap (λ x. x || b) e
-
-or_right : (a b : Bool) → b ≡ true → (a || b) ≡ true
-or_right true b e = refl
-or_right false b e = e
 
 pub or_both : (a b : Bool) → a ≡ false → b ≡ false → (a || b) ≡ false
 or_both a b e f = ap (λ x. x || b) e ∙ f
@@ -190,7 +178,6 @@ pub record IsSteadySend (end : State) (frame : Frame) : Type 0 where
   pub no_selection : establishes frame.header ≡ false
   pub room : own_open_of end.tracker + one_if (is_data_request frame.header) + one_if (is_control_request frame.header) ≤ 64
   pub data_selected : (is_data_request frame.header ≡ false) ⊎ (end.tracker.phase ≡ phase.Selected)
-  pub fresh : is_request frame.header ≡ true → IsFree end.tracker frame.header.system
 
 module _ (end : State) (frame : Frame) (up : is_up end.tracker.phase ≡ true) (steady : IsSteady end) (send : IsSteadySend end frame) where
   pub sent_phase : phase_after end.tracker.phase (Sent frame) ≡ end.tracker.phase
@@ -216,8 +203,6 @@ module _ (end : State) (frame : Frame) (up : is_up end.tracker.phase ≡ true) (
           | inl none ↦ none_opened is_data_request end.moment frame.header end.tracker.sent_data (steady.unselected (ap is_unselected (sym sent_phase) ∙ e)) none
           | inr selected ↦ absurd (let d : false ≡ true = ap is_unselected (sym (sent_phase ∙ selected)) ∙ e in cc)
         ];
-        data_ordered = ordered_opened is_data_request end.moment frame.header end.tracker.sent_data (λ t. or_first _ _ (send.fresh (or_left _ (is_control_request frame.header) t))) steady.data_ordered;
-        control_ordered = ordered_opened is_control_request end.moment frame.header end.tracker.sent_control (λ t. or_second (list_any (λ (opened : Transaction). opened.header.system == frame.header.system) end.tracker.sent_data) _ (send.fresh (or_right (is_data_request frame.header) _ t))) steady.control_ordered;
       }
 
   pub sent_sound : end.settings ≡ end.tracker.settings → IsWithinLimits end.settings → end.framer.max ≡ end.settings.max → IsSound (after_event end (Sent frame))
@@ -248,7 +233,5 @@ renumbered end number sound =
             taken_control = steady.taken_control;
             few = steady.few;
             unselected = steady.unselected;
-            data_ordered = steady.data_ordered;
-            control_ordered = steady.control_ordered;
           });
     }

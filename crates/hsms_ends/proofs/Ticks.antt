@@ -7,6 +7,7 @@ use Rattle.hsms_machine.specs.declared.phase.Phase.{Phase}
 use Rattle.hsms_machine.specs.declared.phase.Phase.TheVariants as phase
 use Rattle.hsms_machine.specs.declared.open.Transaction.{Transaction}
 use Rattle.hsms_machine.specs.Settings.{Parameters}
+use Rattle.hsms_machine.specs.Step.{IsInOrder}
 use Rattle.hsms_ends.specs.declared.state.State.{State}
 use Rattle.hsms_ends.specs.Frame.{warning}
 use Rattle.hsms_ends.specs.Act.{Act, asks}
@@ -21,8 +22,8 @@ use Rattle.hsms_ends.proofs.Ordering.{ordered_later}
 use Rattle.hsms_ends.proofs.Expirations.{all_expired}
 
 -- a sound end whose time goes on
-pub late_at : (end : State) (now : ℕ) → IsSound end → is_up end.tracker.phase ≡ true → IsLate (at_later end now)
-late_at end now sound up =
+pub late_at : (end : State) (now : ℕ) → IsSound end → IsInOrder end.tracker → is_up end.tracker.phase ≡ true → IsLate (at_later end now)
+late_at end now sound order up =
     let steady = sound.steady up in
     let le : end.tracker.last_time ≤ end.moment = steady.calm.not_past in
     record {
@@ -35,8 +36,8 @@ late_at end now sound up =
       taken_control = steady.taken_control;
       few = steady.few;
       unselected = steady.unselected;
-      data_ordered = ordered_later end.moment (max end.moment now) end.tracker.sent_data (omega arith) steady.data_ordered;
-      control_ordered = ordered_later end.moment (max end.moment now) end.tracker.sent_control (omega arith) steady.control_ordered;
+      data_ordered = ordered_later end.tracker.last_time (max end.moment now) end.tracker.sent_data (omega arith) order.sent_data;
+      control_ordered = ordered_later end.tracker.last_time (max end.moment now) end.tracker.sent_control (omega arith) order.sent_control;
     }
 
 same_warnings : (settings : Parameters) (xs : List Transaction) → map (warns_of settings) (headers_of xs) ≡ map (expiry_warning settings) xs

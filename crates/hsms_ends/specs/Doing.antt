@@ -4,9 +4,7 @@ use Rattle.std.specs.Prelude.{◌≡◌, ◌≤◌, ◌-◌, false, List, ◌++�
 use Rattle.std.specs.List.{list_any}
 use Rattle.hsms_machine.specs.declared.entry.Entry.{Entry}
 use Rattle.hsms_machine.specs.declared.entry.Event.{Event}
-use Rattle.hsms_machine.specs.declared.view.View.{View}
 use Rattle.hsms_machine.specs.Rule.{Breaks, IsFirst, all_rules}
-use Rattle.hsms_machine.specs.View.{ForEachRun, HasView}
 use Rattle.hsms_machine.specs.Step.{facts_of}
 use Rattle.hsms_ends.specs.declared.state.State.{State}
 use Rattle.hsms_ends.specs.Act.{Act, Acts}

@@ -1,5 +1,5 @@
 -- A whole connection from a list of inputs (this project's own).
-use Rattle.std.specs.Prelude.{◌≡◌, ℕ, List, [], ◌∷◌, ◌++◌, Option, Some, None}
+use Rattle.std.specs.Prelude.{◌≡◌, ℕ, List, [], ◌∷◌, ◌++◌, Some, None}
 use Rattle.secs_text.specs.Content.{Content}
 use Rattle.secs_text.specs.View.{content}
 use Rattle.hsms_frame.specs.Frame.{frame_octets}

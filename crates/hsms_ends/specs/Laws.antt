@@ -1,5 +1,5 @@
 -- The laws of the ends (this project's own), over the definitions alone.
-use Rattle.std.specs.Prelude.{◌≡◌, ◌<◌, ◌≤◌, ℕ, false, List, [], ◌∷◌, ◌++◌, map, max, Some}
+use Rattle.std.specs.Prelude.{◌≡◌, ◌<◌, ◌≤◌, ℕ, false, List, [], ◌∷◌, ◌++◌, map, max, Option, Some}
 use Rattle.std.specs.List.{list_any}
 use Rattle.secs_text.specs.Content.{Content}
 use Rattle.hsms_machine.specs.declared.entry.Entry.{Entry}
@@ -9,10 +9,13 @@ use Rattle.hsms_machine.specs.declared.open.Transaction.{Transaction}
 use Rattle.hsms_machine.specs.declared.view.View.{View}
 use Rattle.hsms_machine.specs.Entry.{is_t3}
 use Rattle.hsms_machine.specs.View.{own_open_of}
+use Rattle.hsms_ends.specs.declared.fault.EndFault.{EndFault}
 use Rattle.hsms_ends.specs.Answer.{Answered}
 use Rattle.hsms_ends.specs.Known.{Known}
 use Rattle.hsms_ends.specs.Number.{number_on, IsFree, IsFirstFree}
 use Rattle.hsms_ends.specs.Turn.{Told, Turn, tick, expired_at, overdue_cause}
+use Rattle.hsms_ends.specs.Act.{Act, Acts}
+use Rattle.hsms_ends.specs.Fault.{Meets}
 use Rattle.hsms_ends.specs.Drive.{Drives, octets_of, octets_told, octets_received}
 
 -- ---- octets
@@ -30,6 +33,19 @@ DriveKeepsOctets =
     (desk : Content → Answered) (end : Known) (inputs accepted : List Told) (entries : List Entry) (end' : Known)
     → Drives desk end inputs accepted entries end'
     → end.pending ++ octets_told accepted ≡ octets_received entries ++ end'.pending
+
+-- ---- one outcome
+
+-- an input meets at most one fault, or none
+abbrev pub OneFaultIsMet : Type 0
+OneFaultIsMet =
+    (end : Known) (input : Told) (one other : Option EndFault) → Meets end input one → Meets end input other → one ≡ other
+
+-- acts give the same entries and lead to the same end, whenever they are done
+abbrev pub ActsHaveOneOutcome : Type 0
+ActsHaveOneOutcome =
+    (end : Known) (acts : List Act) (one other : List Entry) (end' end'' : Known)
+    → Acts end acts one end' → Acts end acts other end'' → (one ≡ other) × (end' ≡ end'')
 
 -- ---- own system bytes
 

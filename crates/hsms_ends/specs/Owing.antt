@@ -28,7 +28,6 @@ use Rattle.hsms_machine.specs.View.{own_open_of}
 use Rattle.hsms_ends.specs.declared.state.State.{State}
 use Rattle.hsms_ends.specs.Turn.{is_up, is_unselected, BreaksAsTaken}
 use Rattle.hsms_ends.specs.Doing.{IsCalm, IsLawful}
-use Rattle.hsms_machine.specs.Ordered.{IsOrdered}
 
 -- the connection is up, nothing is overdue, and the peer waits for answers to these requests
 pub record IsOwing (end : State) (primaries controls : List Transaction) : Type 0 where
@@ -41,8 +40,6 @@ pub record IsOwing (end : State) (primaries controls : List Transaction) : Type 
   pub taken_control : end.tracker.taken_control ≡ controls
   pub few : own_open_of end.tracker ≤ 64
   pub unselected : is_unselected end.tracker.phase ≡ true → end.tracker.sent_data ≡ []
-  pub data_ordered : IsOrdered end.moment end.tracker.sent_data
-  pub control_ordered : IsOrdered end.moment end.tracker.sent_control
 
 -- an event at this moment that neither ends anything nor opens an own transaction
 pub record IsMild (moment : ℕ) (event : Event) : Type 0 where

@@ -7,8 +7,6 @@ use Rattle.hsms_machine.specs.View.{own_open_of}
 use Rattle.hsms_ends.specs.declared.state.State.{State}
 use Rattle.hsms_ends.specs.Turn.{is_up, is_unselected}
 use Rattle.hsms_ends.specs.Doing.{IsCalm}
-use Rattle.hsms_machine.specs.Ordered.{IsOrdered}
-
 
 -- no entry yet
 pub record IsFresh (view : View) : Type 0 where
@@ -18,16 +16,13 @@ pub record IsFresh (view : View) : Type 0 where
   pub taken_data : view.taken_data ≡ []
   pub taken_control : view.taken_control ≡ []
 
--- the connection is up, nothing is overdue at the end's moment, the peer waits for nothing, and own requests stand in
--- order
+-- the connection is up, nothing is overdue at the end's moment, and the peer waits for nothing
 pub record IsSteady (end : State) : Type 0 where
   pub calm : IsCalm end
   pub taken_data : end.tracker.taken_data ≡ []
   pub taken_control : end.tracker.taken_control ≡ []
   pub few : own_open_of end.tracker ≤ 64
   pub unselected : is_unselected end.tracker.phase ≡ true → end.tracker.sent_data ≡ []
-  pub data_ordered : IsOrdered end.moment end.tracker.sent_data
-  pub control_ordered : IsOrdered end.moment end.tracker.sent_control
 
 pub record IsSound (end : State) : Type 0 where
   pub settings : end.settings ≡ end.tracker.settings

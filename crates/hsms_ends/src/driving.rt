@@ -36,7 +36,7 @@ pub struct Driven {
 ///
 /// The octets of the accepted inputs are the frames of the taken and discarded entries, in order, and then those that
 /// are pending. The only error is want of memory.
-pub fn drive<D: Desk>(
+pub fn drive<D: Desk + Drop>(
     alloc: Global,
     settings: Settings,
     desk: D,
@@ -53,8 +53,11 @@ pub fn drive<D: Desk>(
     for input in inputs {
         match tell(&mut end, alloc, input) {
             Ok(mut new) => entries.append(&mut new)?,
-            Err(EndFault::Memory) => return Err(AllocError),
-            Err(_) => {}
+            Err(fault) => {
+                if fault == EndFault::Memory {
+                    return Err(AllocError);
+                }
+            }
         }
     }
     let pending = Vec::from_slice(alloc, end.pending())?;

@@ -43,8 +43,8 @@ impl<D: Desk> End<D> {
     ghost use Rattle.secs_text.specs.View.{content};
     ghost use Rattle.hsms_ends.specs.Turn.{start, tick, bytes, send, linktest, separate, lost};
 
-    /// An end that was told nothing yet. Its own system bytes are counted from the first number on (SEMI E37, section 8,
-    /// message format). Takes no memory.
+    /// An end that was told nothing yet. Its own system bytes are counted from the first number on (SEMI E37, section
+    /// 8, message format). Takes no memory.
     pub fn new(alloc: Global, settings: Settings, desk: D, first_system: u32) -> End<D>
         ensures { result ≡ record { desk = desk; known = untold settings first_system } }
     {
@@ -142,8 +142,8 @@ impl<D: Desk> End<D> {
         }
     }
 
-    /// Sends a primary (SEMI E37, section 7, data procedure) with own system bytes. Faults: each of [`EndFault`], in its
-    /// order, but `TooDeep` before `TooLong`. `Memory` may come in place of `TooLong`.
+    /// Sends a primary (SEMI E37, section 7, data procedure) with own system bytes. Faults: each of [`EndFault`], in
+    /// its order, but `TooDeep` before `TooLong`. `Memory` may come in place of `TooLong`.
     pub fn send(&mut self, alloc: Global, message: &Message) -> Result<Vec<Entry>, EndFault>
         ensures { MatchResult result
             (λ entries. Accepts D.answers self.old (send (content message.now)) entries.items self.new)

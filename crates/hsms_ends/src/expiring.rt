@@ -123,6 +123,7 @@ impl State {
         ensures does { OnOk result (Does (at_later self.old now) entries.old.items (expiries (known (at_later self.old now))) self.new entries.new.items) }
         ensures sound { OnOk result (IsSound self.new) }
     {
+        self.tracker.keeps_order();
         self.moment = self.moment.max(now);
         self.expire(alloc, entries)
     }

@@ -1,12 +1,18 @@
 //! Laws over the definitions of an end. Each is the contract of a function that does nothing.
 
-ghost use Rattle.hsms_ends.specs.Laws.{TurnKeepsOctets, DriveKeepsOctets, FreeNumberIsAmongTheNext65, FirstFreeIsOne, AllExpiriesAreLoggedBeforeAnyS9F9, OverdueLinkTimerLeavesS9F9Out};
+ghost use Rattle.hsms_ends.specs.Laws.{TurnKeepsOctets, DriveKeepsOctets, OneFaultIsMet, ActsHaveOneOutcome, FreeNumberIsAmongTheNext65, FirstFreeIsOne, AllExpiriesAreLoggedBeforeAnyS9F9, OverdueLinkTimerLeavesS9F9Out};
 
 /// No octet is lost: what was pending and what comes is the frames of the taken and discarded entries, in order, and
 /// then what is pending. So it is with one input, and with the accepted ones of a list.
 pub fn octets_are_kept()
     ensures turn { TurnKeepsOctets }
     ensures drive { DriveKeepsOctets }
+{}
+
+/// An input is accepted or meets one fault, and acts have one outcome.
+pub fn each_act_has_one_outcome()
+    ensures fault { OneFaultIsMet }
+    ensures acts { ActsHaveOneOutcome }
 {}
 
 /// Where no more than 64 own transactions are open, a free number is among the next 65, and the first one is one

@@ -207,6 +207,23 @@ impl State {
         Ok(())
     }
 
+    /// Equipment tells of data that it can't read.
+    fn warn_unreadable(
+        &mut self,
+        alloc: Global,
+        entries: &mut Vec<Entry>,
+        header: Header,
+    ) -> Result<(), AllocError>
+        requires owing { IsOwing self.old [] [] }
+        requires selected { self.old.tracker.phase ≡ Selected }
+        ensures does { OnOk result (Does self.old entries.old.items (warns self.old.settings 7 header) self.new entries.new.items) }
+        ensures owing { OnOk result (IsOwing self.new [] []) }
+        ensures same { OnOk result (IsSame self.old self.new) }
+    {
+        self.warn(alloc, entries, 7, header)?;
+        Ok(())
+    }
+
     /// What follows a frame that was discarded.
     fn answer_discarded(
         &mut self,
@@ -229,10 +246,7 @@ impl State {
             Rule::NotSelected => self.reject(alloc, entries, header, 4),
             Rule::NoTransaction => self.reject_response(alloc, entries, header),
             Rule::Session => self.warn_of_session(alloc, entries, header, selected),
-            Rule::Text => {
-                self.warn(alloc, entries, 7, header)?;
-                Ok(())
-            }
+            Rule::Text => self.warn_unreadable(alloc, entries, header),
             Rule::Backwards
             | Rule::NotUp
             | Rule::Ended

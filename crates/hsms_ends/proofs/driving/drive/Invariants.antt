@@ -4,4 +4,4 @@ use Rattle.hsms_ends.specs.Driving.{HasDriven}
 use Rattle.hsms_ends.proofs.driving.drive.Given as goal
 
 abbrev pub invariant-loop-input : goal.invariant-loop-input
-invariant-loop-input g l = HasDriven g.D.Desk.answers l.settings l.fn.desk l.first_system (map told (take l.input-index l.inputs)) l.entries.items l.end
+invariant-loop-input g l = HasDriven g.D.Desk.answers l.fn.settings l.fn.desk l.fn.first_system (map told (take l.input-index l.inputs)) l.entries.items l.end

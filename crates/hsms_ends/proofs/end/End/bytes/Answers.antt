@@ -1,4 +1,4 @@
-use Rattle.std.proofs.Common.{Some, None, refl, sym, subst, ◌∙◌, inl, false}
+use Rattle.std.proofs.Common.{Some, None, refl, sym, subst, ◌∙◌, inl}
 use Rattle.hsms_ends.specs.declared.fault.EndFault.TheVariants.{Spent, NotUp}
 use Rattle.hsms_ends.specs.Turn.{bytes}
 use Rattle.hsms_ends.specs.Fault.{Meets}
@@ -21,5 +21,5 @@ returns-in-Err g c =
 
 pub returns-in-Ok : goal.returns-in-Ok
 returns-in-Ok g c =
-    bytes_accepted g.D.Desk.answers c.self.inside.desk c.self.inside.state c.self.inside.state c.hear.new.self c.self.inside.spent c.args.self.now c.args.octets.now c.new-entries.result.items c.hear.new.entries.items c.if-self.false c.self.view_is c.new-entries.ensures.items
+    bytes_accepted g.D.Desk.answers c.self.inside.desk c.self.inside.state c.hear.new.self c.self.inside.spent c.args.self.now c.args.octets.now c.new-entries.result.items c.hear.new.entries.items c.if-self.false c.self.view_is c.new-entries.ensures.items
     (sym c.is_up.ensures ∙ c.if-not-is_up.false) c.in-Ok.ensures.received

@@ -1,4 +1,4 @@
-use Rattle.std.proofs.Common.{[], ◌∷◌, Some, None, refl, sym, subst, ◌∙◌, inl, arith, false}
+use Rattle.std.proofs.Common.{[], ◌∷◌, Some, None, refl, sym, subst, ◌∙◌, inl, arith}
 use Rattle.hsms_ends.specs.declared.fault.EndFault.TheVariants.{Spent, NotUp, Full}
 use Rattle.hsms_ends.specs.Act.{asks}
 use Rattle.hsms_ends.specs.Frame.{linktest_req}

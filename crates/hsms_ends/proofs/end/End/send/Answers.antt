@@ -1,4 +1,4 @@
-use Rattle.std.proofs.Common.{◌≡◌, [], ◌∷◌, Some, None, refl, sym, ap, subst, ◌∙◌, ◌⊎◌, false}
+use Rattle.std.proofs.Common.{◌≡◌, [], ◌∷◌, Some, None, refl, sym, ap, subst, ◌∙◌, ◌⊎◌}
 use Rattle.std.specs.Prelude.{option_map}
 use Rattle.secs_text.specs.View.{content}
 use Rattle.hsms_ends.specs.declared.fault.EndFault.TheVariants.{Spent, NotUp, TooLong}

@@ -1,4 +1,4 @@
-use Rattle.std.proofs.Common.{[], ◌∷◌, Some, None, refl, sym, subst, ◌∙◌, inl, false}
+use Rattle.std.proofs.Common.{[], ◌∷◌, Some, None, refl, sym, subst, ◌∙◌, inl}
 use Rattle.hsms_machine.specs.declared.entry.Event.TheVariants.{Down}
 use Rattle.hsms_ends.specs.declared.fault.EndFault.TheVariants.{Spent, NotUp}
 use Rattle.hsms_ends.specs.Act.{logs, asks}

@@ -1,10 +1,12 @@
 -- Inputs one after the other.
-use Rattle.std.proofs.Common.{◌≡◌, ℕ, ◌<◌, List, [], ◌∷◌, ◌++◌, Some, None, length, refl, sym, ap, subst, ◌∙◌, append-nil, append_assoc, arith}
+use Rattle.std.proofs.Common.{◌≡◌, ℕ, ◌+◌, ◌<◌, ◌≤◌, List, [], ◌∷◌, ◌++◌, map, take, get_or, Some, length, refl, sym, ap, subst, ◌∙◌, append-nil, append_assoc, arith}
+use Rattle.std.proofs.lemmas.List.{map-append, take_more, take_all}
 use Rattle.secs_text.specs.Content.{Content}
 use Rattle.hsms_machine.specs.declared.entry.Entry.{Entry}
 use Rattle.hsms_machine.specs.Settings.{Parameters}
 use Rattle.hsms_machine.specs.Run.{IsRun}
-use Rattle.hsms_machine.specs.View.{HasView, view_of}
+use Rattle.hsms_machine.specs.View.{HasView}
+use Rattle.hsms_ends.specs.declared.input.Input.{Input}
 use Rattle.hsms_ends.specs.declared.fault.EndFault.{EndFault}
 use Rattle.hsms_ends.specs.declared.fault.EndFault.TheVariants.{Spent, NotUp, NotSelected, NotPrimary, Nine, Full, TooLong, TooDeep, Memory}
 use Rattle.hsms_ends.specs.Answer.{Answered}
@@ -12,7 +14,7 @@ use Rattle.hsms_ends.specs.Known.{Known, EndOf, untold}
 use Rattle.hsms_ends.specs.Turn.{Told, Turn}
 use Rattle.hsms_ends.specs.Fault.{Meets}
 use Rattle.hsms_ends.specs.End.{Accepts, Refuses}
-use Rattle.hsms_ends.specs.Drive.{Responds, is_refused, is_accepted, Drives, octets_told, octets_received, IsDriven}
+use Rattle.hsms_ends.specs.Drive.{told, Responds, is_refused, is_accepted, Drives, octets_received, IsDriven}
 use Rattle.hsms_ends.specs.Driving.{HasDriven}
 use Rattle.hsms_ends.proofs.Doings.{settings_of}
 use Rattle.hsms_ends.proofs.Kept.{drive_keeps_octets}
@@ -98,6 +100,16 @@ one_refused {D} answers settings desk first_system inputs entries end end' input
       seen = h.seen;
       same_desk = h.same_desk;
     })
+
+-- the next input of those in memory
+pub next_told : (inputs : List Input) (i : ℕ) (item : Input) → i < length inputs → item ≡ get_or inputs i item → map told (take i inputs) ++ told item ∷ [] ≡ map told (take (i + 1) inputs)
+next_told inputs i item lt is =
+    ap (λ (x : Input). map told (take i inputs) ++ told x ∷ []) is
+    ∙ sym (map-append told (take i inputs) (get_or inputs i item ∷ []))
+    ∙ ap (λ xs. map told xs) (sym (take_more inputs i item lt))
+
+pub told_all : (inputs : List Input) (i : ℕ) → length inputs ≤ i → map told (take i inputs) ≡ map told inputs
+told_all inputs i le = ap (λ xs. map told xs) (take_all i inputs le)
 
 pub driven : {D : Type 0} (answers : D → Content → Answered) (settings : Parameters) (desk : D) (first_system : ℕ) (inputs : List Told) (entries : List Entry) (pending : List ℕ) (end : EndOf D) → HasDriven answers settings desk first_system inputs entries end → pending ≡ end.known.pending → IsDriven (answers desk) (untold settings first_system) inputs entries pending
 driven answers settings desk first_system inputs entries pending end h left =
