@@ -2,10 +2,10 @@
 """Refuses each allocation in turn, the first, the second and so on, until a run meets no refusal.
 
 This is done to each test whose name begins with `refused`, which has to pass, since it looks at the answer and at what
-stands after it; to each test of the crates below that hand want of memory up, which has to pass or to end with that
-error, or that judge each refusal themselves; and to the command, on the inputs below. The command has to answer as
-ever, or with status 3 and `hsms: Memory`, and what it wrote then has to be whole lines of what it writes with ample
-memory.
+stands after it; to each test but long ones of the crates below that hand want of memory up, which has to pass or to end
+with that error, or that judge each refusal themselves; and to the command, on the inputs below. The command has to
+answer as ever, or with status 3 and `hsms: Memory`, and what it wrote then has to be whole lines of what it writes with
+ample memory.
 
 It runs what `rt ci` has built. The last line is `N passed, M failed`.
 """
@@ -19,7 +19,10 @@ TOP = os.path.dirname(os.path.dirname(os.path.abspath(__file__)))
 PROGRAM = f"{TOP}/crates/hsms_tool/out/hsms_tool"
 
 # The crates whose tests hand want of memory up, each by `?`.
-HAND_UP = {"secs_item", "secs_text"}
+HAND_UP = {"hsms_ends", "secs_item", "secs_text"}
+
+# Tests that take too long to be run once for each allocation.
+LONG = {"walks_of_two_ends"}
 
 # The crates whose tests judge each refusal themselves.
 JUDGE = {"hsms_machine"}
@@ -92,6 +95,8 @@ def tests(refuser):
             continue
         listed = subprocess.run([program, "--list"], capture_output=True, text=True).stdout.splitlines()
         for name in (line[: -len(": test")] for line in listed if line.endswith(": test")):
+            if name.split("::")[-1] in LONG:
+                continue
             if crate in JUDGE or name.split("::")[-1].startswith("refused"):
                 wrong, count = refuser.each([program, name], b"", passes)
             elif crate in HAND_UP:

@@ -1,11 +1,15 @@
 #!/usr/bin/env python3
-"""Compares the command with a second reading of the formats and the rules, on random inputs.
+"""Compares the command with a second reading of the formats and the rules, on random inputs, and audits random talks.
 
-Use: tests/second_reading.py [CASES] [SEED]. CASES is the number of audits, 4000 if left out; shows and encodes are made
-in proportion. SEED is 1 if left out; the inputs depend on these two alone. It runs what `rt ci` has built.
+Use: tests/second_reading.py [CASES] [SEED]. CASES is the number of audits, 4000 if left out; shows, encodes and talks
+are made in proportion. SEED is 1 if left out; the inputs depend on these two alone. It runs what `rt ci` has built.
 
-The last line tells how many answers differ. The smallest input with a difference is written in hexadecimal, with both
-answers. The status is 1 where an answer differs, or where the inputs didn't reach each rule and each fault.
+In a talk two ends that are written from docs/ENDS.md are told long random lists; both logs have to pass the audit, with
+the summary that the second reading counts.
+
+The last two lines tell how many logs of talks don't pass so, and how many answers differ. The smallest input with a
+difference is written in hexadecimal, with both answers. The status is 1 where an answer differs, or where the inputs
+didn't reach each rule and each fault, and the talks each thing that an end does.
 """
 import os
 import subprocess
@@ -17,7 +21,7 @@ from typing import List, Set, Tuple
 # The modules below leave no compiled files in the repository.
 sys.dont_write_bytecode = True
 
-from second_reading import inputs, items, messages, session, walks
+from second_reading import ends, inputs, items, messages, session, talks, walks
 from second_reading.inputs import Chance
 from second_reading.messages import Options
 
@@ -37,6 +41,7 @@ TO_REACH = {
         *[f"text {fault}" for fault in ("NoLength", "Format", "Deep", "Truncated", "Ragged", "Trailing")],
     ],
     "encode": ["no fault", "Input", "Syntax", "Number", "Count", "Deep", "TooLarge", "TooLong"],
+    "talk": talks.TO_REACH,
 }
 
 
@@ -67,6 +72,15 @@ def audit_case(log: bytes) -> Case:
     passes = verdict.startswith("pass")
     reached = verdict.split("rule=")[-1] if "rule=" in verdict else "pass" if passes else "unreadable"
     return Case(["audit"], log, Answer(0 if passes else 1, verdict.encode() + b"\n", b""), {reached})
+
+
+def talk_cases(seed: str) -> List[Case]:
+    """The logs of both ends of a talk, and what each end did."""
+    cases = []
+    for end, reached in talks.talk(seed):
+        passes = session.summary(end.settings, end.log.entries)
+        cases.append(Case(["audit"], ends.log_of(end), Answer(0, passes.encode() + b"\n", b""), reached))
+    return cases
 
 
 def show_case(stream: bytes, options: Options) -> Case:
@@ -103,11 +117,16 @@ def answer_of(case: Case) -> Answer:
     return Answer(ran.returncode, ran.stdout, ran.stderr)
 
 
+# A command or `talk`, a case of it, and what the command answers.
+Compared = Tuple[str, Case, Answer]
+
+
 class Plan:
     """The cases to be made: of each command those at edges, then others by chance, each with a seed of its own."""
 
     def __init__(self, count: int, seed: str):
         self.counts = {"audit": count, "show": count // 4, "encode": count // 2}
+        self.talks = count // 16
         self.seed = seed
         self.logs = walks.logs_at_edges()
         self.notations = inputs.notations_at_edges()
@@ -125,34 +144,41 @@ class Plan:
         is_at_edge = number < len(self.notations)
         return encode_case(*(self.notations[number] if is_at_edge else inputs.random_notation(chance)))
 
-    def compared(self, command_and_number: Tuple[str, int]) -> Tuple[str, Case, Answer]:
+    def compared(self, command_and_number: Tuple[str, int]) -> Compared:
         case = self.case(*command_and_number)
         return command_and_number[0], case, answer_of(case)
 
+    def talked(self, number: int) -> List[Compared]:
+        """The two logs of a talk."""
+        return [("talk", case, answer_of(case)) for case in talk_cases(f"{self.seed} talk {number}")]
 
-def show_difference(case: Case, answer: Answer):
-    print(f"hsms {' '.join(case.words)}, input of {len(case.given)} octets: {case.given[:LONGEST_SHOWN].hex()}")
-    print(f"second reading: {case.wanted}")
-    print(f"command: {answer}")
+
+def differing(compared: List[Compared]) -> int:
+    """How many answers differ. The one of the smallest input is shown."""
+    pairs = [(case, answer) for _, case, answer in compared if answer != case.wanted]
+    if pairs:
+        case, answer = min(pairs, key=lambda pair: len(pair[0].given))
+        print(f"hsms {' '.join(case.words)}, input of {len(case.given)} octets: {case.given[:LONGEST_SHOWN].hex()}")
+        print(f"second reading: {case.wanted}")
+        print(f"command: {answer}")
+    return len(pairs)
 
 
 def main() -> int:
     plan = Plan(int(sys.argv[1]) if len(sys.argv) > 1 else 4000, sys.argv[2] if len(sys.argv) > 2 else "1")
-    reached, differing = set(), []
     with ThreadPoolExecutor(WORKERS) as pool:
-        for command, case, answer in pool.map(plan.compared, plan.cases()):
-            reached |= {(command, what) for what in case.reached}
-            if answer != case.wanted:
-                differing.append((case, answer))
+        logs = [log for pair in pool.map(plan.talked, range(plan.talks)) for log in pair]
+        answers = list(pool.map(plan.compared, plan.cases()))
+    reached = {(command, what) for command, case, _ in [*logs, *answers] for what in case.reached}
     to_reach = [(command, what) for command, all_of in TO_REACH.items() for what in all_of]
     missed = [each for each in to_reach if each not in reached]
-    if differing:
-        show_difference(*min(differing, key=lambda both: len(both[0].given)))
+    failing, wrong = differing(logs), differing(answers)
     for command, what in missed:
         print(f"not reached: {command}, {what}")
     counts = ", ".join(f"{count} {command}s" for command, count in plan.counts.items())
-    print(f"second reading: {counts}, {len(differing)} differ")
-    return 1 if differing or missed else 0
+    print(f"second reading of the ends: {plan.talks} talks, {len(logs)} logs, {failing} don't pass")
+    print(f"second reading: {counts}, {wrong} differ")
+    return 1 if failing or wrong or missed else 0
 
 
 if __name__ == "__main__":

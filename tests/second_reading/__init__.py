@@ -3,5 +3,5 @@
 It shares no line with the command, and is made for being read, not for speed. `tests/second_reading.py` compares the
 two readings on random inputs.
 
-`items`, `notation`, `messages` and `session` are the reading; `inputs` and `walks` make the inputs.
+`items`, `notation`, `messages`, `session` and `ends` are the reading; `inputs`, `walks` and `talks` make the inputs.
 """

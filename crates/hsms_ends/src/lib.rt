@@ -28,3 +28,6 @@ pub use driving::{Driven, drive};
 pub use end::End;
 pub use fault::EndFault;
 pub use input::Input;
+
+#[cfg(test)]
+mod tests;

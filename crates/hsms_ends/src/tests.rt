@@ -1,0 +1,253 @@
+//! Worked sessions of one end: what it is told, and the lines that its log gets.
+
+mod answers;
+mod corners;
+mod limits;
+mod own;
+mod party;
+mod talk;
+mod walks;
+
+use crate::{Answer, Desk, Driven, End, EndFault, EquipmentDesk, HostDesk, Input, drive};
+use answers::ANSWERS;
+use corners::CORNERS;
+use hsms_frame::{Store, encode_frame};
+use hsms_log::{Line, read_line, write_entry};
+use hsms_machine::{Entry, Event, Role, Settings, Side};
+use own::OWN;
+use secs_text::{Message, read};
+use std::alloc::{AllocError, Global};
+use std::process::Abort;
+use std::test::Fail;
+
+/// What an end is told.
+#[derive(Clone, Copy)]
+enum Told {
+    Start(u64),
+    Tick(u64),
+    /// The octets of a message, as a line of a log has it.
+    Comes(&'static str),
+    Octets(&'static [u8]),
+    /// A message in notation.
+    Send(&'static str),
+    Linktest,
+    Separate,
+    Lost,
+}
+
+use Told::{Comes, Linktest, Lost, Octets, Send, Separate, Start, Tick};
+
+/// What an end is told, each with the lines or the fault that it answers, and what is pending at last.
+struct Case {
+    name: &'static str,
+    role: Role,
+    side: Side,
+    max: u32,
+    first_system: u32,
+    told: &'static [(Told, Result<&'static str, EndFault>)],
+    pending: &'static [u8],
+}
+
+const CONNECTED: (Told, Result<&str, EndFault>) = (Start(0), Ok("0 up\n"));
+
+const CONNECTING: (Told, Result<&str, EndFault>) = (
+    Start(0),
+    Ok("0 up\n0 > ffff0000000100000001\n"),
+);
+
+/// Equipment is selected by a host.
+const SELECT: (Told, Result<&str, EndFault>) = (
+    Comes("ffff0000000100000001"),
+    Ok("0 < ffff0000000100000001\n0 > ffff0000000200000001\n"),
+);
+
+/// A host is selected that asked for it with system bytes 1.
+const SELECTED: (Told, Result<&str, EndFault>) = (
+    Comes("ffff0000000200000001"),
+    Ok("0 < ffff0000000200000001\n"),
+);
+
+fn settings(role: Role, side: Side, max: u32) -> Option<Settings> {
+    Settings::new(role, side, 0, 45000, 6000, 10000, 5000, max, 32)
+}
+
+/// The desk of equipment with model M and revision 1.
+fn equipment(alloc: Global) -> Result<EquipmentDesk, AllocError> {
+    Ok(EquipmentDesk {
+        mdln: Vec::from_slice(alloc, b"M")?,
+        softrev: Vec::from_slice(alloc, b"1")?,
+    })
+}
+
+/// The lines of entries.
+fn lines_of(alloc: Global, entries: &[Entry]) -> Result<Vec<u8>, Fail> {
+    let room = entries.len().saturating_mul(600);
+    let mut store = Store::new(vec![in alloc; 0u8; room]?, 4096, u64::MAX);
+    for entry in entries {
+        write_entry(&mut store, entry)?;
+    }
+    Ok(Vec::from_slice(alloc, store.written())?)
+}
+
+/// The octets of the message of a line.
+fn octets_of(alloc: Global, digits: &str) -> Result<Vec<u8>, Fail> {
+    let mut line = Vec::from_slice(alloc, b"0 < ")?;
+    line.extend_from_slice(digits.as_bytes())?;
+    match read_line(alloc, &line, 4096)? {
+        Line::Entry(
+            Entry {
+                event: Event::Taken(frame),
+                ..
+            },
+        ) => Ok(encode_frame(alloc, &frame)?),
+        _ => Err("no message".into()),
+    }
+}
+
+/// What an end is told, as the inputs of a list have it.
+fn input_of(alloc: Global, told: Told) -> Result<Input, Fail> {
+    let input = match told {
+        Start(now) => Input::Start(now),
+        Tick(now) => Input::Tick(now),
+        Comes(digits) => Input::Bytes(octets_of(alloc, digits)?),
+        Octets(octets) => Input::Bytes(Vec::from_slice(alloc, octets)?),
+        Send(text) => Input::Send(read(alloc, text.as_bytes(), 100)?),
+        Linktest => Input::Linktest,
+        Separate => Input::Separate,
+        Lost => Input::Lost,
+    };
+    Ok(input)
+}
+
+/// Tells an end one input.
+fn tell<D: Desk>(alloc: Global, end: &mut End<D>, input: &Input) -> Result<Vec<Entry>, EndFault> {
+    match input {
+        Input::Start(now) => end.start(alloc, *now),
+        Input::Tick(now) => end.tick(alloc, *now),
+        Input::Bytes(octets) => end.bytes(alloc, octets),
+        Input::Send(message) => end.send(alloc, message),
+        Input::Linktest => end.linktest(alloc),
+        Input::Separate => end.separate(alloc),
+        Input::Lost => end.lost(alloc),
+    }
+}
+
+/// Each call of an end that is spent is refused. Where an allocation is refused, a test ends with that error.
+fn assert_spent<D: Desk>(rt: &impl Abort, alloc: Global, end: &mut End<D>) {
+    let message = Message::new(1, 1, true, None);
+    assert_eq!(rt; end.start(alloc, 0).err(), Some(EndFault::Spent));
+    assert_eq!(rt; end.tick(alloc, 0).err(), Some(EndFault::Spent));
+    assert_eq!(rt; end.bytes(alloc, &[]).err(), Some(EndFault::Spent));
+    assert_eq!(rt; end.send(alloc, &message).err(), Some(EndFault::Spent));
+    assert_eq!(rt; end.linktest(alloc).err(), Some(EndFault::Spent));
+    assert_eq!(rt; end.separate(alloc).err(), Some(EndFault::Spent));
+    assert_eq!(rt; end.lost(alloc).err(), Some(EndFault::Spent));
+}
+
+/// Tells an end all of a case.
+fn judge<D: Desk>(
+    rt: &impl Abort,
+    alloc: Global,
+    end: &mut End<D>,
+    case: &Case,
+) -> Result<(), Fail> {
+    for (told, want) in case.told {
+        match tell(alloc, end, &input_of(alloc, *told)?) {
+            Ok(entries) => {
+                let lines = lines_of(alloc, &entries)?;
+                let text = want.ok().ok_or("a fault was wanted")?;
+                assert_eq!(rt; lines.as_slice(), text.as_bytes(), "{}", case.name);
+            }
+            Err(EndFault::Memory) => {
+                assert_spent(rt, alloc, end);
+                want.err().ok_or(EndFault::Memory)?;
+                return Ok(());
+            }
+            Err(fault) => assert_eq!(rt; Err(fault), *want, "{}", case.name),
+        }
+    }
+    assert_eq!(rt; end.pending(), case.pending, "{}", case.name);
+    Ok(())
+}
+
+fn end_of<D: Desk>(alloc: Global, settings: Settings, desk: D, first_system: u32) -> End<D> {
+    End::new(alloc, settings, desk, first_system)
+}
+
+fn judge_one(rt: &impl Abort, alloc: Global, case: &Case) -> Result<(), Fail> {
+    let settings = settings(case.role, case.side, case.max).ok_or("the settings")?;
+    match case.role {
+        Role::Host => {
+            let mut end = end_of(alloc, settings, HostDesk, case.first_system);
+            judge(rt, alloc, &mut end, case)
+        }
+        Role::Equipment => {
+            let mut end = end_of(alloc, settings, equipment(alloc)?, case.first_system);
+            judge(rt, alloc, &mut end, case)
+        }
+    }
+}
+
+fn judge_all(rt: &impl Abort, alloc: Global, cases: &[Case]) -> Result<(), Fail> {
+    for case in cases {
+        judge_one(rt, alloc, case)?;
+    }
+    Ok(())
+}
+
+#[test]
+fn what_follows_messages(rt: HostRuntime) -> Result<(), Fail> {
+    judge_all(&rt, rt.alloc(), ANSWERS)
+}
+
+#[test]
+fn own_messages_and_timers(rt: HostRuntime) -> Result<(), Fail> {
+    judge_all(&rt, rt.alloc(), OWN)
+}
+
+#[test]
+fn corners_of_an_end(rt: HostRuntime) -> Result<(), Fail> {
+    judge_all(&rt, rt.alloc(), CORNERS)
+}
+
+/// What comes of the list of a case.
+fn driven(alloc: Global, case: &Case) -> Result<Driven, Fail> {
+    let settings = settings(case.role, case.side, case.max).ok_or("the settings")?;
+    let mut inputs = Vec::new(alloc);
+    for (told, _) in case.told {
+        inputs.push(input_of(alloc, *told)?)?;
+    }
+    let driven = match case.role {
+        Role::Host => drive(alloc, settings, HostDesk, case.first_system, &inputs)?,
+        Role::Equipment => {
+            let desk = equipment(alloc)?;
+            drive(alloc, settings, desk, case.first_system, &inputs)?
+        }
+    };
+    Ok(driven)
+}
+
+/// The entries of the list of a case are the lines of its calls, one after the other.
+fn judge_driven(rt: &impl Abort, alloc: Global, case: &Case) -> Result<(), Fail> {
+    let driven = driven(alloc, case)?;
+    let mut text = Vec::new(alloc);
+    for (_, want) in case.told {
+        if let Ok(lines) = want {
+            text.extend_from_slice(lines.as_bytes())?;
+        }
+    }
+    let lines = lines_of(alloc, &driven.entries)?;
+    assert_eq!(rt; lines.as_slice(), text.as_slice(), "{}", case.name);
+    assert_eq!(rt; driven.pending.as_slice(), case.pending, "{}", case.name);
+    Ok(())
+}
+
+#[test]
+fn sessions_as_lists(rt: HostRuntime) -> Result<(), Fail> {
+    for cases in [ANSWERS, OWN, CORNERS] {
+        for case in cases {
+            judge_driven(&rt, rt.alloc(), case)?;
+        }
+    }
+    Ok(())
+}

@@ -1,0 +1,187 @@
+"""Random talks of two ends: long lists of what each is told, moments that jump, octets in pieces, garbage between.
+
+The ends are those of `ends`. Nothing here judges: whether their logs pass, the command says.
+"""
+from typing import List, Set, Tuple
+
+from second_reading.ends import End, Refused, equipment_desk, host_desk
+from second_reading.inputs import Chance, Draft, random_item, random_text
+from second_reading.messages import Frame
+from second_reading.notation import Message
+from second_reading.session import DISCARDED, SENT, TAKEN, Before, Entry, Settings, rule_of_frame
+
+LIMITS = (256, 256, 300, 1_048_576)
+NAMES_OF_DATA = [(1, 1), (1, 13), (2, 25), (2, 17), (9, 1), (9, 3), (64, 7), (127, 255), (1, 2), (0, 0)]
+NAMES_OF_CONTROL = {"select.rsp": "Select.rsp", "reject": "Reject"}
+
+# What the talks have to reach: what an end sends, why it throws away, its timers, its faults.
+TO_REACH = [
+    *["Select.req", "Select.rsp 0", "Select.rsp 1", "Linktest.req", "Linktest.rsp", "Separate.req", "primary", "reply"],
+    *["Reject 1", "Reject 2", "Reject 3", "Reject 4"],
+    *["S9F1", "S9F3", "S9F5", "S9F7", "S9F9", "S9F11", "SxF0"],
+    *["! PType", "! SType", "! ControlText", "! Session", "! Direction", "! NotSelected", "! WBit", "! Text"],
+    "! NoTransaction",
+    *["t3", "cut t6", "cut t7", "cut t8", "cut length", "down"],
+    *["NotUp", "NotSelected", "NotPrimary", "Nine", "Full", "TooDeep", "TooLong"],
+]
+
+
+class Party:
+    """One of the two ends, and the octets that it sent and that the other one didn't get yet."""
+
+    def __init__(self, chance: Chance, role: str, link: str):
+        timers = (chance.one(20, 60, 3600), chance.one(60, 200, 1000), chance.one(100, 1000), chance.one(50, 200, 1000))
+        device = chance.one(0, 0, 0, 0, 0, 1)
+        self.settings = Settings(role, link, device, *timers, chance.choice(LIMITS), chance.one(1, 2, 4, 32))
+        model = bytes(chance.one(0, 1, 6, 240))
+        desk = host_desk() if role == "host" else equipment_desk(model, b"1")
+        self.end = End(self.settings, desk, chance.one(0, 1, 5, (1 << 32) - 2))
+        self.line = b""
+        self.reached: Set[str] = set()
+
+    def tell(self, call, *given):
+        """Tells the end something. What it sends goes on the line, what is refused leads to nothing."""
+        try:
+            entries = call(*given)
+        except Refused as refused:
+            self.reached.add(str(refused))
+            return
+        for entry in entries:
+            self.reached.add(name_of(entry))
+            if entry.event == SENT:
+                self.line += len(entry.frame.octets).to_bytes(4, "big") + entry.frame.octets
+
+    def take(self, count: int) -> bytes:
+        taken, self.line = self.line[:count], self.line[count:]
+        return taken
+
+    def reasons(self) -> Set[str]:
+        """Why the end threw frames away."""
+        entries = self.end.log.entries
+        thrown = [(at, entry.frame) for at, entry in enumerate(entries) if entry.event == DISCARDED]
+        return {f"! {rule_of_frame(Before(self.settings, entries[:at]), TAKEN, frame)}" for at, frame in thrown}
+
+
+def name_of(entry: Entry) -> str:
+    """What an entry is, as the list of what is to be reached has it."""
+    if entry.event != SENT:
+        return f"{entry.event} {entry.cause}".rstrip()
+    frame = entry.frame
+    if frame.kind in NAMES_OF_CONTROL:
+        return f"{NAMES_OF_CONTROL[frame.kind]} {frame.byte3}"
+    if frame.is_control:
+        return {1: "Select.req", 5: "Linktest.req", 6: "Linktest.rsp", 9: "Separate.req"}[frame.stype]
+    if frame.kind == "reply":
+        return "reply" if frame.function else "SxF0"
+    return f"S9F{frame.function}" if frame.stream == 9 else "primary"
+
+
+class Talk:
+    """Two ends, what they are told, and the time."""
+
+    def __init__(self, chance: Chance):
+        self.chance = chance
+        links = chance.one(("active", "passive"), ("passive", "active"), ("active", "passive"), ("passive", "passive"))
+        self.parties = [Party(chance, "host", links[0]), Party(chance, "equipment", links[1])]
+        self.now = chance.one(0, 5, 1_000_000)
+
+    def run(self, count: int):
+        is_asking = self.chance.happens(0.15)
+        for party in self.parties:
+            party.tell(party.end.start, self.now)
+        for _ in range(count):
+            if self.chance.happens(0.5):
+                self.now += self.chance.one(0, 1, 1, 2, 3, 5) if self.chance.happens(0.99) else self.jump()
+            party, other = self.chance.sample(self.parties, 2)
+            if is_asking and party.end.log.is_selected and self.chance.happens(0.95):
+                party.tell(party.end.send, Message(1, 1, True, None))
+            else:
+                self.step(party, other)
+
+    def jump(self) -> int:
+        """To a timer's end and a little past it."""
+        settings = self.chance.choice(self.parties).settings
+        return self.chance.one(settings.t3, settings.t6, settings.t7, settings.t8) + self.chance.one(0, 1)
+
+    def step(self, party: Party, other: Party):
+        kind = self.chance.random()
+        if kind < 0.3:
+            party.tell(party.end.tick, max(0, self.now - self.chance.one(0, 0, 0, 7)))
+        elif kind < 0.45:
+            party.tell(party.end.send, self.message(party.settings))
+        elif kind < 0.48:
+            party.tell(party.end.linktest)
+        elif kind < 0.482:
+            party.tell(self.chance.one(party.end.separate, party.end.lost, lambda: party.end.start(self.now)))
+        else:
+            party.tell(party.end.hear, self.octets(party, other))
+
+    def octets(self, party: Party, other: Party) -> bytes:
+        """What comes to an end: what the other one sent, or garbage where it sent nothing."""
+        if other.line or self.chance.happens(0.6):
+            return other.take(self.chance.one(0, 1, 4, 13, 14, 1000, 1000, 1000))
+        if self.chance.happens(0.02):
+            return self.chance.one(bytes([0, 0, 0, 9]), bytes([0, 0, 0]), self.long(party.settings))
+        frame = self.garbage(party).octets()
+        return len(frame).to_bytes(4, "big") + frame
+
+    def long(self, settings: Settings) -> bytes:
+        """The front of a message past the limit."""
+        device = self.chance.one(settings.device, settings.device, 77)
+        header = Draft(device, 0x81, 1, ptype=self.chance.one(0, 0, 0, 1), system=self.system(), text=b"").octets()
+        return (settings.max + 1).to_bytes(4, "big") + header
+
+    def system(self) -> int:
+        return self.chance.one(0, 1, 2, 3, 4, 5, 6, (1 << 32) - 1)
+
+    def garbage(self, party: Party) -> Draft:
+        """A message that may be right or wrong at an end."""
+        own = [opener.frame for opener in party.end.log.own_open if opener.frame.is_data]
+        kind = self.chance.random()
+        if kind < 0.3:
+            return self.any_control(party.settings)
+        if own and kind < 0.5:
+            return self.nearly_reply(party.settings, self.chance.choice(own))
+        return self.any_data(party.settings)
+
+    def any_control(self, settings: Settings) -> Draft:
+        chance = self.chance
+        stype = chance.one(1, 1, 2, 3, 4, 5, 6, 7, 7, 200) if chance.happens(0.9) else chance.one(9, chance.octet())
+        text = b"" if chance.happens(0.8) else b"\x41\x00"
+        session = chance.one(0xFFFF, 0xFFFF, 0xFFFF, settings.device)
+        return Draft(session, 0, chance.one(0, 0, 1, 4), chance.one(0, 0, 0, 1), stype, self.system(), text)
+
+    def nearly_reply(self, settings: Settings, asked: Frame) -> Draft:
+        next_function = (asked.function + 1) % 256
+        function = self.chance.one(0, next_function, next_function, 2)
+        text = self.chance.one(b"", b"", b"\x41\x00", b"\x40")
+        return Draft(settings.device, asked.stream, function, system=asked.system, text=text)
+
+    def any_data(self, settings: Settings) -> Draft:
+        chance = self.chance
+        stream, function = chance.choice(NAMES_OF_DATA)
+        device = settings.device if chance.happens(0.9) else settings.device ^ 0x100
+        text = b"\x21\x02\x01\x02" if stream == 2 and chance.happens(0.5) else self.text(settings)
+        byte2 = stream | chance.one(0, 0x80, 0x80)
+        return Draft(device, byte2, function, chance.one(*[0] * 9, 1), system=self.system(), text=text)
+
+    def text(self, settings: Settings) -> bytes:
+        text = random_text(self.chance, settings.depth, settings.max)
+        return text if len(text) <= 200 else b""
+
+    def message(self, settings: Settings) -> Message:
+        """A message to be sent, which may be refused."""
+        chance = self.chance
+        stream = chance.one(1, 1, 2, 2, 5, 6, 9, 127)
+        function = {1: chance.one(1, 13), 2: chance.one(25, 25, 17)}.get(stream, chance.one(1, 11, 255))
+        function += chance.one(*[0] * 9, 1) if function < 255 else 0
+        item = None if chance.happens(0.4) else random_item(chance, chance.one(1, 2, 3, settings.depth + 1))
+        return Message(stream, function, stream != 9 and chance.happens(0.7), item)
+
+
+def talk(seed: str) -> List[Tuple[End, Set[str]]]:
+    """The two ends of a talk, after it, and what each did."""
+    chance = Chance(seed)
+    whole = Talk(chance)
+    whole.run(chance.one(20, 100, 200, 400))
+    return [(party.end, party.reached | party.reasons()) for party in whole.parties]
