@@ -1,6 +1,6 @@
 -- What an audit answers to what it read.
-use Rattle.std.proofs.Common.{◌≡◌, ◌≢◌, ◌<◌, ◌≤◌, ◌+◌, ◌++◌, inl, inr, ℕ, List, [], ◌∷◌, length, take, drop, eqb, true, false, Some, None, Ok, Err, refl, sym, ap, ◌∙◌, subst, arith, append_assoc, length-append, take-append-drop, rules}
-use Rattle.std.specs.Prelude.{Option, Result, MatchOption, nat_lt}
+use Rattle.std.proofs.Common.{◌≡◌, ◌≢◌, ◌<◌, ◌≤◌, ◌++◌, inl, inr, ℕ, List, [], ◌∷◌, length, take, drop, eqb, true, false, Some, None, Ok, refl, sym, ap, ◌∙◌, subst, arith, append_assoc, length-append, take-append-drop, rules}
+use Rattle.std.specs.Prelude.{Option, MatchOption, nat_lt}
 use Rattle.std.proofs.lemmas.List.{append-nil}
 use Rattle.std.proofs.lemmas.Bool.{ne_eqb, lt-ltb}
 use Rattle.hsms_frame.specs.Count.{next_count}
@@ -11,8 +11,6 @@ use Rattle.hsms_log.specs.declared.session.Session.{Session}
 use Rattle.hsms_log.specs.declared.verdict.Why.{Why}
 use Rattle.hsms_log.specs.declared.verdict.Verdict.{Verdict}
 use Rattle.hsms_log.specs.declared.verdict.Verdict.TheVariants.{Pass, Fail}
-use Rattle.hsms_log.specs.declared.auditing.AuditFault.{AuditFault}
-use Rattle.hsms_log.specs.declared.auditing.AuditFault.TheVariants.{Read, Endless, Memory}
 use Rattle.hsms_log.specs.Counters.{Counters}
 use Rattle.hsms_log.specs.Lines.{IsOverlong}
 use Rattle.hsms_log.specs.Spelling.{line_limit}

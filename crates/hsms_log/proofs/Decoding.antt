@@ -1,10 +1,9 @@
 -- Hexadecimal digits, read two by two.
-use Rattle.std.proofs.Common.{◌≡◌, ◌<◌, ◌≤◌, ◌+◌, ◌*◌, ◌%◌, ◌^◌, ℕ, List, length, take, drop, get_or, true, false, Some, None, Ok, Err, refl, sym, ap, ◌∙◌, subst, arith}
-use Rattle.std.specs.Prelude.{Option, unwrap_or, max, slice_set}
-use Rattle.std.specs.List.{AllPass}
+use Rattle.std.proofs.Common.{◌≡◌, ◌<◌, ◌≤◌, ◌+◌, ◌*◌, ℕ, List, length, take, drop, get_or, true, false, Some, None, Ok, refl, sym, ap, ◌∙◌, subst, arith}
+use Rattle.std.specs.Prelude.{Option, unwrap_or, slice_set}
 use Rattle.std.proofs.lemmas.List.Elements.{All-get_or}
-use Rattle.hex.specs.Hex.{decode_of, decode_pairs, hex_digit_value, is_hex_digit, pair_value, value_at}
-use Rattle.hex.proofs.Pairs.{prepend, decode_step, decode_done, decode_start}
+use Rattle.hex.specs.Hex.{decode_pairs, hex_digit_value, is_hex_digit, pair_value}
+use Rattle.hex.proofs.Pairs.{prepend, decode_step, decode_done}
 use Rattle.hex.proofs.HexLemmas.{decode_of-ok, decode_of-even}
 use Rattle.hsms_log.specs.Spelling.{IsHexOf}
 

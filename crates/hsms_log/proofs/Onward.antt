@@ -1,29 +1,17 @@
 -- What was read of a text that goes on.
-use Rattle.std.proofs.Common.{◌≡◌, ◌<◌, ◌≤◌, ◌≢◌, ◌+◌, ◌-◌, ◌*◌, ◌++◌, ◌⊎◌, inl, inr, ℕ, zero, suc, List, [], ◌∷◌, length, take, drop, Bool, true, false, cond, eqb, Some, None, Ok, Err, refl, sym, ap, ◌∙◌, subst, arith, append_assoc, length-append, take-append-drop, rules}
-use Rattle.std.specs.Prelude.{Option, Result, MatchOption, IfOk, IfErr, slice_index, ◌==◌}
+use Rattle.std.proofs.Common.{◌≡◌, ◌<◌, ◌≤◌, ◌≢◌, ◌+◌, ◌-◌, ◌*◌, ◌++◌, ◌⊎◌, inl, inr, ℕ, zero, suc, List, [], ◌∷◌, length, take, Bool, true, false, cond, eqb, Some, None, refl, sym, ap, ◌∙◌, subst, arith, append_assoc, length-append}
+use Rattle.std.specs.Prelude.{Option, slice_index, ◌==◌}
 use Rattle.std.specs.Str.Lines.{strip_carriage_return}
 use Rattle.std.proofs.lemmas.List.{append-nil, length-take}
 use Rattle.std.proofs.lemmas.List.Elements.{All-cons, All-nil, All-append}
 use Rattle.std.proofs.lemmas.Bool.{cases_eq, ne_eqb}
-use Rattle.hsms_frame.specs.Device.{WhereTold, Takes, ends_after}
 use Rattle.hsms_machine.specs.declared.entry.Entry.{Entry}
-use Rattle.hsms_machine.specs.Settings.{Parameters}
-use Rattle.hsms_log.specs.declared.session.Session.{Session}
 use Rattle.hsms_log.specs.declared.verdict.Why.{Why}
 use Rattle.hsms_log.specs.declared.verdict.Why.TheVariants.{Unreadable}
-use Rattle.hsms_log.specs.declared.verdict.Verdict.{Verdict}
-use Rattle.hsms_log.specs.declared.verdict.Verdict.TheVariants.{Pass, Fail}
-use Rattle.hsms_log.specs.declared.auditing.AuditFault.{AuditFault}
-use Rattle.hsms_log.specs.declared.auditing.AuditFault.TheVariants.{Read, Endless, Memory}
-use Rattle.hsms_log.specs.declared.judging.Judge.{Judge}
-use Rattle.hsms_log.specs.Counters.{Counters}
 use Rattle.hsms_log.specs.Lines.{HasNone, IsOverlong, ended_lines, open_line, lines_of, last_lines}
 use Rattle.hsms_log.specs.Spelling.{Carries, settings_limit, line_limit}
-use Rattle.hsms_log.specs.Log.{SpellLog}
-use Rattle.hsms_log.specs.Verdict.{FailsAfter, LineFails, Fails, Judges, OverlongAfter, FailsSoFar, FailsOnward}
-use Rattle.hsms_log.specs.Judging.{Follows, Counts, Tracks}
+use Rattle.hsms_log.specs.Verdict.{FailsAfter, LineFails, OverlongAfter, FailsSoFar, FailsOnward}
 use Rattle.hsms_log.proofs.LineLemmas.{ended_lines-first, ended_lines-none, open_line-first, open_line-none}
-use Rattle.hsms_log.proofs.Uniqueness.{RunLaws, run_stands, SpellLog-unique}
 
 -- ---- lines of a text that goes on
 

@@ -1,5 +1,5 @@
 -- What the reader of a text in pieces knows.
-use Rattle.std.proofs.Common.{◌≡◌, ◌<◌, ◌≤◌, ◌+◌, ◌++◌, ◌⊎◌, inl, inr, ℕ, List, [], ◌∷◌, length, eqb, false, Some, None, Ok, Err, refl, sym, ap, ◌∙◌, subst, arith, append_assoc, length-append}
+use Rattle.std.proofs.Common.{◌≡◌, ◌+◌, ◌++◌, inl, inr, ℕ, List, [], ◌∷◌, length, eqb, false, Some, None, Ok, Err, sym, ap, ◌∙◌, subst, arith, append_assoc}
 use Rattle.std.specs.Prelude.{Option, Result, MatchOption, IfOk, IfSome}
 use Rattle.std.specs.Str.Lines.{strip_carriage_return}
 use Rattle.std.proofs.lemmas.List.{append-nil}
@@ -11,8 +11,8 @@ use Rattle.hsms_log.specs.declared.verdict.Why.TheVariants.{Unreadable}
 use Rattle.hsms_log.specs.declared.verdict.Verdict.{Verdict}
 use Rattle.hsms_log.specs.declared.verdict.Verdict.TheVariants.{Pass, Fail}
 use Rattle.hsms_log.specs.Counters.{Counters}
-use Rattle.hsms_log.specs.Lines.{HasNone, IsOverlong, ended_lines, open_line, lines_of, last_lines}
-use Rattle.hsms_log.specs.Verdict.{FailsAfter, LineFails, LinesJudged, Judges, OverlongAfter, FailsSoFar, FailsOnward, Fails}
+use Rattle.hsms_log.specs.Lines.{HasNone, IsOverlong, ended_lines, open_line, last_lines}
+use Rattle.hsms_log.specs.Verdict.{FailsAfter, LinesJudged, Judges, OverlongAfter, FailsOnward, Fails}
 use Rattle.hsms_log.specs.Judging.{Follows, Counts, Tracks, limit_after}
 use Rattle.hsms_log.specs.LineReader.{Reading, Stands, FailsAs}
 use Rattle.hsms_log.proofs.LineLemmas.{ended_lines-first, ended_lines-none, open_line-first, open_line-none}

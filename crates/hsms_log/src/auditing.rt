@@ -75,8 +75,9 @@ const BLOCK: usize = 4096;
 /// - *passes*, *names the first line, and why*: `Passes` and `Fails` of `specs/Verdict.antt`. Each text has exactly one
 ///   verdict: `laws::each_text_has_one_verdict`.
 ///
-/// A line is judged as soon as it has ended or is too long. Each read is into a block of 4,096 octets, none is made after
-/// a failing line was found, and of the log no more is held than that block and a line that goes on.
+/// A line is judged as soon as it has ended or is too long. Each read is into a block of 4,096 octets, none is made
+/// after a failing line was found, and of the log no more is held than that block, a line that goes on, and the octets
+/// of a frame.
 ///
 /// It passes only where the end of the input was read. `Read` is answered only where a read failed, `Endless` only
 /// where all reads were used and none found the end, and either only where no line of what was read fails; where the

@@ -1,4 +1,4 @@
-use Rattle.std.proofs.Common.{◌≡◌, ◌++◌, ℕ, List, length, take, drop, refl, sym, ◌∙◌, ap, subst, arith, rules}
+use Rattle.std.proofs.Common.{◌≡◌, ◌++◌, ℕ, List, length, take, drop, refl, sym, subst, arith, rules}
 use Rattle.hsms_log.specs.Spelling.{IsHexOf}
 use Rattle.hsms_log.proofs.HexLaws.{message_found}
 use Rattle.hsms_log.proofs.FrameLines.{message_size, written_all}

@@ -1,4 +1,4 @@
-use Rattle.std.proofs.Common.{◌≡◌, ◌++◌, ℕ, List, [], length, refl, sym, ap, ◌∙◌, rules}
+use Rattle.std.proofs.Common.{◌≡◌, ◌++◌, length, refl, sym, ap, ◌∙◌, rules}
 use Rattle.std.specs.Str.Lines.{strip_carriage_return}
 use Rattle.hsms_log.specs.LineReader.{Reading}
 use Rattle.hsms_log.proofs.Parts.{empty_is}

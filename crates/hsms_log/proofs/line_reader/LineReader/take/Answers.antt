@@ -1,4 +1,4 @@
-use Rattle.std.proofs.Common.{◌≡◌, ◌+◌, ◌++◌, ◌∷◌, [], ℕ, List, length, refl, sym, ap, ◌∙◌, subst, arith, append_assoc, length-append}
+use Rattle.std.proofs.Common.{◌≡◌, ◌+◌, ◌++◌, ◌∷◌, [], ℕ, List, length, refl, ap, ◌∙◌, subst, arith, append_assoc, length-append}
 use Rattle.hsms_log.specs.LineReader.{Reading, Stands}
 use Rattle.hsms_log.specs.declared.judging.Judge.{Judge}
 use Rattle.hsms_log.proofs.Standing.{part_stands, overlong_onward, parts_on, line_failed, rest_whole, rest_failed}
