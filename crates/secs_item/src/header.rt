@@ -21,7 +21,6 @@ pub struct Header {
 }
 
 /// The number in a length field of one to three octets.
-#[inline(never)]
 pub fn read_length(octets: &[u8], field: usize) -> usize
     requires one_at_least { 1 ≤ field }
     requires three_at_most { field ≤ 3 }

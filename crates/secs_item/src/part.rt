@@ -1,7 +1,6 @@
 //! What measuring reads at a time.
 
 ghost use Rattle.std.specs.Prelude.{◌≡◌, ◌≤◌, ◌/◌, length, drop, IfOk, IfSome};
-ghost use Rattle.byteorder.specs.Endian.{big_number};
 ghost use Rattle.secs_item.specs.Format.{format_with_code};
 ghost use Rattle.secs_item.specs.Header.{header_at};
 ghost use Rattle.secs_item.specs.Measure.{mask_for, part_from, LiesIn};
@@ -39,21 +38,7 @@ fn mask_of(first: u8) -> u8
     MASKS[usize::from(first / 4)]
 }
 
-/// The number in a length field of one to three octets, of which one is the rule.
-#[inline(always)]
-fn quick_length(octets: &[u8], field: usize) -> usize
-    requires one_at_least { 1 ≤ field }
-    requires three_at_most { field ≤ 3 }
-    requires there { field ≤ length octets.now }
-    ensures { result ≡ big_number field octets.now }
-{
-    if field == 1 {
-        return usize::from(octets[0]);
-    }
-    read_length(octets, field)
-}
-
-/// The part at `place`; None where its header may have a fault.
+/// The part at `place`; None where its header may have a fault, or has more than one length octet, which is rare.
 #[inline(always)]
 fn quick_part(octets: &[u8], place: usize, depth: u8) -> Option<Part>
     requires { place ≤ length octets.now }
@@ -62,11 +47,11 @@ fn quick_part(octets: &[u8], place: usize, depth: u8) -> Option<Part>
 {
     let (&first, rest) = octets[place..].split_first()?;
     let field = usize::from(first % 4);
-    if field == 0 || rest.len() < field {
+    if field != 1 || rest.len() < field {
         return None;
     }
     let mask = mask_of(first);
-    let length = quick_length(rest, field);
+    let length = read_length(rest, field);
     let body = place + 1 + field;
     if mask < LIST {
         if length & usize::from(mask) != 0 || rest.len() - field < length {

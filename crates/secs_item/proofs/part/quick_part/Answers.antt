@@ -6,16 +6,18 @@ use Rattle.secs_item.proofs.part.quick_part.Goals as goal
 pub returns-then-mask-lt-LIST-clause-read : goal.returns-then-mask-lt-LIST-clause-read
 returns-then-mask-lt-LIST-clause-read c =
     let octets = c.args.octets.now in
+    let some : c.from-field.result ≡ 0 → ⊥ = λ e. omega (arith, e) in
     let first = c.in_ok-first.field-0-0.now in
     let rest = c.in_ok-first.rest.now in
     let front : drop c.args.place octets ≡ first ∷ rest = sym (take_all (length octets - c.args.place) (drop c.args.place octets) (omega (arith, length-drop c.args.place octets))) ∙ c.in_ok-first.ensures.cases.0 in
-    let whole = ap (λ k. bit_and c.quick_length-length.result k) (sym c.from.ensures) ∙ c.if-length-from-ne0.false in
-    values_read c.args.depth c.args.place first c.quick_length-length.result c.from-field.result octets rest c.mask_of-mask.result front c.from-field.ensures c.if-field-eq0.false c.if-rest-field.false c.mask_of-mask.ensures c.if-mask-lt-LIST.true c.quick_length-length.ensures whole c.if-rest-field-2.false
+    let whole = ap (λ k. bit_and c.read_length-length.result k) (sym c.from.ensures) ∙ c.if-length-from-ne0.false in
+    values_read c.args.depth c.args.place first c.read_length-length.result c.from-field.result octets rest c.mask_of-mask.result front c.from-field.ensures some c.if-rest-field.false c.mask_of-mask.ensures c.if-mask-lt-LIST.true c.read_length-length.ensures whole c.if-rest-field-2.false
 
 pub returns-clause-read : goal.returns-clause-read
 returns-clause-read c =
     let octets = c.args.octets.now in
+    let some : c.from-field.result ≡ 0 → ⊥ = λ e. omega (arith, e) in
     let first = c.in_ok-first.field-0-0.now in
     let rest = c.in_ok-first.rest.now in
     let front : drop c.args.place octets ≡ first ∷ rest = sym (take_all (length octets - c.args.place) (drop c.args.place octets) (omega (arith, length-drop c.args.place octets))) ∙ c.in_ok-first.ensures.cases.0 in
-    list_read c.args.depth c.args.place first c.quick_length-length.result c.from-field.result octets rest c.mask_of-mask.result front c.from-field.ensures c.if-field-eq0.false c.if-rest-field.false c.mask_of-mask.ensures (omega arith) c.quick_length-length.ensures (omega arith)
+    list_read c.args.depth c.args.place first c.read_length-length.result c.from-field.result octets rest c.mask_of-mask.result front c.from-field.ensures some c.if-rest-field.false c.mask_of-mask.ensures (omega arith) c.read_length-length.ensures (omega arith)
