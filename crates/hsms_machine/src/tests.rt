@@ -129,6 +129,19 @@ fn step(rt: &impl Abort, tracker: &mut Tracker, entry: &Entry) -> Result<Option<
     }
 }
 
+/// Takes a frame without text in. Where memory was refused, a second try meets no refusal.
+fn step_frame(
+    tracker: &mut Tracker,
+    time: u64,
+    mark: Mark,
+    header: Header,
+) -> Result<Option<Rule>, AllocError> {
+    match tracker.step_frame(time, mark, header, &[]) {
+        Ok(broken) => Ok(broken),
+        Err(_) => tracker.step_frame(time, mark, header, &[]),
+    }
+}
+
 /// The first rule that an entry of these breaks, where it is the last one.
 fn broken_by(
     rt: &impl Abort,
@@ -323,11 +336,11 @@ fn many_are_answered_from_the_newest(rt: HostRuntime) -> Result<(), Fail> {
     let mut tracker = Tracker::new(rt.alloc(), settings(256).ok_or("the settings")?);
     assert_eq!(rt; broken_by(&rt, rt.alloc(), &mut tracker, SELECTED)?, None);
     for system in 0u32..10_000 {
-        let broken = tracker.step_frame(6, Mark::Taken, header(S1F1_W, system), &[])?;
+        let broken = step_frame(&mut tracker, 6, Mark::Taken, header(S1F1_W, system))?;
         assert_eq!(rt; broken, None);
     }
     for system in (0u32..10_000).rev() {
-        let broken = tracker.step_frame(7, Mark::Sent, header(S1F2, system), &[])?;
+        let broken = step_frame(&mut tracker, 7, Mark::Sent, header(S1F2, system))?;
         assert_eq!(rt; broken, None);
     }
     Ok(())
