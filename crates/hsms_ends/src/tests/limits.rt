@@ -95,7 +95,7 @@ struct ByStream;
 
 impl Desk for ByStream {
     ghost use Rattle.std.specs.Prelude.{None, ◌==◌, if◌then◌else◌};
-    ghost use Rattle.hsms_ends.specs.Answer.{replies, quiet};
+    ghost use Rattle.hsms_end.specs.Answer.{replies, quiet};
 
     ghost answers = { λ desk message. if message.stream == 1 then replies None else quiet };
 

@@ -1,0 +1,99 @@
+-- What the calls of an end answer.
+use Rattle.std.proofs.Common.{◌≡◌, ℕ, ◌<◌, ◌≤◌, Bool, true, false, List, [], Some, None, refl, sym, subst, ◌∙◌, inl, inr, arith}
+use Rattle.secs_text.specs.Content.{Content}
+use Rattle.hsms_machine.specs.declared.entry.Entry.{Entry}
+use Rattle.hsms_machine.specs.declared.view.View.{View}
+use Rattle.hsms_machine.specs.View.{own_open_of}
+use Rattle.hsms_end.specs.declared.state.State.{State}
+use Rattle.hsms_end.specs.declared.fault.EndFault.TheVariants.{Spent, NotUp, Full}
+use Rattle.hsms_end.specs.Answer.{Answered}
+use Rattle.hsms_end.specs.Act.{Act, Acts}
+use Rattle.hsms_end.specs.Turn.{is_up, opening_of, Told, Turn, start, linktest, separate, lost}
+use Rattle.hsms_end.specs.Fault.{Meets, is_before}
+use Rattle.hsms_end.specs.Doing.{Does}
+use Rattle.hsms_end.specs.End.{Extends, Accepts}
+use Rattle.hsms_end.specs.Known.{Known, EndOf}
+use Rattle.hsms_end.specs.Inside.{known_of, known}
+
+pub acts_of : (end end' : State) (acts : List Act) (entries : List Entry) → Does end [] acts end' entries → Acts (known end) acts entries (known end')
+acts_of end end' acts entries h = subst (λ es. Acts (known end) acts es (known end')) (sym h.added) h.done
+
+pub run_of : (end end' : State) (acts : List Act) (entries : List Entry) → Does end [] acts end' entries → Extends end.tracker entries end'.tracker
+run_of end end' acts entries h = subst (λ es. Extends end.tracker es end'.tracker) (sym h.added) h.run
+
+pub meets_spent : (spent : Bool) (end : State) (input : Told) → spent ≡ true → Meets (known_of end spent) input (Some Spent)
+unfolding Meets
+meets_spent spent end input e = inl (e, refl)
+
+pub not_spent : (spent : Bool) → spent ≡ false → spent ≡ true → ⊥
+not_spent spent f t = let d : true ≡ false = sym t ∙ f in cc
+
+pub up_is_up : (up : Bool) → up ≡ true → up ≡ false → ⊥
+up_is_up up t f = let d : true ≡ false = sym t ∙ f in cc
+
+-- ---- lost, separate and linktest
+
+pub lost_not_up : (spent : Bool) (end : State) → spent ≡ false → is_up end.tracker.phase ≡ false → Meets (known_of end spent) lost (Some NotUp)
+unfolding Meets
+lost_not_up spent end s u = inr (not_spent spent s, inl (u, refl))
+
+pub lost_meets : (spent : Bool) (end : State) → spent ≡ false → is_up end.tracker.phase ≡ true → Meets (known_of end spent) lost None
+unfolding Meets
+lost_meets spent end s u =
+    inr (not_spent spent s, inr (up_is_up (is_up end.tracker.phase) u, inr ((λ b. b), inr ((λ b. b), inr ((λ b. b), inr ((λ b. let d : false ≡ true = b.0 in cc), inr ((λ b. b), inr ((λ b. b), refl))))))))
+
+pub separate_not_up : (spent : Bool) (end : State) → spent ≡ false → is_up end.tracker.phase ≡ false → Meets (known_of end spent) separate (Some NotUp)
+unfolding Meets
+separate_not_up spent end s u = inr (not_spent spent s, inl (u, refl))
+
+pub separate_meets : (spent : Bool) (end : State) → spent ≡ false → is_up end.tracker.phase ≡ true → Meets (known_of end spent) separate None
+unfolding Meets
+separate_meets spent end s u =
+    inr (not_spent spent s, inr (up_is_up (is_up end.tracker.phase) u, inr ((λ b. b), inr ((λ b. b), inr ((λ b. b), inr ((λ b. let d : false ≡ true = b.0 in cc), inr ((λ b. b), inr ((λ b. b), refl))))))))
+
+pub linktest_not_up : (spent : Bool) (end : State) → spent ≡ false → is_up end.tracker.phase ≡ false → Meets (known_of end spent) linktest (Some NotUp)
+unfolding Meets
+linktest_not_up spent end s u = inr (not_spent spent s, inl (u, refl))
+
+pub linktest_full : (spent : Bool) (end : State) → spent ≡ false → is_up end.tracker.phase ≡ true → 64 ≤ own_open_of end.tracker → Meets (known_of end spent) linktest (Some Full)
+unfolding Meets
+linktest_full spent end s u full =
+    inr (not_spent spent s, inr (up_is_up (is_up end.tracker.phase) u, inr ((λ b. b), inr ((λ b. b), inr ((λ b. b), inl ((refl, full), refl))))))
+
+pub linktest_meets : (spent : Bool) (end : State) → spent ≡ false → is_up end.tracker.phase ≡ true → own_open_of end.tracker < 64 → Meets (known_of end spent) linktest None
+unfolding Meets
+linktest_meets spent end s u room =
+    inr (not_spent spent s, inr (up_is_up (is_up end.tracker.phase) u, inr ((λ b. b), inr ((λ b. b), inr ((λ b. b), inr ((λ b. let le : 64 ≤ own_open_of end.tracker = b.1 in absurd (omega arith)), inr ((λ b. b), inr ((λ b. b), refl))))))))
+
+-- ---- what a call answers, said of what is inside an end
+
+abbrev pub inside_of : {D : Type 0} → D → State → Bool → EndOf D
+inside_of desk end spent = record { desk = desk; known = known_of end spent }
+
+pub accepted_at : {D : Type 0} (answers : D → Content → Answered) (desk : D) (end end' : State) (spent : Bool) (at : EndOf D) (input : Told) (entries : List Entry) → spent ≡ false → inside_of desk end spent ≡ at → Meets (known_of end spent) input None → Turn (answers desk) (known end) input entries (known end') → Extends end.tracker entries end'.tracker → Accepts answers at input entries (inside_of desk end' false)
+accepted_at {D} answers desk end end' spent at input entries fresh is meets turn run =
+    subst (λ (k : EndOf D). Accepts answers k input entries (inside_of desk end' false)) is
+    (subst (λ (b : Bool). Accepts answers (inside_of desk end b) input entries (inside_of desk end' false)) (sym fresh)
+    (record { meets = subst (λ (b : Bool). Meets (known_of end b) input None) fresh meets; turn = turn; run = run; desk = refl }))
+
+-- an input whose turn is these acts, from this end on
+pub accepted : {D : Type 0} (answers : D → Content → Answered) (desk : D) (end from end' : State) (spent : Bool) (at : EndOf D) (input : Told) (acts : List Act) (first entries : List Entry) → spent ≡ false → inside_of desk end spent ≡ at → first ≡ [] → Meets (known_of end spent) input None → from.tracker ≡ end.tracker → ((es : List Entry) (k : Known) → Acts (known from) acts es k → Turn (answers desk) (known end) input es k) → Does from first acts end' entries → Accepts answers at input entries (inside_of desk end' false)
+accepted {D} answers desk end from end' spent at input acts first entries fresh is empty meets same turn h =
+    let done : Does from [] acts end' entries = subst (λ es. Does from es acts end' entries) empty h in
+    accepted_at answers desk end end' spent at input entries fresh is meets (turn entries (known end') (acts_of from end' acts entries done))
+    (subst (λ (v : View). Extends v entries end'.tracker) same (run_of from end' acts entries done))
+
+-- ---- start
+
+pub start_not_up : (spent : Bool) (end : State) (now : ℕ) → spent ≡ false → is_before end.tracker.phase ≡ false → Meets (known_of end spent) (start now) (Some NotUp)
+unfolding Meets
+start_not_up spent end now s u = inr (not_spent spent s, inl (u, refl))
+
+pub start_meets : (spent : Bool) (end : State) (now : ℕ) → spent ≡ false → is_before end.tracker.phase ≡ true → Meets (known_of end spent) (start now) None
+unfolding Meets
+start_meets spent end now s u =
+    inr (not_spent spent s, inr (up_is_up (is_before end.tracker.phase) u, inr ((λ b. b), inr ((λ b. b), inr ((λ b. b), inr ((λ b. let d : false ≡ true = b.0 in cc), inr ((λ b. b), inr ((λ b. b), refl))))))))
+
+pub started : {D : Type 0} (answers : D → Content → Answered) (desk : D) (end end' : State) (spent : Bool) (at : EndOf D) (now : ℕ) (first entries : List Entry) → spent ≡ false → inside_of desk end spent ≡ at → first ≡ [] → is_before end.tracker.phase ≡ true → Does (record end { moment = now }) first (opening_of end.settings.link) end' entries → Accepts answers at (start now) entries (inside_of desk end' false)
+started answers desk end end' spent at now first entries fresh is empty before h =
+    accepted answers desk end (record end { moment = now }) end' spent at (start now) (opening_of end.settings.link) first entries fresh is empty (start_meets spent end now fresh before) refl (λ es k h. h) h

@@ -1,0 +1,13 @@
+use Rattle.std.proofs.Common.{length}
+use Rattle.hsms_end.specs.Sound.{IsSound}
+use Rattle.hsms_end.specs.Receiving.{HasReceived}
+use Rattle.hsms_end.proofs.state.State.receive_all.Given as goal
+
+abbrev pub invariant-messages : goal.invariant-messages
+invariant-messages g l = record {
+  received : HasReceived (g.D.Desk.answers l.desk) l.fn.self l.fn.entries.items l.self l.entries.items;
+  sound : IsSound l.self;
+}
+
+abbrev pub decreases-messages : goal.decreases-messages
+decreases-messages g l = length l.self.framer.pending

@@ -1,0 +1,23 @@
+use Rattle.std.proofs.Common.{◌≡◌, [], ◌∷◌, Bool, subst, sym, if◌then◌else◌}
+use Rattle.hsms_frame.specs.declared.kinds.Kind.TheVariants.{SelectReq, Primary}
+use Rattle.hsms_machine.specs.declared.entry.Event.TheVariants.{Taken, Sent}
+use Rattle.hsms_end.specs.Answer.{quiet}
+use Rattle.hsms_end.specs.Act.{logs}
+use Rattle.hsms_end.specs.Frame.{select_rsp}
+use Rattle.hsms_end.specs.Doing.{Does}
+use Rattle.hsms_end.specs.Owing.{IsAskedToSelect}
+use Rattle.hsms_end.proofs.Doings.{does_then}
+use Rattle.hsms_end.proofs.Takings.{handled_kind, asked_to_select}
+use Rattle.hsms_end.proofs.state.State.take_select.Goals as goal
+
+pub answer_select-requires : goal.answer_select-requires
+answer_select-requires c =
+    subst (λ (b : Bool). IsAskedToSelect c.log.new.self c.args.frame.header b) (sym c.is_selected-selected.ensures)
+    (asked_to_select c.args.self.now c.args.frame c.requires.taken c.log.new.self c.in_ok-log.ensures.after c.requires.kind)
+
+pub returns-clause-handled : goal.returns-clause-handled
+returns-clause-handled c =
+    λ desk. handled_kind desk c.args.self.now c.answer_select.new.self c.args.entries.now.items c.answer_select.new.entries.items c.args.frame SelectReq quiet c.requires.taken.broken c.requires.kind
+    (λ e. absurd (let d : SelectReq ≡ Primary = e in cc))
+    (subst (λ (b : Bool). Does c.args.self.now c.args.entries.now.items (logs (Taken c.args.frame) ∷ logs (Sent (select_rsp c.args.frame.header (if b then 1 else 0))) ∷ []) c.answer_select.new.self c.answer_select.new.entries.items) c.is_selected-selected.ensures
+    (does_then c.args.self.now c.log.new.self c.answer_select.new.self c.args.entries.now.items c.log.new.entries.items c.answer_select.new.entries.items (logs (Taken c.args.frame) ∷ []) (logs (Sent (select_rsp c.args.frame.header (if c.is_selected-selected.result then 1 else 0))) ∷ []) c.in_ok-log.ensures.does c.in_ok-answer_select.ensures.does))

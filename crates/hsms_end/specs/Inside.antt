@@ -1,0 +1,47 @@
+-- What is inside an end, beside its desk. Private functions alone speak of this.
+use Rattle.std.specs.Prelude.{ℕ, ◌+◌, ◌^◌, ◌%◌, ◌++◌, Bool, false, List, max}
+use Rattle.hsms_frame.specs.declared.frame.Frame.{Frame}
+use Rattle.hsms_machine.specs.declared.entry.Entry.{Entry}
+use Rattle.hsms_machine.specs.declared.entry.Event.{Event}
+use Rattle.hsms_machine.specs.declared.entry.Event.TheVariants.{Sent}
+use Rattle.hsms_machine.specs.Step.{view_after}
+use Rattle.hsms_end.specs.declared.state.State.{State}
+use Rattle.hsms_end.specs.Known.{Known}
+use Rattle.hsms_end.specs.Turn.{heard_at}
+
+-- what it is known by
+abbrev pub known_of : State → Bool → Known
+known_of end spent = record {
+  settings = end.settings;
+  view = end.tracker;
+  pending = end.framer.pending;
+  moment = end.moment;
+  next = end.next;
+  heard = end.heard;
+  spent = spent;
+}
+
+abbrev pub known : State → Known
+known end = known_of end false
+
+abbrev pub entry_of : State → Event → Entry
+entry_of end event = record { time = end.moment; event = event }
+
+-- the end after an event at its moment
+abbrev pub after_event : State → Event → State
+after_event end event = record end { tracker = view_after end.tracker (entry_of end event) }
+
+-- the end after a frame was sent with this number; the next one is one more
+abbrev pub after_number : State → Frame → ℕ → State
+after_number end frame number = record (after_event end (Sent frame)) { next = (number + 1) % 2 ^ 32 }
+
+-- the end when octets have come
+abbrev pub after_octets : State → List ℕ → State
+after_octets end octets =
+    record end {
+      framer = record end.framer { pending = end.framer.pending ++ octets };
+      heard = heard_at octets end.moment end.heard;
+    }
+
+abbrev pub at_later : State → ℕ → State
+at_later end now = record end { moment = max end.moment now }

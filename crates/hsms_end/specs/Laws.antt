@@ -1,0 +1,88 @@
+-- The laws of the ends (this project's own), over the definitions alone.
+use Rattle.std.specs.Prelude.{◌≡◌, ◌<◌, ◌≤◌, ℕ, false, List, [], ◌∷◌, ◌++◌, map, max, Option, Some}
+use Rattle.std.specs.List.{list_any}
+use Rattle.secs_text.specs.Content.{Content}
+use Rattle.hsms_machine.specs.declared.entry.Entry.{Entry}
+use Rattle.hsms_machine.specs.declared.entry.Event.TheVariants.{T3, Cut, Down}
+use Rattle.hsms_machine.specs.declared.entry.Cause.{Cause}
+use Rattle.hsms_machine.specs.declared.open.Transaction.{Transaction}
+use Rattle.hsms_machine.specs.declared.view.View.{View}
+use Rattle.hsms_machine.specs.Entry.{is_t3}
+use Rattle.hsms_machine.specs.View.{own_open_of}
+use Rattle.hsms_end.specs.declared.fault.EndFault.{EndFault}
+use Rattle.hsms_end.specs.Answer.{Answered}
+use Rattle.hsms_end.specs.Known.{Known}
+use Rattle.hsms_end.specs.Number.{number_on, IsFree, IsFirstFree}
+use Rattle.hsms_end.specs.Turn.{Told, Turn, tick, expired_at, overdue_cause}
+use Rattle.hsms_end.specs.Act.{Act, Acts}
+use Rattle.hsms_end.specs.Fault.{Meets}
+use Rattle.hsms_end.specs.Drive.{Drives, octets_of, octets_told, octets_received}
+
+-- ---- octets
+
+-- the octets that were pending and those that come are the frames of the new entries, in order, then what is pending
+abbrev pub TurnKeepsOctets : Type 0
+TurnKeepsOctets =
+    (desk : Content → Answered) (end : Known) (input : Told) (entries : List Entry) (end' : Known)
+    → Turn desk end input entries end'
+    → end.pending ++ octets_of input ≡ octets_received entries ++ end'.pending
+
+-- so it is with the accepted ones of a list of inputs
+abbrev pub DriveKeepsOctets : Type 0
+DriveKeepsOctets =
+    (desk : Content → Answered) (end : Known) (inputs accepted : List Told) (entries : List Entry) (end' : Known)
+    → Drives desk end inputs accepted entries end'
+    → end.pending ++ octets_told accepted ≡ octets_received entries ++ end'.pending
+
+-- ---- one outcome
+
+-- an input meets at most one fault, or none
+abbrev pub OneFaultIsMet : Type 0
+OneFaultIsMet =
+    (end : Known) (input : Told) (one other : Option EndFault) → Meets end input one → Meets end input other → one ≡ other
+
+-- acts give the same entries and lead to the same end, whenever they are done
+abbrev pub ActsHaveOneOutcome : Type 0
+ActsHaveOneOutcome =
+    (end : Known) (acts : List Act) (one other : List Entry) (end' end'' : Known)
+    → Acts end acts one end' → Acts end acts other end'' → (one ≡ other) × (end' ≡ end'')
+
+-- ---- own system bytes
+
+-- where at most 64 own transactions are open, a free number is among the next 65
+abbrev pub FreeNumberIsAmongTheNext65 : Type 0
+FreeNumberIsAmongTheNext65 =
+    (view : View) (next : ℕ) → own_open_of view ≤ 64
+    → (places : ℕ) × (places < 65) × IsFree view (number_on next places)
+
+-- at most one number is the first free one
+abbrev pub FirstFreeIsOne : Type 0
+FirstFreeIsOne =
+    (view : View) (next one other : ℕ) → IsFirstFree view next one → IsFirstFree view next other → one ≡ other
+
+-- ---- tick
+
+abbrev pub expiry_at : ℕ → Transaction → Entry
+expiry_at moment opened = record { time = moment; event = T3 opened.header.system }
+
+-- the entries of the own data that is overdue once time has gone on, in order of opening
+abbrev pub expiries_at : Known → ℕ → List Entry
+expiries_at end moment = map (expiry_at moment) (expired_at end.view moment)
+
+-- a tick logs all expiries first; what is behind them, any S9F9 too, is no expiry
+abbrev pub AllExpiriesAreLoggedBeforeAnyS9F9 : Type 0
+AllExpiriesAreLoggedBeforeAnyS9F9 =
+    (desk : Content → Answered) (end : Known) (now : ℕ) (entries : List Entry) (end' : Known)
+    → Turn desk end (tick now) entries end'
+    → (later : List Entry) × (entries ≡ expiries_at end (max end.moment now) ++ later)
+    × (list_any (λ entry. is_t3 entry.event) later ≡ false)
+
+-- where a timer of the link is overdue, a tick logs the expiries, a cut, the end of the connection, and nothing else
+abbrev pub OverdueLinkTimerLeavesS9F9Out : Type 0
+OverdueLinkTimerLeavesS9F9Out =
+    (desk : Content → Answered) (end : Known) (now : ℕ) (entries : List Entry) (end' : Known) (cause : Cause)
+    → overdue_cause (record end { moment = max end.moment now }) ≡ Some cause
+    → Turn desk end (tick now) entries end'
+    → entries
+    ≡ expiries_at end (max end.moment now)
+    ++ record { time = max end.moment now; event = Cut cause } ∷ record { time = max end.moment now; event = Down } ∷ []

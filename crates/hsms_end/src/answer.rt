@@ -1,0 +1,35 @@
+//! What answers the messages that an end takes.
+
+use secs_item::Item;
+use secs_text::Message;
+use std::alloc::{AllocError, Global};
+
+/// What a desk says to a message (SEMI E5).
+#[derive(Debug, Drop)]
+pub enum Answer {
+    /// A reply with this item, or with no item.
+    Reply(Option<Item>),
+    /// No reply.
+    Quiet,
+    /// The stream isn't recognized.
+    NoStream,
+    /// The function isn't recognized.
+    NoFunction,
+    /// The data is illegal.
+    Illegal,
+}
+
+/// Answers messages. The answer is a function of the desk and the message.
+pub trait Desk {
+    ghost use Rattle.std.specs.Prelude.{◌≡◌, IfOk};
+    ghost use Rattle.secs_text.specs.Content.{Content};
+    ghost use Rattle.secs_text.specs.View.{content};
+    ghost use Rattle.hsms_end.specs.Answer.{Answered, answered};
+
+    /// What it answers to a message.
+    ghost answers: { Self → Content → Answered };
+
+    /// Answers a message. The only error is want of memory.
+    fn answer(&self, alloc: Global, message: &Message) -> Result<Answer, AllocError>
+        ensures { IfOk result (λ answer. answered answer ≡ answers self.now (content message.now)) };
+}

@@ -1,0 +1,41 @@
+//! When a timer runs out.
+
+ghost use Rattle.std.specs.Prelude.{◌≡◌};
+ghost use Rattle.hsms_machine.specs.Timer.{least_of};
+
+use crate::state::State;
+
+impl State {
+    ghost use Rattle.hsms_end.specs.Inside.{known};
+    ghost use Rattle.hsms_end.specs.Due.{octets_due, next_due};
+
+    /// The least moment at which a timer runs out while the connection is up. Moments past
+    /// 18,446,744,073,709,551,615 are left out.
+    pub fn next_due(&self) -> Option<u64>
+        ensures { result ≡ next_due (known self.now) }
+    {
+        earlier(self.tracker.next_due(), self.octets_due())
+    }
+
+    /// When pending octets have waited for T8.
+    fn octets_due(&self) -> Option<u64>
+        ensures { result ≡ octets_due (known self.now) }
+    {
+        if self.is_up() && !self.framer.pending().is_empty() {
+            self.heard.checked_add(u64::from(self.settings.t8()))
+        } else {
+            None
+        }
+    }
+}
+
+/// The lesser of two moments, where there are two.
+fn earlier(one: Option<u64>, other: Option<u64>) -> Option<u64>
+    ensures { result ≡ least_of one other }
+{
+    match (one, other) {
+        (Some(one), Some(other)) => Some(one.min(other)),
+        (Some(one), None) => Some(one),
+        (None, other) => other,
+    }
+}

@@ -1,0 +1,279 @@
+//! One end of a session.
+
+use crate::answer::Desk;
+use crate::fault::EndFault;
+use crate::state::State;
+use hsms_frame::Framer;
+use hsms_machine::{Entry, Phase, Settings, Tracker};
+use secs_text::Message;
+use std::alloc::Global;
+use std::marker::Model;
+
+/// An end of a session (SEMI E37, E37.1). It is told what happens, and answers with the entries that its log goes on
+/// by, all at its own moment in milliseconds. The frames to be sent are the sent ones among them, in order.
+///
+/// Each call is accepted, or refused by the first fault of [`EndFault`] that it meets, which changes nothing; or memory
+/// was refused, and from then on each call but the readers answers `Spent`.
+#[derive(Drop)]
+pub struct End<D> {
+    desk: D,
+    state: State,
+    spent: bool,
+}
+
+impl<D> Model for End<D> {
+    ghost use Rattle.std.specs.Prelude.{◌≡◌, false};
+    ghost use Rattle.hsms_end.specs.Known.{EndOf};
+    ghost use Rattle.hsms_end.specs.Inside.{known_of};
+    ghost use Rattle.hsms_end.specs.Sound.{IsSound};
+
+    ghost Value = { EndOf D };
+
+    ghost view = { λ end. record { desk = end.desk; known = known_of end.state end.spent } };
+
+    ghost invariant = { λ end. end.spent ≡ false → IsSound end.state };
+}
+
+impl<D: Desk> End<D> {
+    ghost use Rattle.std.specs.Prelude.{◌≡◌, MatchResult};
+    ghost use Rattle.hsms_machine.specs.View.{own_open_of};
+    ghost use Rattle.hsms_end.specs.Known.{untold};
+    ghost use Rattle.hsms_end.specs.Due.{next_due};
+    ghost use Rattle.hsms_end.specs.End.{Accepts, Refuses};
+    ghost use Rattle.secs_text.specs.View.{content};
+    ghost use Rattle.hsms_end.specs.Turn.{start, tick, bytes, send, linktest, separate, lost};
+
+    /// An end that was told nothing yet. Its own system bytes are counted from the first number on (SEMI E37, section
+    /// 8, message format). Takes no memory.
+    pub fn new(alloc: Global, settings: Settings, desk: D, first_system: u32) -> End<D>
+        ensures { result ≡ record { desk = desk; known = untold settings first_system } }
+    {
+        End {
+            desk,
+            state: State {
+                settings,
+                tracker: Tracker::new(alloc, settings),
+                framer: Framer::new(alloc, settings.max()),
+                moment: 0,
+                next: first_system,
+                heard: 0,
+            },
+            spent: false,
+        }
+    }
+
+    /// Where the session stands (SEMI E37, section 5, connection states). Takes no memory.
+    pub fn phase(&self) -> Phase
+        ensures { result ≡ self.now.known.view.phase }
+    {
+        self.state.tracker.phase()
+    }
+
+    /// How many own transactions are open: primaries that ask for a reply, Select.req and Linktest.req. Takes no
+    /// memory.
+    pub fn own_open(&self) -> usize
+        ensures { result ≡ own_open_of self.now.known.view }
+    {
+        self.state.tracker.own_open()
+    }
+
+    /// The octets that came and belong to no message that was taken off. Takes no memory.
+    pub fn pending(&self) -> &[u8]
+        ensures { result.now ≡ self.now.known.pending }
+    {
+        self.state.framer.pending()
+    }
+
+    /// The least moment, in milliseconds, at which a timer runs out: T3, T6 and T7 as the tracker tells them, and T8
+    /// from the last octet while octets are pending on a connection that is up (SEMI E37, section 10, parameters).
+    /// Moments past 18,446,744,073,709,551,615 are left out. Takes no memory.
+    pub fn next_due(&self) -> Option<u64>
+        ensures { result ≡ next_due self.now.known }
+    {
+        self.state.next_due()
+    }
+
+    /// The connection came up at this moment, in milliseconds. An active end asks for a session by Select.req (SEMI
+    /// E37, section 7, select procedure). Faults: `Spent`; `NotUp`, where it was up before; `Memory`.
+    pub fn start(&mut self, alloc: Global, now: u64) -> Result<Vec<Entry>, EndFault>
+        ensures { MatchResult result
+            (λ entries. Accepts D.answers self.old (start now) entries.items self.new)
+            (λ fault. Refuses self.old (start now) fault self.new) }
+    {
+        if self.spent {
+            return Err(EndFault::Spent);
+        }
+        if !self.state.is_new() {
+            return Err(EndFault::NotUp);
+        }
+        self.spent = true;
+        let mut entries = Vec::new(alloc);
+        match self.state.start(alloc, &mut entries, now) {
+            Ok(()) => {
+                self.spent = false;
+                Ok(entries)
+            }
+            Err(_) => Err(EndFault::Memory),
+        }
+    }
+
+    /// Time has gone on to this moment, in milliseconds, if it isn't past it. Each own primary that is overdue by T3 is
+    /// logged. Where T6, T7 or T8 has run out the connection is cut; else equipment tells of each expiry by S9F9 (SEMI
+    /// E37, section 10, parameters; SEMI E5, section 8, transactions). Faults: `Spent`, `NotUp`, `Memory`.
+    pub fn tick(&mut self, alloc: Global, now: u64) -> Result<Vec<Entry>, EndFault>
+        ensures { MatchResult result
+            (λ entries. Accepts D.answers self.old (tick now) entries.items self.new)
+            (λ fault. Refuses self.old (tick now) fault self.new) }
+    {
+        if self.spent {
+            return Err(EndFault::Spent);
+        }
+        if !self.state.is_up() {
+            return Err(EndFault::NotUp);
+        }
+        self.spent = true;
+        let mut entries = Vec::new(alloc);
+        match self.state.tick(alloc, &mut entries, now) {
+            Ok(()) => {
+                self.spent = false;
+                Ok(entries)
+            }
+            Err(_) => Err(EndFault::Memory),
+        }
+    }
+
+    /// Sends a primary (SEMI E37, section 7, data procedure) with own system bytes. Faults: each of [`EndFault`], in
+    /// its order, but `TooDeep` before `TooLong`. `Memory` may come in place of `TooLong`.
+    pub fn send(&mut self, alloc: Global, message: &Message) -> Result<Vec<Entry>, EndFault>
+        ensures { MatchResult result
+            (λ entries. Accepts D.answers self.old (send (content message.now)) entries.items self.new)
+            (λ fault. Refuses self.old (send (content message.now)) fault self.new) }
+    {
+        if self.spent {
+            return Err(EndFault::Spent);
+        }
+        if !self.state.is_up() {
+            return Err(EndFault::NotUp);
+        }
+        if let Some(fault) = self.state.hindrance(message) {
+            return Err(fault);
+        }
+        match self.state.fitting_text(alloc, message.item()) {
+            Ok(Some(text)) => {
+                self.spent = true;
+                let mut entries = Vec::new(alloc);
+                match self.state.send(&mut entries, message, text) {
+                    Ok(()) => {
+                        self.spent = false;
+                        Ok(entries)
+                    }
+                    Err(_) => Err(EndFault::Memory),
+                }
+            }
+            Ok(None) => Err(EndFault::TooLong),
+            Err(_) => {
+                self.spent = true;
+                Err(EndFault::Memory)
+            }
+        }
+    }
+
+    /// The connection was lost. Faults: `Spent`, `NotUp`, `Memory`.
+    pub fn lost(&mut self, alloc: Global) -> Result<Vec<Entry>, EndFault>
+        ensures { MatchResult result
+            (λ entries. Accepts D.answers self.old lost entries.items self.new)
+            (λ fault. Refuses self.old lost fault self.new) }
+    {
+        if self.spent {
+            return Err(EndFault::Spent);
+        }
+        if !self.state.is_up() {
+            return Err(EndFault::NotUp);
+        }
+        self.spent = true;
+        let mut entries = Vec::new(alloc);
+        match self.state.lose(&mut entries) {
+            Ok(()) => {
+                self.spent = false;
+                Ok(entries)
+            }
+            Err(_) => Err(EndFault::Memory),
+        }
+    }
+
+    /// Ends the session by Separate.req (SEMI E37, section 7, separate procedure), and the connection. Faults: `Spent`,
+    /// `NotUp`, `Memory`.
+    pub fn separate(&mut self, alloc: Global) -> Result<Vec<Entry>, EndFault>
+        ensures { MatchResult result
+            (λ entries. Accepts D.answers self.old separate entries.items self.new)
+            (λ fault. Refuses self.old separate fault self.new) }
+    {
+        if self.spent {
+            return Err(EndFault::Spent);
+        }
+        if !self.state.is_up() {
+            return Err(EndFault::NotUp);
+        }
+        self.spent = true;
+        let mut entries = Vec::new(alloc);
+        match self.state.separate(alloc, &mut entries) {
+            Ok(()) => {
+                self.spent = false;
+                Ok(entries)
+            }
+            Err(_) => Err(EndFault::Memory),
+        }
+    }
+
+    /// Asks by Linktest.req (SEMI E37, section 7, linktest procedure) whether the other end is still there. Faults:
+    /// `Spent`, `NotUp`, `Full`, `Memory`.
+    pub fn linktest(&mut self, alloc: Global) -> Result<Vec<Entry>, EndFault>
+        ensures { MatchResult result
+            (λ entries. Accepts D.answers self.old linktest entries.items self.new)
+            (λ fault. Refuses self.old linktest fault self.new) }
+    {
+        if self.spent {
+            return Err(EndFault::Spent);
+        }
+        if !self.state.is_up() {
+            return Err(EndFault::NotUp);
+        }
+        if self.state.tracker.own_open() >= 64 {
+            return Err(EndFault::Full);
+        }
+        self.spent = true;
+        let mut entries = Vec::new(alloc);
+        match self.state.test_link(alloc, &mut entries) {
+            Ok(()) => {
+                self.spent = false;
+                Ok(entries)
+            }
+            Err(_) => Err(EndFault::Memory),
+        }
+    }
+
+    /// Octets came, any number of them. Each message that they complete is logged, as taken where it breaks no rule and
+    /// else as discarded, and answered at once. Where they spell no message the connection is cut. The others stay
+    /// pending. Faults: `Spent`, `NotUp`, `Memory`.
+    pub fn bytes(&mut self, alloc: Global, octets: &[u8]) -> Result<Vec<Entry>, EndFault>
+        ensures { MatchResult result
+            (λ entries. Accepts D.answers self.old (bytes octets.now) entries.items self.new)
+            (λ fault. Refuses self.old (bytes octets.now) fault self.new) }
+    {
+        if self.spent {
+            return Err(EndFault::Spent);
+        }
+        if !self.state.is_up() {
+            return Err(EndFault::NotUp);
+        }
+        self.spent = true;
+        let mut entries = Vec::new(alloc);
+        match self.state.hear(alloc, &self.desk, &mut entries, octets) {
+            Ok(()) => {
+                self.spent = false;
+                Ok(entries)
+            }
+            Err(_) => Err(EndFault::Memory),
+        }
+    }
+}

@@ -1,0 +1,195 @@
+//! What is logged because a timer ran out.
+
+ghost use Rattle.std.specs.Prelude.{◌≡◌};
+ghost use Rattle.hsms_end.specs.Expiring.{overdue_of};
+
+use crate::state::State;
+use hsms_frame::Header;
+use hsms_machine::{Cause, Entry, Event, Role};
+use std::alloc::{AllocError, Global};
+
+impl State {
+    ghost use Rattle.std.specs.Prelude.{true, false, map, Some, max, OnOk, IfOk};
+    ghost use Rattle.hsms_machine.specs.declared.settings.Role.TheVariants.{Equipment};
+    ghost use Rattle.hsms_machine.specs.View.{oldest_of};
+    ghost use Rattle.hsms_end.specs.Turn.{is_up as is_connection_up, is_t6_overdue, is_t7_overdue, is_t8_overdue, overdue_cause, expiries, cut_by};
+    ghost use Rattle.hsms_end.specs.Doing.{Does};
+    ghost use Rattle.hsms_end.specs.Sound.{IsSound};
+    ghost use Rattle.hsms_end.specs.Expiring.{IsLate, HasExpired, MayWarn, is_data_overdue, warns_of, warnings_of};
+    ghost use Rattle.hsms_end.specs.Inside.{known, at_later};
+
+    /// Logs the own data that is overdue, in order of opening. Answers the headers of its primaries.
+    pub fn expire_data(
+        &mut self,
+        alloc: Global,
+        entries: &mut Vec<Entry>,
+    ) -> Result<Vec<Header>, AllocError>
+        requires { IsLate self.old }
+        ensures expired { IfOk result (λ headers. HasExpired self.old entries.old.items self.new entries.new.items headers.items) }
+        ensures in_time { OnOk result (is_data_overdue self.new ≡ false) }
+    {
+        let mut expired = Vec::new(alloc);
+        'oldest: while let Some(header) = self.overdue_data() {
+            expired.push(header)?;
+            self.log(entries, Event::T3(header.system))?;
+        }
+        Ok(expired)
+    }
+
+    /// The header of the own data that has been open for longest, where it is overdue.
+    fn overdue_data(&self) -> Option<Header>
+        ensures { result ≡ overdue_of self.now.settings.t3 self.now.moment (oldest_of self.now.tracker.sent_data) }
+    {
+        overdue(self.tracker.oldest_data(), self.moment, self.settings.t3())
+    }
+
+    /// Why the connection is cut, where no own data is overdue.
+    fn overdue_cause(&self) -> Option<Cause>
+        requires late { IsLate self.now }
+        requires in_time { is_data_overdue self.now ≡ false }
+        ensures { result ≡ overdue_cause (known self.now) }
+    {
+        if self.is_t6_overdue() {
+            Some(Cause::T6)
+        } else if self.is_t7_overdue() {
+            Some(Cause::T7)
+        } else if self.is_t8_overdue() {
+            Some(Cause::T8)
+        } else {
+            None
+        }
+    }
+
+    fn is_t6_overdue(&self) -> bool
+        requires { IsLate self.now }
+        ensures { result ≡ is_t6_overdue self.now.tracker self.now.moment }
+    {
+        match overdue(
+            self.tracker.oldest_control(),
+            self.moment,
+            self.settings.t6(),
+        ) {
+            Some(_) => true,
+            None => false,
+        }
+    }
+
+    /// T7 is overdue exactly where the connection couldn't go down before it is cut.
+    fn is_t7_overdue(&self) -> bool
+        requires late { IsLate self.now }
+        requires data_in_time { is_data_overdue self.now ≡ false }
+        requires control_in_time { is_t6_overdue self.now.tracker self.now.moment ≡ false }
+        ensures { result ≡ is_t7_overdue self.now.tracker self.now.moment }
+    {
+        let down = Entry {
+            time: self.moment,
+            event: Event::Down,
+        };
+        match self.tracker.check(&down) {
+            Some(_) => true,
+            None => false,
+        }
+    }
+
+    fn is_t8_overdue(&self) -> bool
+        ensures { result ≡ is_t8_overdue (known self.now) }
+    {
+        !self.framer.pending().is_empty()
+            && u64::from(self.settings.t8()) < self.moment.saturating_sub(self.heard)
+    }
+
+    /// The connection is cut, since a timer ran out.
+    fn cut_overdue(&mut self, entries: &mut Vec<Entry>, cause: Cause) -> Result<(), AllocError>
+        requires late { IsLate self.old }
+        requires in_time { is_data_overdue self.old ≡ false }
+        requires overdue { overdue_cause (known self.old) ≡ Some cause }
+        ensures does { OnOk result (Does self.old entries.old.items (cut_by cause) self.new entries.new.items) }
+        ensures sound { OnOk result (IsSound self.new) }
+    {
+        self.log(entries, Event::Cut(cause))?;
+        self.log(entries, Event::Down)?;
+        Ok(())
+    }
+
+    /// Time goes on to a moment, if it isn't past it, and what is overdue is logged.
+    pub fn tick(
+        &mut self,
+        alloc: Global,
+        entries: &mut Vec<Entry>,
+        now: u64,
+    ) -> Result<(), AllocError>
+        requires sound { IsSound self.old }
+        requires up { is_connection_up self.old.tracker.phase ≡ true }
+        ensures does { OnOk result (Does (at_later self.old now) entries.old.items (expiries (known (at_later self.old now))) self.new entries.new.items) }
+        ensures sound { OnOk result (IsSound self.new) }
+    {
+        self.tracker.keeps_order();
+        self.moment = self.moment.max(now);
+        self.expire(alloc, entries)
+    }
+
+    /// Logs what is overdue: own data, then a cut, or else the warnings of equipment.
+    fn expire(&mut self, alloc: Global, entries: &mut Vec<Entry>) -> Result<(), AllocError>
+        requires { IsLate self.old }
+        ensures does { OnOk result (Does self.old entries.old.items (expiries (known self.old)) self.new entries.new.items) }
+        ensures sound { OnOk result (IsSound self.new) }
+    {
+        let expired = self.expire_data(alloc, entries)?;
+        match self.overdue_cause() {
+            Some(cause) => self.cut_overdue(entries, cause),
+            None => self.warn_expired(alloc, entries, &expired),
+        }
+    }
+
+    /// Equipment tells of each primary that expired.
+    fn warn_expired(
+        &mut self,
+        alloc: Global,
+        entries: &mut Vec<Entry>,
+        expired: &[Header],
+    ) -> Result<(), AllocError>
+        requires sound { IsSound self.old }
+        requires selected { MayWarn self.old.tracker.phase expired.now }
+        ensures does { OnOk result (Does self.old entries.old.items (warnings_of self.old.settings expired.now) self.new entries.new.items) }
+        ensures sound { OnOk result (IsSound self.new) }
+    {
+        match self.settings.role() {
+            Role::Equipment => self.warn_of_all(alloc, entries, expired),
+            Role::Host => Ok(()),
+        }
+    }
+
+    fn warn_of_all(
+        &mut self,
+        alloc: Global,
+        entries: &mut Vec<Entry>,
+        expired: &[Header],
+    ) -> Result<(), AllocError>
+        requires sound { IsSound self.old }
+        requires equipment { self.old.settings.role ≡ Equipment }
+        requires selected { MayWarn self.old.tracker.phase expired.now }
+        ensures does { OnOk result (Does self.old entries.old.items (map (warns_of self.old.settings) expired.now) self.new entries.new.items) }
+        ensures sound { OnOk result (IsSound self.new) }
+    {
+        for header in expired {
+            self.warn(alloc, entries, 9, *header)?;
+        }
+        Ok(())
+    }
+}
+
+/// The header of a transaction that was opened longer ago than the limit.
+fn overdue(oldest: Option<(u64, Header)>, moment: u64, limit: u32) -> Option<Header>
+    ensures { result ≡ overdue_of limit moment oldest }
+{
+    match oldest {
+        Some((time, header)) => {
+            if u64::from(limit) < moment.saturating_sub(time) {
+                Some(header)
+            } else {
+                None
+            }
+        }
+        None => None,
+    }
+}

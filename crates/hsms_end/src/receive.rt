@@ -1,0 +1,151 @@
+//! What received octets lead to.
+
+ghost use Rattle.std.specs.Prelude.{◌≡◌};
+ghost use Rattle.hsms_frame.specs.declared.frame.Frame.{Frame as FrameValue};
+ghost use Rattle.std.specs.Prelude.{true};
+ghost use Rattle.hsms_machine.specs.declared.entry.Event.TheVariants.{Taken};
+ghost use Rattle.hsms_end.specs.Owing.{is_taken};
+
+use crate::answer::Desk;
+use crate::fault::EndFault;
+use crate::state::State;
+use hsms_frame::{Frame, FrameFault, Header};
+use hsms_machine::{Cause, Entry, Event, Rule};
+use std::alloc::Global;
+
+impl State {
+    ghost use Rattle.std.specs.Prelude.{◌++◌, [], ◌∷◌, true, OnOk, IfOk, IfErr};
+    ghost use Rattle.hsms_frame.specs.Framing.{FramesAs};
+    ghost use Rattle.hsms_end.specs.declared.fault.EndFault.TheVariants.{Memory};
+    ghost use Rattle.hsms_end.specs.Act.{logs, asks};
+    ghost use Rattle.hsms_end.specs.Turn.{is_up as is_connection_up, cut_by, warns_too_long, BreaksAsTaken, received_as};
+    ghost use Rattle.hsms_machine.specs.declared.entry.Cause.TheVariants.{Length};
+    ghost use Rattle.hsms_end.specs.Inside.{known};
+    ghost use Rattle.hsms_end.specs.Doing.{Does, IsLawful};
+    ghost use Rattle.hsms_end.specs.Sound.{IsSound};
+    ghost use Rattle.hsms_end.specs.Receiving.{HasHandled, HasReceivedAll};
+
+    /// The messages at the front of the pending octets, one after the other while the connection is up.
+    pub fn receive_all<D: Desk>(
+        &mut self,
+        alloc: Global,
+        desk: &D,
+        entries: &mut Vec<Entry>,
+    ) -> Result<(), EndFault>
+        requires { IsSound self.old }
+        ensures received { OnOk result (HasReceivedAll (D.answers desk.now) self.old entries.old.items self.new entries.new.items) }
+        ensures sound { OnOk result (IsSound self.new) }
+        ensures memory { IfErr result (λ fault. fault ≡ Memory) }
+    {
+        'messages: while self.is_up() {
+            match self.next_message() {
+                Ok(Some(frame)) => self.handle(alloc, desk, entries, frame)?,
+                Ok(None) => return Ok(()),
+                Err(FrameFault::TooShort { .. }) => return self.cut(entries),
+                Err(FrameFault::TooLong { header, .. }) => {
+                    return self.cut_too_long(alloc, entries, header);
+                }
+                Err(FrameFault::Memory) => return Err(EndFault::Memory),
+            }
+        }
+        Ok(())
+    }
+
+    /// The message at the front of the pending octets, which is taken off.
+    fn next_message(&mut self) -> Result<Option<Frame>, FrameFault>
+        ensures front { FramesAs self.old.framer.max self.old.framer.pending result self.new.framer.pending }
+        ensures off { self.new ≡ record self.old { framer = record self.old.framer { pending = self.new.framer.pending } } }
+    {
+        self.framer.next()
+    }
+
+    /// The first rule of frames that a received frame breaks as a taken one, and the frame.
+    fn judge(&self, frame: Frame) -> (Option<Rule>, Frame)
+        requires sound { IsSound self.now }
+        requires up { is_connection_up self.now.tracker.phase ≡ true }
+        ensures frame { result.1 ≡ frame }
+        ensures broken { BreaksAsTaken self.now.tracker frame result.0 }
+        ensures lawful { IsLawful self.now (received_as frame result.0) }
+    {
+        let entry = Entry {
+            time: self.moment,
+            event: Event::Taken(frame),
+        };
+        let broken = self.tracker.check(&entry);
+        let Entry { event, .. } = entry;
+        (broken, frame_of(event))
+    }
+
+    /// A message that was taken off the front: its entry, and its reaction.
+    fn handle<D: Desk>(
+        &mut self,
+        alloc: Global,
+        desk: &D,
+        entries: &mut Vec<Entry>,
+        frame: Frame,
+    ) -> Result<(), EndFault>
+        requires sound { IsSound self.old }
+        requires up { is_connection_up self.old.tracker.phase ≡ true }
+        ensures handled { OnOk result (HasHandled (D.answers desk.now) self.old entries.old.items frame self.new entries.new.items) }
+        ensures sound { OnOk result (IsSound self.new) }
+        ensures octets { OnOk result (self.new.framer ≡ self.old.framer) }
+        ensures memory { IfErr result (λ fault. fault ≡ Memory) }
+    {
+        let (broken, frame) = self.judge(frame);
+        match broken {
+            None => self.take(alloc, desk, entries, frame)?,
+            Some(rule) => self.discard(alloc, entries, frame, rule)?,
+        }
+        Ok(())
+    }
+
+    /// The connection is cut, since octets are no message.
+    fn cut(&mut self, entries: &mut Vec<Entry>) -> Result<(), EndFault>
+        requires sound { IsSound self.old }
+        requires up { is_connection_up self.old.tracker.phase ≡ true }
+        ensures does { OnOk result (Does self.old entries.old.items (cut_by Length) self.new entries.new.items) }
+        ensures sound { OnOk result (IsSound self.new) }
+        ensures memory { IfErr result (λ fault. fault ≡ Memory) }
+    {
+        self.log(entries, Event::Cut(Cause::Length))?;
+        self.log(entries, Event::Down)?;
+        Ok(())
+    }
+
+    /// The connection is cut, since a message is too long; equipment may tell of it.
+    fn cut_too_long(
+        &mut self,
+        alloc: Global,
+        entries: &mut Vec<Entry>,
+        header: Header,
+    ) -> Result<(), EndFault>
+        requires sound { IsSound self.old }
+        requires up { is_connection_up self.old.tracker.phase ≡ true }
+        ensures does { OnOk result (Does self.old entries.old.items (warns_too_long (known self.old) header ++ cut_by Length) self.new entries.new.items) }
+        ensures sound { OnOk result (IsSound self.new) }
+        ensures memory { IfErr result (λ fault. fault ≡ Memory) }
+    {
+        if self.is_warned(header) {
+            self.warn(alloc, entries, 11, header)?;
+            self.cut(entries)?;
+            return Ok(());
+        }
+        self.cut(entries)
+    }
+}
+
+/// The frame that an event takes.
+fn frame_of(event: Event) -> Frame
+    requires { is_taken event ≡ true }
+    ensures { (frame : FrameValue) → event ≡ Taken frame → result ≡ frame }
+{
+    match event {
+        Event::Taken(frame) => frame,
+        Event::Up
+        | Event::Sent(_)
+        | Event::Discarded(_)
+        | Event::T3(_)
+        | Event::Cut(_)
+        | Event::Down => unreachable!(),
+    }
+}

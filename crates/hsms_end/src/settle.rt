@@ -1,0 +1,319 @@
+//! A received frame: its entry, and its reaction at once.
+
+ghost use Rattle.std.specs.Prelude.{◌≡◌, ◌∷◌, true};
+ghost use Rattle.hsms_frame.specs.Header.{kind_of};
+ghost use Rattle.hsms_machine.specs.Message.{is_data as is_data_of, is_data_kind};
+ghost use Rattle.hsms_end.specs.Reaction.{is_control_response as is_control_response_of};
+
+use crate::answer::{Answer, Desk};
+use crate::state::State;
+use hsms_frame::{Frame, Header, Kind, kind};
+use hsms_machine::{Entry, Event, Rule};
+use secs_item::{ItemFault, decode_text};
+use secs_text::Message;
+use std::alloc::{AllocError, Global};
+
+impl State {
+    ghost use Rattle.std.specs.Prelude.{◌++◌, [], ◌&&◌, OnOk, IfOk, if◌then◌else◌};
+    ghost use Rattle.secs_text.specs.Content.{Content};
+    ghost use Rattle.secs_item.specs.Spelling.{IsText};
+    ghost use Rattle.hsms_frame.specs.declared.kinds.Kind.TheVariants.{Primary, SelectReq, LinktestReq, Separate};
+    ghost use Rattle.hsms_machine.specs.declared.entry.Event.TheVariants.{Taken, Down};
+    ghost use Rattle.hsms_machine.specs.declared.phase.Phase.TheVariants.{Selected};
+    ghost use Rattle.hsms_machine.specs.declared.rule.Rule.TheVariants.{Text};
+    ghost use Rattle.hsms_machine.specs.Step.{is_selected as is_selected_phase};
+    ghost use Rattle.hsms_end.specs.Answer.{Answered, answered};
+    ghost use Rattle.hsms_end.specs.Act.{logs};
+    ghost use Rattle.hsms_end.specs.Reaction.{rejects, warns, answers_discarded};
+    ghost use Rattle.hsms_end.specs.Doing.{Does};
+    ghost use Rattle.hsms_end.specs.Sound.{IsSound};
+    ghost use Rattle.hsms_end.specs.Receiving.{HasHandled};
+    ghost use Rattle.hsms_end.specs.Owing.{IsOwing, IsSame, CanTake, CanDiscard, IsAnsweredBy, is_silent};
+
+    /// The desk's answer to a primary, whose text is one.
+    fn ask<D: Desk>(&self, alloc: Global, desk: &D, frame: &Frame) -> Result<Answer, AllocError>
+        requires { ¬ ¬ IsText self.now.settings.depth frame.now.text }
+        ensures { IfOk result (λ answer. IsAnsweredBy (D.answers desk.now) self.now.settings.depth frame.now (answered answer)) }
+    {
+        match decode_text(alloc, frame.text.as_slice(), self.settings.depth()) {
+            Ok(item) => {
+                let header = frame.header;
+                let message = Message::new(header.stream(), header.function(), header.wait(), item);
+                let answer = desk.answer(alloc, &message)?;
+                Ok(answer)
+            }
+            Err(fault) => {
+                if fault != ItemFault::Memory {
+                    unreachable!()
+                }
+                Err(AllocError)
+            }
+        }
+    }
+
+    /// A primary is taken, and answered as the desk says.
+    fn take_primary<D: Desk>(
+        &mut self,
+        alloc: Global,
+        desk: &D,
+        entries: &mut Vec<Entry>,
+        frame: Frame,
+    ) -> Result<(), AllocError>
+        requires taken { CanTake self.old frame }
+        requires kind { kind_of frame.header ≡ Primary }
+        ensures handled { OnOk result (HasHandled (D.answers desk.now) self.old entries.old.items frame self.new entries.new.items) }
+        ensures sound { OnOk result (IsSound self.new) }
+        ensures framer { OnOk result (self.new.framer ≡ self.old.framer) }
+    {
+        let header = frame.header;
+        let answer = self.ask(alloc, desk, &frame)?;
+        self.log(entries, Event::Taken(frame))?;
+        self.answer_primary(alloc, entries, header, answer)?;
+        Ok(())
+    }
+
+    /// A Select.req is taken, and answered.
+    fn take_select(
+        &mut self,
+        alloc: Global,
+        entries: &mut Vec<Entry>,
+        frame: Frame,
+    ) -> Result<(), AllocError>
+        requires taken { CanTake self.old frame }
+        requires kind { kind_of frame.header ≡ SelectReq }
+        ensures handled { OnOk result ((desk : Content → Answered) → HasHandled desk self.old entries.old.items frame self.new entries.new.items) }
+        ensures sound { OnOk result (IsSound self.new) }
+        ensures framer { OnOk result (self.new.framer ≡ self.old.framer) }
+    {
+        let header = frame.header;
+        let selected = self.is_selected();
+        self.log(entries, Event::Taken(frame))?;
+        self.answer_select(alloc, entries, header, selected)?;
+        Ok(())
+    }
+
+    /// A Linktest.req is taken, and answered.
+    fn take_linktest(
+        &mut self,
+        alloc: Global,
+        entries: &mut Vec<Entry>,
+        frame: Frame,
+    ) -> Result<(), AllocError>
+        requires taken { CanTake self.old frame }
+        requires kind { kind_of frame.header ≡ LinktestReq }
+        ensures handled { OnOk result ((desk : Content → Answered) → HasHandled desk self.old entries.old.items frame self.new entries.new.items) }
+        ensures sound { OnOk result (IsSound self.new) }
+        ensures framer { OnOk result (self.new.framer ≡ self.old.framer) }
+    {
+        let header = frame.header;
+        self.log(entries, Event::Taken(frame))?;
+        self.answer_linktest(alloc, entries, header)?;
+        Ok(())
+    }
+
+    /// A Separate.req is taken, and the connection goes down.
+    fn take_separate(&mut self, entries: &mut Vec<Entry>, frame: Frame) -> Result<(), AllocError>
+        requires taken { CanTake self.old frame }
+        requires kind { kind_of frame.header ≡ Separate }
+        ensures handled { OnOk result ((desk : Content → Answered) → HasHandled desk self.old entries.old.items frame self.new entries.new.items) }
+        ensures sound { OnOk result (IsSound self.new) }
+        ensures framer { OnOk result (self.new.framer ≡ self.old.framer) }
+    {
+        self.log(entries, Event::Taken(frame))?;
+        self.log(entries, Event::Down)?;
+        Ok(())
+    }
+
+    /// A message that needs no answer is taken.
+    fn take_other(&mut self, entries: &mut Vec<Entry>, frame: Frame) -> Result<(), AllocError>
+        requires taken { CanTake self.old frame }
+        requires kind { is_silent (kind_of frame.header) ≡ true }
+        ensures handled { OnOk result ((desk : Content → Answered) → HasHandled desk self.old entries.old.items frame self.new entries.new.items) }
+        ensures sound { OnOk result (IsSound self.new) }
+        ensures framer { OnOk result (self.new.framer ≡ self.old.framer) }
+    {
+        self.log(entries, Event::Taken(frame))?;
+        Ok(())
+    }
+
+    /// A frame that breaks no rule is taken: its entry, and its reaction.
+    pub fn take<D: Desk>(
+        &mut self,
+        alloc: Global,
+        desk: &D,
+        entries: &mut Vec<Entry>,
+        frame: Frame,
+    ) -> Result<(), AllocError>
+        requires { CanTake self.old frame }
+        ensures handled { OnOk result (HasHandled (D.answers desk.now) self.old entries.old.items frame self.new entries.new.items) }
+        ensures sound { OnOk result (IsSound self.new) }
+        ensures framer { OnOk result (self.new.framer ≡ self.old.framer) }
+    {
+        match kind(frame.header) {
+            Kind::Primary => self.take_primary(alloc, desk, entries, frame)?,
+            Kind::SelectReq => self.take_select(alloc, entries, frame)?,
+            Kind::LinktestReq => self.take_linktest(alloc, entries, frame)?,
+            Kind::Separate => self.take_separate(entries, frame)?,
+            Kind::Reply
+            | Kind::SelectRsp
+            | Kind::LinktestRsp
+            | Kind::Reject
+            | Kind::OtherSType
+            | Kind::OtherPType => self.take_other(entries, frame)?,
+        }
+        Ok(())
+    }
+
+    /// A response that answers nothing is refused; a reply isn't.
+    fn reject_response(
+        &mut self,
+        alloc: Global,
+        entries: &mut Vec<Entry>,
+        header: Header,
+    ) -> Result<(), AllocError>
+        requires { IsOwing self.old [] [] }
+        ensures does { OnOk result (Does self.old entries.old.items (if is_control_response_of (kind_of header) then rejects header 3 else []) self.new entries.new.items) }
+        ensures owing { OnOk result (IsOwing self.new [] []) }
+        ensures same { OnOk result (IsSame self.old self.new) }
+    {
+        if !is_control_response(header) {
+            return Ok(());
+        }
+        self.reject(alloc, entries, header, 3)?;
+        Ok(())
+    }
+
+    /// Equipment that is selected tells of data for another device.
+    fn warn_of_session(
+        &mut self,
+        alloc: Global,
+        entries: &mut Vec<Entry>,
+        header: Header,
+        selected: bool,
+    ) -> Result<(), AllocError>
+        requires owing { IsOwing self.old [] [] }
+        requires selected { is_selected_phase self.old.tracker.phase ≡ selected }
+        ensures does { OnOk result (Does self.old entries.old.items (if is_data_of header && selected then warns self.old.settings 1 header else []) self.new entries.new.items) }
+        ensures owing { OnOk result (IsOwing self.new [] []) }
+        ensures same { OnOk result (IsSame self.old self.new) }
+    {
+        if !selected {
+            return Ok(());
+        }
+        if !is_data(header) {
+            return Ok(());
+        }
+        self.warn(alloc, entries, 1, header)?;
+        Ok(())
+    }
+
+    /// Equipment tells of data that it can't read.
+    fn warn_unreadable(
+        &mut self,
+        alloc: Global,
+        entries: &mut Vec<Entry>,
+        header: Header,
+    ) -> Result<(), AllocError>
+        requires owing { IsOwing self.old [] [] }
+        requires selected { self.old.tracker.phase ≡ Selected }
+        ensures does { OnOk result (Does self.old entries.old.items (warns self.old.settings 7 header) self.new entries.new.items) }
+        ensures owing { OnOk result (IsOwing self.new [] []) }
+        ensures same { OnOk result (IsSame self.old self.new) }
+    {
+        self.warn(alloc, entries, 7, header)?;
+        Ok(())
+    }
+
+    /// What follows a frame that was discarded.
+    fn answer_discarded(
+        &mut self,
+        alloc: Global,
+        entries: &mut Vec<Entry>,
+        header: Header,
+        selected: bool,
+        rule: Rule,
+    ) -> Result<(), AllocError>
+        requires owing { IsOwing self.old [] [] }
+        requires selected { is_selected_phase self.old.tracker.phase ≡ selected }
+        requires readable { rule ≡ Text → self.old.tracker.phase ≡ Selected }
+        ensures does { OnOk result (Does self.old entries.old.items (answers_discarded self.old.settings selected header rule) self.new entries.new.items) }
+        ensures owing { OnOk result (IsOwing self.new [] []) }
+        ensures same { OnOk result (IsSame self.old self.new) }
+    {
+        match rule {
+            Rule::PType => self.reject(alloc, entries, header, 2),
+            Rule::SType => self.reject(alloc, entries, header, 1),
+            Rule::NotSelected => self.reject(alloc, entries, header, 4),
+            Rule::NoTransaction => self.reject_response(alloc, entries, header),
+            Rule::Session => self.warn_of_session(alloc, entries, header, selected),
+            Rule::Text => self.warn_unreadable(alloc, entries, header),
+            Rule::Backwards
+            | Rule::NotUp
+            | Rule::Ended
+            | Rule::T3Overdue
+            | Rule::LinkOverdue
+            | Rule::NotDue
+            | Rule::TooLong
+            | Rule::ControlText
+            | Rule::Direction
+            | Rule::WBit
+            | Rule::SystemInUse
+            | Rule::SelectStatus
+            | Rule::NoCause => Ok(()),
+        }
+    }
+
+    /// A frame that breaks a rule is discarded: its entry, and its reaction.
+    pub fn discard(
+        &mut self,
+        alloc: Global,
+        entries: &mut Vec<Entry>,
+        frame: Frame,
+        rule: Rule,
+    ) -> Result<(), AllocError>
+        requires { CanDiscard self.old frame rule }
+        ensures handled { OnOk result ((desk : Content → Answered) → HasHandled desk self.old entries.old.items frame self.new entries.new.items) }
+        ensures sound { OnOk result (IsSound self.new) }
+        ensures framer { OnOk result (self.new.framer ≡ self.old.framer) }
+    {
+        let header = frame.header;
+        let selected = self.is_selected();
+        self.log(entries, Event::Discarded(frame))?;
+        self.answer_discarded(alloc, entries, header, selected, rule)?;
+        Ok(())
+    }
+}
+
+/// Whether a message is a Select.rsp or a Linktest.rsp.
+fn is_control_response(header: Header) -> bool
+    ensures { result ≡ is_control_response_of (kind_of header) }
+{
+    match kind(header) {
+        Kind::SelectRsp | Kind::LinktestRsp => true,
+        Kind::Primary
+        | Kind::Reply
+        | Kind::SelectReq
+        | Kind::LinktestReq
+        | Kind::Reject
+        | Kind::Separate
+        | Kind::OtherSType
+        | Kind::OtherPType => false,
+    }
+}
+
+/// Whether a message is data.
+fn is_data(header: Header) -> bool
+    ensures { result ≡ is_data_kind (kind_of header) }
+{
+    match kind(header) {
+        Kind::Primary | Kind::Reply => true,
+        Kind::SelectReq
+        | Kind::SelectRsp
+        | Kind::LinktestReq
+        | Kind::LinktestRsp
+        | Kind::Reject
+        | Kind::Separate
+        | Kind::OtherSType
+        | Kind::OtherPType => false,
+    }
+}

@@ -1,0 +1,178 @@
+//! What an end is known by.
+
+ghost use Rattle.std.specs.Prelude.{◌≡◌};
+ghost use Rattle.hsms_end.specs.Frame.{bare as bare_frame};
+
+use hsms_frame::{Frame, Framer, Header, Text, linktest_req, select_req, separate as separate_req};
+use hsms_machine::{Entry, Event, Phase, Settings, Side, Tracker};
+use std::alloc::{AllocError, Global};
+
+/// What an end is known by, apart from its desk.
+#[derive(Drop)]
+pub struct State {
+    /// The settings of its session.
+    pub settings: Settings,
+    /// What its log shows.
+    pub tracker: Tracker,
+    /// The octets that came and belong to no message that was taken off.
+    pub framer: Framer,
+    /// Its moment, in milliseconds.
+    pub moment: u64,
+    /// The number from which own system bytes are tried.
+    pub next: u32,
+    /// The moment at which an octet came last.
+    pub heard: u64,
+}
+
+impl State {
+    ghost use Rattle.std.specs.Prelude.{◌≤◌, ◌<◌, ℕ, true, [], ◌∷◌, OnOk};
+    ghost use Rattle.hsms_frame.specs.declared.frame.Frame.{Frame as FrameValue};
+    ghost use Rattle.hsms_machine.specs.declared.entry.Event.TheVariants.{Sent};
+    ghost use Rattle.hsms_machine.specs.View.{own_open_of};
+    ghost use Rattle.hsms_end.specs.Act.{logs, asks};
+    ghost use Rattle.hsms_end.specs.Inside.{after_event, after_number};
+    ghost use Rattle.hsms_end.specs.Fault.{is_before};
+    ghost use Rattle.hsms_machine.specs.declared.entry.Event.TheVariants.{Down};
+    ghost use Rattle.hsms_end.specs.Frame.{linktest_req as linktest_req_of, separate_req as separate_req_of};
+    ghost use Rattle.hsms_end.specs.Turn.{opening_of, is_up as is_connection_up};
+    ghost use Rattle.hsms_end.specs.Sound.{IsSound};
+    ghost use Rattle.hsms_end.specs.Doing.{IsLawful, Does};
+    ghost use Rattle.hsms_end.specs.Number.{IsFirstFree};
+
+    /// Logs an event at the end's moment.
+    pub fn log(&mut self, entries: &mut Vec<Entry>, event: Event) -> Result<(), AllocError>
+        requires { IsLawful self.old event }
+        ensures does { OnOk result (Does self.old entries.old.items (logs event ∷ []) self.new entries.new.items) }
+        ensures after { OnOk result (self.new ≡ after_event self.old event) }
+    {
+        let entry = Entry {
+            time: self.moment,
+            event,
+        };
+        self.tracker.step(&entry)?;
+        entries.push(entry)?;
+        Ok(())
+    }
+
+    /// Logs a frame that is sent with the first free number.
+    pub fn send_numbered(
+        &mut self,
+        entries: &mut Vec<Entry>,
+        frame: Frame,
+        number: u32,
+    ) -> Result<(), AllocError>
+        requires free { IsFirstFree self.old.tracker self.old.next number }
+        requires lawful { IsLawful self.old (Sent frame) }
+        ensures does { OnOk result ((asked : ℕ → FrameValue) → asked number ≡ frame
+            → Does self.old entries.old.items (asks asked ∷ []) self.new entries.new.items) }
+        ensures after { OnOk result (self.new ≡ after_number self.old frame number) }
+    {
+        self.log(entries, Event::Sent(frame))?;
+        self.next = number.wrapping_add(1);
+        Ok(())
+    }
+
+    /// Whether the connection is up.
+    pub fn is_up(&self) -> bool
+        ensures { result ≡ is_connection_up self.now.tracker.phase }
+    {
+        match self.tracker.phase() {
+            Phase::NotSelected | Phase::Selected => true,
+            Phase::Before | Phase::Over | Phase::Gone => false,
+        }
+    }
+
+    /// Whether there was no connection yet.
+    pub fn is_new(&self) -> bool
+        ensures { result ≡ is_before self.now.tracker.phase }
+    {
+        match self.tracker.phase() {
+            Phase::Before => true,
+            Phase::NotSelected | Phase::Selected | Phase::Over | Phase::Gone => false,
+        }
+    }
+
+    /// The connection comes up; an active end asks for a session.
+    pub fn start(
+        &mut self,
+        alloc: Global,
+        entries: &mut Vec<Entry>,
+        now: u64,
+    ) -> Result<(), AllocError>
+        requires sound { IsSound self.old }
+        requires before { is_before self.old.tracker.phase ≡ true }
+        ensures does { OnOk result (Does (record self.old { moment = now }) entries.old.items (opening_of self.old.settings.link) self.new entries.new.items) }
+        ensures sound { OnOk result (IsSound self.new) }
+    {
+        self.moment = now;
+        self.log(entries, Event::Up)?;
+        match self.settings.link() {
+            Side::Active => {
+                let number = self.free_number();
+                self.send_numbered(entries, bare(alloc, select_req(number)), number)?;
+                Ok(())
+            }
+            Side::Passive => Ok(()),
+        }
+    }
+
+    /// Asks whether the other end is still there.
+    pub fn test_link(&mut self, alloc: Global, entries: &mut Vec<Entry>) -> Result<(), AllocError>
+        requires sound { IsSound self.old }
+        requires up { is_connection_up self.old.tracker.phase ≡ true }
+        requires room { own_open_of self.old.tracker < 64 }
+        ensures does { OnOk result (Does self.old entries.old.items (asks linktest_req_of ∷ []) self.new entries.new.items) }
+        ensures sound { OnOk result (IsSound self.new) }
+    {
+        let number = self.free_number();
+        self.send_numbered(entries, bare(alloc, linktest_req(number)), number)?;
+        Ok(())
+    }
+
+    /// Ends the session and the connection.
+    pub fn separate(&mut self, alloc: Global, entries: &mut Vec<Entry>) -> Result<(), AllocError>
+        requires sound { IsSound self.old }
+        requires up { is_connection_up self.old.tracker.phase ≡ true }
+        ensures does { OnOk result (Does self.old entries.old.items (asks separate_req_of ∷ logs Down ∷ []) self.new entries.new.items) }
+        ensures sound { OnOk result (IsSound self.new) }
+    {
+        let number = self.free_number();
+        self.send_numbered(entries, bare(alloc, separate_req(number)), number)?;
+        self.log(entries, Event::Down)?;
+        Ok(())
+    }
+
+    /// The connection is lost.
+    pub fn lose(&mut self, entries: &mut Vec<Entry>) -> Result<(), AllocError>
+        requires sound { IsSound self.old }
+        requires up { is_connection_up self.old.tracker.phase ≡ true }
+        ensures does { OnOk result (Does self.old entries.old.items (logs Down ∷ []) self.new entries.new.items) }
+        ensures sound { OnOk result (IsSound self.new) }
+    {
+        self.log(entries, Event::Down)
+    }
+
+    /// The first number from the next one on that no open own transaction has.
+    pub fn free_number(&self) -> u32
+        requires { own_open_of self.now.tracker ≤ 64 }
+        ensures { IsFirstFree self.now.tracker self.now.next result }
+    {
+        for places in 0..65u32 {
+            let number = self.next.wrapping_add(places);
+            if !self.tracker.in_use(number) {
+                return number;
+            }
+        }
+        unreachable!()
+    }
+}
+
+/// The frame of a header, with no text.
+pub fn bare(alloc: Global, header: Header) -> Frame
+    ensures { result ≡ bare_frame header }
+{
+    Frame {
+        header,
+        text: Text::new(Vec::new(alloc)),
+    }
+}
