@@ -22,7 +22,7 @@ SETTINGS = "hsms-log 1 {} {} 0 45000 6000 10000 5000 1048576 32"
 FIN, SYN, RST, PUSH, ACK = 1, 2, 4, 8, 16
 BEGIN = 1_700_000_000_000_000  # microseconds
 ACTIVE, PASSIVE = 0, 1
-RANDOM = 100
+RANDOM = 60
 
 SELECT = [(ACTIVE, "ffff0000000100000001"), (PASSIVE, "ffff0000000200000001")]
 LINKS = {"ethernet": 1, "vlan": 1, "cooked": 113, "cooked2": 276, "raw": 101, "loopback": 0}
