@@ -67,11 +67,14 @@ def packets(file):
         found = pcapng_packets(file)
     else:
         raise Refused(f"the file begins with {magic.hex() or 'nothing'}, so it is neither pcap nor pcapng")
+    number = 0
     try:
         for number, (nanoseconds, link, octets) in enumerate(found, 1):
             yield Packet(number, nanoseconds, link, octets)
     except EOFError:
         warn("the capture file ends within a packet, which is left out")
+    except (ArithmeticError, IndexError, ValueError, struct.error):
+        raise Refused(f"the capture file is damaged behind packet {number}") from None
 
 
 def read_whole(file, count):

@@ -327,6 +327,18 @@ def half_a_packet():
     return capture
 
 
+def damaged():
+    """The second packet is of an interface that isn't there."""
+    capture = Capture("pcapng<")
+    talk = Talk(capture)
+    octets = bytearray(capture.octets)
+    packets = [place for place in range(0, len(octets), 4) if octets[place:place + 4] == capture.pack("I", 6)]
+    octets[packets[1] + 8] = 7
+    capture.octets = octets
+    talk.say(1, *SELECT[0])
+    return capture
+
+
 def other_packets():
     """Packets that carry no TCP, or whose headers or form aren't read, within a session."""
     capture = Capture()
@@ -406,6 +418,7 @@ CASES = [
     (other_packets, HOST, ["0 up", *SELECTED, "2 down"], None, 0,
      "wire2log: packet 7 with a fragment of IP is left out\n"
      "wire2log: packet 8 cut off within its headers is left out, and 1 more\n"),
+    (damaged, HOST, [], "", 2, "wire2log: the capture file is damaged behind packet 1\n"),
     (no_connection, HOST, [], "", 2, "wire2log: the capture has no TCP connection\n"),
     (no_connection, [], [], "", 0, "wire2log: the capture has no TCP connection\n"),
     (other_octets, HOST, [], "", 2,
