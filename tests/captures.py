@@ -1,0 +1,451 @@
+#!/usr/bin/env python3
+"""Has contrib/wire2log.py read captures that are written here, and compares its logs with the sessions they are of.
+
+Random sessions go over the wire in pieces that are cut anywhere, come again, overlap or change places, in files of each
+form that is read. Each log has to hold the frames in the order and at the milliseconds of their last octets, and has to
+pass `hsms audit`. Then come captures of what goes wrong, each with its log, verdict or refusal.
+
+`captures.py` runs what `rt ci` has built. Its last line is `N passed, M failed`. `captures.py --example FILE` writes
+the capture that the documents show.
+"""
+import os
+import random
+import struct
+import subprocess
+import sys
+import tempfile
+
+TOP = os.path.dirname(os.path.dirname(os.path.abspath(__file__)))
+PROGRAM = f"{TOP}/crates/hsms_tool/out/hsms_tool"
+SCRIPT = f"{TOP}/contrib/wire2log.py"
+SETTINGS = "hsms-log 1 {} {} 0 45000 6000 10000 5000 1048576 32"
+FIN, SYN, RST, PUSH, ACK = 1, 2, 4, 8, 16
+BEGIN = 1_700_000_000_000_000  # microseconds
+ACTIVE, PASSIVE = 0, 1
+RANDOM = 100
+
+SELECT = [(ACTIVE, "ffff0000000100000001"), (PASSIVE, "ffff0000000200000001")]
+LINKS = {"ethernet": 1, "vlan": 1, "cooked": 113, "cooked2": 276, "raw": 101, "loopback": 0}
+FORMS = ["pcap<", "pcap>", "nanoseconds<", "nanoseconds>"]
+FORMS += ["pcapng<", "pcapng>", "pcapng-nanoseconds<", "pcapng-binary>"]
+
+
+class Capture:
+    """A capture file in one of the forms and link types, to which packets are added."""
+
+    def __init__(self, form="pcap<", link="ethernet", is_ipv6=False, ports=(40000, 5000)):
+        self.form, self.order, self.link, self.is_ipv6, self.ports = form[:-1], form[-1], link, is_ipv6, ports
+        if self.form.startswith("pcapng"):
+            options = {"pcapng-nanoseconds": b"\x09", "pcapng-binary": b"\x9e"}.get(self.form, b"")
+            options = self.pack("HH", 9, 1) + options + bytes(3) + self.pack("HH", 0, 0) if options else b""
+            self.octets = self.block(0x0A0D0D0A, self.pack("IHHq", 0x1A2B3C4D, 1, 0, -1))
+            self.octets += self.block(1, self.pack("HHI", LINKS[link], 0, 0) + options)
+            self.octets += self.block(5, self.pack("III", 0, 0, 0))  # statistics, which are passed over
+        else:
+            magic = 0xA1B23C4D if self.form == "nanoseconds" else 0xA1B2C3D4
+            self.octets = self.pack("IHHiIII", magic, 2, 4, 0, 0, 262144, LINKS[link])
+
+    def pack(self, form, *values):
+        return struct.pack(self.order + form, *values)
+
+    def block(self, kind, body):
+        length = 12 + (len(body) + 3) // 4 * 4
+        return self.pack("II", kind, length) + body.ljust(length - 12, b"\0") + self.pack("I", length)
+
+    def packet(self, when, octets, kept=None):
+        """Adds a packet at a time in microseconds, of which the first octets are kept, or all."""
+        kept = octets[:kept]
+        counts = len(kept), len(octets)
+        if self.form.startswith("pcapng"):
+            per_second = {"pcapng-nanoseconds": 10**9, "pcapng-binary": 2**30}.get(self.form, 10**6)
+            ticks = -(-when * per_second // 10**6)
+            self.octets += self.block(6, self.pack("IIIII", 0, ticks >> 32, ticks & 0xFFFFFFFF, *counts) + kept)
+        else:
+            part = when % 10**6 * (1000 if self.form == "nanoseconds" else 1)
+            self.octets += self.pack("IIII", when // 10**6, part, *counts) + kept
+
+    def segment(self, when, way, sequence, flags, data=b"", acknowledged=0, kept=None):
+        ports = self.ports if way == ACTIVE else self.ports[::-1]
+        tcp = struct.pack(">HHIIBBHHH", *ports, sequence % 2**32, acknowledged % 2**32, 8 << 4, flags, 65535, 0, 0)
+        tcp += bytes([1] * 12) + data
+        hosts = (1, 2) if way == ACTIVE else (2, 1)
+        if self.is_ipv6:
+            addresses = b"".join(bytes([0xFE, 0x80]) + bytes(13) + bytes([host]) for host in hosts)
+            ip = struct.pack(">IHBB", 6 << 28, len(tcp), 6, 64) + addresses + tcp
+        else:
+            addresses = b"".join(bytes([10, 0, 0, host]) for host in hosts)
+            ip = struct.pack(">BBHHHBBH", 0x45, 0, 20 + len(tcp), 0, 0x4000, 64, 6, 0) + addresses + tcp
+        self.packet(when, self.link_header() + ip + (bytes(6) if self.link == "ethernet" else b""), kept)
+
+    def link_header(self):
+        protocol = b"\x86\xdd" if self.is_ipv6 else b"\x08\x00"
+        return {
+            "ethernet": bytes(12) + protocol,
+            "vlan": bytes(12) + b"\x81\x00\x00\x05" + protocol,
+            "cooked": bytes(14) + protocol,
+            "cooked2": protocol + bytes(18),
+            "raw": b"",
+            "loopback": self.pack("I", 30 if self.is_ipv6 else 2),
+        }[self.link]
+
+
+class Talk:
+    """A connection in a capture: its sequence numbers and its clock, in microseconds."""
+
+    def __init__(self, capture, firsts=(1000, 2000), when=BEGIN, shakes_hands=True):
+        self.capture, self.next, self.when, self.zero = capture, list(firsts), when, when
+        if shakes_hands:
+            self.segment(ACTIVE, 0, SYN)
+            self.next[ACTIVE] += 1
+            self.when = self.zero = when + 300
+            self.segment(PASSIVE, 0, SYN | ACK, acknowledged=self.next[ACTIVE])
+            self.next[PASSIVE] += 1
+            self.when += 200
+            self.segment(ACTIVE, 0, ACK)
+
+    def segment(self, way, place, flags, data=b"", **more):
+        self.capture.segment(self.when, way, self.next[way] + place, flags, data, **more)
+
+    def at(self, milliseconds):
+        self.when = self.zero + milliseconds * 1000
+
+    def milliseconds(self):
+        return (self.when - self.zero) // 1000
+
+    def say(self, milliseconds, way, *frames, **more):
+        """Frames in one segment."""
+        self.at(milliseconds)
+        data = b"".join(map(message, frames))
+        self.segment(way, 0, PUSH | ACK, data, **more)
+        self.next[way] += len(data)
+
+    def end(self, milliseconds, way=ACTIVE, flags=FIN | ACK):
+        self.at(milliseconds)
+        self.segment(way, 0, flags)
+
+
+def message(frame):
+    octets = bytes.fromhex(frame)
+    return struct.pack(">I", len(octets)) + octets
+
+
+def pieces(rng, stream):
+    """A stream as segments, each its place and octets: cut anywhere, some again, swapped or overlapping."""
+    cuts = [0]
+    while cuts[-1] < len(stream):
+        cuts.append(min(len(stream), cuts[-1] + rng.choice([1, 3, 4, 14, 200, 1448, 1448, 9000])))
+    found = [(begin, stream[begin:end]) for begin, end in zip(cuts, cuts[1:])]
+    if rng.random() < 0.4:
+        place = rng.randrange(len(found))
+        found.insert(min(len(found), place + rng.randrange(1, 4)), found[place])
+    if rng.random() < 0.3 and len(found) > 1:
+        place = rng.randrange(len(found) - 1)
+        found[place], found[place + 1] = found[place + 1], found[place]
+    if rng.random() < 0.2 and len(found) > 1:
+        place = rng.randrange(1, len(found))
+        begin, data = found[place]
+        found[place] = (begin - 1, stream[begin - 1:begin] + data) if begin else (begin, data)
+    return found
+
+
+def random_frames(rng):
+    frames = list(SELECT)
+    for system in range(2, rng.randrange(3, 26)):
+        way, count = rng.randrange(2), rng.choice([3, 300, 5000])
+        text = rng.choice(["", "0100", f"23{count:06x}" + rng.getrandbits(8 * count).to_bytes(count, "big").hex()])
+        frames += [(way, f"0000810d0000{system:08x}{text}"), (1 - way, f"0000010e0000{system:08x}{text}")]
+    return frames
+
+
+def random_case(seed):
+    """A capture of a random session, and the lines of the active end's log."""
+    rng = random.Random(seed)
+    capture = Capture(rng.choice(FORMS), rng.choice(list(LINKS)), rng.random() < 0.3)
+    firsts = [rng.choice([0, 1000, 2**32 - 300, rng.getrandbits(32)]) for _ in range(2)]
+    talk = Talk(capture, firsts, BEGIN + rng.randrange(10**6))
+    frames, lines = random_frames(rng), ["0 up"]
+    while frames:
+        way, count = frames[0][0], 1
+        while count < min(3, len(frames)) and frames[count][0] == way:
+            count += 1
+        group, frames = [frame for _, frame in frames[:count]], frames[count:]
+        stream, ends = b"", []
+        for frame in group:
+            stream += message(frame)
+            ends.append(len(stream))
+        have, done = [False] * len(stream), 0
+        for place, data in pieces(rng, stream):
+            talk.when += rng.randrange(1, 90_000)
+            talk.segment(way, place, PUSH | ACK, data)
+            have[place:place + len(data)] = [True] * len(data)
+            while done < len(group) and all(have[:ends[done]]):
+                lines.append(f"{talk.milliseconds()} {'><'[way]} {group[done]}")
+                done += 1
+        talk.next[way] += len(stream)
+    talk.when += 2000
+    talk.segment(rng.randrange(2), 0, RST)
+    return capture, [*lines, f"{talk.milliseconds()} down"]
+
+
+# What goes wrong. Each gives a capture; the cases below say what is made of it.
+
+def late_reply():
+    """The equipment answers 1.25 s after a T3 of 1 s, and later never."""
+    talk = Talk(Capture())
+    talk.say(10, *SELECT[0])
+    talk.say(20, *SELECT[1])
+    talk.say(100, ACTIVE, "0000810d0000000000020100")
+    talk.say(150, PASSIVE, "0000010e0000000000020102210100010241004100")
+    talk.say(1000, ACTIVE, "000082290000000000030102410553544152540100")
+    talk.say(2250, PASSIVE, "0000022a00000000000301022101000100")
+    talk.say(2300, PASSIVE, "0000860b000000001001010241024142a50201ff")
+    talk.say(2400, ACTIVE, "0000060c000000001001210100")
+    talk.say(2500, ACTIVE, "00008101000000000004")
+    talk.say(3600, ACTIVE, "ffff0000000900000005")
+    talk.end(3610)
+    return talk.capture
+
+
+def joined():
+    """A capture that begins within a message and before a reply whose primary came earlier."""
+    talk = Talk(Capture(), shakes_hands=False)
+    talk.at(0)
+    talk.segment(PASSIVE, 0, PUSH | ACK, bytes(5))
+    talk.next[PASSIVE] += 5
+    talk.say(10, PASSIVE, "00000102000000000007")
+    talk.say(20, ACTIVE, "00008101000000000008")
+    talk.say(30, PASSIVE, "00000102000000000008")
+    talk.end(40, PASSIVE, RST)
+    return talk.capture
+
+
+def gap():
+    """The second of three event reports wasn't captured."""
+    talk = Talk(Capture())
+    talk.say(1, *SELECT[0])
+    talk.say(2, *SELECT[1])
+    talk.say(3, PASSIVE, "0000060b000000000001")
+    talk.next[PASSIVE] += 14
+    talk.say(5, PASSIVE, "0000060b000000000003")
+    talk.say(6, ACTIVE, "ffff0000000500000004")
+    talk.end(9000)
+    return talk.capture
+
+
+def cut_short():
+    """A capture of the first 96 octets of each packet."""
+    talk = Talk(Capture())
+    talk.say(1, *SELECT[0], kept=96)
+    talk.say(2, *SELECT[1], kept=96)
+    talk.say(3, PASSIVE, "0000060b00000000000123000040" + "00" * 64, kept=96)
+    talk.end(4)
+    return talk.capture
+
+
+def wrong_length(data="00000009ffff0000000500000004"):
+    talk = Talk(Capture())
+    talk.say(1, *SELECT[0])
+    talk.say(2, *SELECT[1])
+    talk.at(3)
+    talk.segment(PASSIVE, 0, PUSH | ACK, bytes.fromhex(data))
+    return talk.capture
+
+
+def after_separate():
+    """A Separate.req, and an event report that crosses it."""
+    talk = Talk(Capture())
+    talk.say(1, *SELECT[0])
+    talk.say(2, *SELECT[1])
+    talk.say(3, ACTIVE, "ffff0000000900000002")
+    talk.say(4, PASSIVE, "0000060b000000000001")
+    talk.end(5)
+    return talk.capture
+
+
+def never_selected():
+    talk = Talk(Capture())
+    talk.end(10020, PASSIVE)
+    return talk.capture
+
+
+def slow_message():
+    """A message whose octets come with 6 s between them."""
+    talk = Talk(Capture())
+    talk.say(1, *SELECT[0])
+    talk.at(2)
+    whole = message(SELECT[1][1])
+    talk.segment(PASSIVE, 0, PUSH | ACK, whole[:5])
+    talk.at(6002)
+    talk.segment(PASSIVE, 5, PUSH | ACK, whole[5:])
+    return talk.capture
+
+
+def clock_set_back():
+    talk = Talk(Capture())
+    talk.say(5, *SELECT[0])
+    talk.say(3, *SELECT[1])
+    return talk.capture
+
+
+def data_after_fin():
+    talk = Talk(Capture())
+    talk.say(1, *SELECT[0])
+    talk.say(2, *SELECT[1])
+    talk.end(3)
+    talk.say(4, PASSIVE, "ffff0000000900000003")
+    return talk.capture
+
+
+def ends_out_of_order():
+    """The FIN is captured before the last message, which has gone astray and comes again."""
+    talk = Talk(Capture())
+    talk.say(1, *SELECT[0])
+    talk.say(2, *SELECT[1])
+    last = message("ffff0000000900000003")
+    talk.at(3)
+    talk.segment(PASSIVE, len(last), FIN | ACK)
+    talk.at(4)
+    talk.segment(PASSIVE, 0, PUSH | ACK, last)
+    talk.at(5)
+    talk.segment(ACTIVE, 0, ACK)
+    return talk.capture
+
+
+def two_connections():
+    capture = Capture()
+    for second in (0, 1):
+        talk = Talk(capture, (second, 7), BEGIN + second * 10**6)
+        talk.say(1, *SELECT[0])
+        talk.say(2, *SELECT[1])
+        talk.end(3 + second)
+    return capture
+
+
+def half_a_packet():
+    capture = two_connections()
+    capture.octets = capture.octets[:-1]
+    return capture
+
+
+def other_octets():
+    capture = Capture()
+    capture.octets = b"hsms-log 1"
+    return capture
+
+
+HOST, EQUIPMENT = ["host", "active"], ["equipment", "passive"]
+SELECTED = ["1 > ffff0000000100000001", "2 < ffff0000000200000001"]
+
+# A capture, the words behind it on the command line, then the lines of the log, without comments where these have none;
+# the verdict; the status; what standard error has. Where one of them is None it isn't compared.
+CASES = [
+    (late_reply, [*HOST, "--t3", "1000"], None, "fail line=15 rule=T3Overdue", 0, ""),
+    (late_reply, [*EQUIPMENT, "--t3", "1000"], None,
+     "pass entries=12 sent=4 taken=6 discarded=0 expired=0 waiting=0", 0, ""),
+    (late_reply, [*HOST, "--t3", "1000", "--assume"], None,
+     "pass entries=14 sent=6 taken=3 discarded=1 expired=2 waiting=0", 0, ""),
+    (late_reply, [*HOST, "--t3", "1250"], None,
+     "pass entries=12 sent=6 taken=4 discarded=0 expired=0 waiting=1", 0, ""),
+    (joined, HOST, [], "", 2, "wire2log: the capture lacks the beginning of connection 0: see --joined\n"),
+    (joined, [*HOST, "--joined", "5000"],
+     ["0 up", "0 > ffff00000001ffffffff", "0 < ffff00000002ffffffff", "20 > 00008101000000000008",
+      "30 < 00000102000000000008", "40 down"],
+     "pass entries=6 sent=2 taken=2 discarded=0 expired=0 waiting=0", 0, ""),
+    (joined, [*HOST, "--joined", "5001"], [], "", 2, None),
+    (two_connections, [*HOST, "--connection", "0", "--joined", "5000"], [], "", 2, None),
+    (gap, HOST, ["0 up", *SELECTED, "3 < 0000060b000000000001"],
+     "pass entries=4 sent=1 taken=2 discarded=0 expired=0 waiting=0", 1, None),
+    (cut_short, HOST, ["0 up", *SELECTED], "pass entries=3 sent=1 taken=1 discarded=0 expired=0 waiting=0", 1, None),
+    (wrong_length, HOST, ["0 up", *SELECTED], "pass entries=3 sent=1 taken=1 discarded=0 expired=0 waiting=0", 1, None),
+    (after_separate, HOST, None, "fail line=11 rule=Ended", 0, ""),
+    (after_separate, EQUIPMENT, None, "fail line=11 rule=Ended", 0, ""),
+    (after_separate, [*HOST, "--assume"], None,
+     "pass entries=6 sent=2 taken=1 discarded=1 expired=0 waiting=0", 0, ""),
+    (never_selected, EQUIPMENT, ["0 up", "10020 down"], "fail line=5 rule=LinkOverdue", 0, ""),
+    (never_selected, [*EQUIPMENT, "--assume"], ["0 up", "10020 cut t7", "10020 down"],
+     "pass entries=3 sent=0 taken=0 discarded=0 expired=0 waiting=0", 0, ""),
+    (slow_message, HOST,
+     ["# packet 2: SYN and ACK", "0 up", "# packet 4: select.req 00000001", "1 > ffff0000000100000001",
+      "# packet 6: 6000 ms between octets of a message, past T8",
+      "# packet 6: select.rsp 00000001", "6002 < ffff0000000200000001"], None, 0, ""),
+    (slow_message, [*HOST, "--t8", "6000"],
+     ["0 up", "1 > ffff0000000100000001", "6002 < ffff0000000200000001"], None, 0, ""),
+    (clock_set_back, HOST, ["0 up", "5 > ffff0000000100000001", "5 < ffff0000000200000001"], None, 0,
+     "wire2log: 1 packets are earlier than those before them, whose time they got\n"),
+    (data_after_fin, HOST, ["0 up", *SELECTED, "3 down"], None, 0,
+     "wire2log: 1 packets with octets after the first FIN or RST are left out\n"),
+    (late_reply, [*HOST, "--t3", "0"], [], None, 2, None),
+    (late_reply, ["host"], [], None, 2, None),
+    (ends_out_of_order, HOST, ["0 up", *SELECTED, "4 < ffff0000000900000003", "4 down"],
+     "pass entries=5 sent=1 taken=2 discarded=0 expired=0 waiting=0", 0, ""),
+    (two_connections, HOST, [], "", 2, None),
+    (two_connections, [*HOST, "--connection", "1"], ["0 up", *SELECTED, "4 down"], None, 0, ""),
+    (two_connections, [*HOST, "--connection", "2"], [], "", 2, None),
+    (half_a_packet, [*HOST, "--connection", "1"], ["0 up", *SELECTED], None, 0,
+     "wire2log: the capture file ends within a packet, which is left out\n" * 2),
+    (other_octets, HOST, [], "", 2,
+     "wire2log: the file begins with 68736d73, so it is neither pcap nor pcapng\n"),
+]
+
+
+def made(path, capture, words):
+    with open(path, "wb") as file:
+        file.write(capture.octets)
+    return subprocess.run([sys.executable, SCRIPT, path, *words], capture_output=True, text=True, timeout=60)
+
+
+def verdict(log):
+    return subprocess.run([PROGRAM, "audit"], input=log, capture_output=True, text=True).stdout.rstrip("\n")
+
+
+def entries(log, with_comments=False):
+    return [line for line in log.splitlines()[1:] if with_comments or not line.startswith("#")]
+
+
+def flipped(lines):
+    """The lines of the other end's log."""
+    return [line.translate(str.maketrans("<>", "><")) for line in lines]
+
+
+def random_answers(path):
+    for seed in range(RANDOM):
+        capture, lines = random_case(seed)
+        for words, wanted in ((HOST, lines), (EQUIPMENT, flipped(lines))):
+            ended = made(path, capture, words)
+            first = ended.stdout.splitlines()[:1]
+            told = [first, entries(ended.stdout), verdict(ended.stdout)[:4], ended.returncode, ended.stderr]
+            yield f"random session {seed} {words}", told, [[SETTINGS.format(*words)], wanted, "pass", 0, ""]
+
+
+def worked_answers(path):
+    for capture, words, lines, judged, status, errors in CASES:
+        ended = made(path, capture(), words)
+        found = [
+            entries(ended.stdout, any(line.startswith("#") for line in lines or [])),
+            verdict(ended.stdout) if ended.stdout else "",
+            ended.stderr,
+            ended.returncode,
+        ]
+        wanted = [lines, judged, errors, status]
+        told = [None if wish is None else answer for wish, answer in zip(wanted, found)]
+        yield f"{capture.__name__} {words}", told, wanted
+
+
+def main():
+    if sys.argv[1:2] == ["--example"]:
+        with open(sys.argv[2], "wb") as file:
+            file.write(late_reply().octets)
+        return 0
+    passed = failed = 0
+    with tempfile.TemporaryDirectory(prefix="hsms-captures-") as room:
+        for answers in (random_answers, worked_answers):
+            for name, told, wanted in answers(f"{room}/capture"):
+                passed, failed = passed + (told == wanted), failed + (told != wanted)
+                if told != wanted:
+                    print(f"{name}\nwanted {wanted}\ntold {told}")
+    print(f"{passed} passed, {failed} failed")
+    return 1 if failed else 0
+
+
+if __name__ == "__main__":
+    sys.exit(main())
