@@ -228,6 +228,9 @@ if __name__ == "__main__":
     except Stop as why:
         print(f"  {why}")
         sys.exit(1)
+    except BrokenPipeError:
+        os.dup2(os.open(os.devnull, os.O_WRONLY), sys.stdout.fileno())
+        sys.exit(1)
     except OSError as why:
         print(f"failures: {why}", file=sys.stderr)
         sys.exit(2)

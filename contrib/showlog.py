@@ -45,6 +45,9 @@ def main():
 if __name__ == "__main__":
     try:
         sys.exit(main())
+    except BrokenPipeError:
+        os.dup2(os.open(os.devnull, os.O_WRONLY), sys.stdout.fileno())
+        sys.exit(1)
     except (OSError, subprocess.CalledProcessError) as why:
         print(f"showlog: {why}", file=sys.stderr)
         sys.exit(2)

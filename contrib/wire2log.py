@@ -42,8 +42,18 @@ class Refused(Exception):
     """Why nothing is written."""
 
 
+class LeftOut(Exception):
+    """Why a packet isn't read."""
+
+
+TOLD = set()
+
+
 def warn(text):
-    print(f"wire2log: {text}", file=sys.stderr)
+    """Tells something once, since the capture is read twice."""
+    if text not in TOLD:
+        print(f"wire2log: {text}", file=sys.stderr)
+    TOLD.add(text)
 
 
 # The packets of a file.
@@ -137,7 +147,7 @@ def network_layer(link, octets):
         rest = octets[4:] if link in (0, 108) else octets
         return {4: IPV4, 6: IPV6}.get(rest[0] >> 4 if rest else 0), rest
     else:
-        raise Refused(f"packets of link type {link} aren't read; tcpdump -i writes types 1, 113, 276, 0 and 101")
+        raise LeftOut(f"of link type {link}, which isn't read,")
     while int.from_bytes(protocol, "big") in VLAN:
         protocol, rest = rest[2:4], rest[4:]
     return int.from_bytes(protocol, "big"), rest
@@ -150,7 +160,7 @@ def internet_layer(protocol, octets):
         if octets[9] != 6:
             return None
         if int.from_bytes(octets[6:8], "big") & 0x3FFF:
-            raise Refused("TCP in fragments of IP isn't read")
+            raise LeftOut("with a fragment of IP")
         source, target = (socket.inet_ntop(socket.AF_INET, octets[at:at + 4]) for at in (12, 16))
     else:
         header, total, following = 40, 40 + int.from_bytes(octets[4:6], "big"), octets[6]
@@ -158,7 +168,7 @@ def internet_layer(protocol, octets):
         while following in (0, 43, 60):
             following, header = octets[header], header + 8 + octets[header + 1] * 8
         if following == 44:
-            raise Refused("TCP in fragments of IP isn't read")
+            raise LeftOut("with a fragment of IP")
         if following != 6:
             return None
         source, target = (f"[{socket.inet_ntop(socket.AF_INET6, octets[at:at + 16])}]" for at in (8, 24))
@@ -177,7 +187,7 @@ def segment_of(packet):
         source, target, octets, length = found
         source_port, target_port, sequence, acknowledged, words, flags = struct.unpack(">HHIIBB", octets[:14])
     except (IndexError, ValueError, struct.error):
-        raise Refused(f"packet {packet.number} is cut off within its headers: capture whole packets, by -s 0")
+        raise LeftOut("cut off within its headers")
     header = (words >> 4) * 4
     return Segment(
         packet.number, packet.nanoseconds, f"{source}:{source_port}", f"{target}:{target_port}",
@@ -234,11 +244,18 @@ class Connections:
 
 def segments(path, connections):
     """Yields each segment of TCP of a capture, with its connection."""
+    left_out = {}
     with open(path, "rb") as file:
         for packet in packets(file):
-            segment = segment_of(packet)
+            try:
+                segment = segment_of(packet)
+            except LeftOut as why:
+                left_out.setdefault(str(why), []).append(packet.number)
+                continue
             if segment is not None:
                 yield segment, connections.of(segment)
+    for why, numbers in left_out.items():
+        warn(f"packet {numbers[0]} {why} is left out" + (f", and {len(numbers) - 1} more" if numbers[1:] else ""))
 
 
 class Way:
@@ -438,7 +455,7 @@ class Reader:
         way = self.ways[segment.source]
         if way.next is None:
             self.look_for_message(way, segment)
-        if way.next is not None:
+        if way.next is not None and not segment.flags & RST:
             before = way.next
             way.take(segment)
             self.messages(way, segment, way.next > before)
@@ -548,6 +565,8 @@ def options():
 
 def chosen(given, found):
     """The connection that is asked for, its ends known."""
+    if not found:
+        raise Refused("the capture has no TCP connection")
     if given.connection is None:
         if len(found) != 1:
             raise Refused(f"the capture has {len(found)} TCP connections: choose one by --connection\n"
@@ -597,6 +616,8 @@ def main():
             return write_log(given, chosen(given, connections.all))
         for connection in connections.all:
             print(connection)
+        if not connections.all:
+            warn("the capture has no TCP connection")
         return 0
     except BrokenPipeError:
         os.dup2(os.open(os.devnull, os.O_WRONLY), sys.stdout.fileno())

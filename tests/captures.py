@@ -22,7 +22,7 @@ SETTINGS = "hsms-log 1 {} {} 0 45000 6000 10000 5000 1048576 32"
 FIN, SYN, RST, PUSH, ACK = 1, 2, 4, 8, 16
 BEGIN = 1_700_000_000_000_000  # microseconds
 ACTIVE, PASSIVE = 0, 1
-RANDOM = 100
+RANDOM = 60
 
 SELECT = [(ACTIVE, "ffff0000000100000001"), (PASSIVE, "ffff0000000200000001")]
 LINKS = {"ethernet": 1, "vlan": 1, "cooked": 113, "cooked2": 276, "raw": 101, "loopback": 0}
@@ -327,6 +327,26 @@ def half_a_packet():
     return capture
 
 
+def other_packets():
+    """Packets that carry no TCP, or whose headers or form aren't read, within a session."""
+    capture = Capture()
+    talk = Talk(capture)
+    talk.say(1, *SELECT[0])
+    capture.packet(talk.when, bytes(12) + b"\x08\x06" + bytes(28))
+    capture.packet(talk.when, bytes(12) + b"\x08\x00" + bytes.fromhex("450000200000400040110000") + bytes(20))
+    capture.packet(talk.when, bytes(12) + b"\x08\x00" + bytes.fromhex("450000200000000140060000") + bytes(20))
+    capture.packet(talk.when, bytes(12) + b"\x08\x00" + bytes.fromhex("45000020"))
+    capture.packet(talk.when, bytes(12) + b"\x08\x00" + bytes.fromhex("45000020"))
+    capture.packet(talk.when, b"")
+    talk.say(2, *SELECT[1])
+    talk.capture.segment(talk.when, PASSIVE, 0, RST)
+    return capture
+
+
+def no_connection():
+    return Capture()
+
+
 def other_octets():
     capture = Capture()
     capture.octets = b"hsms-log 1"
@@ -382,7 +402,12 @@ CASES = [
     (two_connections, [*HOST, "--connection", "1"], ["0 up", *SELECTED, "4 down"], None, 0, ""),
     (two_connections, [*HOST, "--connection", "2"], [], "", 2, None),
     (half_a_packet, [*HOST, "--connection", "1"], ["0 up", *SELECTED], None, 0,
-     "wire2log: the capture file ends within a packet, which is left out\n" * 2),
+     "wire2log: the capture file ends within a packet, which is left out\n"),
+    (other_packets, HOST, ["0 up", *SELECTED, "2 down"], None, 0,
+     "wire2log: packet 7 with a fragment of IP is left out\n"
+     "wire2log: packet 8 cut off within its headers is left out, and 1 more\n"),
+    (no_connection, HOST, [], "", 2, "wire2log: the capture has no TCP connection\n"),
+    (no_connection, [], [], "", 0, "wire2log: the capture has no TCP connection\n"),
     (other_octets, HOST, [], "", 2,
      "wire2log: the file begins with 68736d73, so it is neither pcap nor pcapng\n"),
 ]
