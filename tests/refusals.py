@@ -4,10 +4,8 @@
 This is done to each test whose name begins with `refused`, which has to pass, since it looks at the answer and at what
 stands after it; to each test but long ones of the crates below that hand want of memory up, which has to pass or to end
 with that error, or that judge each refusal themselves; and to the command, on worked inputs and on examples.
-The command has to answer as ever, or with status 3 and `hsms: Memory`; what it wrote then has to be nothing, or of
-`show` whole lines of what it writes with ample memory. With ample memory it has to answer as the worked inputs say.
-
-Where words of the command were run before with another input, allocations are counted from the first read on.
+The command has to answer with status 3 and `hsms: Memory`, and what it wrote then has to be nothing, or of `show` whole
+lines of what it writes with ample memory; as ever, where no allocation was refused, and there as the worked inputs say.
 
 No program may take memory but by the calls that are refused. It runs what `rt ci` has built. The last line is
 `N passed, M failed`.
@@ -146,11 +144,14 @@ def examples():
 
 
 def runs():
-    """The runs of the command."""
+    """The runs of the command: with each words from their beginning on, and with each input from its first read on."""
     seen = set()
     for row in [*rows(), *examples()]:
-        yield Check(str(row), [PROGRAM, *row.words], row.given, judge_of(row), row.words in seen)
+        words = [PROGRAM, *row.words]
+        if row.words not in seen:
+            yield Check(f"{row}, from the words on", words, row.given, judge_of(row, True))
         seen.add(row.words)
+        yield Check(str(row), words, row.given, judge_of(row, False), is_from_input=True)
 
 
 def fronts(output):
@@ -159,15 +160,15 @@ def fronts(output):
     return {b"".join(lines[:count]) for count in range(len(lines) + 1)}
 
 
-def judge_of(row):
-    """What a run of the command has to do."""
+def judge_of(row, may_do_without):
+    """What a run of the command has to do. Std can do without the room that it asks for as it collects the words."""
     parts = fronts(row.answer.output) if row.words[:1] == ("show",) else {b""}
 
     def is_well(ended, was_refused):
         answer = row.answer
         same = (ended.returncode, ended.stdout, ended.stderr) == (answer.status, answer.output, answer.error)
         told = (ended.returncode, ended.stderr) == (3, b"hsms: Memory\n") and ended.stdout in parts
-        return same or was_refused and told
+        return told or may_do_without and same if was_refused else same
 
     return is_well
 
