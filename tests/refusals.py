@@ -3,49 +3,63 @@
 
 This is done to each test whose name begins with `refused`, which has to pass, since it looks at the answer and at what
 stands after it; to each test but long ones of the crates below that hand want of memory up, which has to pass or to end
-with that error, or that judge each refusal themselves; and to the command, on the inputs below. The command has to
-answer as ever, or with status 3 and `hsms: Memory`, and what it wrote then has to be whole lines of what it writes with
-ample memory.
+with that error, or that judge each refusal themselves; and to the command, on worked inputs and on examples.
+The command has to answer with status 3 and `hsms: Memory`, and what it wrote then has to be nothing, or of `show` whole
+lines of what it writes with ample memory; as ever, where no allocation was refused, and there as the worked inputs say.
 
-It runs what `rt ci` has built. The last line is `N passed, M failed`.
+No program may take memory but by the calls that are refused. It runs what `rt ci` has built. The last line is
+`N passed, M failed`.
 """
 import os
 import re
 import subprocess
 import sys
 import tempfile
+import threading
+from concurrent.futures import ThreadPoolExecutor
+from dataclasses import dataclass
+from typing import Callable, List
 
-TOP = os.path.dirname(os.path.dirname(os.path.abspath(__file__)))
-PROGRAM = f"{TOP}/crates/hsms_tool/out/hsms_tool"
+sys.dont_write_bytecode = True
+
+from command import PROGRAM, TOP, answer_of, refuser
+from worked import Row, rows
+
+WORKERS = 2
+
+# The calls that refuse.c stands before, and all calls of the C library that hand memory out.
+REFUSED = {"malloc", "calloc", "realloc", "memalign", "aligned_alloc", "posix_memalign"}
+TAKING = REFUSED | set(
+    "reallocarray valloc pvalloc mmap mmap64 mremap brk sbrk strdup strndup wcsdup asprintf vasprintf open_memstream "
+    "getline getdelim realpath getcwd scandir getaddrinfo".split()
+)
+
+# What a program calls of the others that is no memory of its own: it hands the room in.
+HANDED_IN = {"getcwd"}
 
 # The crates whose tests hand want of memory up, each by `?`.
 HAND_UP = {"hsms_ends", "secs_item", "secs_text"}
 
-# Tests that take too long to be run once for each allocation.
-LONG = {"walks_of_two_ends"}
-
 # Tests that assert an answer in whose place want of memory may come.
 ASSERT = {"the_greatest_items"}
+
+# Tests that take too long to be run once for each allocation.
+LONG = {"walks_of_two_ends"}
 
 # The crates whose tests judge each refusal themselves.
 JUDGE = {"hsms_machine"}
 
 # The arguments of the command, and the file that it reads.
-RUNS = [
+EXAMPLES = [
     (["show"], "examples/session.bin"),
-    (["show", "--max", "256"], "examples/too-long.bin"),
-    (["show"], "examples/cut-off.bin"),
+    (["show", "--depth", "1"], "examples/session.bin"),
     (["show", "--depth", "0"], "examples/select.bin"),
     (["show", "--help"], "examples/select.bin"),
-    (["show", "--depth", "1"], "examples/session.bin"),
-    (["show"], "examples/unreadable.bin"),
-    (["encode", "--hex"], "examples/report.txt"),
+    (["--help"], "examples/select.bin"),
+    ([], "examples/select.bin"),
     (["encode"], "examples/session.txt"),
-    (["encode", "--hex"], "examples/number.txt"),
     (["encode", "--max", "256"], "examples/long.txt"),
     (["audit"], "examples/expired.log"),
-    (["audit"], "examples/late-reply.log"),
-    (["audit"], "examples/unreadable.log"),
 ]
 
 
@@ -54,27 +68,45 @@ def crates():
         return [line.split(":")[0].split()[0] for line in lines if ":" in line and not line.startswith("#")]
 
 
+def programs():
+    """The command, and the programs of the tests, each with its crate."""
+    made = [(crate, f"{TOP}/crates/{crate}/out/{crate}_tests") for crate in crates()]
+    return [(crate, program) for crate, program in made if os.path.exists(program)]
+
+
+@dataclass(frozen=True)
+class Check:
+    """A program that is run with each allocation refused, and what each of its runs has to do."""
+
+    name: str
+    words: List[str]
+    given: bytes
+    is_well: Callable
+    is_from_input: bool = False
+
+
 class Refuser:
     def __init__(self, room):
-        self.told = f"{room}/refused"
-        self.library = f"{room}/refuse.so"
-        source = f"{TOP}/tests/refuse.c"
-        subprocess.run(["cc", "-shared", "-fPIC", "-O1", "-o", self.library, source], check=True)
+        self.room = room
+        self.library = refuser(room)
 
-    def run(self, words, given, count):
+    def run(self, check, count):
         """Runs a program with one allocation refused, and says whether it came to that."""
-        env = {"PATH": "/usr/bin:/bin", "LD_PRELOAD": self.library, "REFUSE": str(count), "REFUSED": self.told}
-        ended = subprocess.run(words, input=given, capture_output=True, env=env, timeout=60)
-        was_refused = os.path.exists(self.told)
+        told = f"{self.room}/refused-{threading.get_ident()}"
+        env = {"PATH": "/usr/bin:/bin", "LD_PRELOAD": self.library, "REFUSE_MEMORY": str(count), "REFUSED": told}
+        if check.is_from_input:
+            env["FROM_INPUT"] = "1"
+        ended = subprocess.run(check.words, input=check.given, capture_output=True, env=env, timeout=60)
+        was_refused = os.path.exists(told)
         if was_refused:
-            os.remove(self.told)
+            os.remove(told)
         return ended, was_refused
 
-    def each(self, words, given, is_well):
+    def each(self, check):
         """Says what was wrong with the first run that wasn't well, if any, and how many were refused."""
         for count in range(1, 100_000):
-            ended, was_refused = self.run(words, given, count)
-            if not is_well(ended, was_refused):
+            ended, was_refused = self.run(check, count)
+            if not check.is_well(ended, was_refused):
                 told = (ended.stdout[-300:] + ended.stderr[-300:]).decode(errors="replace")
                 return f"allocation {count} refused: status {ended.returncode}, {told!r}", count
             if not was_refused:
@@ -91,49 +123,79 @@ def passes_or_tells(ended, was_refused):
     return ended.returncode == 0 or bool(was_refused and told)
 
 
-def tests(refuser):
-    for crate in crates():
-        program = f"{TOP}/crates/{crate}/out/{crate}_tests"
-        if not os.path.exists(program):
-            continue
+def tests():
+    """The tests that are run."""
+    for crate, program in programs():
         listed = subprocess.run([program, "--list"], capture_output=True, text=True).stdout.splitlines()
         for name in (line[: -len(": test")] for line in listed if line.endswith(": test")):
-            if name.split("::")[-1] in LONG | ASSERT:
-                continue
-            if crate in JUDGE or name.split("::")[-1].startswith("refused"):
-                wrong, count = refuser.each([program, name], b"", passes)
-            elif crate in HAND_UP:
-                wrong, count = refuser.each([program, name], b"", passes_or_tells)
-            else:
-                continue
-            yield f"{crate} {name}", wrong, count
+            last = name.split("::")[-1]
+            is_judge = crate in JUDGE or last.startswith("refused")
+            if last not in LONG | ASSERT and (is_judge or crate in HAND_UP):
+                is_well = passes if is_judge else passes_or_tells
+                yield Check(f"{crate} {name}", [program, name], b"", is_well)
 
 
-def runs(refuser):
-    for words, file in RUNS:
+def examples():
+    """Runs on examples, whose answers stand in their page."""
+    for words, file in EXAMPLES:
         with open(f"{TOP}/{file}", "rb") as input_file:
             given = input_file.read()
-        ample = subprocess.run([PROGRAM, *words], input=given, capture_output=True, env={})
-        lines = ample.stdout.splitlines(keepends=True)
-        parts = {b"".join(lines[:count]) for count in range(len(lines) + 1)}
+        yield Row(tuple(words), given, answer_of(words, given))
 
-        def is_well(ended, was_refused):
-            same = (ended.returncode, ended.stdout, ended.stderr) == (ample.returncode, ample.stdout, ample.stderr)
-            told = (ended.returncode, ended.stderr) == (3, b"hsms: Memory\n") and ended.stdout in parts
-            return same or was_refused and told
 
-        wrong, count = refuser.each([PROGRAM, *words], given, is_well)
-        yield f"hsms {' '.join(words)} < {file}", wrong, count
+def runs():
+    """The runs of the command: with each words from their beginning on, and with each input from its first read on."""
+    seen = set()
+    for row in [*rows(), *examples()]:
+        words = [PROGRAM, *row.words]
+        if row.words not in seen:
+            yield Check(f"{row}, from the words on", words, row.given, judge_of(row, True))
+        seen.add(row.words)
+        yield Check(str(row), words, row.given, judge_of(row, False), is_from_input=True)
+
+
+def fronts(output):
+    """What may be written of an output where it is stopped between two lines."""
+    lines = output.splitlines(keepends=True)
+    return {b"".join(lines[:count]) for count in range(len(lines) + 1)}
+
+
+def judge_of(row, may_do_without):
+    """What a run of the command has to do. Std can do without the room that it asks for as it collects the words."""
+    parts = fronts(row.answer.output) if row.words[:1] == ("show",) else {b""}
+
+    def is_well(ended, was_refused):
+        answer = row.answer
+        same = (ended.returncode, ended.stdout, ended.stderr) == (answer.status, answer.output, answer.error)
+        told = (ended.returncode, ended.stderr) == (3, b"hsms: Memory\n") and ended.stdout in parts
+        return told or may_do_without and same if was_refused else same
+
+    return is_well
+
+
+def calls(program):
+    """What a program calls of the C library that hands memory out."""
+    listed = subprocess.run(["nm", "-D", "--undefined-only", program], capture_output=True, text=True, check=True)
+    return TAKING & {line.split()[-1].split("@")[0] for line in listed.stdout.splitlines()}
+
+
+def other_calls():
+    """Each program, and what it calls that isn't refused."""
+    for name in [PROGRAM, *[program for _, program in programs()]]:
+        others = calls(name) - REFUSED - HANDED_IN
+        yield os.path.basename(name), f"it takes memory by {', '.join(sorted(others))}" if others else None
 
 
 def main():
     passed = failed = 0
-    with tempfile.TemporaryDirectory(prefix="hsms-refusals-") as room:
-        refuser = Refuser(room)
-        for check in (tests, runs):
-            for name, wrong, count in check(refuser):
-                print(f"{name}: {wrong or f'well with each of {count} allocations refused'}")
-                passed, failed = passed + (wrong is None), failed + (wrong is not None)
+    for name, wrong in other_calls():
+        print(f"{name}: {wrong or 'each call that takes memory can be refused'}")
+        passed, failed = passed + (wrong is None), failed + (wrong is not None)
+    with tempfile.TemporaryDirectory(prefix="hsms-refusals-") as room, ThreadPoolExecutor(WORKERS) as pool:
+        checks = [*tests(), *runs()]
+        for check, (wrong, count) in zip(checks, pool.map(Refuser(room).each, checks)):
+            print(f"{check.name}: {wrong or f'well with each of {count} allocations refused'}")
+            passed, failed = passed + (wrong is None), failed + (wrong is not None)
     print(f"{passed} passed, {failed} failed")
     return 1 if failed or not passed else 0
 

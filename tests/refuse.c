@@ -1,31 +1,103 @@
-// Stands before malloc, calloc and realloc of the C library, and refuses one call: that which REFUSE counts, from 1.
-// Where it comes to that, it makes the file that REFUSED names.
+// Stands before calls of the C library that take memory, read and write, by LD_PRELOAD.
+//
+// REFUSE_MEMORY, REFUSE_READ and REFUSE_WRITE each count calls from 1, and the call that they name is refused. With
+// FROM_INPUT set, calls that take memory are counted from the first read of standard input on. Where it comes to a
+// refusal, the file that REFUSED names is made. With ONE_OCTET set, each read and each write moves one octet.
+// In the file that HELD names stand two numbers of 64 bits: how many octets are held, and the most that were.
 #include <errno.h>
 #include <fcntl.h>
+#include <malloc.h>
+#include <stdint.h>
 #include <stdlib.h>
+#include <sys/mman.h>
 #include <unistd.h>
 
 extern void *__libc_malloc(size_t size);
 extern void *__libc_calloc(size_t count, size_t size);
 extern void *__libc_realloc(void *block, size_t size);
+extern void *__libc_memalign(size_t alignment, size_t size);
+extern void __libc_free(void *block);
+extern ssize_t __read(int file, void *into, size_t count);
+extern ssize_t __write(int file, const void *from, size_t count);
 
-static long left;
+static long memory_left, reads_left, writes_left;
+static int from_input, one_octet;
+static int64_t none[2], *held = none;
 
-__attribute__((constructor)) static void begin(void) {
-  const char *count = getenv("REFUSE");
-  left = count ? atol(count) : 0;
+static long number(const char *name) {
+  const char *word = getenv(name);
+  return word ? atol(word) : 0;
 }
 
-static int is_refused(void) {
-  if (left == 0 || --left != 0) return 0;
+__attribute__((constructor)) static void begin(void) {
+  memory_left = number("REFUSE_MEMORY");
+  reads_left = number("REFUSE_READ");
+  writes_left = number("REFUSE_WRITE");
+  from_input = number("FROM_INPUT") != 0;
+  one_octet = number("ONE_OCTET") != 0;
+  const char *name = getenv("HELD");
+  int file = name ? open(name, O_RDWR) : -1;
+  if (file < 0) return;
+  void *place = mmap(NULL, sizeof none, PROT_READ | PROT_WRITE, MAP_SHARED, file, 0);
+  if (place != MAP_FAILED) held = place;
+  close(file);
+}
+
+static int is_refused(long *left, int error) {
+  if (*left == 0 || --*left != 0) return 0;
   const char *told = getenv("REFUSED");
   if (told) close(open(told, O_CREAT | O_WRONLY, 0644));
-  errno = ENOMEM;
+  errno = error;
   return 1;
 }
 
-void *malloc(size_t size) { return is_refused() ? NULL : __libc_malloc(size); }
+static int is_memory_refused(void) { return !from_input && is_refused(&memory_left, ENOMEM); }
 
-void *calloc(size_t count, size_t size) { return is_refused() ? NULL : __libc_calloc(count, size); }
+static void *taken(void *block) {
+  held[0] += block ? malloc_usable_size(block) : 0;
+  if (held[1] < held[0]) held[1] = held[0];
+  return block;
+}
 
-void *realloc(void *block, size_t size) { return is_refused() ? NULL : __libc_realloc(block, size); }
+static void given_back(void *block) { held[0] -= block ? malloc_usable_size(block) : 0; }
+
+void *malloc(size_t size) { return is_memory_refused() ? NULL : taken(__libc_malloc(size)); }
+
+void *calloc(size_t count, size_t size) { return is_memory_refused() ? NULL : taken(__libc_calloc(count, size)); }
+
+void *realloc(void *block, size_t size) {
+  if (is_memory_refused()) return NULL;
+  size_t before = block ? malloc_usable_size(block) : 0;
+  void *moved = __libc_realloc(block, size);
+  if (moved || size == 0) held[0] -= before;
+  return taken(moved);
+}
+
+void *memalign(size_t alignment, size_t size) {
+  return is_memory_refused() ? NULL : taken(__libc_memalign(alignment, size));
+}
+
+void *aligned_alloc(size_t alignment, size_t size) { return memalign(alignment, size); }
+
+int posix_memalign(void **into, size_t alignment, size_t size) {
+  void *block = memalign(alignment, size);
+  if (!block) return ENOMEM;
+  *into = block;
+  return 0;
+}
+
+void free(void *block) {
+  given_back(block);
+  __libc_free(block);
+}
+
+ssize_t read(int file, void *into, size_t count) {
+  if (file == STDIN_FILENO) from_input = 0;
+  if (file == STDIN_FILENO && is_refused(&reads_left, EIO)) return -1;
+  return __read(file, into, one_octet && count > 1 ? 1 : count);
+}
+
+ssize_t write(int file, const void *from, size_t count) {
+  if (file == STDOUT_FILENO && is_refused(&writes_left, EIO)) return -1;
+  return __write(file, from, one_octet && count > 1 ? 1 : count);
+}

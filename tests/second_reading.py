@@ -11,26 +11,19 @@ The last two lines tell how many logs of talks don't pass so, and how many answe
 difference is written in hexadecimal, with both answers. The status is 1 where an answer differs, or where the inputs
 didn't reach each rule and each fault, and the talks each thing that an end does.
 """
-import os
-import subprocess
 import sys
 from concurrent.futures import ThreadPoolExecutor
-from dataclasses import dataclass, fields
-from typing import List, Set, Tuple
+from typing import List, Tuple
 
 # The modules below leave no compiled files in the repository.
 sys.dont_write_bytecode = True
 
-from second_reading import ends, inputs, items, messages, session, talks, walks
+from command import LONGEST_SHOWN, Answer, answer_of
+from second_reading import ends, inputs, messages, session, talks, walks
+from second_reading.cases import Case, audit_case, encode_case, show_case
 from second_reading.inputs import Chance
-from second_reading.messages import Options
 
-TOP = os.path.dirname(os.path.dirname(os.path.abspath(__file__)))
-PROGRAM = f"{TOP}/crates/hsms_tool/out/hsms_tool"
 WORKERS = 2
-
-# How much of a differing input and of its answers is shown, in octets.
-LONGEST_SHOWN = 100_000
 
 # What the inputs have to reach, by command.
 TO_REACH = {
@@ -45,35 +38,6 @@ TO_REACH = {
 }
 
 
-@dataclass(frozen=True)
-class Answer:
-    """How a run of the command ends and what it writes."""
-
-    status: int
-    output: bytes
-    error: bytes
-
-    def __str__(self):
-        return f"status {self.status}, output {self.output[:LONGEST_SHOWN]!r}, error {self.error!r}"
-
-
-@dataclass(frozen=True)
-class Case:
-    """A run of the command, the answer that the second reading gives, and what the input reaches."""
-
-    words: List[str]
-    given: bytes
-    wanted: Answer
-    reached: Set[str]
-
-
-def audit_case(log: bytes) -> Case:
-    verdict = session.audit(log)
-    passes = verdict.startswith("pass")
-    reached = verdict.split("rule=")[-1] if "rule=" in verdict else "pass" if passes else "unreadable"
-    return Case(["audit"], log, Answer(0 if passes else 1, verdict.encode() + b"\n", b""), {reached})
-
-
 def talk_cases(seed: str) -> List[Case]:
     """The logs of both ends of a talk, and what each end did."""
     cases = []
@@ -81,40 +45,6 @@ def talk_cases(seed: str) -> List[Case]:
         passes = session.summary(end.settings, end.log.entries)
         cases.append(Case(["audit"], ends.log_of(end), Answer(0, passes.encode() + b"\n", b""), reached))
     return cases
-
-
-def show_case(stream: bytes, options: Options) -> Case:
-    output, fault = messages.show(stream, options)
-    frames, _ = messages.frames_of(stream, options.max)
-    texts = {items.fault_of_text(frame.text, options.depth) for frame in frames if frame.is_data}
-    reached = {f"text {name}" for name in texts if name} | {frame.kind for frame in frames}
-    reached.add(fault.name if fault else "no fault")
-    return Case(["show", *words_of(options)], stream, ended(output, fault), reached)
-
-
-def encode_case(text: bytes, options: Options) -> Case:
-    output, fault = messages.encode(text, options)
-    return Case(["encode", *words_of(options)], text, ended(output, fault), {fault.name if fault else "no fault"})
-
-
-def ended(output: bytes, fault) -> Answer:
-    return Answer(2, output, f"hsms: {fault.words()}\n".encode()) if fault else Answer(0, output, b"")
-
-
-def words_of(options: Options) -> List[str]:
-    """The options that aren't as they are where they are left out."""
-    words = []
-    for field in fields(options):
-        value = getattr(options, field.name)
-        if value != field.default:
-            words += [f"--{field.name}"] if value is True else [f"--{field.name}", str(value)]
-    return words
-
-
-def answer_of(case: Case) -> Answer:
-    """What the command answers."""
-    ran = subprocess.run([PROGRAM, *case.words], input=case.given, capture_output=True, timeout=120)
-    return Answer(ran.returncode, ran.stdout, ran.stderr)
 
 
 # A command or `talk`, a case of it, and what the command answers.
@@ -146,11 +76,11 @@ class Plan:
 
     def compared(self, command_and_number: Tuple[str, int]) -> Compared:
         case = self.case(*command_and_number)
-        return command_and_number[0], case, answer_of(case)
+        return command_and_number[0], case, answer_of(case.words, case.given)
 
     def talked(self, number: int) -> List[Compared]:
         """The two logs of a talk."""
-        return [("talk", case, answer_of(case)) for case in talk_cases(f"{self.seed} talk {number}")]
+        return [("talk", case, answer_of(case.words, case.given)) for case in talk_cases(f"{self.seed} talk {number}")]
 
 
 def differing(compared: List[Compared]) -> int:

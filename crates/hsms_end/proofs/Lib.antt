@@ -27,3 +27,4 @@ pub mod Drives
 pub mod Numbers
 pub mod TickLaws
 pub mod Single
+pub mod Outcomes

@@ -47,6 +47,20 @@ ActsHaveOneOutcome =
     (end : Known) (acts : List Act) (one other : List Entry) (end' end'' : Known)
     → Acts end acts one end' → Acts end acts other end'' → (one ≡ other) × (end' ≡ end'')
 
+-- a turn gives the same entries and leads to the same end, whenever it is taken
+abbrev pub TurnHasOneOutcome : Type 0
+TurnHasOneOutcome =
+    (desk : Content → Answered) (end : Known) (input : Told) (one other : List Entry) (end' end'' : Known)
+    → Turn desk end input one end' → Turn desk end input other end'' → (one ≡ other) × (end' ≡ end'')
+
+-- so it is with a list of inputs, and the same ones are accepted
+abbrev pub DriveHasOneOutcome : Type 0
+DriveHasOneOutcome =
+    (desk : Content → Answered) (end : Known) (inputs accepted others : List Told) (one other : List Entry)
+    (end' end'' : Known)
+    → Drives desk end inputs accepted one end' → Drives desk end inputs others other end''
+    → (accepted ≡ others) × (one ≡ other) × (end' ≡ end'')
+
 -- ---- own system bytes
 
 -- where at most 64 own transactions are open, a free number is among the next 65

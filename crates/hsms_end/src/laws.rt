@@ -1,6 +1,9 @@
 //! Laws over the definitions of an end. Each is the contract of a function that does nothing.
 
-ghost use Rattle.hsms_end.specs.Laws.{TurnKeepsOctets, DriveKeepsOctets, OneFaultIsMet, ActsHaveOneOutcome, FreeNumberIsAmongTheNext65, FirstFreeIsOne, AllExpiriesAreLoggedBeforeAnyS9F9, OverdueLinkTimerLeavesS9F9Out};
+ghost use Rattle.hsms_end.specs.Laws.{TurnKeepsOctets, DriveKeepsOctets, OneFaultIsMet, ActsHaveOneOutcome, TurnHasOneOutcome, DriveHasOneOutcome, FreeNumberIsAmongTheNext65, FirstFreeIsOne, AllExpiriesAreLoggedBeforeAnyS9F9, OverdueLinkTimerLeavesS9F9Out};
+
+use hsms_frame::laws::one_answer_to_pending;
+use secs_item::laws::one_answer_of_text;
 
 /// No octet is lost: what was pending and what comes is the frames of the taken and discarded entries, in order, and
 /// then what is pending. So it is with one input, and with the accepted ones of a list.
@@ -14,6 +17,16 @@ pub fn each_act_has_one_outcome()
     ensures fault { OneFaultIsMet }
     ensures acts { ActsHaveOneOutcome }
 {}
+
+/// The turn of an input has one outcome: the settings, the desk, what the end is known by and the input decide the new
+/// entries and the end afterwards. So has a list of inputs.
+pub fn each_turn_has_one_outcome()
+    ensures turn { TurnHasOneOutcome }
+    ensures drive { DriveHasOneOutcome }
+{
+    one_answer_to_pending();
+    one_answer_of_text();
+}
 
 /// Where no more than 64 own transactions are open, a free number is among the next 65, and the first one is one
 /// number.

@@ -1,52 +1,48 @@
--- Hexadecimal digits, read two by two.
-use Rattle.std.proofs.Common.{◌≡◌, ◌<◌, ◌≤◌, ◌+◌, ◌*◌, ℕ, List, length, take, drop, get_or, true, false, Some, None, Ok, refl, sym, ap, ◌∙◌, subst, arith}
-use Rattle.std.specs.Prelude.{Option, unwrap_or, slice_set}
+-- Hexadecimal digits, read sixteen at once.
+use Rattle.std.proofs.Common.{◌≡◌, ◌<◌, ◌≤◌, ◌+◌, ◌-◌, ◌*◌, ◌%◌, ◌^◌, ◌++◌, ℕ, zero, suc, Bool, true, false, cond, leb, eqb, T, List, [], ◌∷◌, length, take, drop, get_or, map, replicate, Fits, w8, inl, inr, Some, None, Ok, refl, sym, ap, ap₂, ◌∙◌, subst, arith}
+use Rattle.std.specs.Prelude.{Option, unwrap_or}
+use Rattle.std.proofs.lemmas.Bool.{agree_below, agree_below_at, leb-true, leb-false, eqb-true, cases_lt, cases_Bool}
+use Rattle.std.proofs.lemmas.List.{set-get_or, get_or-map, length-map}
 use Rattle.std.proofs.lemmas.List.Elements.{All-get_or}
+use Rattle.std.proofs.lemmas.Simd.{length-chunk, get_or-chunk, map-map, mask_l-mod, get_or-zip2, get_or-replicate, pick_l_left}
+use lib.Lanes.{all_below, chunk, mask_l, pick_l, sel_l, top, zip2}
 use Rattle.hex.specs.Hex.{decode_pairs, hex_digit_value, is_hex_digit, pair_value}
-use Rattle.hex.proofs.Pairs.{prepend, decode_step, decode_done}
+use Rattle.hex.proofs.Pairs.{prepend, decode_start, decode_step, decode_done}
 use Rattle.hex.proofs.HexLemmas.{decode_of-ok, decode_of-even}
 use Rattle.hsms_log.specs.Spelling.{IsHexOf}
+use Rattle.hsms_log.specs.Digits.{value_or_none, IsPair, AreRead}
+
+-- ---- from octets to the definition
 
 value_some : (o : Option ℕ) → unwrap_or o 255 < 16 → o ≡ Some (unwrap_or o 255)
 value_some (Some v) small = refl
 value_some None small = absurd (omega arith)
 
-value_none : (c : ℕ) → 16 ≤ unwrap_or (hex_digit_value c) 255 → is_hex_digit c ≡ false
+pub value_none : (c : ℕ) → 16 ≤ value_or_none c → is_hex_digit c ≡ false
 value_none c large = grind (arith)
 
 -- two digits are the octet of their values
-pair_is : (a b i : ℕ) → unwrap_or (hex_digit_value a) 255 < 16 → unwrap_or (hex_digit_value b) 255 < 16
-    → pair_value a b i ≡ Ok (unwrap_or (hex_digit_value a) 255 * 16 + unwrap_or (hex_digit_value b) 255)
-pair_is a b i first second =
-    rw (value_some (hex_digit_value a) first, value_some (hex_digit_value b) second) refl
+pair_is : (a b v i : ℕ) → IsPair a b v → pair_value a b i ≡ Ok v
+pair_is a b v i h =
+    rw (value_some (hex_digit_value a) h.0, value_some (hex_digit_value b) h.1) (ap (λ n. Ok n) (sym h.2))
 
--- one octet more
-pub pair_more : (digits octets : List ℕ) (i high low value : ℕ) → 2 * i + 1 < length digits → i < length octets
-    → high ≡ unwrap_or (hex_digit_value (get_or digits (2 * i) 0)) 255 → low ≡ unwrap_or (hex_digit_value (get_or digits (2 * i + 1) 0)) 255
-    → high < 16 → low < 16 → value ≡ high * 16 + low
+-- the digits spell the first octets, and then what the rest of them spells
+pairs_read : (digits octets : List ℕ) (i : ℕ) → length digits ≡ 2 * length octets → i ≤ length octets → AreRead digits octets i
     → decode_pairs 0 digits ≡ prepend (take i octets) (decode_pairs (2 * i) (drop (2 * i) digits))
-    → decode_pairs 0 digits ≡ prepend (take (i + 1) (slice_set octets i value)) (decode_pairs (2 * (i + 1)) (drop (2 * (i + 1)) digits))
-pair_more digits octets i high low value fits room high_is low_is first second value_is so_far =
-    let a = get_or digits (2 * i) 0 in
-    let b = get_or digits (2 * i + 1) 0 in
-    let P : ℕ → Type 0 = λ n. n < 16 in
-    let pair = pair_is a b (2 * i) (subst P high_is first) (subst P low_is second) in
-    let same : unwrap_or (hex_digit_value a) 255 * 16 + unwrap_or (hex_digit_value b) 255 ≡ value =
-    ap (λ n. n * 16 + unwrap_or (hex_digit_value b) 255) (sym high_is) ∙ ap (λ n. high * 16 + n) (sym low_is) ∙ sym value_is in
-    decode_step digits octets i value fits room (pair ∙ ap (λ n. Ok n) same) so_far
-
--- an octet that is no digit
-pub other_at : (digits : List ℕ) (k value : ℕ) → k < length digits → value ≡ unwrap_or (hex_digit_value (get_or digits k 0)) 255 → 16 ≤ value
-    → (k : ℕ) × (k < length digits) × (is_hex_digit (get_or digits k 0) ≡ false)
-other_at digits k value fits value_is large =
-    let P : ℕ → Type 0 = λ n. 16 ≤ n in
-    (k, fits, value_none (get_or digits k 0) (subst P value_is large))
+pairs_read digits octets zero size room read = decode_start digits octets
+pairs_read digits octets (suc i) size room read =
+    let so_far = pairs_read digits octets i size (omega arith) (λ k less. read k (omega arith)) in
+    let v = get_or octets i 0 in
+    let next = decode_step digits octets i v (omega (arith, size)) (omega arith) (pair_is (get_or digits (2 * i) 0) (get_or digits (2 * i + 1) 0) v (2 * i) (read i (omega arith))) so_far in
+    let more : i + 1 ≡ suc i = omega arith in
+    subst (λ n. decode_pairs 0 digits ≡ prepend (take n octets) (decode_pairs (2 * n) (drop (2 * n) digits))) more
+    (subst (λ xs. decode_pairs 0 digits ≡ prepend (take (i + 1) xs) (decode_pairs (2 * (i + 1)) (drop (2 * (i + 1)) digits))) (set-get_or octets i 0) next)
 
 -- all are digits
-pub decoded : (digits octets : List ℕ) (i : ℕ) → length digits ≡ 2 * length octets → length octets ≤ i
-    → decode_pairs 0 digits ≡ prepend (take i octets) (decode_pairs (2 * i) (drop (2 * i) digits)) → IsHexOf digits octets
-decoded digits octets i size done so_far =
-    decode_of-even digits (omega (arith, size)) ∙ decode_done digits octets i done (omega (arith, size, done)) so_far
+pub decoded : (digits octets : List ℕ) → length digits ≡ 2 * length octets → AreRead digits octets (length octets) → IsHexOf digits octets
+decoded digits octets size read =
+    decode_of-even digits (omega (arith, size))
+    ∙ decode_done digits octets (length octets) (omega arith) (omega (arith, size)) (pairs_read digits octets (length octets) size (omega arith) read)
 
 -- one is none
 pub undecoded : (digits : List ℕ) (k : ℕ) → k < length digits → is_hex_digit (get_or digits k 0) ≡ false
@@ -55,3 +51,177 @@ undecoded digits k fits other spelled hex =
     let parts = decode_of-ok digits spelled hex in
     let digit = All-get_or (λ c. is_hex_digit c ≡ true) digits k 0 fits parts.1 in
     let no = sym digit ∙ other in cc no
+
+-- eight octets more are read
+pub read_on : (digits values old new : List ℕ) (place passed : ℕ) → place ≤ passed → AreRead digits old passed
+    → ((k : ℕ) → k < 16 → get_or values k 0 ≡ value_or_none (get_or digits (2 * place + k) 0)) → ((k : ℕ) → k < 16 → get_or values k 0 < 16)
+    → ((k : ℕ) → k < place → get_or new k 0 ≡ get_or old k 0)
+    → ((k : ℕ) → k < 8 → get_or new (place + k) 0 ≡ get_or values (2 * k) 0 * 16 + get_or values (2 * k + 1) 0)
+    → AreRead digits new (place + 8)
+read_on digits values old new place passed within read told small before joined k less =
+    elim (cases_lt k place) [
+      | inl early ↦
+          subst (λ v. IsPair (get_or digits (2 * k) 0) (get_or digits (2 * k + 1) 0) v) (sym (before k early)) (read k (omega arith))
+      | inr late ↦
+          let j = k - place in
+          let here : place + j ≡ k = omega arith in
+          let first : 2 * place + 2 * j ≡ 2 * k = omega arith in
+          let second : 2 * place + (2 * j + 1) ≡ 2 * k + 1 = omega arith in
+          let high : get_or values (2 * j) 0 ≡ value_or_none (get_or digits (2 * k) 0) =
+          told (2 * j) (omega arith) ∙ ap (λ n. value_or_none (get_or digits n 0)) first in
+          let low : get_or values (2 * j + 1) 0 ≡ value_or_none (get_or digits (2 * k + 1) 0) =
+          told (2 * j + 1) (omega arith) ∙ ap (λ n. value_or_none (get_or digits n 0)) second in
+          let octet : get_or new k 0 ≡ get_or values (2 * j) 0 * 16 + get_or values (2 * j + 1) 0 =
+          ap (λ n. get_or new n 0) (sym here) ∙ joined j (omega arith) in (
+            subst (λ n. n < 16) high (small (2 * j) (omega arith)),
+            subst (λ n. n < 16) low (small (2 * j + 1) (omega arith)),
+            octet ∙ ap (λ n. n * 16 + get_or values (2 * j + 1) 0) high ∙ ap (λ n. value_or_none (get_or digits (2 * k) 0) * 16 + n) low,
+          )
+    ]
+
+-- ---- lanes, as what is computed of each octet
+
+zip2-map : (h : ℕ → ℕ → ℕ) (f g : ℕ → ℕ) (xs : List ℕ) → zip2 h (map f xs) (map g xs) ≡ map (λ x. h (f x) (g x)) xs
+zip2-map h f g [] = refl
+zip2-map h f g (x ∷ xs) = ap (λ r. h (f x) (g x) ∷ r) (zip2-map h f g xs)
+
+pub lanes_of_two : (h : ℕ → ℕ → ℕ) (f g : ℕ → ℕ) (v : List ℕ) {a b : List ℕ} → a ≡ map f v → b ≡ map g v → zip2 h a b ≡ map (λ x. h (f x) (g x)) v
+lanes_of_two h f g v p q = ap₂ (zip2 h) p q ∙ zip2-map h f g v
+
+pub lanes_of_one : (v : List ℕ) (n y : ℕ) → length v ≡ n → replicate n y ≡ map (λ _. y) v
+lanes_of_one [] n y e = ap (λ k. replicate k y) (sym e)
+lanes_of_one (x ∷ xs) n y e = ap (λ k. replicate k y) (sym e) ∙ ap (λ r. y ∷ r) (lanes_of_one xs (length xs) y refl)
+
+pub lanes_loaded : (v : List ℕ) → v ≡ map (λ x. x) v
+lanes_loaded [] = refl
+lanes_loaded (x ∷ xs) = ap (λ r. x ∷ r) (lanes_loaded xs)
+
+sel-map : (h f g : ℕ → ℕ) (xs : List ℕ) → sel_l (map (top 7) (map h xs)) (map f xs) (map g xs) ≡ map (λ x. cond (top 7 (h x)) (f x) (g x)) xs
+sel-map h f g [] = refl
+sel-map h f g (x ∷ xs) = ap (λ r. cond (top 7 (h x)) (f x) (g x) ∷ r) (sel-map h f g xs)
+
+chosen : (h f g : ℕ → ℕ) (v m a b : List ℕ) → m ≡ map h v → a ≡ map f v → b ≡ map g v
+    → sel_l (map (top 7) m) a b ≡ map (λ x. cond (top 7 (h x)) (f x) (g x)) v
+chosen h f g v m a b m_is p q =
+    ap (λ l. sel_l (map (top 7) l) a b) m_is ∙ ap (λ l. sel_l (map (top 7) (map h v)) l b) p
+    ∙ ap (λ l. sel_l (map (top 7) (map h v)) (map f v) l) q ∙ sel-map h f g v
+
+pub lanes_chosen : (h f g : ℕ → ℕ) (v : List ℕ) {m a b : List ℕ} → m ≡ map h v → a ≡ map f v → b ≡ map g v
+    → sel_l (map (top 7) m) a b ≡ map (λ x. cond (top 7 (h x)) (f x) (g x)) v
+lanes_chosen h f g v m_is p q = chosen h f g v _ _ _ m_is p q
+
+-- what is computed of sixteen octets is their values, where it is that for each octet that there is
+pub values_told : (f : ℕ → ℕ) (digits values : List ℕ) (place : ℕ) → place + 16 ≤ length digits → ((k : ℕ) → Fits w8 (get_or digits k 0))
+    → values ≡ map f (chunk place 16 digits) → agree_below (λ c. eqb (f c) (value_or_none c)) (λ _. true) 256 ≡ true
+    → (k : ℕ) → k < 16 → get_or values k 0 ≡ value_or_none (get_or digits (place + k) 0)
+values_told f digits values place room fits is all k less =
+    let v = chunk place 16 digits in
+    let long = length-chunk place 16 digits room in
+    let c = get_or digits (place + k) 0 in
+    ap (λ l. get_or l k 0) is ∙ get_or-map f v k 0 0 (omega (arith, long)) ∙ ap f (get_or-chunk place 16 digits k 0 less)
+    ∙ eqb-true (f c) (value_or_none c) (agree_below_at (λ c. eqb (f c) (value_or_none c)) (λ _. true) 256 c all (fits (place + k)).fits)
+
+-- ---- the mask of a comparison
+
+-- where no bit is set, no lane passes
+mask_none : (p : ℕ → Bool) (v : List ℕ) → mask_l (map p v) ≡ 0 → (k : ℕ) → k < length v → p (get_or v k 0) ≡ false
+mask_none p [] empty k less = absurd (omega arith)
+mask_none p (x ∷ xs) empty zero less = go (p x) refl empty
+  where
+    go : (t : Bool) → p x ≡ t → cond t 1 0 + 2 * mask_l (map p xs) ≡ 0 → p x ≡ false
+    go true e sum = absurd (omega arith)
+    go false e sum = e
+mask_none p (x ∷ xs) empty (suc k) less = mask_none p xs (omega arith) k (omega arith)
+
+-- else one does
+mask_some : (p : ℕ → Bool) (v : List ℕ) → 0 < mask_l (map p v) → (k : ℕ) × (k < length v) × (p (get_or v k 0) ≡ true)
+mask_some p [] some = absurd (omega arith)
+mask_some p (x ∷ xs) some =
+    elim (cases_Bool (p x)) [
+      | inl passes ↦ (0, omega arith, passes)
+      | inr none ↦
+          let rest : 0 < mask_l (map p xs) = omega (arith, subst (λ b. 0 < cond b 1 0 + 2 * mask_l (map p xs)) none some) in
+          let found = mask_some p xs rest in (suc found.0, omega (arith, found.1), found.2)
+    ]
+
+abbrev is_large : ℕ → Bool
+is_large x = top 7 (cond (leb 16 x) 255 0)
+
+large_true : (x : ℕ) → is_large x ≡ true → 16 ≤ x
+large_true x e = go (leb 16 x) refl e
+  where
+    go : (t : Bool) → leb 16 x ≡ t → top 7 (cond t 255 0) ≡ true → 16 ≤ x
+    go true p q = leb-true 16 x p
+    go false p q = cc q
+
+large_false : (x : ℕ) → is_large x ≡ false → x < 16
+large_false x e = go (leb 16 x) refl e
+  where
+    go : (t : Bool) → leb 16 x ≡ t → top 7 (cond t 255 0) ≡ false → x < 16
+    go true p q = cc q
+    go false p q = leb-false 16 x p
+
+mask_is : (values : List ℕ) → length values ≡ 16
+    → mask_l (map (top 7) (zip2 (λ a b. cond (leb a b) 255 0) (replicate 16 16) values)) % 2 ^ 64 ≡ mask_l (map is_large values)
+mask_is values long =
+    let lanes = lanes_of_two (λ a b. cond (leb a b) 255 0) (λ _. 16) (λ x. x) values (lanes_of_one values 16 16 long) (lanes_loaded values) in
+    ap (λ l. mask_l l % 2 ^ 64) (ap (map (top 7)) lanes ∙ map-map (top 7) (λ x. cond (leb 16 x) 255 0) values)
+    ∙ mask_l-mod (map is_large values) 64 (omega (arith, length-map values is_large, long))
+
+pub all_small : (values : List ℕ) → length values ≡ 16
+    → mask_l (map (top 7) (zip2 (λ a b. cond (leb a b) 255 0) (replicate 16 16) values)) % 2 ^ 64 ≡ 0 → (k : ℕ) → k < 16 → get_or values k 0 < 16
+all_small values long empty k less =
+    large_false (get_or values k 0) (mask_none is_large values (sym (mask_is values long) ∙ empty) k (omega (arith, long)))
+
+pub mask_one : (n : ℕ) → eqb n 0 ≡ false → 0 < n
+mask_one zero none = cc none
+mask_one (suc n) none = omega arith
+
+pub one_large : (values : List ℕ) → length values ≡ 16
+    → 0 < mask_l (map (top 7) (zip2 (λ a b. cond (leb a b) 255 0) (replicate 16 16) values)) % 2 ^ 64 → (k : ℕ) × (k < 16) × (16 ≤ get_or values k 0)
+one_large values long some =
+    let found = mask_some is_large values (subst (λ n. 0 < n) (mask_is values long) some) in
+    (found.0, omega (arith, found.1, long), large_true (get_or values found.0 0) found.2)
+
+-- ---- two halves are joined
+
+abbrev pub evens : List ℕ
+evens = 0 ∷ 2 ∷ 4 ∷ 6 ∷ 8 ∷ 10 ∷ 12 ∷ 14 ∷ []
+
+abbrev pub odds : List ℕ
+odds = 1 ∷ 3 ∷ 5 ∷ 7 ∷ 9 ∷ 11 ∷ 13 ∷ 15 ∷ []
+
+even_at : (k : ℕ) → k < 8 → get_or evens k 0 ≡ 2 * k
+even_at k less = eqb-true _ _ (agree_below_at (λ k. eqb (get_or evens k 0) (2 * k)) (λ _. true) 8 k refl less)
+
+odd_at : (k : ℕ) → k < 8 → get_or odds k 0 ≡ 2 * k + 1
+odd_at k less = eqb-true _ _ (agree_below_at (λ k. eqb (get_or odds k 0) (2 * k + 1)) (λ _. true) 8 k refl less)
+
+abbrev pub picked : List ℕ → List ℕ → List ℕ
+picked values places = pick_l 0 (values ++ values) places
+
+picked_at : (values places : List ℕ) (k : ℕ) → length values ≡ 16 → T (all_below 16 places) → k < length places
+    → get_or (picked values places) k 0 ≡ get_or values (get_or places k 0) 0
+picked_at values places k long below less =
+    ap (λ l. get_or l k 0) (pick_l_left 0 values values 16 places long below) ∙ get_or-map (λ j. get_or values j 0) places k 0 0 less
+
+abbrev pub joined : List ℕ → List ℕ
+joined values =
+    zip2 (λ a b. (a + b) % 2 ^ 8) (zip2 (λ a b. a * b % 2 ^ 8) (picked values evens) (replicate 8 16)) (picked values odds)
+
+pub joined_at : (values : List ℕ) → length values ≡ 16 → ((k : ℕ) → k < 16 → get_or values k 0 < 16) → (k : ℕ) → k < 8
+    → get_or (joined values) k 0 ≡ get_or values (2 * k) 0 * 16 + get_or values (2 * k + 1) 0
+joined_at values long small k less =
+    let x = get_or values (2 * k) 0 in
+    let y = get_or values (2 * k + 1) 0 in
+    let first : x < 16 = small (2 * k) (omega arith) in
+    let second : y < 16 = small (2 * k + 1) (omega arith) in
+    let fits : (x * 16 % 2 ^ 8 + y) % 2 ^ 8 ≡ x * 16 + y = omega (arith, first, second) in
+    let high = picked_at values evens k long tt less ∙ ap (λ n. get_or values n 0) (even_at k less) in
+    let low = picked_at values odds k long tt less ∙ ap (λ n. get_or values n 0) (odd_at k less) in
+    let sixteen : get_or (replicate 8 16) k 0 ≡ 16 = get_or-replicate 8 k 16 0 less in
+    let product : get_or (zip2 (λ a b. a * b % 2 ^ 8) (picked values evens) (replicate 8 16)) k 0 ≡ x * 16 % 2 ^ 8 =
+    get_or-zip2 (λ a b. a * b % 2 ^ 8) (picked values evens) (replicate 8 16) k 0 0 0 less less
+    ∙ ap (λ a. a * get_or (replicate 8 16) k 0 % 2 ^ 8) high ∙ ap (λ b. x * b % 2 ^ 8) sixteen in
+    get_or-zip2 (λ a b. (a + b) % 2 ^ 8) (zip2 (λ a b. a * b % 2 ^ 8) (picked values evens) (replicate 8 16)) (picked values odds) k 0 0 0 less less
+    ∙ ap (λ a. (a + get_or (picked values odds) k 0) % 2 ^ 8) product ∙ ap (λ b. (x * 16 % 2 ^ 8 + b) % 2 ^ 8) low ∙ fits

@@ -7,6 +7,7 @@ pub mod LineReader
 pub mod Reading
 pub mod Carried
 pub mod FrameLine
+pub mod Digits
 pub mod Fields
 pub mod Counters
 pub mod Auditing

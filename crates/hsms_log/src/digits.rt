@@ -1,35 +1,81 @@
-//! Hexadecimal digits, read.
+//! Hexadecimal digits, read sixteen at once.
 
-ghost use Rattle.std.specs.Prelude.{◌≡◌, ◌*◌, ℕ, List, length, true, false, unwrap_or};
-ghost use Rattle.hex.specs.Hex.{hex_digit_value};
+ghost use Rattle.std.specs.Prelude.{◌≡◌, ◌+◌, ◌*◌, ◌<◌, ◌≤◌, ℕ, List, length, slice_index, true, false};
 ghost use Rattle.hsms_log.specs.Spelling.{IsHexOf};
+ghost use Rattle.hsms_log.specs.Digits.{value_or_none, AreRead, HasOther};
 
-/// Reads the octets that digits of either case spell, and says whether all are digits.
+use std::simd::prelude::*;
+
+/// Reads the octets that digits of either case spell, eight at least, and says whether all are digits. The last eight
+/// are read from where they begin, though some of them may have been read before.
 pub fn decode(digits: &[u8], octets: &mut [u8]) -> bool
-    requires { length digits.now ≡ 2 * length octets.old }
+    requires size { length digits.now ≡ 2 * length octets.old }
+    requires some { 8 ≤ length octets.old }
     ensures digits { result ≡ true → IsHexOf digits.now octets.new }
     ensures other { result ≡ false → (spelled : List ℕ) → IsHexOf digits.now spelled → ⊥ }
     ensures len { length octets.new ≡ length octets.old }
 {
-    let mut greatest = 0u8;
-    for i in 0..octets.len() {
-        let high = value_of(digits[2 * i]);
-        let low = value_of(digits[2 * i + 1]);
-        greatest = greatest.max(high).max(low);
-        octets[i] = high.wrapping_mul(16).wrapping_add(low);
+    for i in 0..octets.len() / 8 {
+        if !decode_at(digits, octets, 8 * i) {
+            return false;
+        }
     }
-    greatest < 16
+    let last = octets.len() - 8;
+    decode_at(digits, octets, last)
 }
 
-/// The value of a digit, or 255 of another octet. Without a branch, so that many are read at once.
+/// Reads the eight octets from this place on.
 #[inline(always)]
-fn value_of(octet: u8) -> u8
-    ensures { result ≡ unwrap_or (hex_digit_value octet) 255 }
+fn decode_at(digits: &[u8], octets: &mut [u8], place: usize) -> bool
+    requires size { length digits.now ≡ 2 * length octets.old }
+    requires room { place + 8 ≤ length octets.old }
+    ensures len { length octets.new ≡ length octets.old }
+    ensures read { result ≡ true → (passed : ℕ) → place ≤ passed → AreRead digits.now octets.old passed → AreRead digits.now octets.new (place + 8) }
+    ensures other { result ≡ false → HasOther digits.now }
 {
-    match octet {
-        b'A'..=b'F' => octet - b'A' + 10,
-        b'a'..=b'f' => octet - b'a' + 10,
-        b'0'..=b'9' => octet - b'0',
-        _ => 255,
+    let values = values_at(digits, 2 * place);
+    if has_other(values) {
+        return false;
     }
+    put_joined(values, octets, place);
+    true
+}
+
+/// The values of the sixteen digits from this place on, and 255 for each other octet.
+#[inline(always)]
+fn values_at(digits: &[u8], place: usize) -> u8x16
+    requires { place + 16 ≤ length digits.now }
+    ensures { (k : ℕ) → k < 16 → slice_index result k ≡ value_or_none (slice_index digits.now (place + k)) }
+{
+    let octets = u8x16::from_slice(&digits[place..]);
+    let from_zero = octets - u8x16::splat(b'0');
+    let from_a = (octets | u8x16::splat(0x20)) - u8x16::splat(b'a');
+    let is_letter = from_a.simd_lt(u8x16::splat(6));
+    let letter = is_letter.select(from_a + u8x16::splat(10), u8x16::splat(255));
+    from_zero
+        .simd_lt(u8x16::splat(10))
+        .select(from_zero, letter)
+}
+
+/// Whether one of the values is no digit's.
+#[inline(always)]
+fn has_other(values: u8x16) -> bool
+    ensures none { result ≡ false → (k : ℕ) → k < 16 → slice_index values k < 16 }
+    ensures some { result ≡ true → (k : ℕ) × (k < 16) × (16 ≤ slice_index values k) }
+{
+    values.simd_ge(u8x16::splat(16)).to_bitmask() != 0
+}
+
+/// Puts the eight octets whose halves these are from this place on.
+#[inline(always)]
+fn put_joined(values: u8x16, octets: &mut [u8], place: usize)
+    requires small { (k : ℕ) → k < 16 → slice_index values k < 16 }
+    requires room { place + 8 ≤ length octets.old }
+    ensures len { length octets.new ≡ length octets.old }
+    ensures before { (k : ℕ) → k < place → slice_index octets.new k ≡ slice_index octets.old k }
+    ensures joined { (k : ℕ) → k < 8 → slice_index octets.new (place + k) ≡ slice_index values (2 * k) * 16 + slice_index values (2 * k + 1) }
+{
+    let high = values.swizzle([0, 2, 4, 6, 8, 10, 12, 14]);
+    let low = values.swizzle([1, 3, 5, 7, 9, 11, 13, 15]);
+    (high * u8x8::splat(16) + low).copy_to_slice(&mut octets[place..]);
 }

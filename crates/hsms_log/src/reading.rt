@@ -180,6 +180,7 @@ fn drop_front(octets: &mut Vec<u8>, count: usize)
 
 /// Reads a message from hexadecimal digits, and gives its header, or None where they spell no message. The octets of
 /// header and text take the place of what the vector holds.
+#[inline(always)]
 fn read_octets(digits: &[u8], octets: &mut Vec<u8>) -> Result<Option<Header>, AllocError>
     ensures found { IfOk result (λ answer. IfSome answer (λ header. IsSpelled digits.now header (drop 10 octets.new.items))) }
     ensures size { IfOk result (λ answer. IfSome answer (λ header. 10 ≤ length octets.new.items)) }
@@ -191,7 +192,6 @@ fn read_octets(digits: &[u8], octets: &mut Vec<u8>) -> Result<Option<Header>, Al
     if digits.len() % 2 != 0 {
         return Ok(None);
     }
-    octets.clear();
     octets.resize(digits.len() / 2, 0)?;
     if !decode(digits, octets.as_mut_slice()) {
         return Ok(None);

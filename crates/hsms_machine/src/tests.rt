@@ -270,12 +270,20 @@ fn an_equipment_that_listens(rt: HostRuntime) -> Result<(), Fail> {
         32,
     );
     let mut tracker = Tracker::new(rt.alloc(), settings.ok_or("the settings")?);
-    let entries = [
+    let asked = [
         (0, Up),
         (10, Taken(SELECT_REQ, 1, &[])),
         (10, Sent(SELECT_RSP, 1, &[])),
         (1000, Sent(S1F1_W, 0xffff_fffe, &[])),
         (1000, Sent(S1F1_W, 0xffff_ffff, &[])),
+    ];
+    assert_eq!(rt; broken_by(&rt, rt.alloc(), &mut tracker, &asked)?, None);
+    assert_eq!(rt;
+        tracker.oldest_data(),
+        Some((1000, header(S1F1_W, 0xffff_fffe)))
+    );
+    assert_eq!(rt; tracker.oldest_control(), None);
+    let expired = [
         (46001, T3(0xffff_fffe)),
         (46001, T3(0xffff_ffff)),
         (
@@ -287,7 +295,7 @@ fn an_equipment_that_listens(rt: HostRuntime) -> Result<(), Fail> {
             ),
         ),
     ];
-    assert_eq!(rt; broken_by(&rt, rt.alloc(), &mut tracker, &entries)?, None);
+    assert_eq!(rt; broken_by(&rt, rt.alloc(), &mut tracker, &expired)?, None);
     assert_eq!(rt; told(&tracker), (Phase::Selected, 0, 0, None));
     for (happening, rule) in [
         (Sent(SELECT_REQ, 2, &[]), Rule::Direction),

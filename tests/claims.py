@@ -1,0 +1,114 @@
+#!/usr/bin/env python3
+"""Measures the most memory that the command holds of inputs that claim lengths and counts which they don't hold.
+
+Each is compared with an input of as many octets that claims nothing: it may take a little more, and not in proportion to
+what is claimed. The one exception is a message whose length is within `--max`: its text is given room at once.
+
+Counted is what the command asks for, whether it uses it or not. It runs what `rt ci` has built. The last line is
+`N passed, M failed`.
+"""
+import re
+import struct
+import sys
+import tempfile
+from dataclasses import dataclass
+
+sys.dont_write_bytecode = True
+
+from command import Answer, answer_of, refuser
+from worked import ENTRIES, message, octets, refused
+
+# How much more an input may take than one that claims nothing, in octets.
+MORE = 65_536
+
+GREATEST = 33_554_432
+HEADER = "00008101000000000002"
+LOG = f"hsms-log 1 host active 0 45000 6000 10000 5000 {GREATEST} 100\n{ENTRIES}"
+
+
+@dataclass(frozen=True)
+class Claim:
+    """Words, an input that claims much, one of as many octets that doesn't, and what the first is answered."""
+
+    words: str
+    given: bytes
+    beside: bytes
+    answer: Answer
+    # how much is given room at once
+    room: int = 0
+
+
+def shown(text):
+    return Answer(0, f"data 0000 00000002 S1F1 W ! {text}\n".encode(), b"")
+
+
+def in_message(words, text):
+    """The text of a message claims much. Beside it stands one of as many octets, a list or a body of binary octets."""
+    size = len(octets(text))
+    plain = "21" + bytes([size - 2]).hex() + "00" * (size - 2) if size < 258 else ""
+    plain = plain or "22" + (size - 3).to_bytes(2, "big").hex() + "00" * (size - 3)
+    return Claim(words, message(HEADER + text), message(HEADER + plain), shown(text))
+
+
+def in_notation(words, text, fault):
+    """Beside a text with counts stands the same text without any."""
+    return Claim(words, text.encode(), re.sub(r" \[\d+\]", "", text).encode(), refused(fault))
+
+
+def claims():
+    verdict = Answer(1, b"fail line=5 rule=Text\n", b"")
+    too_long, cut_off = refused(f"TooLong length={0xFFFFFFFF}"), refused("CutOff")
+    greatest = f"show --max {GREATEST}"
+    return [
+        in_message("show --depth 100", "03ffffff" * 100),
+        in_message("show --depth 100", "03ffffff"),
+        in_message("show --depth 100", "03ffffff" + "0100" * 400),
+        in_message("show --depth 100", "43ffffff" + "41" * 400),
+        in_message("show --depth 100", "a3fffff8" + "00" * 400),
+        Claim(greatest, octets("ffffffff" + HEADER), octets("0000000a" + HEADER), too_long),
+        Claim(greatest, octets("ffffffff" + HEADER) * 40, octets("0000000a" + HEADER) * 40, too_long),
+        Claim(greatest, octets("ffffffff"), octets("0000"), cut_off),
+        Claim(greatest, octets("02000000"), octets("0000"), cut_off),
+        Claim("show", octets("02000000" + HEADER), octets("0000000a" + HEADER), refused(f"TooLong length={GREATEST}")),
+        Claim(greatest, octets("02000000" + HEADER), octets("0000000a" + HEADER), cut_off, room=GREATEST),
+        in_notation("encode", "S1F1 <L [99999999]> .", "Count at=8"),
+        in_notation("encode", 'S1F1 <A [99999999] "a"> .', "Count at=8"),
+        in_notation("encode", "S1F1 <U8 [99999999] 1> .", "Count at=9"),
+        in_notation("encode --depth 100", "S1F1 " + "<L [99999999] " * 100, "Syntax at=1405"),
+        in_notation("encode", "S1F1 <L [18446744073709551615]> .", "Count at=8"),
+        Claim("audit", f"{LOG}6 > {HEADER}{'03ffffff' * 100}\n".encode(), f"{LOG}6 > {HEADER}\n".encode(), verdict),
+        Claim("audit", f"{LOG}6 > {HEADER}43ffffff41\n".encode(), f"{LOG}6 > {HEADER}\n".encode(), verdict),
+    ]
+
+
+class Measure:
+    def __init__(self, room):
+        self.held = f"{room}/held"
+        self.env = {"LD_PRELOAD": refuser(room), "HELD": self.held}
+
+    def most(self, words, given):
+        """What the command answers, and the most octets that it held."""
+        with open(self.held, "wb") as file:
+            file.write(bytes(16))
+        answer = answer_of(words.split(), given, env=self.env)
+        with open(self.held, "rb") as file:
+            return answer, struct.unpack("<qq", file.read())[1]
+
+
+def main():
+    passed = failed = 0
+    with tempfile.TemporaryDirectory(prefix="hsms-claims-") as room:
+        measure = Measure(room)
+        for claim in claims():
+            answer, held = measure.most(claim.words, claim.given)
+            _, beside = measure.most(claim.words, claim.beside)
+            is_well = answer == claim.answer and 0 < beside and held <= beside + claim.room + MORE
+            passed, failed = passed + is_well, failed + (not is_well)
+            told = f"held {held}, beside {beside}" if answer == claim.answer else str(answer)
+            print(f"hsms {claim.words}, {claim.given[:60]!r}: {told}")
+    print(f"{passed} passed, {failed} failed")
+    return 1 if failed or not passed else 0
+
+
+if __name__ == "__main__":
+    sys.exit(main())
