@@ -9,10 +9,10 @@ returns c =
     let v = chunk c.args.place 16 c.args.digits.now in
     let long = length-chunk c.args.place 16 c.args.digits.now c.requires in
     values_told _ c.args.digits.now _ c.args.place c.requires c.type_inv.digits
-    (lanes_chosen _ _ _ v (lanes_of_two _ _ _ v (lanes_of_two _ _ _ v (lanes_loaded v) (lanes_of_one v 16 48 long)) (lanes_of_one v 16 10 long))
-    (lanes_of_two _ _ _ v (lanes_loaded v) (lanes_of_one v 16 48 long))
+    (lanes_chosen _ _ _ v (lanes_of_two _ _ _ v (lanes_of_two _ _ _ v (lanes_loaded v) (lanes_of_one v 16 _ long)) (lanes_of_one v 16 _ long))
+    (lanes_of_two _ _ _ v (lanes_loaded v) (lanes_of_one v 16 _ long))
     (lanes_chosen _ _ _ v
-    (lanes_of_two _ _ _ v (lanes_of_two _ _ _ v (lanes_of_two _ _ _ v (lanes_loaded v) (lanes_of_one v 16 32 long)) (lanes_of_one v 16 97 long)) (lanes_of_one v 16 6 long))
-    (lanes_of_two _ _ _ v (lanes_of_two _ _ _ v (lanes_of_two _ _ _ v (lanes_loaded v) (lanes_of_one v 16 32 long)) (lanes_of_one v 16 97 long)) (lanes_of_one v 16 10 long))
-    (lanes_of_one v 16 255 long)))
+    (lanes_of_two _ _ _ v (lanes_of_two _ _ _ v (lanes_of_two _ _ _ v (lanes_loaded v) (lanes_of_one v 16 _ long)) (lanes_of_one v 16 _ long)) (lanes_of_one v 16 _ long))
+    (lanes_of_two _ _ _ v (lanes_of_two _ _ _ v (lanes_of_two _ _ _ v (lanes_loaded v) (lanes_of_one v 16 _ long)) (lanes_of_one v 16 _ long)) (lanes_of_one v 16 _ long))
+    (lanes_of_one v 16 _ long)))
     refl
