@@ -4,8 +4,8 @@
 Standard output is a full device, a file that may not grow past each length in turn, a pipe that closes after each octet
 in turn, with SIGPIPE as ever and ignored, or closed from the beginning; each write fails in turn. Then the status is 3,
 standard error is the one line `hsms: Write`, and what was written is a front of what is written otherwise. Standard
-input is a folder, or closed; each read fails in turn. Then the line is `hsms: Read`, and what was written is whole lines
-of `show`, else nothing.
+input is a folder, or closed; each read fails in turn. Then the line is `hsms: Read`, and what was written is whole
+lines of `show`, else nothing.
 
 It runs what `rt ci` has built. The last line is `N passed, M failed`.
 """
