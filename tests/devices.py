@@ -2,10 +2,10 @@
 """Runs the command over devices that fail, fill, close or move an octet at a time.
 
 Standard output is a full device, a file that may not grow past each length in turn, a pipe that closes after each octet
-in turn, with SIGPIPE as ever and ignored, or closed from the beginning; each write fails in turn. Then the status is 3,
-standard error is the one line `hsms: Write`, and what was written is a front of what is written otherwise. Standard
-input is a folder, or closed; each read fails in turn. Then the line is `hsms: Read`, and what was written is whole
-lines of `show`, else nothing.
+in turn, with SIGPIPE as ever and ignored, or closed from the beginning; each write fails in turn, once. Then the status
+is 3, standard error is the one line `hsms: Write`, and what was written is a front of what is written otherwise, with
+nothing behind the write that failed. Standard input is a folder, or closed; each read fails in turn, once. Then the
+line is `hsms: Read`, and what was written is whole lines of `show`, else nothing.
 
 It runs what `rt ci` has built. The last line is `N passed, M failed`.
 """
@@ -158,8 +158,8 @@ def calls_that_fail(run, room, library):
     yield "an octet at a time", answer_of(run.words, run.given, env=env) == run.ample
     for place in range(len(run.ample.output)):
         answer = answer_of(run.words, run.given, env={**env, "REFUSE_WRITE": str(place + 1)})
-        is_front = run.ample.output.startswith(answer.output)
-        yield f"a write that fails after {place} octets", (answer.status, answer.error) == NO_WRITE and is_front
+        wanted = Answer(NO_WRITE[0], run.ample.output[:place], NO_WRITE[1])
+        yield f"a write that fails after {place} octets", answer == wanted
     for place in range(len(run.given) + 1):
         if os.path.exists(told):
             os.remove(told)
