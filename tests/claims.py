@@ -1,8 +1,9 @@
 #!/usr/bin/env python3
 """Measures the most memory that the command holds of inputs that claim lengths and counts which they don't hold.
 
-Each is compared with an input of as many octets that claims nothing: it may take a little more, and not in proportion to
-what is claimed. The one exception is a message whose length is within `--max`: its text is given room at once.
+Each is compared with an input of about as many octets that claims nothing: it may take a little more, and not in
+proportion to what is claimed. The one exception is a message whose length is within `--max`: its text is given room at
+once.
 
 Counted is what the command asks for, whether it uses it or not. It runs what `rt ci` has built. The last line is
 `N passed, M failed`.
@@ -28,7 +29,7 @@ LOG = f"hsms-log 1 host active 0 45000 6000 10000 5000 {GREATEST} 100\n{ENTRIES}
 
 @dataclass(frozen=True)
 class Claim:
-    """Words, an input that claims much, one of as many octets that doesn't, and what the first is answered."""
+    """Words, an input that claims much, one of about as many octets that doesn't, and what the first is answered."""
 
     words: str
     given: bytes

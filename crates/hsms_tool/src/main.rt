@@ -17,10 +17,10 @@ use doing::perform;
 use fault::{ToolFault, exit_status};
 use hsms_frame::{Reader, Writer};
 use std::alloc::Global;
-use std::io::{BufReader, BufWriter, ErrorKind};
+use std::io::{BufReader, BufWriter, ErrorKind, Write};
 use std::process::ExitCode;
 use std::rt::Env;
-use std::{env, io};
+use std::{env, io, mem};
 
 // The octets that are held between the command and its standard input, and its standard output.
 const BUFFER: usize = 65536;
@@ -33,8 +33,7 @@ fn main(rt: HostRuntime) -> ExitCode {
     ExitCode::from(exit_status(&answer))
 }
 
-// Judges the command line, and then does what it asks for with standard input and standard output. What was written
-// before a fault is put out before the fault is answered; where that fails, the answer is that a write failed.
+// Judges the command line, and then does what it asks for with standard input and standard output.
 fn run<R: AllocGlobal + Env + Input + Print>(rt: &R) -> Result<bool, ToolFault> {
     let alloc = rt.alloc();
     let words = words(alloc, rt)?;
@@ -46,10 +45,22 @@ fn run<R: AllocGlobal + Env + Input + Print>(rt: &R) -> Result<bool, ToolFault> 
     };
     let mut sink = Writer::new(output);
     let answer = perform(alloc, request, &mut Reader::new(input), &mut sink);
-    match sink.flush() {
-        Ok(()) => answer,
-        Err(_) => Err(ToolFault::Device("Write")),
+    put_out(sink, answer, "Write")
+}
+
+// Puts out what is held back, and then answers; where that fails, the answer is that the device of this word failed.
+// What a failed write has left is let go, since a drop of the writer would try it once more.
+fn put_out<W: Write + Drop>(
+    mut sink: Writer<W>,
+    answer: Result<bool, ToolFault>,
+    word: &'static str,
+) -> Result<bool, ToolFault> {
+    let has_failed = matches!(&answer, Err(ToolFault::Device(told)) if *told == word);
+    if !has_failed && sink.flush().is_ok() {
+        return answer;
     }
+    mem::forget(sink);
+    Err(ToolFault::Device(word))
 }
 
 // The words of the command line, of which one that is no text is refused.
