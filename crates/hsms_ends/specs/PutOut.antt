@@ -2,12 +2,12 @@
 use Rattle.std.specs.Prelude.{◌≡◌, ◌≤◌, ◌<◌, ◌+◌, ◌^◌, ◌⊎◌, ◌++◌, ℕ, List, [], ◌∷◌, length, take, Option, Some, Result, Ok, Err, All}
 use Rattle.std.specs.List.{flat_map}
 use Rattle.hsms_frame.specs.Count.{next_count}
-use Rattle.hsms_frame.specs.declared.device.Failed.{Failed}
 use Rattle.hsms_frame.specs.Device.{SinkState, WhereTold, Grows, GrowsByFront}
 use Rattle.hsms_frame.specs.Frame.{frame_octets}
 use Rattle.hsms_machine.specs.declared.entry.Entry.{Entry}
 use Rattle.hsms_machine.specs.declared.entry.Event.{Event}
 use Rattle.hsms_machine.specs.declared.entry.Event.TheVariants.{Up, Sent, Taken, Discarded, T3, Cut, Down}
+use Rattle.hsms_log.specs.declared.writing.LogFault.{LogFault}
 use Rattle.hsms_log.specs.Spelling.{entry_line}
 use Rattle.hsms_ends.specs.declared.link.LinkFault.{LinkFault}
 use Rattle.hsms_ends.specs.declared.output.Stop.{Stop}
@@ -67,7 +67,7 @@ abbrev pub LogFails : SinkState → SinkState → List ℕ → Type 0
 LogFails old new octets = GrowsByFront old.written new.written octets × (new.failures ≡ next_count old.failures)
 
 -- all octets were logged, or the log failed and some from their front were
-abbrev pub LogsAll : {F : Type 0} → Result (Unit {0}) F → SinkState → SinkState → List ℕ → Type 0
+abbrev pub LogsAll : Result (Unit {0}) LogFault → SinkState → SinkState → List ℕ → Type 0
 LogsAll (Ok _) old new octets = LogGrows old new octets
 LogsAll (Err _) old new octets = LogFails old new octets
 
