@@ -1,20 +1,18 @@
 -- What was put out in stretches that follow one another.
-use Rattle.std.proofs.Common.{◌≡◌, ◌<◌, ◌≤◌, ◌+◌, ◌++◌, ◌⊎◌, ℕ, suc, List, [], get_or, take-append-drop, ◌∷◌, length, take, drop, Some, Ok, Err, inl, inr, refl, sym, ap, ◌∙◌, subst, arith, append_assoc, length-append}
+use Rattle.std.proofs.Common.{◌≡◌, ◌<◌, ◌≤◌, ◌+◌, ◌++◌, ℕ, suc, List, [], get_or, take-append-drop, ◌∷◌, length, take, drop, Some, Ok, Err, inl, inr, refl, sym, ap, ◌∙◌, subst, arith, append_assoc, length-append}
 use Rattle.std.specs.Prelude.{Option, Result}
 use Rattle.std.proofs.lemmas.List.{take-append-le, append-nil, take_all}
 use Rattle.std.proofs.Math.Seq.{take-append-add, take-suc}
-use Rattle.std.specs.List.{flat_map}
 use Rattle.std.proofs.lemmas.Grind.{flat_map-append}
 use Rattle.hsms_frame.specs.Count.{next_count}
 use Rattle.hsms_frame.specs.Device.{SinkState, Grows, GrowsByFront, Stays}
 use Rattle.hsms_machine.specs.declared.entry.Entry.{Entry}
 use Rattle.hsms_log.specs.declared.writing.LogFault.{LogFault}
 use Rattle.hsms_log.specs.Spelling.{entry_line}
-use Rattle.hsms_ends.specs.declared.link.LinkFault.{LinkFault}
 use Rattle.hsms_ends.specs.declared.output.Stop.{Stop}
 use Rattle.hsms_ends.specs.declared.output.Stop.TheVariants.{Link, Log, Memory}
 use Rattle.hsms_ends.specs.Link.{Told, Heard, Hears, Asks, both, nothing_heard, moment_heard}
-use Rattle.hsms_ends.specs.PutOut.{GrowsByPart, SendsAll, LogsAll, RestLogged, Logged, Delivered, PutsOut, sent_octets, log_lines, sent_of}
+use Rattle.hsms_ends.specs.PutOut.{GrowsByPart, LogsAll, RestLogged, Logged, Delivered, PutsOut, sent_octets, log_lines, sent_of}
 use Rattle.hsms_ends.proofs.Hearing.{grows_then, grows_none, grows_stays, front_of_first, front_of_second, hears_then, hears_nothing}
 
 pub part_of_front : (old new : Option (List ℕ)) (a : List ℕ) → GrowsByFront old new a → GrowsByPart old new a

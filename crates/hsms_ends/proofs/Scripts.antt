@@ -1,11 +1,9 @@
 -- Steps of the link in memory.
-use Rattle.std.proofs.Common.{◌≡◌, ◌≤◌, ◌<◌, ◌+◌, ◌-◌, ◌++◌, ◌^◌, ℕ, suc, List, [], ◌∷◌, length, take, nat_lt, Bool, true, false, Some, None, Ok, Err, refl, sym, ap, ◌∙◌, subst, arith}
-use Rattle.std.specs.Prelude.{Option, Result, ◌||◌, if◌then◌else◌}
+use Rattle.std.proofs.Common.{◌≡◌, ◌-◌, ◌++◌, ◌^◌, ℕ, suc, List, [], ◌∷◌, take, nat_lt, Bool, true, false, Some, None, Ok, Err, refl, sym, ap, ◌∙◌, subst, arith}
+use Rattle.std.specs.Prelude.{Option, ◌||◌, if◌then◌else◌}
 use Rattle.std.proofs.lemmas.Bool.Decides.{nat_tests}
-use Rattle.std.proofs.lemmas.List.{append-nil}
 use Rattle.hsms_frame.specs.Count.{next_count}
 use Rattle.hsms_frame.specs.Device.{Grows, Stays}
-use Rattle.hsms_ends.specs.declared.link.LinkFault.{LinkFault}
 use Rattle.hsms_ends.specs.declared.link.Got.{Got}
 use Rattle.hsms_ends.specs.declared.link.Got.TheVariants.{Octets, Quiet, Closed}
 use Rattle.hsms_ends.specs.Link.{Told, Recalls, Asks, Sends, Waits, RisesBy, IsGot}

@@ -1,5 +1,5 @@
 -- What contracts see of the link in memory.
-use Rattle.std.specs.Prelude.{◌≡◌, ◌≤◌, ◌-◌, ◌+◌, ◌^◌, ◌++◌, zero, suc, ℕ, Bool, true, false, List, [], ◌∷◌, Option, Some, None, length, take, drop, map, get_or, min, nat_lt, option_map, if◌then◌else◌}
+use Rattle.std.specs.Prelude.{◌≡◌, ◌-◌, ◌^◌, ◌++◌, zero, suc, ℕ, Bool, true, false, List, [], ◌∷◌, Option, Some, None, length, take, drop, map, get_or, min, nat_lt, option_map, if◌then◌else◌}
 use Rattle.std.specs.List.{flat_map}
 use Rattle.hsms_ends.specs.declared.link.Got.{Got}
 use Rattle.hsms_ends.specs.declared.link.Got.TheVariants.{Octets, Quiet, Closed}

@@ -6,10 +6,7 @@ use Rattle.hsms_ends.proofs.output.log_all.Given as goal
 abbrev pub invariant-loop-place : goal.invariant-loop-place
 invariant-loop-place g l =
     (l.place ≤ length l.entries)
-    × LogsAll (Ok tt)
-    (g.W.Sink.state l.initial.log)
-    (g.W.Sink.state l.log)
-    (log_lines (take l.place l.entries))
+    × LogsAll (Ok tt) (g.W.Sink.state l.initial.log) (g.W.Sink.state l.log) (log_lines (take l.place l.entries))
 
 abbrev pub decreases-loop-place : goal.decreases-loop-place
 decreases-loop-place g l = length l.entries - l.place

@@ -1,6 +1,5 @@
-use Rattle.std.proofs.Common.{◌≡◌, ◌≤◌, ◌+◌, ◌++◌, [], ◌∷◌, List, length, take, drop, Ok, Err, sym, ap, ◌∙◌, arith}
-use Rattle.std.proofs.lemmas.List.{take_rest, take_all}
-use Rattle.hsms_machine.specs.declared.entry.Entry.{Entry}
+use Rattle.std.proofs.Common.{◌+◌, ◌++◌, [], ◌∷◌, take, drop, Ok, Err, sym, arith}
+use Rattle.std.proofs.lemmas.List.{take_rest}
 use Rattle.hsms_ends.specs.declared.output.Stop.TheVariants.{Link, Log}
 use Rattle.hsms_ends.specs.Link.{nothing_heard}
 use Rattle.hsms_frame.specs.Device.{SinkState}

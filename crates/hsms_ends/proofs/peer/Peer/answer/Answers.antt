@@ -1,4 +1,4 @@
-use Rattle.std.proofs.Common.{◌≡◌, ◌≢◌, ◌≤◌, ◌<◌, ◌++◌, ℕ, List, [], None, get_or, length, take, Vec, Global, refl, sym, ap, ◌∙◌, arith}
+use Rattle.std.proofs.Common.{◌≤◌, ◌<◌, ◌++◌, ℕ, None, length, take, Vec, Global, refl, sym, ap, ◌∙◌, arith}
 use Rattle.std.proofs.lemmas.List.{append-nil}
 use Rattle.hsms_ends.specs.Script.{PeerState, given_of, pass_over}
 use Rattle.hsms_ends.proofs.Peers.{given_next, given_more, answers_closed, answers_quiet, answers_octets}
