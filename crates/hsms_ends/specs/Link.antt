@@ -1,0 +1,98 @@
+-- What a link tells of its calls.
+use Rattle.std.specs.Prelude.{◌≡◌, ◌<◌, ◌≤◌, ◌+◌, ◌^◌, ◌++◌, ℕ, Bool, true, false, ◌||◌, List, [], ◌∷◌, length, take, Option, Some, Result, Ok, Err}
+use Rattle.hsms_frame.specs.Count.{next_count}
+use Rattle.hsms_frame.specs.Device.{WhereTold, Grows, Stays}
+use Rattle.hsms_ends.specs.declared.link.Got.{Got}
+use Rattle.hsms_ends.specs.declared.link.Got.TheVariants.{Octets, Quiet, Closed}
+use Rattle.hsms_ends.specs.declared.link.LinkFault.{LinkFault}
+
+-- what a link tells: the moments that `now` answered, the octets that `wait` gave and those that `send` took, each in
+-- order and where the link tells them; how many waits it answered; whether it answered one by Closed; how often it
+-- failed
+pub record Told : Type 0 where
+  pub moments : Option (List ℕ)
+  pub given : Option (List ℕ)
+  pub taken : Option (List ℕ)
+  pub waits : ℕ
+  pub closed : Bool
+  pub failures : ℕ
+
+-- what is heard of a link in a stretch of calls: the moments, the octets that it gave, how many waits it answered, and
+-- whether it answered one by Closed
+pub record Heard : Type 0 where
+  pub moments : List ℕ
+  pub given : List ℕ
+  pub waits : ℕ
+  pub closed : Bool
+
+-- these moments were answered since, where the link tells them now: it has told those before them too. A link may stop
+-- telling moments, so this doesn't begin with those before.
+abbrev pub Recalls : Option (List ℕ) → Option (List ℕ) → List ℕ → Type 0
+Recalls old new added = WhereTold new (λ after. (before : List ℕ) × (old ≡ Some before) × (after ≡ before ++ added))
+
+-- a stored count rose by k, unless it came to its greatest value
+abbrev pub RisesBy : ℕ → ℕ → ℕ → Type 0
+RisesBy old new k = old + k < 2 ^ 64 → new ≡ old + k
+
+-- this and nothing else was heard of the link
+pub record Hears (old new : Told) (heard : Heard) : Type 0 where
+  pub moments : Recalls old.moments new.moments heard.moments
+  pub given : Grows old.given new.given heard.given
+  pub waits : RisesBy old.waits new.waits heard.waits
+  pub closed : new.closed ≡ (old.closed || heard.closed)
+
+abbrev pub nothing_heard : Heard
+nothing_heard = record { moments = []; given = []; waits = 0; closed = false }
+
+abbrev pub moment_heard : ℕ → Heard
+moment_heard now = record { moments = now ∷ []; given = []; waits = 0; closed = false }
+
+abbrev pub octets_heard : List ℕ → Heard
+octets_heard octets = record { moments = []; given = octets; waits = 1; closed = false }
+
+abbrev pub quiet_heard : Heard
+quiet_heard = record { moments = []; given = []; waits = 1; closed = false }
+
+abbrev pub closed_heard : Heard
+closed_heard = record { moments = []; given = []; waits = 1; closed = true }
+
+-- what is heard in one stretch and then in another
+abbrev pub both : Heard → Heard → Heard
+both a b = record {
+  moments = a.moments ++ b.moments;
+  given = a.given ++ b.given;
+  waits = a.waits + b.waits;
+  closed = a.closed || b.closed;
+}
+
+-- what `now` leaves, where it answers this moment
+pub record Asks (old new : Told) (now : ℕ) : Type 0 where
+  pub heard : Hears old new (moment_heard now)
+  pub taken : Stays old.taken new.taken
+  pub failures : new.failures ≡ old.failures
+
+-- what is heard in an answer of `wait`, by what was read
+abbrev pub got_heard : List ℕ → Got → Heard
+got_heard into (Octets n) = octets_heard (take n into)
+got_heard into Quiet = quiet_heard
+got_heard into Closed = closed_heard
+
+-- some octets came, and no more than there was room for
+abbrev pub IsGot : List ℕ → Got → Type 0
+IsGot into (Octets n) = (0 < n) × (n ≤ length into)
+IsGot into Quiet = Unit {0}
+IsGot into Closed = Unit {0}
+
+-- what `wait` leaves, by its answer: one that fails has given nothing
+abbrev pub Waits : Told → Told → List ℕ → Result Got LinkFault → Type 0
+Waits old new into (Ok got) =
+    IsGot into got × Hears old new (got_heard into got) × Stays old.taken new.taken × (new.failures ≡ old.failures)
+Waits old new into (Err _) =
+    Hears old new nothing_heard × Stays old.taken new.taken × (new.failures ≡ next_count old.failures)
+
+-- what `send` leaves, by its answer: one that fails has taken nothing
+abbrev pub Sends : Told → Told → List ℕ → Result ℕ LinkFault → Type 0
+Sends old new octets (Ok n) =
+    Hears old new nothing_heard × Grows old.taken new.taken (take n octets) × (new.failures ≡ old.failures)
+Sends old new octets (Err _) =
+    Hears old new nothing_heard × Stays old.taken new.taken × (new.failures ≡ next_count old.failures)

@@ -1,0 +1,106 @@
+-- What of the entries of a call is put out: a line of the log for each, and the octets of each message that was sent.
+use Rattle.std.specs.Prelude.{◌≡◌, ◌≤◌, ◌<◌, ◌+◌, ◌^◌, ◌⊎◌, ◌++◌, ℕ, List, [], ◌∷◌, length, take, Option, Some, Result, Ok, Err, All}
+use Rattle.std.specs.List.{flat_map}
+use Rattle.hsms_frame.specs.Count.{next_count}
+use Rattle.hsms_frame.specs.Device.{SinkState, WhereTold, Grows, GrowsByFront}
+use Rattle.hsms_frame.specs.Frame.{frame_octets}
+use Rattle.hsms_machine.specs.declared.entry.Entry.{Entry}
+use Rattle.hsms_machine.specs.declared.entry.Event.{Event}
+use Rattle.hsms_machine.specs.declared.entry.Event.TheVariants.{Up, Sent, Taken, Discarded, T3, Cut, Down}
+use Rattle.hsms_log.specs.declared.writing.LogFault.{LogFault}
+use Rattle.hsms_log.specs.Spelling.{entry_line}
+use Rattle.hsms_ends.specs.declared.link.LinkFault.{LinkFault}
+use Rattle.hsms_ends.specs.declared.output.Stop.{Stop}
+use Rattle.hsms_ends.specs.declared.output.Stop.TheVariants.{Link, Log, Memory}
+use Rattle.hsms_ends.specs.declared.output.Put.{Put}
+use Rattle.hsms_ends.specs.declared.output.Put.TheVariants.{Whole, NoLink, NoLog}
+use Rattle.hsms_ends.specs.Link.{Told, Heard, Hears, nothing_heard}
+
+-- header and text of a message that is sent are no more than its length field counts (SEMI E37, section 8)
+abbrev pub FitsLengthField : Event → Type 0
+FitsLengthField Up = Unit {0}
+FitsLengthField (Sent frame) = 10 + length frame.text < 2 ^ 32
+FitsLengthField (Taken frame) = Unit {0}
+FitsLengthField (Discarded frame) = Unit {0}
+FitsLengthField (T3 system) = Unit {0}
+FitsLengthField (Cut cause) = Unit {0}
+FitsLengthField Down = Unit {0}
+
+abbrev pub AllFitLengthField : List Entry → Type 0
+AllFitLengthField entries = All (λ entry. FitsLengthField entry.event) entries
+
+-- the octets of the message that an entry says was sent
+abbrev pub sent_of : Event → List ℕ
+sent_of Up = []
+sent_of (Sent frame) = frame_octets frame
+sent_of (Taken frame) = []
+sent_of (Discarded frame) = []
+sent_of (T3 system) = []
+sent_of (Cut cause) = []
+sent_of Down = []
+
+-- the octets of the sent messages, in order
+abbrev pub sent_octets : List Entry → List ℕ
+sent_octets entries = flat_map (λ entry. sent_of entry.event) entries
+
+-- the lines of the entries, in order
+abbrev pub log_lines : List Entry → List ℕ
+log_lines entries = flat_map (λ entry. entry_line entry ++ 10 ∷ []) entries
+
+-- some octets from the front of these were added, or all
+abbrev pub GrowsByPart : Option (List ℕ) → Option (List ℕ) → List ℕ → Type 0
+GrowsByPart old new added = WhereTold old (λ octets. (n : ℕ) × (n ≤ length added) × (new ≡ Some (octets ++ take n added)))
+
+-- all octets were sent, or the link failed and some from their front were
+abbrev pub SendsAll : Told → Told → List ℕ → Result (Unit {0}) LinkFault → Type 0
+SendsAll old new octets (Ok _) =
+    Hears old new nothing_heard × Grows old.taken new.taken octets × (new.failures ≡ old.failures)
+SendsAll old new octets (Err _) =
+    Hears old new nothing_heard × GrowsByFront old.taken new.taken octets × (new.failures ≡ next_count old.failures)
+
+-- all octets are in the log, and it didn't fail
+abbrev pub LogGrows : SinkState → SinkState → List ℕ → Type 0
+LogGrows old new octets = Grows old.written new.written octets × (new.failures ≡ old.failures)
+
+-- the log failed, with some octets from the front of these in it
+abbrev pub LogFails : SinkState → SinkState → List ℕ → Type 0
+LogFails old new octets = GrowsByFront old.written new.written octets × (new.failures ≡ next_count old.failures)
+
+-- all octets were logged, or the log failed and some from their front were
+abbrev pub LogsAll : Result (Unit {0}) LogFault → SinkState → SinkState → List ℕ → Type 0
+LogsAll (Ok _) old new octets = LogGrows old new octets
+LogsAll (Err _) old new octets = LogFails old new octets
+
+-- what became of one entry, as the answer of a call
+abbrev pub stop_of : Put → Result (Unit {0}) Stop
+stop_of Whole = Ok tt
+stop_of NoLink = Err Link
+stop_of NoLog = Err Log
+
+-- after the link failed the rest was logged, or the log failed too
+abbrev pub RestLogged : Result (Unit {0}) Stop → SinkState → SinkState → List ℕ → Type 0
+RestLogged (Ok _) old new octets = ⊥
+RestLogged (Err Link) old new octets = LogGrows old new octets
+RestLogged (Err Log) old new octets = LogFails old new octets
+RestLogged (Err Memory) old new octets = ⊥
+
+-- what is in the log: all lines, unless the log failed
+abbrev pub Logged : Result (Unit {0}) Stop → SinkState → SinkState → List ℕ → Type 0
+Logged (Ok _) old new octets = LogGrows old new octets
+Logged (Err Link) old new octets = LogGrows old new octets
+Logged (Err Log) old new octets = LogFails old new octets
+Logged (Err Memory) old new octets = LogGrows old new octets
+
+-- what the link took: all that was sent, unless the link or the log failed
+abbrev pub Delivered : Result (Unit {0}) Stop → Told → Told → List ℕ → Type 0
+Delivered (Ok _) old new octets = Grows old.taken new.taken octets × (new.failures ≡ old.failures)
+Delivered (Err Link) old new octets = GrowsByPart old.taken new.taken octets × (new.failures ≡ next_count old.failures)
+Delivered (Err Log) old new octets =
+    GrowsByPart old.taken new.taken octets × ((new.failures ≡ old.failures) ⊎ (new.failures ≡ next_count old.failures))
+Delivered (Err Memory) old new octets = Grows old.taken new.taken octets × (new.failures ≡ old.failures)
+
+-- the entries were put out, as far as the answer says, and this was heard of the link
+pub record PutsOut (result : Result (Unit {0}) Stop) (log log' : SinkState) (link link' : Told) (entries : List Entry) (heard : Heard) : Type 0 where
+  pub logged : Logged result log log' (log_lines entries)
+  pub sent : Delivered result link link' (sent_octets entries)
+  pub hears : Hears link link' heard

@@ -1,0 +1,46 @@
+//! What a connection is served over.
+
+ghost use Rattle.std.specs.Prelude.{◌≡◌, ◌<◌, ◌≤◌, length, IfOk};
+ghost use Rattle.hsms_ends.specs.Link.{Told, Asks, Waits, Sends};
+
+use thiserror::Error;
+
+/// A link failed. What was wrong isn't told.
+#[derive(Clone, Copy, Debug, PartialEq, Eq, Error)]
+#[error("LinkFault")]
+pub struct LinkFault;
+
+/// What came of a wait.
+#[derive(Clone, Copy, Debug, PartialEq, Eq)]
+pub enum Got {
+    /// So many octets came from the peer: at least 1.
+    Octets(usize),
+    /// Nothing came in time.
+    Quiet,
+    /// The peer has closed the connection.
+    Closed,
+}
+
+/// A connection to a peer, and a clock. A wait that fails gives no octets, and a send that fails takes none.
+pub trait Link {
+    /// The moments that were answered, the octets that were given and those that were taken, where it tells them; how
+    /// many waits it answered, whether one by `Closed`, and how often it failed. Each count stays at its greatest
+    /// value.
+    ghost told: { Self → Told };
+
+    /// The moment now, in milliseconds from any beginning.
+    fn now(&mut self) -> u64
+        ensures { Asks (told self.old) (told self.new) result };
+
+    /// Waits for octets from the peer until a moment, or for as long as it takes, and reads some to the front of a
+    /// slice that isn't empty.
+    fn wait(&mut self, until: Option<u64>, into: &mut [u8]) -> Result<Got, LinkFault>
+        requires { 0 < length into.old }
+        ensures { Waits (told self.old) (told self.new) into.new result };
+
+    /// Sends some octets from the front of a slice, and says how many: at least 1 of a slice that isn't empty.
+    fn send(&mut self, octets: &[u8]) -> Result<usize, LinkFault>
+        ensures bound { IfOk result (λ n. n ≤ length octets.now) }
+        ensures some { IfOk result (λ n. 0 < length octets.now → 0 < n) }
+        ensures sent { Sends (told self.old) (told self.new) octets.now result };
+}

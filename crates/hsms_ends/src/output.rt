@@ -1,0 +1,105 @@
+//! Entries to the log and to the link.
+
+ghost use Rattle.std.specs.Prelude.{◌∷◌, []};
+ghost use Rattle.hsms_ends.specs.Link.{nothing_heard};
+ghost use Rattle.hsms_ends.specs.PutOut.{FitsLengthField, AllFitLengthField, SendsAll, PutsOut, LogsAll, RestLogged, log_lines, sent_of, stop_of};
+
+use crate::link::{Link, LinkFault};
+use crate::sending::send_frame;
+use hsms_frame::Sink;
+use hsms_log::{LogFault, write_entry};
+use hsms_machine::{Entry, Event};
+
+/// Why serving stops before its end.
+#[derive(Clone, Copy, Debug, PartialEq, Eq)]
+pub enum Stop {
+    /// The link failed.
+    Link,
+    /// A write to the log failed.
+    Log,
+    /// Memory is wanting.
+    Memory,
+}
+
+/// Puts out the entries of a call, in order: of each its line to the log and then, where it says that a message was
+/// sent, the octets of that to the link. Where the link fails nothing more is sent, and the rest is logged.
+pub fn put_out<L: Link, W: Sink>(link: &mut L, log: &mut W, entries: &[Entry]) -> Result<(), Stop>
+    requires { AllFitLengthField entries.now }
+    ensures { PutsOut result (W.state log.old) (W.state log.new) (L.told link.old) (L.told link.new)
+        entries.now nothing_heard }
+{
+    let mut place = 0;
+    while place < entries.len() {
+        match put_entry(link, log, &entries[place]) {
+            Put::Whole => place += 1,
+            Put::NoLink => return log_rest(log, &entries[place + 1..]),
+            Put::NoLog => return Err(Stop::Log),
+        }
+    }
+    Ok(())
+}
+
+/// What became of an entry that was put out.
+#[derive(Clone, Copy)]
+enum Put {
+    /// It was logged, and sent where it is to be.
+    Whole,
+    /// It was logged, and the link failed.
+    NoLink,
+    /// The log failed.
+    NoLog,
+}
+
+fn put_entry<L: Link, W: Sink>(link: &mut L, log: &mut W, entry: &Entry) -> Put
+    requires { FitsLengthField entry.now.event }
+    ensures { PutsOut (stop_of result) (W.state log.old) (W.state log.new) (L.told link.old) (L.told link.new)
+        (entry.now ∷ []) nothing_heard }
+{
+    match write_entry(log, entry) {
+        Ok(()) => match send_event(link, &entry.event) {
+            Ok(()) => Put::Whole,
+            Err(_) => Put::NoLink,
+        },
+        Err(_) => Put::NoLog,
+    }
+}
+
+/// Sends the message of an event that says one was sent, and of other events nothing.
+fn send_event<L: Link>(link: &mut L, event: &Event) -> Result<(), LinkFault>
+    requires { FitsLengthField event.now }
+    ensures { SendsAll (L.told link.old) (L.told link.new) (sent_of event.now) result }
+{
+    match event {
+        Event::Sent(frame) => send_frame(link, frame),
+        Event::Up => Ok(()),
+        Event::Taken(_) => Ok(()),
+        Event::Discarded(_) => Ok(()),
+        Event::T3(_) => Ok(()),
+        Event::Cut(_) => Ok(()),
+        Event::Down => Ok(()),
+    }
+}
+
+/// Logs the rest of a call's entries after the link failed, and says why serving stops.
+fn log_rest<W: Sink>(log: &mut W, entries: &[Entry]) -> Result<(), Stop>
+    ensures { RestLogged result (W.state log.old) (W.state log.new) (log_lines entries.now) }
+{
+    match log_all(log, entries) {
+        Ok(()) => Err(Stop::Link),
+        Err(_) => Err(Stop::Log),
+    }
+}
+
+/// Writes the lines of entries to the log alone.
+pub fn log_all<W: Sink>(log: &mut W, entries: &[Entry]) -> Result<(), LogFault>
+    ensures { LogsAll result (W.state log.old) (W.state log.new) (log_lines entries.now) }
+{
+    let mut place = 0;
+    while place < entries.len() {
+        match write_entry(log, &entries[place]) {
+            Ok(()) => place += 1,
+            Err(fault) => return Err(fault),
+        }
+    }
+    Ok(())
+}

@@ -1,0 +1,155 @@
+//! What the peer of a link in memory says.
+
+ghost use Rattle.std.specs.Prelude.{◌≡◌, ◌≢◌, ◌<◌, ◌≤◌, ◌+◌, ◌++◌, None, IfSome, length, take, drop, get_or, min, true, false};
+ghost use Rattle.hsms_ends.specs.Script.{given_of, left_of, pass_over, wait_octets};
+
+use crate::link::Got;
+use std::marker::Model;
+
+/// What a peer says, a wait after the other.
+#[derive(Drop)]
+pub struct Peer {
+    waits: Vec<Option<Vec<u8>>>,
+    /// The wait that is answered next, and how many of its octets were given.
+    place: usize,
+    within: usize,
+    has_closed: bool,
+}
+
+impl Model for Peer {
+    ghost use Rattle.std.specs.Prelude.{◌≤◌, length, get_or, vec_len, None};
+    ghost use Rattle.hsms_ends.specs.Script.{PeerState, given_of, left_of, wait_octets};
+
+    ghost Value = { PeerState };
+
+    ghost view = { λ p. record {
+      given = given_of (λ v. v.items) p.waits.items p.place p.within;
+      left = left_of (λ v. v.items) p.waits.items p.place p.within;
+      closed = p.has_closed;
+    } };
+
+    ghost invariant = { λ p. (p.place ≤ vec_len p.waits)
+        × (p.within ≤ length (wait_octets (λ v. v.items) (get_or p.waits.items p.place None))) };
+}
+
+impl Peer {
+    ghost use Rattle.std.specs.Prelude.{◌≡◌, ◌<◌, ◌++◌, ◌||◌, [], length, map, option_map, false};
+    ghost use Rattle.hsms_ends.specs.Link.{IsGot};
+    ghost use Rattle.hsms_ends.specs.Script.{Answers, pass_over, got_octets, is_closed};
+
+    /// A peer that has said nothing yet.
+    pub fn new(waits: Vec<Option<Vec<u8>>>) -> Peer
+        ensures { result
+            ≡ record { given = []; left = map (option_map (λ v. v.items)) waits.items; closed = false } }
+    {
+        Peer {
+            waits,
+            place: 0,
+            within: 0,
+            has_closed: false,
+        }
+    }
+
+    /// Answers a wait, with at most `piece` octets.
+    pub fn answer(&mut self, into: &mut [u8], piece: usize) -> Got
+        requires room { 0 < length into.old }
+        requires piece { 0 < piece }
+        ensures got { IsGot into.new result }
+        ensures given { self.new.given ≡ self.old.given ++ got_octets into.new result }
+        ensures closed { self.new.closed ≡ (self.old.closed || is_closed result) }
+        ensures answers { Answers (pass_over self.old.left) piece into.new result self.new.left }
+    {
+        let (place, within) = next_wait(&self.waits, self.place, self.within);
+        self.place = place;
+        self.within = within;
+        if place == self.waits.len() {
+            self.has_closed = true;
+            return Got::Closed;
+        }
+        match give(&self.waits, place, within, into, piece) {
+            Some(count) => {
+                self.within = within + count;
+                Got::Octets(count)
+            }
+            None => {
+                self.place = place + 1;
+                self.within = 0;
+                Got::Quiet
+            }
+        }
+    }
+}
+
+/// The wait that answers next, and how many of its octets were given: one whose octets are used up is passed over.
+fn next_wait(waits: &[Option<Vec<u8>>], place: usize, within: usize) -> (usize, usize)
+    requires place { place ≤ length waits.now }
+    requires within { within ≤ length (wait_octets (λ v. v.items) (get_or waits.now place None)) }
+    ensures given { given_of (λ v. v.items) waits.now result.0 result.1
+        ≡ given_of (λ v. v.items) waits.now place within }
+    ensures left { pass_over (left_of (λ v. v.items) waits.now result.0 result.1)
+        ≡ pass_over (left_of (λ v. v.items) waits.now place within) }
+    ensures place { result.0 ≤ length waits.now }
+    ensures within { result.1 ≤ length (wait_octets (λ v. v.items) (get_or waits.now result.0 None)) }
+    ensures some { result.0 < length waits.now → get_or waits.now result.0 None ≢ None
+        → result.1 < length (wait_octets (λ v. v.items) (get_or waits.now result.0 None)) }
+{
+    let mut place = place;
+    let mut within = within;
+    while place < waits.len() && is_used_up(&waits[place], within) {
+        place += 1;
+        within = 0;
+    }
+    (place, within)
+}
+
+/// Whether a wait gives octets, and this many are all.
+fn is_used_up(wait: &Option<Vec<u8>>, within: usize) -> bool
+    ensures some { result ≡ true → wait.now ≢ None }
+    ensures used { result ≡ true → within ≡ length (wait_octets (λ v. v.items) wait.now) }
+    ensures left { result ≡ false → wait.now ≢ None → within ≢ length (wait_octets (λ v. v.items) wait.now) }
+{
+    match wait {
+        Some(octets) => within == octets.len(),
+        None => false,
+    }
+}
+
+/// Gives octets of a wait, at most `piece` of those that are left, and says how many; None where nothing comes in it.
+fn give(
+    waits: &[Option<Vec<u8>>],
+    place: usize,
+    within: usize,
+    into: &mut [u8],
+    piece: usize,
+) -> Option<usize>
+    requires place { place < length waits.now }
+    requires piece { 0 < piece }
+    requires room { 0 < length into.old }
+    requires left { get_or waits.now place None ≢ None
+        → within < length (wait_octets (λ v. v.items) (get_or waits.now place None)) }
+    ensures none { result ≡ None → get_or waits.now place None ≡ None }
+    ensures there { IfSome result (λ n. get_or waits.now place None ≢ None) }
+    ensures some { IfSome result (λ n. (0 < n) × (n ≤ length into.new)) }
+    ensures within { IfSome result
+        (λ n. within + n ≤ length (wait_octets (λ v. v.items) (get_or waits.now place None))) }
+    ensures count { IfSome result (λ n. n ≡ min (min
+        (length (drop within (wait_octets (λ v. v.items) (get_or waits.now place None)))) (length into.new)) piece) }
+    ensures given { IfSome result (λ n. take n into.new
+        ≡ take n (drop within (wait_octets (λ v. v.items) (get_or waits.now place None)))) }
+{
+    match &waits[place] {
+        Some(octets) => Some(copy_front(&octets[within..], into, piece)),
+        None => None,
+    }
+}
+
+/// Copies what fits of the front of a slice, at most `piece` octets, and says how many.
+fn copy_front(from: &[u8], into: &mut [u8], piece: usize) -> usize
+    ensures count { result ≡ min (min (length from.now) (length into.old)) piece }
+    ensures front { take result into.new ≡ take result from.now }
+    ensures len { length into.new ≡ length into.old }
+{
+    let count = from.len().min(into.len()).min(piece);
+    into[..count].copy_from_slice(&from[..count]);
+    count
+}

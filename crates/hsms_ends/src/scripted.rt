@@ -1,0 +1,198 @@
+//! A link in memory that fails on purpose, for tests.
+
+ghost use Rattle.std.specs.Prelude.{◌≡◌};
+ghost use Rattle.hsms_ends.specs.Script.{moment_at};
+
+use crate::link::{Got, Link, LinkFault};
+use crate::peer::Peer;
+use hsms_frame::{Sink, Store};
+use std::marker::Model;
+
+/// A peer and a clock out of memory. `now` answers the moments in order, then the last again, and 0 where there is
+/// none. `wait` answers `Quiet` for a None, gives the octets of a Some, at most `piece` of them a call, passes over an
+/// empty Some, and answers `Closed` once the list is used up. `send` takes at most `piece` octets a call into the room.
+/// Each `wait` and each `send` past the first `fuse` of them fails, and each `send` into a full room, so a test can have
+/// a call fail wherever it likes.
+#[derive(Drop)]
+pub struct Scripted {
+    moments: Vec<u64>,
+    asked: u64,
+    peer: Peer,
+    room: Store,
+    piece: usize,
+    fuse: u64,
+    calls: u64,
+    waits: u64,
+    failures: u64,
+    until: Option<u64>,
+}
+
+impl Model for Scripted {
+    ghost use Rattle.std.specs.Prelude.{◌≡◌, ◌<◌, ◌≤◌, ◌^◌, ◌-◌};
+    ghost use Rattle.hsms_ends.specs.Script.{ScriptState};
+
+    ghost Value = { ScriptState };
+
+    ghost view = { λ s. record {
+      moments = s.moments.items;
+      asked = s.asked;
+      given = s.peer.given;
+      left = s.peer.left;
+      taken = s.room.written;
+      room = s.room.room;
+      piece = s.piece;
+      fuse = s.fuse;
+      calls = s.calls;
+      waits = s.waits;
+      closed = s.peer.closed;
+      failures = s.failures;
+      until = s.until;
+    } };
+
+    ghost invariant = { λ s. (0 < s.piece) × (s.room.piece ≡ s.piece) × (s.room.gives ≤ s.calls)
+        × (s.room.fuse ≡ 2 ^ 64 - 1) };
+}
+
+impl Scripted {
+    ghost use Rattle.std.specs.Prelude.{◌≡◌, ◌<◌, [], None, map, option_map, false};
+
+    /// A link of these moments, waits and room. `piece` is at least 1.
+    pub fn new(
+        moments: Vec<u64>,
+        waits: Vec<Option<Vec<u8>>>,
+        room: Vec<u8>,
+        piece: usize,
+        fuse: u64,
+    ) -> Scripted
+        requires { 0 < piece }
+        ensures { result ≡ record {
+          moments = moments.items;
+          asked = 0;
+          given = [];
+          left = map (option_map (λ v. v.items)) waits.items;
+          taken = [];
+          room = room.items;
+          piece = piece;
+          fuse = fuse;
+          calls = 0;
+          waits = 0;
+          closed = false;
+          failures = 0;
+          until = None;
+        } }
+    {
+        Scripted {
+            moments,
+            asked: 0,
+            peer: Peer::new(waits),
+            room: Store::new(room, piece, u64::MAX),
+            piece,
+            fuse,
+            calls: 0,
+            waits: 0,
+            failures: 0,
+            until: None,
+        }
+    }
+
+    /// The octets that were taken so far.
+    pub fn taken(&self) -> &[u8]
+        ensures { result.now ≡ self.now.taken }
+    {
+        self.room.written()
+    }
+
+    /// Until when the last `wait` was asked to wait.
+    pub fn until(&self) -> Option<u64>
+        ensures { result ≡ self.now.until }
+    {
+        self.until
+    }
+}
+
+impl Link for Scripted {
+    ghost use Rattle.std.specs.Prelude.{◌≡◌, ◌<◌, ◌≤◌, ◌⊎◌, ◌↔◌, length, min, take, drop, IsErr, IfOk, OnErr};
+    ghost use Rattle.hsms_frame.specs.Count.{next_count};
+    ghost use Rattle.hsms_ends.specs.Link.{Asks, Waits, Sends};
+    ghost use Rattle.hsms_ends.specs.Script.{told_of, moment_at, pass_over, Answers};
+
+    ghost told = { told_of };
+
+    fn now(&mut self) -> u64
+        ensures asks { Asks (told_of self.old) (told_of self.new) result }
+        // Beyond what each link ensures: which moment it is.
+        ensures moment { result ≡ moment_at self.old.moments self.old.asked }
+        ensures same { self.new ≡ record self.old { asked = next_count self.old.asked } }
+    {
+        let moment = moment_of(&self.moments, self.asked);
+        self.asked = self.asked.saturating_add(1);
+        moment
+    }
+
+    fn wait(&mut self, until: Option<u64>, into: &mut [u8]) -> Result<Got, LinkFault>
+        requires { 0 < length into.old }
+        ensures waits { Waits (told_of self.old) (told_of self.new) into.new result }
+        // Beyond what each link ensures: when it fails, and what it answers.
+        ensures fails { IsErr result ↔ (self.old.fuse ≤ self.old.calls) }
+        ensures answers { IfOk result
+            (λ got. Answers (pass_over self.old.left) self.old.piece into.new got self.new.left) }
+        ensures left { OnErr result (self.new.left ≡ self.old.left) }
+        ensures until { self.new.until ≡ until }
+        ensures same { (self.new.moments ≡ self.old.moments) × (self.new.asked ≡ self.old.asked)
+            × (self.new.room ≡ self.old.room) × (self.new.piece ≡ self.old.piece) × (self.new.fuse ≡ self.old.fuse)
+            × (self.new.calls ≡ next_count self.old.calls) }
+    {
+        self.until = until;
+        let is_spent = self.calls >= self.fuse;
+        self.calls = self.calls.saturating_add(1);
+        if is_spent {
+            self.failures = self.failures.saturating_add(1);
+            return Err(LinkFault);
+        }
+        self.waits = self.waits.saturating_add(1);
+        Ok(self.peer.answer(into, self.piece))
+    }
+
+    fn send(&mut self, octets: &[u8]) -> Result<usize, LinkFault>
+        ensures bound { IfOk result (λ n. n ≤ length octets.now) }
+        ensures some { IfOk result (λ n. 0 < length octets.now → 0 < n) }
+        ensures sent { Sends (told_of self.old) (told_of self.new) octets.now result }
+        // Beyond what each link ensures: when it fails, that it takes as much as it may, and which room is left.
+        ensures fails { IsErr result ↔ ((self.old.fuse ≤ self.old.calls) ⊎ (length self.old.room ≡ 0)) }
+        ensures count { IfOk result (λ n. n ≡ min (min (length octets.now) (length self.old.room)) self.old.piece) }
+        ensures room { IfOk result (λ n. self.new.room ≡ drop n self.old.room) }
+        ensures room_stays { OnErr result (self.new.room ≡ self.old.room) }
+        ensures same { (self.new.moments ≡ self.old.moments) × (self.new.asked ≡ self.old.asked)
+            × (self.new.left ≡ self.old.left) × (self.new.piece ≡ self.old.piece) × (self.new.fuse ≡ self.old.fuse)
+            × (self.new.calls ≡ next_count self.old.calls) × (self.new.until ≡ self.old.until) }
+    {
+        let is_spent = self.calls >= self.fuse;
+        self.calls = self.calls.saturating_add(1);
+        if is_spent {
+            self.failures = self.failures.saturating_add(1);
+            return Err(LinkFault);
+        }
+        match self.room.give(octets) {
+            Ok(count) => Ok(count),
+            Err(_) => {
+                self.failures = self.failures.saturating_add(1);
+                Err(LinkFault)
+            }
+        }
+    }
+}
+
+/// The moment that call k of `now` answers.
+fn moment_of(moments: &[u64], k: u64) -> u64
+    ensures { result ≡ moment_at moments.now k }
+{
+    if moments.is_empty() {
+        return 0;
+    }
+    let last = moments.len() - 1;
+    if k < last as u64 {
+        moments[k as usize]
+    } else {
+        moments[last]
+    }
+}
