@@ -29,11 +29,11 @@ use Rattle.hsms_end.specs.Drive.{Responds, is_refused, is_accepted, Drives, octe
 
 -- ---- what acts receive
 
-abbrev receipt : Act → List ℕ
+abbrev pub receipt : Act → List ℕ
 receipt (logs event) = octets_in event
 receipt (asks frame) = []
 
-abbrev receipts : List Act → List ℕ
+abbrev pub receipts : List Act → List ℕ
 receipts [] = []
 receipts (act ∷ acts) = receipt act ++ receipts acts
 
@@ -110,11 +110,11 @@ discarded_none settings selected header rule.SystemInUse = refl
 discarded_none settings selected header rule.SelectStatus = refl
 discarded_none settings selected header rule.NoCause = refl
 
-reaction_none : (settings : Parameters) (selected : Bool) (header : Header) (broken : Option Rule) (answer : Answered) → receipts (reaction settings selected header broken answer) ≡ []
+pub reaction_none : (settings : Parameters) (selected : Bool) (header : Header) (broken : Option Rule) (answer : Answered) → receipts (reaction settings selected header broken answer) ≡ []
 reaction_none settings selected header None answer = taken_none settings selected (kind_of header) header answer
 reaction_none settings selected header (Some broken) answer = discarded_none settings selected header broken
 
-opening_none : (link : Side) → receipts (opening_of link) ≡ []
+pub opening_none : (link : Side) → receipts (opening_of link) ≡ []
 opening_none Active = refl
 opening_none Passive = refl
 
@@ -130,12 +130,12 @@ after_none : (settings : Parameters) (xs : List Transaction) (cause : Option Cau
 after_none settings xs (Some cause) = refl
 after_none settings xs None = none_if (is_equipment settings.role) (map (expiry_warning settings) xs) (warnings_none settings xs)
 
-expiries_none : (end : Known) → receipts (expiries end) ≡ []
+pub expiries_none : (end : Known) → receipts (expiries end) ≡ []
 expiries_none end =
     none_append (map expiry (expired_at end.view end.moment)) (after_expiries end.settings (expired_at end.view end.moment) (overdue_cause end))
     (expired_none (expired_at end.view end.moment)) (after_none end.settings (expired_at end.view end.moment) (overdue_cause end))
 
-too_long_none : (end : Known) (header : Header) → receipts (warns_too_long end header ++ cut_by Length) ≡ []
+pub too_long_none : (end : Known) (header : Header) → receipts (warns_too_long end header ++ cut_by Length) ≡ []
 too_long_none end header =
     none_append (warns_too_long end header) (cut_by Length)
     (none_if (is_selected end.view.phase && (header.stype == 0) && (header.ptype == 0) && (header.session == end.settings.device)) (warns end.settings 11 header) (warns_none end.settings 11 header)) refl

@@ -3,3 +3,13 @@ pub mod Sendings
 pub mod Puttings
 pub mod Peers
 pub mod Scripts
+pub mod Yielding
+pub mod TurnLists
+pub mod Turning
+pub mod Along
+pub mod Readiness
+pub mod Running
+pub mod Downs
+pub mod Ending
+pub mod Sizes
+pub mod Passing

@@ -1,0 +1,206 @@
+-- The log of a served connection is the text of a run.
+use Rattle.std.proofs.Common.{◌≡◌, ◌≤◌, ◌<◌, ◌+◌, ◌*◌, ◌++◌, ◌^◌, ℕ, List, [], ◌∷◌, length, get_or, Some, None, Ok, Err, true, false, refl, sym, ap, ◌∙◌, subst, arith, append_assoc, length-append}
+use Rattle.std.specs.Prelude.{Result, All, codes, decimal}
+use Rattle.std.proofs.lemmas.Fmt.{length-decimal-le}
+use Rattle.std.proofs.lemmas.List.Elements.{All-append, All-nil, All-from_get_or}
+use Rattle.hex.specs.Hex.{encode_lower, lower_digits}
+use Rattle.hex.proofs.HexLemmas.{length-encode_with}
+use Rattle.secs_text.specs.Content.{Content}
+use Rattle.hsms_frame.specs.declared.frame.Frame.{Frame}
+use Rattle.hsms_frame.specs.Header.{header_octets}
+use Rattle.hsms_frame.specs.Device.{SinkState}
+use Rattle.hsms_machine.specs.declared.entry.Entry.{Entry}
+use Rattle.hsms_machine.specs.declared.entry.Cause.TheVariants.{T6, T7, T8, Length}
+use Rattle.hsms_machine.specs.declared.entry.Event.{Event}
+use Rattle.hsms_machine.specs.declared.entry.Event.TheVariants.{Up, Sent, Taken, Discarded, T3, Cut, Down}
+use Rattle.hsms_machine.specs.declared.view.View.{View}
+use Rattle.hsms_machine.specs.Settings.{Parameters, IsWithinLimits}
+use Rattle.hsms_machine.specs.Run.{IsRun}
+use Rattle.hsms_machine.specs.View.{HasView}
+use Rattle.hsms_machine.proofs.Runs.{empty_run}
+use Rattle.hsms_log.specs.declared.verdict.Verdict.TheVariants.{Pass}
+use Rattle.hsms_log.specs.Spelling.{IsEntry, entry_line, event_text, line_limit, message_octets, system_octets, settings_line}
+use Rattle.hsms_log.specs.Log.{LogText, written_log}
+use Rattle.hsms_log.specs.Verdict.{Judges, summary_of}
+use Rattle.hsms_log.proofs.WrittenLog.{log_written}
+use Rattle.hsms_end.specs.Answer.{Answered}
+use Rattle.hsms_end.specs.Known.{EndOf, untold}
+use Rattle.hsms_end.specs.Turn.{Told as Input}
+use Rattle.hsms_end.specs.End.{Accepts}
+use Rattle.hsms_ends.specs.declared.step.Step.{Step}
+use Rattle.hsms_ends.specs.declared.serving.Served.{Served}
+use Rattle.hsms_ends.specs.declared.serving.ServeFault.{ServeFault}
+use Rattle.hsms_ends.specs.declared.serving.ServeFault.TheVariants as serve
+use Rattle.hsms_ends.specs.Link.{Told}
+use Rattle.hsms_ends.specs.PutOut.{LogGrows, LogFails, log_lines}
+use Rattle.hsms_ends.specs.Turning.{has_gone}
+use Rattle.hsms_ends.specs.Serving.{Story, Unopened, IsStory, entries_of, ends_down, Answers, LogHolds, is_log_fault, Serves}
+use Rattle.hsms_ends.specs.Outcome.{AnswersEnd, ServesEnd}
+use Rattle.hsms_ends.specs.Laws.{ServedLogPasses}
+use Rattle.hsms_ends.proofs.Along.{along_story}
+use Rattle.hsms_ends.proofs.Downs.{gone_of_view}
+use Rattle.hsms_ends.proofs.Ending.{holds_then}
+use Rattle.hsms_ends.proofs.Hearing.{grows_none, hears_nothing}
+use Rattle.hsms_ends.proofs.Puttings.{part_of_all}
+use Rattle.hsms_ends.proofs.Readiness.{IsSized, run_sized}
+use Rattle.hsms_ends.proofs.Sizes.{IsDiscardSized, turn_kept}
+
+-- ---- lengths of lines
+
+message_length : (frame : Frame) → length (message_octets frame) ≡ 10 + length frame.text
+unfolding message_octets
+message_length frame = length-append (header_octets frame.header) frame.text
+
+system_length : (system : ℕ) → length (system_octets system) ≡ 4
+unfolding system_octets
+system_length system = refl
+
+hex_fits : (most : ℕ) (frame : Frame) → 10 + length frame.text ≤ most → length (encode_lower (message_octets frame)) ≤ 2 * most
+hex_fits most frame sized = omega (arith, length-encode_with lower_digits (message_octets frame), message_length frame, sized)
+
+-- a mark, and a message
+marked : (mark : List ℕ) (most : ℕ) (frame : Frame) → length mark ≡ 2 → 10 + length frame.text ≤ most → length (mark ++ encode_lower (message_octets frame)) ≤ 2 * most + 20
+marked mark most frame two sized = omega (arith, length-append mark (encode_lower (message_octets frame)), two, hex_fits most frame sized)
+
+system_fits : (most system : ℕ) (mark : List ℕ) → length mark ≡ 3 → length (mark ++ encode_lower (system_octets system)) ≤ 2 * most + 20
+system_fits most system mark three =
+    omega (arith, length-append mark (encode_lower (system_octets system)), three, length-encode_with lower_digits (system_octets system), system_length system)
+
+short : (most size : ℕ) (text : List ℕ) → length text ≡ size → size ≤ 20 → length text ≤ 2 * most + 20
+short most size text is small = omega (arith, is, small)
+
+-- what is written of an event
+event_fits : (most : ℕ) (event : Event) → IsSized most event → IsDiscardSized most event → length (event_text event) ≤ 2 * most + 20
+event_fits most Up sized discard = short most 2 (codes "up") refl (omega arith)
+event_fits most (Sent frame) sized discard = marked (codes "> ") most frame refl sized
+event_fits most (Taken frame) sized discard = marked (codes "< ") most frame refl sized
+event_fits most (Discarded frame) sized discard = marked (codes "! ") most frame refl discard
+event_fits most (T3 system) sized discard = system_fits most system (codes "t3 ") refl
+event_fits most (Cut T6) sized discard = short most 6 (codes "cut " ++ codes "t6") refl (omega arith)
+event_fits most (Cut T7) sized discard = short most 6 (codes "cut " ++ codes "t7") refl (omega arith)
+event_fits most (Cut T8) sized discard = short most 6 (codes "cut " ++ codes "t8") refl (omega arith)
+event_fits most (Cut Length) sized discard = short most 10 (codes "cut " ++ codes "length") refl (omega arith)
+event_fits most Down sized discard = short most 4 (codes "down") refl (omega arith)
+
+line_fits : (most : ℕ) (entry : Entry) → entry.time < 2 ^ 64 → length (event_text entry.event) ≤ 2 * most + 20 → length (entry_line entry) ≤ line_limit most
+unfolding entry_line
+line_fits most entry time h =
+    let number : length (decimal entry.time) ≤ 20 = length-decimal-le 20 entry.time (omega arith) (omega (arith, time)) time in
+    omega (arith, number, h, length-append (decimal entry.time) (32 ∷ event_text entry.event))
+
+-- ---- a run is written as its text
+
+pub text_of_run : (s : Parameters) (log : List Entry) → IsWithinLimits s → IsRun s log → All (λ (entry : Entry). IsDiscardSized s.max entry.event) log → All IsEntry log
+    → LogText (written_log s log) s log
+text_of_run s log within run discards range =
+    let sized : All (λ (entry : Entry). IsSized s.max entry.event) log =
+    All-from_get_or (λ (entry : Entry). IsSized s.max entry.event) log (record { time = 0; event = Up }) (run_sized s log run) in
+    log_written s log within
+    (λ k d lt. (range k d lt, line_fits s.max (get_or log k d) (range k d lt).time (event_fits s.max (get_or log k d).event (sized k d lt) (discards k d lt))))
+
+-- ---- the end that a story leads to
+
+-- the entries so far are a run with the end's view, and what was discarded is within the limit
+pub record IsReached {D : Type 0} (s : Parameters) (before : List Entry) (end : EndOf D) : Type 0 where
+  pub seen : HasView s before end.known.view
+  pub settings : end.known.settings ≡ s
+  pub sized : All (λ (entry : Entry). IsDiscardSized s.max entry.event) before
+
+module _ {D : Type 0} (answers : D → Content → Answered) where
+  reached_next : (s : Parameters) (before : List Entry) (end : EndOf D) (input : Input) (entries : List Entry) (end' : EndOf D)
+      → IsReached s before end → Accepts answers end input entries end' → IsReached s (before ++ entries) end'
+  reached_next s before end input entries end' p h =
+      let same : s ≡ end.known.view.settings = ap (λ (v : View). v.settings) p.seen.seen in
+      let P : Parameters → Type 0 = λ x. HasView x before end.known.view in
+      let Q : Parameters → Type 0 = λ x. HasView x (before ++ entries) end'.known.view in
+      let R : Parameters → Type 0 = λ x. All (λ (entry : Entry). IsDiscardSized x.max entry.event) entries in
+      let kept = turn_kept (answers end.desk) end.known input entries end'.known h.turn in
+      record {
+        seen = subst Q (sym same) (h.run before (subst P same p.seen));
+        settings = kept.settings ∙ p.settings;
+        sized = All-append (λ (entry : Entry). IsDiscardSized s.max entry.event) before entries p.sized (subst R p.settings kept.sized);
+      }
+
+  reached_new : (desk : D) (s : Parameters) (first_system : ℕ) → IsReached s [] (record { desk = desk; known = untold s first_system })
+  reached_new desk s first_system =
+      record { seen = record { run = empty_run s; seen = refl }; settings = refl; sized = All-nil (λ (entry : Entry). IsDiscardSized s.max entry.event) }
+
+  reached : (desk : D) (s : Parameters) (first_system : ℕ) (script : List Step) (story : Story) (last : EndOf D)
+      → IsStory answers (record { desk = desk; known = untold s first_system }) script story last → IsReached s (entries_of story) last
+  reached desk s first_system script story last is =
+      let P : List Entry → EndOf D → Type 0 = λ before end. IsReached s before end in
+      along_story answers P (λ before end input entries end' p h. reached_next s before end input entries end' p h)
+      (record { desk = desk; known = untold s first_system }) script story last (reached_new desk s first_system) is
+
+  answers_by : (limit : ℕ) (result : Result Served ServeFault) (story : Story) (last : EndOf D) → has_gone last ≡ ends_down (entries_of story) → AnswersEnd limit result story last → Answers limit result story
+  answers_by limit (Ok served) story last same h = (h.0, sym same ∙ h.1, h.2, h.3)
+  answers_by limit (Err serve.Turns) story last same h = (h.0, h.1, sym same ∙ h.2)
+  answers_by limit (Err serve.Link) story last same h = (h.0, sym same ∙ h.1)
+  answers_by limit (Err serve.Log) story last same h = tt
+  answers_by limit (Err serve.Memory) story last same h = tt
+
+  -- the settings' line was written
+  pub opened : (desk : D) (s : Parameters) (first_system : ℕ) (script : List Step) (limit : ℕ) (result : Result Served ServeFault) (log mid log' : SinkState) (link link' : Told)
+      → IsWithinLimits s → LogGrows log mid (settings_line s ++ 10 ∷ [])
+      → ServesEnd answers (record { desk = desk; known = untold s first_system }) script limit result mid log' link link'
+      → Serves answers (record { desk = desk; known = untold s first_system }) script limit result log log' link link'
+  opened desk s first_system script limit result log mid log' link link' within grows r =
+      let there = reached desk s first_system script r.story r.last r.is_story in
+      let H : List ℕ → Type 0 = λ l. LogHolds result log log' l in
+      record {
+        story = r.story;
+        last = r.last;
+        is_story = r.is_story;
+        bound = r.bound;
+        run = there.seen.run;
+        text = text_of_run s (entries_of r.story) within there.seen.run there.sized r.in_range;
+        log_holds = subst H (append_assoc (settings_line s) (10 ∷ []) (log_lines (entries_of r.story)))
+            (holds_then result log mid log' (settings_line s ++ 10 ∷ []) (log_lines (entries_of r.story)) grows r.log_holds);
+        answer = answers_by limit result r.story r.last (gone_of_view s (entries_of r.story) r.last.known.view there.seen) r.answer;
+        hears = r.hears;
+        failed = r.failed;
+        took = r.took;
+        failures = r.failures;
+        failed_is = r.failed_is;
+        lost_is = r.lost_is;
+      }
+
+  -- the settings' line was refused
+  pub unopened : (desk : D) (s : Parameters) (first_system : ℕ) (script : List Step) (limit : ℕ) (log log' : SinkState) (link : Told)
+      → IsWithinLimits s → LogFails log log' (settings_line s ++ 10 ∷ [])
+      → Serves answers (record { desk = desk; known = untold s first_system }) script limit (Err serve.Log) log log' link link
+  unopened desk s first_system script limit log log' link within fails = record {
+    story = Unopened;
+    last = record { desk = desk; known = untold s first_system };
+    is_story = refl;
+    bound = omega arith;
+    run = empty_run s;
+    text = text_of_run s [] within (empty_run s) (All-nil (λ (entry : Entry). IsDiscardSized s.max entry.event)) (All-nil IsEntry);
+    log_holds = fails;
+    answer = tt;
+    hears = hears_nothing link;
+    failed = false;
+    took = part_of_all link.taken link.taken [] (grows_none link.taken);
+    failures = refl;
+    failed_is = tt;
+    lost_is = λ h. absurd (let e : false ≡ true = h in cc);
+  }
+
+  -- ---- the audit passes it
+
+  grown : (result : Result Served ServeFault) (log log' : SinkState) (text : List ℕ) → is_log_fault result ≡ false → LogHolds result log log' text → LogGrows log log' text
+  grown (Ok served) log log' text fine h = h
+  grown (Err serve.Turns) log log' text fine h = h
+  grown (Err serve.Link) log log' text fine h = h
+  grown (Err serve.Log) log log' text fine h = absurd (let e : true ≡ false = fine in cc)
+  grown (Err serve.Memory) log log' text fine h = h
+
+  pub served_passes : ServedLogPasses answers
+  served_passes new script limit result log log' link link' r fine empty =
+      let s = new.known.settings in
+      let entries = entries_of r.story in
+      let text = written_log s entries in (
+        text,
+        (grown result log log' text fine r.log_holds).0 [] empty,
+        (s, entries, record { spelled = r.text; run = r.run }, refl),
+      )

@@ -1,0 +1,118 @@
+-- The start, and the turns after it.
+use Rattle.std.proofs.Common.{◌≡◌, ◌≤◌, ◌+◌, ◌++◌, ◌^◌, ◌-◌, min, ℕ, List, [], ◌∷◌, length, drop, Some, None, Ok, Err, true, false, inl, inr, refl, sym, ap, ◌∙◌, subst, arith}
+use Rattle.std.specs.Prelude.{Option, Result}
+use Rattle.std.proofs.lemmas.List.{append-nil}
+use Rattle.secs_text.specs.Content.{Content}
+use Rattle.hsms_frame.specs.Device.{SinkState}
+use Rattle.hsms_machine.specs.declared.entry.Entry.{Entry}
+use Rattle.hsms_end.specs.Answer.{Answered}
+use Rattle.hsms_end.specs.Known.{EndOf}
+use Rattle.hsms_end.specs.Turn.{start}
+use Rattle.hsms_end.specs.End.{Accepts}
+use Rattle.hsms_ends.specs.declared.step.Step.{Step}
+use Rattle.hsms_ends.specs.declared.output.Stop.{Stop}
+use Rattle.hsms_ends.specs.declared.output.Stop.TheVariants.{Link, Log, Memory}
+use Rattle.hsms_ends.specs.Link.{Told, both, moment_heard}
+use Rattle.hsms_ends.specs.Turning.{Turn, AreTurns, entries_turns, heard_turns}
+use Rattle.hsms_ends.specs.Serving.{count_after, entries_cut, heard_cut, Unstarted, Started, IsCutTurn, entries_of, heard_of, refused_of}
+use Rattle.hsms_ends.specs.Outcome.{is_cut, Counts, Handed, IsCut, TurnsTaken, StartedBy, Ran}
+use Rattle.hsms_ends.proofs.Yielding.{counts_none, yields_then, yields_along}
+
+started_by : (r : Result (Unit {0}) Stop) (now : ℕ) (entries : List Entry) (turns : List Turn) (cut : Option Turn) → StartedBy r (Started now entries turns cut None)
+started_by (Ok _) now entries turns cut = tt
+started_by (Err Link) now entries turns cut = tt
+started_by (Err Log) now entries turns cut = tt
+started_by (Err Memory) now entries turns cut = tt
+
+stored : (a b k : ℕ) → a ≡ 0 → Counts a b k → b ≡ count_after 0 k
+stored a b k none h =
+    let e : b ≡ min (a + k) (2 ^ 64 - 1) = h (omega (arith, none)) in
+    omega (arith, e, none)
+
+module _ {D : Type 0} (answers : D → Content → Answered) where
+  is_cut_turn : (r : Result (Unit {0}) Stop) (end late : EndOf D) (script script' : List Step) (cut : Option Turn) → IsCut answers r end script cut late script' → IsCutTurn answers end script cut late
+  is_cut_turn r end late script script' None h = h.0
+  is_cut_turn r end late script script' (Some turn) h = (script', h.1)
+
+  cut_is_none : (r : Result (Unit {0}) Stop) (end late : EndOf D) (script script' : List Step) (cut : Option Turn) → IsCut answers r end script cut late script' → is_cut r ≡ false → cut ≡ None
+  cut_is_none r end late script script' None h whole = refl
+  cut_is_none r end late script script' (Some turn) h whole = absurd (let e : true ≡ false = sym h.0 ∙ whole in cc)
+
+  pub ran_turns : (r : Result (Unit {0}) Stop) (now limit : ℕ) (new begun end : EndOf D) (script : List Step) (i j : ℕ) (log between log' : SinkState) (link midway link' : Told) (n m n' refused refused' : ℕ)
+      → i ≡ 0 → n ≡ 0 → refused ≡ 0
+      → Handed answers (Ok tt) new (start now) begun log between link midway (moment_heard now) n m
+      → TurnsTaken answers r limit begun end (drop i script) (drop j script) between log' midway link' m n' refused refused'
+      → Ran answers r limit new end script log log' link link' n' refused'
+  ran_turns r now limit new begun end script i j log between log' link midway link' n m n' refused refused' at_first none none_refused h t =
+      let front : drop i script ≡ script = ap (λ k. drop k script) at_first in
+      let P : EndOf D → Type 0 = λ e. AreTurns answers e (drop i script) t.turns t.mid t.left in
+      let Q : List Step → Type 0 = λ l. AreTurns answers h.end' l t.turns t.mid t.left in
+      let story = Started now h.entries t.turns t.cut None in
+      let all = yields_then r log between log' link midway link' n m n' h.entries (entries_turns t.turns ++ entries_cut t.cut) (moment_heard now) (both (heard_turns t.turns) (heard_cut t.cut)) h.yields t.yields in
+      let same : h.entries ++ (entries_turns t.turns ++ entries_cut t.cut) ≡ entries_of story = ap (λ l. h.entries ++ (entries_turns t.turns ++ l)) (sym (append-nil (entries_cut t.cut))) in
+      let told = yields_along r log log' link link' n n' (h.entries ++ (entries_turns t.turns ++ entries_cut t.cut)) (entries_of story) (heard_of story) same all in
+      record {
+        story = story;
+        end' = t.end';
+        is_story = (h.end', t.mid, t.left, t.end', h.takes, subst Q front (subst P h.leads t.are_turns), is_cut_turn r t.mid t.end' t.left (drop j script) t.cut t.is_last, refl);
+        bound = t.bound;
+        whole = λ uncut. (cut_is_none r t.mid t.end' t.left (drop j script) t.cut t.is_last uncut, refl);
+        enough = t.enough;
+        not_lost = refl;
+        started = started_by r now h.entries t.turns t.cut;
+        leads = t.leads;
+        puts = told.puts;
+        in_range = told.in_range;
+        counted = stored n n' (length (entries_of story)) none told.counted;
+        refusals = stored refused refused' (refused_of story) none_refused t.refusals;
+      }
+
+  ran_started : (stop : Stop) (now limit : ℕ) (new begun : EndOf D) (script : List Step) (log log' : SinkState) (link link' : Told) (n n' refused : ℕ)
+      → n ≡ 0 → refused ≡ 0 → (h : Handed answers (Err stop) new (start now) begun log log' link link' (moment_heard now) n n') → Accepts answers new (start now) h.entries h.end'
+      → Ran answers (Err stop) limit new begun script log log' link link' n' refused
+  ran_started stop now limit new begun script log log' link link' n n' refused none none_refused h turns =
+      let story = Started now h.entries [] None None in
+      let same : h.entries ≡ entries_of story = sym (append-nil h.entries) in
+      let told = yields_along (Err stop) log log' link link' n n' h.entries (entries_of story) (heard_of story) same h.yields in
+      record {
+        story = story;
+        end' = h.end';
+        is_story = (h.end', h.end', script, h.end', turns, (refl, refl), refl, refl);
+        bound = omega arith;
+        whole = λ uncut. absurd (cc);
+        enough = λ uncut. absurd (cc);
+        not_lost = refl;
+        started = started_by (Err stop) now h.entries [] None;
+        leads = h.leads;
+        puts = told.puts;
+        in_range = told.in_range;
+        counted = stored n n' (length (entries_of story)) none told.counted;
+        refusals = stored refused refused 0 none_refused (counts_none refused);
+      }
+
+  pub ran_cut : (stop : Stop) (now limit : ℕ) (new begun : EndOf D) (script : List Step) (log log' : SinkState) (link link' : Told) (n n' refused : ℕ)
+      → n ≡ 0 → refused ≡ 0 → Handed answers (Err stop) new (start now) begun log log' link link' (moment_heard now) n n'
+      → Ran answers (Err stop) limit new begun script log log' link link' n' refused
+  ran_cut Link now limit new begun script log log' link link' n n' refused none none_refused h = ran_started Link now limit new begun script log log' link link' n n' refused none none_refused h h.takes
+  ran_cut Log now limit new begun script log log' link link' n n' refused none none_refused h = ran_started Log now limit new begun script log log' link link' n n' refused none none_refused h h.takes
+  ran_cut Memory now limit new begun script log log' link link' n n' refused none none_refused h =
+      elim h.takes [
+        | inl turns ↦ ran_started Memory now limit new begun script log log' link link' n n' refused none none_refused h turns
+        | inr left ↦
+            let told = yields_along (Err Memory) log log' link link' n n' h.entries [] (moment_heard now) left.0 h.yields in
+            record {
+              story = Unstarted now;
+              end' = new;
+              is_story = refl;
+              bound = omega arith;
+              whole = λ uncut. absurd (cc);
+              enough = λ uncut. absurd (cc);
+              not_lost = refl;
+              started = tt;
+              leads = tt;
+              puts = told.puts;
+              in_range = told.in_range;
+              counted = stored n n' 0 none told.counted;
+              refusals = stored refused refused 0 none_refused (counts_none refused);
+            }
+      ]

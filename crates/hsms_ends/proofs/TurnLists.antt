@@ -1,0 +1,61 @@
+-- Turns in a row.
+use Rattle.std.proofs.Common.{◌≡◌, ◌+◌, ◌++◌, ℕ, List, [], ◌∷◌, length, true, false, refl, sym, ap, ◌∙◌, subst, arith, append_assoc, zero-add, add_assoc, length-append, ◌<◌, drop, get_or, add-one, drop-cons}
+use Rattle.std.specs.Prelude.{Bool, ◌||◌}
+use Rattle.std.proofs.lemmas.List.{append-nil}
+use Rattle.secs_text.specs.Content.{Content}
+use Rattle.hsms_machine.specs.declared.entry.Entry.{Entry}
+use Rattle.hsms_end.specs.Answer.{Answered}
+use Rattle.hsms_end.specs.Known.{EndOf}
+use Rattle.hsms_ends.specs.declared.step.Step.{Step}
+use Rattle.hsms_ends.specs.declared.step.Step.TheVariants.{Separate}
+use Rattle.hsms_ends.specs.Link.{Heard, both, nothing_heard}
+use Rattle.hsms_ends.specs.Turning.{is_idle, is_step_due, Turn, IsTurn, AreTurns, entries_turn, entries_turns, heard_turn, heard_turns, refused_turn, refused_turns}
+use Rattle.hsms_ends.proofs.Hearing.{both_nothing}
+
+or_assoc : (a b c : Bool) → ((a || b) || c) ≡ (a || (b || c))
+or_assoc true b c = refl
+or_assoc false b c = refl
+
+pub both_assoc : (a b c : Heard) → both (both a b) c ≡ both a (both b c)
+both_assoc a b c =
+    let m : List ℕ → List ℕ → ℕ → Bool → Heard = λ x y w d. record { moments = x; given = y; waits = w; closed = d } in
+    ap (λ x. m x ((a.given ++ b.given) ++ c.given) ((a.waits + b.waits) + c.waits) ((a.closed || b.closed) || c.closed)) (append_assoc a.moments b.moments c.moments)
+    ∙ ap (λ y. m (a.moments ++ (b.moments ++ c.moments)) y ((a.waits + b.waits) + c.waits) ((a.closed || b.closed) || c.closed)) (append_assoc a.given b.given c.given)
+    ∙ ap (λ w. m (a.moments ++ (b.moments ++ c.moments)) (a.given ++ (b.given ++ c.given)) w ((a.closed || b.closed) || c.closed)) (add_assoc a.waits b.waits c.waits)
+    ∙ ap (λ d. m (a.moments ++ (b.moments ++ c.moments)) (a.given ++ (b.given ++ c.given)) (a.waits + (b.waits + c.waits)) d) (or_assoc a.closed b.closed c.closed)
+
+pub nothing_both : (a : Heard) → both nothing_heard a ≡ a
+nothing_both a =
+    let m : ℕ → Heard = λ w. record { moments = a.moments; given = a.given; waits = w; closed = a.closed } in
+    ap m (zero-add a.waits)
+
+pub heard_snoc : (turns : List Turn) (turn : Turn) → heard_turns (turns ++ turn ∷ []) ≡ both (heard_turns turns) (heard_turn turn)
+heard_snoc [] turn = both_nothing (heard_turn turn) ∙ sym (nothing_both (heard_turn turn))
+heard_snoc (x ∷ turns) turn = ap (λ h. both (heard_turn x) h) (heard_snoc turns turn) ∙ sym (both_assoc (heard_turn x) (heard_turns turns) (heard_turn turn))
+
+pub entries_snoc : (turns : List Turn) (turn : Turn) → entries_turns (turns ++ turn ∷ []) ≡ entries_turns turns ++ entries_turn turn
+entries_snoc [] turn = append-nil (entries_turn turn)
+entries_snoc (x ∷ turns) turn = ap (λ l. entries_turn x ++ l) (entries_snoc turns turn) ∙ sym (append_assoc (entries_turn x) (entries_turns turns) (entries_turn turn))
+
+pub refused_snoc : (turns : List Turn) (turn : Turn) → refused_turns (turns ++ turn ∷ []) ≡ refused_turns turns + refused_turn turn
+refused_snoc [] turn = omega arith
+refused_snoc (x ∷ turns) turn = omega (arith, refused_snoc turns turn)
+
+pub length_snoc : (turns : List Turn) (turn : Turn) → length (turns ++ turn ∷ []) ≡ length turns + 1
+length_snoc turns turn = length-append turns (turn ∷ [])
+
+pub drop_next : (xs : List Step) (i : ℕ) (d : Step) → i < length xs → drop i xs ≡ get_or xs i d ∷ drop (i + 1) xs
+drop_next xs i d below = rw (add-one, drop-cons xs i d)
+
+module _ {D : Type 0} where
+  pub due_at : (end : EndOf D) (xs : List Step) (i : ℕ) → i < length xs → is_step_due end (drop i xs) ≡ is_idle end
+  due_at end xs i below = let P : List Step → Type 0 = λ l. is_step_due end l ≡ is_idle end in subst P (sym (drop_next xs i Separate below)) refl
+
+module _ {D : Type 0} (answers : D → Content → Answered) where
+  pub turns_snoc : (a b c : EndOf D) (s t u : List Step) (turns : List Turn) (turn : Turn) → AreTurns answers a s turns b t → IsTurn answers false b t turn c u → AreTurns answers a s (turns ++ turn ∷ []) c u
+  turns_snoc a b c s t u [] turn h k =
+      let P : EndOf D → List Step → Type 0 = λ x y. IsTurn answers false x y turn c u in
+      let Q : EndOf D → Type 0 = λ x. P x s in
+      let R : List Step → Type 0 = λ y. P b y in
+      (c, u, subst Q h.0 (subst R h.1 k), (refl, refl))
+  turns_snoc a b c s t u (x ∷ turns) turn h k = (h.0, h.1, h.2, turns_snoc h.0 b c h.1 t u turns turn h.3 k)

@@ -1,0 +1,193 @@
+-- How a connection is served (this project's own): what `serve` has told the end, put out and answered.
+use Rattle.std.specs.Prelude.{◌≡◌, ◌≤◌, ◌+◌, ◌-◌, ◌^◌, ◌++◌, ◌||◌, min, ℕ, Bool, true, false, List, [], ◌∷◌, length, Option, Some, None, Result, Ok, Err}
+use Rattle.secs_text.specs.Content.{Content}
+use Rattle.hsms_frame.specs.Count.{next_count}
+use Rattle.hsms_frame.specs.Device.{SinkState, Grows}
+use Rattle.hsms_machine.specs.declared.entry.Entry.{Entry}
+use Rattle.hsms_machine.specs.Entry.{entry_at, is_down}
+use Rattle.hsms_machine.specs.Run.{IsRun}
+use Rattle.hsms_log.specs.Log.{LogText, written_log}
+use Rattle.hsms_end.specs.Answer.{Answered}
+use Rattle.hsms_end.specs.Known.{EndOf}
+use Rattle.hsms_end.specs.Turn.{start, lost}
+use Rattle.hsms_end.specs.End.{Accepts}
+use Rattle.hsms_ends.specs.declared.step.Step.{Step}
+use Rattle.hsms_ends.specs.declared.serving.Served.{Served}
+use Rattle.hsms_ends.specs.declared.serving.ServeFault.{ServeFault}
+use Rattle.hsms_ends.specs.declared.serving.ServeFault.TheVariants as serve
+use Rattle.hsms_ends.specs.Link.{Told, Heard, both, Hears, nothing_heard, moment_heard}
+use Rattle.hsms_ends.specs.PutOut.{GrowsByPart, LogGrows, LogFails, sent_octets}
+use Rattle.hsms_ends.specs.Turning.{Turn, HasNotGone, IsTurn, AreTurns, entries_turn, entries_turns, heard_turn, heard_turns, refused_turn, refused_turns}
+
+-- What became of a connection: the settings line was refused; or `start` was, at this moment, for want of memory; or the
+-- end was started at a moment, which gave these entries, whole turns followed, then maybe one that a fault cut short,
+-- and then, after the link's fault, maybe the entries of `lost`.
+pub data Story : Type 0 where
+  Unopened : Story
+  Unstarted : (now : ℕ) → Story
+  Started : (now : ℕ) (started : List Entry) (turns : List Turn) (cut : Option Turn) (loss : Option (List Entry)) → Story
+
+-- ---- the story of an end
+
+abbrev pub IsCutTurn : {D : Type 0} → (D → Content → Answered) → EndOf D → List Step → Option Turn → EndOf D → Type 0
+IsCutTurn answers end script None end' = end' ≡ end
+IsCutTurn answers end script (Some turn) end' = (left : List Step) × IsTurn answers true end script turn end' left
+
+abbrev pub IsLost : {D : Type 0} → (D → Content → Answered) → EndOf D → Option (List Entry) → EndOf D → Type 0
+IsLost answers end None end' = end' ≡ end
+IsLost answers end (Some entries) end' = HasNotGone end × Accepts answers end lost entries end'
+
+-- the story of a new end, of this script, which leads to an end
+abbrev pub IsStory : {D : Type 0} → (D → Content → Answered) → EndOf D → List Step → Story → EndOf D → Type 0
+IsStory answers new script Unopened end' = end' ≡ new
+IsStory answers new script (Unstarted now) end' = end' ≡ new
+IsStory {D} answers new script (Started now started turns cut loss) end' =
+    (begun : EndOf D) × (mid : EndOf D) × (left : List Step) × (late : EndOf D)
+    × Accepts answers new (start now) started begun × AreTurns answers begun script turns mid left
+    × IsCutTurn answers mid left cut late × IsLost answers late loss end'
+
+-- ---- what it adds up to
+
+abbrev pub entries_cut : Option Turn → List Entry
+entries_cut None = []
+entries_cut (Some turn) = entries_turn turn
+
+abbrev pub lost_entries : Option (List Entry) → List Entry
+lost_entries None = []
+lost_entries (Some entries) = entries
+
+-- all new entries, in order
+abbrev pub entries_of : Story → List Entry
+entries_of Unopened = []
+entries_of (Unstarted now) = []
+entries_of (Started now started turns cut loss) =
+    started ++ (entries_turns turns ++ (entries_cut cut ++ lost_entries loss))
+
+abbrev pub heard_cut : Option Turn → Heard
+heard_cut None = nothing_heard
+heard_cut (Some turn) = heard_turn turn
+
+-- all that was heard of the link
+abbrev pub heard_of : Story → Heard
+heard_of Unopened = nothing_heard
+heard_of (Unstarted now) = moment_heard now
+heard_of (Started now started turns cut loss) = both (moment_heard now) (both (heard_turns turns) (heard_cut cut))
+
+abbrev pub refused_cut : Option Turn → ℕ
+refused_cut None = 0
+refused_cut (Some turn) = refused_turn turn
+
+-- how many steps the end refused
+abbrev pub refused_of : Story → ℕ
+refused_of Unopened = 0
+refused_of (Unstarted now) = 0
+refused_of (Started now started turns cut loss) = refused_turns turns + refused_cut cut
+
+abbrev pub begun_cut : Option Turn → ℕ
+begun_cut None = 0
+begun_cut (Some turn) = 1
+
+-- how many turns were begun
+abbrev pub turns_begun : Story → ℕ
+turns_begun Unopened = 0
+turns_begun (Unstarted now) = 0
+turns_begun (Started now started turns cut loss) = length turns + begun_cut cut
+
+abbrev pub whole_turns : Story → List Turn
+whole_turns Unopened = []
+whole_turns (Unstarted now) = []
+whole_turns (Started now started turns cut loss) = turns
+
+-- the end was started, and whole turns alone followed
+abbrev pub IsWhole : Story → Type 0
+IsWhole Unopened = ⊥
+IsWhole (Unstarted now) = ⊥
+IsWhole (Started now started turns cut loss) = (cut ≡ None) × (loss ≡ None)
+
+abbrev pub IsStarted : Story → Type 0
+IsStarted Unopened = ⊥
+IsStarted (Unstarted now) = ⊥
+IsStarted (Started now started turns cut loss) = Unit {0}
+
+-- `lost` was told
+abbrev pub has_lost : Story → Bool
+has_lost Unopened = false
+has_lost (Unstarted now) = false
+has_lost (Started now started turns cut None) = false
+has_lost (Started now started turns cut (Some entries)) = true
+
+-- the last entry is `down`
+abbrev pub ends_down : List Entry → Bool
+ends_down log = is_down (entry_at log (length log - 1)).event
+
+-- ---- the answer
+
+-- a count that stays at its greatest value, after so many more
+abbrev pub count_after : ℕ → ℕ → ℕ
+count_after count more = min (count + more) (2 ^ 64 - 1)
+
+-- which story an answer tells of
+abbrev pub Answers : ℕ → Result Served ServeFault → Story → Type 0
+Answers limit (Ok served) story =
+    IsWhole story × (ends_down (entries_of story) ≡ true)
+    × (served.entries ≡ count_after 0 (length (entries_of story))) × (served.refused ≡ count_after 0 (refused_of story))
+Answers limit (Err serve.Turns) story =
+    IsWhole story × (length (whole_turns story) ≡ limit) × (ends_down (entries_of story) ≡ false)
+Answers limit (Err serve.Link) story = IsStarted story × (ends_down (entries_of story) ≡ true)
+Answers limit (Err serve.Log) story = Unit {0}
+Answers limit (Err serve.Memory) story = Unit {0}
+
+-- what the log holds: all of a text, or after the log's fault a part of it from the front
+abbrev pub LogHolds : Result Served ServeFault → SinkState → SinkState → List ℕ → Type 0
+LogHolds (Ok _) old new text = LogGrows old new text
+LogHolds (Err serve.Turns) old new text = LogGrows old new text
+LogHolds (Err serve.Link) old new text = LogGrows old new text
+LogHolds (Err serve.Log) old new text = LogFails old new text
+LogHolds (Err serve.Memory) old new text = LogGrows old new text
+
+-- whether the link failed, by the answer
+abbrev pub MayHaveFailed : Result Served ServeFault → Bool → Type 0
+MayHaveFailed (Ok _) failed = failed ≡ false
+MayHaveFailed (Err serve.Turns) failed = failed ≡ false
+MayHaveFailed (Err serve.Link) failed = failed ≡ true
+MayHaveFailed (Err serve.Log) failed = Unit {0}
+MayHaveFailed (Err serve.Memory) failed = Unit {0}
+
+abbrev pub is_log_fault : Result Served ServeFault → Bool
+is_log_fault (Ok _) = false
+is_log_fault (Err serve.Turns) = false
+is_log_fault (Err serve.Link) = false
+is_log_fault (Err serve.Log) = true
+is_log_fault (Err serve.Memory) = false
+
+-- what the link took of the octets of the sent messages: all, or where a device failed a part from their front
+abbrev pub LinkTook : Bool → Told → Told → List ℕ → Type 0
+LinkTook true old new octets = GrowsByPart old.taken new.taken octets
+LinkTook false old new octets = Grows old.taken new.taken octets
+
+abbrev pub failures_after : Bool → ℕ → ℕ
+failures_after true n = next_count n
+failures_after false n = n
+
+-- What `serve` did, of a new end and a script, in at most so many turns.
+pub record Serves {D : Type 0} (answers : D → Content → Answered) (new : EndOf D) (script : List Step) (limit : ℕ) (result : Result Served ServeFault) (log log' : SinkState) (link link' : Told) : Type 0 where
+  -- the start, the turns and what the end gave for its inputs
+  pub story : Story
+  pub last : EndOf D
+  pub is_story : IsStory answers new script story last
+  pub bound : turns_begun story ≤ limit
+  -- the new entries are a run of the session machine, and what is written of them is a text of that log
+  pub run : IsRun new.known.settings (entries_of story)
+  pub text : LogText (written_log new.known.settings (entries_of story)) new.known.settings (entries_of story)
+  -- that text was logged, or after the log's fault a part from its front
+  pub log_holds : LogHolds result log log' (written_log new.known.settings (entries_of story))
+  pub answer : Answers limit result story
+  -- the moments, the octets and the answers of `wait` in the story are those that the link gave
+  pub hears : Hears link link' (heard_of story)
+  -- the link took the octets of the sent messages, in order: a part from their front alone where a device failed
+  pub failed : Bool
+  pub took : LinkTook (failed || is_log_fault result) link link' (sent_octets (entries_of story))
+  pub failures : link'.failures ≡ failures_after failed link.failures
+  pub failed_is : MayHaveFailed result failed
+  -- the end is told by `serve` that the connection was lost only after the link failed
+  pub lost_is : has_lost story ≡ true → failed ≡ true

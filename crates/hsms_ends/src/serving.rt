@@ -1,0 +1,203 @@
+//! A connection, served.
+
+ghost use Rattle.std.specs.Prelude.{◌≡◌, ℕ};
+ghost use Rattle.hsms_end.specs.Known.{untold};
+ghost use Rattle.hsms_end.specs.Turn.{start};
+ghost use Rattle.hsms_ends.specs.Link.{moment_heard};
+ghost use Rattle.hsms_ends.specs.PutOut.{log_lines};
+ghost use Rattle.hsms_ends.specs.Serving.{Serves};
+ghost use Rattle.hsms_ends.specs.Outcome.{IsReady, Handed, Ran, ServesEnd, ClosedLink, RestClosed, StoppedAs};
+
+use crate::link::Link;
+use crate::output::{Stop, log_all};
+use crate::range::entries_are_in_range;
+use crate::step::Step;
+use crate::turns::{Progress, deliver, has_gone, take_turns};
+use hsms_end::{Desk, End};
+use hsms_frame::Sink;
+use hsms_log::write_settings;
+use hsms_machine::{Entry, Settings};
+use std::alloc::Global;
+use thiserror::Error;
+
+/// What was served.
+#[derive(Clone, Copy, Debug, PartialEq, Eq)]
+pub struct Served {
+    /// How many entries were logged.
+    pub entries: u64,
+    /// How many steps the end refused.
+    pub refused: u64,
+}
+
+/// Why a connection was not served to its end. Where a second fault comes while the first is being closed, it is the
+/// later one.
+#[derive(Clone, Copy, Debug, PartialEq, Eq, Error)]
+pub enum ServeFault {
+    /// The link failed. The log tells that the connection went down.
+    #[error("Link")]
+    Link,
+    /// A write to the log failed. A part of the log from its front was written.
+    #[error("Log")]
+    Log,
+    /// All turns were used, and the connection is up.
+    #[error("Turns")]
+    Turns,
+    /// Memory was refused. The entries given before are logged.
+    #[error("Memory")]
+    Memory,
+}
+
+/// Serves one connection, as the end that the settings name, in at most so many turns.
+///
+/// The settings' line is written to the log, and the end is started at the link's moment. Each turn tells the end the
+/// moment. Then, where the end is selected and has no own open transaction, the next step of the script is taken; else
+/// the link is waited for until a timer runs out, and what came is told to the end. The entries of each call of the end
+/// are put out at once: of each its line to the log, and then the octets of a sent message to the link (SEMI E37,
+/// section 8, message format).
+///
+/// **The log is the text of a run of the session machine, so that `audit` passes it** (`Serves`;
+/// `laws::served_log_passes`). In it:
+///
+/// - *the log*: what was written since the call, of a sink that tells it; after the answer `Log` a part of such a text
+///   from its front.
+/// - *of a run*: the entries that the end gave for its inputs (`Accepts` of `hsms_end`), in the order of the turns
+///   (`IsStory`); moments, octets and the answers of waits are those of the link.
+/// - The link took the octets of the sent messages, in order: all, or where a device failed a part from their front.
+/// - `Ok` and `Link` are answered only where the last entry is `down`, `Turns` only where it isn't and so many turns were
+///   taken.
+///
+/// What it does not say: that a peer answers, that time goes on, or that memory is there (`Memory`, where a growth was
+/// refused).
+pub fn serve<L: Link, W: Sink, D: Desk + Drop>(
+    alloc: Global,
+    link: &mut L,
+    log: &mut W,
+    settings: Settings,
+    desk: D,
+    first_system: u32,
+    script: &[Step],
+    turns: u64,
+) -> Result<Served, ServeFault>
+    ensures { Serves D.answers (record { desk = desk; known = untold settings first_system }) script.now turns result
+        (W.state log.old) (W.state log.new) (L.told link.old) (L.told link.new) }
+{
+    match write_settings(log, &settings) {
+        Ok(()) => {
+            let mut end = End::new(alloc, settings, desk, first_system);
+            serve_end(alloc, link, log, &mut end, script, turns)
+        }
+        Err(_) => Err(ServeFault::Log),
+    }
+}
+
+/// Serves a new end.
+fn serve_end<L: Link, W: Sink, D: Desk>(
+    alloc: Global,
+    link: &mut L,
+    log: &mut W,
+    end: &mut End<D>,
+    script: &[Step],
+    turns: u64,
+) -> Result<Served, ServeFault>
+    requires { IsReady end.old }
+    ensures { ServesEnd D.answers end.old script.now turns result (W.state log.old) (W.state log.new)
+        (L.told link.old) (L.told link.new) }
+{
+    let mut progress = Progress {
+        place: 0,
+        entries: 0,
+        refused: 0,
+    };
+    match run(alloc, link, log, end, script, &mut progress, turns) {
+        Ok(()) => {
+            if has_gone(end) {
+                Ok(Served {
+                    entries: progress.entries,
+                    refused: progress.refused,
+                })
+            } else {
+                Err(ServeFault::Turns)
+            }
+        }
+        Err(stop) => Err(stopped(alloc, log, end, stop)),
+    }
+}
+
+/// Starts the end, and takes turns.
+fn run<L: Link, W: Sink, D: Desk>(
+    alloc: Global,
+    link: &mut L,
+    log: &mut W,
+    end: &mut End<D>,
+    script: &[Step],
+    progress: &mut Progress,
+    turns: u64,
+) -> Result<(), Stop>
+    requires ready { IsReady end.old }
+    requires none { progress.old ≡ record { place = 0; entries = 0; refused = 0 } }
+    ensures { Ran D.answers result turns end.old end.new script.now (W.state log.old) (W.state log.new)
+        (L.told link.old) (L.told link.new) progress.new.entries progress.new.refused }
+{
+    match begin(alloc, link, log, end, &mut progress.entries) {
+        Ok(()) => take_turns(alloc, link, log, end, script, progress, turns),
+        Err(stop) => Err(stop),
+    }
+}
+
+/// Asks the clock, and starts the end.
+fn begin<L: Link, W: Sink, D: Desk>(
+    alloc: Global,
+    link: &mut L,
+    log: &mut W,
+    end: &mut End<D>,
+    count: &mut u64,
+) -> Result<(), Stop>
+    requires { IsReady end.old }
+    ensures { (now : ℕ) × Handed D.answers result end.old (start now) end.new (W.state log.old) (W.state log.new)
+        (L.told link.old) (L.told link.new) (moment_heard now) count.old count.new }
+{
+    let now = link.now();
+    let answer = end.start(alloc, now);
+    match answer {
+        Ok(entries) => deliver(link, log, &entries, count),
+        Err(_) => Err(Stop::Memory),
+    }
+}
+
+/// Says what is answered after a fault. After the link's the end is closed.
+fn stopped<W: Sink, D: Desk>(alloc: Global, log: &mut W, end: &mut End<D>, stop: Stop) -> ServeFault
+    ensures { StoppedAs D.answers stop result end.old (W.state log.old) (W.state log.new) }
+{
+    match stop {
+        Stop::Link => close(alloc, log, end),
+        Stop::Log => ServeFault::Log,
+        Stop::Memory => ServeFault::Memory,
+    }
+}
+
+/// Closes an end after the link's fault, and says what is answered: the later fault, where there is one.
+fn close<W: Sink, D: Desk>(alloc: Global, log: &mut W, end: &mut End<D>) -> ServeFault
+    ensures { ClosedLink D.answers result end.old (W.state log.old) (W.state log.new) }
+{
+    if has_gone(end) {
+        return ServeFault::Link;
+    }
+    let answer = end.lost(alloc);
+    match answer {
+        Ok(entries) => {
+            entries_are_in_range(&entries);
+            close_rest(log, &entries)
+        }
+        Err(_) => ServeFault::Memory,
+    }
+}
+
+/// Logs the entries of `lost`.
+fn close_rest<W: Sink>(log: &mut W, entries: &[Entry]) -> ServeFault
+    ensures { RestClosed result (W.state log.old) (W.state log.new) (log_lines entries.now) }
+{
+    match log_all(log, entries) {
+        Ok(()) => ServeFault::Link,
+        Err(_) => ServeFault::Log,
+    }
+}

@@ -1,0 +1,358 @@
+//! The turns of a served connection.
+
+ghost use Rattle.std.specs.Prelude.{◌≡◌, ◌<◌, ℕ, List, drop, length, true, MatchResult};
+ghost use Rattle.hsms_end.specs.Turn.{tick as ticks, bytes, lost};
+ghost use Rattle.hsms_end.specs.End.{Accepts, Refuses};
+ghost use Rattle.hsms_ends.specs.Link.{IsGot, moment_heard, nothing_heard};
+ghost use Rattle.hsms_ends.specs.PutOut.{AllFitLengthField};
+ghost use Rattle.hsms_ends.specs.Turning.{HasNotGone, MustWait, has_gone as is_down, is_idle as is_free, is_step_due as step_due, input_of};
+ghost use Rattle.hsms_ends.specs.Outcome.{IsReady, Yields, Handed, Followed, Heeded, Continued, TurnTaken, TurnsTaken};
+
+use crate::link::{Got, Link};
+use crate::output::{Stop, put_out};
+use crate::range::entries_are_in_range;
+use crate::step::Step;
+use hsms_end::{Desk, End, EndFault};
+use hsms_frame::Sink;
+use hsms_machine::{Entry, Phase};
+use std::alloc::Global;
+
+// The octets that one wait takes at most.
+const ROOM: usize = 4096;
+
+/// How far serving has come.
+#[derive(Clone, Copy, Debug)]
+pub struct Progress {
+    /// The steps that were taken or refused.
+    pub place: usize,
+    /// The entries.
+    pub entries: u64,
+    /// The steps that the end refused.
+    pub refused: u64,
+}
+
+/// Whether the connection went down.
+pub fn has_gone<D: Desk>(end: &End<D>) -> bool
+    ensures { result ≡ is_down end.now }
+{
+    match end.phase() {
+        Phase::Gone => true,
+        Phase::Before | Phase::NotSelected | Phase::Selected | Phase::Over => false,
+    }
+}
+
+/// Whether the end is selected and has no own open transaction.
+fn is_idle<D: Desk>(end: &End<D>) -> bool
+    ensures { result ≡ is_free end.now }
+{
+    match end.phase() {
+        Phase::Selected => end.own_open() == 0,
+        Phase::Before | Phase::NotSelected | Phase::Over | Phase::Gone => false,
+    }
+}
+
+/// Counts the entries of a call, and puts them out.
+pub fn deliver<L: Link, W: Sink>(
+    link: &mut L,
+    log: &mut W,
+    entries: &[Entry],
+    count: &mut u64,
+) -> Result<(), Stop>
+    requires { AllFitLengthField entries.now }
+    ensures { Yields result (W.state log.old) (W.state log.new) (L.told link.old) (L.told link.new)
+        count.old count.new entries.now nothing_heard }
+{
+    entries_are_in_range(entries);
+    *count = count.saturating_add(entries.len() as u64);
+    put_out(link, log, entries)
+}
+
+/// Asks the clock, and tells the end the moment.
+fn tick<L: Link, W: Sink, D: Desk>(
+    alloc: Global,
+    link: &mut L,
+    log: &mut W,
+    end: &mut End<D>,
+    count: &mut u64,
+) -> Result<(), Stop>
+    requires { IsReady end.old }
+    ensures { (now : ℕ) × Handed D.answers result end.old (ticks now) end.new (W.state log.old) (W.state log.new)
+        (L.told link.old) (L.told link.new) (moment_heard now) count.old count.new }
+{
+    let now = link.now();
+    let answer = end.tick(alloc, now);
+    match answer {
+        Ok(entries) => deliver(link, log, &entries, count),
+        Err(_) => Err(Stop::Memory),
+    }
+}
+
+/// Tells the end the octets that came.
+fn hand_octets<L: Link, W: Sink, D: Desk>(
+    alloc: Global,
+    link: &mut L,
+    log: &mut W,
+    end: &mut End<D>,
+    octets: &[u8],
+    count: &mut u64,
+) -> Result<(), Stop>
+    requires { IsReady end.old }
+    ensures { Handed D.answers result end.old (bytes octets.now) end.new (W.state log.old) (W.state log.new)
+        (L.told link.old) (L.told link.new) nothing_heard count.old count.new }
+{
+    let answer = end.bytes(alloc, octets);
+    match answer {
+        Ok(entries) => deliver(link, log, &entries, count),
+        Err(_) => Err(Stop::Memory),
+    }
+}
+
+/// Tells the end that the connection was lost.
+fn hand_lost<L: Link, W: Sink, D: Desk>(
+    alloc: Global,
+    link: &mut L,
+    log: &mut W,
+    end: &mut End<D>,
+    count: &mut u64,
+) -> Result<(), Stop>
+    requires { IsReady end.old }
+    ensures { Handed D.answers result end.old lost end.new (W.state log.old) (W.state log.new)
+        (L.told link.old) (L.told link.new) nothing_heard count.old count.new }
+{
+    let answer = end.lost(alloc);
+    match answer {
+        Ok(entries) => deliver(link, log, &entries, count),
+        Err(_) => Err(Stop::Memory),
+    }
+}
+
+/// Tells the end a step.
+fn tell<D: Desk>(end: &mut End<D>, alloc: Global, step: &Step) -> Result<Vec<Entry>, EndFault>
+    ensures { MatchResult result
+        (λ entries. Accepts D.answers end.old (input_of step.now) entries.items end.new)
+        (λ fault. Refuses end.old (input_of step.now) fault end.new) }
+{
+    match step {
+        Step::Send(message) => end.send(alloc, message),
+        Step::Linktest => end.linktest(alloc),
+        Step::Separate => end.separate(alloc),
+    }
+}
+
+/// Takes the next step of the script.
+fn take_step<L: Link, W: Sink, D: Desk>(
+    alloc: Global,
+    link: &mut L,
+    log: &mut W,
+    end: &mut End<D>,
+    script: &[Step],
+    progress: &mut Progress,
+) -> Result<(), Stop>
+    requires ready { IsReady end.old }
+    requires up { HasNotGone end.old }
+    requires due { step_due end.old (drop progress.old.place script.now) ≡ true }
+    requires within { progress.old.place < length script.now }
+    ensures { Continued D.answers result end.old end.new
+        (drop progress.old.place script.now) (drop progress.new.place script.now)
+        (W.state log.old) (W.state log.new) (L.told link.old) (L.told link.new)
+        progress.old.entries progress.new.entries progress.old.refused progress.new.refused }
+{
+    let place = progress.place;
+    let answer = tell(end, alloc, &script[place]);
+    match answer {
+        Ok(entries) => {
+            progress.place += 1;
+            deliver(link, log, &entries, &mut progress.entries)
+        }
+        Err(fault) => {
+            if fault == EndFault::Memory {
+                Err(Stop::Memory)
+            } else {
+                progress.place += 1;
+                progress.refused = progress.refused.saturating_add(1);
+                Ok(())
+            }
+        }
+    }
+}
+
+/// Hears octets: the tick, and, unless it ended the connection, the octets.
+fn hear_octets<L: Link, W: Sink, D: Desk>(
+    alloc: Global,
+    link: &mut L,
+    log: &mut W,
+    end: &mut End<D>,
+    octets: &[u8],
+    count: &mut u64,
+) -> Result<(), Stop>
+    requires { IsReady end.old }
+    ensures { Followed D.answers result end.old (bytes octets.now) end.new (W.state log.old) (W.state log.new)
+        (L.told link.old) (L.told link.new) count.old count.new }
+{
+    match tick(alloc, link, log, end, count) {
+        Ok(()) => {
+            if has_gone(end) {
+                Ok(())
+            } else {
+                hand_octets(alloc, link, log, end, octets, count)
+            }
+        }
+        Err(stop) => Err(stop),
+    }
+}
+
+/// Hears that the peer closed: the tick, and, unless it ended the connection, that it was lost.
+fn hear_closed<L: Link, W: Sink, D: Desk>(
+    alloc: Global,
+    link: &mut L,
+    log: &mut W,
+    end: &mut End<D>,
+    count: &mut u64,
+) -> Result<(), Stop>
+    requires { IsReady end.old }
+    ensures { Followed D.answers result end.old lost end.new (W.state log.old) (W.state log.new)
+        (L.told link.old) (L.told link.new) count.old count.new }
+{
+    match tick(alloc, link, log, end, count) {
+        Ok(()) => {
+            if has_gone(end) {
+                Ok(())
+            } else {
+                hand_lost(alloc, link, log, end, count)
+            }
+        }
+        Err(stop) => Err(stop),
+    }
+}
+
+/// One wait, with what follows it, where no step is due.
+fn wait_once<L: Link, W: Sink, D: Desk>(
+    alloc: Global,
+    link: &mut L,
+    log: &mut W,
+    end: &mut End<D>,
+    count: &mut u64,
+) -> Result<(), Stop>
+    requires { IsReady end.old }
+    ensures { (script : List Step) (refused : ℕ) → MustWait end.old script script
+        → Continued D.answers result end.old end.new script script (W.state log.old) (W.state log.new)
+        (L.told link.old) (L.told link.new) count.old count.new refused refused }
+{
+    let mut into = [0u8; ROOM];
+    let until = until(end);
+    match link.wait(until, &mut into) {
+        Ok(got) => heed(alloc, link, log, end, got, &into, count),
+        Err(_) => Err(Stop::Link),
+    }
+}
+
+/// What follows an answer of `wait`.
+fn heed<L: Link, W: Sink, D: Desk>(
+    alloc: Global,
+    link: &mut L,
+    log: &mut W,
+    end: &mut End<D>,
+    got: Got,
+    into: &[u8],
+    count: &mut u64,
+) -> Result<(), Stop>
+    requires ready { IsReady end.old }
+    requires got { IsGot into.now got }
+    ensures { Heeded D.answers result into.now got end.old end.new (W.state log.old) (W.state log.new)
+        (L.told link.old) (L.told link.new) count.old count.new }
+{
+    match got {
+        Got::Quiet => Ok(()),
+        Got::Octets(length) => hear_octets(alloc, link, log, end, &into[..length], count),
+        Got::Closed => hear_closed(alloc, link, log, end, count),
+    }
+}
+
+// Until when to wait. An end logs that a timer ran out once it is later than the moment at which it is due.
+fn until<D: Desk>(end: &End<D>) -> Option<u64> {
+    match end.next_due() {
+        Some(due) => due.checked_add(1),
+        None => None,
+    }
+}
+
+/// One turn of an end that isn't down.
+fn turn<L: Link, W: Sink, D: Desk>(
+    alloc: Global,
+    link: &mut L,
+    log: &mut W,
+    end: &mut End<D>,
+    script: &[Step],
+    progress: &mut Progress,
+) -> Result<(), Stop>
+    requires ready { IsReady end.old }
+    requires up { HasNotGone end.old }
+    ensures { TurnTaken D.answers result end.old end.new
+        (drop progress.old.place script.now) (drop progress.new.place script.now)
+        (W.state log.old) (W.state log.new) (L.told link.old) (L.told link.new)
+        progress.old.entries progress.new.entries progress.old.refused progress.new.refused }
+{
+    match tick(alloc, link, log, end, &mut progress.entries) {
+        Ok(()) => continue_turn(alloc, link, log, end, script, progress),
+        Err(stop) => Err(stop),
+    }
+}
+
+/// What follows the first tick of a turn.
+fn continue_turn<L: Link, W: Sink, D: Desk>(
+    alloc: Global,
+    link: &mut L,
+    log: &mut W,
+    end: &mut End<D>,
+    script: &[Step],
+    progress: &mut Progress,
+) -> Result<(), Stop>
+    requires { IsReady end.old }
+    ensures { Continued D.answers result end.old end.new
+        (drop progress.old.place script.now) (drop progress.new.place script.now)
+        (W.state log.old) (W.state log.new) (L.told link.old) (L.told link.new)
+        progress.old.entries progress.new.entries progress.old.refused progress.new.refused }
+{
+    if has_gone(end) {
+        return Ok(());
+    }
+    if step_is_due(end, script, progress.place) {
+        take_step(alloc, link, log, end, script, progress)
+    } else {
+        wait_once(alloc, link, log, end, &mut progress.entries)
+    }
+}
+
+/// Whether the next step is to be taken now.
+fn step_is_due<D: Desk>(end: &End<D>, script: &[Step], place: usize) -> bool
+    ensures due { result ≡ step_due end.now (drop place script.now) }
+    ensures within { result ≡ true → place < length script.now }
+{
+    place < script.len() && is_idle(end)
+}
+
+/// At most so many turns, while the connection isn't down.
+pub fn take_turns<L: Link, W: Sink, D: Desk>(
+    alloc: Global,
+    link: &mut L,
+    log: &mut W,
+    end: &mut End<D>,
+    script: &[Step],
+    progress: &mut Progress,
+    turns: u64,
+) -> Result<(), Stop>
+    requires { IsReady end.old }
+    ensures { TurnsTaken D.answers result turns end.old end.new
+        (drop progress.old.place script.now) (drop progress.new.place script.now)
+        (W.state log.old) (W.state log.new) (L.told link.old) (L.told link.new)
+        progress.old.entries progress.new.entries progress.old.refused progress.new.refused }
+{
+    let mut done = 0;
+    while done < turns && !has_gone(end) {
+        match turn(alloc, link, log, end, script, progress) {
+            Ok(()) => done += 1,
+            Err(stop) => return Err(stop),
+        }
+    }
+    Ok(())
+}
