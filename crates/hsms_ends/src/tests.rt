@@ -5,6 +5,7 @@ mod corners;
 mod limits;
 mod own;
 mod party;
+mod scripted;
 mod talk;
 mod walks;
 
