@@ -3,16 +3,23 @@
 _hsms() {
   local word=${COMP_WORDS[COMP_CWORD]} before=${COMP_WORDS[COMP_CWORD - 1]} words
   case $before in
-    --max | --depth | --device | --system) return ;;
+    --max | --depth | --device | --system | --first-system | --turns | --port | --t[3678]) return ;;
+    --address | --mdln | --softrev) return ;;
+    --role) mapfile -t COMPREPLY < <(compgen -W 'host equipment' -- "$word") && return ;;
+    --link) mapfile -t COMPREPLY < <(compgen -W 'active passive' -- "$word") && return ;;
   esac
   if [ "$COMP_CWORD" = 1 ]; then
-    words='show encode audit help --help'
+    words='show encode audit serve help --help'
   else
     case ${COMP_WORDS[1]} in
       show) words='--max --depth --help' ;;
       encode) words='--device --system --max --depth --hex --help' ;;
       audit) words='--help' ;;
-      help) words='show encode audit' ;;
+      serve)
+        words='--role --link --address --port --device --t3 --t6 --t7 --t8 --max --depth --first-system --turns'
+        words+=' --mdln --softrev --send --help'
+        ;;
+      help) words='show encode audit serve' ;;
       *) return ;;
     esac
   fi

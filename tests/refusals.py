@@ -34,8 +34,10 @@ TAKING = REFUSED | set(
     "getline getdelim realpath getcwd scandir getaddrinfo".split()
 )
 
-# What a program calls of the others that is no memory of its own: it hands the room in.
+# What a program calls of the others that is no memory of its own: it hands the room in, or the C library takes what it
+# needs by the calls that are refused, and gives it back before it answers.
 HANDED_IN = {"getcwd"}
+BY_REFUSED = {"getaddrinfo"}
 
 # The crates whose tests hand want of memory up, each by `?`.
 HAND_UP = {"hsms_ends", "secs_item", "secs_text"}
@@ -49,6 +51,9 @@ LONG = {"walks_of_two_ends"}
 # The crates whose tests judge each refusal themselves.
 JUDGE = {"hsms_machine"}
 
+# A port at which nobody listens.
+NOBODY_THERE = "--role equipment --link active --address 127.0.0.1 --port 1 --mdln M --softrev 1".split()
+
 # The arguments of the command, and the file that it reads.
 EXAMPLES = [
     (["show"], "examples/session.bin"),
@@ -60,6 +65,10 @@ EXAMPLES = [
     (["encode"], "examples/session.txt"),
     (["encode", "--max", "256"], "examples/long.txt"),
     (["audit"], "examples/expired.log"),
+    (["serve", *NOBODY_THERE], "examples/session.txt"),
+    (["serve", *NOBODY_THERE, "--send"], "examples/session.txt"),
+    (["serve", *NOBODY_THERE, "--send", "--depth", "1"], "examples/nested.txt"),
+    (["serve", "--help"], "examples/select.bin"),
 ]
 
 
@@ -182,7 +191,7 @@ def calls(program):
 def other_calls():
     """Each program, and what it calls that isn't refused."""
     for name in [PROGRAM, *[program for _, program in programs()]]:
-        others = calls(name) - REFUSED - HANDED_IN
+        others = calls(name) - REFUSED - HANDED_IN - BY_REFUSED
         yield os.path.basename(name), f"it takes memory by {', '.join(sorted(others))}" if others else None
 
 

@@ -1,6 +1,6 @@
 -- What the words of a command line ask for.
 use Rattle.std.proofs.Common.{◌≡◌, ◌≢◌, ◌<◌, ◌≤◌, ◌^◌, ◌&&◌, ◌⊎◌, ℕ, Bool, true, false, List, [], ◌∷◌, Some, None, Ok, Err, refl, sym, ◌∙◌, ap, subst, inl, inr, codes, arith}
-use Rattle.std.specs.Prelude.{Option, Result, IfOk, IfErr, if◌then◌else◌, nat_le}
+use Rattle.std.specs.Prelude.{Option, Result, IfOk, IfErr, if◌then◌else◌, nat_le, string_bytes}
 use Rattle.std.specs.Str.Parse.{ParsesUnsigned, digits_value, without_leading_plus}
 use Rattle.std.proofs.lemmas.Bool.Decides.{nat_tests}
 use Rattle.clap.proofs.OnLiterals.{clap_on_literals}
@@ -16,16 +16,21 @@ use Rattle.clap.specs.declared.parser.matches.Found.{Found}
 use Rattle.hsms_tool.specs.declared.fault.ToolFault.{ToolFault}
 use Rattle.hsms_tool.specs.declared.fault.ToolFault.TheVariants.{Refused, Device, Memory}
 use Rattle.hsms_tool.specs.declared.options.Request.{Request}
-use Rattle.hsms_tool.specs.declared.options.Request.TheVariants as asked
-use Rattle.hsms_tool.specs.Options.{AsksBy, IsFlag, IsHelp, Number, Spells, SpellsNothing, SpellsWork, command_line, number_between, number_in}
-use Rattle.hsms_tool.specs.Status.{IsRefusedFor}
+use Rattle.hsms_tool.specs.declared.options.Request.TheVariants as request
+use Rattle.hsms_tool.specs.declared.options.Task.TheVariants as asked
+use Rattle.hsms_tool.specs.declared.service.Service.{Service}
+use Rattle.hsms_tool.specs.Number.{IsFlag, Number, number_between, number_in}
+use Rattle.hsms_tool.specs.Options.{AsksBy, AsksFor, IsHelp, Spells, SpellsNothing, SpellsWork, command_line, request_to_serve}
+use Rattle.hsms_machine.specs.Settings.{Parameters}
+use Rattle.hsms_tool.specs.Service.{AsksToServe, HasTerms}
+use Rattle.hsms_tool.specs.Status.{IsRefusedAs, IsRefusedFor}
 
 -- ---- numbers and flags
 
 -- what is made of the number that was read
 abbrev pub made_of : {E : Type 0} → Number → Result (Option ℕ) E → Option ℕ
 made_of n (Ok (Some v)) = if nat_le n.least v && nat_le v n.greatest then Some v else None
-made_of n (Ok None) = Some n.left_out
+made_of n (Ok None) = n.left_out
 made_of n (Err e) = None
 
 -- a text that spells a number
@@ -83,6 +88,23 @@ flag_read name found flag none set unset = (
   (λ is. set (one_text-rows found name ∙ is)),
 )
 
+-- ---- serving
+
+-- the name is that of serving, and this is what it asks for
+pub service_asked : (name : Text) (rows : List Row) (r : Result Service ToolFault) → name ≡ codes "serve"
+    → IfOk r (AsksToServe rows) → IfOk (request_to_serve r) (AsksFor name rows)
+service_asked name rows (Ok service) is asks = (is, asks)
+service_asked name rows (Err fault) is asks = tt
+
+-- what has to be given isn't there
+pub no_terms : (rows : List Row) (text : List ℕ) (fault : ToolFault)
+    → ((settings : Parameters) (address : List ℕ) (port first_system turns : ℕ) → HasTerms rows settings address port first_system turns → ⊥)
+    → IsRefusedAs text fault → IsRefusedFor ((service : Service) → AsksToServe rows service → ⊥) text fault
+no_terms rows text (Refused given) none told =
+    (told, (λ service asks. none service.settings (string_bytes service.address) service.port service.first_system service.turns asks.0))
+no_terms rows text (Device given) none told = told
+no_terms rows text Memory none told = tt
+
 -- ---- the command line
 
 command_is_simple : is_simple command_line ≡ true
@@ -94,10 +116,11 @@ unfolding clap_on_literals
 command_is_free = refl
 
 spells : (words : List Text) (request : Request) → SpellsWork words request → Spells words request
-spells words (asked.Help text) (fine, (name, rows, entered, asks)) = absurd asks
-spells words asked.Audit work = work
-spells words (asked.Show max depth) work = work
-spells words (asked.Encode device system max depth hex) work = work
+spells words (request.Task (asked.Help text)) (fine, (name, rows, entered, asks)) = absurd asks
+spells words (request.Task asked.Audit) work = work
+spells words (request.Task (asked.Show max depth)) work = work
+spells words (request.Task (asked.Encode device system max depth hex)) work = work
+spells words (request.Serve service) work = work
 
 -- the matches are those of the words
 pub entered_by : (words : List Text) (m : ArgMatches) (app : App) → app ≡ command_line → HasMatchesOf app words m
@@ -137,7 +160,7 @@ nothing_parsed words m app text (Err Memory) is has fine why = tt
 pub asks_explained : (words : List Text) (app : App) (k : ErrorKind) (r : Result Request ToolFault) → app ≡ command_line
     → (is_simple_and_free app ≡ true → (k ≡ OutOfMemory) ⊎ IsAmong k (fault_of app words)) → IfOk r (λ request. IsHelp request × (k ≡ DisplayHelp))
     → IfOk r (Spells words)
-asks_explained words app k (Ok (asked.Help text)) is fails (help, kind) =
+asks_explained words app k (Ok (request.Task (asked.Help text))) is fails (help, kind) =
     elim (fails (ap is_simple_and_free is ∙ command_is_free)) [
       | inl memory ↦ let bad : ◌≡◌ {A = ErrorKind} DisplayHelp OutOfMemory = sym kind ∙ memory in absurd cc
       | inr among ↦
@@ -145,9 +168,10 @@ asks_explained words app k (Ok (asked.Help text)) is fails (help, kind) =
           let Q : App → Type 0 = λ a. IsAmong DisplayHelp (fault_of a words) in
           subst Q is (subst P kind among)
     ]
-asks_explained words app k (Ok asked.Audit) is fails (help, kind) = absurd help
-asks_explained words app k (Ok (asked.Show max depth)) is fails (help, kind) = absurd help
-asks_explained words app k (Ok (asked.Encode device system max depth hex)) is fails (help, kind) = absurd help
+asks_explained words app k (Ok (request.Task asked.Audit)) is fails (help, kind) = absurd help
+asks_explained words app k (Ok (request.Task (asked.Show max depth))) is fails (help, kind) = absurd help
+asks_explained words app k (Ok (request.Task (asked.Encode device system max depth hex))) is fails (help, kind) = absurd help
+asks_explained words app k (Ok (request.Serve service)) is fails (help, kind) = absurd help
 asks_explained words app k (Err fault) is fails help = tt
 
 another_kind : (k : ErrorKind) (kinds : Kinds) → k ≢ DisplayHelp → IsAmong k kinds → (kinds ≢ DisplayHelp ∷ []) × (kinds ≢ [])

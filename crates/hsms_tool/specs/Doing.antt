@@ -1,12 +1,12 @@
--- What the command does for a request.
+-- What the command does between its input and its output.
 use Rattle.std.specs.Prelude.{◌≡◌, ℕ, Bool, true, List, codes, string_bytes, Option, Result, Ok, Err, IfOk}
 use Rattle.std.specs.Bool.{OnTrue}
 use Rattle.hsms_frame.specs.Device.{SourceState, SinkState, WhereTold, Grows, GrowsByFront}
 use Rattle.hsms_log.specs.Auditing.{HasEnded}
 use Rattle.hsms_tool.specs.declared.fault.ToolFault.{ToolFault}
 use Rattle.hsms_tool.specs.declared.fault.ToolFault.TheVariants.{Refused, Device, Memory}
-use Rattle.hsms_tool.specs.declared.options.Request.{Request}
-use Rattle.hsms_tool.specs.declared.options.Request.TheVariants as asked
+use Rattle.hsms_tool.specs.declared.options.Task.{Task}
+use Rattle.hsms_tool.specs.declared.options.Task.TheVariants as asked
 use Rattle.hsms_tool.specs.Audit.{AuditsTo}
 use Rattle.hsms_tool.specs.Encode.{EncodesAll}
 use Rattle.hsms_tool.specs.Show.{Shows}
@@ -22,9 +22,9 @@ Prints text (Err Memory) old new = ⊥
 abbrev pub IsDone : Result Bool ToolFault → SourceState → SourceState → Type 0
 IsDone result old new = IfOk result (λ well. (well ≡ true) × HasEnded old.ends new.ends)
 
--- What is done for a request, with the states of input and output before and now: help is printed; messages are shown,
+-- What is done for a task, with the states of input and output before and now: help is printed; messages are shown,
 -- or encoded; a log is audited, and all is well where it passes.
-abbrev pub Performs : Request → Result Bool ToolFault → SourceState → SourceState → SinkState → SinkState → Type 0
+abbrev pub Performs : Task → Result Bool ToolFault → SourceState → SourceState → SinkState → SinkState → Type 0
 Performs (asked.Help text) result old new before after = Prints (string_bytes text) result before.written after.written
 Performs (asked.Show max depth) result old new before after =
     IsDone result old new × WhereTold old.left (λ input. Shows max depth input result new.left before.written after.written)

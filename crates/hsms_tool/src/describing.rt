@@ -2,12 +2,14 @@
 
 ghost use Rattle.std.specs.Prelude.{◌≡◌, IfOk, codes, false};
 ghost use Rattle.clap.specs.Words.{app_of, rule_of};
-ghost use Rattle.hsms_tool.specs.Options.{command_line, depth_number, device_number, hex_option, max_number, option_of, system_number};
+ghost use Rattle.hsms_tool.specs.Number.{depth_number, device_number, flag_option, max_number, option_of, system_number};
+ghost use Rattle.hsms_tool.specs.Options.{command_line};
 
+use crate::describing_serve::serve_command;
 use clap::{Arg, ArgAction, Command, value_parser};
 use std::alloc::{AllocError, Global};
 
-/// The command `hsms`, which wants one of three subcommands.
+/// The command `hsms`, which wants one of four subcommands.
 pub fn command<'a>(alloc: Global) -> Result<Command<'a>, AllocError>
     ensures { IfOk result (λ command. app_of command ≡ command_line) }
 {
@@ -23,43 +25,50 @@ pub fn command<'a>(alloc: Global) -> Result<Command<'a>, AllocError>
         .arg(max_option(alloc))?
         .arg(depth_option(alloc))?
         .arg(hex_option(alloc))?;
+    let serve = serve_command(alloc)?;
     let hsms = Command::new(alloc, "hsms")
         .bin_name("hsms")?
-        .about("Audits HSMS session logs, and reads and writes HSMS messages")
+        .about("Audits HSMS session logs, reads and writes HSMS messages, and serves a connection")
         .subcommand_required(true);
-    hsms.subcommand(show)?.subcommand(audit)?.subcommand(encode)
+    hsms.subcommand(show)?
+        .subcommand(audit)?
+        .subcommand(encode)?
+        .subcommand(serve)
 }
 
-fn max_option<'a>(alloc: Global) -> Arg<'a>
+/// The option `--max`.
+pub fn max_option<'a>(alloc: Global) -> Arg<'a>
     ensures rule { rule_of result ≡ option_of max_number }
     ensures local { result.global ≡ false }
 {
     Arg::new(alloc, "max")
         .long("max")
         .value_name("N")
-        .help("Longest header and text of a message, in octets")
+        .help("Longest header and text of a message, in octets: 256 to 33554432 [default: 1048576]")
         .value_parser(value_parser!(u32).range(256..=33554432))
 }
 
-fn depth_option<'a>(alloc: Global) -> Arg<'a>
+/// The option `--depth`.
+pub fn depth_option<'a>(alloc: Global) -> Arg<'a>
     ensures rule { rule_of result ≡ option_of depth_number }
     ensures local { result.global ≡ false }
 {
     Arg::new(alloc, "depth")
         .long("depth")
         .value_name("N")
-        .help("Deepest nesting of lists")
+        .help("Deepest nesting of lists: 1 to 100 [default: 32]")
         .value_parser(value_parser!(u8).range(1..=100))
 }
 
-fn device_option<'a>(alloc: Global) -> Arg<'a>
+/// The option `--device`.
+pub fn device_option<'a>(alloc: Global) -> Arg<'a>
     ensures rule { rule_of result ≡ option_of device_number }
     ensures local { result.global ≡ false }
 {
     Arg::new(alloc, "device")
         .long("device")
         .value_name("N")
-        .help("Device, the session ID of the messages")
+        .help("Device, the session ID of the messages: 0 to 32767 [default: 0]")
         .value_parser(value_parser!(u16).range(0..=32767))
 }
 
@@ -70,12 +79,14 @@ fn system_option<'a>(alloc: Global) -> Arg<'a>
     Arg::new(alloc, "system")
         .long("system")
         .value_name("N")
-        .help("System bytes of the first message, from which they are counted up")
+        .help(
+            "System bytes of the first message, from which they are counted up: 0 to 4294967295 [default: 1]",
+        )
         .value_parser(value_parser!(u32))
 }
 
 fn hex_option<'a>(alloc: Global) -> Arg<'a>
-    ensures rule { rule_of result ≡ hex_option }
+    ensures rule { rule_of result ≡ flag_option (codes "hex") }
     ensures local { result.global ≡ false }
 {
     Arg::new(alloc, "hex")

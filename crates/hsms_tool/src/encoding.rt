@@ -18,7 +18,7 @@ use secs_text::{Message, TextFault, read_all};
 use std::alloc::{AllocError, Global};
 
 /// The longest input, in octets.
-const INPUT_LIMIT: usize = 67_108_864;
+pub const INPUT_LIMIT: usize = 67_108_864;
 
 /// Reads the whole input as messages in notation, and writes their frames in order, for a device, with system bytes
 /// counted up from `system` and wrapping: as octets, or with `hex` as a line of hexadecimal each. Nothing is written
@@ -59,7 +59,8 @@ pub fn encode_all<R: Source, W: Sink>(
     Ok(())
 }
 
-fn messages_of(alloc: Global, input: &[u8], depth: u8) -> Result<Vec<Message>, ToolFault>
+/// The messages that an input is the notation of.
+pub fn messages_of(alloc: Global, input: &[u8], depth: u8) -> Result<Vec<Message>, ToolFault>
     requires { depth ≤ 100 }
     ensures ok { IfOk result (λ messages. Notations (contents messages.items) input.now × AllWithin depth (contents messages.items)) }
     ensures err { IfErr result (IsNotRead depth input.now) }

@@ -1,25 +1,41 @@
-//! The command `hsms`: audits HSMS session logs (SEMI E37, E37.1), shows the messages of HSMS octets, and encodes
-//! messages that are written in notation.
+//! The command `hsms`: audits HSMS session logs (SEMI E37, E37.1), shows the messages of HSMS octets, encodes messages
+//! that are written in notation, and serves a connection.
 #![tactic(auto)]
 
 mod auditing;
+mod calls;
 mod describing;
+mod describing_serve;
+mod desks;
 mod doing;
 mod encoding;
 mod fault;
 mod input;
 mod line;
 mod options;
+mod script;
+mod service;
+mod serving;
 mod showing;
+mod socket;
 mod verdict;
 
+use desks::{OwnDesk, desk_of};
 use doing::perform;
 use fault::{ToolFault, exit_status};
+use hsms_ends::{Link, ServeFault, Served, Step};
 use hsms_frame::{Reader, Writer};
+use options::{Request, Task};
+use script::read_script;
+use service::Service;
+use serving::{serve_to, told};
+use socket::connected;
 use std::alloc::Global;
-use std::io::{BufReader, BufWriter, ErrorKind, Write};
+use std::io::{BufReader, BufWriter, ErrorKind, LineWriter, Printer, Write};
+use std::net::Net;
 use std::process::ExitCode;
 use std::rt::Env;
+use std::time::Clock;
 use std::{env, io, mem};
 
 // The octets that are held between the command and its standard input, and its standard output.
@@ -33,34 +49,111 @@ fn main(rt: HostRuntime) -> ExitCode {
     ExitCode::from(exit_status(&answer))
 }
 
-// Judges the command line, and then does what it asks for with standard input and standard output.
-fn run<R: AllocGlobal + Env + Input + Print>(rt: &R) -> Result<bool, ToolFault> {
+// Judges the command line, and then does what it asks for.
+fn run<R: AllocGlobal + Clock + Env + Input + Net + Print>(rt: &R) -> Result<bool, ToolFault> {
     let alloc = rt.alloc();
     let words = words(alloc, rt)?;
-    let request = options::parse(alloc, words.as_slice())?;
+    match options::parse(alloc, words.as_slice())? {
+        Request::Task(task) => run_task(alloc, rt, task),
+        Request::Serve(service) => run_service(alloc, rt, &service),
+    }
+}
+
+// Does a task with standard input and standard output. What was written before a fault is put out before the fault is
+// answered; where that fails, the answer is that a write failed.
+fn run_task<R: Input + Print>(alloc: Global, rt: &R, task: Task) -> Result<bool, ToolFault> {
     let input = BufReader::with_capacity(alloc, BUFFER, rt.reader());
     let output = BufWriter::with_capacity(alloc, BUFFER, io::writer(rt));
     let (Ok(input), Ok(output)) = (input, output) else {
         return Err(ToolFault::Memory);
     };
     let mut sink = Writer::new(output);
-    let answer = perform(alloc, request, &mut Reader::new(input), &mut sink);
-    put_out(sink, answer, "Write")
+    let answer = perform(alloc, task, &mut Reader::new(input), &mut sink);
+    let has_failed = matches!(&answer, Err(ToolFault::Device(word)) if *word == "Write");
+    if is_put_out(sink, has_failed) {
+        answer
+    } else {
+        Err(ToolFault::Device("Write"))
+    }
 }
 
-// Puts out what is held back, and then answers; where that fails, the answer is that the device of this word failed.
-// What a failed write has left is let go, since a drop of the writer would try it once more.
-fn put_out<W: Write + Drop>(
-    mut sink: Writer<W>,
-    answer: Result<bool, ToolFault>,
-    word: &'static str,
-) -> Result<bool, ToolFault> {
-    let has_failed = matches!(&answer, Err(ToolFault::Device(told)) if *told == word);
+// Puts out what is held back where no write has failed, and says whether all is out. What a failed write has left is let
+// go, since a drop of the writer would try it once more.
+fn is_put_out<W: Write + Drop>(mut sink: Writer<W>, has_failed: bool) -> bool {
     if !has_failed && sink.flush().is_ok() {
-        return answer;
+        return true;
     }
     mem::forget(sink);
-    Err(ToolFault::Device(word))
+    false
+}
+
+// Serves a connection, whose log goes to standard output line by line. The script is read before the connection is
+// made.
+fn run_service<R: Clock + Input + Net + Print>(
+    alloc: Global,
+    rt: &R,
+    service: &Service,
+) -> Result<bool, ToolFault> {
+    let script = script_of(alloc, rt, service)?;
+    let desk = desk_of(alloc, service)?;
+    let log = log_of(alloc, rt)?;
+    told(serve_by(alloc, rt, log, service, desk, &script))
+}
+
+// Standard output, to which each line is put out at its end.
+fn log_of<R: Print>(
+    alloc: Global,
+    rt: &R,
+) -> Result<Writer<LineWriter<Printer<'_, R>>>, ToolFault> {
+    match LineWriter::with_capacity(alloc, BUFFER, io::writer(rt)) {
+        Ok(output) => Ok(Writer::new(output)),
+        Err(_) => Err(ToolFault::Memory),
+    }
+}
+
+// Gets a connection, and serves it.
+fn serve_by<R: Clock + Net, W: Write + Drop>(
+    alloc: Global,
+    rt: &R,
+    log: Writer<W>,
+    service: &Service,
+    desk: OwnDesk,
+    script: &[Step],
+) -> Result<Served, ServeFault> {
+    match connected(rt, service) {
+        Ok(link) => serve_out(alloc, link, log, service, desk, script),
+        Err(fault) => Err(fault),
+    }
+}
+
+// Serves a link, and puts out what is held back of its log.
+fn serve_out<L: Link + Drop, W: Write + Drop>(
+    alloc: Global,
+    mut link: L,
+    mut log: Writer<W>,
+    service: &Service,
+    desk: OwnDesk,
+    script: &[Step],
+) -> Result<Served, ServeFault> {
+    let served = serve_to(alloc, &mut link, &mut log, service, desk, script);
+    let has_failed = matches!(&served, Err(ServeFault::Log));
+    if is_put_out(log, has_failed) {
+        served
+    } else {
+        Err(ServeFault::Log)
+    }
+}
+
+fn script_of<R: Input>(alloc: Global, rt: &R, service: &Service) -> Result<Vec<Step>, ToolFault> {
+    if service.send {
+        read_script(
+            alloc,
+            &mut Reader::new(rt.reader()),
+            service.settings.depth(),
+        )
+    } else {
+        Ok(Vec::new(alloc))
+    }
 }
 
 // The words of the command line, of which one that is no text is refused.

@@ -1,14 +1,18 @@
 //! The command line, which is judged before anything is read.
 
-ghost use Rattle.std.specs.Prelude.{◌≡◌, ◌≢◌, ◌≤◌, ◌&&◌, IfOk, IfErr, IfSome, Some, None, codes, if◌then◌else◌, map, nat_le, string_bytes};
+ghost use Rattle.std.specs.Prelude.{◌≡◌, ◌≢◌, ◌≤◌, ◌&&◌, IfOk, IfErr, IfSome, IsErrAnd, Ok, Some, None, codes, if◌then◌else◌, map, nat_le, string_bytes};
 ghost use Rattle.clap.specs.Words.{found_of, kind_of, rows_of, subcommand_rows_of};
 ghost use Rattle.clap.specs.declared.error.kind.ErrorKind.TheVariants.{DisplayHelp, OutOfMemory};
-ghost use Rattle.hsms_tool.specs.Options.{AsksBy, AsksFor, IsFlag, IsHelp, IsWithinLimits, Spells, SpellsNothing, depth_number, device_number, max_number, number_in, system_number};
+ghost use Rattle.hsms_tool.specs.Number.{IsFlag, depth_number, device_number, max_number, number_in, system_number};
+ghost use Rattle.hsms_tool.specs.Options.{AsksBy, AsksFor, AsksForTask, IsHelp, IsTaskWithinLimits, IsWithinLimits, Spells, SpellsNothing, request_to_serve};
 ghost use Rattle.hsms_tool.specs.Status.{IsRefusedAs, IsRefusedFor};
 ghost use Rattle.hsms_tool.specs.declared.options.Request.{Request};
+ghost use Rattle.hsms_tool.specs.declared.options.Request.TheVariants as request;
+ghost use Rattle.hsms_tool.specs.declared.options.Task.{Task};
 
 use crate::describing::command;
 use crate::fault::{ToolFault, refused};
+use crate::service::{Service, asked_to_serve};
 use clap::error::ErrorKind;
 use clap::{ArgMatches, Error};
 use std::alloc::Global;
@@ -16,6 +20,15 @@ use std::alloc::Global;
 /// What the user asks for.
 #[derive(Debug, Drop)]
 pub enum Request {
+    /// A task between standard input and standard output.
+    Task(Task),
+    /// A connection is to be served.
+    Serve(Service),
+}
+
+/// What is to be done with standard input and standard output.
+#[derive(Debug, Drop)]
+pub enum Task {
     /// The text is to be printed.
     Help(String),
     /// The messages of standard input are to be shown. `max` is the greatest count of octets of header and text, and
@@ -76,41 +89,57 @@ fn asked_by(alloc: Global, name: &str, options: &ArgMatches<'_>) -> Result<Reque
     ensures refusal { IfErr result (IsRefusedFor
         ((request : Request) → AsksFor name.now (rows_of (found_of options.now)) request → ⊥) (codes "command line")) }
 {
-    let request = match name {
-        "audit" => Some(Request::Audit),
-        "show" => asked_to_show(options),
-        "encode" => asked_to_encode(options),
-        _ => None,
-    };
-    match request {
-        Some(request) => Ok(request),
+    match name {
+        "audit" => Ok(Request::Task(Task::Audit)),
+        "show" => of_task(alloc, asked_to_show(options)),
+        "encode" => of_task(alloc, asked_to_encode(options)),
+        "serve" => of_service(asked_to_serve(alloc, options)),
+        _ => Err(no_request(alloc)),
+    }
+}
+
+fn of_task(alloc: Global, asked: Option<Task>) -> Result<Request, ToolFault>
+    ensures some { IfSome asked (λ task. result ≡ Ok (request.Task task)) }
+    ensures none { asked ≡ None → IsErrAnd result (IsRefusedAs (codes "command line")) }
+{
+    match asked {
+        Some(task) => Ok(Request::Task(task)),
         None => Err(no_request(alloc)),
     }
 }
 
-fn asked_to_show(options: &ArgMatches<'_>) -> Option<Request>
-    ensures asks { IfSome result (AsksFor (codes "show") (rows_of (found_of options.now))) }
-    ensures limits { IfSome result IsWithinLimits }
-    ensures none { result ≡ None → (request : Request)
-        → AsksFor (codes "show") (rows_of (found_of options.now)) request → ⊥ }
+fn of_service(asked: Result<Service, ToolFault>) -> Result<Request, ToolFault>
+    ensures { result ≡ request_to_serve asked }
+{
+    match asked {
+        Ok(service) => Ok(Request::Serve(service)),
+        Err(fault) => Err(fault),
+    }
+}
+
+fn asked_to_show(options: &ArgMatches<'_>) -> Option<Task>
+    ensures asks { IfSome result (AsksForTask (codes "show") (rows_of (found_of options.now))) }
+    ensures limits { IfSome result IsTaskWithinLimits }
+    ensures none { result ≡ None → (task : Task)
+        → AsksForTask (codes "show") (rows_of (found_of options.now)) task → ⊥ }
 {
     let max = max_of(options)?;
     let depth = depth_of(options)?;
-    Some(Request::Show { max, depth })
+    Some(Task::Show { max, depth })
 }
 
-fn asked_to_encode(options: &ArgMatches<'_>) -> Option<Request>
-    ensures asks { IfSome result (AsksFor (codes "encode") (rows_of (found_of options.now))) }
-    ensures limits { IfSome result IsWithinLimits }
-    ensures none { result ≡ None → (request : Request)
-        → AsksFor (codes "encode") (rows_of (found_of options.now)) request → ⊥ }
+fn asked_to_encode(options: &ArgMatches<'_>) -> Option<Task>
+    ensures asks { IfSome result (AsksForTask (codes "encode") (rows_of (found_of options.now))) }
+    ensures limits { IfSome result IsTaskWithinLimits }
+    ensures none { result ≡ None → (task : Task)
+        → AsksForTask (codes "encode") (rows_of (found_of options.now)) task → ⊥ }
 {
     let device = device_of(options)?;
     let system = system_of(options)?;
     let max = max_of(options)?;
     let depth = depth_of(options)?;
-    let hex = hex_of(options);
-    Some(Request::Encode {
+    let hex = flag_of(options, "hex");
+    Some(Task::Encode {
         device,
         system,
         max,
@@ -119,44 +148,47 @@ fn asked_to_encode(options: &ArgMatches<'_>) -> Option<Request>
     })
 }
 
-fn device_of(options: &ArgMatches<'_>) -> Option<u16>
+/// The number of `--device`, where it is from 0 to 32,767.
+pub fn device_of(options: &ArgMatches<'_>) -> Option<u16>
     ensures value { result ≡ number_in device_number (rows_of (found_of options.now)) }
     ensures within { IfSome result (λ device. device ≤ 32767) }
 {
-    let device = number_of(options, "device", 0, 32767, 0)?;
+    let device = number_of(options, "device", 0, 32767, Some(0))?;
     Some(device as u16)
 }
 
 fn system_of(options: &ArgMatches<'_>) -> Option<u32>
     ensures { result ≡ number_in system_number (rows_of (found_of options.now)) }
 {
-    number_of(options, "system", 0, 4294967295, 1)
+    number_of(options, "system", 0, 4294967295, Some(1))
 }
 
-fn max_of(options: &ArgMatches<'_>) -> Option<u32>
+/// The number of `--max`, where it is from 256 to 33,554,432.
+pub fn max_of(options: &ArgMatches<'_>) -> Option<u32>
     ensures value { result ≡ number_in max_number (rows_of (found_of options.now)) }
     ensures within { IfSome result (λ max. (256 ≤ max) × (max ≤ 33554432)) }
 {
-    number_of(options, "max", 256, 33554432, 1048576)
+    number_of(options, "max", 256, 33554432, Some(1048576))
 }
 
-fn depth_of(options: &ArgMatches<'_>) -> Option<u8>
+/// The number of `--depth`, where it is from 1 to 100.
+pub fn depth_of(options: &ArgMatches<'_>) -> Option<u8>
     ensures value { result ≡ number_in depth_number (rows_of (found_of options.now)) }
     ensures within { IfSome result (λ depth. (1 ≤ depth) × (depth ≤ 100)) }
 {
-    let depth = number_of(options, "depth", 1, 100, 32)?;
+    let depth = number_of(options, "depth", 1, 100, Some(32))?;
     Some(depth as u8)
 }
 
-// The number of an option, if it is from `least` to `greatest`; where the option is left out, it is `left_out`.
-fn number_of(
+/// The number of an option, if it is from `least` to `greatest`; where the option is left out, it is `left_out`.
+pub fn number_of(
     options: &ArgMatches<'_>,
     name: &str,
     least: u32,
     greatest: u32,
-    left_out: u32,
+    left_out: Option<u32>,
 ) -> Option<u32>
-    requires { (least ≤ left_out) × (left_out ≤ greatest) }
+    requires { IfSome left_out (λ number. (least ≤ number) × (number ≤ greatest)) }
     ensures value { result ≡ number_in (record {
       name = name.now;
       least = least;
@@ -167,7 +199,7 @@ fn number_of(
 {
     match options.try_get_one::<u32>(name) {
         Ok(Some(number)) => within(number, least, greatest),
-        Ok(None) => Some(left_out),
+        Ok(None) => left_out,
         Err(_) => None,
     }
 }
@@ -181,10 +213,11 @@ fn within(number: u32, least: u32, greatest: u32) -> Option<u32>
     Some(number)
 }
 
-fn hex_of(options: &ArgMatches<'_>) -> bool
-    ensures { IsFlag (codes "hex") (rows_of (found_of options.now)) result }
+/// Whether a flag is given.
+pub fn flag_of(options: &ArgMatches<'_>, name: &str) -> bool
+    ensures { IsFlag name.now (rows_of (found_of options.now)) result }
 {
-    options.get_flag("hex")
+    options.get_flag(name)
 }
 
 // Help is asked for, or the command line is refused.
@@ -195,7 +228,7 @@ fn explained(alloc: Global, error: &Error) -> Result<Request, ToolFault>
         ((kind_of error.now ≢ DisplayHelp) × (kind_of error.now ≢ OutOfMemory)) (codes "command line")) }
 {
     match error.kind() {
-        ErrorKind::DisplayHelp => Ok(Request::Help(error.to_string(alloc)?)),
+        ErrorKind::DisplayHelp => Ok(Request::Task(Task::Help(error.to_string(alloc)?))),
         ErrorKind::OutOfMemory => Err(ToolFault::Memory),
         _ => Err(no_request(alloc)),
     }

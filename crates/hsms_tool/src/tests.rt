@@ -1,5 +1,6 @@
 mod auditing;
 mod encoding;
+mod loopback;
 
 ghost use Rattle.std.specs.Prelude.{◌<◌};
 

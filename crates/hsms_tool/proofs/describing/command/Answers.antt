@@ -2,6 +2,7 @@ use Rattle.std.proofs.Common.{rules, ap, ap₂, codes, refl, true, ◌≡◌, �
 use Rattle.std.proofs.lemmas.Result.{IfOk-weaker}
 use Rattle.clap.specs.Words.{App, app_of, new_app, with_rule, with_subcommand}
 use Rattle.hsms_tool.specs.Options.{show_command, encode_command}
+use Rattle.hsms_tool.proofs.Described.{third_fails}
 use Rattle.hsms_tool.proofs.describing.command.Goals as goal
 
 pub returns : goal.returns
@@ -26,6 +27,8 @@ returns c =
     let with_show = c.in_ok-subcommand.ensures.shape (rw (c.in_ok-show.ensures.globals, c.depth_option.ensures.local, c.in_ok-arg.ensures.globals, c.max_option.ensures.local, c.about.ensures, c.new.ensures.local) refl)
     ∙ ap₂ with_subcommand hsms_is (ap (λ (a : App). a.top) show_is) in
     let with_audit = c.in_ok-subcommand-2.ensures.shape (rw c.about-audit.ensures c.new-2.ensures.local) ∙ ap₂ with_subcommand with_show (ap (λ (a : App). a.top) audit_is) in
-    IfOk-weaker c.subcommand-3.result _ _ (λ command adds. adds.shape
+    let with_encode = c.in_ok-subcommand-3.ensures.shape
     (rw (c.in_ok-encode.ensures.globals, c.hex_option.ensures.local, c.in_ok-arg-5.ensures.globals, c.depth_option-2.ensures.local, c.in_ok-arg-4.ensures.globals, c.max_option-2.ensures.local, c.in_ok-arg-3.ensures.globals, c.system_option.ensures.local, c.in_ok-arg-2.ensures.globals, c.device_option.ensures.local, c.about-2.ensures, c.new-3.ensures.local) refl)
-    ∙ ap₂ with_subcommand with_audit (ap (λ (a : App). a.top) encode_is)) c.subcommand-3.ensures
+    ∙ ap₂ with_subcommand with_audit (ap (λ (a : App). a.top) encode_is) in
+    IfOk-weaker c.subcommand-4.result _ _ (λ command adds. adds.shape (third_fails _ _ _ _ (ap (λ (a : App). a.top.is_plain) c.in_ok-serve.ensures))
+    ∙ ap₂ with_subcommand with_encode (ap (λ (a : App). a.top) c.in_ok-serve.ensures)) c.subcommand-4.ensures

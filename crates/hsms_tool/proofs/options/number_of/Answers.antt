@@ -1,7 +1,7 @@
 use Rattle.std.proofs.Common.{◌∙◌, sym, ap, Ok, arith}
 use Rattle.std.specs.Str.Parse.{ExplainsUnsignedError, HasUnsignedDigitsIfOk, ParsesUnsigned}
 use Rattle.clap.specs.Words.{found_of}
-use Rattle.hsms_tool.specs.Options.{Number}
+use Rattle.hsms_tool.specs.Number.{Number}
 use Rattle.hsms_tool.proofs.Asked.{made_of, number_read}
 use Rattle.hsms_tool.proofs.options.number_of.Goals as goal
 

@@ -1,0 +1,31 @@
+-- What `hsms serve --send` reads of an input.
+use Rattle.std.specs.Prelude.{◌≡◌, ◌<◌, ◌≤◌, ◌⊎◌, ◌++◌, ℕ, List, [], ◌∷◌, map, length, codes, string_bytes}
+use Rattle.secs_text.specs.declared.fault.TextFault.{TextFault}
+use Rattle.secs_text.specs.declared.message.Message.{Message}
+use Rattle.secs_text.specs.Fault.{NotesFault}
+use Rattle.secs_text.specs.View.{contents}
+use Rattle.hsms_ends.specs.declared.step.Step.{Step}
+use Rattle.hsms_ends.specs.declared.step.Step.TheVariants.{Send, Separate}
+use Rattle.hsms_tool.specs.declared.fault.ToolFault.{ToolFault}
+use Rattle.hsms_tool.specs.declared.fault.ToolFault.TheVariants.{Refused, Device, Memory}
+use Rattle.hsms_tool.specs.Encode.{SpellsMessages, input_limit, text_fault_text}
+
+-- each message is sent, and then the session is separated
+abbrev pub sends : List Message → List Step
+sends messages = map (λ m. Send m) messages ++ Separate ∷ []
+
+-- the input is the notation of messages, and these steps send them
+abbrev pub IsScript : ℕ → List Step → List ℕ → Type 0
+IsScript depth steps input = (messages : List Message) × SpellsMessages depth input (contents messages) × (steps ≡ sends messages)
+
+-- why an input is no script, in words: it is too long; it isn't messages
+abbrev pub IsRefusedScript : ℕ → List ℕ → List ℕ → Type 0
+IsRefusedScript depth input words =
+    ((input_limit < length input) × (words ≡ codes "Input"))
+    ⊎ ((fault : TextFault) × (length input ≤ input_limit) × NotesFault input depth fault × (words ≡ text_fault_text fault))
+
+-- why no script was read
+abbrev pub IsNoScript : ℕ → ToolFault → List ℕ → Type 0
+IsNoScript depth (Refused words) input = IsRefusedScript depth input (string_bytes words)
+IsNoScript depth (Device word) input = word.now ≡ codes "Read"
+IsNoScript depth Memory input = Unit {0}

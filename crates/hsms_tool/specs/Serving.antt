@@ -1,0 +1,55 @@
+-- What `hsms serve` serves a connection with, and how it tells what came of it.
+use Rattle.std.specs.Prelude.{◌≡◌, ℕ, Bool, true, List, codes, string_bytes, Result, Ok, Err}
+use Rattle.secs_text.specs.Content.{Content}
+use Rattle.hsms_end.specs.Answer.{Answered}
+use Rattle.hsms_end.specs.Desk.{equipment_answer, host_answer}
+use Rattle.hsms_end.specs.Known.{untold}
+use Rattle.hsms_frame.specs.Device.{SinkState}
+use Rattle.hsms_machine.specs.declared.settings.Role.TheVariants as role
+use Rattle.hsms_ends.specs.declared.serving.ServeFault.{ServeFault}
+use Rattle.hsms_ends.specs.declared.serving.ServeFault.TheVariants as serve
+use Rattle.hsms_ends.specs.declared.serving.Served.{Served}
+use Rattle.hsms_ends.specs.declared.step.Step.{Step}
+use Rattle.hsms_ends.specs.Link.{Told}
+use Rattle.hsms_ends.specs.Serving.{Serves}
+use Rattle.hsms_tool.specs.declared.desks.OwnDesk.{OwnDesk}
+use Rattle.hsms_tool.specs.declared.desks.OwnDesk.TheVariants.{Host, Equipment}
+use Rattle.hsms_tool.specs.declared.fault.ToolFault.{ToolFault}
+use Rattle.hsms_tool.specs.declared.fault.ToolFault.TheVariants.{Refused, Device, Memory}
+use Rattle.hsms_tool.specs.declared.service.Service.{Service}
+
+-- what a desk answers
+abbrev pub own_answer : OwnDesk → Content → Answered
+own_answer (Host desk) message = host_answer message
+own_answer (Equipment desk) message = equipment_answer desk.mdln.items desk.softrev.items message
+
+-- the desk of a service: a host's, or that of equipment with its model and software revision
+abbrev pub IsDeskOf : Service → OwnDesk → Type 0
+IsDeskOf service (Host desk) = service.settings.role ≡ role.Host
+IsDeskOf service (Equipment desk) =
+    (service.settings.role ≡ role.Equipment) × (desk.mdln.items ≡ string_bytes service.mdln) × (desk.softrev.items ≡ string_bytes service.softrev)
+
+-- the word for a fault that is a device's, or that ends the serving
+abbrev pub IsWordOf : ServeFault → List ℕ → Type 0
+IsWordOf serve.Link word = word ≡ codes "Link"
+IsWordOf serve.Log word = word ≡ codes "Log"
+IsWordOf serve.Turns word = word ≡ codes "Turns"
+IsWordOf serve.Memory word = ⊥
+
+-- the fault of serving, as the command tells it
+abbrev pub TellsServe : ServeFault → ToolFault → Type 0
+TellsServe fault (Refused words) = ⊥
+TellsServe fault (Device word) = IsWordOf fault word.now
+TellsServe fault Memory = fault ≡ serve.Memory
+
+-- what came of serving, as the command tells it
+abbrev pub TellsServed : Result Served ServeFault → Result Bool ToolFault → Type 0
+TellsServed (Ok served) (Ok well) = well ≡ true
+TellsServed (Ok served) (Err told) = ⊥
+TellsServed (Err fault) (Ok well) = ⊥
+TellsServed (Err fault) (Err told) = TellsServe fault told
+
+-- a new end served a connection with this desk, as the service asks
+abbrev pub ServesTo : Service → OwnDesk → List Step → Result Served ServeFault → SinkState → SinkState → Told → Told → Type 0
+ServesTo service desk script result log log' link link' =
+    Serves own_answer (record { desk = desk; known = untold service.settings service.first_system }) script service.turns result log log' link link'

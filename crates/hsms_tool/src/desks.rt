@@ -1,0 +1,43 @@
+//! The desk of the end that is served.
+
+ghost use Rattle.std.specs.Prelude.{IfOk};
+ghost use Rattle.hsms_tool.specs.Serving.{IsDeskOf};
+
+use crate::service::Service;
+use hsms_ends::{Answer, Desk, EquipmentDesk, HostDesk};
+use hsms_machine::Role;
+use secs_text::Message;
+use std::alloc::{AllocError, Global};
+
+/// A host's desk, or that of equipment.
+#[derive(Debug, Drop)]
+pub enum OwnDesk {
+    Host(HostDesk),
+    Equipment(EquipmentDesk),
+}
+
+impl Desk for OwnDesk {
+    ghost use Rattle.hsms_tool.specs.Serving.{own_answer};
+
+    ghost answers = { λ desk message. own_answer desk message };
+
+    fn answer(&self, alloc: Global, message: &Message) -> Result<Answer, AllocError> {
+        match self {
+            OwnDesk::Host(desk) => desk.answer(alloc, message),
+            OwnDesk::Equipment(desk) => desk.answer(alloc, message),
+        }
+    }
+}
+
+/// The desk of a service: a host's, or that of equipment with its model and software revision.
+pub fn desk_of(alloc: Global, service: &Service) -> Result<OwnDesk, AllocError>
+    ensures { IfOk result (IsDeskOf service.now) }
+{
+    match service.settings.role() {
+        Role::Host => Ok(OwnDesk::Host(HostDesk)),
+        Role::Equipment => Ok(OwnDesk::Equipment(EquipmentDesk {
+            mdln: Vec::from_slice(alloc, service.mdln.as_bytes())?,
+            softrev: Vec::from_slice(alloc, service.softrev.as_bytes())?,
+        })),
+    }
+}

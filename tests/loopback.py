@@ -1,0 +1,738 @@
+#!/usr/bin/env python3
+"""Serves connections over loopback: to plain sockets, to peers that misbehave, and between two processes.
+
+Every log is audited, and every wait ends. It runs what `rt ci` has built, or the program that it is given. The last
+line is `N passed, M failed`.
+"""
+import os
+import re
+import select
+import signal
+import socket
+import struct
+import subprocess
+import sys
+import time
+
+TOP = os.path.dirname(os.path.dirname(os.path.abspath(__file__)))
+PROGRAM = sys.argv[1] if len(sys.argv) > 1 else f"{TOP}/crates/hsms_tool/out/hsms_tool"
+HERE = "127.0.0.1"
+
+# How long anything may take that has to come, and how long is waited for what must not come, in seconds.
+SOON = 30
+A_WHILE = 0.5
+
+SELECT = bytes.fromhex("0000000affff0000000100000001")
+SELECTED = bytes.fromhex("0000000affff0000000200000001")
+PASSED = "pass entries={} sent={} taken={} discarded={} expired={} waiting={}\n"
+
+
+def free_port():
+    with socket.socket() as found:
+        found.bind((HERE, 0))
+        return found.getsockname()[1]
+
+
+def message(session, byte2, byte3, stype, system, text=b""):
+    return struct.pack(">IHBBBBI", 10 + len(text), session, byte2, byte3, 0, stype, system) + text
+
+
+def data(stream, function, system, text=b"", wait=False, device=0):
+    return message(device, stream | (128 if wait else 0), function, 0, system, text)
+
+
+def control(stype, system, byte3=0):
+    return message(0xFFFF, 0, byte3, stype, system)
+
+
+class Serving:
+    """A running `hsms serve`."""
+
+    def __init__(self, role, link, port, *options, script=None, address=HERE, stdout=subprocess.PIPE):
+        words = [PROGRAM, "serve", "--role", role, "--link", link, "--address", address, "--port", str(port), *options]
+        self.run = subprocess.Popen(
+            words + ([] if script is None else ["--send"]),
+            stdin=subprocess.DEVNULL if script is None else subprocess.PIPE,
+            stdout=stdout,
+            stderr=subprocess.PIPE,
+        )
+        self.read = b""
+        if script is not None:
+            try:
+                self.run.stdin.write(script)
+                self.run.stdin.close()
+            except BrokenPipeError:
+                pass
+            self.run.stdin = None
+
+    def line_soon(self, wanted):
+        """Whether the log has this event before long, while the connection is up."""
+        end = time.monotonic() + SOON
+        while time.monotonic() < end:
+            if wanted in events(self.read.decode()):
+                return True
+            if select.select([self.run.stdout], [], [], 0.1)[0]:
+                octets = os.read(self.run.stdout.fileno(), 65536)
+                if not octets:
+                    return False
+                self.read += octets
+        return False
+
+    def ended(self):
+        """The status, the log and what is told on standard error."""
+        try:
+            log, told = self.run.communicate(timeout=SOON)
+        except subprocess.TimeoutExpired:
+            self.run.kill()
+            log, told = self.run.communicate()
+            told += b"(it didn't end)"
+        log = None if log is None else (self.read + log).decode()
+        return self.run.returncode, log, told.decode()
+
+    def killed(self, number):
+        self.run.send_signal(number)
+        return self.ended()
+
+
+class Peer:
+    """The other end of a connection, as plain a socket as can be."""
+
+    def __init__(self, stream):
+        self.stream = stream
+        stream.settimeout(SOON)
+        stream.setsockopt(socket.IPPROTO_TCP, socket.TCP_NODELAY, 1)
+
+    @staticmethod
+    def connected(port):
+        end = time.monotonic() + SOON
+        while True:
+            try:
+                return Peer(socket.create_connection((HERE, port), SOON))
+            except ConnectionRefusedError:
+                if time.monotonic() > end:
+                    raise
+                time.sleep(0.01)
+
+    def send(self, *messages):
+        for octets in messages:
+            self.stream.sendall(octets)
+
+    def send_singly(self, octets):
+        for octet in octets:
+            self.stream.sendall(bytes([octet]))
+
+    def exactly(self, count):
+        octets = b""
+        while len(octets) < count:
+            part = self.stream.recv(count - len(octets))
+            if not part:
+                raise AssertionError(f"closed after {octets.hex()}")
+            octets += part
+        return octets
+
+    def message(self):
+        length = self.exactly(4)
+        return length + self.exactly(struct.unpack(">I", length)[0])
+
+    def rest(self):
+        octets = b""
+        while True:
+            part = self.stream.recv(65536)
+            if not part:
+                return octets
+            octets += part
+
+    def wants(self, *messages):
+        for wanted in messages:
+            same(self.message().hex(), wanted.hex())
+
+    def close(self):
+        self.stream.close()
+
+    def reset(self):
+        self.stream.setsockopt(socket.SOL_SOCKET, socket.SO_LINGER, struct.pack("ii", 1, 0))
+        self.stream.close()
+
+
+class Listening:
+    """A peer that is connected to."""
+
+    def __init__(self):
+        self.listener = socket.socket()
+        self.listener.settimeout(SOON)
+        self.listener.bind((HERE, 0))
+        self.listener.listen()
+        self.port = self.listener.getsockname()[1]
+
+    def accepted(self):
+        stream, _ = self.listener.accept()
+        self.listener.close()
+        return Peer(stream)
+
+    def nobody_comes(self):
+        self.listener.settimeout(A_WHILE)
+        try:
+            self.listener.accept()
+        except (TimeoutError, socket.timeout):
+            return True
+        finally:
+            self.listener.close()
+        return False
+
+
+def same(told, wanted):
+    if told != wanted:
+        raise AssertionError(f"wanted {wanted!r}, told {told!r}")
+
+
+def events(log):
+    """The lines of a log behind the first, without their times."""
+    return [re.sub(r"^\d+ ", "", line) for line in log.split("\n")[1:] if line]
+
+
+def times(log):
+    return [int(line.split(" ")[0]) for line in log.split("\n")[1:] if line]
+
+
+def audited(log):
+    return subprocess.run([PROGRAM, "audit"], input=log.encode(), stdout=subprocess.PIPE, timeout=SOON).stdout.decode()
+
+
+def passes(log):
+    told = audited(log)
+    if not told.startswith("pass "):
+        raise AssertionError(f"{told!r} of {log!r}")
+
+
+def served(serving, wanted):
+    """The connection was served to its end, with this log."""
+    status, log, told = serving.ended()
+    same((status, told), (0, ""))
+    same(events(log), wanted)
+    passes(log)
+    return log
+
+
+def stopped(serving, word, wanted):
+    """The connection was not served to its end, and the log holds what came before."""
+    status, log, told = serving.ended()
+    same((status, told), (3, f"hsms: {word}\n"))
+    same(events(log), wanted)
+    passes(log)
+
+
+def refused(serving, status, words):
+    same(serving.ended(), (status, "", f"hsms: {words}\n"))
+
+
+# ---- sessions
+
+EQUIPMENT_LOG = [
+    "up",
+    "< ffff0000000100000001",
+    "> ffff0000000200000001",
+    "< ffff0000000500000002",
+    "> ffff0000000600000002",
+    "< ffff0000000900000003",
+    "down",
+]
+
+
+def equipment_is_selected_tested_and_separated():
+    port = free_port()
+    serving = Serving("equipment", "passive", port)
+    peer = Peer.connected(port)
+    peer.send(SELECT + control(5, 2) + control(9, 3))
+    same(peer.rest(), SELECTED + control(6, 2))
+    log = served(serving, EQUIPMENT_LOG)
+    same(log.split("\n")[0], "hsms-log 1 equipment passive 0 45000 6000 10000 5000 1048576 32")
+    same(audited(log), PASSED.format(7, 2, 3, 0, 0, 0))
+
+
+def octet_by_octet():
+    port = free_port()
+    serving = Serving("equipment", "passive", port)
+    peer = Peer.connected(port)
+    peer.send_singly(SELECT + control(5, 2) + control(9, 3))
+    same(peer.rest(), SELECTED + control(6, 2))
+    served(serving, EQUIPMENT_LOG)
+
+
+def host_selects_and_separates():
+    peers = Listening()
+    serving = Serving("host", "active", peers.port, script=b"")
+    peer = peers.accepted()
+    peer.send(SELECTED)
+    same(peer.rest(), SELECT + control(9, 2))
+    log = served(
+        serving,
+        ["up", "> ffff0000000100000001", "< ffff0000000200000001", "> ffff0000000900000002", "down"],
+    )
+    same(audited(log), PASSED.format(5, 2, 1, 0, 0, 0))
+
+
+SCRIPT = b'S1F13 W <L> .\nS1F1 W .\nS2F25 W <B 0x01 0x02> .\nS1F2 .\nS6F11 W <L <A "AB">> .\n'
+
+
+def two_processes():
+    port = free_port()
+    equipment = Serving("equipment", "passive", port, "--mdln", "M", "--softrev", "1", "--t3", "10000")
+    time.sleep(A_WHILE)
+    host = Serving("host", "active", port, script=SCRIPT)
+    log = served(
+        host,
+        [
+            "up",
+            "> ffff0000000100000001",
+            "< ffff0000000200000001",
+            "> 0000810d0000000000020100",
+            "< 0000010e0000000000020102210100010241014d410131",
+            "> 00008101000000000003",
+            "< 000001020000000000030102" "41014d410131",
+            "> 00008219000000000004" "21020102",
+            "< 0000021a000000000004" "21020102",
+            "> 0000860b000000000005" "010141024142",
+            "< 0000090300000000000" "1210a0000860b000000000005",
+            "< 00000600000000000005",
+            "> ffff0000000900000006",
+            "down",
+        ],
+    )
+    mirrored = [event.translate(str.maketrans("<>", "><")) for event in events(log)]
+    log = served(equipment, mirrored)
+    same(log.split("\n")[0], "hsms-log 1 equipment passive 0 10000 6000 10000 5000 1048576 32")
+
+
+def log_through_audit():
+    port = free_port()
+    serving = Serving("equipment", "passive", port)
+    audit = subprocess.Popen([PROGRAM, "audit"], stdin=serving.run.stdout, stdout=subprocess.PIPE)
+    peer = Peer.connected(port)
+    peer.send(SELECT, control(9, 2))
+    peer.rest()
+    same(audit.communicate(timeout=SOON)[0].decode(), PASSED.format(5, 1, 2, 0, 0, 0))
+    serving.run.stdout.close()
+    same(serving.run.wait(SOON), 0)
+    serving.run.stderr.close()
+
+
+def log_comes_line_by_line():
+    port = free_port()
+    serving = Serving("equipment", "passive", port)
+    peer = Peer.connected(port)
+    same(serving.line_soon("up"), True)
+    peer.send(SELECT)
+    same(serving.line_soon("> ffff0000000200000001"), True)
+    peer.send(control(5, 2))
+    same(serving.line_soon("> ffff0000000600000002"), True)
+    peer.send(control(9, 3))
+    same(peer.rest(), SELECTED + control(6, 2))
+    served(serving, EQUIPMENT_LOG)
+
+
+def plain_host_breaks_rules():
+    port = free_port()
+    serving = Serving("equipment", "passive", port, "--mdln", "M", "--softrev", "1")
+    peer = Peer.connected(port)
+    peer.send(data(1, 1, 1, wait=True))
+    peer.wants(message(0, 0, 4, 7, 1))
+    peer.send(SELECT)
+    peer.wants(SELECTED)
+    peer.send(data(1, 1, 2, wait=True))
+    identity = bytes.fromhex("010241014d410131")
+    peer.wants(data(1, 2, 2, identity))
+    peer.send(data(1, 13, 3, bytes.fromhex("0100"), wait=True))
+    peer.wants(data(1, 14, 3, bytes.fromhex("0102210100") + identity))
+    peer.send(control(5, 4))
+    peer.wants(control(6, 4))
+    strange = data(1, 1, 5, wait=True, device=7)
+    peer.send(strange)
+    peer.wants(data(9, 1, 1, b"\x21\x0a" + strange[4:]))
+    peer.send(control(3, 6))
+    peer.wants(message(0xFFFF, 3, 1, 7, 6))
+    bad = data(1, 1, 8, b"\x40", wait=True)
+    peer.send(bad)
+    peer.wants(data(9, 7, 2, b"\x21\x0a" + bad[4:14]))
+    peer.send(control(1, 9))
+    peer.wants(control(2, 9, 1))
+    peer.send(data(1, 2, 10))
+    peer.send(control(6, 11))
+    peer.wants(message(0xFFFF, 6, 3, 7, 11))
+    peer.send(control(9, 12))
+    same(peer.rest(), b"")
+    status, log, told = serving.ended()
+    same((status, told), (0, ""))
+    passes(log)
+    same(sum(event.startswith("! ") for event in events(log)), 6)
+
+
+def plain_equipment_breaks_rules():
+    peers = Listening()
+    serving = Serving("host", "active", peers.port, script=b"S1F1 W .\nS1F13 W <L> .\n")
+    peer = peers.accepted()
+    peer.wants(SELECT)
+    peer.send(SELECTED)
+    peer.wants(data(1, 1, 2, wait=True))
+    peer.send(data(1, 2, 77, bytes.fromhex("0100")))
+    peer.send(data(1, 4, 2))
+    peer.send(control(5, 9))
+    peer.wants(control(6, 9))
+    peer.send(data(1, 2, 2, bytes.fromhex("010241014d410131")))
+    peer.wants(data(1, 13, 3, bytes.fromhex("0100"), wait=True))
+    peer.send(data(1, 14, 3, bytes.fromhex("0102210100010241014d410131")))
+    peer.wants(control(9, 4))
+    same(peer.rest(), b"")
+    status, log, told = serving.ended()
+    same((status, told), (0, ""))
+    same(sum(event.startswith("! ") for event in events(log)), 2)
+    same(events(log)[-2:], ["> ffff0000000900000004", "down"])
+    passes(log)
+
+
+def times_are_those_of_the_connection():
+    port = free_port()
+    serving = Serving("equipment", "passive", port)
+    time.sleep(A_WHILE)
+    peer = Peer.connected(port)
+    peer.send(SELECT)
+    peer.wants(SELECTED)
+    time.sleep(A_WHILE)
+    peer.send(control(9, 2))
+    log = served(serving, ["up", "< ffff0000000100000001", "> ffff0000000200000001", "< ffff0000000900000002", "down"])
+    first, last = times(log)[0], times(log)[-1]
+    if first > 1000 * A_WHILE or last < 1000 * A_WHILE - 10 or last > 1000 * SOON:
+        raise AssertionError(f"from {first} to {last} ms")
+
+
+# ---- bad peers
+
+def silence():
+    port = free_port()
+    serving = Serving("equipment", "passive", port, "--t7", "300")
+    peer = Peer.connected(port)
+    same(peer.rest(), b"")
+    log = served(serving, ["up", "cut t7", "down"])
+    if times(log)[1] <= 300:
+        raise AssertionError(log)
+
+
+def one_octet_and_silence():
+    port = free_port()
+    serving = Serving("equipment", "passive", port, "--t8", "200")
+    peer = Peer.connected(port)
+    peer.send(b"\0")
+    same(peer.rest(), b"")
+    served(serving, ["up", "cut t8", "down"])
+
+
+def no_answer_to_select():
+    peers = Listening()
+    serving = Serving("host", "active", peers.port, "--t6", "200")
+    peer = peers.accepted()
+    same(peer.rest(), SELECT)
+    served(serving, ["up", "> ffff0000000100000001", "cut t6", "down"])
+
+
+def no_reply():
+    peers = Listening()
+    serving = Serving("host", "active", peers.port, "--t3", "200", script=b"S1F1 W .")
+    peer = peers.accepted()
+    peer.send(SELECTED)
+    same(peer.rest(), SELECT + data(1, 1, 2, wait=True) + control(9, 3))
+    served(
+        serving,
+        [
+            "up",
+            "> ffff0000000100000001",
+            "< ffff0000000200000001",
+            "> 00008101000000000002",
+            "t3 00000002",
+            "> ffff0000000900000003",
+            "down",
+        ],
+    )
+
+
+def flood_of_octets():
+    port = free_port()
+    serving = Serving("equipment", "passive", port)
+    peer = Peer.connected(port)
+    try:
+        for _ in range(100):
+            peer.send(b"\xff" * 65536)
+    except (BrokenPipeError, ConnectionResetError):
+        pass
+    served(serving, ["up", "cut length", "down"])
+    peer.close()
+
+
+def flood_of_requests():
+    """The peer asks for 60,000 octets on and on, and never reads: a send fails, or the next octets come past T8."""
+    port = free_port()
+    name = f"/tmp/hsms-flood-{port}.log"
+    serving = Serving("equipment", "passive", port, "--t8", "300", stdout=open(name, "wb"))
+    try:
+        peer = Peer.connected(port)
+        peer.stream.settimeout(3)
+        peer.send(SELECT)
+        text = b"\x22" + struct.pack(">H", 60000) + bytes(60000)
+        try:
+            for system in range(2, 1000):
+                peer.send(data(2, 25, system, text, wait=True))
+        except (BrokenPipeError, ConnectionResetError, TimeoutError, socket.timeout):
+            pass
+        status, _, told = serving.ended()
+        if (status, told) not in ((0, ""), (3, "hsms: Link\n")):
+            raise AssertionError(f"status {status}, {told!r}")
+        with open(name) as file:
+            log = file.read()
+        same(events(log)[-1], "down")
+        passes(log)
+        peer.close()
+    finally:
+        os.remove(name)
+
+
+def half_a_header_and_closed():
+    port = free_port()
+    serving = Serving("equipment", "passive", port)
+    peer = Peer.connected(port)
+    peer.send(SELECT[:9])
+    peer.close()
+    served(serving, ["up", "down"])
+
+
+def closed_at_once():
+    port = free_port()
+    serving = Serving("equipment", "passive", port)
+    Peer.connected(port).close()
+    served(serving, ["up", "down"])
+
+
+def closed_before_it_is_answered():
+    """The peer is gone while the end answers, so the end writes to nobody."""
+    port = free_port()
+    serving = Serving("equipment", "passive", port)
+    peer = Peer.connected(port)
+    peer.send(SELECT + b"".join(control(5, system) for system in range(2, 200)))
+    peer.close()
+    status, log, told = serving.ended()
+    if (status, told) not in ((0, ""), (3, "hsms: Link\n")):
+        raise AssertionError(f"status {status}, {told!r}")
+    same(events(log)[-1], "down")
+    passes(log)
+
+
+def closed_while_a_reply_is_awaited():
+    peers = Listening()
+    serving = Serving("host", "active", peers.port, script=b"S1F1 W .")
+    peer = peers.accepted()
+    peer.wants(SELECT)
+    peer.send(SELECTED)
+    peer.wants(data(1, 1, 2, wait=True))
+    peer.close()
+    served(
+        serving,
+        ["up", "> ffff0000000100000001", "< ffff0000000200000001", "> 00008101000000000002", "down"],
+    )
+
+
+def reset():
+    port = free_port()
+    serving = Serving("equipment", "passive", port)
+    peer = Peer.connected(port)
+    peer.send(SELECT)
+    peer.wants(SELECTED)
+    peer.reset()
+    stopped(serving, "Link", ["up", "< ffff0000000100000001", "> ffff0000000200000001", "down"])
+
+
+def never_connected():
+    serving = Serving("equipment", "passive", free_port())
+    time.sleep(A_WHILE)
+    same(serving.run.poll(), None)
+    same(serving.killed(signal.SIGTERM), (-signal.SIGTERM, "", ""))
+
+
+def terminated():
+    port = free_port()
+    serving = Serving("equipment", "passive", port)
+    peer = Peer.connected(port)
+    peer.send(SELECT)
+    peer.wants(SELECTED)
+    same(serving.line_soon("> ffff0000000200000001"), True)
+    status, log, told = serving.killed(signal.SIGTERM)
+    same((status, told), (-signal.SIGTERM, ""))
+    same(audited(log), PASSED.format(3, 1, 1, 0, 0, 0))
+    peer.close()
+
+
+# ---- what ends it otherwise
+
+def turns_are_used():
+    port = free_port()
+    serving = Serving("equipment", "passive", port, "--turns", "1")
+    peer = Peer.connected(port)
+    peer.send(SELECT)
+    same(peer.rest(), SELECTED)
+    stopped(serving, "Turns", ["up", "< ffff0000000100000001", "> ffff0000000200000001"])
+
+
+def nobody_reads_the_log():
+    port = free_port()
+    serving = Serving("equipment", "passive", port)
+    serving.run.stdout.close()
+    serving.run.stdout = None
+    peer = Peer.connected(port)
+    try:
+        peer.rest()
+    except ConnectionResetError:
+        pass
+    status, _, told = serving.ended()
+    same((status, told), (3, "hsms: Log\n"))
+
+
+def log_is_full():
+    port = free_port()
+    with open("/dev/full", "wb") as full:
+        serving = Serving("equipment", "passive", port, stdout=full)
+        peer = Peer.connected(port)
+        try:
+            peer.rest()
+        except ConnectionResetError:
+            pass
+        status, _, told = serving.ended()
+    same((status, told), (3, "hsms: Log\n"))
+
+
+def nobody_listens():
+    refused(Serving("host", "active", free_port()), 3, "Link")
+
+
+def port_is_in_use():
+    peers = Listening()
+    refused(Serving("equipment", "passive", peers.port), 3, "Link")
+    peers.listener.close()
+
+
+def address_is_none():
+    for address in ("127.0.0.256", "256.256.256.256", "192.0.2.1", "not an address", ""):
+        refused(Serving("equipment", "passive", free_port(), address=address), 3, "Link")
+
+
+def script_is_refused_before_the_connection():
+    for script, words in (
+        (b"S1F1 W <U1 256> .", "Number at=11"),
+        (b"S1F1 W .\nS1F1 W", "Syntax at=15"),
+        (b"S1F1 <B [2] 0x00> .", "Count at=8"),
+        (b" " * 67108865, "Input"),
+    ):
+        peers = Listening()
+        refused(Serving("host", "active", peers.port, script=script), 2, words)
+        same(peers.nobody_comes(), True)
+    peers = Listening()
+    refused(Serving("host", "active", peers.port, "--depth", "1", script=b"S1F1 <L <L>> ."), 2, "Deep at=8")
+    same(peers.nobody_comes(), True)
+
+
+WORDS = ["serve", "--role", "host", "--link", "active", "--address", HERE, "--port", "1"]
+
+
+def command_line_is_refused():
+    lines = [WORDS[:1] + WORDS[1:][:i] + WORDS[1:][i + 2:] for i in range(0, 8, 2)]
+    for option, values in (
+        ("--role", ["Host", "both", ""]),
+        ("--link", ["Active", "none", ""]),
+        ("--port", ["0", "65536", "-1", "x", ""]),
+    ):
+        at = WORDS.index(option)
+        lines += [WORDS[: at + 1] + [value] + WORDS[at + 2:] for value in values]
+    for option, values in (
+        ("--device", ["32768", "-1"]),
+        ("--t3", ["0", "3600001"]),
+        ("--t6", ["0", "3600001"]),
+        ("--t7", ["0", "3600001"]),
+        ("--t8", ["0", "3600001"]),
+        ("--max", ["255", "33554433"]),
+        ("--depth", ["0", "101"]),
+        ("--first-system", ["4294967296"]),
+        ("--turns", ["4294967296"]),
+    ):
+        lines += [WORDS + [option, value] for value in values]
+    lines += [WORDS + ["--send", "x"], WORDS + ["--t5", "1"], WORDS + ["--mdln"], WORDS + ["x"]]
+    for words in lines:
+        run = subprocess.run([PROGRAM, *words], input=b"", capture_output=True, timeout=SOON)
+        same((words, run.returncode, run.stdout, run.stderr), (words, 2, b"", b"hsms: command line\n"))
+
+
+def help_tells_every_option():
+    run = subprocess.run([PROGRAM, "serve", "--help"], capture_output=True, timeout=SOON)
+    same((run.returncode, run.stderr), (0, b""))
+    for word in "role link address port device t3 t6 t7 t8 max depth first-system turns mdln softrev send".split():
+        same((word, f"--{word} " in run.stdout.decode()), (word, True))
+
+
+def every_option_is_taken():
+    port = free_port()
+    serving = Serving(
+        "equipment", "passive", port, "--device", "32767", "--t3", "3600000", "--t6", "1", "--t7", "2", "--t8", "3",
+        "--max", "256", "--depth", "100", "--first-system", "4294967295", "--turns", "4294967295", "--mdln", "\u00e9",
+        "--softrev", "", address="localhost",
+    )
+    peer = Peer.connected(port)
+    peer.rest()
+    status, log, told = serving.ended()
+    same((status, told), (0, ""))
+    same(log.split("\n")[0], "hsms-log 1 equipment passive 32767 3600000 1 2 3 256 100")
+
+
+TESTS = [
+    equipment_is_selected_tested_and_separated,
+    octet_by_octet,
+    host_selects_and_separates,
+    two_processes,
+    log_through_audit,
+    log_comes_line_by_line,
+    plain_host_breaks_rules,
+    plain_equipment_breaks_rules,
+    times_are_those_of_the_connection,
+    silence,
+    one_octet_and_silence,
+    no_answer_to_select,
+    no_reply,
+    flood_of_octets,
+    flood_of_requests,
+    half_a_header_and_closed,
+    closed_at_once,
+    closed_before_it_is_answered,
+    closed_while_a_reply_is_awaited,
+    reset,
+    never_connected,
+    terminated,
+    turns_are_used,
+    log_is_full,
+    nobody_reads_the_log,
+    nobody_listens,
+    port_is_in_use,
+    address_is_none,
+    script_is_refused_before_the_connection,
+    command_line_is_refused,
+    help_tells_every_option,
+    every_option_is_taken,
+]
+
+
+def main():
+    failed = 0
+    for test in TESTS:
+        try:
+            test()
+        except (AssertionError, OSError, subprocess.TimeoutExpired) as error:
+            failed += 1
+            print(f"{test.__name__}: {error!r}")
+    print(f"{len(TESTS) - failed} passed, {failed} failed")
+    return 1 if failed else 0
+
+
+if __name__ == "__main__":
+    sys.exit(main())
