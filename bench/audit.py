@@ -140,13 +140,14 @@ def others(size):
 
 
 def instructions(runner, path, words, make, counted):
-    """The instructions an octet: those that the second half of an input takes, or None where they can't be counted."""
+    """The instructions an octet, which are those that the second half of an input takes, and the instructions a line of
+    the whole input; or None where they can't be counted."""
     counts = []
     for size in (counted // 2, counted):
         write(path, make, size)
         counts.append((os.path.getsize(path), runner.instructions([PROGRAM, *words], path)))
     (half, fewer), (whole, more) = counts
-    return None if more is None else (more - fewer) / (whole - half)
+    return None if more is None else ((more - fewer) / (whole - half), more / lines_of(path))
 
 
 def measure(runner, path, words, what, make, size, counted):
@@ -156,7 +157,7 @@ def measure(runner, path, words, what, make, size, counted):
     taken, held = runner.run([PROGRAM, *words], path, times=3)
     lines = f", {lines_of(path) / taken:,.0f} lines/s" if words == ["audit"] else ""
     each = instructions(runner, path, words, make, counted)
-    counted_as = "" if each is None else f", {each:.1f} instructions an octet"
+    counted_as = "" if each is None else f", {each[0]:.1f} instructions an octet, {each[1]:.0f} a line"
     rate = f"{octets / MB / taken:.1f} MB/s{lines}{counted_as}"
     print(f"hsms {words[0]}, {what}, {octets / MB:.0f} MB: {rate}, {held:.1f} MB held", flush=True)
 

@@ -9,7 +9,7 @@ _hsms() {
     --link) mapfile -t COMPREPLY < <(compgen -W 'active passive' -- "$word") && return ;;
   esac
   if [ "$COMP_CWORD" = 1 ]; then
-    words='show encode audit serve help --help'
+    words='show encode audit serve help --help --version'
   else
     case ${COMP_WORDS[1]} in
       show) words='--max --depth --help' ;;

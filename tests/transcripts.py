@@ -1,8 +1,8 @@
 #!/usr/bin/env python3
 """Runs each command that README.md, docs/ and examples/ show, and compares what it writes with what stands below it.
 
-A block that begins ```console has commands, each on a line that begins with `$ `, and below each what it writes on
-standard output and standard error. They run at the top of the repository, with `hsms` on the path. Before that, `rt ci`
+A block that begins ```console has commands, each on a line that begins with `$ ` and on those that follow a backslash at
+its end, and below each what it writes on standard output and standard error. They run at the top of the repository, with `hsms` on the path. Before that, `rt ci`
 has to have built the command. The logs of docs/RULES.md are audited too: each is the example of its rule, and has the
 verdict that the page tells; contrib/failures.py begins with the same. The last line is `N passed, M failed`.
 """
@@ -14,6 +14,7 @@ import sys
 
 TOP = os.path.dirname(os.path.dirname(os.path.abspath(__file__)))
 BLOCK = re.compile(r"^```console\n(.*?)^```$", re.M | re.S)
+COMMAND = re.compile(r"((?:.*\\\n)*.*)\n?([\s\S]*)")
 SETTINGS = re.compile(r"^```\n(hsms-log .*\n)```$", re.M)
 RULE = re.compile(r"^## \d+\. `(\w+)`\n(?:(?!^## ).*\n)*?```\n((?:.*\n)*?)```\n\n`(fail .*)`$", re.M)
 RULES = 19
@@ -23,7 +24,7 @@ def commands(text):
     """Yields each command of a document, and what it is said to write."""
     for block in BLOCK.findall(text):
         for part in re.split(r"^\$ ", block, flags=re.M)[1:]:
-            command, _, wanted = part.partition("\n")
+            command, wanted = COMMAND.fullmatch(part).groups()
             yield command, wanted.rstrip("\n")
 
 

@@ -10,7 +10,7 @@ use Rattle.clap.specs.ValueTests.{is_unsigned_in}
 use Rattle.clap.specs.Words.{App, HasMatchesOf, IsAmong, Kinds, Row, Text, TriesOne, fault_of, is_simple, is_simple_and_free, one_of, one_text, rows_of, subcommand_of, subcommand_rows_of}
 use Rattle.clap.specs.declared.builder.value_parser.ValueParser.TheVariants.{Unsigned}
 use Rattle.clap.specs.declared.error.kind.ErrorKind.{ErrorKind}
-use Rattle.clap.specs.declared.error.kind.ErrorKind.TheVariants.{DisplayHelp, OutOfMemory}
+use Rattle.clap.specs.declared.error.kind.ErrorKind.TheVariants.{DisplayHelp, DisplayVersion, OutOfMemory}
 use Rattle.clap.specs.declared.parser.matches.ArgMatches.{ArgMatches}
 use Rattle.clap.specs.declared.parser.matches.Found.{Found}
 use Rattle.hsms_tool.specs.declared.fault.ToolFault.{ToolFault}
@@ -20,7 +20,7 @@ use Rattle.hsms_tool.specs.declared.options.Request.TheVariants as request
 use Rattle.hsms_tool.specs.declared.options.Task.TheVariants as asked
 use Rattle.hsms_tool.specs.declared.service.Service.{Service}
 use Rattle.hsms_tool.specs.Number.{IsFlag, Number, number_between, number_in}
-use Rattle.hsms_tool.specs.Options.{AsksBy, AsksFor, IsHelp, Spells, SpellsNothing, SpellsWork, command_line, request_to_serve}
+use Rattle.hsms_tool.specs.Options.{AsksBy, AsksFor, CallsForText, IsHelp, Spells, SpellsNothing, SpellsWork, command_line, request_to_serve}
 use Rattle.hsms_machine.specs.Settings.{Parameters}
 use Rattle.hsms_tool.specs.Service.{AsksToServe, HasTerms}
 use Rattle.hsms_tool.specs.Status.{IsRefusedAs, IsRefusedFor}
@@ -148,6 +148,7 @@ nothing_parsed words m app text (Err (Refused given)) is has fine (told, none) =
       told,
       (
         (λ help. let bad : ◌≡◌ {A = Kinds} [] (DisplayHelp ∷ []) = sym no_fault ∙ help in absurd cc),
+        (λ version. let bad : ◌≡◌ {A = Kinds} [] (DisplayVersion ∷ []) = sym no_fault ∙ version in absurd cc),
         (λ request work.
             let P : Option (Text × List Row) → Type 0 = λ e. AsksBy e request in
             none request (subst P (sym (entered_by words m app is has)) work.1)),
@@ -156,44 +157,50 @@ nothing_parsed words m app text (Err (Refused given)) is has fine (told, none) =
 nothing_parsed words m app text (Err (Device word)) is has fine why = why
 nothing_parsed words m app text (Err Memory) is has fine why = tt
 
--- the words were refused, or call for help
+-- the words were refused for this kind, which isn't want of memory
+among_faults : (words : List Text) (app : App) (k : ErrorKind) → k ≢ OutOfMemory → app ≡ command_line
+    → (is_simple_and_free app ≡ true → (k ≡ OutOfMemory) ⊎ IsAmong k (fault_of app words)) → IsAmong k (fault_of command_line words)
+among_faults words app k no_memory is fails = elim (fails (ap is_simple_and_free is ∙ command_is_free)) [
+  | inl memory ↦ absurd (no_memory memory)
+  | inr among ↦ let Q : App → Type 0 = λ a. IsAmong k (fault_of a words) in subst Q is among
+]
+
+-- the words were refused, or call for a text
 pub asks_explained : (words : List Text) (app : App) (k : ErrorKind) (r : Result Request ToolFault) → app ≡ command_line
-    → (is_simple_and_free app ≡ true → (k ≡ OutOfMemory) ⊎ IsAmong k (fault_of app words)) → IfOk r (λ request. IsHelp request × (k ≡ DisplayHelp))
+    → (is_simple_and_free app ≡ true → (k ≡ OutOfMemory) ⊎ IsAmong k (fault_of app words)) → IfOk r (λ request. IsHelp request × CallsForText k)
     → IfOk r (Spells words)
-asks_explained words app k (Ok (request.Task (asked.Help text))) is fails (help, kind) =
-    elim (fails (ap is_simple_and_free is ∙ command_is_free)) [
-      | inl memory ↦ let bad : ◌≡◌ {A = ErrorKind} DisplayHelp OutOfMemory = sym kind ∙ memory in absurd cc
-      | inr among ↦
-          let P : ErrorKind → Type 0 = λ x. IsAmong x (fault_of app words) in
-          let Q : App → Type 0 = λ a. IsAmong DisplayHelp (fault_of a words) in
-          subst Q is (subst P kind among)
-    ]
+asks_explained words app k (Ok (request.Task (asked.Help text))) is fails (help, inl kind) =
+    inl (among_faults words app DisplayHelp (λ memory. absurd cc) is (subst (λ x. is_simple_and_free app ≡ true → (x ≡ OutOfMemory) ⊎ IsAmong x (fault_of app words)) kind fails))
+asks_explained words app k (Ok (request.Task (asked.Help text))) is fails (help, inr kind) =
+    inr (among_faults words app DisplayVersion (λ memory. absurd cc) is (subst (λ x. is_simple_and_free app ≡ true → (x ≡ OutOfMemory) ⊎ IsAmong x (fault_of app words)) kind fails))
 asks_explained words app k (Ok (request.Task asked.Audit)) is fails (help, kind) = absurd help
 asks_explained words app k (Ok (request.Task (asked.Show max depth))) is fails (help, kind) = absurd help
 asks_explained words app k (Ok (request.Task (asked.Encode device system max depth hex))) is fails (help, kind) = absurd help
 asks_explained words app k (Ok (request.Serve service)) is fails (help, kind) = absurd help
 asks_explained words app k (Err fault) is fails help = tt
 
-another_kind : (k : ErrorKind) (kinds : Kinds) → k ≢ DisplayHelp → IsAmong k kinds → (kinds ≢ DisplayHelp ∷ []) × (kinds ≢ [])
-another_kind k kinds no_help among = (
-  (λ is. let P : Kinds → Type 0 = λ ks. IsAmong k ks in elim (subst P is among) [
-    | inl same ↦ no_help same
-    | inr none ↦ none
-  ]),
-  (λ is. let P : Kinds → Type 0 = λ ks. IsAmong k ks in subst P is among),
-)
+another_kind : (k other : ErrorKind) (kinds : Kinds) → k ≢ other → IsAmong k kinds → kinds ≢ other ∷ []
+another_kind k other kinds differs among is = let P : Kinds → Type 0 = λ ks. IsAmong k ks in elim (subst P is among) [
+  | inl same ↦ differs same
+  | inr none ↦ none
+]
+
+some_kind : (k : ErrorKind) (kinds : Kinds) → IsAmong k kinds → kinds ≢ []
+some_kind k kinds among is = let P : Kinds → Type 0 = λ ks. IsAmong k ks in subst P is among
 
 pub nothing_explained : (words : List Text) (app : App) (k : ErrorKind) (text : List ℕ) (r : Result Request ToolFault) → app ≡ command_line
     → (is_simple_and_free app ≡ true → (k ≡ OutOfMemory) ⊎ IsAmong k (fault_of app words))
-    → IfErr r (IsRefusedFor ((k ≢ DisplayHelp) × (k ≢ OutOfMemory)) text) → IfErr r (IsRefusedFor (SpellsNothing words) text)
+    → IfErr r (IsRefusedFor ((CallsForText k → ⊥) × (k ≢ OutOfMemory)) text) → IfErr r (IsRefusedFor (SpellsNothing words) text)
 nothing_explained words app k text (Ok request) is fails why = tt
-nothing_explained words app k text (Err (Refused given)) is fails (told, (no_help, no_memory)) =
-    elim (fails (ap is_simple_and_free is ∙ command_is_free)) [
-      | inl memory ↦ absurd (no_memory memory)
-      | inr among ↦
-          let Q : App → Type 0 = λ a. IsAmong k (fault_of a words) in
-          let other = another_kind k (fault_of command_line words) no_help (subst Q is among) in
-          (told, (other.0, (λ request work. other.1 work.0)))
-    ]
+nothing_explained words app k text (Err (Refused given)) is fails (told, (no_text, no_memory)) =
+    let among = among_faults words app k no_memory is fails in
+    (
+      told,
+      (
+        another_kind k DisplayHelp (fault_of command_line words) (λ same. no_text (inl same)) among,
+        another_kind k DisplayVersion (fault_of command_line words) (λ same. no_text (inr same)) among,
+        (λ request work. some_kind k (fault_of command_line words) among work.0),
+      ),
+    )
 nothing_explained words app k text (Err (Device word)) is fails why = why
 nothing_explained words app k text (Err Memory) is fails why = tt

@@ -1,7 +1,8 @@
 -- What the words of a command line ask for, by the way in which `clap` reads them.
-use Rattle.std.specs.Prelude.{◌≡◌, ◌≢◌, ◌≤◌, true, false, List, [], ◌∷◌, codes, Option, Some, Result, Ok, Err}
+use Rattle.std.specs.Prelude.{◌≡◌, ◌≢◌, ◌≤◌, ◌⊎◌, true, false, List, [], ◌∷◌, codes, Option, Some, Result, Ok, Err}
 use Rattle.clap.specs.Words.{App, IsAmong, Row, Shape, Text, fault_of, new_app, subcommand_of}
-use Rattle.clap.specs.declared.error.kind.ErrorKind.TheVariants.{DisplayHelp}
+use Rattle.clap.specs.declared.error.kind.ErrorKind.{ErrorKind}
+use Rattle.clap.specs.declared.error.kind.ErrorKind.TheVariants.{DisplayHelp, DisplayVersion}
 use Rattle.hsms_tool.specs.declared.fault.ToolFault.{ToolFault}
 use Rattle.hsms_tool.specs.declared.options.Request.{Request}
 use Rattle.hsms_tool.specs.declared.options.Request.TheVariants as request
@@ -31,10 +32,10 @@ encode_command = record (named (codes "encode")) {
 abbrev pub serve_command : Shape
 serve_command = record (named (codes "serve")) { rules = serve_rules }
 
--- the command, which wants one of the four subcommands
+-- the command, which wants one of the four subcommands, and has a version
 abbrev pub command_line : App
 command_line = record {
-  top = record (named (codes "hsms")) { is_leaf = false; subcommand_required = true };
+  top = record (named (codes "hsms")) { is_leaf = false; subcommand_required = true; has_version = true };
   subs = show_command ∷ audit_command ∷ encode_command ∷ serve_command ∷ [];
 }
 
@@ -68,21 +69,27 @@ AsksBy entered request = (name : Text) × (rows : List Row) × (entered ≡ Some
 abbrev pub SpellsWork : List Text → Request → Type 0
 SpellsWork words request = (fault_of command_line words ≡ []) × AsksBy (subcommand_of command_line words) request
 
--- the words ask for this task, or may call for help
+-- the kinds of error that call for a text: help, or the version
+abbrev pub CallsForText : ErrorKind → Type 0
+CallsForText kind = (kind ≡ DisplayHelp) ⊎ (kind ≡ DisplayVersion)
+
+-- the words ask for this task, or may call for help or for the version
 abbrev pub SpellsTask : List Text → Task → Type 0
-SpellsTask words (asked.Help text) = IsAmong DisplayHelp (fault_of command_line words)
+SpellsTask words (asked.Help text) = IsAmong DisplayHelp (fault_of command_line words) ⊎ IsAmong DisplayVersion (fault_of command_line words)
 SpellsTask words asked.Audit = SpellsWork words (request.Task asked.Audit)
 SpellsTask words (asked.Show max depth) = SpellsWork words (request.Task (asked.Show max depth))
 SpellsTask words (asked.Encode device system max depth hex) = SpellsWork words (request.Task (asked.Encode device system max depth hex))
 
--- the words ask for this, or may call for help
+-- the words ask for this, or may call for help or for the version
 abbrev pub Spells : List Text → Request → Type 0
 Spells words (request.Task task) = SpellsTask words task
 Spells words (request.Serve service) = SpellsWork words (request.Serve service)
 
--- the words ask for no work, and nothing says that they call for help alone
+-- the words ask for no work, and nothing says that they call for help alone, or for the version alone
 abbrev pub SpellsNothing : List Text → Type 0
-SpellsNothing words = (fault_of command_line words ≢ DisplayHelp ∷ []) × ((request : Request) → SpellsWork words request → ⊥)
+SpellsNothing words =
+    (fault_of command_line words ≢ DisplayHelp ∷ []) × (fault_of command_line words ≢ DisplayVersion ∷ [])
+    × ((request : Request) → SpellsWork words request → ⊥)
 
 -- each number of a task is within its limits
 abbrev pub IsTaskWithinLimits : Task → Type 0

@@ -11,11 +11,15 @@ use crate::describing::{depth_option, device_option, max_option};
 use clap::{Arg, ArgAction, Command, value_parser};
 use std::alloc::{AllocError, Global};
 
-const STATUSES: &str =
+const SERVE_USAGE: &str =
+    "hsms serve --role ROLE --link LINK --address A --port P [OPTIONS] [--send < NOTATION] > LOG";
+
+const SERVE_HELP: &str =
     "Each end answers Select, Linktest, S1F1, S1F13 and S2F25, and rejects or aborts what it may not take.\n\n\
-    Statuses: 0 the connection was served to its end; 2 the command line or the script is refused; 3 there is no \
-    connection, or it broke (Link), the log can't be written (Log), the turns are used (Turns), standard input can't be \
-    read (Read), or memory is wanting (Memory).";
+    Example: hsms serve --role equipment --link passive --address 127.0.0.1 --port 5000 > equipment.log\n\n\
+    Statuses: 0 the connection was served to its end; 2 the command line or the script is refused (Input, Syntax,\n\
+    Number, Count, Deep); 3 there is no connection, or it broke (Link), the log can't be written (Log), all turns are\n\
+    used (Turns), standard input can't be read (Read), or memory is wanting (Memory).";
 
 /// The subcommand `serve`.
 pub fn serve_command<'a>(alloc: Global) -> Result<Command<'a>, AllocError>
@@ -23,7 +27,8 @@ pub fn serve_command<'a>(alloc: Global) -> Result<Command<'a>, AllocError>
 {
     let serve = Command::new(alloc, "serve")
         .about("Serves one HSMS connection, and writes its log")
-        .after_help(STATUSES);
+        .override_usage(SERVE_USAGE)
+        .after_help(SERVE_HELP);
     let connected = with_connection(alloc, serve)?;
     let limited = with_limits(alloc, connected)?;
     with_desk(alloc, limited)

@@ -2,6 +2,8 @@
 //! that are written in notation, and serves a connection.
 #![tactic(auto)]
 
+ghost use Rattle.hsms_tool.specs.Options.{IsTaskWithinLimits};
+
 mod auditing;
 mod calls;
 mod describing;
@@ -61,7 +63,9 @@ fn run<R: AllocGlobal + Clock + Env + Input + Net + Print>(rt: &R) -> Result<boo
 
 // Does a task with standard input and standard output. What was written before a fault is put out before the fault is
 // answered; where that fails, the answer is that a write failed.
-fn run_task<R: Input + Print>(alloc: Global, rt: &R, task: Task) -> Result<bool, ToolFault> {
+fn run_task<R: Input + Print>(alloc: Global, rt: &R, task: Task) -> Result<bool, ToolFault>
+    requires { IsTaskWithinLimits task }
+{
     let input = BufReader::with_capacity(alloc, BUFFER, rt.reader());
     let output = BufWriter::with_capacity(alloc, BUFFER, io::writer(rt));
     let (Ok(input), Ok(output)) = (input, output) else {

@@ -2,9 +2,9 @@
 
 ghost use Rattle.std.specs.Prelude.{◌≡◌, ◌≢◌, ◌≤◌, ◌&&◌, IfOk, IfErr, IfSome, IsErrAnd, Ok, Some, None, codes, if◌then◌else◌, map, nat_le, string_bytes};
 ghost use Rattle.clap.specs.Words.{found_of, kind_of, rows_of, subcommand_rows_of};
-ghost use Rattle.clap.specs.declared.error.kind.ErrorKind.TheVariants.{DisplayHelp, OutOfMemory};
+ghost use Rattle.clap.specs.declared.error.kind.ErrorKind.TheVariants.{OutOfMemory};
 ghost use Rattle.hsms_tool.specs.Number.{IsFlag, depth_number, device_number, max_number, number_in, system_number};
-ghost use Rattle.hsms_tool.specs.Options.{AsksBy, AsksFor, AsksForTask, IsHelp, IsTaskWithinLimits, IsWithinLimits, Spells, SpellsNothing, request_to_serve};
+ghost use Rattle.hsms_tool.specs.Options.{AsksBy, AsksFor, AsksForTask, CallsForText, IsHelp, IsTaskWithinLimits, IsWithinLimits, Spells, SpellsNothing, request_to_serve};
 ghost use Rattle.hsms_tool.specs.Status.{IsRefusedAs, IsRefusedFor};
 ghost use Rattle.hsms_tool.specs.declared.options.Request.{Request};
 ghost use Rattle.hsms_tool.specs.declared.options.Request.TheVariants as request;
@@ -220,15 +220,17 @@ pub fn flag_of(options: &ArgMatches<'_>, name: &str) -> bool
     options.get_flag(name)
 }
 
-// Help is asked for, or the command line is refused.
+// Help or the version is asked for, or the command line is refused.
 fn explained(alloc: Global, error: &Error) -> Result<Request, ToolFault>
-    ensures help { IfOk result (λ request. IsHelp request × (kind_of error.now ≡ DisplayHelp)) }
+    ensures help { IfOk result (λ request. IsHelp request × CallsForText (kind_of error.now)) }
     ensures limits { IfOk result IsWithinLimits }
     ensures refusal { IfErr result (IsRefusedFor
-        ((kind_of error.now ≢ DisplayHelp) × (kind_of error.now ≢ OutOfMemory)) (codes "command line")) }
+        ((CallsForText (kind_of error.now) → ⊥) × (kind_of error.now ≢ OutOfMemory)) (codes "command line")) }
 {
     match error.kind() {
-        ErrorKind::DisplayHelp => Ok(Request::Task(Task::Help(error.to_string(alloc)?))),
+        ErrorKind::DisplayHelp | ErrorKind::DisplayVersion => {
+            Ok(Request::Task(Task::Help(error.to_string(alloc)?)))
+        }
         ErrorKind::OutOfMemory => Err(ToolFault::Memory),
         _ => Err(no_request(alloc)),
     }

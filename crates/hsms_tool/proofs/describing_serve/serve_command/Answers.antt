@@ -6,7 +6,7 @@ use Rattle.hsms_tool.proofs.describing_serve.serve_command.Goals as goal
 
 pub returns : goal.returns
 returns c =
-    let named : app_of c.after_help-serve.result ≡ new_app (codes "serve") = rw (c.after_help-serve.ensures, c.about.ensures) c.new.ensures.app in
+    let named : app_of c.after_help-serve.result ≡ new_app (codes "serve") = rw (c.after_help-serve.ensures, c.override_usage.ensures, c.about.ensures) c.new.ensures.app in
     let connected = c.in_ok-connected.ensures ∙ ap (λ (a : App). with_rules a connection_rules) named in
     let limited = c.in_ok-limited.ensures ∙ ap (λ (a : App). with_rules a limit_rules) connected in
     IfOk-weaker c.with_desk.result _ _ (λ command shape. shape ∙ ap (λ (a : App). with_rules a desk_rules) limited) c.with_desk.ensures

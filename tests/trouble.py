@@ -1,0 +1,300 @@
+#!/usr/bin/env python3
+"""Serves connections to peers and logs that fail at every place in turn, and audits what was logged.
+
+    tests/trouble.py [--minutes N] [--seed N] [--keep FOLDER] [PROGRAM]
+
+The peer resets, closes or half-closes the connection after each octet of a session; the log's device is full, or its
+pipe is closed, after each octet of the log; SIGTERM comes at some moment. With --minutes it goes on with random
+sessions for that long: messages that are drawn, damaged, cut into pieces and broken off anyhow. The seed is printed,
+and what a failing round sent and logged is kept. It runs what `rt ci` has built, or the program that it is given. The
+last line is `N passed, M failed`.
+"""
+import argparse
+import concurrent.futures
+import os
+import random
+import resource
+import signal
+import socket
+import subprocess
+import sys
+import tempfile
+import threading
+import time
+
+OPTIONS = argparse.ArgumentParser(description=__doc__.split("\n")[0])
+OPTIONS.add_argument("--minutes", type=float, default=0)
+OPTIONS.add_argument("--seed", type=int, default=20261123)
+OPTIONS.add_argument("--keep", default="/tmp")
+OPTIONS.add_argument("program", nargs="?")
+ASKED = OPTIONS.parse_args()
+TOP = os.path.dirname(os.path.dirname(os.path.abspath(__file__)))
+PROGRAM = ASKED.program or f"{TOP}/crates/hsms_tool/out/hsms_tool"
+sys.argv = [sys.argv[0], PROGRAM]
+sys.path.insert(0, os.path.dirname(os.path.abspath(__file__)))
+
+from loopback import Listening, Peer, SELECT, SELECTED, Serving, control, data, events, free_port, passes, same
+
+S1F1 = data(1, 1, 3, wait=True)
+S1F2 = data(1, 2, 2, bytes.fromhex("010241014d410131"))
+SESSION = SELECT + control(5, 2) + S1F1 + control(9, 4)
+ANSWERS = [SELECTED, S1F2]
+SERVED = (0, "")
+BROKEN = (3, "hsms: Link\n")
+UNLOGGED = (3, "hsms: Log\n")
+PORTS = threading.Lock()
+
+# How many sessions are drawn at a time.
+DRAWN = 200
+
+
+def among(told, wanted):
+    if told not in wanted:
+        raise AssertionError(f"wanted one of {wanted!r}, told {told!r}")
+
+
+def whole_lines(log):
+    return log[: log.rfind("\n") + 1]
+
+
+def lawful(log):
+    """What is there of the log, cut back to whole lines, passes; of less than its first line nothing is asked."""
+    whole = whole_lines(log)
+    if whole:
+        passes(whole)
+
+
+def broken_off(peer, way):
+    if way == "reset":
+        peer.reset()
+    elif way == "close":
+        peer.close()
+    else:
+        peer.stream.shutdown(socket.SHUT_WR)
+
+
+def said(peer, *messages):
+    """Whether the peer could say all that: the other end may be gone."""
+    try:
+        peer.send(*messages)
+        return True
+    except (BrokenPipeError, ConnectionResetError):
+        return False
+
+
+def heard(peer):
+    try:
+        return peer.rest()
+    except (ConnectionResetError, OSError):
+        return b""
+
+
+def equipment(**options):
+    """An equipment that listens, and its peer. No other takes the port between."""
+    with PORTS:
+        port = free_port()
+        serving = Serving("equipment", "passive", port, **options)
+        return serving, Peer.connected(port)
+
+
+# ---- one trouble at each place
+
+def equipment_is_left(way, count):
+    serving, peer = equipment()
+    said(peer, SESSION[:count])
+    broken_off(peer, way)
+    status, log, told = serving.ended()
+    among((status, told), [SERVED, BROKEN])
+    same(events(log)[-1], "down")
+    passes(log)
+    if way == "half-close":
+        taken = [event for event in events(log) if event.startswith("< ")]
+        same(len(taken), count // 14)
+        peer.close()
+
+
+def host_is_left(way, count):
+    peers = Listening()
+    serving = Serving("host", "active", peers.port, script=b"S1F1 W .")
+    peer = peers.accepted()
+    left = count
+    for answer in ANSWERS:
+        peer.message()
+        said(peer, answer[:left])
+        if left < len(answer):
+            break
+        left -= len(answer)
+    broken_off(peer, way)
+    status, log, told = serving.ended()
+    among((status, told), [SERVED, BROKEN])
+    same(events(log)[-1], "down")
+    passes(log)
+    peer.close()
+
+
+def device_is_full(count, whole):
+    """The log's device takes so many octets. It is a file that may grow no longer."""
+
+    def limited():
+        signal.signal(signal.SIGXFSZ, signal.SIG_IGN)
+        resource.setrlimit(resource.RLIMIT_FSIZE, (count, count))
+
+    with tempfile.TemporaryFile() as file:
+        port = free_port()
+        words = ["serve", "--role", "equipment", "--link", "passive", "--address", "127.0.0.1", "--port", str(port)]
+        with PORTS:
+            run = subprocess.Popen([PROGRAM, *words], stdin=subprocess.DEVNULL, stdout=file, stderr=subprocess.PIPE, preexec_fn=limited)
+            peer = Peer.connected(port)
+        said(peer, SESSION)
+        heard(peer)
+        _, told = run.communicate(timeout=30)
+        file.seek(0)
+        log = file.read().decode()
+    same(len(log) <= count, True)
+    if (run.returncode, told.decode()) != UNLOGGED:
+        same((run.returncode, told.decode(), len(log) >= whole), (0, "", True))
+    lawful(log)
+    peer.close()
+
+
+def pipe_is_closed(count):
+    """Somebody reads so many octets of the log, and goes away."""
+    serving, peer = equipment()
+    log = b""
+    said(peer, SESSION[:14])
+    while len(log) < count:
+        octets = os.read(serving.run.stdout.fileno(), count - len(log))
+        if not octets:
+            break
+        log += octets
+        if len(log) >= 60:
+            said(peer, SESSION[14:])
+    serving.run.stdout.close()
+    serving.run.stdout = None
+    said(peer, SESSION[14:])
+    heard(peer)
+    status, _, told = serving.ended()
+    among((status, told), [SERVED, UNLOGGED, BROKEN])
+    lawful(log.decode())
+    peer.close()
+
+
+def terminated_after(seconds):
+    with tempfile.TemporaryFile() as file:
+        serving, peer = equipment(stdout=file)
+        said(peer, SELECT)
+        talking = threading.Thread(target=lambda: [said(peer, control(5, system)) for system in range(2, 400)])
+        talking.start()
+        time.sleep(seconds)
+        status, _, told = serving.killed(signal.SIGTERM)
+        same((status, told), (-signal.SIGTERM, ""))
+        talking.join()
+        peer.close()
+        file.seek(0)
+        lawful(file.read().decode())
+
+
+# ---- random sessions
+
+def drawn_message(random):
+    system = random.choice([random.randrange(8), random.randrange(1 << 32)])
+    kind = random.randrange(10)
+    if kind < 4:
+        text = random.choice([b"", b"\x01\x00", b"\x41\x02ab", random.randbytes(random.randrange(12))])
+        return data(random.randrange(1, 12), random.randrange(0, 20), system, text, wait=random.random() < 0.5)
+    if kind < 9:
+        return control(random.choice([1, 2, 3, 4, 5, 5, 6, 7, 8]), system, random.choice([0, 0, random.randrange(256)]))
+    return random.randbytes(random.randrange(1, 24))
+
+
+def drawn_session(random):
+    octets = bytearray((SELECT if random.random() < 0.9 else b"") + b"".join(drawn_message(random) for _ in range(random.randrange(12))))
+    for _ in range(random.choice([0, 0, 0, 1, 3])):
+        if octets:
+            octets[random.randrange(len(octets))] = random.randrange(256)
+    return bytes(octets)
+
+
+def random_round(seed):
+    """A session that is drawn, in pieces, broken off by a peer or by SIGTERM."""
+    drawn = random.Random(seed)
+    octets = drawn_session(drawn)
+    way = drawn.choice(["reset", "close", "half-close", "half-close", "signal"])
+    with tempfile.TemporaryFile() as file:
+        serving, peer = equipment(stdout=file)
+        try:
+            place = 0
+            while place < len(octets):
+                piece = drawn.choice([1, 2, 9, 14, 1000])
+                if not said(peer, octets[place : place + piece]):
+                    break
+                place += piece
+                if drawn.random() < 0.1:
+                    time.sleep(drawn.random() / 100)
+            if way == "signal":
+                serving.run.send_signal(signal.SIGTERM)
+            else:
+                broken_off(peer, way)
+            status, _, told = serving.ended()
+            among((status, told), [SERVED, BROKEN] + ([(-signal.SIGTERM, "")] if way == "signal" else []))
+            file.seek(0)
+            lawful(file.read().decode())
+        except Exception:
+            file.seek(0)
+            with open(f"{ASKED.keep}/hsms-trouble-{seed}", "wb") as kept:
+                kept.write(f"seed {seed}, {way}, sent {octets.hex()}\n".encode() + file.read())
+            raise
+        finally:
+            peer.close()
+
+
+# ---- all of them
+
+def whole_log():
+    """How many octets the log of the session has at least."""
+    serving, peer = equipment()
+    said(peer, SESSION)
+    heard(peer)
+    status, log, told = serving.ended()
+    same((status, told), SERVED)
+    passes(log)
+    return len(log) - 2 * len(events(log))
+
+
+def rounds():
+    whole = whole_log()
+    for way in ("reset", "close", "half-close"):
+        yield from ((equipment_is_left, way, count) for count in range(len(SESSION) + 1))
+        yield from ((host_is_left, way, count) for count in range(sum(map(len, ANSWERS))))
+    yield from ((device_is_full, count, whole) for count in range(whole + 40))
+    yield from ((pipe_is_closed, count) for count in range(whole))
+    chance = random.Random(ASKED.seed)
+    yield from ((terminated_after, chance.random() / 40) for _ in range(60))
+    yield from ((random_round, ASKED.seed + number) for number in range(DRAWN))
+
+
+def tried(round):
+    test, *words = round
+    try:
+        test(*words)
+        return True
+    except (AssertionError, OSError, subprocess.TimeoutExpired, ValueError) as error:
+        print(f"{test.__name__} {words}: {error!r}", flush=True)
+        return False
+
+
+def main():
+    print(f"seed {ASKED.seed}")
+    with concurrent.futures.ThreadPoolExecutor(8) as pool:
+        answers = list(pool.map(tried, rounds()))
+        end = time.monotonic() + ASKED.minutes * 60
+        seed = ASKED.seed + DRAWN
+        while time.monotonic() < end:
+            answers += pool.map(tried, ((random_round, seed + number) for number in range(DRAWN)))
+            seed += DRAWN
+    print(f"{answers.count(True)} passed, {answers.count(False)} failed")
+    return 1 if False in answers else 0
+
+
+if __name__ == "__main__":
+    sys.exit(main())
