@@ -18,6 +18,9 @@ TOP = os.path.dirname(os.path.dirname(os.path.abspath(__file__)))
 PROGRAM = sys.argv[1] if len(sys.argv) > 1 else f"{TOP}/crates/hsms_tool/out/hsms_tool"
 HERE = "127.0.0.1"
 
+# The ports that are tried, each once.
+PORTS = iter(range(20000 + os.getpid() % 6000, 32768))
+
 # How long anything may take that has to come, and how long is waited for what must not come, in seconds.
 SOON = 30
 A_WHILE = 0.5
@@ -28,9 +31,16 @@ PASSED = "pass entries={} sent={} taken={} discarded={} expired={} waiting={}\n"
 
 
 def free_port():
-    with socket.socket() as found:
-        found.bind((HERE, 0))
-        return found.getsockname()[1]
+    """A port that nobody listens at, and that no socket is given which names none: those are from 32768 on."""
+    for port in PORTS:
+        with socket.socket() as found:
+            found.setsockopt(socket.SOL_SOCKET, socket.SO_REUSEADDR, 1)
+            try:
+                found.bind((HERE, port))
+                return port
+            except OSError:
+                pass
+    raise AssertionError("no port is free")
 
 
 def message(session, byte2, byte3, stype, system, text=b""):

@@ -11,6 +11,7 @@ last line is `N passed, M failed`.
 """
 import argparse
 import concurrent.futures
+import contextlib
 import os
 import random
 import resource
@@ -42,7 +43,7 @@ ANSWERS = [SELECTED, S1F2]
 SERVED = (0, "")
 BROKEN = (3, "hsms: Link\n")
 UNLOGGED = (3, "hsms: Log\n")
-PORTS = threading.Lock()
+TAKEN = threading.Lock()
 
 # How many sessions are drawn at a time.
 DRAWN = 200
@@ -65,12 +66,14 @@ def lawful(log):
 
 
 def broken_off(peer, way):
+    """The peer is gone in that way, if the other end isn't gone already."""
     if way == "reset":
         peer.reset()
     elif way == "close":
         peer.close()
     else:
-        peer.stream.shutdown(socket.SHUT_WR)
+        with contextlib.suppress(OSError):
+            peer.stream.shutdown(socket.SHUT_WR)
 
 
 def said(peer, *messages):
@@ -89,12 +92,16 @@ def heard(peer):
         return b""
 
 
+def port_of_its_own():
+    with TAKEN:
+        return free_port()
+
+
 def equipment(**options):
-    """An equipment that listens, and its peer. No other takes the port between."""
-    with PORTS:
-        port = free_port()
-        serving = Serving("equipment", "passive", port, **options)
-        return serving, Peer.connected(port)
+    """An equipment that listens, and its peer."""
+    port = port_of_its_own()
+    serving = Serving("equipment", "passive", port, **options)
+    return serving, Peer.connected(port)
 
 
 # ---- one trouble at each place
@@ -140,11 +147,12 @@ def device_is_full(count, whole):
         resource.setrlimit(resource.RLIMIT_FSIZE, (count, count))
 
     with tempfile.TemporaryFile() as file:
-        port = free_port()
+        port = port_of_its_own()
         words = ["serve", "--role", "equipment", "--link", "passive", "--address", "127.0.0.1", "--port", str(port)]
-        with PORTS:
-            run = subprocess.Popen([PROGRAM, *words], stdin=subprocess.DEVNULL, stdout=file, stderr=subprocess.PIPE, preexec_fn=limited)
-            peer = Peer.connected(port)
+        run = subprocess.Popen(
+            [PROGRAM, *words], stdin=subprocess.DEVNULL, stdout=file, stderr=subprocess.PIPE, preexec_fn=limited
+        )
+        peer = Peer.connected(port)
         said(peer, SESSION)
         heard(peer)
         _, told = run.communicate(timeout=30)
@@ -208,7 +216,8 @@ def drawn_message(random):
 
 
 def drawn_session(random):
-    octets = bytearray((SELECT if random.random() < 0.9 else b"") + b"".join(drawn_message(random) for _ in range(random.randrange(12))))
+    messages = [drawn_message(random) for _ in range(random.randrange(12))]
+    octets = bytearray((SELECT if random.random() < 0.9 else b"") + b"".join(messages))
     for _ in range(random.choice([0, 0, 0, 1, 3])):
         if octets:
             octets[random.randrange(len(octets))] = random.randrange(256)

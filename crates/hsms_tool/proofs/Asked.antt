@@ -193,8 +193,7 @@ pub nothing_explained : (words : List Text) (app : App) (k : ErrorKind) (text : 
     → IfErr r (IsRefusedFor ((CallsForText k → ⊥) × (k ≢ OutOfMemory)) text) → IfErr r (IsRefusedFor (SpellsNothing words) text)
 nothing_explained words app k text (Ok request) is fails why = tt
 nothing_explained words app k text (Err (Refused given)) is fails (told, (no_text, no_memory)) =
-    let among = among_faults words app k no_memory is fails in
-    (
+    let among = among_faults words app k no_memory is fails in (
       told,
       (
         another_kind k DisplayHelp (fault_of command_line words) (λ same. no_text (inl same)) among,

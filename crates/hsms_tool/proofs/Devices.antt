@@ -1,10 +1,10 @@
 -- The words of a device's fault.
-use Rattle.std.proofs.Common.{◌≡◌, ℕ, Bool, List, Ok, Err, inl, inr, codes}
+use Rattle.std.proofs.Common.{ℕ, Bool, List, Ok, Err, inl, inr, codes}
 use Rattle.std.specs.Prelude.{Result, IfErr}
 use Rattle.secs_text.specs.Content.{Content}
 use Rattle.hsms_tool.specs.declared.fault.ToolFault.{ToolFault}
 use Rattle.hsms_tool.specs.declared.fault.ToolFault.TheVariants.{Refused, Device, Memory}
-use Rattle.hsms_tool.specs.Show.{HasWord, IsRead, IsOfInput, IsReadOrWrite, IsReadWriteOrEndless, IsReading, IsWrite}
+use Rattle.hsms_tool.specs.Show.{HasWord, IsOfInput, IsReadOrWrite, IsReadWriteOrEndless, IsReading, IsWrite}
 use Rattle.hsms_tool.specs.Encode.{AreNotEncoded, IsNotRead}
 
 pub of_read : (fault : ToolFault) → HasWord (codes "Read") fault → IsReadOrWrite fault

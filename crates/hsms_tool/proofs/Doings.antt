@@ -1,5 +1,5 @@
 -- The answers of the command to a request.
-use Rattle.std.proofs.Common.{◌≡◌, ◌≢◌, ℕ, Bool, true, List, Ok, Err, inl, inr, codes, refl, sym, ◌∙◌, ap, subst, arith, get_or}
+use Rattle.std.proofs.Common.{◌≡◌, ◌≢◌, ℕ, Bool, List, Ok, Err, inl, inr, codes, refl, sym, ◌∙◌, ap, subst, arith, get_or}
 use Rattle.std.specs.Prelude.{Option, Result, IfErr, OnOk, OnErr}
 use Rattle.hsms_frame.specs.Count.{count_failure, next_count}
 use Rattle.hsms_frame.specs.Device.{SourceState, WhereTold, Grows, GrowsByFront}

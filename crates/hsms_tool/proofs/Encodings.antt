@@ -1,5 +1,5 @@
 -- Messages encoded one after another.
-use Rattle.std.proofs.Common.{Some, Ok, Err, inr, ◌≡◌, ◌<◌, ◌+◌, ◌++◌, ℕ, zero, suc, Bool, List, [], ◌∷◌, length, map, take, drop, get_or, add-one, refl, sym, ◌∙◌, ap, subst, arith}
+use Rattle.std.proofs.Common.{Ok, Err, inr, ◌≡◌, ◌<◌, ◌+◌, ◌++◌, ℕ, zero, suc, Bool, List, [], ◌∷◌, length, map, take, drop, get_or, add-one, refl, sym, ◌∙◌, ap, subst, arith}
 use Rattle.std.proofs.lemmas.List.{append-nil, append_assoc, map-append, length-map, length-take-le, take_more, take-append-drop}
 use Rattle.std.specs.Prelude.{Option}
 use Rattle.secs_text.specs.Content.{Content, AllWithin}

@@ -1,5 +1,5 @@
 -- Runs of `hsms show`, one message after another.
-use Rattle.std.proofs.Common.{◌≡◌, ◌≢◌, ◌≤◌, ◌+◌, ◌++◌, ℕ, List, [], ◌∷◌, length, take, drop, Some, None, Ok, Err, true, false, Bool, refl, sym, ◌∙◌, ap, subst, inl, inr, arith, get_or, codes}
+use Rattle.std.proofs.Common.{◌≡◌, ◌≢◌, ◌≤◌, ◌+◌, ◌++◌, ℕ, List, [], ◌∷◌, length, take, drop, Some, Ok, Err, true, false, Bool, refl, sym, ◌∙◌, ap, subst, inl, inr, arith, get_or, codes}
 use Rattle.std.specs.Prelude.{Option, Result, All, IfErr}
 use Rattle.std.proofs.lemmas.List.{append-nil, append_assoc, length-append, take-append-drop}
 use Rattle.std.proofs.lemmas.Grind.{flat_map-append}
@@ -9,7 +9,7 @@ use Rattle.hsms_frame.specs.declared.fault.ReadFault.{ReadFault}
 use Rattle.hsms_frame.specs.declared.fault.ReadFault.TheVariants as read
 use Rattle.hsms_frame.specs.Device.{WhereTold, Stays, Grows, GrowsByFront}
 use Rattle.hsms_frame.specs.Frame.{frame_octets}
-use Rattle.hsms_frame.specs.Reading.{ReadsAs, StopsWithin}
+use Rattle.hsms_frame.specs.Reading.{ReadsAs}
 use Rattle.hsms_tool.specs.declared.fault.ToolFault.{ToolFault}
 use Rattle.hsms_tool.specs.declared.fault.ToolFault.TheVariants.{Refused, Device, Memory}
 use Rattle.hsms_tool.specs.Line.{LineOf}

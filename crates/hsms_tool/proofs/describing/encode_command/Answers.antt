@@ -1,4 +1,4 @@
-use Rattle.std.proofs.Common.{refl, ap₂, codes, ◌≡◌, ◌∙◌}
+use Rattle.std.proofs.Common.{ap₂, codes, ◌≡◌, ◌∙◌}
 use Rattle.std.proofs.lemmas.Result.{IfOk-weaker}
 use Rattle.clap.specs.Words.{app_of, new_app, with_rule}
 use Rattle.hsms_tool.proofs.describing.encode_command.Goals as goal

@@ -1,4 +1,4 @@
-use Rattle.std.proofs.Common.{refl, ap, codes, ◌≡◌, ◌∙◌}
+use Rattle.std.proofs.Common.{ap, codes, ◌≡◌, ◌∙◌}
 use Rattle.std.proofs.lemmas.Result.{IfOk-weaker}
 use Rattle.clap.specs.Words.{App, app_of, new_app}
 use Rattle.hsms_tool.specs.Service.{connection_rules, desk_rules, limit_rules, with_rules}

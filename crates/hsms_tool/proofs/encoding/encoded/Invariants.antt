@@ -1,4 +1,4 @@
-use Rattle.std.proofs.Common.{◌≡◌, ◌≤◌, length, take}
+use Rattle.std.proofs.Common.{◌≡◌, take}
 use Rattle.secs_text.specs.View.{contents}
 use Rattle.hsms_tool.specs.Encode.{Encodes, system_after}
 use Rattle.hsms_tool.proofs.encoding.encoded.Given as goal
