@@ -4,6 +4,7 @@
 Every log is audited, and every wait ends. It runs what `rt ci` has built, or the program that it is given. The last
 line is `N passed, M failed`.
 """
+import itertools
 import os
 import re
 import select
@@ -18,8 +19,10 @@ TOP = os.path.dirname(os.path.dirname(os.path.abspath(__file__)))
 PROGRAM = sys.argv[1] if len(sys.argv) > 1 else f"{TOP}/crates/hsms_tool/out/hsms_tool"
 HERE = "127.0.0.1"
 
-# The ports that are tried, each once.
-PORTS = iter(range(20000 + os.getpid() % 6000, 32768))
+# The ports that are tried, one after the other.
+PORTS = itertools.cycle(range(20000, 32768))
+for _ in range(os.getpid() % 12768):
+    next(PORTS)
 
 # How long anything may take that has to come, and how long is waited for what must not come, in seconds.
 SOON = 30
@@ -32,7 +35,7 @@ PASSED = "pass entries={} sent={} taken={} discarded={} expired={} waiting={}\n"
 
 def free_port():
     """A port that nobody listens at, and that no socket is given which names none: those are from 32768 on."""
-    for port in PORTS:
+    for port in itertools.islice(PORTS, 12768):
         with socket.socket() as found:
             found.setsockopt(socket.SOL_SOCKET, socket.SO_REUSEADDR, 1)
             try:
