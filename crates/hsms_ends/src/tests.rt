@@ -2,10 +2,12 @@
 
 mod answers;
 mod corners;
+mod failing;
 mod limits;
 mod own;
 mod party;
 mod scripted;
+mod serving;
 mod talk;
 mod walks;
 
