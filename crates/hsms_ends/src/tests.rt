@@ -1,6 +1,7 @@
 //! Worked sessions of one end: what it is told, and the lines that its log gets.
 
 mod answers;
+mod connection;
 mod corners;
 mod failing;
 mod limits;

@@ -2,10 +2,10 @@
 
 ghost use Rattle.std.specs.Prelude.{◌<◌};
 
-use super::{Fail, Global, Role, Side, Store, equipment, settings};
-use crate::{Scripted, ServeFault, Served, serve};
+use super::connection::{answer_of, audited, log_of, settings_of};
+use super::{Abort, AllocError, Fail, Global, Role, Store};
+use crate::{Scripted, ServeFault, Served};
 use hsms_log::{Summary, Verdict, judge};
-use std::process::Abort;
 
 /// Select.req, Linktest.req and Separate.req of the host.
 const SAID: [&[u8]; 3] = [
@@ -41,8 +41,8 @@ const LOG_OF_NOTHING: &str = "hsms-log 1 equipment passive 0 45000 6000 10000 50
 0 down
 ";
 
-/// The link of the host, that moves so many octets a call, and fails after so many calls.
-fn link_of(alloc: Global, piece: usize, fuse: u64) -> Result<Scripted, Fail>
+/// The link of the host, that gives a message a wait and moves so many octets a call, and fails after so many calls.
+fn link_of(alloc: Global, piece: usize, fuse: u64) -> Result<Scripted, AllocError>
     requires { 0 < piece }
 {
     let mut waits = Vec::new(alloc);
@@ -53,43 +53,84 @@ fn link_of(alloc: Global, piece: usize, fuse: u64) -> Result<Scripted, Fail>
     Ok(Scripted::new(Vec::new(alloc), waits, room, piece, fuse))
 }
 
-/// A log of so much room that takes so many octets a call, and fails after so many calls.
-fn log_of(alloc: Global, room: usize, piece: usize, fuse: u64) -> Result<Store, Fail>
-    requires { 0 < piece }
-{
-    Ok(Store::new(vec![in alloc; 0u8; room]?, piece, fuse))
-}
-
 /// What equipment answers, served over this link with this log. Want of memory ends the test.
 fn served(
     alloc: Global,
     link: &mut Scripted,
     log: &mut Store,
 ) -> Result<Result<Served, ServeFault>, Fail> {
-    let settings = settings(Role::Equipment, Side::Passive, 1_048_576).ok_or("the settings")?;
-    match serve(alloc, link, log, settings, equipment(alloc)?, 1, &[], 200) {
+    let settings = settings_of(Role::Equipment).ok_or("the settings")?;
+    match answer_of(alloc, link, log, settings, &[], 200)? {
         Err(ServeFault::Memory) => Err(ServeFault::Memory.into()),
         answer => Ok(answer),
     }
 }
 
 fn assert_whole(rt: &impl Abort, answer: Served, link: &Scripted, log: &Store) {
-    assert_eq!(rt;
-        answer,
-        Served {
-            entries: 7,
-            refused: 0
-        }
-    );
+    assert_eq!(rt; answer.entries, 7);
+    assert_eq!(rt; answer.refused, 0);
     assert_eq!(rt; log.written(), WHOLE_LOG.as_bytes());
     assert_eq!(rt; link.taken(), ANSWERED);
 }
 
-/// The audit passes a log, with this summary.
-fn audited(alloc: Global, log: &Store) -> Result<Summary, Fail> {
-    match judge(alloc, log.written())? {
-        Verdict::Pass(summary) => Ok(summary),
-        Verdict::Fail { .. } => Err("a log that fails".into()),
+/// The link failed: the log passes the audit and ends with `down`.
+fn assert_closed(rt: &impl Abort, alloc: Global, link: &Scripted, log: &Store) -> Result<(), Fail> {
+    let summary = audited(alloc, log.written())?;
+    assert!(rt; summary.entries <= 7);
+    assert!(rt; log.written().ends_with(b"0 down\n"));
+    assert!(rt; ANSWERED.starts_with(link.taken()));
+    Ok(())
+}
+
+/// The log failed: it is a part of a log from its front.
+fn assert_front(rt: &impl Abort, link: &Scripted, log: &Store) {
+    assert!(rt; WHOLE_LOG.as_bytes().starts_with(log.written()));
+    assert!(rt; ANSWERED.starts_with(link.taken()));
+}
+
+/// Memory was refused: the log has whole lines and passes the audit.
+fn assert_refused(rt: &impl Abort, alloc: Global, fault: ServeFault, link: &Scripted, log: &Store) {
+    assert_eq!(rt; fault, ServeFault::Memory);
+    assert_front(rt, link, log);
+    assert!(rt; log.written().ends_with(b"\n"));
+    assert!(rt; matches!(judge(alloc, log.written()), Ok(Verdict::Pass(_))));
+}
+
+/// The link fails after so many calls. Answers whether it met no failure.
+fn fail_link_at(rt: &impl Abort, alloc: Global, piece: usize, fuse: u64) -> Result<bool, Fail>
+    requires { 0 < piece }
+{
+    let mut link = link_of(alloc, piece, fuse)?;
+    let mut log = log_of(alloc, 400, piece, u64::MAX)?;
+    match served(alloc, &mut link, &mut log)? {
+        Ok(answer) => {
+            assert_whole(rt, answer, &link, &log);
+            Ok(true)
+        }
+        Err(fault) => {
+            assert_eq!(rt; fault, ServeFault::Link);
+            assert_closed(rt, alloc, &link, &log)?;
+            Ok(false)
+        }
+    }
+}
+
+/// The log fails after so many calls. Answers whether it met no failure.
+fn fail_log_at(rt: &impl Abort, alloc: Global, piece: usize, fuse: u64) -> Result<bool, Fail>
+    requires { 0 < piece }
+{
+    let mut link = link_of(alloc, piece, u64::MAX)?;
+    let mut log = log_of(alloc, 400, piece, fuse)?;
+    match served(alloc, &mut link, &mut log)? {
+        Ok(answer) => {
+            assert_whole(rt, answer, &link, &log);
+            Ok(true)
+        }
+        Err(fault) => {
+            assert_eq!(rt; fault, ServeFault::Log);
+            assert_front(rt, &link, &log);
+            Ok(false)
+        }
     }
 }
 
@@ -98,19 +139,9 @@ fn fail_link(rt: &impl Abort, alloc: Global, piece: usize) -> Result<(), Fail>
     requires { 0 < piece }
 {
     for fuse in 0..100 {
-        let mut link = link_of(alloc, piece, fuse)?;
-        let mut log = log_of(alloc, 400, 400, u64::MAX)?;
-        match served(alloc, &mut link, &mut log)? {
-            Ok(answer) => {
-                assert_whole(rt, answer, &link, &log);
-                return Ok(());
-            }
-            Err(fault) => assert_eq!(rt; fault, ServeFault::Link),
+        if fail_link_at(rt, alloc, piece, fuse)? {
+            return Ok(());
         }
-        let summary = audited(alloc, &log)?;
-        assert!(rt; summary.entries <= 7);
-        assert!(rt; log.written().ends_with(b"0 down\n"));
-        assert!(rt; ANSWERED.starts_with(link.taken()));
     }
     Err("a run without a failure".into())
 }
@@ -120,24 +151,16 @@ fn fail_log(rt: &impl Abort, alloc: Global, piece: usize) -> Result<(), Fail>
     requires { 0 < piece }
 {
     for fuse in 0..400 {
-        let mut link = link_of(alloc, 100, u64::MAX)?;
-        let mut log = log_of(alloc, 400, piece, fuse)?;
-        match served(alloc, &mut link, &mut log)? {
-            Ok(answer) => {
-                assert_whole(rt, answer, &link, &log);
-                return Ok(());
-            }
-            Err(fault) => assert_eq!(rt; fault, ServeFault::Log),
+        if fail_log_at(rt, alloc, piece, fuse)? {
+            return Ok(());
         }
-        assert!(rt; WHOLE_LOG.as_bytes().starts_with(log.written()));
-        assert!(rt; ANSWERED.starts_with(link.taken()));
     }
     Err("a run without a failure".into())
 }
 
 #[test]
 fn each_call_of_the_link_fails(rt: HostRuntime) -> Result<(), Fail> {
-    fail_link(&rt, rt.alloc(), 100)?;
+    fail_link(&rt, rt.alloc(), 400)?;
     fail_link(&rt, rt.alloc(), 1)
 }
 
@@ -147,14 +170,14 @@ fn each_call_of_the_log_fails(rt: HostRuntime) -> Result<(), Fail> {
     fail_log(&rt, rt.alloc(), 1)
 }
 
-/// A connection of which something fails: after how many calls the link fails, and the log; how much room the log has;
-/// the fault, and the log that is left.
+/// A connection of which something fails: after how many calls the link fails, and the log; the fault, and the log that
+/// is left; how many messages were sent and taken in it, where it passes.
 struct Failing {
     link: u64,
     log: u64,
-    room: usize,
     fault: ServeFault,
     left: &'static str,
+    passes: Option<Summary>,
 }
 
 const FAILING: &[Failing] = &[
@@ -162,51 +185,103 @@ const FAILING: &[Failing] = &[
     Failing {
         link: 1,
         log: u64::MAX,
-        room: 400,
         fault: ServeFault::Link,
         left: LOG_WITHOUT_SELECT_RSP,
+        passes: Some(Summary {
+            entries: 4,
+            sent: 1,
+            taken: 1,
+            discarded: 0,
+            expired: 0,
+            waiting: 0,
+        }),
     },
     // The first wait.
     Failing {
         link: 0,
         log: u64::MAX,
-        room: 400,
         fault: ServeFault::Link,
         left: LOG_OF_NOTHING,
+        passes: Some(Summary {
+            entries: 2,
+            sent: 0,
+            taken: 0,
+            discarded: 0,
+            expired: 0,
+            waiting: 0,
+        }),
     },
     // The log's first write.
     Failing {
         link: u64::MAX,
         log: 0,
-        room: 400,
         fault: ServeFault::Log,
         left: "",
+        passes: None,
     },
 ];
 
-#[test]
-fn worked_failures(rt: HostRuntime) -> Result<(), Fail> {
-    let alloc = rt.alloc();
-    for row in FAILING {
-        let mut link = link_of(alloc, 100, row.link)?;
-        let mut log = log_of(alloc, row.room, 400, row.log)?;
-        assert_eq!(rt; served(alloc, &mut link, &mut log)?, Err(row.fault));
-        assert_eq!(rt; log.written(), row.left.as_bytes());
-        assert_eq!(rt; link.taken(), b"".as_slice());
+/// Nothing is sent in a row.
+fn judge_failing(rt: &impl Abort, alloc: Global, row: &Failing) -> Result<(), Fail> {
+    let mut link = link_of(alloc, 400, row.link)?;
+    let mut log = log_of(alloc, 400, 400, row.log)?;
+    let answer = served(alloc, &mut link, &mut log)?;
+    assert_eq!(rt; answer.err(), Some(row.fault));
+    assert_eq!(rt; log.written(), row.left.as_bytes());
+    assert_eq!(rt; link.taken(), b"".as_slice());
+    if row.passes.is_some() {
+        let summary = audited(alloc, log.written())?;
+        assert_eq!(rt; Some(summary), row.passes);
     }
     Ok(())
 }
 
-/// The first send fails, and then the log at the line `0 down`.
+#[test]
+fn worked_failures(rt: HostRuntime) -> Result<(), Fail> {
+    for row in FAILING {
+        judge_failing(&rt, rt.alloc(), row)?;
+    }
+    Ok(())
+}
+
+/// The first send fails, and then the log, after so many octets.
+fn fail_twice(rt: &impl Abort, alloc: Global, room: usize) -> Result<(), Fail> {
+    let mut link = link_of(alloc, 400, 1)?;
+    let mut log = log_of(alloc, room, 400, u64::MAX)?;
+    let answer = served(alloc, &mut link, &mut log)?;
+    assert_eq!(rt; answer.err(), Some(ServeFault::Log));
+    assert_eq!(rt; log.written().len(), room);
+    assert!(rt; LOG_WITHOUT_SELECT_RSP.as_bytes().starts_with(log.written()));
+    assert_eq!(rt; link.taken(), b"".as_slice());
+    Ok(())
+}
+
+/// The log fails at each octet of the line `0 down`.
 #[test]
 fn the_later_fault_is_told(rt: HostRuntime) -> Result<(), Fail> {
-    let alloc = rt.alloc();
-    let (front, _) = LOG_WITHOUT_SELECT_RSP
-        .as_bytes()
-        .split_at(LOG_WITHOUT_SELECT_RSP.len() - 7);
-    let mut link = link_of(alloc, 100, 1)?;
-    let mut log = log_of(alloc, front.len(), 400, u64::MAX)?;
-    assert_eq!(rt; served(alloc, &mut link, &mut log)?, Err(ServeFault::Log));
-    assert_eq!(rt; log.written(), front);
+    let whole = LOG_WITHOUT_SELECT_RSP.len();
+    for less in 1..=7 {
+        fail_twice(&rt, rt.alloc(), whole.saturating_sub(less))?;
+    }
     Ok(())
+}
+
+// Where its own input is refused, a test of refusals has nothing to say.
+#[test]
+fn refused_connection(rt: HostRuntime) {
+    let alloc = rt.alloc();
+    let Ok(mut link) = link_of(alloc, 400, u64::MAX) else {
+        return;
+    };
+    let Ok(mut log) = log_of(alloc, 400, 400, u64::MAX) else {
+        return;
+    };
+    let Some(settings) = settings_of(Role::Equipment) else {
+        return;
+    };
+    match answer_of(alloc, &mut link, &mut log, settings, &[], 200) {
+        Ok(Ok(answer)) => assert_whole(&rt, answer, &link, &log),
+        Ok(Err(fault)) => assert_refused(&rt, alloc, fault, &link, &log),
+        Err(_) => {}
+    }
 }

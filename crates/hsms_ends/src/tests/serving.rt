@@ -1,19 +1,16 @@
 //! Connections that are served over a link in memory, and the logs that come of them.
 
-use super::{
-    Abort, Fail, Global, HostDesk, Role, Send, Separate, Side, Store, Told, equipment, octets_of,
-    settings,
-};
-use crate::{Scripted, ServeFault, Served, Step, serve};
-use hsms_frame::Feed;
-use hsms_log::{Verdict, audit};
+ghost use Rattle.std.specs.Prelude.{◌<◌};
+
+use super::connection::{EQUIPMENT_LINE, HOST_LINE, answer_of, audited, log_of, settings_of};
+use super::{Abort, Fail, Global, Role, Send, Separate, Store, Told, octets_of};
+use crate::{Scripted, ServeFault, Served, Step};
 use secs_text::read;
 
 /// A connection: what the peer says, and what is to come of it.
 struct Connection {
     name: &'static str,
     role: Role,
-    side: Side,
     moments: &'static [u64],
     /// What each wait gives: nothing, or the octets of these messages.
     waits: &'static [Option<&'static [&'static str]>],
@@ -26,18 +23,16 @@ struct Connection {
     answer: Result<Served, ServeFault>,
     /// Until when the last wait was asked to wait.
     until: Option<u64>,
+    /// The log after its first line.
     log: &'static str,
     /// The messages that the link took.
     sent: &'static [&'static str],
 }
 
-const EQUIPMENT_LINE: &str = "hsms-log 1 equipment passive 0 45000 6000 10000 5000 1048576 32\n";
-
 /// The peer selects, asks for the link and separates.
 const PASSIVE: Connection = Connection {
     name: "equipment is selected, tested and left",
     role: Role::Equipment,
-    side: Side::Passive,
     moments: &[],
     waits: &[Some(&[
         "ffff0000000100000001",
@@ -77,7 +72,6 @@ const HOST_LOG: &str = "0 up
 const ACTIVE: Connection = Connection {
     name: "a host takes its script",
     role: Role::Host,
-    side: Side::Active,
     moments: &[],
     waits: &[
         Some(&["ffff0000000200000001"]),
@@ -103,6 +97,18 @@ const ACTIVE: Connection = Connection {
 const CONNECTIONS: &[Connection] = &[
     PASSIVE,
     ACTIVE,
+    Connection {
+        name: "a message comes in each wait, and nothing between",
+        waits: &[
+            Some(&["ffff0000000100000001"]),
+            None,
+            Some(&["ffff0000000500000002"]),
+            Some(&[]),
+            Some(&["ffff0000000900000003"]),
+        ],
+        until: None,
+        ..PASSIVE
+    },
     Connection {
         name: "a host has one turn too few",
         turns: 4,
@@ -181,82 +187,96 @@ fn octets_of_all(alloc: Global, messages: &[&'static str]) -> Result<Vec<u8>, Fa
     Ok(octets)
 }
 
-fn link_of(alloc: Global, case: &Connection, piece: usize) -> Result<Scripted, Fail> {
+/// What each wait of a connection gives.
+fn waits_of(alloc: Global, case: &Connection) -> Result<Vec<Option<Vec<u8>>>, Fail> {
     let mut waits = Vec::new(alloc);
     for messages in case.waits {
-        let octets = match messages {
-            Some(messages) => Some(octets_of_all(alloc, messages)?),
-            None => None,
-        };
-        waits.push(octets)?;
+        match messages {
+            Some(messages) => waits.push(Some(octets_of_all(alloc, messages)?))?,
+            None => waits.push(None)?,
+        }
     }
+    Ok(waits)
+}
+
+fn link_of(alloc: Global, case: &Connection, piece: usize) -> Result<Scripted, Fail>
+    requires { 0 < piece }
+{
+    let waits = waits_of(alloc, case)?;
     let moments = Vec::from_slice(alloc, case.moments)?;
     let room = vec![in alloc; 0u8; 1024]?;
-    Ok(Scripted::new(moments, waits, room, piece.max(1), case.fuse))
+    Ok(Scripted::new(moments, waits, room, piece, case.fuse))
+}
+
+fn step_of(alloc: Global, told: &Told) -> Result<Step, Fail> {
+    match told {
+        Send(text) => Ok(Step::Send(read(alloc, text.as_bytes(), 100)?)),
+        Separate => Ok(Step::Separate),
+        _ => Ok(Step::Linktest),
+    }
 }
 
 fn script_of(alloc: Global, told: &[Told]) -> Result<Vec<Step>, Fail> {
     let mut script = Vec::new(alloc);
     for step in told {
-        let step = match step {
-            Send(text) => Step::Send(read(alloc, text.as_bytes(), 100)?),
-            Separate => Step::Separate,
-            _ => Step::Linktest,
-        };
-        script.push(step)?;
+        script.push(step_of(alloc, step)?)?;
     }
     Ok(script)
 }
 
-/// The log, after its first line. It passes the audit, unless a write to it failed.
-fn entries_of(alloc: Global, log: &[u8], is_whole: bool) -> Result<Vec<u8>, Fail> {
-    let mut feed = Feed::new(Vec::from_slice(alloc, log)?, 4096, u64::MAX);
-    let passes = match audit(alloc, &mut feed)? {
-        Verdict::Pass(_) => true,
-        Verdict::Fail { .. } => false,
+/// The text that the log of a connection is to be.
+fn text_of(alloc: Global, case: &Connection) -> Result<Vec<u8>, Fail> {
+    let first_line = match case.role {
+        Role::Host => HOST_LINE,
+        Role::Equipment => EQUIPMENT_LINE,
     };
-    if is_whole && !passes {
-        return Err("the log fails".into());
-    }
-    let first = log
-        .iter()
-        .position(|octet| *octet == b'\n')
-        .ok_or("no line")?;
-    Ok(Vec::from_slice(alloc, &log[first + 1..])?)
+    let mut text = Vec::from_slice(alloc, first_line.as_bytes())?;
+    text.extend_from_slice(case.log.as_bytes())?;
+    Ok(text)
 }
 
-/// Serves a connection, and tells until when the last wait was asked to wait.
+/// The log of a connection is what it is to be, and passes the audit, unless a write to it failed.
+fn judge_log(rt: &impl Abort, alloc: Global, case: &Connection, log: &Store) -> Result<(), Fail> {
+    let text = text_of(alloc, case)?;
+    assert_eq!(rt; log.written(), text.as_slice(), "{}", case.name);
+    if case.answer != Err(ServeFault::Log) {
+        audited(alloc, log.written())?;
+    }
+    Ok(())
+}
+
+/// The link took what it is to take.
+fn judge_link(
+    rt: &impl Abort,
+    alloc: Global,
+    case: &Connection,
+    link: &Scripted,
+) -> Result<(), Fail> {
+    let sent = octets_of_all(alloc, case.sent)?;
+    assert_eq!(rt; link.taken(), sent.as_slice(), "{}", case.name);
+    Ok(())
+}
+
+/// Serves a connection, and tells until when the last wait was asked to wait. Want of memory ends the test.
 fn judge_served(
     rt: &impl Abort,
     alloc: Global,
     case: &Connection,
     piece: usize,
-) -> Result<Option<u64>, Fail> {
-    let mut link = link_of(alloc, case, piece)?;
-    let mut log = Store::new(vec![in alloc; 0u8; case.room]?, 4096, u64::MAX);
+) -> Result<Option<u64>, Fail>
+    requires { 0 < piece }
+{
     let script = script_of(alloc, case.script)?;
-    let settings = settings(case.role, case.side, 1_048_576).ok_or("the settings")?;
-    let answer = match case.role {
-        Role::Host => {
-            serve(
-                alloc, &mut link, &mut log, settings, HostDesk, 1, &script, case.turns,
-            )
-        }
-        Role::Equipment => {
-            let desk = equipment(alloc)?;
-            serve(
-                alloc, &mut link, &mut log, settings, desk, 1, &script, case.turns,
-            )
-        }
-    };
+    let mut link = link_of(alloc, case, piece)?;
+    let mut log = log_of(alloc, case.room, 4096, u64::MAX)?;
+    let settings = settings_of(case.role).ok_or("the settings")?;
+    let answer = answer_of(alloc, &mut link, &mut log, settings, &script, case.turns)?;
     if answer == Err(ServeFault::Memory) {
         return Err(ServeFault::Memory.into());
     }
     assert_eq!(rt; answer, case.answer, "{}", case.name);
-    let entries = entries_of(alloc, log.written(), answer != Err(ServeFault::Log))?;
-    assert_eq!(rt; entries.as_slice(), case.log.as_bytes(), "{}", case.name);
-    let sent = octets_of_all(alloc, case.sent)?;
-    assert_eq!(rt; link.taken(), sent.as_slice(), "{}", case.name);
+    judge_log(rt, alloc, case, &log)?;
+    judge_link(rt, alloc, case, &link)?;
     Ok(link.until())
 }
 
@@ -269,10 +289,12 @@ fn connections_are_served(rt: HostRuntime) -> Result<(), Fail> {
     Ok(())
 }
 
+/// Where a message came in part, a wait lasts until T8 is past.
 #[test]
 fn pieces_do_not_matter(rt: HostRuntime) -> Result<(), Fail> {
-    for piece in [1, 3, 14, 4096] {
-        judge_served(&rt, rt.alloc(), &PASSIVE, piece)?;
-    }
+    let alloc = rt.alloc();
+    assert_eq!(rt; judge_served(&rt, alloc, &PASSIVE, 1)?, Some(5001));
+    assert_eq!(rt; judge_served(&rt, alloc, &PASSIVE, 3)?, Some(5001));
+    assert_eq!(rt; judge_served(&rt, alloc, &PASSIVE, 14)?, None);
     Ok(())
 }
