@@ -1,11 +1,14 @@
 //! Worked sessions of one end: what it is told, and the lines that its log gets.
 
 mod answers;
+mod connection;
 mod corners;
+mod failing;
 mod limits;
 mod own;
 mod party;
 mod scripted;
+mod serving;
 mod talk;
 mod walks;
 
