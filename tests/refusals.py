@@ -1,9 +1,8 @@
 #!/usr/bin/env python3
 """Refuses each allocation in turn, the first, the second and so on, until a run meets no refusal.
 
-This is done to each test whose name begins with `refused`, which has to pass, since it looks at the answer and at what
-stands after it; to each test but long ones of the crates below that hand want of memory up, which has to pass or to end
-with that error, or that judge each refusal themselves; and to the command, on worked inputs and on examples.
+This is done to each test of each crate but the long ones, and to the command, on worked inputs and on examples. A test
+has to pass, since it looks at the answer and at what stands after it, or to end with want of memory, which it hands up.
 The command has to answer with status 3 and `hsms: Memory`, and what it wrote then has to be nothing, or of `show` whole
 lines of what it writes with ample memory; as ever, where no allocation was refused, and there as the worked inputs say.
 
@@ -36,12 +35,6 @@ TAKING = REFUSED | set(
 
 # What a program calls of the others that is no memory of its own: it hands the room in.
 HANDED_IN = {"getcwd"}
-
-# The crates whose tests hand want of memory up, each by `?`.
-HAND_UP = {"hsms_ends", "secs_item", "secs_text"}
-
-# Tests that assert an answer in whose place want of memory may come.
-ASSERT = {"the_greatest_items"}
 
 # Tests that take too long to be run once for each allocation.
 LONG = {"walks_of_two_ends"}
@@ -124,14 +117,13 @@ def passes_or_tells(ended, was_refused):
 
 
 def tests():
-    """The tests that are run."""
+    """The tests of each crate but the long ones."""
     for crate, program in programs():
         listed = subprocess.run([program, "--list"], capture_output=True, text=True).stdout.splitlines()
         for name in (line[: -len(": test")] for line in listed if line.endswith(": test")):
             last = name.split("::")[-1]
-            is_judge = crate in JUDGE or last.startswith("refused")
-            if last not in LONG | ASSERT and (is_judge or crate in HAND_UP):
-                is_well = passes if is_judge else passes_or_tells
+            if last not in LONG:
+                is_well = passes if crate in JUDGE or last.startswith("refused") else passes_or_tells
                 yield Check(f"{crate} {name}", [program, name], b"", is_well)
 
 
