@@ -1,6 +1,8 @@
 #!/usr/bin/env python3
 """Refuses each allocation in turn, the first, the second and so on, until a run meets no refusal.
 
+Use: tests/refusals.py [CRATE..]. With names of crates only their tests are run.
+
 This is done to each test of each crate but the long ones, and to the command, on worked inputs and on examples. A test
 has to pass, since it looks at the answer and at what stands after it, or to end with want of memory, which it hands up.
 The command has to answer with status 3 and `hsms: Memory`, and what it wrote then has to be nothing, or of `show` whole
@@ -61,9 +63,9 @@ def crates():
         return [line.split(":")[0].split()[0] for line in lines if ":" in line and not line.startswith("#")]
 
 
-def programs():
-    """The command, and the programs of the tests, each with its crate."""
-    made = [(crate, f"{TOP}/crates/{crate}/out/{crate}_tests") for crate in crates()]
+def programs(wanted):
+    """The programs of the tests of the wanted crates, or of all where none is named, each with its crate."""
+    made = [(crate, f"{TOP}/crates/{crate}/out/{crate}_tests") for crate in wanted or crates()]
     return [(crate, program) for crate, program in made if os.path.exists(program)]
 
 
@@ -116,9 +118,9 @@ def passes_or_tells(ended, was_refused):
     return ended.returncode == 0 or bool(was_refused and told)
 
 
-def tests():
-    """The tests of each crate but the long ones."""
-    for crate, program in programs():
+def tests(wanted):
+    """The tests of these crates but the long ones."""
+    for crate, program in programs(wanted):
         listed = subprocess.run([program, "--list"], capture_output=True, text=True).stdout.splitlines()
         for name in (line[: -len(": test")] for line in listed if line.endswith(": test")):
             last = name.split("::")[-1]
@@ -171,20 +173,21 @@ def calls(program):
     return TAKING & {line.split()[-1].split("@")[0] for line in listed.stdout.splitlines()}
 
 
-def other_calls():
-    """Each program, and what it calls that isn't refused."""
-    for name in [PROGRAM, *[program for _, program in programs()]]:
+def other_calls(names):
+    """Each of these programs, and what it calls that isn't refused."""
+    for name in names:
         others = calls(name) - REFUSED - HANDED_IN
         yield os.path.basename(name), f"it takes memory by {', '.join(sorted(others))}" if others else None
 
 
 def main():
+    wanted = sys.argv[1:]
     passed = failed = 0
-    for name, wrong in other_calls():
+    for name, wrong in other_calls([program for _, program in programs(wanted)] + ([] if wanted else [PROGRAM])):
         print(f"{name}: {wrong or 'each call that takes memory can be refused'}")
         passed, failed = passed + (wrong is None), failed + (wrong is not None)
     with tempfile.TemporaryDirectory(prefix="hsms-refusals-") as room, ThreadPoolExecutor(WORKERS) as pool:
-        checks = [*tests(), *runs()]
+        checks = [*tests(wanted), *([] if wanted else runs())]
         for check, (wrong, count) in zip(checks, pool.map(Refuser(room).each, checks)):
             print(f"{check.name}: {wrong or f'well with each of {count} allocations refused'}")
             passed, failed = passed + (wrong is None), failed + (wrong is not None)
