@@ -4,12 +4,13 @@
 Use: tests/refusals.py [CRATE..]. With names of crates only their tests are run.
 
 This is done to each test of each crate but the long ones, and to the command, on worked inputs and on examples. A test
-has to pass, since it looks at the answer and at what stands after it, or to end with want of memory, which it hands up.
-The command has to answer with status 3 and `hsms: Memory`, and what it wrote then has to be nothing, or of `show` whole
-lines of what it writes with ample memory; as ever, where no allocation was refused, and there as the worked inputs say.
+has to end with want of memory where an allocation was refused, since it hands that up; or to pass, where it looks itself
+at the answer and at what stands after it. Where no allocation was refused, it has to pass. The command has to answer with
+status 3 and `hsms: Memory`, and what it wrote then has to be nothing, or of `show` whole lines of what it writes with
+ample memory; as ever, where no allocation was refused, and there as the worked inputs say.
 
-No program may take memory but by the calls that are refused. It runs what `rt ci` has built. The last line is
-`N passed, M failed`.
+No program may take memory but by the calls that are refused, nor call the system past the C library. It runs what
+`rt ci` has built. The last line is `N passed, M failed`.
 """
 import os
 import re
@@ -28,11 +29,11 @@ from worked import Row, rows
 
 WORKERS = 2
 
-# The calls that refuse.c stands before, and all calls of the C library that hand memory out.
+# The calls that refuse.c stands before, and all calls of the C library that hand memory out or call the system.
 REFUSED = {"malloc", "calloc", "realloc", "memalign", "aligned_alloc", "posix_memalign"}
 TAKING = REFUSED | set(
-    "reallocarray valloc pvalloc mmap mmap64 mremap brk sbrk strdup strndup wcsdup asprintf vasprintf open_memstream "
-    "getline getdelim realpath getcwd scandir getaddrinfo".split()
+    "reallocarray valloc pvalloc mmap mmap64 mremap brk sbrk syscall strdup strndup wcsdup asprintf vasprintf "
+    "open_memstream getline getdelim realpath getcwd scandir getaddrinfo dlopen dlsym".split()
 )
 
 # What a program calls of the others that is no memory of its own: it hands the room in.
@@ -41,8 +42,13 @@ HANDED_IN = {"getcwd"}
 # Tests that take too long to be run once for each allocation.
 LONG = {"walks_of_two_ends"}
 
-# The crates whose tests judge each refusal themselves.
-JUDGE = {"hsms_machine"}
+# The tests that judge each refusal themselves, or try again: those of these modules, and those whose names begin with
+# `refused`. Of the second ones what they take for themselves may be refused too.
+JUDGE = ("hsms_machine tests::",)
+TRY_AGAIN = ("hsms_frame tests::framing::",)
+
+# A test with a desk that refuses memory itself, at last, and wants to be told so.
+REFUSES = ("hsms_ends tests::limits::a_desk_of_its_own",)
 
 # The arguments of the command, and the file that it reads.
 EXAMPLES = [
@@ -113,9 +119,20 @@ def passes(ended, was_refused):
     return ended.returncode == 0
 
 
-def passes_or_tells(ended, was_refused):
+def tells(ended, was_refused):
     told = re.match(rb"error: (AllocError|AllocFailed \{ \.\. \}|Memory)$", ended.stderr, re.M)
-    return ended.returncode == 0 or bool(was_refused and told)
+    return ended.returncode != 0 and bool(told) if was_refused else ended.returncode == 0
+
+
+def passes_or_tells(ended, was_refused):
+    return passes(ended, was_refused) or tells(ended, was_refused)
+
+
+def judge_of_test(name):
+    """What a run of a test has to do."""
+    if name.startswith(JUDGE) or name.split("::")[-1].startswith("refused"):
+        return passes
+    return passes_or_tells if name.startswith(TRY_AGAIN + REFUSES) else tells
 
 
 def tests(wanted):
@@ -123,10 +140,8 @@ def tests(wanted):
     for crate, program in programs(wanted):
         listed = subprocess.run([program, "--list"], capture_output=True, text=True).stdout.splitlines()
         for name in (line[: -len(": test")] for line in listed if line.endswith(": test")):
-            last = name.split("::")[-1]
-            if last not in LONG:
-                is_well = passes if crate in JUDGE or last.startswith("refused") else passes_or_tells
-                yield Check(f"{crate} {name}", [program, name], b"", is_well)
+            if name.split("::")[-1] not in LONG:
+                yield Check(f"{crate} {name}", [program, name], b"", judge_of_test(f"{crate} {name}"))
 
 
 def examples():
@@ -168,26 +183,35 @@ def judge_of(row, may_do_without):
 
 
 def calls(program):
-    """What a program calls of the C library that hands memory out."""
+    """What a program calls of the C library that hands memory out, or asks the system for it."""
     listed = subprocess.run(["nm", "-D", "--undefined-only", program], capture_output=True, text=True, check=True)
     return TAKING & {line.split()[-1].split("@")[0] for line in listed.stdout.splitlines()}
 
 
-def other_calls(names):
-    """Each of these programs, and what it calls that isn't refused."""
+def asks_the_system(program):
+    """Whether a program has instructions that call the system, past the C library."""
+    listed = subprocess.run(["objdump", "-d", "--no-show-raw-insn", program], capture_output=True, text=True, check=True)
+    return bool(re.search(r"\t(syscall|sysenter|int +\$0x80)", listed.stdout))
+
+
+def ways_to_memory(names):
+    """Each of these programs, by which calls it takes memory, and what is wrong with that, if anything."""
     for name in names:
-        others = calls(name) - REFUSED - HANDED_IN
-        yield os.path.basename(name), f"it takes memory by {', '.join(sorted(others))}" if others else None
+        called = calls(name)
+        others = called - REFUSED - HANDED_IN
+        wrong = f"it takes memory by {', '.join(sorted(others))}" if others else None
+        wrong = "it calls the system by itself" if asks_the_system(name) else wrong
+        yield os.path.basename(name), ", ".join(sorted(called & REFUSED)), wrong
 
 
 def main():
     wanted = sys.argv[1:]
     passed = failed = 0
-    for name, wrong in other_calls([program for _, program in programs(wanted)] + ([] if wanted else [PROGRAM])):
-        print(f"{name}: {wrong or 'each call that takes memory can be refused'}")
+    for name, ways, wrong in ways_to_memory([program for _, program in programs(wanted)] + [PROGRAM] * (not wanted)):
+        print(f"{name}: {wrong or f'it takes memory by {ways} alone, which are refused'}")
         passed, failed = passed + (wrong is None), failed + (wrong is not None)
     with tempfile.TemporaryDirectory(prefix="hsms-refusals-") as room, ThreadPoolExecutor(WORKERS) as pool:
-        checks = [*tests(wanted), *([] if wanted else runs())]
+        checks = list(tests(wanted)) if wanted else [*tests(wanted), *runs()]
         for check, (wrong, count) in zip(checks, pool.map(Refuser(room).each, checks)):
             print(f"{check.name}: {wrong or f'well with each of {count} allocations refused'}")
             passed, failed = passed + (wrong is None), failed + (wrong is not None)

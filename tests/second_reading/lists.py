@@ -147,7 +147,7 @@ class Answering:
         self.reached: Set[str] = set()
         for told in listed.told:
             self.tell(told)
-        self.lines += [f"pending {self.end.pending.hex()}", "end"]
+        self.lines += [f"pending {digits(self.end.pending)}", "end"]
 
     def tell(self, told: Told):
         call = getattr(End, told.call)

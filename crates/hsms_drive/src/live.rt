@@ -136,6 +136,9 @@ fn room_of(entry: &Entry) -> usize {
 }
 
 fn pending_line(alloc: Global, octets: &[u8]) -> Result<Vec<u8>, anyhow::Error> {
+    if octets.is_empty() {
+        return Ok(Vec::from_slice(alloc, b"pending -\n")?);
+    }
     let digits = hex::encode(alloc, octets)?;
     let line = format!(in alloc; "pending {digits}\n")?;
     Ok(Vec::from_slice(alloc, line.as_bytes())?)

@@ -1,19 +1,19 @@
-//! Tells ends what happens, as lists have it, and writes what they answer: what `tests/driven.py` compares with a second
-//! reading of the ends.
+//! Tells ends what happens, as lists have it, and writes what they answer, for `tests/driven.py`.
 //!
-//! A list is lines of standard input: the settings, as a log's first line has them; `desk NUMBER MODEL REVISION`, the
-//! first system bytes and what equipment's desk tells of it, in hexadecimal, `-` where it is empty; what the end is told;
-//! and `end`. It is told `start N`, `tick N`, `bytes HEX`, `send NOTATION`, `linktest`, `separate` and `lost`.
+//! A list is lines of standard input: the settings, as the first line of a log has them; `desk NUMBER MODEL REVISION`,
+//! the first system bytes and what the desk of equipment tells of itself; then what the end is told, by `start N`,
+//! `tick N`, `bytes OCTETS`, `send NOTATION`, `linktest`, `separate` and `lost`; and `end`. Octets, and texts of the desk,
+//! are hexadecimal, and `-` where there are none.
 //!
-//! Of each list it writes the lines of the entries that each call answers, or `refused FAULT`, then `pending HEX`, and
-//! `end` where `drive` has the same entries and the same pending octets, else `other`.
+//! Of each list it writes the lines of the entries that each call answers, or `refused FAULT`, then `pending OCTETS`,
+//! and `end` where `drive` has the same entries and the same pending octets, else `other`.
 #![tactic(auto)]
 
 mod list;
 mod live;
 
-use live::live;
 use list::List;
+use live::live;
 use std::alloc::Global;
 use std::io;
 use std::io::{BufRead, BufReader, BufWriter, Write};

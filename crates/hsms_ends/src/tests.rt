@@ -2,9 +2,11 @@
 
 mod answers;
 mod corners;
+mod desks;
 mod limits;
 mod own;
 mod party;
+mod refused;
 mod scripted;
 mod talk;
 mod walks;
@@ -161,7 +163,9 @@ fn judge<D: Desk>(
             }
             Err(EndFault::Memory) => {
                 assert_spent(rt, alloc, end);
-                want.err().ok_or(EndFault::Memory)?;
+                if *want != Err(EndFault::Memory) {
+                    return Err(EndFault::Memory.into());
+                }
                 return Ok(());
             }
             Err(fault) => assert_eq!(rt; Err(fault), *want, "{}", case.name),
