@@ -211,10 +211,14 @@ def main():
         print(f"{name}: {wrong or f'it takes memory by {ways} alone, which are refused'}")
         passed, failed = passed + (wrong is None), failed + (wrong is not None)
     with tempfile.TemporaryDirectory(prefix="hsms-refusals-") as room, ThreadPoolExecutor(WORKERS) as pool:
-        checks = list(tests(wanted)) if wanted else [*tests(wanted), *runs()]
-        for check, (wrong, count) in zip(checks, pool.map(Refuser(room).each, checks)):
-            print(f"{check.name}: {wrong or f'well with each of {count} allocations refused'}")
-            passed, failed = passed + (wrong is None), failed + (wrong is not None)
+        for what, checks in [("tests", list(tests(wanted))), ("the command", [] if wanted else list(runs()))]:
+            refused = 0
+            for check, (wrong, count) in zip(checks, pool.map(Refuser(room).each, checks)):
+                print(f"{check.name}: {wrong or f'well with each of {count} allocations refused'}")
+                passed, failed = passed + (wrong is None), failed + (wrong is not None)
+                refused += count
+            if checks:
+                print(f"{what}: {len(checks)} series, {refused} allocations refused")
     print(f"{passed} passed, {failed} failed")
     return 1 if failed or not passed else 0
 

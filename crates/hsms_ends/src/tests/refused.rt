@@ -103,11 +103,12 @@ fn calls_of(rt: &impl Abort, case: &Connection, log: &[u8], taken: &[u8]) -> usi
     let mut calls = 0usize;
     let (mut lines, mut octets) = (log, taken);
     for (more, sent) in case.log.iter().zip(case.sent) {
-        if let Some(rest) = lines.strip_prefix(more.as_bytes()) {
-            lines = rest;
-            octets = octets.strip_prefix(*sent).unwrap_or(b"other octets");
-            calls = calls.saturating_add(1);
-        }
+        let Some(rest) = lines.strip_prefix(more.as_bytes()) else {
+            break;
+        };
+        lines = rest;
+        octets = octets.strip_prefix(*sent).unwrap_or(b"other octets");
+        calls = calls.saturating_add(1);
     }
     assert!(rt; lines.is_empty() && octets.is_empty());
     calls
