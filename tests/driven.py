@@ -4,8 +4,8 @@
 Use: tests/driven.py [--count N] [--seed WORD] [--workers N]. Without words there are 3000 lists, the seed is 1, and two
 workers. The lists depend on the seed alone: what an end was told in a random talk, with octets that are cut, flipped or
 lie, in other pieces, at other moments, in another order. `hsms_drive` tells them to an end call by call, and to `drive`
-as a whole; both have to answer the entries, the refusals and the pending octets that the second reading has. It runs what
-`rt ci` has built.
+as a whole; both have to answer the entries and the pending octets that the second reading has, and the calls the
+refusals too. It runs what `rt ci` has built.
 
 A list with another answer, or at which the program crashes, is kept in a file that the message names. The last line
 tells how many there are, and the status is 1 where there is one, or where 3000 lists or more didn't reach each thing
@@ -23,10 +23,8 @@ from typing import List
 
 sys.dont_write_bytecode = True
 
-from command import LONGEST_RUN, TOP
+from command import DRIVER, LONGEST_RUN
 from second_reading import lists, talks
-
-DRIVER = f"{TOP}/crates/hsms_drive/out/hsms_drive"
 
 # How many lists a run of the program gets.
 SHARE = 50

@@ -4,10 +4,10 @@
 Use: tests/refusals.py [CRATE..]. With names of crates only their tests are run.
 
 This is done to each test of each crate but the long ones, and to the command, on worked inputs and on examples. A test
-has to end with want of memory where an allocation was refused, since it hands that up; or to pass, where it looks itself
-at the answer and at what stands after it. Where no allocation was refused, it has to pass. The command has to answer with
-status 3 and `hsms: Memory`, and what it wrote then has to be nothing, or of `show` whole lines of what it writes with
-ample memory; as ever, where no allocation was refused, and there as the worked inputs say.
+has to end with want of memory where an allocation was refused, since it hands that up; or to pass, where it looks at
+the answer itself and at what stands after it. Where no allocation was refused, it has to pass. The command has to
+answer with status 3 and `hsms: Memory`, and what it wrote then has to be nothing, or of `show` whole lines of what it
+writes with ample memory; as ever, where no allocation was refused, and there as the worked inputs say.
 
 No program may take memory but by the calls that are refused, nor call the system past the C library. It runs what
 `rt ci` has built. The last line is `N passed, M failed`.
@@ -190,7 +190,8 @@ def calls(program):
 
 def asks_the_system(program):
     """Whether a program has instructions that call the system, past the C library."""
-    listed = subprocess.run(["objdump", "-d", "--no-show-raw-insn", program], capture_output=True, text=True, check=True)
+    words = ["objdump", "-d", "--no-show-raw-insn", program]
+    listed = subprocess.run(words, capture_output=True, text=True, check=True)
     return bool(re.search(r"\t(syscall|sysenter|int +\$0x80)", listed.stdout))
 
 
