@@ -1,13 +1,15 @@
 #!/usr/bin/env python3
 """Refuses each allocation in turn, the first, the second and so on, until a run meets no refusal.
 
-Use: tests/refusals.py [CRATE..]. With names of crates only their tests are run.
+Use: tests/refusals.py [CRATE..]. With names of crates only what these have is run.
 
-This is done to each test of each crate but the long ones, and to the command, on worked inputs and on examples. A test
-has to end with want of memory where an allocation was refused, since it hands that up; or to pass, where it looks at
-the answer itself and at what stands after it. Where no allocation was refused, it has to pass. The command has to
-answer with status 3 and `hsms: Memory`, and what it wrote then has to be nothing, or of `show` whole lines of what it
-writes with ample memory; as ever, where no allocation was refused, and there as the worked inputs say.
+This is done to each test of each crate but the long ones, to ends that are told damaged lists, and to the command, on
+worked inputs and on examples. A test has to end with want of memory where an allocation was refused, since it hands
+that up; or to pass, where it looks at the answer itself and at what stands after it. Where no allocation was refused,
+it has to pass. An end has to answer as ever up to the call that tells want of memory, and from then on that it is
+spent. The command has to answer with status 3 and `hsms: Memory`, and what it wrote then has to be nothing, or of
+`show` whole lines of what it writes with ample memory; as ever, where no allocation was refused, and there as the
+worked inputs say.
 
 No program may take memory but by the calls that are refused, nor call the system past the C library. It runs what
 `rt ci` has built. The last line is `N passed, M failed`.
@@ -24,10 +26,20 @@ from typing import Callable, List
 
 sys.dont_write_bytecode = True
 
-from command import PROGRAM, TOP, answer_of, refuser
+from command import DRIVER, PROGRAM, TOP, answer_of, refuser
+from second_reading.lists import Answering, damaged
 from worked import Row, rows
 
 WORKERS = 2
+
+# How the program of a crate's tests is called, after the crate.
+OF_TESTS = "_tests"
+
+# How many lists are told to ends.
+LISTS = 6
+
+# What a test, and a program, says where memory was refused.
+WANT_OF_MEMORY = re.compile(rb"^error: (AllocError|AllocFailed \{ \.\. \}|Memory)$", re.M | re.I)
 
 # The calls that refuse.c stands before, and all calls of the C library that hand memory out or call the system.
 REFUSED = {"malloc", "calloc", "realloc", "memalign", "aligned_alloc", "posix_memalign"}
@@ -69,9 +81,9 @@ def crates():
         return [line.split(":")[0].split()[0] for line in lines if ":" in line and not line.startswith("#")]
 
 
-def programs(wanted):
-    """The programs of the tests of the wanted crates, or of all where none is named, each with its crate."""
-    made = [(crate, f"{TOP}/crates/{crate}/out/{crate}_tests") for crate in wanted or crates()]
+def built(wanted, ending):
+    """The programs of the wanted crates, or with the ending those of their tests, each with its crate."""
+    made = [(crate, f"{TOP}/crates/{crate}/out/{crate}{ending}") for crate in wanted]
     return [(crate, program) for crate, program in made if os.path.exists(program)]
 
 
@@ -120,7 +132,7 @@ def passes(ended, was_refused):
 
 
 def tells(ended, was_refused):
-    told = re.match(rb"error: (AllocError|AllocFailed \{ \.\. \}|Memory)$", ended.stderr, re.M)
+    told = WANT_OF_MEMORY.search(ended.stderr)
     return ended.returncode != 0 and bool(told) if was_refused else ended.returncode == 0
 
 
@@ -137,7 +149,7 @@ def judge_of_test(name):
 
 def tests(wanted):
     """The tests of these crates but the long ones."""
-    for crate, program in programs(wanted):
+    for crate, program in built(wanted, OF_TESTS):
         listed = subprocess.run([program, "--list"], capture_output=True, text=True).stdout.splitlines()
         for name in (line[: -len(": test")] for line in listed if line.endswith(": test")):
             if name.split("::")[-1] not in LONG:
@@ -195,6 +207,40 @@ def asks_the_system(program):
     return bool(re.search(r"\t(syscall|sysenter|int +\$0x80)", listed.stdout))
 
 
+def tells_of_the_rest(calls, lines):
+    """Whether these are the lines of an end of which a call was refused memory: from then on it refuses as spent."""
+    if "refused Memory" not in lines:
+        return False
+    place = lines.index("refused Memory")
+    before, after, last = lines[:place], lines[place + 1:-2], lines[-2:]
+    is_ended = last[0].startswith("pending ") and last[1] in ("end", "other")
+    counts = (count for count in range(len(calls)) if sum(calls[:count], []) == before)
+    return is_ended and any(after == ["refused Spent"] * (len(calls) - count - 1) for count in counts)
+
+
+def judge_of_list(listed):
+    """What the ends of a list have to answer. Where the memory of the program itself is refused, it writes nothing."""
+    answering = Answering(listed)
+
+    def is_well(ended, was_refused):
+        output = ended.stdout.decode()
+        if not was_refused:
+            return (ended.returncode, output) == (0, answering.text())
+        if ended.returncode == 0:
+            return tells_of_the_rest(answering.calls, output.splitlines())
+        return output == "" and bool(WANT_OF_MEMORY.search(ended.stderr))
+
+    return is_well
+
+
+def ends():
+    """Ends that are told damaged lists, call by call and by `drive`."""
+    for number in range(LISTS):
+        listed = damaged("refusals", number)
+        name = f"hsms_drive, list {number} of {len(listed.told)} calls"
+        yield Check(name, [DRIVER], listed.text().encode(), judge_of_list(listed))
+
+
 def ways_to_memory(names):
     """Each of these programs, by which calls it takes memory, and what is wrong with that, if anything."""
     for name in names:
@@ -205,21 +251,30 @@ def ways_to_memory(names):
         yield os.path.basename(name), ", ".join(sorted(called & REFUSED)), wrong
 
 
+def groups(wanted):
+    """What is run of the wanted crates: their tests, and of the two programs the ends and the command."""
+    made = [("tests", list(tests(wanted)))]
+    for crate, name, checks in [("hsms_drive", "ends", ends), ("hsms_tool", "the command", runs)]:
+        if crate in wanted:
+            made.append((name, list(checks())))
+    return made
+
+
 def main():
-    wanted = sys.argv[1:]
+    wanted = sys.argv[1:] or crates()
     passed = failed = 0
-    for name, ways, wrong in ways_to_memory([program for _, program in programs(wanted)] + [PROGRAM] * (not wanted)):
+    names = [program for _, program in [*built(wanted, OF_TESTS), *built(wanted, "")]]
+    for name, ways, wrong in ways_to_memory(names):
         print(f"{name}: {wrong or f'it takes memory by {ways} alone, which are refused'}")
         passed, failed = passed + (wrong is None), failed + (wrong is not None)
     with tempfile.TemporaryDirectory(prefix="hsms-refusals-") as room, ThreadPoolExecutor(WORKERS) as pool:
-        for what, checks in [("tests", list(tests(wanted))), ("the command", [] if wanted else list(runs()))]:
+        for what, checks in groups(wanted):
             refused = 0
             for check, (wrong, count) in zip(checks, pool.map(Refuser(room).each, checks)):
                 print(f"{check.name}: {wrong or f'well with each of {count} allocations refused'}")
                 passed, failed = passed + (wrong is None), failed + (wrong is not None)
                 refused += count
-            if checks:
-                print(f"{what}: {len(checks)} series, {refused} allocations refused")
+            print(f"{what}: {len(checks)} series, {refused} allocations refused")
     print(f"{passed} passed, {failed} failed")
     return 1 if failed or not passed else 0
 

@@ -139,26 +139,23 @@ def damaged(seed: str, number: int) -> Listed:
 
 
 class Answering:
-    """An end of the second reading that is told a list, the lines that it answers, and what it did."""
+    """An end of the second reading that is told a list, the lines that each call answers, and what it did."""
 
     def __init__(self, listed: Listed):
         self.end = new_end(listed.settings, listed.model, listed.first_system)
-        self.lines: List[str] = []
         self.reached: Set[str] = set()
-        for told in listed.told:
-            self.tell(told)
-        self.lines += [f"pending {digits(self.end.pending)}", "end"]
+        self.calls = [self.lines_of(told) for told in listed.told]
 
-    def tell(self, told: Told):
+    def lines_of(self, told: Told) -> List[str]:
         call = getattr(End, told.call)
         try:
             entries = call(self.end) if told.given is None else call(self.end, told.given)
         except Refused as refused:
             self.reached.add(str(refused))
-            self.lines.append(f"refused {refused}")
-            return
+            return [f"refused {refused}"]
         self.reached |= {name_of(entry) for entry in entries}
-        self.lines += map(line_of, entries)
+        return [line_of(entry) for entry in entries]
 
     def text(self) -> str:
-        return "".join(line + "\n" for line in self.lines)
+        lines = [line for lines in self.calls for line in lines]
+        return "".join(line + "\n" for line in [*lines, f"pending {digits(self.end.pending)}", "end"])
