@@ -1,5 +1,5 @@
 #!/usr/bin/env python3
-"""Measures the most memory that the command holds of inputs that claim lengths and counts which they don't hold.
+"""Measures the most memory that the command, or an end, holds of inputs that claim what they don't hold.
 
 Each is compared with an input of about as many octets that claims nothing: it may take a little more, and not in
 proportion to what is claimed. The one exception is a message whose length is within `--max`: its text is given room at
@@ -16,7 +16,10 @@ from dataclasses import dataclass
 
 sys.dont_write_bytecode = True
 
-from command import Answer, answer_of, refuser
+from command import DRIVER, PROGRAM, Answer, answer_of, refuser
+from second_reading.lists import Answering, Listed
+from second_reading.session import Settings
+from second_reading.talks import Told
 from worked import ENTRIES, message, octets, refused
 
 # How much more an input may take than one that claims nothing, in octets.
@@ -37,6 +40,7 @@ class Claim:
     answer: Answer
     # how much is given room at once
     room: int = 0
+    program: str = PROGRAM
 
 
 def shown(text):
@@ -54,6 +58,19 @@ def in_message(words, text):
 def in_notation(words, text, fault):
     """Beside a text with counts stands the same text without any."""
     return Claim(words, text.encode(), re.sub(r" \[\d+\]", "", text).encode(), refused(fault))
+
+
+def list_with(piece):
+    """The list of an end that is selected, to which these octets come then."""
+    settings = Settings("equipment", "passive", 0, 45000, 6000, 10000, 5000, GREATEST, 100)
+    told = [Told("start", 0), Told("hear", message("ffff0000000100000001")), Told("hear", piece)]
+    return Listed(settings, b"", 1, told)
+
+
+def at_end(piece, beside):
+    listed = list_with(piece)
+    answer = Answer(0, Answering(listed).text().encode(), b"")
+    return Claim("", listed.text().encode(), list_with(beside).text().encode(), answer, program=DRIVER)
 
 
 def claims():
@@ -79,6 +96,11 @@ def claims():
         in_notation("encode", "S1F1 <L [18446744073709551615]> .", "Count at=8"),
         Claim("audit", f"{LOG}6 > {HEADER}{'03ffffff' * 100}\n".encode(), f"{LOG}6 > {HEADER}\n".encode(), verdict),
         Claim("audit", f"{LOG}6 > {HEADER}43ffffff41\n".encode(), f"{LOG}6 > {HEADER}\n".encode(), verdict),
+        at_end(octets("ffffffff" + HEADER), octets("0000000b" + HEADER)),
+        at_end(octets("02000000" + HEADER), octets("0000000b" + HEADER)),
+        at_end(octets("02000000" + HEADER) + bytes(1000), octets("00000400" + HEADER) + bytes(1000)),
+        at_end(message(HEADER + "03ffffff" * 100), message(HEADER + "22018d" + "00" * 397)),
+        at_end(message(HEADER + "43ffffff" + "41" * 400), message(HEADER + "420191" + "41" * 401)),
     ]
 
 
@@ -87,11 +109,11 @@ class Measure:
         self.held = f"{room}/held"
         self.env = {"LD_PRELOAD": refuser(room), "HELD": self.held}
 
-    def most(self, words, given):
-        """What the command answers, and the most octets that it held."""
+    def most(self, claim, given):
+        """What the program of a claim answers, and the most octets that it held."""
         with open(self.held, "wb") as file:
             file.write(bytes(16))
-        answer = answer_of(words.split(), given, env=self.env)
+        answer = answer_of(claim.words.split(), given, claim.program, env=self.env)
         with open(self.held, "rb") as file:
             return answer, struct.unpack("<qq", file.read())[1]
 
@@ -101,12 +123,13 @@ def main():
     with tempfile.TemporaryDirectory(prefix="hsms-claims-") as room:
         measure = Measure(room)
         for claim in claims():
-            answer, held = measure.most(claim.words, claim.given)
-            _, beside = measure.most(claim.words, claim.beside)
+            answer, held = measure.most(claim, claim.given)
+            _, beside = measure.most(claim, claim.beside)
             is_well = answer == claim.answer and 0 < beside and held <= beside + claim.room + MORE
             passed, failed = passed + is_well, failed + (not is_well)
             told = f"held {held}, beside {beside}" if answer == claim.answer else str(answer)
-            print(f"hsms {claim.words}, {claim.given[:60]!r}: {told}")
+            name = f"hsms {claim.words}, {claim.given[:60]!r}" if claim.words else f"an end, {claim.given[-60:]!r}"
+            print(f"{name}: {told}")
     print(f"{passed} passed, {failed} failed")
     return 1 if failed or not passed else 0
 

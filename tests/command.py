@@ -1,10 +1,13 @@
-"""The command that `rt ci` has built, and what it answers."""
+"""The programs that `rt ci` has built, and what they answer."""
 import os
 import subprocess
 from dataclasses import dataclass
 
 TOP = os.path.dirname(os.path.dirname(os.path.abspath(__file__)))
 PROGRAM = f"{TOP}/crates/hsms_tool/out/hsms_tool"
+
+# The program that tells ends lists.
+DRIVER = f"{TOP}/crates/hsms_drive/out/hsms_drive"
 
 # How much of an answer is shown, in octets.
 LONGEST_SHOWN = 100_000
@@ -25,9 +28,9 @@ class Answer:
         return f"status {self.status}, output {self.output[:LONGEST_SHOWN]!r}, error {self.error!r}"
 
 
-def answer_of(words, given: bytes, **how) -> Answer:
-    """What the command answers."""
-    ran = subprocess.run([PROGRAM, *words], input=given, capture_output=True, timeout=LONGEST_RUN, **how)
+def answer_of(words, given: bytes, program=PROGRAM, **how) -> Answer:
+    """What the command answers, or another program."""
+    ran = subprocess.run([program, *words], input=given, capture_output=True, timeout=LONGEST_RUN, **how)
     return Answer(ran.returncode, ran.stdout, ran.stderr)
 
 

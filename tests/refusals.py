@@ -1,14 +1,18 @@
 #!/usr/bin/env python3
 """Refuses each allocation in turn, the first, the second and so on, until a run meets no refusal.
 
-This is done to each test whose name begins with `refused`, which has to pass, since it looks at the answer and at what
-stands after it; to each test but long ones of the crates below that hand want of memory up, which has to pass or to end
-with that error, or that judge each refusal themselves; and to the command, on worked inputs and on examples.
-The command has to answer with status 3 and `hsms: Memory`, and what it wrote then has to be nothing, or of `show` whole
-lines of what it writes with ample memory; as ever, where no allocation was refused, and there as the worked inputs say.
+Use: tests/refusals.py [CRATE..]. With names of crates only what these have is run.
 
-No program may take memory but by the calls that are refused. It runs what `rt ci` has built. The last line is
-`N passed, M failed`.
+This is done to each test of each crate but the long ones, to ends that are told damaged lists, and to the command, on
+worked inputs and on examples. A test has to end with want of memory where an allocation was refused, since it hands
+that up; or to pass, where it looks at the answer itself and at what stands after it. Where no allocation was refused,
+it has to pass. An end has to answer as ever up to the call that tells want of memory, and from then on that it is
+spent. The command has to answer with status 3 and `hsms: Memory`, and what it wrote then has to be nothing, or of
+`show` whole lines of what it writes with ample memory; as ever, where no allocation was refused, and there as the
+worked inputs say.
+
+No program may take memory but by the calls that are refused, nor call the system past the C library. It runs what
+`rt ci` has built. The last line is `N passed, M failed`.
 """
 import os
 import re
@@ -22,16 +26,26 @@ from typing import Callable, List
 
 sys.dont_write_bytecode = True
 
-from command import PROGRAM, TOP, answer_of, refuser
+from command import DRIVER, PROGRAM, TOP, answer_of, refuser
+from second_reading.lists import Answering, damaged
 from worked import Row, rows
 
 WORKERS = 2
 
-# The calls that refuse.c stands before, and all calls of the C library that hand memory out.
+# How the program of a crate's tests is called, after the crate.
+OF_TESTS = "_tests"
+
+# How many lists are told to ends.
+LISTS = 6
+
+# What a test, and a program, says where memory was refused.
+WANT_OF_MEMORY = re.compile(rb"^error: (AllocError|AllocFailed \{ \.\. \}|Memory)$", re.M | re.I)
+
+# The calls that refuse.c stands before, and all calls of the C library that hand memory out or call the system.
 REFUSED = {"malloc", "calloc", "realloc", "memalign", "aligned_alloc", "posix_memalign"}
 TAKING = REFUSED | set(
-    "reallocarray valloc pvalloc mmap mmap64 mremap brk sbrk strdup strndup wcsdup asprintf vasprintf open_memstream "
-    "getline getdelim realpath getcwd scandir getaddrinfo".split()
+    "reallocarray valloc pvalloc mmap mmap64 mremap brk sbrk syscall strdup strndup wcsdup asprintf vasprintf "
+    "open_memstream getline getdelim realpath getcwd scandir getaddrinfo dlopen dlsym".split()
 )
 
 # What a program calls of the others that is no memory of its own: it hands the room in, or the C library takes what it
@@ -39,17 +53,16 @@ TAKING = REFUSED | set(
 HANDED_IN = {"getcwd"}
 BY_REFUSED = {"getaddrinfo"}
 
-# The crates whose tests hand want of memory up, each by `?`.
-HAND_UP = {"hsms_ends", "secs_item", "secs_text"}
-
-# Tests that assert an answer in whose place want of memory may come.
-ASSERT = {"the_greatest_items"}
-
 # Tests that take too long to be run once for each allocation.
 LONG = {"walks_of_two_ends"}
 
-# The crates whose tests judge each refusal themselves.
-JUDGE = {"hsms_machine"}
+# The tests that judge each refusal themselves, or try again: those of these modules, and those whose names begin with
+# `refused`. Of the second ones what they take for themselves may be refused too.
+JUDGE = ("hsms_machine tests::",)
+TRY_AGAIN = ("hsms_frame tests::framing::",)
+
+# A test with a desk that refuses memory itself, at last, and wants to be told so.
+REFUSES = ("hsms_ends tests::limits::a_desk_of_its_own",)
 
 # A port at which nobody listens.
 NOBODY_THERE = "--role equipment --link active --address 127.0.0.1 --port 1 --mdln M --softrev 1".split()
@@ -77,9 +90,9 @@ def crates():
         return [line.split(":")[0].split()[0] for line in lines if ":" in line and not line.startswith("#")]
 
 
-def programs():
-    """The command, and the programs of the tests, each with its crate."""
-    made = [(crate, f"{TOP}/crates/{crate}/out/{crate}_tests") for crate in crates()]
+def built(wanted, ending):
+    """The programs of the wanted crates, or with the ending those of their tests, each with its crate."""
+    made = [(crate, f"{TOP}/crates/{crate}/out/{crate}{ending}") for crate in wanted]
     return [(crate, program) for crate, program in made if os.path.exists(program)]
 
 
@@ -127,21 +140,29 @@ def passes(ended, was_refused):
     return ended.returncode == 0
 
 
+def tells(ended, was_refused):
+    told = WANT_OF_MEMORY.search(ended.stderr)
+    return ended.returncode != 0 and bool(told) if was_refused else ended.returncode == 0
+
+
 def passes_or_tells(ended, was_refused):
-    told = re.match(rb"error: (AllocError|AllocFailed \{ \.\. \}|Memory)$", ended.stderr, re.M)
-    return ended.returncode == 0 or bool(was_refused and told)
+    return passes(ended, was_refused) or tells(ended, was_refused)
 
 
-def tests():
-    """The tests that are run."""
-    for crate, program in programs():
+def judge_of_test(name):
+    """What a run of a test has to do."""
+    if name.startswith(JUDGE) or name.split("::")[-1].startswith("refused"):
+        return passes
+    return passes_or_tells if name.startswith(TRY_AGAIN + REFUSES) else tells
+
+
+def tests(wanted):
+    """The tests of these crates but the long ones."""
+    for crate, program in built(wanted, OF_TESTS):
         listed = subprocess.run([program, "--list"], capture_output=True, text=True).stdout.splitlines()
         for name in (line[: -len(": test")] for line in listed if line.endswith(": test")):
-            last = name.split("::")[-1]
-            is_judge = crate in JUDGE or last.startswith("refused")
-            if last not in LONG | ASSERT and (is_judge or crate in HAND_UP):
-                is_well = passes if is_judge else passes_or_tells
-                yield Check(f"{crate} {name}", [program, name], b"", is_well)
+            if name.split("::")[-1] not in LONG:
+                yield Check(f"{crate} {name}", [program, name], b"", judge_of_test(f"{crate} {name}"))
 
 
 def examples():
@@ -183,28 +204,86 @@ def judge_of(row, may_do_without):
 
 
 def calls(program):
-    """What a program calls of the C library that hands memory out."""
+    """What a program calls of the C library that hands memory out, or asks the system for it."""
     listed = subprocess.run(["nm", "-D", "--undefined-only", program], capture_output=True, text=True, check=True)
     return TAKING & {line.split()[-1].split("@")[0] for line in listed.stdout.splitlines()}
 
 
-def other_calls():
-    """Each program, and what it calls that isn't refused."""
-    for name in [PROGRAM, *[program for _, program in programs()]]:
-        others = calls(name) - REFUSED - HANDED_IN - BY_REFUSED
-        yield os.path.basename(name), f"it takes memory by {', '.join(sorted(others))}" if others else None
+def asks_the_system(program):
+    """Whether a program has instructions that call the system, past the C library."""
+    words = ["objdump", "-d", "--no-show-raw-insn", program]
+    listed = subprocess.run(words, capture_output=True, text=True, check=True)
+    return bool(re.search(r"\t(syscall|sysenter|int +\$0x80)", listed.stdout))
+
+
+def tells_of_the_rest(calls, lines):
+    """Whether these are the lines of an end of which a call was refused memory: from then on it refuses as spent."""
+    if "refused Memory" not in lines:
+        return False
+    place = lines.index("refused Memory")
+    before, after, last = lines[:place], lines[place + 1:-2], lines[-2:]
+    is_ended = last[0].startswith("pending ") and last[1] in ("end", "other")
+    counts = (count for count in range(len(calls)) if sum(calls[:count], []) == before)
+    return is_ended and any(after == ["refused Spent"] * (len(calls) - count - 1) for count in counts)
+
+
+def judge_of_list(listed):
+    """What the ends of a list have to answer. Where the memory of the program itself is refused, it writes nothing."""
+    answering = Answering(listed)
+
+    def is_well(ended, was_refused):
+        output = ended.stdout.decode()
+        if not was_refused:
+            return (ended.returncode, output) == (0, answering.text())
+        if ended.returncode == 0:
+            return tells_of_the_rest(answering.calls, output.splitlines())
+        return output == "" and bool(WANT_OF_MEMORY.search(ended.stderr))
+
+    return is_well
+
+
+def ends():
+    """Ends that are told damaged lists, call by call and by `drive`."""
+    for number in range(LISTS):
+        listed = damaged("refusals", number)
+        name = f"hsms_drive, list {number} of {len(listed.told)} calls"
+        yield Check(name, [DRIVER], listed.text().encode(), judge_of_list(listed))
+
+
+def ways_to_memory(names):
+    """Each of these programs, by which calls it takes memory, and what is wrong with that, if anything."""
+    for name in names:
+        called = calls(name)
+        others = called - REFUSED - HANDED_IN - BY_REFUSED
+        wrong = f"it takes memory by {', '.join(sorted(others))}" if others else None
+        wrong = "it calls the system by itself" if asks_the_system(name) else wrong
+        yield os.path.basename(name), ", ".join(sorted(called & REFUSED)), wrong
+
+
+def groups(wanted):
+    """What is run of the wanted crates: their tests, and of the two programs the ends and the command."""
+    made = [("tests", list(tests(wanted)))]
+    for crate, name, checks in [("hsms_drive", "ends", ends), ("hsms_tool", "the command", runs)]:
+        if crate in wanted:
+            made.append((name, list(checks())))
+    return made
 
 
 def main():
+    wanted = sys.argv[1:] or crates()
     passed = failed = 0
-    for name, wrong in other_calls():
-        print(f"{name}: {wrong or 'each call that takes memory can be refused'}")
+    names = [program for _, program in [*built(wanted, OF_TESTS), *built(wanted, "")]]
+    for name, ways, wrong in ways_to_memory(names):
+        print(f"{name}: {wrong or f'it takes memory by {ways} alone, which are refused'}")
         passed, failed = passed + (wrong is None), failed + (wrong is not None)
     with tempfile.TemporaryDirectory(prefix="hsms-refusals-") as room, ThreadPoolExecutor(WORKERS) as pool:
-        checks = [*tests(), *runs()]
-        for check, (wrong, count) in zip(checks, pool.map(Refuser(room).each, checks)):
-            print(f"{check.name}: {wrong or f'well with each of {count} allocations refused'}")
-            passed, failed = passed + (wrong is None), failed + (wrong is not None)
+        for what, checks in groups(wanted):
+            refused = 0
+            for check, (wrong, count) in zip(checks, pool.map(Refuser(room).each, checks)):
+                print(f"{check.name}: {wrong or f'well with each of {count} allocations refused'}")
+                passed, failed = passed + (wrong is None), failed + (wrong is not None)
+                refused += count
+            print(f"{what}: {len(checks)} series, {refused} allocations refused")
     print(f"{passed} passed, {failed} failed")
     return 1 if failed or not passed else 0
 

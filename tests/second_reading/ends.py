@@ -329,8 +329,11 @@ def line_of(entry: Entry) -> str:
     return f"{entry.time} {entry.event} {entry.cause}".rstrip()
 
 
-def log_of(end: End) -> bytes:
-    given = end.settings
+def first_line(given: Settings) -> str:
     numbers = (given.device, given.t3, given.t6, given.t7, given.t8, given.max, given.depth)
-    first = " ".join(["hsms-log 1", given.role, given.link, *map(str, numbers)])
-    return "".join(line + "\n" for line in [first, *map(line_of, end.log.entries)]).encode()
+    return " ".join(["hsms-log 1", given.role, given.link, *map(str, numbers)])
+
+
+def log_of(end: End) -> bytes:
+    lines = [first_line(end.settings), *map(line_of, end.log.entries)]
+    return "".join(line + "\n" for line in lines).encode()

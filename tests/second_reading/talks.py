@@ -2,7 +2,8 @@
 
 The ends are those of `ends`. Nothing here judges: whether their logs pass, the command says.
 """
-from typing import List, Set, Tuple
+from dataclasses import dataclass
+from typing import Any, List, Set, Tuple
 
 from second_reading.ends import End, Refused, equipment_desk, host_desk
 from second_reading.inputs import Chance, Draft, random_item, random_text
@@ -12,6 +13,7 @@ from second_reading.session import DISCARDED, SENT, TAKEN, Before, Entry, Settin
 
 LIMITS = (256, 256, 300, 1_048_576)
 NAMES_OF_DATA = [(1, 1), (1, 13), (2, 25), (2, 17), (9, 1), (9, 3), (64, 7), (127, 255), (1, 2), (0, 0)]
+REVISION = b"1"
 NAMES_OF_CONTROL = {"select.rsp": "Select.rsp", "reject": "Reject"}
 
 # What the talks have to reach: what an end sends, why it throws away, its timers, its faults.
@@ -26,6 +28,20 @@ TO_REACH = [
 ]
 
 
+@dataclass(frozen=True)
+class Told:
+    """What an end is told: the call of it, and the moment, the octets or the message that is handed in, if any."""
+
+    call: str
+    given: Any = None
+
+
+def new_end(settings: Settings, model: bytes, first_system: int) -> End:
+    """An end that was told nothing yet."""
+    desk = host_desk() if settings.role == "host" else equipment_desk(model, REVISION)
+    return End(settings, desk, first_system)
+
+
 class Party:
     """One of the two ends, and the octets that it sent and that the other one didn't get yet."""
 
@@ -33,14 +49,16 @@ class Party:
         timers = (chance.one(20, 60, 3600), chance.one(60, 200, 1000), chance.one(100, 1000), chance.one(50, 200, 1000))
         device = chance.one(0, 0, 0, 0, 0, 1)
         self.settings = Settings(role, link, device, *timers, chance.choice(LIMITS), chance.one(1, 2, 4, 32))
-        model = bytes(chance.one(0, 1, 6, 240))
-        desk = host_desk() if role == "host" else equipment_desk(model, b"1")
-        self.end = End(self.settings, desk, chance.one(0, 1, 5, (1 << 32) - 2))
+        self.model = bytes(chance.one(0, 1, 6, 240))
+        self.first_system = chance.one(0, 1, 5, (1 << 32) - 2)
+        self.end = new_end(self.settings, self.model, self.first_system)
         self.line = b""
         self.reached: Set[str] = set()
+        self.told: List[Told] = []
 
     def tell(self, call, *given):
         """Tells the end something. What it sends goes on the line, what is refused leads to nothing."""
+        self.told.append(Told(call.__name__, *given))
         try:
             entries = call(*given)
         except Refused as refused:
@@ -112,7 +130,7 @@ class Talk:
         elif kind < 0.48:
             party.tell(party.end.linktest)
         elif kind < 0.482:
-            party.tell(self.chance.one(party.end.separate, party.end.lost, lambda: party.end.start(self.now)))
+            party.tell(*self.chance.one((party.end.separate,), (party.end.lost,), (party.end.start, self.now)))
         else:
             party.tell(party.end.hear, self.octets(party, other))
 
@@ -179,9 +197,14 @@ class Talk:
         return Message(stream, function, stream != 9 and chance.happens(0.7), item)
 
 
+def parties_of(chance: Chance, *lengths: int) -> List[Party]:
+    """The two parties of a talk of one of these lengths, after it."""
+    whole = Talk(chance)
+    whole.run(chance.one(*lengths))
+    return whole.parties
+
+
 def talk(seed: str) -> List[Tuple[End, Set[str]]]:
     """The two ends of a talk, after it, and what each did."""
-    chance = Chance(seed)
-    whole = Talk(chance)
-    whole.run(chance.one(20, 100, 200, 400))
-    return [(party.end, party.reached | party.reasons()) for party in whole.parties]
+    parties = parties_of(Chance(seed), 20, 100, 200, 400)
+    return [(party.end, party.reached | party.reasons()) for party in parties]

@@ -3,10 +3,12 @@
 mod answers;
 mod connection;
 mod corners;
+mod desks;
 mod failing;
 mod limits;
 mod own;
 mod party;
+mod refused;
 mod scripted;
 mod serving;
 mod talk;
@@ -164,7 +166,9 @@ fn judge<D: Desk>(
             }
             Err(EndFault::Memory) => {
                 assert_spent(rt, alloc, end);
-                want.err().ok_or(EndFault::Memory)?;
+                if *want != Err(EndFault::Memory) {
+                    return Err(EndFault::Memory.into());
+                }
                 return Ok(());
             }
             Err(fault) => assert_eq!(rt; Err(fault), *want, "{}", case.name),

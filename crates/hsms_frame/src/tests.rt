@@ -12,15 +12,21 @@ const DATA: [u8; 16] = *b"\x00\x00\x00\x0c\x00\x00\x81\x0d\x00\x00\x00\x00\x00\x
 
 const LONG: [u8; 14] = *b"\x00\x00\x01\x01\x00\x00\x81\x01\x00\x00\x00\x00\x00\x02";
 
+const REPORT: [u8; 24] = *b"\0\0\0\x14\0\0\x86\x0b\0\0\0\0\0\x01\x01\x02A\x02AB\xa5\x02\x01\xff";
+
 #[derive(Drop)]
 struct Run {
     result: Result<Option<Frame>, ReadFault>,
     left: usize,
 }
 
+// Reads a message. Want of memory is handed up.
 fn read(alloc: Global, octets: &[u8]) -> Result<Run, AllocError> {
     let mut source = Feed::new(Vec::from_slice(alloc, octets)?, 5, u64::MAX);
     let result = read_frame(alloc, &mut source, 256);
+    if let Err(ReadFault::Memory) = &result {
+        return Err(AllocError);
+    }
     let left = source.left().len();
     Ok(Run { result, left })
 }
@@ -95,14 +101,26 @@ fn finds_each_fault(rt: HostRuntime) -> Result<(), Fail> {
 }
 
 #[test]
+fn finds_each_cut(rt: HostRuntime) -> Result<(), Fail> {
+    for octets in [REPORT.as_slice(), DATA.as_slice(), SELECT.as_slice()] {
+        for length in 1..octets.len() {
+            let run = read(rt.alloc(), &octets[..length])?;
+            assert!(rt;
+                matches!(run.result, Err(ReadFault::CutOff)),
+                "after {length}"
+            );
+            assert_eq!(rt; run.left, 0);
+        }
+    }
+    Ok(())
+}
+
+#[test]
 fn moves_octets_through_std(rt: HostRuntime) -> Result<(), Fail> {
     let mut source = Reader::new(DATA.as_slice());
-    let frame = read_frame(rt.alloc(), &mut source, 256)
-        .ok()
-        .flatten()
-        .ok_or("a message")?;
+    let frame = read_frame(rt.alloc(), &mut source, 256)?.ok_or("a message")?;
     assert_eq!(rt; kind(frame.header), Kind::Primary);
-    let mut sink = Writer::new(Vec::new(rt.alloc()));
+    let mut sink = Writer::new(Vec::with_capacity(rt.alloc(), 16)?);
     assert!(rt; give_all(&mut sink, &DATA).is_ok());
     assert!(rt; sink.flush().is_ok());
     let mut store = Store::new(vec![in rt.alloc(); 0u8; 16]?, 3, 6);

@@ -18,6 +18,15 @@ struct Run {
     written: Vec<u8>,
 }
 
+impl Run {
+    fn or_want_of_memory(self) -> Result<Run, AllocError> {
+        match &self.result {
+            Err(ToolFault::Memory) => Err(AllocError),
+            _ => Ok(self),
+        }
+    }
+}
+
 fn shown(
     alloc: Global,
     octets: &[u8],
@@ -73,7 +82,7 @@ fn shows_each_kind(rt: HostRuntime) -> Result<(), Fail> {
     ];
     for (octets, line) in rows {
         for piece in [1, 3, 4096] {
-            let run = shown(rt.alloc(), octets, piece, u64::MAX, u64::MAX)?;
+            let run = shown(rt.alloc(), octets, piece, u64::MAX, u64::MAX)?.or_want_of_memory()?;
             assert!(rt; run.result.is_ok(), "{line}");
             assert_eq!(rt; run.written.as_slice(), line.as_bytes());
         }
@@ -84,14 +93,14 @@ fn shows_each_kind(rt: HostRuntime) -> Result<(), Fail> {
 #[test]
 fn refuses_what_is_no_message(rt: HostRuntime) -> Result<(), Fail> {
     let alloc = rt.alloc();
-    let run = shown(alloc, &[0, 0, 0, 9], 4096, u64::MAX, u64::MAX)?;
+    let run = shown(alloc, &[0, 0, 0, 9], 4096, u64::MAX, u64::MAX)?.or_want_of_memory()?;
     assert!(rt;
         matches!(&run.result, Err(ToolFault::Refused(words)) if words.as_str() == "TooShort length=9")
     );
     assert!(rt; run.written.is_empty());
     let mut octets = Vec::from_slice(alloc, &SELECT)?;
     octets.extend_from_slice(&[0, 0])?;
-    let run = shown(alloc, &octets, 1, u64::MAX, u64::MAX)?;
+    let run = shown(alloc, &octets, 1, u64::MAX, u64::MAX)?.or_want_of_memory()?;
     assert!(rt;
         matches!(&run.result, Err(ToolFault::Refused(words)) if words.as_str() == "CutOff")
     );
@@ -107,9 +116,9 @@ fn refuses_what_is_no_message(rt: HostRuntime) -> Result<(), Fail> {
 fn tells_which_device_failed(rt: HostRuntime) -> Result<(), Fail> {
     let alloc = rt.alloc();
     for calls in 0..14 {
-        let run = shown(alloc, &SELECT, 1, calls, u64::MAX)?;
+        let run = shown(alloc, &SELECT, 1, calls, u64::MAX)?.or_want_of_memory()?;
         assert!(rt; matches!(run.result, Err(ToolFault::Device("Read"))));
-        let run = shown(alloc, &SELECT, 1, u64::MAX, calls)?;
+        let run = shown(alloc, &SELECT, 1, u64::MAX, calls)?.or_want_of_memory()?;
         assert!(rt; matches!(run.result, Err(ToolFault::Device("Write"))));
         assert_eq!(rt; run.written.len() as u64, calls);
     }

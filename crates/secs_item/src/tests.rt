@@ -71,7 +71,7 @@ fn numbers(rt: HostRuntime) -> Result<(), Fail> {
 #[test]
 fn lists(rt: HostRuntime) -> Result<(), Fail> {
     let octets = b"\x01\x01\x01\x00\x00\x00";
-    let (item, length) = decode_front(rt.alloc(), octets, DEPTH)?;
+    let (item, length) = decode_front(rt.alloc(), octets, 2)?;
     assert_eq!(rt; length, 4);
     assert_eq!(rt; nesting(&item), 2);
     assert_eq!(rt; item.copy(rt.alloc())?, item);

@@ -1,17 +1,41 @@
 use super::{DATA, LONG, SELECT};
-use crate::{FrameFault, Framer, encode_frame};
+use crate::{Frame, FrameFault, Framer, encode_frame};
 use std::alloc::Global;
 use std::process::Abort;
 use std::test::Fail;
 
+// Pushes octets. Where memory is refused the framer is as it was, and a second try meets no refusal.
+fn push(rt: &impl Abort, alloc: Global, framer: &mut Framer, octets: &[u8]) -> Result<(), Fail> {
+    let before = Vec::from_slice(alloc, framer.pending())?;
+    if let Err(fault) = framer.push(octets) {
+        assert!(rt; fault == FrameFault::Memory);
+        assert_eq!(rt; framer.pending(), before.as_slice());
+        framer.push(octets)?;
+    }
+    Ok(())
+}
+
+// Takes the message at the front away. Where memory is refused the framer is as it was, and a second try meets no
+// refusal.
+fn next(rt: &impl Abort, alloc: Global, framer: &mut Framer) -> Result<Option<Frame>, Fail> {
+    let before = Vec::from_slice(alloc, framer.pending())?;
+    match framer.next() {
+        Ok(taken) => Ok(taken),
+        Err(fault) => {
+            assert!(rt; fault == FrameFault::Memory);
+            assert_eq!(rt; framer.pending(), before.as_slice());
+            Ok(framer.next()?)
+        }
+    }
+}
+
 // The system bytes of the messages at the front, which are taken away.
-fn systems(alloc: Global, framer: &mut Framer) -> Result<Vec<u32>, Fail> {
+fn systems(rt: &impl Abort, alloc: Global, framer: &mut Framer) -> Result<Vec<u32>, Fail> {
     let mut systems = Vec::new(alloc);
     for _ in 0..4 {
-        match framer.next() {
-            Ok(Some(frame)) => systems.push(frame.header.system)?,
-            Ok(None) => break,
-            Err(_) => return Err("no fault".into()),
+        match next(rt, alloc, framer)? {
+            Some(frame) => systems.push(frame.header.system)?,
+            None => break,
         }
     }
     Ok(systems)
@@ -25,10 +49,10 @@ fn gives_the_same_from_any_two_pieces(rt: HostRuntime) -> Result<(), Fail> {
     for cut in 0..=octets.len() {
         let (first, last) = octets.split_at(cut);
         let mut framer = Framer::new(alloc, 256);
-        assert!(rt; framer.push(first).is_ok());
-        let mut given = systems(alloc, &mut framer)?;
-        assert!(rt; framer.push(last).is_ok());
-        given.extend_from_slice(&systems(alloc, &mut framer)?)?;
+        push(&rt, alloc, &mut framer, first)?;
+        let mut given = systems(&rt, alloc, &mut framer)?;
+        push(&rt, alloc, &mut framer, last)?;
+        given.extend_from_slice(&systems(&rt, alloc, &mut framer)?)?;
         assert_eq!(rt; given.as_slice(), [1, 1].as_slice(), "cut at {cut}");
         assert!(rt; framer.pending().is_empty());
     }
@@ -69,9 +93,10 @@ fn gives_back_from_any_two_pieces(
     for cut in 0..octets.len() {
         let (first, last) = octets.split_at(cut);
         let mut framer = Framer::new(alloc, 256);
-        assert!(rt; framer.push(first).is_ok() && matches!(framer.next(), Ok(None)));
-        assert!(rt; framer.push(last).is_ok());
-        let frame = framer.next().ok().flatten().ok_or("a message")?;
+        push(rt, alloc, &mut framer, first)?;
+        assert!(rt; matches!(framer.next(), Ok(None)));
+        push(rt, alloc, &mut framer, last)?;
+        let frame = next(rt, alloc, &mut framer)?.ok_or("a message")?;
         assert_eq!(rt;
             encode_frame(alloc, &frame)?.as_slice(),
             octets,
@@ -84,13 +109,14 @@ fn gives_back_from_any_two_pieces(
 
 #[test]
 fn waits_for_the_last_octet(rt: HostRuntime) -> Result<(), Fail> {
-    let mut framer = Framer::new(rt.alloc(), 256);
+    let alloc = rt.alloc();
+    let mut framer = Framer::new(alloc, 256);
     for octet in &DATA[..15] {
-        assert!(rt; framer.push(&[*octet]).is_ok());
+        push(&rt, alloc, &mut framer, &[*octet])?;
         assert!(rt; matches!(framer.next(), Ok(None)));
     }
-    assert!(rt; framer.push(&DATA[15..]).is_ok());
-    let frame = framer.next().ok().flatten().ok_or("a message")?;
+    push(&rt, alloc, &mut framer, &DATA[15..])?;
+    let frame = next(&rt, alloc, &mut framer)?.ok_or("a message")?;
     assert_eq!(rt; frame.text.as_slice(), &DATA[14..]);
     assert!(rt; framer.pending().is_empty());
     Ok(())
@@ -98,15 +124,18 @@ fn waits_for_the_last_octet(rt: HostRuntime) -> Result<(), Fail> {
 
 #[test]
 fn tells_a_fault_as_soon_as_it_is_there(rt: HostRuntime) -> Result<(), Fail> {
-    let mut framer = Framer::new(rt.alloc(), 256);
-    assert!(rt; framer.push(&[0, 0, 0]).is_ok() && matches!(framer.next(), Ok(None)));
-    assert!(rt; framer.push(&[9]).is_ok());
+    let alloc = rt.alloc();
+    let mut framer = Framer::new(alloc, 256);
+    push(&rt, alloc, &mut framer, &[0, 0, 0])?;
+    assert!(rt; matches!(framer.next(), Ok(None)));
+    push(&rt, alloc, &mut framer, &[9])?;
     assert!(rt; matches!(framer.next(), Err(FrameFault::TooShort { length: 9 })));
-    let mut framer = Framer::new(rt.alloc(), 256);
+    let mut framer = Framer::new(alloc, 256);
     for octet in &LONG[..13] {
-        assert!(rt; framer.push(&[*octet]).is_ok() && matches!(framer.next(), Ok(None)));
+        push(&rt, alloc, &mut framer, &[*octet])?;
+        assert!(rt; matches!(framer.next(), Ok(None)));
     }
-    assert!(rt; framer.push(&LONG[13..]).is_ok());
+    push(&rt, alloc, &mut framer, &LONG[13..])?;
     assert!(rt;
         matches!(framer.next(), Err(FrameFault::TooLong { length: 257, header }) if header.system == 2)
     );
@@ -118,7 +147,7 @@ fn tells_a_fault_as_soon_as_it_is_there(rt: HostRuntime) -> Result<(), Fail> {
 fn gives_each_of_a_thousand_once(rt: HostRuntime) -> Result<(), Fail> {
     let mut framer = Framer::new(rt.alloc(), 256);
     for _ in 0..1000 {
-        assert!(rt; framer.push(&SELECT).is_ok());
+        framer.push(&SELECT)?;
     }
     for _ in 0..1000 {
         assert!(rt; matches!(framer.next(), Ok(Some(_))));
@@ -127,39 +156,17 @@ fn gives_each_of_a_thousand_once(rt: HostRuntime) -> Result<(), Fail> {
     Ok(())
 }
 
-// Two messages come in two pieces. A refused call leaves the framer as it was, and can be made again.
+// Two messages come in two pieces.
 #[test]
-fn refused_pieces(rt: HostRuntime) -> Result<(), Fail> {
-    let mut framer = Framer::new(rt.alloc(), 256);
-    push(&rt, &mut framer, &SELECT);
-    push(&rt, &mut framer, &DATA);
-    take(&rt, &mut framer, 0);
-    take(&rt, &mut framer, 2);
+fn gives_a_text_behind_a_bare_header(rt: HostRuntime) -> Result<(), Fail> {
+    let alloc = rt.alloc();
+    let mut framer = Framer::new(alloc, 256);
+    push(&rt, alloc, &mut framer, &SELECT)?;
+    push(&rt, alloc, &mut framer, &DATA)?;
+    let bare = next(&rt, alloc, &mut framer)?.ok_or("a message")?;
+    assert!(rt; bare.text.as_slice().is_empty());
+    let data = next(&rt, alloc, &mut framer)?.ok_or("a message")?;
+    assert_eq!(rt; data.text.as_slice(), [1, 0].as_slice());
     assert!(rt; framer.pending().is_empty());
     Ok(())
-}
-
-fn push(rt: &impl Abort, framer: &mut Framer, octets: &[u8]) {
-    let before = framer.pending().len();
-    if let Err(fault) = framer.push(octets) {
-        assert!(rt; fault == FrameFault::Memory && framer.pending().len() == before);
-        assert!(rt; framer.push(octets).is_ok());
-    }
-}
-
-fn take(rt: &impl Abort, framer: &mut Framer, size: usize) {
-    let before = framer.pending().len();
-    let mut taken = size_of_next(framer);
-    if taken == Err(FrameFault::Memory) {
-        assert!(rt; framer.pending().len() == before);
-        taken = size_of_next(framer);
-    }
-    assert!(rt; taken == Ok(Some(size)));
-}
-
-fn size_of_next(framer: &mut Framer) -> Result<Option<usize>, FrameFault> {
-    match framer.next()? {
-        Some(frame) => Ok(Some(frame.text.as_slice().len())),
-        None => Ok(None),
-    }
 }

@@ -19,6 +19,15 @@ struct Run {
     written: Vec<u8>,
 }
 
+impl Run {
+    fn or_want_of_memory(self) -> Result<Run, AllocError> {
+        match &self.result {
+            Err(ToolFault::Memory) => Err(AllocError),
+            _ => Ok(self),
+        }
+    }
+}
+
 fn audited(alloc: Global, log: &[u8], pulls: u64, gives: u64) -> Result<Run, AllocError> {
     let mut source = Feed::new(Vec::from_slice(alloc, log)?, 100, pulls);
     let mut sink = Store::new(vec![in alloc; 0u8; 128]?, 11, gives);
@@ -30,18 +39,18 @@ fn audited(alloc: Global, log: &[u8], pulls: u64, gives: u64) -> Result<Run, All
 #[test]
 fn tells_the_verdict(rt: HostRuntime) -> Result<(), Fail> {
     let alloc = rt.alloc();
-    let run = audited(alloc, LOG, u64::MAX, u64::MAX)?;
+    let run = audited(alloc, LOG, u64::MAX, u64::MAX)?.or_want_of_memory()?;
     assert!(rt; matches!(run.result, Ok(true)));
     assert_eq!(rt; run.written.as_slice(), PASS);
     let mut late = Vec::from_slice(alloc, LOG)?;
     late.extend_from_slice(b"3 down")?;
-    let run = audited(alloc, &late, u64::MAX, u64::MAX)?;
+    let run = audited(alloc, &late, u64::MAX, u64::MAX)?.or_want_of_memory()?;
     assert!(rt; matches!(run.result, Ok(false)));
     assert_eq!(rt;
         run.written.as_slice(),
         b"fail line=7 rule=Backwards\n".as_slice()
     );
-    let run = audited(alloc, &[], u64::MAX, u64::MAX)?;
+    let run = audited(alloc, &[], u64::MAX, u64::MAX)?.or_want_of_memory()?;
     assert!(rt; matches!(run.result, Ok(false)));
     assert_eq!(rt;
         run.written.as_slice(),
@@ -53,10 +62,10 @@ fn tells_the_verdict(rt: HostRuntime) -> Result<(), Fail> {
 #[test]
 fn tells_which_device_failed(rt: HostRuntime) -> Result<(), Fail> {
     for calls in 0..3 {
-        let run = audited(rt.alloc(), LOG, calls, u64::MAX)?;
+        let run = audited(rt.alloc(), LOG, calls, u64::MAX)?.or_want_of_memory()?;
         assert!(rt; matches!(run.result, Err(ToolFault::Device("Read"))));
         assert!(rt; run.written.is_empty());
-        let run = audited(rt.alloc(), LOG, u64::MAX, calls)?;
+        let run = audited(rt.alloc(), LOG, u64::MAX, calls)?.or_want_of_memory()?;
         assert!(rt; matches!(run.result, Err(ToolFault::Device("Write"))));
         assert_eq!(rt; run.written.len() as u64, 11 * calls);
     }

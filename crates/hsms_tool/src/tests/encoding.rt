@@ -37,7 +37,7 @@ fn encodes_messages(rt: HostRuntime) -> Result<(), Fail> {
         (" \n", 1, ""),
     ];
     for (text, system, lines) in rows {
-        let run = encoded(rt.alloc(), text, system, u64::MAX, u64::MAX)?;
+        let run = encoded(rt.alloc(), text, system, u64::MAX, u64::MAX)?.or_want_of_memory()?;
         assert!(rt; run.result.is_ok(), "{text}");
         assert_eq!(rt; run.written.as_slice(), lines.as_bytes());
     }
@@ -51,7 +51,7 @@ fn writes_nothing_of_what_is_refused(rt: HostRuntime) -> Result<(), Fail> {
         ("S1F1 . S1F1 <B [2] 0x00> .", "Count at=15"),
         ("S1F1", "Syntax at=4"),
     ] {
-        let run = encoded(rt.alloc(), text, 1, u64::MAX, u64::MAX)?;
+        let run = encoded(rt.alloc(), text, 1, u64::MAX, u64::MAX)?.or_want_of_memory()?;
         assert!(rt;
             matches!(&run.result, Err(ToolFault::Refused(told)) if told.as_str() == words),
             "{text}"
@@ -70,7 +70,7 @@ fn writes_nothing_before_all_are_encoded(rt: HostRuntime) -> Result<(), Fail> {
         text.push_str(" 0x00")?;
     }
     text.push_str("> .")?;
-    let run = encoded(alloc, text.as_str(), 1, u64::MAX, u64::MAX)?;
+    let run = encoded(alloc, text.as_str(), 1, u64::MAX, u64::MAX)?.or_want_of_memory()?;
     assert!(rt;
         matches!(&run.result, Err(ToolFault::Refused(told)) if told.as_str() == "TooLong length=257")
     );
@@ -81,10 +81,10 @@ fn writes_nothing_before_all_are_encoded(rt: HostRuntime) -> Result<(), Fail> {
 #[test]
 fn tells_which_device_failed(rt: HostRuntime) -> Result<(), Fail> {
     for calls in 0..4 {
-        let run = encoded(rt.alloc(), NOTATION, 1, calls, u64::MAX)?;
+        let run = encoded(rt.alloc(), NOTATION, 1, calls, u64::MAX)?.or_want_of_memory()?;
         assert!(rt; matches!(run.result, Err(ToolFault::Device("Read"))));
         assert!(rt; run.written.is_empty());
-        let run = encoded(rt.alloc(), NOTATION, 1, u64::MAX, calls)?;
+        let run = encoded(rt.alloc(), NOTATION, 1, u64::MAX, calls)?.or_want_of_memory()?;
         assert!(rt; matches!(run.result, Err(ToolFault::Device("Write"))));
         assert_eq!(rt; run.written.len() as u64, 11 * calls);
     }

@@ -1,0 +1,145 @@
+//! What comes of a list.
+
+use crate::list::List;
+use anyhow::anyhow;
+use hsms_end::{Desk, End, EndFault, EquipmentDesk, HostDesk, Input, drive};
+use hsms_frame::Store;
+use hsms_log::write_entry;
+use hsms_machine::{Entry, Event, Role, Settings};
+use std::alloc::Global;
+
+/// Tells an end its list, call by call, and then `drive`. Answers the lines of both.
+pub fn live(alloc: Global, list: &List) -> Result<Vec<u8>, anyhow::Error> {
+    let settings = list.settings.ok_or_else(|| anyhow!("no settings"))?;
+    match settings.role() {
+        Role::Host => {
+            let told = tell_all(alloc, settings, HostDesk, list)?;
+            let driven = drive_all(alloc, settings, HostDesk, list)?;
+            with_end(told, &driven)
+        }
+        Role::Equipment => {
+            let told = tell_all(alloc, settings, desk_of(alloc, list)?, list)?;
+            let driven = drive_all(alloc, settings, desk_of(alloc, list)?, list)?;
+            with_end(told, &driven)
+        }
+    }
+}
+
+fn desk_of(alloc: Global, list: &List) -> Result<EquipmentDesk, anyhow::Error> {
+    Ok(EquipmentDesk {
+        mdln: Vec::from_slice(alloc, &list.model)?,
+        softrev: Vec::from_slice(alloc, &list.revision)?,
+    })
+}
+
+/// What was answered: all of it, and the entries and pending octets alone.
+#[derive(Drop)]
+struct Told {
+    lines: Vec<u8>,
+    accepted: Vec<u8>,
+}
+
+/// Tells an end each input of a list.
+fn tell_all<D: Desk + Drop>(
+    alloc: Global,
+    settings: Settings,
+    desk: D,
+    list: &List,
+) -> Result<Told, anyhow::Error> {
+    let mut end = End::new(alloc, settings, desk, list.first_system);
+    let mut lines = Vec::new(alloc);
+    let mut accepted = Vec::new(alloc);
+    for input in &list.inputs {
+        match tell(alloc, &mut end, input) {
+            Ok(entries) => {
+                let new = lines_of(alloc, &entries)?;
+                lines.extend_from_slice(&new)?;
+                accepted.extend_from_slice(&new)?;
+            }
+            Err(fault) => {
+                let refused = format!(in alloc; "refused {fault:?}\n")?;
+                lines.extend_from_slice(refused.as_bytes())?;
+            }
+        }
+    }
+    let pending = pending_line(alloc, end.pending())?;
+    lines.extend_from_slice(&pending)?;
+    accepted.extend_from_slice(&pending)?;
+    Ok(Told { lines, accepted })
+}
+
+/// Tells an end one input.
+fn tell<D: Desk>(alloc: Global, end: &mut End<D>, input: &Input) -> Result<Vec<Entry>, EndFault> {
+    match input {
+        Input::Start(now) => end.start(alloc, *now),
+        Input::Tick(now) => end.tick(alloc, *now),
+        Input::Bytes(octets) => end.bytes(alloc, octets),
+        Input::Send(message) => end.send(alloc, message),
+        Input::Linktest => end.linktest(alloc),
+        Input::Separate => end.separate(alloc),
+        Input::Lost => end.lost(alloc),
+    }
+}
+
+/// The lines of what `drive` answers to a list.
+fn drive_all<D: Desk + Drop>(
+    alloc: Global,
+    settings: Settings,
+    desk: D,
+    list: &List,
+) -> Result<Vec<u8>, anyhow::Error> {
+    let driven = drive(alloc, settings, desk, list.first_system, &list.inputs)?;
+    let mut lines = lines_of(alloc, &driven.entries)?;
+    lines.extend_from_slice(&pending_line(alloc, &driven.pending)?)?;
+    Ok(lines)
+}
+
+/// The lines of a list, with the word that says whether `drive` answered the same.
+fn with_end(told: Told, driven: &[u8]) -> Result<Vec<u8>, anyhow::Error> {
+    let Told {
+        mut lines,
+        accepted,
+    } = told;
+    let word = if accepted.as_slice() == driven {
+        "end\n"
+    } else {
+        "other\n"
+    };
+    lines.extend_from_slice(word.as_bytes())?;
+    Ok(lines)
+}
+
+/// The lines of entries.
+fn lines_of(alloc: Global, entries: &[Entry]) -> Result<Vec<u8>, anyhow::Error> {
+    let mut room = 0usize;
+    for entry in entries {
+        room = room.saturating_add(room_of(entry));
+    }
+    let mut store = Store::new(vec![in alloc; 0u8; room]?, usize::MAX, u64::MAX);
+    for entry in entries {
+        write_entry(&mut store, entry)?;
+    }
+    Ok(Vec::from_slice(alloc, store.written())?)
+}
+
+/// At least as many octets as an entry's line has.
+fn room_of(entry: &Entry) -> usize {
+    match &entry.event {
+        Event::Sent(frame) | Event::Taken(frame) | Event::Discarded(frame) => frame
+            .text
+            .as_slice()
+            .len()
+            .saturating_mul(2)
+            .saturating_add(50),
+        Event::Up | Event::T3(_) | Event::Cut(_) | Event::Down => 50,
+    }
+}
+
+fn pending_line(alloc: Global, octets: &[u8]) -> Result<Vec<u8>, anyhow::Error> {
+    if octets.is_empty() {
+        return Ok(Vec::from_slice(alloc, b"pending -\n")?);
+    }
+    let digits = hex::encode(alloc, octets)?;
+    let line = format!(in alloc; "pending {digits}\n")?;
+    Ok(Vec::from_slice(alloc, line.as_bytes())?)
+}

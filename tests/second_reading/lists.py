@@ -1,0 +1,161 @@
+"""Damaged lists of what an end is told, as `hsms_drive` reads them, and what a second reading of the ends answers.
+
+A list is what an end was told in a talk, with octets that are cut, flipped or lie, in other pieces, at other moments,
+in another order. Nothing here judges: what a list comes to, the two readings say.
+"""
+from dataclasses import dataclass, replace
+from typing import List, Set
+
+from second_reading import damage, notation
+from second_reading.ends import End, Refused, first_line, line_of
+from second_reading.inputs import Chance
+from second_reading.session import Settings
+from second_reading.talks import REVISION, Party, Told, name_of, new_end, parties_of
+
+WORDS = {"hear": "bytes"}
+GREATEST_MOMENT = (1 << 64) - 1
+
+
+@dataclass(frozen=True)
+class Listed:
+    """An end, and what it is told."""
+
+    settings: Settings
+    model: bytes
+    first_system: int
+    told: List[Told]
+
+    def text(self) -> str:
+        """The lines of it."""
+        desk = f"desk {self.first_system} {digits(self.model)} {digits(REVISION)}"
+        return "\n".join([first_line(self.settings), desk, *map(line_of_told, self.told), "end\n"])
+
+
+def digits(octets: bytes) -> str:
+    return octets.hex() or "-"
+
+
+def line_of_told(told: Told) -> str:
+    word = WORDS.get(told.call, told.call)
+    if told.given is None:
+        return word
+    if isinstance(told.given, bytes):
+        return f"{word} {digits(told.given)}"
+    return f"{word} {notation.printed(told.given) if told.call == 'send' else told.given}"
+
+
+# Damages.
+
+
+def of_party(party: Party) -> Listed:
+    return Listed(party.settings, party.model, party.first_system, party.told)
+
+
+def place_of(chance: Chance, told: List[Told], *calls: str) -> int:
+    """The place of one that is of these calls, or of the first one."""
+    return chance.choice([at for at, each in enumerate(told) if each.call in calls] or [0])
+
+
+def with_octets(chance: Chance, told: List[Told]) -> List[Told]:
+    """Octets that come are damaged."""
+    at = place_of(chance, told, "hear")
+    octets = told[at].given
+    if not isinstance(octets, bytes) or not octets:
+        return told
+    damaged = chance.choice(damage.DAMAGES["show"])(chance, octets)
+    return [*told[:at], Told("hear", damaged), *told[at + 1:]]
+
+
+def in_two_pieces(chance: Chance, told: List[Told]) -> List[Told]:
+    """Octets come in two pieces, at one moment or with a tick between."""
+    at = place_of(chance, told, "hear")
+    octets = told[at].given
+    if not isinstance(octets, bytes):
+        return told
+    cut = chance.randrange(len(octets) + 1)
+    between = chance.one([], [], [replace(each, call="tick") for each in told[:at] if each.call == "tick"][-1:])
+    return [*told[:at], Told("hear", octets[:cut]), *between, Told("hear", octets[cut:]), *told[at + 1:]]
+
+
+def in_one_piece(chance: Chance, told: List[Told]) -> List[Told]:
+    """All octets from a place on come at once."""
+    at = place_of(chance, told, "hear")
+    octets = b"".join(each.given for each in told[at:] if each.call == "hear")
+    return [*told[:at], Told("hear", octets), *(each for each in told[at:] if each.call != "hear")]
+
+
+def at_another_moment(chance: Chance, told: List[Told]) -> List[Told]:
+    at = place_of(chance, told, "tick", "start")
+    now = told[at].given
+    if not isinstance(now, int):
+        return told
+    edges = (0, now - 1, now + 1, now * 2, 1 << 32, GREATEST_MOMENT - 1, GREATEST_MOMENT)
+    timers = (20, 60, 100, 200, 1000, 3600)
+    moment = chance.one(*edges, *(now + timer + past for timer in timers for past in (0, 1)))
+    return [*told[:at], replace(told[at], given=min(max(0, moment), GREATEST_MOMENT)), *told[at + 1:]]
+
+
+def with_garbage(chance: Chance, told: List[Told]) -> List[Told]:
+    """Octets by chance come in between."""
+    at = chance.randrange(len(told) + 1)
+    octets = chance.octets(chance.one(1, 3, 4, 14, 60))
+    return [*told[:at], Told("hear", octets), *told[at:]]
+
+
+def without_some(chance: Chance, told: List[Told]) -> List[Told]:
+    begin, end = damage.part(chance, told)
+    return told[:begin] + told[end:]
+
+
+def with_some_again(chance: Chance, told: List[Told]) -> List[Told]:
+    begin, end = damage.part(chance, told)
+    return told[:end] + told[begin:end] * chance.one(1, 1, 2, 5) + told[end:]
+
+
+def in_another_order(chance: Chance, told: List[Told]) -> List[Told]:
+    begin, end = damage.part(chance, told)
+    return told[:begin] + chance.sample(told[begin:end], end - begin) + told[end:]
+
+
+DAMAGES = [
+    *[with_octets] * 6,
+    *[in_two_pieces, in_one_piece, at_another_moment, at_another_moment, with_garbage],
+    *[without_some, with_some_again, in_another_order],
+]
+
+
+def damaged(seed: str, number: int) -> Listed:
+    """The list of a number from 0 on."""
+    chance = Chance(f"{seed} driven {number}")
+    party = chance.choice(parties_of(chance, 20, 20, 60, 100, 200))
+    told = party.told
+    for _ in range(chance.one(0, 1, 1, 2, 3, 8)):
+        if told:
+            told = chance.choice(DAMAGES)(chance, told)
+    return replace(of_party(party), told=told)
+
+
+# What is answered.
+
+
+class Answering:
+    """An end of the second reading that is told a list, the lines that each call answers, and what it did."""
+
+    def __init__(self, listed: Listed):
+        self.end = new_end(listed.settings, listed.model, listed.first_system)
+        self.reached: Set[str] = set()
+        self.calls = [self.lines_of(told) for told in listed.told]
+
+    def lines_of(self, told: Told) -> List[str]:
+        call = getattr(End, told.call)
+        try:
+            entries = call(self.end) if told.given is None else call(self.end, told.given)
+        except Refused as refused:
+            self.reached.add(str(refused))
+            return [f"refused {refused}"]
+        self.reached |= {name_of(entry) for entry in entries}
+        return [line_of(entry) for entry in entries]
+
+    def text(self) -> str:
+        lines = [line for lines in self.calls for line in lines]
+        return "".join(line + "\n" for line in [*lines, f"pending {digits(self.end.pending)}", "end"])
