@@ -4,6 +4,21 @@
 //! answers with the entries that its log goes on by; what it sent is among them. It reads no clock and opens no socket:
 //! moments, in milliseconds, and octets are handed in. The tracker of `hsms_machine` judges what it may log, so its log
 //! passes the audit. A [`Desk`] answers the messages that it takes. [`drive`] tells an end a list of inputs.
+//!
+//! An end is made with its settings, its desk and its first own system bytes. Then come `start`, once the connection is
+//! up, and after it `bytes` with what came, `tick` when the moment of `next_due` is past, and `send`, `linktest` and
+//! `separate` as wished, until it is [`Phase::Gone`](hsms_machine::Phase) or `lost` says that the connection broke:
+//!
+//! ```
+//! let mut end = End::new(alloc, settings, HostDesk, 1);
+//! let entries = end.start(alloc, 0)?;      // up, and a Select.req where it connected
+//! let entries = end.bytes(alloc, octets)?; // what was taken or discarded, and what was sent for it
+//! let entries = end.tick(alloc, 6000)?;    // what has expired
+//! let entries = end.send(alloc, &message)?;
+//! let entries = end.separate(alloc)?;      // a Separate.req, and down
+//! ```
+//!
+//! What stands as sent in the entries is to be put out in that order, and what came later is to be told later.
 #![tactic(auto)]
 
 mod answer;

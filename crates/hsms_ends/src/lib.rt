@@ -3,6 +3,14 @@
 //!
 //! What one end is and does stands in `hsms_end`; this crate has all of it under its own name. [`serve`] serves a
 //! connection over a [`Link`] to the peer: a socket, or a [`Scripted`] one in memory.
+//!
+//! ```
+//! let script = [Step::Send(message), Step::Separate];
+//! match serve(alloc, &mut link, &mut log, settings, HostDesk, 1, &script, 1000) {
+//!     Ok(served) => {}  // the connection went down
+//!     Err(fault) => {}  // ServeFault: the link or the log failed, memory is wanting, all turns are used
+//! }
+//! ```
 #![tactic(auto)]
 
 pub mod laws;

@@ -4,6 +4,22 @@
 //! a [`Source`] and nothing of what stands behind it. [`Source`] and [`Sink`] tell contracts how often they were called
 //! and how often they failed and, where they know it, which octets are left or were written; so a contract can say what
 //! a program did to them. [`laws`] has what holds of messages, whatever a program does.
+//!
+//! A message is built, and written whole. Whoever gets octets in pieces pushes each piece, and takes messages until
+//! there is none; whoever may wait reads one at a time:
+//!
+//! ```
+//! let frame = Frame { header: data_header(0, 1, 13, true, 1), text: Text::new(text) };
+//! write_frame(&mut sink, &frame)?;
+//!
+//! let mut framer = Framer::new(alloc, 1048576);
+//! framer.push(piece)?;
+//! while let Some(frame) = framer.next()? {
+//!     let kind = kind(frame.header); // Kind::Data, ..
+//! }
+//!
+//! let frame = read_frame(alloc, &mut source, 1048576)?;  // None at the end of the input
+//! ```
 #![tactic(auto)]
 
 mod build;

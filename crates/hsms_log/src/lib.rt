@@ -5,6 +5,18 @@
 //! [`audit`] judges a whole log: it passes, with a summary of its entries, or fails at its first line that is
 //! unreadable or whose entry breaks a rule of the session machine (SEMI E37, E37.1; `hsms_machine`). The format is this
 //! project's own.
+//!
+//! A log is written line by line, the settings first, and audited from any source:
+//!
+//! ```
+//! write_settings(&mut sink, &settings)?;
+//! write_entry(&mut sink, &entry)?;
+//!
+//! match audit(alloc, &mut source)? {
+//!     Verdict::Pass(summary) => {}       // its entries, and how many were sent, taken, ..
+//!     Verdict::Fail { line, why } => {}  // the first line that continues no run
+//! }
+//! ```
 #![tactic(auto)]
 
 mod auditing;

@@ -4,6 +4,19 @@
 //! discarded, a timer expired, the connection was cut or went down. The tracker keeps what the rules
 //! need to know of the entries so far, and no log. It reads no clock and no socket, so an auditor
 //! asks it about logged entries, and an end of a connection about what it is going to do.
+//!
+//! A tracker begins with the settings, and is told each entry in turn:
+//!
+//! ```
+//! let settings = Settings::new(Role::Host, Side::Active, 0, 45000, 6000, 10000, 5000, 1048576, 32).ok_or("settings")?;
+//! let mut tracker = Tracker::new(alloc, settings);
+//! let broken = tracker.check(&entry);  // what `step` would answer; the tracker stays as it is
+//! match tracker.step(&entry)? {
+//!     None => {}                       // the entry may stand here, and is taken in
+//!     Some(rule) => {}                 // the first rule that it breaks; the tracker stays as it is
+//! }
+//! let due = tracker.next_due();        // when the next timer runs out, in ms
+//! ```
 #![tactic(auto)]
 
 mod act;

@@ -5,6 +5,16 @@
 //! without memory; `decode_front` and `decode_text` give the item, after measuring it; `encode` gives the shortest
 //! octets. What spells an item is said in `specs/Spelling.antt`, what is a fault and where in `specs/Fault.antt`;
 //! `laws` has what holds of both.
+//!
+//! Octets are measured before they are decoded; what was decoded is encoded again, in its shortest octets:
+//!
+//! ```
+//! let octets = b"\x42\x00\x02AB";
+//! let length = measure_front(octets, 32)?;              // 5
+//! let (item, length) = decode_front(alloc, octets, 32)?; // Item::Ascii(b"AB"), 5
+//! let shortest = encode(alloc, &item)?;                  // b"\x41\x02AB"
+//! let text = decode_text(alloc, &shortest, 32)?;         // Some(item)
+//! ```
 #![tactic(auto)]
 
 mod decode;

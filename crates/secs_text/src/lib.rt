@@ -3,6 +3,15 @@
 //!
 //! [`print`] gives the one printed form of a message, [`read`] and [`read_all`] read every text that is
 //! the notation of messages, and tell any other text's fault with its place.
+//!
+//! A text is read as one message or as several, and a message is printed:
+//!
+//! ```
+//! let message = read(alloc, b"S6F11 W <L <A \"AB\"> <U1 1 255>> .", 32)?;
+//! let text = print(alloc, &message)?;             // S6F11 W <L [2] <A [2] "AB"> <U1 [2] 1 255>> .
+//! let messages = read_all(alloc, b"S1F1 W . S1F2 .", 32)?;
+//! let fault = read(alloc, b"S1F1 W <U1 256> .", 32); // Err(TextFault::Number { at: 11 })
+//! ```
 #![tactic(auto)]
 
 mod count;
