@@ -3,7 +3,7 @@
 
     bench/serve.py [EXCHANGES]
 
-It runs what `./hsms` has built, or $HSMS. It tells exchanges a second, of a host that sends a script to an equipment,
+It runs what `rt ci` or the first use of `hsms` has built. It tells exchanges a second, of a host that sends a script to an equipment,
 of a plain Python host with that equipment, and of two plain Python ends that hand the same octets back and forth; and
 the most memory that each `hsms serve` held.
 """
@@ -12,10 +12,12 @@ import socket
 import struct
 import subprocess
 import sys
+import tempfile
 import time
 
-TOP = os.path.dirname(os.path.dirname(os.path.abspath(__file__)))
-PROGRAM = os.environ.get("HSMS", f"{TOP}/crates/hsms_tool/out/hsms_tool")
+sys.dont_write_bytecode = True
+from running import MB, PROGRAM, Runner
+
 HERE = "127.0.0.1"
 
 SELECT = bytes.fromhex("0000000affff0000000100000001")
@@ -57,17 +59,19 @@ def connected(port):
 
 
 def started(role, link, port, *options, stdin=subprocess.DEVNULL):
-    words = [PROGRAM, "serve", "--role", role, "--link", link, "--address", HERE, "--port", str(port), *options]
-    return subprocess.Popen(words, stdin=stdin, stdout=subprocess.DEVNULL)
+    words = ["serve", "--role", role, "--link", link, "--address", HERE, "--port", str(port), *options]
+    told = f"{RUNNER.room}/{role}"
+    return told, subprocess.Popen([RUNNER.launcher, told, PROGRAM, *words], stdin=stdin, stdout=subprocess.DEVNULL)
 
 
-def ended(run):
-    """Waits for a run, and tells its most memory in MB."""
-    _, status, used = os.wait4(run.pid, 0)
-    run.returncode = os.waitstatus_to_exitcode(status)
-    if run.returncode != 0:
-        sys.exit(f"status {run.returncode}")
-    return used.ru_maxrss // 1024
+def ended(told, run):
+    """Waits for a run, and tells the most memory in MB that it held."""
+    run.wait()
+    with open(told) as file:
+        status, _, _, kilobytes = file.read().split()
+    if status != "0":
+        sys.exit(f"status {status}")
+    return f"{int(kilobytes) * 1024 / MB:.1f}"
 
 
 def asked(port, count):
@@ -91,17 +95,18 @@ def two_processes(count):
     time.sleep(0.5)
     host = started("host", "active", port, "--send", stdin=subprocess.PIPE)
     begin = time.monotonic()
-    host.stdin.write(b"S1F1 W .\n" * count)
-    host.stdin.close()
-    host_mb = ended(host)
-    return time.monotonic() - begin, f"{host_mb} and {ended(equipment)}"
+    script = host[1].stdin
+    script.write(b"S1F1 W .\n" * count)
+    script.close()
+    held = ended(*host)
+    return time.monotonic() - begin, f"{held} and {ended(*equipment)}"
 
 
 def plain_host(count):
     port = free_port()
     equipment = started("equipment", "passive", port, "--mdln", "M", "--softrev", "1")
     seconds = asked(port, count)
-    return seconds, str(ended(equipment))
+    return seconds, ended(*equipment)
 
 
 def echo(listener, count):
@@ -139,4 +144,6 @@ def main():
 
 
 if __name__ == "__main__":
-    main()
+    with tempfile.TemporaryDirectory(prefix="hsms-bench-") as room:
+        RUNNER = Runner(room)
+        main()
