@@ -40,7 +40,8 @@ LISTS = 20
 
 # What a test, and a program, says where memory was refused.
 WANT_OF_MEMORY = re.compile(
-    rb"^error: (AllocError|AllocFailed \{ \.\. \}|Memory|out of memory|memory allocation failed)$", re.M | re.I
+    rb"^error: (AllocError|AllocFailed \{ \.\. \}|Memory|.*\bOutOfMemory\b.*|out of memory|memory allocation failed)$",
+    re.M | re.I,
 )
 
 # The calls that refuse.c stands before, and all calls of the C library that hand memory out or call the system.
