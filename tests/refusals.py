@@ -36,10 +36,13 @@ WORKERS = 2
 OF_TESTS = "_tests"
 
 # How many lists are told to ends.
-LISTS = 6
+LISTS = 20
 
 # What a test, and a program, says where memory was refused.
-WANT_OF_MEMORY = re.compile(rb"^error: (AllocError|AllocFailed \{ \.\. \}|Memory)$", re.M | re.I)
+WANT_OF_MEMORY = re.compile(
+    rb"^error: (AllocError|AllocFailed \{ \.\. \}|Memory|.*\bOutOfMemory\b.*|out of memory|memory allocation failed)$",
+    re.M | re.I,
+)
 
 # The calls that refuse.c stands before, and all calls of the C library that hand memory out or call the system.
 REFUSED = {"malloc", "calloc", "realloc", "memalign", "aligned_alloc", "posix_memalign"}
