@@ -82,10 +82,28 @@ fn assert_closed(rt: &impl Abort, alloc: Global, link: &Scripted, log: &Store) -
     Ok(())
 }
 
-/// The log failed: it is a part of a log from its front.
+/// How many whole lines of a log say that a message was sent.
+fn sent_lines(log: &[u8]) -> usize {
+    let mut count = 0usize;
+    let mut is_sent = false;
+    for octet in log {
+        if *octet == b'\n' && is_sent {
+            count = count.saturating_add(1);
+        }
+        is_sent = *octet == b'>' || (is_sent && *octet != b'\n');
+    }
+    count
+}
+
+/// The log failed or memory was refused: the log is a part of a log from its front, and the messages of its whole lines
+/// were sent, and no other one.
 fn assert_front(rt: &impl Abort, link: &Scripted, log: &Store) {
     assert!(rt; WHOLE_LOG.as_bytes().starts_with(log.written()));
     assert!(rt; ANSWERED.starts_with(link.taken()));
+    assert_eq!(rt;
+        link.taken().len(),
+        sent_lines(log.written()).saturating_mul(14)
+    );
 }
 
 /// Memory was refused: the log has whole lines and passes the audit.

@@ -94,6 +94,13 @@ const ACTIVE: Connection = Connection {
     ],
 };
 
+/// With single octets each octet takes a turn.
+const PATIENT: Connection = Connection {
+    name: "a host takes its script, and has turns enough",
+    turns: 100,
+    ..ACTIVE
+};
+
 const CONNECTIONS: &[Connection] = &[
     PASSIVE,
     ACTIVE,
@@ -296,5 +303,6 @@ fn pieces_do_not_matter(rt: HostRuntime) -> Result<(), Fail> {
     assert_eq!(rt; judge_served(&rt, alloc, &PASSIVE, 1)?, Some(5001));
     assert_eq!(rt; judge_served(&rt, alloc, &PASSIVE, 3)?, Some(5001));
     assert_eq!(rt; judge_served(&rt, alloc, &PASSIVE, 14)?, None);
+    assert_eq!(rt; judge_served(&rt, alloc, &PATIENT, 1)?, Some(5001));
     Ok(())
 }
