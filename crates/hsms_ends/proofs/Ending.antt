@@ -17,8 +17,8 @@ use Rattle.hsms_ends.specs.declared.step.Step.{Step}
 use Rattle.hsms_ends.specs.declared.output.Stop.{Stop}
 use Rattle.hsms_ends.specs.declared.output.Stop.TheVariants.{Link, Log, Memory}
 use Rattle.hsms_ends.specs.declared.serving.Served.{Served}
-use Rattle.hsms_ends.specs.declared.serving.ServeFault.{ServeFault}
-use Rattle.hsms_ends.specs.declared.serving.ServeFault.TheVariants as serve
+use Rattle.hsms_ends.specs.declared.fault.ServeFault.{ServeFault}
+use Rattle.hsms_ends.specs.declared.fault.ServeFault.TheVariants as serve
 use Rattle.hsms_ends.specs.Link.{Told, Heard, Hears}
 use Rattle.hsms_ends.specs.PutOut.{GrowsByPart, LogGrows, LogFails, sent_octets, log_lines}
 use Rattle.hsms_ends.specs.Turning.{has_gone}

@@ -1,5 +1,5 @@
 pub mod Hearing
-pub mod Sendings
+pub mod SentParts
 pub mod Puttings
 pub mod Peers
 pub mod Scripts

@@ -29,8 +29,8 @@ use Rattle.hsms_end.specs.Turn.{Told as Input}
 use Rattle.hsms_end.specs.End.{Accepts}
 use Rattle.hsms_ends.specs.declared.step.Step.{Step}
 use Rattle.hsms_ends.specs.declared.serving.Served.{Served}
-use Rattle.hsms_ends.specs.declared.serving.ServeFault.{ServeFault}
-use Rattle.hsms_ends.specs.declared.serving.ServeFault.TheVariants as serve
+use Rattle.hsms_ends.specs.declared.fault.ServeFault.{ServeFault}
+use Rattle.hsms_ends.specs.declared.fault.ServeFault.TheVariants as serve
 use Rattle.hsms_ends.specs.Link.{Told}
 use Rattle.hsms_ends.specs.PutOut.{LogGrows, LogFails, log_lines}
 use Rattle.hsms_ends.specs.Turning.{has_gone}

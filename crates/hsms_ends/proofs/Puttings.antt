@@ -7,7 +7,7 @@ use Rattle.std.proofs.lemmas.Grind.{flat_map-append}
 use Rattle.hsms_frame.specs.Count.{next_count}
 use Rattle.hsms_frame.specs.Device.{SinkState, Grows, GrowsByFront, Stays}
 use Rattle.hsms_machine.specs.declared.entry.Entry.{Entry}
-use Rattle.hsms_log.specs.declared.writing.LogFault.{LogFault}
+use Rattle.hsms_log.specs.declared.fault.LogFault.{LogFault}
 use Rattle.hsms_log.specs.Spelling.{entry_line}
 use Rattle.hsms_ends.specs.declared.output.Stop.{Stop}
 use Rattle.hsms_ends.specs.declared.output.Stop.TheVariants.{Link, Log, Memory}

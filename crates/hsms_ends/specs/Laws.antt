@@ -8,7 +8,7 @@ use Rattle.hsms_end.specs.Answer.{Answered}
 use Rattle.hsms_end.specs.Known.{EndOf}
 use Rattle.hsms_ends.specs.declared.step.Step.{Step}
 use Rattle.hsms_ends.specs.declared.serving.Served.{Served}
-use Rattle.hsms_ends.specs.declared.serving.ServeFault.{ServeFault}
+use Rattle.hsms_ends.specs.declared.fault.ServeFault.{ServeFault}
 use Rattle.hsms_ends.specs.Link.{Told}
 use Rattle.hsms_ends.specs.Serving.{Serves, is_log_fault, entries_of}
 

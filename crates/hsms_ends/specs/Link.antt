@@ -4,7 +4,7 @@ use Rattle.hsms_frame.specs.Count.{next_count}
 use Rattle.hsms_frame.specs.Device.{WhereTold, Grows, Stays}
 use Rattle.hsms_ends.specs.declared.link.Got.{Got}
 use Rattle.hsms_ends.specs.declared.link.Got.TheVariants.{Octets, Quiet, Closed}
-use Rattle.hsms_ends.specs.declared.link.LinkFault.{LinkFault}
+use Rattle.hsms_ends.specs.declared.fault.LinkFault.{LinkFault}
 
 -- what a link tells: the moments that `now` answered, the octets that `wait` gave and those that `send` took, each in
 -- order and where the link tells them; how many waits it answered; whether it answered one by Closed; how often it

@@ -16,8 +16,8 @@ use Rattle.hsms_ends.specs.declared.link.Got.TheVariants.{Octets, Quiet, Closed}
 use Rattle.hsms_ends.specs.declared.output.Stop.{Stop}
 use Rattle.hsms_ends.specs.declared.output.Stop.TheVariants.{Link, Log, Memory}
 use Rattle.hsms_ends.specs.declared.serving.Served.{Served}
-use Rattle.hsms_ends.specs.declared.serving.ServeFault.{ServeFault}
-use Rattle.hsms_ends.specs.declared.serving.ServeFault.TheVariants as serve
+use Rattle.hsms_ends.specs.declared.fault.ServeFault.{ServeFault}
+use Rattle.hsms_ends.specs.declared.fault.ServeFault.TheVariants as serve
 use Rattle.hsms_ends.specs.Link.{Told, Heard, both, Hears, nothing_heard, moment_heard}
 use Rattle.hsms_ends.specs.PutOut.{PutsOut, LogGrows, LogFails, log_lines, sent_octets}
 use Rattle.hsms_ends.specs.Turning.{After, Rest, Turn, has_gone, Heeds, Continues, IsTurn, AreTurns, entries_after, entries_rest, entries_turn, entries_turns, moment_after, heard_rest, heard_turn, heard_turns, refused_rest, refused_turn, refused_turns}

@@ -7,9 +7,9 @@ use Rattle.hsms_frame.specs.Frame.{frame_octets}
 use Rattle.hsms_machine.specs.declared.entry.Entry.{Entry}
 use Rattle.hsms_machine.specs.declared.entry.Event.{Event}
 use Rattle.hsms_machine.specs.declared.entry.Event.TheVariants.{Up, Sent, Taken, Discarded, T3, Cut, Down}
-use Rattle.hsms_log.specs.declared.writing.LogFault.{LogFault}
+use Rattle.hsms_log.specs.declared.fault.LogFault.{LogFault}
 use Rattle.hsms_log.specs.Spelling.{entry_line}
-use Rattle.hsms_ends.specs.declared.link.LinkFault.{LinkFault}
+use Rattle.hsms_ends.specs.declared.fault.LinkFault.{LinkFault}
 use Rattle.hsms_ends.specs.declared.output.Stop.{Stop}
 use Rattle.hsms_ends.specs.declared.output.Stop.TheVariants.{Link, Log, Memory}
 use Rattle.hsms_ends.specs.declared.output.Put.{Put}

@@ -13,8 +13,8 @@ use Rattle.hsms_end.specs.Turn.{start, lost}
 use Rattle.hsms_end.specs.End.{Accepts}
 use Rattle.hsms_ends.specs.declared.step.Step.{Step}
 use Rattle.hsms_ends.specs.declared.serving.Served.{Served}
-use Rattle.hsms_ends.specs.declared.serving.ServeFault.{ServeFault}
-use Rattle.hsms_ends.specs.declared.serving.ServeFault.TheVariants as serve
+use Rattle.hsms_ends.specs.declared.fault.ServeFault.{ServeFault}
+use Rattle.hsms_ends.specs.declared.fault.ServeFault.TheVariants as serve
 use Rattle.hsms_ends.specs.Link.{Told, Heard, both, Hears, nothing_heard, moment_heard}
 use Rattle.hsms_ends.specs.PutOut.{GrowsByPart, LogGrows, LogFails, sent_octets}
 use Rattle.hsms_ends.specs.Turning.{Turn, HasNotGone, IsTurn, AreTurns, entries_turn, entries_turns, heard_turn, heard_turns, refused_turn, refused_turns}

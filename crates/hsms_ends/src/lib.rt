@@ -13,6 +13,7 @@
 //! ```
 #![tactic(auto)]
 
+mod fault;
 pub mod laws;
 mod link;
 mod output;
@@ -24,10 +25,11 @@ mod serving;
 mod step;
 mod turns;
 
+pub use fault::{LinkFault, ServeFault};
 pub use hsms_end::{Answer, Desk, Driven, End, EndFault, EquipmentDesk, HostDesk, Input, drive};
-pub use link::{Got, Link, LinkFault};
+pub use link::{Got, Link};
 pub use scripted::Scripted;
-pub use serving::{ServeFault, Served, serve};
+pub use serving::{Served, serve};
 pub use step::Step;
 
 #[cfg(test)]

@@ -3,12 +3,7 @@
 ghost use Rattle.std.specs.Prelude.{◌≡◌, ◌<◌, ◌≤◌, length, IfOk};
 ghost use Rattle.hsms_ends.specs.Link.{Told, Asks, Waits, Sends};
 
-use thiserror::Error;
-
-/// A link failed. What was wrong isn't told.
-#[derive(Clone, Copy, Debug, PartialEq, Eq, Error)]
-#[error("LinkFault")]
-pub struct LinkFault;
+use crate::fault::LinkFault;
 
 /// What came of a wait.
 #[derive(Clone, Copy, Debug, PartialEq, Eq)]

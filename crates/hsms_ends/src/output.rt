@@ -4,7 +4,8 @@ ghost use Rattle.std.specs.Prelude.{◌∷◌, []};
 ghost use Rattle.hsms_ends.specs.Link.{nothing_heard};
 ghost use Rattle.hsms_ends.specs.PutOut.{FitsLengthField, AllFitLengthField, SendsAll, PutsOut, LogsAll, RestLogged, log_lines, sent_of, stop_of};
 
-use crate::link::{Link, LinkFault};
+use crate::fault::LinkFault;
+use crate::link::Link;
 use crate::sending::send_frame;
 use hsms_frame::Sink;
 use hsms_log::{LogFault, write_entry};

@@ -3,7 +3,8 @@
 ghost use Rattle.std.specs.Prelude.{◌≡◌};
 ghost use Rattle.hsms_ends.specs.Script.{moment_at};
 
-use crate::link::{Got, Link, LinkFault};
+use crate::fault::LinkFault;
+use crate::link::{Got, Link};
 use crate::peer::Peer;
 use hsms_frame::{Sink, Store};
 use std::marker::Model;

@@ -6,7 +6,8 @@ ghost use Rattle.hsms_frame.specs.Frame.{frame_octets};
 ghost use Rattle.hsms_frame.specs.Header.{header_octets};
 ghost use Rattle.hsms_ends.specs.PutOut.{SendsAll};
 
-use crate::link::{Link, LinkFault};
+use crate::fault::LinkFault;
+use crate::link::Link;
 use hsms_frame::{Frame, Header};
 
 /// Sends a message (SEMI E37, section 8), or some octets from its front and fails.

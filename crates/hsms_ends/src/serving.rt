@@ -8,6 +8,7 @@ ghost use Rattle.hsms_ends.specs.PutOut.{log_lines};
 ghost use Rattle.hsms_ends.specs.Serving.{Serves};
 ghost use Rattle.hsms_ends.specs.Outcome.{IsReady, Handed, Ran, ServesEnd, ClosedLink, RestClosed, StoppedAs};
 
+use crate::fault::ServeFault;
 use crate::link::Link;
 use crate::output::{Stop, log_all};
 use crate::range::entries_are_in_range;
@@ -18,7 +19,6 @@ use hsms_frame::Sink;
 use hsms_log::write_settings;
 use hsms_machine::{Entry, Settings};
 use std::alloc::Global;
-use thiserror::Error;
 
 /// What was served.
 #[derive(Clone, Copy, Debug, PartialEq, Eq)]
@@ -27,24 +27,6 @@ pub struct Served {
     pub entries: u64,
     /// How many steps the end refused.
     pub refused: u64,
-}
-
-/// Why a connection was not served to its end. Where a second fault comes while the first is being closed, it is the
-/// later one.
-#[derive(Clone, Copy, Debug, PartialEq, Eq, Error)]
-pub enum ServeFault {
-    /// The link failed. The log tells that the connection went down.
-    #[error("Link")]
-    Link,
-    /// A write to the log failed. A part of the log from its front was written.
-    #[error("Log")]
-    Log,
-    /// All turns were used, and the connection is up.
-    #[error("Turns")]
-    Turns,
-    /// Memory was refused. The entries given before are logged.
-    #[error("Memory")]
-    Memory,
 }
 
 /// Serves one connection, as the end that the settings name, in at most so many turns.

@@ -9,7 +9,7 @@ pub mod EntryLaws
 pub mod FrameLines
 pub mod JudgeLaws
 pub mod Uniqueness
-pub mod Onward
+pub mod GrowingTexts
 pub mod Standing
 pub mod Audits
 pub mod Parts

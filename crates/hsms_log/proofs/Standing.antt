@@ -16,7 +16,7 @@ use Rattle.hsms_log.specs.Verdict.{FailsAfter, LinesJudged, Judges, OverlongAfte
 use Rattle.hsms_log.specs.Judging.{Follows, Counts, Tracks, limit_after}
 use Rattle.hsms_log.specs.LineReader.{Reading, Stands, FailsAs}
 use Rattle.hsms_log.proofs.LineLemmas.{ended_lines-first, ended_lines-none, open_line-first, open_line-none}
-use Rattle.hsms_log.proofs.Onward.{ended_lines-append, open_line-append, HasNone-open_line, FailsSoFar-onward}
+use Rattle.hsms_log.proofs.GrowingTexts.{ended_lines-append, open_line-append, HasNone-open_line, FailsSoFar-onward}
 
 none_of : HasNone 10 []
 none_of = All-nil (λ x. eqb x 10 ≡ false)

@@ -23,7 +23,7 @@ use Rattle.hsms_log.specs.Spelling.{IsEntry, IsEvent, entry_line, event_text, se
 use Rattle.hsms_log.specs.Log.{CarryLog, LogText, SpellLog, written_log}
 use Rattle.hsms_log.specs.Writing.{opening_of, numbers_of, spaced}
 use Rattle.hsms_log.proofs.Numbers.{own}
-use Rattle.hsms_log.proofs.Onward.{lines_of-first, strip_kept}
+use Rattle.hsms_log.proofs.GrowingTexts.{lines_of-first, strip_kept}
 use Rattle.hsms_log.proofs.Parts.{line_text}
 use Rattle.hsms_log.proofs.Written.{message_fits, system_fits, entry_written, settings_written}
 

@@ -2,8 +2,8 @@
 use Rattle.std.specs.Prelude.{◌≡◌, ◌≤◌, ◌+◌, ◌<◌, ◌^◌, ◌++◌, ◌⊎◌, ℕ, List, [], length, Option, Some, Result, Ok, Err}
 use Rattle.hsms_frame.specs.Count.{next_count}
 use Rattle.hsms_frame.specs.Device.{SourceState, WhereTold}
-use Rattle.hsms_log.specs.declared.auditing.AuditFault.{AuditFault}
-use Rattle.hsms_log.specs.declared.auditing.AuditFault.TheVariants.{Read, Endless, Memory}
+use Rattle.hsms_log.specs.declared.fault.AuditFault.{AuditFault}
+use Rattle.hsms_log.specs.declared.fault.AuditFault.TheVariants.{Read, Endless, Memory}
 use Rattle.hsms_log.specs.declared.verdict.Why.{Why}
 use Rattle.hsms_log.specs.declared.verdict.Verdict.{Verdict}
 use Rattle.hsms_log.specs.declared.verdict.Verdict.TheVariants.{Pass, Fail}

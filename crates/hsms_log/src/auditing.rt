@@ -3,48 +3,12 @@
 ghost use Rattle.hsms_frame.specs.Device.{WhereTold};
 ghost use Rattle.hsms_log.specs.Auditing.{AuditsAs, HasEnded, CountsAudit};
 
+use crate::fault::AuditFault;
 use crate::line_reader::LineReader;
 use crate::verdict::Verdict;
-use hsms_frame::{Failed, Source};
+use hsms_frame::Source;
 use hsms_machine::laws::{each_entry_has_one_answer, front_of_run_is_run};
-use std::alloc::{AllocError, Global};
-use thiserror::Error;
-
-/// Why a log has no verdict.
-#[derive(Clone, Copy, Debug, PartialEq, Eq, Error)]
-pub enum AuditFault {
-    /// A read failed.
-    #[error("Read")]
-    Read,
-    /// All reads were used, and neither the end nor a failing line was found.
-    #[error("Endless")]
-    Endless,
-    /// A growth was refused.
-    #[error("Memory")]
-    Memory,
-}
-
-impl From<Failed> for AuditFault {
-    ghost use Rattle.std.specs.Prelude.{◌≡◌};
-    ghost use Rattle.hsms_log.specs.declared.auditing.AuditFault.TheVariants.{Read};
-
-    ghost from_gives = { λ _ e. e ≡ Read };
-
-    fn from(_: Failed) -> AuditFault {
-        AuditFault::Read
-    }
-}
-
-impl From<AllocError> for AuditFault {
-    ghost use Rattle.std.specs.Prelude.{◌≡◌};
-    ghost use Rattle.hsms_log.specs.declared.auditing.AuditFault.TheVariants.{Memory};
-
-    ghost from_gives = { λ _ e. e ≡ Memory };
-
-    fn from(_: AllocError) -> AuditFault {
-        AuditFault::Memory
-    }
-}
+use std::alloc::Global;
 
 const ALL_READS: u32 = u32::MAX;
 

@@ -6,8 +6,9 @@ ghost use Rattle.hsms_machine.specs.Entry.{frame_entry};
 ghost use Rattle.hsms_log.specs.Spelling.{Carries};
 ghost use Rattle.hsms_log.specs.Judging.{Tracks};
 
+use crate::fault::LineFault;
 use crate::judging::Tally;
-use crate::reading::{FrameLine, Line, LineFault, read_frame_line, read_line};
+use crate::reading::{FrameLine, Line, read_frame_line, read_line};
 use crate::session::Session;
 use crate::verdict::Why;
 use std::alloc::{AllocError, Global};

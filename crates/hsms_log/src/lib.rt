@@ -21,6 +21,7 @@
 
 mod auditing;
 mod digits;
+mod fault;
 mod judging;
 mod later;
 pub mod laws;
@@ -35,12 +36,13 @@ mod verdict;
 mod whole;
 mod writing;
 
-pub use auditing::{AuditFault, audit, audit_within};
-pub use reading::{Line, LineFault, read_line};
+pub use auditing::{audit, audit_within};
+pub use fault::{AuditFault, LineFault, LogFault};
+pub use reading::{Line, read_line};
 pub use settings_line::read_settings;
 pub use verdict::{Summary, Verdict, Why};
 pub use whole::judge;
-pub use writing::{LogFault, write_entry, write_settings};
+pub use writing::{write_entry, write_settings};
 
 #[cfg(test)]
 mod tests;

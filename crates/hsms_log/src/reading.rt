@@ -10,11 +10,11 @@ ghost use Rattle.hsms_log.specs.Carried.{carried_by, CarriesFrame, HasFrame};
 ghost use Rattle.hsms_log.specs.FrameLine.{IsSpelled, mark_word};
 
 use crate::digits::decode;
+use crate::fault::LineFault;
 use crate::number::{after_prefix, number_at};
 use hsms_frame::{Frame, Header, Text};
 use hsms_machine::{Cause, Entry, Event, Mark};
 use std::alloc::{AllocError, Global};
-use thiserror::Error;
 
 /// What a line carries.
 #[derive(Debug, Drop)]
@@ -23,28 +23,6 @@ pub enum Line {
     Nothing,
     /// An entry.
     Entry(Entry),
-}
-
-/// Why a line was not read.
-#[derive(Clone, Copy, Debug, PartialEq, Eq, Error)]
-pub enum LineFault {
-    /// The line spells nothing, or has more than `2 * max + 64` octets.
-    #[error("Unreadable")]
-    Unreadable,
-    /// A growth was refused.
-    #[error("Memory")]
-    Memory,
-}
-
-impl From<AllocError> for LineFault {
-    ghost use Rattle.hsms_log.specs.declared.reading.LineFault.TheVariants.{Memory};
-    ghost use Rattle.std.specs.Prelude.{◌≡◌};
-
-    ghost from_gives = { λ _ e. e ≡ Memory };
-
-    fn from(_: AllocError) -> LineFault {
-        LineFault::Memory
-    }
 }
 
 /// What a line that is not the first carries. It is given without its end, and has at most `2 * max + 64` octets,

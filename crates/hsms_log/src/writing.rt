@@ -8,25 +8,11 @@ ghost use Rattle.hsms_log.specs.Writing.{Puts, opening_of, numbers_of, spaced};
 ghost use Rattle.hsms_machine.specs.Settings.{IsWithinLimits};
 ghost use Rattle.hsms_log.specs.Spelling.{SpellsSettings, SpellsEntry, entry_line, settings_line, event_text, message_octets, system_octets};
 
+use crate::fault::LogFault;
 use crate::range::entry_is_in_range;
-use hsms_frame::{Failed, Frame, Sink, give_all};
+use hsms_frame::{Frame, Sink, give_all};
 use hsms_machine::{Cause, Entry, Event, Role, Settings, Side};
 use itoa::Buffer;
-use thiserror::Error;
-
-/// Why a line was not written.
-#[derive(Clone, Copy, Debug, PartialEq, Eq, Error)]
-pub enum LogFault {
-    /// A write failed. A part of the line from its front was written, and not all of it.
-    #[error("Write")]
-    Write,
-}
-
-impl From<Failed> for LogFault {
-    fn from(_: Failed) -> LogFault {
-        LogFault::Write
-    }
-}
 
 /// Writes the entry as a line, with LF. Hexadecimal digits are written in lower case.
 pub fn write_entry<W: Sink>(sink: &mut W, entry: &Entry) -> Result<(), LogFault>

@@ -27,7 +27,7 @@ use Rattle.hsms_machine.specs.Rule.{IsNotUp, needs_session, is_expiry, SomeOpenO
 use Rattle.hsms_machine.specs.Run.{Broken}
 use Rattle.hsms_machine.specs.Laws.{HasOctets, EachEntryHasAnAnswer}
 use Rattle.hsms_machine.proofs.Steps.{no_cause_iff}
-use Rattle.hsms_machine.proofs.Told.{past_from, past_to}
+use Rattle.hsms_machine.proofs.ViewsOfRuns.{past_from, past_to}
 use Rattle.hsms_machine.proofs.Lawful.{before_cases, open_cases}
 
 -- it holds, or it does not

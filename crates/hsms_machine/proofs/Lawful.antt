@@ -24,8 +24,8 @@ use Rattle.hsms_machine.specs.Run.{Broken, IsRun}
 use Rattle.hsms_machine.specs.View.{open_of}
 use Rattle.hsms_machine.specs.Laws.{answers_event, is_response_event, is_data_event, is_sent_data, shares_system, EachResponseAnswersOne, DataFlowsWhileSelected, ExpiryIsLoggedFirst, RepliesComeWithinT3, SystemBytesAreUnique, LawfulEntryExtendsRun, NoEntryHasTwoAnswers, EmptyLogIsRun}
 use Rattle.hsms_machine.proofs.First.{first_same}
-use Rattle.hsms_machine.proofs.Alike.{Never}
-use Rattle.hsms_machine.proofs.Told.{lawful, any_from_some, some_from_any, pool_told, told_pool}
+use Rattle.hsms_machine.proofs.SameFacts.{Never}
+use Rattle.hsms_machine.proofs.ViewsOfRuns.{lawful, any_from_some, some_from_any, pool_told, told_pool}
 use Rattle.hsms_machine.proofs.Runs.{SameBefore, some-same, some_open-same, same-sym, run-push, empty_run}
 
 -- an entry of a run breaks no rule

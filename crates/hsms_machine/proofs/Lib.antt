@@ -3,9 +3,9 @@ pub mod Least
 pub mod First
 pub mod Steps
 pub mod Push
-pub mod Alike
+pub mod SameFacts
 pub mod Parts
-pub mod Told
+pub mod ViewsOfRuns
 pub mod Runs
 pub mod Lawful
 pub mod Decided

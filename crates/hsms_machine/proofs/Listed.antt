@@ -6,7 +6,7 @@ use Rattle.hsms_machine.specs.declared.entry.Entry.{Entry}
 use Rattle.hsms_machine.specs.Entry.{entry_at}
 use Rattle.hsms_machine.specs.Transaction.{opens, closes, IsOpen}
 use Rattle.hsms_machine.specs.Laws.{IsIn, Ascends, AreOpen, ViewListsWhatIsOpen}
-use Rattle.hsms_machine.proofs.Told.{open_later, open_earlier, open_here, here_not_closed}
+use Rattle.hsms_machine.proofs.ViewsOfRuns.{open_later, open_earlier, open_here, here_not_closed}
 
 -- positions moved up by one
 

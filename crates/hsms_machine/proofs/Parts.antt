@@ -17,7 +17,7 @@ use Rattle.hsms_machine.specs.Transaction.{opens}
 use Rattle.hsms_machine.specs.Session.{Facts}
 use Rattle.hsms_machine.specs.Rule.{Breaks, IsFirst, all_rules, order_rules, timer_rules}
 use Rattle.hsms_machine.specs.Step.{facts_of, view_after, IsBrokenAt, IsFresh}
-use Rattle.hsms_machine.proofs.Alike.{never_from}
+use Rattle.hsms_machine.proofs.SameFacts.{never_from}
 
 both_at : (time : ℕ) (event : Event) → entry_of time (act_of event) (text_of event) ≡ record { time = time; event = event }
 both_at time Up = refl

@@ -17,8 +17,8 @@ use Rattle.hsms_machine.specs.Step.{view_after, facts_of}
 use Rattle.hsms_machine.specs.declared.view.View.{View}
 use Rattle.hsms_machine.proofs.First.{none_is}
 use Rattle.hsms_machine.proofs.Push.{view-push}
-use Rattle.hsms_machine.proofs.Alike.{Alike, first_broken-alike}
-use Rattle.hsms_machine.proofs.Told.{broken-view}
+use Rattle.hsms_machine.proofs.SameFacts.{Alike, first_broken-alike}
+use Rattle.hsms_machine.proofs.ViewsOfRuns.{broken-view}
 
 -- two logs have the same entries before position i
 abbrev pub SameBefore : List Entry → List Entry → ℕ → Type 0

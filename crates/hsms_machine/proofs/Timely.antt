@@ -13,7 +13,7 @@ use Rattle.hsms_machine.specs.Settings.{Parameters}
 use Rattle.hsms_machine.specs.View.{view_of}
 use Rattle.hsms_machine.specs.Step.{facts_of, is_closed_by, pool_after, view_after, IsUntil}
 use Rattle.hsms_machine.specs.Ordered.{AreUntil}
-use Rattle.hsms_machine.proofs.Alike.{Never, never_from}
+use Rattle.hsms_machine.proofs.SameFacts.{Never, never_from}
 
 module _ (view : View) (entry : Entry) (lawful : IsFirst (Breaks (facts_of view) view.settings entry) all_rules None) where
   breaks_none : Never (Breaks (facts_of view) view.settings entry) all_rules

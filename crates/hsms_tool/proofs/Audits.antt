@@ -3,8 +3,8 @@ use Rattle.std.proofs.Common.{◌≡◌, ◌≢◌, ℕ, Bool, List, Ok, Err, in
 use Rattle.std.specs.Prelude.{Option}
 use Rattle.std.specs.Bool.{OnTrue}
 use Rattle.hsms_frame.specs.Device.{SourceState, Grows, GrowsByFront}
-use Rattle.hsms_log.specs.declared.auditing.AuditFault.{AuditFault}
-use Rattle.hsms_log.specs.declared.auditing.AuditFault.TheVariants as audit
+use Rattle.hsms_log.specs.declared.fault.AuditFault.{AuditFault}
+use Rattle.hsms_log.specs.declared.fault.AuditFault.TheVariants as audit
 use Rattle.hsms_log.specs.Auditing.{AuditsAs, CountsAudit, HasEnded, RisesBy, UsesReads, failures_after}
 use Rattle.hsms_log.specs.declared.verdict.Verdict.{Verdict}
 use Rattle.hsms_log.specs.declared.verdict.Verdict.TheVariants.{Pass, Fail}

@@ -2,9 +2,9 @@
 use Rattle.std.specs.Prelude.{◌≡◌, ◌≤◌, ◌+◌, ◌⊎◌, ℕ, List, codes, Bool, true, false, Option, Result, Ok, Err, IfOk, IfErr}
 use Rattle.std.specs.Bool.{OnTrue}
 use Rattle.hsms_frame.specs.Device.{SourceState, Stays, Grows, GrowsByFront}
-use Rattle.hsms_log.specs.declared.auditing.AuditFault.{AuditFault}
-use Rattle.hsms_log.specs.declared.auditing.AuditFault.TheVariants.{Endless, Read}
-use Rattle.hsms_log.specs.declared.auditing.AuditFault.TheVariants as audit
+use Rattle.hsms_log.specs.declared.fault.AuditFault.{AuditFault}
+use Rattle.hsms_log.specs.declared.fault.AuditFault.TheVariants.{Endless, Read}
+use Rattle.hsms_log.specs.declared.fault.AuditFault.TheVariants as audit
 use Rattle.hsms_log.specs.declared.verdict.Verdict.{Verdict}
 use Rattle.hsms_log.specs.declared.verdict.Verdict.TheVariants.{Pass, Fail}
 use Rattle.hsms_log.specs.Auditing.{AuditsAs, HasEnded, RisesBy}

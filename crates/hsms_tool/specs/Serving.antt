@@ -6,8 +6,8 @@ use Rattle.hsms_end.specs.Desk.{equipment_answer, host_answer}
 use Rattle.hsms_end.specs.Known.{untold}
 use Rattle.hsms_frame.specs.Device.{SinkState}
 use Rattle.hsms_machine.specs.declared.settings.Role.TheVariants as role
-use Rattle.hsms_ends.specs.declared.serving.ServeFault.{ServeFault}
-use Rattle.hsms_ends.specs.declared.serving.ServeFault.TheVariants as serve
+use Rattle.hsms_ends.specs.declared.fault.ServeFault.{ServeFault}
+use Rattle.hsms_ends.specs.declared.fault.ServeFault.TheVariants as serve
 use Rattle.hsms_ends.specs.declared.serving.Served.{Served}
 use Rattle.hsms_ends.specs.declared.step.Step.{Step}
 use Rattle.hsms_ends.specs.Link.{Told}

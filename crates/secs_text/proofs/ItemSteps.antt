@@ -14,7 +14,7 @@ use Rattle.secs_text.specs.Words.{number_below}
 use Rattle.secs_text.specs.Notation.{ItemTokens}
 use Rattle.secs_text.specs.Places.{Rules, Count, Opened, Before, Place, Step, type_wanted, after_type, count_wanted, after_count, in_item, step, with_word, with_quoted, is_counted, count_place, closed, or_fault, after_name, after_number, at_value, at_in_item}
 use Rattle.secs_text.proofs.SoFar.{OpenedTokens, element_taken, nest_taken, value_taken, word_taken, quoted_taken, item_closed, format_of_nothing, nothing_so_far}
-use Rattle.secs_text.proofs.Stands.{Surrounded, Named, InItem, Stands, arrives, chosen}
+use Rattle.secs_text.proofs.TokensBefore.{Surrounded, Named, InItem, Stands, arrives, chosen}
 
 -- ---- the type name
 

@@ -7,7 +7,7 @@ pub mod Walks
 pub mod Completeness
 pub mod ItemLeads
 pub mod SoFar
-pub mod Stands
+pub mod TokensBefore
 pub mod ItemSteps
 pub mod Soundness
 pub mod Endings

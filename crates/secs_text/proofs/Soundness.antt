@@ -7,7 +7,7 @@ use Rattle.secs_text.specs.Notation.{MessageTokens, MessagesTokens, HasTokens, N
 use Rattle.secs_text.specs.Fault.{one_message, any_messages}
 use Rattle.secs_text.specs.Places.{Rules, Place, Step, start, after_head, after_wait, type_wanted, after_type, count_wanted, after_count, in_item, stop_wanted, finished, walk, step, ◌>>=◌, is_empty, reading}
 use Rattle.secs_text.proofs.Completeness.{token_of}
-use Rattle.secs_text.proofs.Stands.{Held, Finished, Stands, arrives, held_ends, start_step, after_wait_step, after_head_step}
+use Rattle.secs_text.proofs.TokensBefore.{Held, Finished, Stands, arrives, held_ends, start_step, after_wait_step, after_head_step}
 use Rattle.secs_text.proofs.ItemSteps.{type_step, in_item_step, after_type_step, count_step, count_end_step}
 
 stop_step : (rules : Rules) (ms : List Content) (m : Content) (at : ℕ) (t : Token) (ts : List Token) (next : Place) → Held rules ms m ts → step rules (stop_wanted ms m) at t ≡ Ok next → Stands rules next (ts ++ t ∷ [])

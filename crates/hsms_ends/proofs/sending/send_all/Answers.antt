@@ -1,7 +1,7 @@
 use Rattle.std.proofs.Common.{◌∙◌}
 use Rattle.std.proofs.lemmas.List.{take_rest}
 use Rattle.hsms_frame.proofs.Transfers.{grows_more, part_within}
-use Rattle.hsms_ends.proofs.Sendings.{hears_none_then}
+use Rattle.hsms_ends.proofs.SentParts.{hears_none_then}
 use Rattle.hsms_ends.proofs.sending.send_all.Goals as goal
 
 pub loop-sent-preserved : goal.loop-sent-preserved

@@ -1,7 +1,7 @@
 use Rattle.std.proofs.Common.{◌∙◌, ℕ, List, subst, arith}
 use Rattle.std.proofs.lemmas.Result.{err_from_is_err_and}
 use Rattle.hsms_frame.specs.Device.{Grows, GrowsByFront}
-use Rattle.hsms_frame.proofs.Sendings.{counted, wrote_all, wrote_front, wrote_part}
+use Rattle.hsms_frame.proofs.WrittenParts.{counted, wrote_all, wrote_front, wrote_part}
 use Rattle.hsms_frame.proofs.write.write_frame.Goals as goal
 
 pub returns-in_err-give_all-clause-octets : goal.returns-in_err-give_all-clause-octets

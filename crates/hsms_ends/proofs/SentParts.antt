@@ -2,7 +2,7 @@
 use Rattle.std.proofs.Common.{◌≡◌, ◌++◌, ℕ, List, Ok, Err, ap, ◌∙◌, subst}
 use Rattle.std.specs.Prelude.{Result}
 use Rattle.hsms_frame.specs.Count.{next_count}
-use Rattle.hsms_ends.specs.declared.link.LinkFault.{LinkFault}
+use Rattle.hsms_ends.specs.declared.fault.LinkFault.{LinkFault}
 use Rattle.hsms_ends.specs.Link.{Told, Hears, nothing_heard}
 use Rattle.hsms_ends.specs.PutOut.{SendsAll}
 use Rattle.hsms_ends.proofs.Hearing.{grows_then, front_of_first, front_of_second, hears_then}

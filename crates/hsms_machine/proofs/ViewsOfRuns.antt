@@ -16,7 +16,7 @@ use Rattle.hsms_machine.specs.Rule.{Breaks, IsNotUp, IsFirst, all_rules}
 use Rattle.hsms_machine.specs.Run.{Broken, IsRun}
 use Rattle.hsms_machine.specs.View.{open_entries, open_of, phase_by, phase_of, up_time_of, view_of}
 use Rattle.hsms_machine.specs.Step.{is_connected, pool_of, facts_of}
-use Rattle.hsms_machine.proofs.Alike.{OrderAlike, Alike, Never, never_from, first_broken-alike, order_alike-sym, alike-sym, over_alike, down_alike}
+use Rattle.hsms_machine.proofs.SameFacts.{OrderAlike, Alike, Never, never_from, first_broken-alike, order_alike-sym, alike-sym, over_alike, down_alike}
 
 -- some entry of the log passes the test, as a search of the log tells
 
