@@ -8,6 +8,7 @@ use crate::{Scripted, ServeFault, Served, Step};
 use secs_text::read;
 
 /// A connection: what the peer says, and what is to come of it.
+#[derive(Clone, Copy)]
 struct Connection {
     name: &'static str,
     role: Role,
