@@ -181,10 +181,11 @@ def runs():
     seen = set()
     for row in [*rows(), *examples()]:
         words = [PROGRAM, *row.words]
+        steps = int("--send" in row.words)
         if row.words not in seen:
-            yield Check(f"{row}, from the words on", words, row.given, judge_of(row, True))
+            yield Check(f"{row}, from the words on", words, row.given, judge_of(row, 1 + steps))
         seen.add(row.words)
-        yield Check(str(row), words, row.given, judge_of(row, False), is_from_input=True)
+        yield Check(str(row), words, row.given, judge_of(row, steps), is_from_input=True)
 
 
 def fronts(output):
@@ -193,15 +194,19 @@ def fronts(output):
     return {b"".join(lines[:count]) for count in range(len(lines) + 1)}
 
 
-def judge_of(row, may_do_without):
-    """What a run of the command has to do. Std can do without the room that it asks for as it collects the words."""
+def judge_of(row, collections):
+    """What a run of the command has to do. Std can do without the room that it asks for as it begins to collect the words,
+    or the steps of a script: so often the command may answer as ever although memory was refused."""
     parts = fronts(row.answer.output) if row.words[:1] == ("show",) else {b""}
+    done_without = []
 
     def is_well(ended, was_refused):
         answer = row.answer
         same = (ended.returncode, ended.stdout, ended.stderr) == (answer.status, answer.output, answer.error)
         told = (ended.returncode, ended.stderr) == (3, b"hsms: Memory\n") and ended.stdout in parts
-        return told or may_do_without and same if was_refused else same
+        if was_refused and same:
+            done_without.append(ended)
+        return len(done_without) <= collections if same else told and was_refused
 
     return is_well
 
