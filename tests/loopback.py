@@ -238,6 +238,13 @@ def refused(serving, status, words):
     same(serving.ended(), (status, "", f"hsms: {words}\n"))
 
 
+def equipment(*options, **others):
+    """An equipment that listens, and its peer."""
+    port = free_port()
+    serving = Serving("equipment", "passive", port, *options, **others)
+    return serving, Peer.connected(port)
+
+
 # ---- sessions
 
 EQUIPMENT_LOG = [
@@ -252,9 +259,7 @@ EQUIPMENT_LOG = [
 
 
 def equipment_is_selected_tested_and_separated():
-    port = free_port()
-    serving = Serving("equipment", "passive", port)
-    peer = Peer.connected(port)
+    serving, peer = equipment()
     peer.send(SELECT + control(5, 2) + control(9, 3))
     same(peer.rest(), SELECTED + control(6, 2))
     log = served(serving, EQUIPMENT_LOG)
@@ -263,9 +268,7 @@ def equipment_is_selected_tested_and_separated():
 
 
 def octet_by_octet():
-    port = free_port()
-    serving = Serving("equipment", "passive", port)
-    peer = Peer.connected(port)
+    serving, peer = equipment()
     peer.send_singly(SELECT + control(5, 2) + control(9, 3))
     same(peer.rest(), SELECTED + control(6, 2))
     served(serving, EQUIPMENT_LOG)
@@ -330,9 +333,7 @@ def log_through_audit():
 
 
 def log_comes_line_by_line():
-    port = free_port()
-    serving = Serving("equipment", "passive", port)
-    peer = Peer.connected(port)
+    serving, peer = equipment()
     same(serving.line_soon("up"), True)
     peer.send(SELECT)
     same(serving.line_soon("> ffff0000000200000001"), True)
@@ -344,9 +345,7 @@ def log_comes_line_by_line():
 
 
 def plain_host_breaks_rules():
-    port = free_port()
-    serving = Serving("equipment", "passive", port, "--mdln", "M", "--softrev", "1")
-    peer = Peer.connected(port)
+    serving, peer = equipment("--mdln", "M", "--softrev", "1")
     peer.send(data(1, 1, 1, wait=True))
     peer.wants(message(0, 0, 4, 7, 1))
     peer.send(SELECT)
@@ -420,9 +419,7 @@ def times_are_those_of_the_connection():
 # ---- bad peers
 
 def silence():
-    port = free_port()
-    serving = Serving("equipment", "passive", port, "--t7", "300")
-    peer = Peer.connected(port)
+    serving, peer = equipment("--t7", "300")
     same(peer.rest(), b"")
     log = served(serving, ["up", "cut t7", "down"])
     if times(log)[1] <= 300:
@@ -430,9 +427,7 @@ def silence():
 
 
 def one_octet_and_silence():
-    port = free_port()
-    serving = Serving("equipment", "passive", port, "--t8", "200")
-    peer = Peer.connected(port)
+    serving, peer = equipment("--t8", "200")
     peer.send(b"\0")
     same(peer.rest(), b"")
     served(serving, ["up", "cut t8", "down"])
@@ -467,9 +462,7 @@ def no_reply():
 
 
 def flood_of_octets():
-    port = free_port()
-    serving = Serving("equipment", "passive", port)
-    peer = Peer.connected(port)
+    serving, peer = equipment()
     try:
         for _ in range(100):
             peer.send(b"\xff" * 65536)
@@ -507,9 +500,7 @@ def flood_of_requests():
 
 
 def half_a_header_and_closed():
-    port = free_port()
-    serving = Serving("equipment", "passive", port)
-    peer = Peer.connected(port)
+    serving, peer = equipment()
     peer.send(SELECT[:9])
     peer.close()
     served(serving, ["up", "down"])
@@ -524,9 +515,7 @@ def closed_at_once():
 
 def closed_before_it_is_answered():
     """The peer is gone while the end answers, so the end writes to nobody."""
-    port = free_port()
-    serving = Serving("equipment", "passive", port)
-    peer = Peer.connected(port)
+    serving, peer = equipment()
     peer.send(SELECT + b"".join(control(5, system) for system in range(2, 200)))
     peer.close()
     status, log, told = serving.ended()
@@ -551,9 +540,7 @@ def closed_while_a_reply_is_awaited():
 
 
 def reset():
-    port = free_port()
-    serving = Serving("equipment", "passive", port)
-    peer = Peer.connected(port)
+    serving, peer = equipment()
     peer.send(SELECT)
     peer.wants(SELECTED)
     peer.reset()
@@ -568,9 +555,7 @@ def never_connected():
 
 
 def terminated():
-    port = free_port()
-    serving = Serving("equipment", "passive", port)
-    peer = Peer.connected(port)
+    serving, peer = equipment()
     peer.send(SELECT)
     peer.wants(SELECTED)
     same(serving.line_soon("> ffff0000000200000001"), True)
@@ -583,9 +568,7 @@ def terminated():
 # ---- what ends it otherwise
 
 def turns_are_used():
-    port = free_port()
-    serving = Serving("equipment", "passive", port, "--turns", "1")
-    peer = Peer.connected(port)
+    serving, peer = equipment("--turns", "1")
     peer.send(SELECT)
     same(peer.rest(), SELECTED)
     stopped(serving, "Turns", ["up", "< ffff0000000100000001", "> ffff0000000200000001"])

@@ -34,7 +34,7 @@ PROGRAM = ASKED.program or f"{TOP}/crates/hsms_tool/out/hsms_tool"
 sys.argv = [sys.argv[0], PROGRAM]
 sys.path.insert(0, os.path.dirname(os.path.abspath(__file__)))
 
-from loopback import Listening, Peer, SELECT, SELECTED, Serving, control, data, events, free_port, passes, same
+from loopback import Listening, Peer, SELECT, SELECTED, Serving, control, data, equipment, events, free_port, passes, same
 
 S1F1 = data(1, 1, 3, wait=True)
 S1F2 = data(1, 2, 2, bytes.fromhex("010241014d410131"))
@@ -43,7 +43,6 @@ ANSWERS = [SELECTED, S1F2]
 SERVED = (0, "")
 BROKEN = (3, "hsms: Link\n")
 UNLOGGED = (3, "hsms: Log\n")
-TAKEN = threading.Lock()
 
 # How many sessions are drawn at a time.
 DRAWN = 200
@@ -92,18 +91,6 @@ def heard(peer):
         return b""
 
 
-def port_of_its_own():
-    with TAKEN:
-        return free_port()
-
-
-def equipment(**options):
-    """An equipment that listens, and its peer."""
-    port = port_of_its_own()
-    serving = Serving("equipment", "passive", port, **options)
-    return serving, Peer.connected(port)
-
-
 # ---- one trouble at each place
 
 def equipment_is_left(way, count):
@@ -147,7 +134,7 @@ def device_is_full(count, whole):
         resource.setrlimit(resource.RLIMIT_FSIZE, (count, count))
 
     with tempfile.TemporaryFile() as file:
-        port = port_of_its_own()
+        port = free_port()
         words = ["serve", "--role", "equipment", "--link", "passive", "--address", "127.0.0.1", "--port", str(port)]
         run = subprocess.Popen(
             [PROGRAM, *words], stdin=subprocess.DEVNULL, stdout=file, stderr=subprocess.PIPE, preexec_fn=limited
