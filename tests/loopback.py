@@ -574,11 +574,8 @@ def turns_are_used():
     stopped(serving, "Turns", ["up", "< ffff0000000100000001", "> ffff0000000200000001"])
 
 
-def nobody_reads_the_log():
-    port = free_port()
-    serving = Serving("equipment", "passive", port)
-    serving.run.stdout.close()
-    serving.run.stdout = None
+def unlogged(serving, port):
+    """The peer comes, and nothing can be logged of it."""
     peer = Peer.connected(port)
     try:
         peer.rest()
@@ -588,17 +585,19 @@ def nobody_reads_the_log():
     same((status, told), (3, "hsms: Log\n"))
 
 
+def nobody_reads_the_log():
+    port = free_port()
+    serving = Serving("equipment", "passive", port)
+    serving.run.stdout.close()
+    serving.run.stdout = None
+    unlogged(serving, port)
+
+
 def log_is_full():
     port = free_port()
     with open("/dev/full", "wb") as full:
         serving = Serving("equipment", "passive", port, stdout=full)
-        peer = Peer.connected(port)
-        try:
-            peer.rest()
-        except ConnectionResetError:
-            pass
-        status, _, told = serving.ended()
-    same((status, told), (3, "hsms: Log\n"))
+        unlogged(serving, port)
 
 
 def nobody_listens():
