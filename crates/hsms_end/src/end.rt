@@ -45,6 +45,7 @@ impl<D: Desk> End<D> {
 
     /// An end that was told nothing yet. Its own system bytes are counted from the first number on (SEMI E37, section
     /// 8, message format). Takes no memory.
+    #[tactic(auto, unfolding(hsms_machine::specs::Entry::connection_of))]
     pub fn new(alloc: Global, settings: Settings, desk: D, first_system: u32) -> End<D>
         ensures { result ≡ record { desk = desk; known = untold settings first_system } }
     {

@@ -10,7 +10,7 @@ use Rattle.hsms_machine.specs.declared.entry.Event.TheVariants.{Up, Sent, Taken,
 use Rattle.hsms_machine.specs.declared.phase.Phase.{Phase}
 use Rattle.hsms_machine.specs.declared.phase.Phase.TheVariants as phase
 use Rattle.hsms_machine.specs.Settings.{Parameters}
-use Rattle.hsms_machine.specs.Entry.{entry_at, is_down}
+use Rattle.hsms_machine.specs.Entry.{entry_at, is_down, IsOnConnection, connection_of}
 use Rattle.hsms_machine.specs.Session.{Facts, facts_before, selects, ends_session}
 use Rattle.hsms_machine.specs.Rule.{Breaks, IsNotUp}
 use Rattle.hsms_machine.specs.Run.{IsRun}
@@ -27,6 +27,7 @@ gone_by false false true = refl
 gone_by false false false = refl
 
 gone_is_any : (log : List Entry) → is_gone (phase_of log) ≡ list_any (λ entry. is_down entry.event) log
+unfolding connection_of
 gone_is_any [] = refl
 gone_is_any (entry ∷ later) =
     gone_by (list_any (λ other. is_down other.event) (entry ∷ later)) (list_any (λ other. ends_session other.event) (entry ∷ later)) (list_any (λ other. selects other.event) (entry ∷ later))
@@ -44,6 +45,7 @@ found (x ∷ xs) h = elim (cases_Bool (is_down x.event)) [
 
 -- an entry after `down` breaks a rule
 not_up : (log : List Entry) (i k : ℕ) (event : Event) → k < i → is_down (entry_at log k).event ≡ true → IsNotUp (facts_before log i) event
+unfolding IsOnConnection
 not_up log i k Up lt h = let e : 0 < i = omega (arith, lt) in e
 not_up log i k (Sent frame) lt h = inr (k, lt, h)
 not_up log i k (Taken frame) lt h = inr (k, lt, h)

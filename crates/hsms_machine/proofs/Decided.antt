@@ -1,6 +1,6 @@
 -- Each entry has an answer: every rule is broken or not.
 use Rattle.std.proofs.Common.{◌≡◌, ℕ, ◌-◌, ◌<◌, Bool, true, false, ◌&&◌, List, [], ◌∷◌, ◌++◌, length, Option, Some, None, IsTrue, ◌⊎◌, inl, inr, refl, arith, nat_lt, nat_le, ◌==◌}
-use Rattle.std.proofs.lemmas.Bool.{cases_lt}
+use Rattle.std.proofs.lemmas.Bool.{cases_lt, cases_order}
 use Rattle.secs_item.specs.Spelling.{IsOctets, IsText}
 use Rattle.secs_item.specs.Laws.{SomeTextAnswer, NotBothOfText}
 use Rattle.hsms_frame.specs.Header.{kind_of}
@@ -22,13 +22,13 @@ use Rattle.hsms_machine.specs.Entry.{is_up, is_down, is_t3}
 use Rattle.hsms_machine.specs.Message.{is_data, is_control, is_response, is_request, establishes, has_session, has_direction, has_wait}
 use Rattle.hsms_machine.specs.Transaction.{answers, Pool, SentData, SentControl, TakenData, TakenControl}
 use Rattle.hsms_machine.specs.Session.{Facts, facts_before, selects, ends_session}
-use Rattle.hsms_machine.specs.Timer.{IsT3Overdue, IsT6Overdue, IsT7Overdue, IsCutNotDue, IsNotDue}
+use Rattle.hsms_machine.specs.Timer.{IsTimed, IsT3Overdue, IsT6Overdue, IsT7Overdue, IsCutNotDue, IsNotDue}
 use Rattle.hsms_machine.specs.Rule.{IsNotUp, needs_session, is_expiry, SomeOpenOf, opposite, FrameBreaks, IsNoCause, EventBreaks, Breaks, IsFirst, all_rules, format_rules, transaction_rules}
 use Rattle.hsms_machine.specs.Run.{Broken}
 use Rattle.hsms_machine.specs.Laws.{HasOctets, EachEntryHasAnAnswer}
 use Rattle.hsms_machine.proofs.Steps.{no_cause_iff}
 use Rattle.hsms_machine.proofs.ViewsOfRuns.{past_from, past_to}
-use Rattle.hsms_machine.proofs.Lawful.{before_cases, open_cases}
+use Rattle.hsms_machine.proofs.Lawful.{before_cases, follows_cases, open_cases}
 
 -- it holds, or it does not
 abbrev pub Decided : Type 0 → Type 0
@@ -61,6 +61,12 @@ not_decided P p = elim p [ inl x ↦ inr (λ n. n x) | inr n ↦ inl n ]
 less_decided : (a b : ℕ) → Decided (a < b)
 less_decided a b = elim (cases_lt a b) [ inl lt ↦ inl lt | inr le ↦ inr (λ lt. omega arith) ]
 
+same_decided : (a b : ℕ) → Decided (a ≡ b)
+same_decided a b = elim (cases_order a b) [
+  | inl same ↦ inl same
+  | inr other ↦ elim other [ inl lt ↦ inr (λ e. omega arith) | inr gt ↦ inr (λ e. omega arith) ]
+]
+
 nothing_decided : Decided ⊥
 nothing_decided = inr (λ e. e)
 
@@ -79,6 +85,7 @@ pub record Settled (F : Facts) : Type 0 where
   pub entry : Decided F.HasEntry
   pub up : Decided F.HasUp
   pub down : Decided F.HasDown
+  pub follows : Decided F.FollowsDown
   pub up_since : (test : ℕ → Bool) → Decided (F.IsUpSince test)
   pub selected : Decided F.IsSelected
   pub over : Decided F.IsOver
@@ -90,6 +97,7 @@ settled log = record {
   entry = less_decided 0 (length log);
   up = before_cases log (length log) (omega arith) (λ entry. is_up entry.event);
   down = before_cases log (length log) (omega arith) (λ entry. is_down entry.event);
+  follows = follows_cases log (length log);
   up_since = λ test. before_cases log (length log) (omega arith) (λ entry. is_up entry.event && test entry.time);
   selected = before_cases log (length log) (omega arith) (λ entry. selects entry.event);
   over = before_cases log (length log) (omega arith) (λ entry. ends_session entry.event);
@@ -138,8 +146,8 @@ module _ (F : Facts) (s : Settled F) (settings : Parameters) where
   frame_decided flow frame text SelectStatus = both_decided _ _ (true_decided (establishes frame.header)) s.selected
   frame_decided flow frame text rule = nothing_decided
 
-  not_up_decided : (event : Event) → Decided (IsNotUp F event)
-  not_up_decided Up = s.entry
+  not_up_decided : (event : Event) → Decided (IsNotUp F settings event)
+  not_up_decided Up = both_decided _ _ s.entry (not_decided _ (both_decided _ _ (same_decided settings.version 2) s.follows))
   not_up_decided event = either_decided _ _ (not_decided _ s.up) s.down
 
   cut_decided : (time : ℕ) (cause : Cause) → Decided (IsCutNotDue F settings time cause)
@@ -152,18 +160,21 @@ module _ (F : Facts) (s : Settled F) (settings : Parameters) where
   due_decided time (Cut cause) = cut_decided time cause
   due_decided time event = nothing_decided
 
+  timed_decided : Decided (IsTimed F)
+  timed_decided = both_decided _ _ (not_decided _ s.over) (not_decided _ s.follows)
+
   t3_decided : (time : ℕ) → Decided (IsT3Overdue F settings time)
-  t3_decided time = both_decided _ _ (not_decided _ s.over) (s.some_open SentData (λ opened. nat_lt settings.t3 (time - opened.time)))
+  t3_decided time = both_decided _ _ timed_decided (s.some_open SentData (λ opened. nat_lt settings.t3 (time - opened.time)))
 
   t6_decided : (time : ℕ) → Decided (IsT6Overdue F settings time)
-  t6_decided time = both_decided _ _ (not_decided _ s.over) (s.some_open SentControl (λ opened. nat_lt settings.t6 (time - opened.time)))
+  t6_decided time = both_decided _ _ timed_decided (s.some_open SentControl (λ opened. nat_lt settings.t6 (time - opened.time)))
 
   t7_decided : (time : ℕ) → Decided (IsT7Overdue F settings time)
-  t7_decided time = elim (not_decided _ s.over) [
+  t7_decided time = elim timed_decided [
     | inr n ↦ inr (λ h. n h.0)
-    | inl over ↦ elim (not_decided _ s.selected) [
+    | inl timed ↦ elim (not_decided _ s.selected) [
       | inr n ↦ inr (λ h. n h.1)
-      | inl selected ↦ elim (s.up_since (λ up. nat_lt settings.t7 (time - up))) [ inl up ↦ inl (over, selected, up) | inr n ↦ inr (λ h. n h.2) ]
+      | inl selected ↦ elim (s.up_since (λ up. nat_lt settings.t7 (time - up))) [ inl up ↦ inl (timed, selected, up) | inr n ↦ inr (λ h. n h.2) ]
     ]
   ]
 

@@ -1,5 +1,5 @@
 -- The laws of runs.
-use Rattle.std.proofs.Common.{◌≡◌, ℕ, ◌-◌, ◌<◌, ◌≤◌, ◌==◌, Bool, true, false, cond, List, length, take, Some, None, IsTrue, ◌⊎◌, inl, inr, refl, sym, subst, ◌∙◌, arith, nat_lt}
+use Rattle.std.proofs.Common.{◌≡◌, ℕ, ◌+◌, ◌-◌, ◌<◌, ◌≤◌, ◌==◌, Bool, true, false, cond, List, length, take, Some, None, IsTrue, ◌⊎◌, inl, inr, refl, sym, subst, ◌∙◌, arith, nat_lt}
 use Rattle.std.specs.List.{list_any}
 use Rattle.std.proofs.lemmas.Bool.{cases_Bool, cases_order, cases_lt, or_cases, and_parts, or_left, eqb-true, eq-eqb, lt-ltb}
 use Rattle.std.proofs.lemmas.List.{length-take-le, get_or-take}
@@ -15,18 +15,19 @@ use Rattle.hsms_machine.specs.declared.rule.Rule.{Rule}
 use Rattle.hsms_machine.specs.declared.rule.Rule.TheVariants.{Backwards, NotUp, Ended, T3Overdue, LinkOverdue, NotDue, TooLong, PType, SType, ControlText, Session, Direction, NotSelected, WBit, Text, SystemInUse, NoTransaction, SelectStatus, NoCause}
 use Rattle.hsms_machine.specs.declared.open.Transaction.{Transaction}
 use Rattle.hsms_machine.specs.Settings.{Parameters}
-use Rattle.hsms_machine.specs.Entry.{entry_at, SomeBefore, is_t3}
+use Rattle.hsms_machine.specs.Entry.{entry_at, SomeBefore, connection_of, is_up, is_down, is_t3}
 use Rattle.hsms_machine.specs.Message.{is_data_kind, opens_control, is_data_request, is_control_request, is_request, is_data}
 use Rattle.hsms_machine.specs.Transaction.{Pool, SentData, SentControl, TakenData, TakenControl, answers, answers_kind, rejects, opens, closes, opened_as_at, IsOpen, passes, SomeOpen}
-use Rattle.hsms_machine.specs.Session.{facts_before, IsSelected, IsOver, selects}
-use Rattle.hsms_machine.specs.Rule.{needs_session, Breaks, all_rules}
+use Rattle.hsms_machine.specs.Session.{FollowsDown, facts_before, IsSelected, IsOver, selects}
+use Rattle.hsms_machine.specs.Rule.{IsNotUp, needs_session, Breaks, all_rules}
 use Rattle.hsms_machine.specs.Run.{Broken, IsRun}
 use Rattle.hsms_machine.specs.View.{open_of}
-use Rattle.hsms_machine.specs.Laws.{answers_event, is_response_event, is_data_event, is_sent_data, shares_system, EachResponseAnswersOne, DataFlowsWhileSelected, ExpiryIsLoggedFirst, RepliesComeWithinT3, SystemBytesAreUnique, LawfulEntryExtendsRun, NoEntryHasTwoAnswers, EmptyLogIsRun}
+use Rattle.hsms_machine.specs.Laws.{answers_event, is_response_event, is_data_event, is_sent_data, shares_system, EachResponseAnswersOne, DataFlowsWhileSelected, ExpiryIsLoggedFirst, RepliesComeWithinT3, SystemBytesAreUnique, OneConnectionInVersionOne, EachConnectionFollowsDown, NothingIsOpenOverUp, LawfulEntryExtendsRun, NoEntryHasTwoAnswers, EmptyLogIsRun}
 use Rattle.hsms_machine.proofs.First.{first_same}
 use Rattle.hsms_machine.proofs.SameFacts.{Never}
 use Rattle.hsms_machine.proofs.ViewsOfRuns.{lawful, any_from_some, some_from_any, pool_told, told_pool}
-use Rattle.hsms_machine.proofs.Runs.{SameBefore, some-same, some_open-same, same-sym, run-push, empty_run}
+use Rattle.hsms_machine.proofs.Connection.{SameBefore, on-before, on-no_up, on-between, on-last}
+use Rattle.hsms_machine.proofs.Runs.{some-same, some_open-same, same-sym, run-push, empty_run}
 
 -- an entry of a run breaks no rule
 obeys : (settings : Parameters) (log : List Entry) → IsRun settings log → (i : ℕ) → i < length log → (r : Rule) → Breaks (facts_before log i) settings (entry_at log i) r → ⊥
@@ -64,13 +65,13 @@ module _ (log : List Entry) (i : ℕ) (le : i ≤ length log) where
   prefix_same k lt = get_or-take i log k (record { time = 0; event = Up }) lt
 
   pub before_cases : (test : Entry → Bool) → SomeBefore log i test ⊎ (SomeBefore log i test → ⊥)
-  before_cases test = elim (cases_Bool (list_any test (take i log))) [
+  before_cases test = elim (cases_Bool (list_any test (connection_of (take i log)))) [
     | inl t ↦
         let s : SomeBefore (take i log) i test = subst (λ n. SomeBefore (take i log) n test) prefix_len (some_from_any test (take i log) t) in
         inl (some-same (take i log) log i prefix_same test s)
     | inr f ↦ inr (λ s.
         let back = some-same log (take i log) i (same-sym (take i log) log i prefix_same) test s in
-        let t : list_any test (take i log) ≡ true = any_from_some test (take i log) (subst (λ n. SomeBefore (take i log) n test) (sym prefix_len) back) in
+        let t : list_any test (connection_of (take i log)) ≡ true = any_from_some test (take i log) (subst (λ n. SomeBefore (take i log) n test) (sym prefix_len) back) in
         (let d : true ≡ false = sym t ∙ f in cc))
   ]
 
@@ -84,6 +85,18 @@ module _ (log : List Entry) (i : ℕ) (le : i ≤ length log) where
         let t : list_any test (open_of pool (take i log)) ≡ true = told_pool pool (take i log) test (subst (λ n. SomeOpen (take i log) n pool test) (sym prefix_len) back) in
         (let d : true ≡ false = sym t ∙ f in cc))
   ]
+
+pub follows_cases : (log : List Entry) (i : ℕ) → FollowsDown log i ⊎ (FollowsDown log i → ⊥)
+follows_cases log i = elim (cases_lt 0 i) [
+  | inl pos ↦ elim (cases_Bool (is_down (entry_at log (i - 1)).event)) [
+    | inl down ↦ inl (i - 1, omega arith, down)
+    | inr other ↦ inr (λ s.
+        let e : s.0 ≡ i - 1 = (let next : s.0 + 1 ≡ i = s.1 in omega arith) in
+        let down : is_down (entry_at log (i - 1)).event ≡ true = subst (λ k. is_down (entry_at log k).event ≡ true) e s.2 in
+        let d : true ≡ false = sym down ∙ other in cc)
+  ]
+  | inr le ↦ inr (λ s. let next : s.0 + 1 ≡ i = s.1 in omega arith)
+]
 
 -- data flows while selected
 
@@ -128,22 +141,28 @@ awaited_in time (Sent frame) test a o t = passes_one (is_data_request frame.head
 awaited_in time event test a o t = absurd (let d : false ≡ true = a in cc)
 
 pub expiry_first : ExpiryIsLoggedFirst
-expiry_first settings log run j i before lt awaited not_t3 not_over late open_before =
+expiry_first settings log run j i before lt awaited not_t3 not_over not_down late open_before =
     let over_t3 : ℕ → Bool = λ time. nat_lt settings.t3 ((entry_at log i).time - time) in
     obeys settings log run i lt T3Overdue
-    (not_t3, (not_over, (j, open_before, awaited_in (entry_at log j).time (entry_at log j).event over_t3 awaited open_before.opened (lt-ltb settings.t3 ((entry_at log i).time - (entry_at log j).time) late))))
+    (not_t3, ((not_over, not_down), (j, open_before, awaited_in (entry_at log j).time (entry_at log j).event over_t3 awaited open_before.opened (lt-ltb settings.t3 ((entry_at log i).time - (entry_at log j).time) late))))
 
 answer_kind : (opening event : Event) → IsTrue (answers_event opening event) → (needs_session event ≡ true) × (IsTrue (is_t3 event) → ⊥)
 answer_kind (Sent request) (Taken response) a = (refl, (λ t. let d : false ≡ true = t in cc))
 answer_kind (Taken request) (Sent response) a = (refl, (λ t. let d : false ≡ true = t in cc))
 answer_kind opening event a = absurd (let d : false ≡ true = a in cc)
 
+-- an event that needs a session does not follow a `down`
+no_down : (log : List Entry) (i : ℕ) (settings : Parameters) (event : Event) → needs_session event ≡ true → (IsNotUp (facts_before log i) settings event → ⊥) → FollowsDown log i → ⊥
+no_down log i settings Up needs obeyed s = let d : false ≡ true = needs in cc
+no_down log i settings event needs obeyed s = obeyed (inr (s.0, on-last log s.0 i s.1, s.2))
+
 pub within_t3 : RepliesComeWithinT3
 within_t3 settings log run j i lt open_before awaited answered =
     let kind = answer_kind (entry_at log j).event (entry_at log i).event answered in
     let not_over : IsOver log i → ⊥ = λ o. obeys settings log run i lt Ended (kind.0, o) in
+    let not_down : FollowsDown log i → ⊥ = no_down log i settings (entry_at log i).event kind.0 (obeys settings log run i lt NotUp) in
     elim (cases_lt settings.t3 ((entry_at log i).time - (entry_at log j).time)) [
-      | inl late ↦ absurd (expiry_first settings log run j i open_before.earlier lt awaited kind.1 not_over late open_before)
+      | inl late ↦ absurd (expiry_first settings log run j i (on-before log j i open_before.earlier) lt awaited kind.1 not_over not_down late open_before)
       | inr le ↦ le
     ]
 
@@ -178,13 +197,13 @@ module _ (log : List Entry) (i : ℕ) where
 shorter_open : (log : List Entry) (j k i : ℕ) → j < k → k ≤ i → IsOpen log j i → IsOpen log j k
 shorter_open log j k i lt le h = record {
   opened = h.opened;
-  earlier = lt;
+  earlier = on-between log j k i lt le h.earlier;
   not_closed = λ n after before c. h.not_closed n after (omega arith) c;
 }
 
 not_both : (settings : Parameters) (log : List Entry) → IsRun settings log → (i j k : ℕ) → i ≤ length log → j < k → IsOpen log j i → IsOpen log k i → shares_system (entry_at log j).event (entry_at log k).event ≡ true → ⊥
 not_both settings log run i j k le lt hj hk shared =
-    let ki : k < i = hk.earlier in
+    let ki : k < i = on-before log k i hk.earlier in
     obeys settings log run k (omega arith) SystemInUse
     (in_use log k j (shorter_open log j k i lt (omega arith) hj) (entry_at log j).time (entry_at log j).event (entry_at log k).event refl refl hj.opened hk.opened shared settings (entry_at log k).time)
 
@@ -274,8 +293,37 @@ answers_one settings log run i lt response =
       record { open_before = opened; answered = found.2 },
       (λ other h. unique_system settings log run i other j (omega arith) h.open_before opened
           (answered_share (entry_at log other).event (entry_at log j).event (entry_at log i).event h.answered found.2)),
-      (λ later after h. h.not_closed i opened.earlier after (answer_closes (entry_at log j).event (entry_at log i).event found.2)),
+      (λ later after h. h.not_closed i (on-before log j i opened.earlier) after (answer_closes (entry_at log j).event (entry_at log i).event found.2)),
     )
+
+-- connections
+
+-- a later `up` breaks no rule only in version 2, directly after `down`
+later_up_by : (log : List Entry) (i : ℕ) (settings : Parameters) (event : Event) → 0 < i → is_up event ≡ true → (IsNotUp (facts_before log i) settings event → ⊥) → (settings.version ≡ 2) × FollowsDown log i
+later_up_by log i settings Up pos up obeyed = elim (follows_cases log i) [
+  | inl down ↦ elim (cases_order settings.version 2) [
+    | inl two ↦ (two, down)
+    | inr other ↦ absurd (obeyed (pos, (λ c. let two : settings.version ≡ 2 = c.0 in elim other [ inl lt ↦ omega arith | inr gt ↦ omega arith ])))
+  ]
+  | inr not_down ↦ absurd (obeyed (pos, (λ c. not_down c.1)))
+]
+later_up_by log i settings event pos up obeyed = absurd (let d : false ≡ true = up in cc)
+
+pub each_follows_down : EachConnectionFollowsDown
+each_follows_down settings log run i pos lt up = later_up_by log i settings (entry_at log i).event pos up (obeys settings log run i lt NotUp)
+
+pub one_connection : OneConnectionInVersionOne
+one_connection settings log run one i lt up = elim (cases_lt 0 i) [
+  | inl pos ↦
+      let two : settings.version ≡ 2 = (each_follows_down settings log run i pos lt up).0 in
+      absurd (omega arith)
+  | inr le ↦ omega arith
+]
+
+pub none_over_up : NothingIsOpenOverUp
+none_over_up log j k i after before up h =
+    let n : is_up (entry_at log k).event ≡ false = on-no_up log j i h.earlier k after before in
+    let d : true ≡ false = sym up ∙ n in cc
 
 pub extends : LawfulEntryExtendsRun
 extends settings log entry run lawful_entry = run-push settings log entry run lawful_entry

@@ -1,6 +1,7 @@
 pub mod Mapped
 pub mod Least
 pub mod First
+pub mod Connection
 pub mod Steps
 pub mod Push
 pub mod SameFacts
@@ -8,6 +9,7 @@ pub mod Parts
 pub mod ViewsOfRuns
 pub mod Runs
 pub mod Lawful
+pub mod OneConnection
 pub mod Decided
 pub mod Timely
 pub mod Listed

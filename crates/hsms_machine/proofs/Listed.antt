@@ -1,72 +1,88 @@
 -- The entries of a view's lists are those at the open positions.
-use Rattle.std.proofs.Common.{◌≡◌, ℕ, zero, suc, ◌<◌, Bool, true, false, not, ◌&&◌, List, [], ◌∷◌, length, map, inl, inr, refl, sym, ap, subst, ◌∙◌, arith}
+use Rattle.std.proofs.Common.{◌≡◌, ℕ, zero, suc, ◌+◌, ◌<◌, Bool, true, false, not, ◌&&◌, List, [], ◌∷◌, length, map, inl, inr, refl, sym, ap, subst, ◌∙◌, arith, one-add}
 use Rattle.std.specs.List.{list_any}
 use Rattle.std.proofs.lemmas.Bool.{and_parts}
 use Rattle.hsms_machine.specs.declared.entry.Entry.{Entry}
-use Rattle.hsms_machine.specs.Entry.{entry_at}
+use Rattle.hsms_machine.specs.Entry.{entry_at, connection_of}
 use Rattle.hsms_machine.specs.Transaction.{opens, closes, IsOpen}
-use Rattle.hsms_machine.specs.Laws.{IsIn, Ascends, AreOpen, ViewListsWhatIsOpen}
+use Rattle.hsms_machine.specs.View.{open_entries}
+use Rattle.hsms_machine.specs.Laws.{IsIn, Ascends, ViewListsWhatIsOpen}
+use Rattle.hsms_machine.proofs.Connection.{IsFrom, connection-from, IsOpenIn, open-in, open-out}
 use Rattle.hsms_machine.proofs.ViewsOfRuns.{open_later, open_earlier, open_here, here_not_closed}
 
--- positions moved up by one
+-- positions moved up
+
+abbrev moved_by : ℕ → List ℕ → List ℕ
+moved_by start positions = map (λ n. start + n) positions
+
+in_moved : (start j : ℕ) (js : List ℕ) → IsIn j js → IsIn (start + j) (moved_by start js)
+in_moved start j [] h = absurd h
+in_moved start j (k ∷ ks) h = elim h [ inl e ↦ inl (ap (λ n. start + n) e) | inr i ↦ inr (in_moved start j ks i) ]
+
+from_moved : (start j : ℕ) (js : List ℕ) → IsIn j (moved_by start js) → (k : ℕ) × (j ≡ start + k) × IsIn k js
+from_moved start j [] h = absurd h
+from_moved start j (k ∷ ks) h = elim h [
+  | inl e ↦ (k, e, inl refl)
+  | inr i ↦ let r = from_moved start j ks i in (r.0, r.1, inr r.2)
+]
+
+ascends-moved : (start : ℕ) (js : List ℕ) → Ascends js → Ascends (moved_by start js)
+ascends-moved start [] h = tt
+ascends-moved start (j ∷ js) h = (
+  (λ k i.
+      let r = from_moved start k js i in
+      let lt : j < r.0 = h.0 r.0 r.2 in
+      let e : k ≡ start + r.0 = r.1 in
+      omega arith),
+  ascends-moved start js h.1,
+)
+
+-- entries of one list at positions that are moved, and of another where they are not
+entries-moved : (log entries : List Entry) (start : ℕ) → ((k : ℕ) → entry_at log (start + k) ≡ entry_at entries k) → (js : List ℕ) → map (entry_at log) (moved_by start js) ≡ map (entry_at entries) js
+entries-moved log entries start at [] = refl
+entries-moved log entries start at (j ∷ js) =
+    ap (λ x. x ∷ map (entry_at log) (moved_by start js)) (at j) ∙ ap (λ l. entry_at entries j ∷ l) (entries-moved log entries start at js)
 
 abbrev moved : List ℕ → List ℕ
-moved positions = map (λ n. suc n) positions
-
-in_moved : (j : ℕ) (js : List ℕ) → IsIn j js → IsIn (suc j) (moved js)
-in_moved j [] h = absurd h
-in_moved j (k ∷ ks) h = elim h [ inl e ↦ inl (ap (λ n. suc n) e) | inr i ↦ inr (in_moved j ks i) ]
-
-from_moved : (j : ℕ) (js : List ℕ) → IsIn j (moved js) → (k : ℕ) × (j ≡ suc k) × IsIn k js
-from_moved j [] h = absurd h
-from_moved j (k ∷ ks) h = elim h [
-  | inl e ↦ (k, e, inl refl)
-  | inr i ↦ let r = from_moved j ks i in (r.0, r.1, inr r.2)
-]
+moved positions = moved_by 1 positions
 
 above_zero : (js : List ℕ) (k : ℕ) → IsIn k (moved js) → 0 < k
 above_zero js k i =
-    let e : k ≡ suc (from_moved k js i).0 = (from_moved k js i).1 in
+    let e : k ≡ 1 + (from_moved 1 k js i).0 = (from_moved 1 k js i).1 in
     omega arith
 
-ascends-moved : (js : List ℕ) → Ascends js → Ascends (moved js)
-ascends-moved [] h = tt
-ascends-moved (j ∷ js) h = (
-  (λ k i.
-      let r = from_moved k js i in
-      let lt : j < r.0 = h.0 r.0 r.2 in
-      let e : k ≡ suc r.0 = r.1 in
-      omega arith),
-  ascends-moved js h.1,
-)
+-- ---- what is open in a list
 
-entries-moved : (x : Entry) (xs : List Entry) (js : List ℕ) → map (entry_at (x ∷ xs)) (moved js) ≡ map (entry_at xs) js
-entries-moved x xs [] = refl
-entries-moved x xs (j ∷ js) = ap (λ l. entry_at xs j ∷ l) (entries-moved x xs js)
+-- these are the positions of the list at which what is opened is not closed, in order
+record AreOpenIn (entries : List Entry) (positions : List ℕ) : Type 0 where
+  ascends : Ascends positions
+  all_open : (j : ℕ) → IsIn j positions → IsOpenIn entries j (length entries)
+  all_listed : (j : ℕ) → IsOpenIn entries j (length entries) → IsIn j positions
+  entries_are : open_entries entries ≡ map (entry_at entries) positions
 
 -- ---- one entry more at the front
 
-module _ (x : Entry) (xs : List Entry) (js : List ℕ) (listed : AreOpen xs js) where
+module _ (x : Entry) (xs : List Entry) (js : List ℕ) (listed : AreOpenIn xs js) where
   abbrev is_closed : Bool
   is_closed = list_any (λ other. closes x.event other.event) xs
 
-  later_open : (j : ℕ) → IsIn j (moved js) → IsOpen (x ∷ xs) j (length (x ∷ xs))
+  later_open : (j : ℕ) → IsIn j (moved js) → IsOpenIn (x ∷ xs) j (length (x ∷ xs))
   later_open j i =
-      let r = from_moved j js i in
-      subst (λ n. IsOpen (x ∷ xs) n (length (x ∷ xs))) (sym r.1) (open_later x xs r.0 (length xs) (listed.all_open r.0 r.2))
+      let r = from_moved 1 j js i in
+      subst (λ n. IsOpenIn (x ∷ xs) n (length (x ∷ xs))) (sym (r.1 ∙ one-add r.0)) (open_later x xs r.0 (length xs) (listed.all_open r.0 r.2))
 
-  later_listed : (j : ℕ) → IsOpen (x ∷ xs) (suc j) (length (x ∷ xs)) → IsIn (suc j) (moved js)
-  later_listed j h = in_moved j js (listed.all_listed j (open_earlier x xs j (length xs) h))
+  later_listed : (j : ℕ) → IsOpenIn (x ∷ xs) (suc j) (length (x ∷ xs)) → IsIn (suc j) (moved js)
+  later_listed j h = subst (λ n. IsIn n (moved js)) (one-add j) (in_moved 1 j js (listed.all_listed j (open_earlier x xs j (length xs) h)))
 
-  with_first : (opens x.event && not is_closed) ≡ true → AreOpen (x ∷ xs) (0 ∷ moved js)
+  with_first : (opens x.event && not is_closed) ≡ true → AreOpenIn (x ∷ xs) (0 ∷ moved js)
   with_first e = record {
-    ascends = (above_zero js, ascends-moved js listed.ascends);
+    ascends = (above_zero js, ascends-moved 1 js listed.ascends);
     all_open = λ j i. elim i [
-      | inl z ↦ subst (λ n. IsOpen (x ∷ xs) n (length (x ∷ xs))) (sym z) (open_here x xs parts.0 (closed_not is_closed parts.1))
+      | inl z ↦ subst (λ n. IsOpenIn (x ∷ xs) n (length (x ∷ xs))) (sym z) (open_here x xs parts.0 (closed_not is_closed parts.1))
       | inr i ↦ later_open j i
     ];
     all_listed = λ j. listed_at j;
-    entries = rw e (ap (λ l. x ∷ l) (listed.entries ∙ sym (entries-moved x xs js)));
+    entries_are = rw e (ap (λ l. x ∷ l) (listed.entries_are ∙ sym (entries-moved (x ∷ xs) xs 1 (λ k. ap (entry_at (x ∷ xs)) (one-add k)) js)));
   } where
     closed_not : (b : Bool) → not b ≡ true → b ≡ false
     closed_not true n = absurd (let d : false ≡ true = n in cc)
@@ -75,33 +91,55 @@ module _ (x : Entry) (xs : List Entry) (js : List ℕ) (listed : AreOpen xs js) 
     parts : (opens x.event ≡ true) × (not is_closed ≡ true)
     parts = and_parts (opens x.event) (not is_closed) e
 
-    listed_at : (j : ℕ) → IsOpen (x ∷ xs) j (length (x ∷ xs)) → IsIn j (0 ∷ moved js)
+    listed_at : (j : ℕ) → IsOpenIn (x ∷ xs) j (length (x ∷ xs)) → IsIn j (0 ∷ moved js)
     listed_at zero h = inl refl
     listed_at (suc j) h = inr (later_listed j h)
 
-  without_first : (opens x.event && not is_closed) ≡ false → AreOpen (x ∷ xs) (moved js)
+  without_first : (opens x.event && not is_closed) ≡ false → AreOpenIn (x ∷ xs) (moved js)
   without_first e = record {
-    ascends = ascends-moved js listed.ascends;
+    ascends = ascends-moved 1 js listed.ascends;
     all_open = later_open;
     all_listed = λ j. listed_at j;
-    entries = rw e (listed.entries ∙ sym (entries-moved x xs js));
+    entries_are = rw e (listed.entries_are ∙ sym (entries-moved (x ∷ xs) xs 1 (λ k. ap (entry_at (x ∷ xs)) (one-add k)) js));
   } where
-    listed_at : (j : ℕ) → IsOpen (x ∷ xs) j (length (x ∷ xs)) → IsIn j (moved js)
+    listed_at : (j : ℕ) → IsOpenIn (x ∷ xs) j (length (x ∷ xs)) → IsIn j (moved js)
     listed_at zero h =
         let o : opens x.event ≡ true = h.opened in
         let c : is_closed ≡ false = here_not_closed x xs h in
         absurd (let d : true ≡ false = sym (rw (o, c) refl) ∙ e in cc)
     listed_at (suc j) h = later_listed j h
 
-  by_first : (b : Bool) → (opens x.event && not is_closed) ≡ b → (positions : List ℕ) × AreOpen (x ∷ xs) positions
+  by_first : (b : Bool) → (opens x.event && not is_closed) ≡ b → (positions : List ℕ) × AreOpenIn (x ∷ xs) positions
   by_first true e = (0 ∷ moved js, with_first e)
   by_first false e = (moved js, without_first e)
 
-none_open : (j : ℕ) → IsOpen [] j 0 → IsIn j []
+none_open : (j : ℕ) → IsOpenIn [] j 0 → IsIn j []
 none_open j h = absurd (let lt : j < 0 = h.earlier in omega arith)
 
-pub lists_open : ViewListsWhatIsOpen
-lists_open [] = ([], record { ascends = tt; all_open = (λ j i. absurd i); all_listed = none_open; entries = refl })
-lists_open (x ∷ xs) =
-    let rest = lists_open xs in
+listed_in : (entries : List Entry) → (positions : List ℕ) × AreOpenIn entries positions
+listed_in [] = ([], record { ascends = tt; all_open = (λ j i. absurd i); all_listed = none_open; entries_are = refl })
+listed_in (x ∷ xs) =
+    let rest = listed_in xs in
     by_first x xs rest.0 rest.1 (opens x.event && not (list_any (λ other. closes x.event other.event) xs)) refl
+
+-- ---- what is open on the connection
+
+pub lists_open : ViewListsWhatIsOpen
+lists_open log =
+    let connection = connection_of log in
+    let start = (connection-from log).0 in
+    let from : IsFrom log connection start = (connection-from log).1 in
+    let js = (listed_in connection).0 in
+    let listed : AreOpenIn connection js = (listed_in connection).1 in (
+      moved_by start js,
+      record {
+        ascends = ascends-moved start js listed.ascends;
+        all_open = λ j i.
+            let r = from_moved start j js i in
+            subst (λ n. IsOpen log n (length log)) (sym r.1) (open-out log connection start from r.0 (listed.all_open r.0 r.2));
+        all_listed = λ j h.
+            let r = open-in log connection start from j h in
+            subst (λ n. IsIn n (moved_by start js)) (sym r.1) (in_moved start r.0 js (listed.all_listed r.0 r.2));
+        entries = listed.entries_are ∙ sym (entries-moved log connection start from.at js);
+      },
+    )

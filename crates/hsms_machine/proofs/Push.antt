@@ -10,13 +10,16 @@ use Rattle.hsms_machine.specs.declared.entry.Entry.{Entry}
 use Rattle.hsms_machine.specs.declared.entry.Event.{Event}
 use Rattle.hsms_machine.specs.declared.entry.Event.TheVariants.{Up, Sent, Taken, T3}
 use Rattle.hsms_machine.specs.declared.open.Transaction.{Transaction}
+use Rattle.hsms_machine.specs.declared.phase.Phase.{Phase}
+use Rattle.hsms_machine.specs.declared.phase.Phase.TheVariants.{NotSelected}
 use Rattle.hsms_machine.specs.Settings.{Parameters}
-use Rattle.hsms_machine.specs.Entry.{entry_at, is_up, is_down}
+use Rattle.hsms_machine.specs.Entry.{entry_at, is_up, is_down, connection_of}
 use Rattle.hsms_machine.specs.Message.{is_data_request, is_control_request}
 use Rattle.hsms_machine.specs.Transaction.{Pool, SentData, SentControl, TakenData, TakenControl, opens, closes, opened_as, opened_as_at}
 use Rattle.hsms_machine.specs.Session.{selects, ends_session}
-use Rattle.hsms_machine.specs.View.{open_entries, open_of, phase_by, phase_of, up_time_of, view_of}
+use Rattle.hsms_machine.specs.View.{open_entries, open_of, phase_by, phase_in, phase_of, up_time_of, view_of}
 use Rattle.hsms_machine.specs.Step.{phase_after, is_gone, is_over, is_selected, view_after, is_closed_by, pool_after}
+use Rattle.hsms_machine.proofs.Connection.{connection-push}
 use Rattle.hsms_machine.proofs.Steps.{control_not_data}
 
 phase_by-after : (D O S d o s : Bool) → phase_by (D || (d || false)) (O || (o || false)) (S || (s || false)) ≡ phase_by (is_gone (phase_by D O S) || d) (is_over (phase_by D O S) || o) (is_selected (phase_by D O S) || s)
@@ -37,14 +40,30 @@ phase_by-first false true s = refl
 phase_by-first false false true = refl
 phase_by-first false false false = refl
 
-pub phase-push : (log : List Entry) (entry : Entry) → phase_of (log ++ entry ∷ []) ≡ phase_after (phase_of log) entry.event
-phase-push [] entry = phase_by-first (is_down entry.event) (ends_session entry.event) (selects entry.event)
-phase-push (x ∷ xs) entry =
+-- the phase after an entry of the same connection
+abbrev phase_kept : Phase → Event → Phase
+phase_kept phase event =
+    phase_by (is_gone phase || is_down event) (is_over phase || ends_session event) (is_selected phase || selects event)
+
+phase_in-push : (entries : List Entry) (entry : Entry) → phase_in (entries ++ entry ∷ []) ≡ phase_kept (phase_in entries) entry.event
+phase_in-push [] entry = phase_by-first (is_down entry.event) (ends_session entry.event) (selects entry.event)
+phase_in-push (x ∷ xs) entry =
     let down = list_any-append (λ (other : Entry). is_down other.event) (x ∷ xs) (entry ∷ []) in
     let over = list_any-append (λ (other : Entry). ends_session other.event) (x ∷ xs) (entry ∷ []) in
     let selected = list_any-append (λ (other : Entry). selects other.event) (x ∷ xs) (entry ∷ []) in
     rw (down, over, selected)
     (phase_by-after (list_any (λ other. is_down other.event) (x ∷ xs)) (list_any (λ other. ends_session other.event) (x ∷ xs)) (list_any (λ other. selects other.event) (x ∷ xs)) (is_down entry.event) (ends_session entry.event) (selects entry.event))
+
+up_phase : (time : ℕ) (event : Event) → is_up event ≡ true → phase_in (record { time = time; event = event } ∷ []) ≡ NotSelected
+up_phase time Up u = refl
+up_phase time event u = absurd (let d : false ≡ true = u in cc)
+
+phase-case : (connection : List Entry) (entry : Entry) (b : Bool) → is_up entry.event ≡ b → phase_in (cond b (entry ∷ []) (connection ++ entry ∷ [])) ≡ cond b NotSelected (phase_kept (phase_in connection) entry.event)
+phase-case connection entry true u = up_phase entry.time entry.event u
+phase-case connection entry false u = phase_in-push connection entry
+
+pub phase-push : (log : List Entry) (entry : Entry) → phase_of (log ++ entry ∷ []) ≡ phase_after (phase_of log) entry.event
+phase-push log entry = ap phase_in (connection-push log entry) ∙ phase-case (connection_of log) entry (is_up entry.event) refl
 
 pub up_time-push : (log : List Entry) (entry : Entry) → up_time_of (log ++ entry ∷ []) ≡ cond (is_up entry.event) entry.time (up_time_of log)
 up_time-push log entry = fold-append (λ time (other : Entry). cond (is_up other.event) other.time time) 0 log (entry ∷ [])
@@ -143,12 +162,30 @@ new-case : (pool : Pool) (x : Entry) (b : Bool) → opens x.event ≡ b → filt
 new-case pool x true e = elim (opened_as pool x) as (λ o. cons_option o [] ≡ option_to_list o) [ None ↦ refl | Some t ↦ refl ]
 new-case pool x false e = rw (opens_none pool x.time x.event e) refl
 
+-- the open transactions of the pool after an entry of the same connection
+abbrev pool_kept : Pool → List Transaction → Entry → List Transaction
+pool_kept pool opened entry = filter (λ transaction. not (is_closed_by pool entry.event transaction)) opened ++ option_to_list (opened_as pool entry)
+
+opened-push : (pool : Pool) (entries : List Entry) (entry : Entry) → filter_map (opened_as pool) (open_entries (entries ++ entry ∷ [])) ≡ pool_kept pool (filter_map (opened_as pool) (open_entries entries)) entry
+opened-push pool entries entry =
+    let kept = filter (λ other. not (closes other.event entry.event)) (open_entries entries) in
+    let more = cond (opens entry.event) (entry ∷ []) [] in
+    ap (filter_map (opened_as pool)) (open_entries-push entries entry)
+    ∙ filter_map-append (opened_as pool) kept more
+    ∙ ap (λ l. l ++ filter_map (opened_as pool) more) (filter_map-kept pool entry.event (open_entries entries))
+    ∙ ap (λ l. filter (λ transaction. not (is_closed_by pool entry.event transaction)) (filter_map (opened_as pool) (open_entries entries)) ++ l) (new-case pool entry (opens entry.event) refl)
+
+up_opened : (pool : Pool) (time : ℕ) (event : Event) → is_up event ≡ true → filter_map (opened_as pool) (open_entries (record { time = time; event = event } ∷ [])) ≡ []
+up_opened pool time Up u = refl
+up_opened pool time event u = absurd (let d : false ≡ true = u in cc)
+
+opened-case : (pool : Pool) (connection : List Entry) (entry : Entry) (b : Bool) → is_up entry.event ≡ b → filter_map (opened_as pool) (open_entries (cond b (entry ∷ []) (connection ++ entry ∷ []))) ≡ cond b [] (pool_kept pool (filter_map (opened_as pool) (open_entries connection)) entry)
+opened-case pool connection entry true u = up_opened pool entry.time entry.event u
+opened-case pool connection entry false u = opened-push pool connection entry
+
 pub pool-push : (pool : Pool) (log : List Entry) (entry : Entry) → open_of pool (log ++ entry ∷ []) ≡ pool_after pool (open_of pool log) entry
 pool-push pool log entry =
-    ap (filter_map (opened_as pool)) (open_entries-push log entry)
-    ∙ filter_map-append (opened_as pool) (filter (λ other. not (closes other.event entry.event)) (open_entries log)) (cond (opens entry.event) (entry ∷ []) [])
-    ∙ ap (λ l. l ++ filter_map (opened_as pool) (cond (opens entry.event) (entry ∷ []) [])) (filter_map-kept pool entry.event (open_entries log))
-    ∙ ap (λ l. filter (λ transaction. not (is_closed_by pool entry.event transaction)) (open_of pool log) ++ l) (new-case pool entry (opens entry.event) refl)
+    ap (λ entries. filter_map (opened_as pool) (open_entries entries)) (connection-push log entry) ∙ opened-case pool (connection_of log) entry (is_up entry.event) refl
 
 -- the view of a log with one more entry
 pub view-push : (settings : Parameters) (log : List Entry) (entry : Entry) → view_of settings (log ++ entry ∷ []) ≡ view_after (view_of settings log) entry

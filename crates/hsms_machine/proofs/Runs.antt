@@ -9,42 +9,44 @@ use Rattle.hsms_machine.specs.declared.open.Transaction.{Transaction}
 use Rattle.hsms_machine.specs.Settings.{Parameters}
 use Rattle.hsms_machine.specs.Entry.{entry_at, SomeBefore, is_up, is_down}
 use Rattle.hsms_machine.specs.Transaction.{Pool, opens, closes, opened_as, IsOpen, passes, SomeOpen}
-use Rattle.hsms_machine.specs.Session.{facts_before, selects, ends_session}
+use Rattle.hsms_machine.specs.Session.{FollowsDown, facts_before, selects, ends_session}
 use Rattle.hsms_machine.specs.Rule.{Breaks, IsFirst, all_rules}
 use Rattle.hsms_machine.specs.Run.{Broken, IsRun}
 use Rattle.hsms_machine.specs.View.{view_of, HasView, HasRun, ForEachRun}
 use Rattle.hsms_machine.specs.Step.{view_after, facts_of}
 use Rattle.hsms_machine.specs.declared.view.View.{View}
 use Rattle.hsms_machine.proofs.First.{none_is}
+use Rattle.hsms_machine.proofs.Connection.{SameBefore, on-before, on-same}
 use Rattle.hsms_machine.proofs.Push.{view-push}
 use Rattle.hsms_machine.proofs.SameFacts.{Alike, first_broken-alike}
 use Rattle.hsms_machine.proofs.ViewsOfRuns.{broken-view}
 
--- two logs have the same entries before position i
-abbrev pub SameBefore : List Entry → List Entry → ℕ → Type 0
-SameBefore log other i = (k : ℕ) → k < i → entry_at log k ≡ entry_at other k
-
 module _ (log other : List Entry) (i : ℕ) (same : SameBefore log other i) where
   pub some-same : (test : Entry → Bool) → SomeBefore log i test → SomeBefore other i test
-  some-same test s = (s.0, s.1, subst (λ x. test x ≡ true) (same s.0 s.1) s.2)
+  some-same test s = (s.0, on-same log other i same s.0 s.1, subst (λ x. test x ≡ true) (same s.0 (on-before log s.0 i s.1)) s.2)
 
   past-same : (time : ℕ) → (facts_before log i).IsPast time → (facts_before other i).IsPast time
   past-same time s =
       let lt : s.0 < i = (let e : s.0 + 1 ≡ i = s.1 in omega arith) in
       (s.0, s.1, subst (λ x. time < x.time) (same s.0 lt) s.2)
 
+  follows-same : FollowsDown log i → FollowsDown other i
+  follows-same s =
+      let lt : s.0 < i = (let e : s.0 + 1 ≡ i = s.1 in omega arith) in
+      (s.0, s.1, subst (λ x. is_down x.event ≡ true) (same s.0 lt) s.2)
+
   pub open-same : (j : ℕ) → IsOpen log j i → IsOpen other j i
   open-same j h =
-      let at_j = same j h.earlier in
+      let at_j = same j (on-before log j i h.earlier) in
       record {
         opened = subst (λ x. opens x.event ≡ true) at_j h.opened;
-        earlier = h.earlier;
+        earlier = on-same log other i same j h.earlier;
         not_closed = λ k lt gt c.
             h.not_closed k lt gt (subst (λ x. closes x.event (entry_at log k).event ≡ true) (sym at_j) (subst (λ y. closes (entry_at other j).event y.event ≡ true) (sym (same k gt)) c));
       }
 
   pub some_open-same : (pool : Pool) (test : Transaction → Bool) → SomeOpen log i pool test → SomeOpen other i pool test
-  some_open-same pool test s = (s.0, open-same s.0 s.1, subst (λ x. passes test (opened_as pool x) ≡ true) (same s.0 s.1.earlier) s.2)
+  some_open-same pool test s = (s.0, open-same s.0 s.1, subst (λ x. passes test (opened_as pool x) ≡ true) (same s.0 (on-before log s.0 i s.1.earlier)) s.2)
 
 pub same-sym : (log other : List Entry) (i : ℕ) → SameBefore log other i → SameBefore other log i
 same-sym log other i same k lt = sym (same k lt)
@@ -59,6 +61,7 @@ facts-same log other i same =
         entry = ((λ lt. lt), (λ lt. lt));
         up = (some-same log other i same (λ entry. is_up entry.event), some-same other log i back (λ entry. is_up entry.event));
         down = (some-same log other i same (λ entry. is_down entry.event), some-same other log i back (λ entry. is_down entry.event));
+        follows = (follows-same log other i same, follows-same other log i back);
       };
       up_since = λ test. (some-same log other i same (λ entry. is_up entry.event && test entry.time), some-same other log i back (λ entry. is_up entry.event && test entry.time));
       selected = (some-same log other i same (λ entry. selects entry.event), some-same other log i back (λ entry. selects entry.event));

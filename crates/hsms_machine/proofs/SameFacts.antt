@@ -12,7 +12,7 @@ use Rattle.hsms_machine.specs.declared.open.Transaction.{Transaction}
 use Rattle.hsms_machine.specs.Settings.{Parameters}
 use Rattle.hsms_machine.specs.Transaction.{Pool, SentData, SentControl, TakenData, TakenControl, answers}
 use Rattle.hsms_machine.specs.Session.{Facts}
-use Rattle.hsms_machine.specs.Timer.{IsT3Overdue, IsT6Overdue, IsT7Overdue, IsCutNotDue, IsNotDue}
+use Rattle.hsms_machine.specs.Timer.{IsTimed, IsT3Overdue, IsT6Overdue, IsT7Overdue, IsCutNotDue, IsNotDue}
 use Rattle.hsms_machine.specs.Rule.{Breaks, EventBreaks, FrameBreaks, SomeOpenOf, opposite, IsNotUp, IsNoCause, IsFirst, needs_session, all_rules, timer_rules, format_rules, transaction_rules}
 use Rattle.hsms_machine.specs.declared.open.Flow.{Flow}
 use Rattle.hsms_machine.specs.declared.open.Flow.TheVariants.{Outgoing, Incoming}
@@ -24,6 +24,7 @@ pub record OrderAlike (F G : Facts) : Type 0 where
   pub entry : F.HasEntry ↔ G.HasEntry
   pub up : F.HasUp ↔ G.HasUp
   pub down : F.HasDown ↔ G.HasDown
+  pub follows : F.FollowsDown ↔ G.FollowsDown
 
 pub record Alike (F G : Facts) : Type 0 where
   pub order : OrderAlike F G
@@ -38,6 +39,7 @@ order_alike-sym F G h = record {
   entry = (h.entry.1, h.entry.0);
   up = (h.up.1, h.up.0);
   down = (h.down.1, h.down.0);
+  follows = (h.follows.1, h.follows.0);
 }
 
 pub alike-sym : (F G : Facts) → Alike F G → Alike G F
@@ -49,15 +51,15 @@ alike-sym F G h = record {
   some_open = λ pool test. ((h.some_open pool test).1, (h.some_open pool test).0);
 }
 
-not_up-alike : (F G : Facts) → OrderAlike F G → (event : Event) → IsNotUp F event → IsNotUp G event
-not_up-alike F G h Up b = h.entry.0 b
-not_up-alike F G h event b = elim b [ inl e ↦ inl (λ u. e (h.up.1 u)) | inr d ↦ inr (h.down.0 d) ]
+not_up-alike : (F G : Facts) → OrderAlike F G → (settings : Parameters) (event : Event) → IsNotUp F settings event → IsNotUp G settings event
+not_up-alike F G h settings Up b = (h.entry.0 b.0, (λ c. b.1 (c.0, h.follows.1 c.1)))
+not_up-alike F G h settings event b = elim b [ inl e ↦ inl (λ u. e (h.up.1 u)) | inr d ↦ inr (h.down.0 d) ]
 
 pub backwards-alike : (F G : Facts) → OrderAlike F G → (settings : Parameters) (entry : Entry) → Breaks F settings entry Backwards → Breaks G settings entry Backwards
 backwards-alike F G h settings entry b = (h.past entry.time).0 b
 
 pub breaks_up-alike : (F G : Facts) → OrderAlike F G → (settings : Parameters) (entry : Entry) → Breaks F settings entry NotUp → Breaks G settings entry NotUp
-breaks_up-alike F G h settings entry b = not_up-alike F G h entry.event b
+breaks_up-alike F G h settings entry b = not_up-alike F G h settings entry.event b
 
 some_of-alike : (F G : Facts) → Alike F G → (flow : Flow) (test : Transaction → Bool) → SomeOpenOf F flow test → SomeOpenOf G flow test
 some_of-alike F G h Outgoing test b = elim b [ inl p ↦ inl ((h.some_open SentData test).0 p) | inr q ↦ inr ((h.some_open SentControl test).0 q) ]
@@ -71,13 +73,16 @@ frame-alike F G h settings flow frame NoTransaction b =
 frame-alike F G h settings flow frame SelectStatus b = (b.0, h.selected.0 b.1)
 frame-alike F G h settings flow frame r b = b
 
+timed-alike : (F G : Facts) → Alike F G → IsTimed F → IsTimed G
+timed-alike F G h b = ((λ o. b.0 (h.over.1 o)), (λ d. b.1 (h.order.follows.1 d)))
+
 t3-alike : (F G : Facts) → Alike F G → (settings : Parameters) (time : ℕ) → IsT3Overdue F settings time → IsT3Overdue G settings time
-t3-alike F G h settings time b = ((λ o. b.0 (h.over.1 o)), (h.some_open SentData (λ opened. nat_lt settings.t3 (time - opened.time))).0 b.1)
+t3-alike F G h settings time b = (timed-alike F G h b.0, (h.some_open SentData (λ opened. nat_lt settings.t3 (time - opened.time))).0 b.1)
 
 link-alike : (F G : Facts) → Alike F G → (settings : Parameters) (time : ℕ) → (IsT6Overdue F settings time ⊎ IsT7Overdue F settings time) → IsT6Overdue G settings time ⊎ IsT7Overdue G settings time
 link-alike F G h settings time b = elim b [
-  | inl p ↦ inl ((λ o. p.0 (h.over.1 o)), (h.some_open SentControl (λ opened. nat_lt settings.t6 (time - opened.time))).0 p.1)
-  | inr q ↦ inr ((λ o. q.0 (h.over.1 o)), (λ s. q.1 (h.selected.1 s)), (h.up_since (λ up. nat_lt settings.t7 (time - up))).0 q.2)
+  | inl p ↦ inl (timed-alike F G h p.0, (h.some_open SentControl (λ opened. nat_lt settings.t6 (time - opened.time))).0 p.1)
+  | inr q ↦ inr (timed-alike F G h q.0, (λ s. q.1 (h.selected.1 s)), (h.up_since (λ up. nat_lt settings.t7 (time - up))).0 q.2)
 ]
 
 cut-alike : (F G : Facts) → Alike F G → (settings : Parameters) (time : ℕ) (cause : Cause) → IsCutNotDue F settings time cause → IsCutNotDue G settings time cause
@@ -103,7 +108,7 @@ event-alike F G h settings event r b = absurd b
 
 pub breaks-alike : (F G : Facts) → Alike F G → (settings : Parameters) (entry : Entry) (r : Rule) → Breaks F settings entry r → Breaks G settings entry r
 breaks-alike F G h settings entry Backwards b = (h.order.past entry.time).0 b
-breaks-alike F G h settings entry NotUp b = not_up-alike F G h.order entry.event b
+breaks-alike F G h settings entry NotUp b = not_up-alike F G h.order settings entry.event b
 breaks-alike F G h settings entry Ended b = (b.0, h.over.0 b.1)
 breaks-alike F G h settings entry T3Overdue b = (b.0, t3-alike F G h settings entry.time b.1)
 breaks-alike F G h settings entry LinkOverdue b = (b.0, link-alike F G h settings entry.time b.1)
@@ -141,13 +146,17 @@ late_rules = timer_rules ++ (format_rules ++ (transaction_rules ++ NoCause ∷ [
 
 -- once the session is over, an event that needs none breaks no rule but those of order
 late_by : (F : Facts) → F.IsOver → (settings : Parameters) (time : ℕ) (event : Event) → needs_session event ≡ false → Never (Breaks F settings (record { time = time; event = event })) late_rules
-late_by F over settings time Up e = ((λ b. b.1.0 over), ((λ b. elim b.1 [ inl p ↦ p.0 over | inr q ↦ q.0 over ]), ((λ b. b), ((λ b. b), ((λ b. b), ((λ b. b), ((λ b. b), ((λ b. b), ((λ b. b), ((λ b. b), ((λ b. b), ((λ b. b), ((λ b. b), ((λ b. b), ((λ b. b), ((λ b. b), tt))))))))))))))))
-late_by F over settings time Down e = ((λ b. b.1.0 over), ((λ b. elim b.1 [ inl p ↦ p.0 over | inr q ↦ q.0 over ]), ((λ b. b), ((λ b. b), ((λ b. b), ((λ b. b), ((λ b. b), ((λ b. b), ((λ b. b), ((λ b. b), ((λ b. b), ((λ b. b), ((λ b. b), ((λ b. b), ((λ b. b), ((λ b. b), tt))))))))))))))))
-late_by F over settings time (Discarded frame) e = ((λ b. b.1.0 over), ((λ b. elim b.1 [ inl p ↦ p.0 over | inr q ↦ q.0 over ]), ((λ b. b), ((λ b. b), ((λ b. b), ((λ b. b), ((λ b. b), ((λ b. b), ((λ b. b), ((λ b. b), ((λ b. b), ((λ b. b), ((λ b. b), ((λ b. b), ((λ b. b), ((λ b. b.0 over), tt))))))))))))))))
+late_by F over settings time Up e = ((λ b. b.1.0.0 over), ((λ b. elim b.1 [ inl p ↦ p.0.0 over | inr q ↦ q.0.0 over ]), ((λ b. b), ((λ b. b), ((λ b. b), ((λ b. b), ((λ b. b), ((λ b. b), ((λ b. b), ((λ b. b), ((λ b. b), ((λ b. b), ((λ b. b), ((λ b. b), ((λ b. b), ((λ b. b), tt))))))))))))))))
+late_by F over settings time Down e = ((λ b. b.1.0.0 over), ((λ b. elim b.1 [ inl p ↦ p.0.0 over | inr q ↦ q.0.0 over ]), ((λ b. b), ((λ b. b), ((λ b. b), ((λ b. b), ((λ b. b), ((λ b. b), ((λ b. b), ((λ b. b), ((λ b. b), ((λ b. b), ((λ b. b), ((λ b. b), ((λ b. b), ((λ b. b), tt))))))))))))))))
+late_by F over settings time (Discarded frame) e = ((λ b. b.1.0.0 over), ((λ b. elim b.1 [ inl p ↦ p.0.0 over | inr q ↦ q.0.0 over ]), ((λ b. b), ((λ b. b), ((λ b. b), ((λ b. b), ((λ b. b), ((λ b. b), ((λ b. b), ((λ b. b), ((λ b. b), ((λ b. b), ((λ b. b), ((λ b. b), ((λ b. b), ((λ b. b.0 over), tt))))))))))))))))
 late_by F over settings time event e = absurd (let d : true ≡ false = e in cc)
 
 pub late : (F : Facts) → F.IsOver → (settings : Parameters) (entry : Entry) → needs_session entry.event ≡ false → Never (Breaks F settings entry) late_rules
 late F over settings entry e = late_by F over settings entry.time entry.event e
+
+-- directly after `down`, an `up` breaks no rule but those of order
+late_up : (F : Facts) → F.FollowsDown → (settings : Parameters) (time : ℕ) → Never (Breaks F settings (record { time = time; event = Up })) late_rules
+late_up F down settings time = ((λ b. b.1.0.1 down), ((λ b. elim b.1 [ inl p ↦ p.0.1 down | inr q ↦ q.0.1 down ]), ((λ b. b), ((λ b. b), ((λ b. b), ((λ b. b), ((λ b. b), ((λ b. b), ((λ b. b), ((λ b. b), ((λ b. b), ((λ b. b), ((λ b. b), ((λ b. b), ((λ b. b), ((λ b. b), tt))))))))))))))))
 
 bool_cases : (b : Bool) → (b ≡ true) ⊎ (b ≡ false)
 bool_cases true = inl refl
@@ -194,3 +203,49 @@ down_alike F G h settings entry broken a b =
         ],
       )
     ]
+
+-- where an event that needs no session can break no rule but those of order, these decide
+quiet_alike : (F G : Facts) → OrderAlike F G → (settings : Parameters) (entry : Entry) → needs_session entry.event ≡ false → Never (Breaks F settings entry) late_rules → Never (Breaks G settings entry) late_rules → (a : Option Rule) → IsFirst (Breaks F settings entry) all_rules a → IsFirst (Breaks G settings entry) all_rules a
+quiet_alike F G h settings entry needs f g a b =
+    let back = order_alike-sym F G h in
+    elim b [
+      | inl p ↦ inl (backwards-alike F G h settings entry p.0, p.1)
+      | inr q ↦ inr (
+        (λ x. q.0 (backwards-alike G F back settings entry x)),
+        elim q.1 as (λ u. IsFirst (Breaks G settings entry) (NotUp ∷ Ended ∷ late_rules) a) [
+          | inl p ↦ inl (breaks_up-alike F G h settings entry p.0, p.1)
+          | inr r ↦ inr (
+            (λ x. r.0 (breaks_up-alike G F back settings entry x)),
+            elim r.1 as (λ u. IsFirst (Breaks G settings entry) (Ended ∷ late_rules) a) [
+              | inl p ↦ absurd (let d : true ≡ false = sym p.0.0 ∙ needs in cc)
+              | inr s ↦
+                  let none : a ≡ None = never_none (Breaks F settings entry) late_rules a f s.1 in
+                  let never : Breaks G settings entry Ended → ⊥ = λ x. (let d : true ≡ false = sym x.0 ∙ needs in cc) in
+                  inr (never, subst (λ c. IsFirst (Breaks G settings entry) late_rules c) (sym none) (none_never (Breaks G settings entry) late_rules g))
+            ],
+          )
+        ],
+      )
+    ]
+
+-- directly after `down`, the facts of order decide
+module _ (F G : Facts) (h : OrderAlike F G) (down : F.HasDown) (f : F.FollowsDown) (g : G.FollowsDown) (settings : Parameters) where
+  gone_at : (time : ℕ) (event : Event) (a : Option Rule) → IsFirst (Breaks F settings (record { time = time; event = event })) all_rules a → IsFirst (Breaks G settings (record { time = time; event = event })) all_rules a
+  gone_at time Up a b = quiet_alike F G h settings (record { time = time; event = Up }) refl (late_up F f settings time) (late_up G g settings time) a b
+  gone_at time event a b = down_alike F G h settings (record { time = time; event = event }) (inr down) a b
+
+  pub gone_alike : (entry : Entry) (a : Option Rule) → IsFirst (Breaks F settings entry) all_rules a → IsFirst (Breaks G settings entry) all_rules a
+  gone_alike entry a b = gone_at entry.time entry.event a b
+
+-- where each of the two says that the connection is not up, the first two rules decide
+pub barred_alike : (F G : Facts) → ((time : ℕ) → F.IsPast time ↔ G.IsPast time) → (settings : Parameters) (entry : Entry) → Breaks F settings entry NotUp → Breaks G settings entry NotUp → (a : Option Rule) → IsFirst (Breaks F settings entry) all_rules a → IsFirst (Breaks G settings entry) all_rules a
+barred_alike F G past settings entry f g a b = elim b [
+  | inl p ↦ inl ((past entry.time).0 p.0, p.1)
+  | inr q ↦ inr (
+    (λ x. q.0 ((past entry.time).1 x)),
+    elim q.1 as (λ u. IsFirst (Breaks G settings entry) (NotUp ∷ Ended ∷ late_rules) a) [
+      | inl p ↦ inl (g, p.1)
+      | inr r ↦ absurd (r.0 f)
+    ],
+  )
+]

@@ -10,7 +10,7 @@ use Rattle.hsms_machine.specs.declared.entry.Entry.{Entry}
 use Rattle.hsms_machine.specs.declared.entry.Event.{Event}
 use Rattle.hsms_machine.specs.declared.entry.Event.TheVariants.{Sent, Taken, Discarded, T3}
 use Rattle.hsms_machine.specs.declared.act.Act.{Act}
-use Rattle.hsms_machine.specs.declared.act.Act.TheVariants.{Sent as ActSent, Taken as ActTaken, T3 as ActT3}
+use Rattle.hsms_machine.specs.declared.act.Act.TheVariants.{Up as ActUp, Sent as ActSent, Taken as ActTaken, T3 as ActT3}
 use Rattle.hsms_machine.specs.declared.rule.Rule.{Rule}
 use Rattle.hsms_machine.specs.declared.rule.Rule.TheVariants.{TooLong, PType, SType, ControlText, Session, Direction, NotSelected, WBit, Text, SystemInUse, NoTransaction, SelectStatus, NoCause}
 use Rattle.hsms_machine.specs.declared.open.Transaction.{Transaction}
@@ -166,20 +166,21 @@ sent_data-t3 xs time system = append-nil (filter (λ opened. not (opened.header.
 pub pool-idle : (xs : List Transaction) → filter (λ (transaction : Transaction). not false) xs ++ [] ≡ xs
 pool-idle xs = append-nil (filter (λ transaction. not false) xs) ∙ keep_all (λ transaction. not false) (λ x. refl) xs
 
-pool-quiet : (pool : Pool) (xs : List Transaction) (time : ℕ) (act : Act) → ((header : Header) → act ≡ ActSent header → ⊥) → ((header : Header) → act ≡ ActTaken header → ⊥) → ((system : ℕ) → act ≡ ActT3 system → ⊥) → pool_after pool xs (entry_of time act []) ≡ xs
-pool-quiet pool xs time (ActSent header) sent taken t3 = absurd (sent header refl)
-pool-quiet pool xs time (ActTaken header) sent taken t3 = absurd (taken header refl)
-pool-quiet pool xs time (ActT3 system) sent taken t3 = absurd (t3 system refl)
-pool-quiet SentData xs time act sent taken t3 = pool-idle xs
-pool-quiet SentControl xs time act sent taken t3 = pool-idle xs
-pool-quiet TakenData xs time act sent taken t3 = pool-idle xs
-pool-quiet TakenControl xs time act sent taken t3 = pool-idle xs
+pool-quiet : (pool : Pool) (xs : List Transaction) (time : ℕ) (act : Act) → (act ≡ ActUp → ⊥) → ((header : Header) → act ≡ ActSent header → ⊥) → ((header : Header) → act ≡ ActTaken header → ⊥) → ((system : ℕ) → act ≡ ActT3 system → ⊥) → pool_after pool xs (entry_of time act []) ≡ xs
+pool-quiet pool xs time ActUp up sent taken t3 = absurd (up refl)
+pool-quiet pool xs time (ActSent header) up sent taken t3 = absurd (sent header refl)
+pool-quiet pool xs time (ActTaken header) up sent taken t3 = absurd (taken header refl)
+pool-quiet pool xs time (ActT3 system) up sent taken t3 = absurd (t3 system refl)
+pool-quiet SentData xs time act up sent taken t3 = pool-idle xs
+pool-quiet SentControl xs time act up sent taken t3 = pool-idle xs
+pool-quiet TakenData xs time act up sent taken t3 = pool-idle xs
+pool-quiet TakenControl xs time act up sent taken t3 = pool-idle xs
 
 -- what neither opens nor closes a transaction leaves the pools
-pub view-quiet : (view : View) (time : ℕ) (act : Act) → ((header : Header) → act ≡ ActSent header → ⊥) → ((header : Header) → act ≡ ActTaken header → ⊥) → ((system : ℕ) → act ≡ ActT3 system → ⊥) → view ≡ record view { sent_data = pool_after SentData view.sent_data (entry_of time act []); sent_control = pool_after SentControl view.sent_control (entry_of time act []); taken_data = pool_after TakenData view.taken_data (entry_of time act []); taken_control = pool_after TakenControl view.taken_control (entry_of time act []) }
-view-quiet view time act sent taken t3 =
-    let e1 = pool-quiet SentData view.sent_data time act sent taken t3 in
-    let e2 = pool-quiet SentControl view.sent_control time act sent taken t3 in
-    let e3 = pool-quiet TakenData view.taken_data time act sent taken t3 in
-    let e4 = pool-quiet TakenControl view.taken_control time act sent taken t3 in
+pub view-quiet : (view : View) (time : ℕ) (act : Act) → (act ≡ ActUp → ⊥) → ((header : Header) → act ≡ ActSent header → ⊥) → ((header : Header) → act ≡ ActTaken header → ⊥) → ((system : ℕ) → act ≡ ActT3 system → ⊥) → view ≡ record view { sent_data = pool_after SentData view.sent_data (entry_of time act []); sent_control = pool_after SentControl view.sent_control (entry_of time act []); taken_data = pool_after TakenData view.taken_data (entry_of time act []); taken_control = pool_after TakenControl view.taken_control (entry_of time act []) }
+view-quiet view time act up sent taken t3 =
+    let e1 = pool-quiet SentData view.sent_data time act up sent taken t3 in
+    let e2 = pool-quiet SentControl view.sent_control time act up sent taken t3 in
+    let e3 = pool-quiet TakenData view.taken_data time act up sent taken t3 in
+    let e4 = pool-quiet TakenControl view.taken_control time act up sent taken t3 in
     rw (e1, e2, e3, e4) refl

@@ -10,6 +10,7 @@ use Rattle.hsms_machine.specs.Message.{is_data_request, is_control_request}
 use Rattle.hsms_machine.specs.Transaction.{Pool, SentData, SentControl, TakenData, TakenControl, opened_as, opened_as_at}
 use Rattle.hsms_machine.specs.Rule.{Breaks, IsFirst, all_rules}
 use Rattle.hsms_machine.specs.Settings.{Parameters}
+use Rattle.hsms_machine.specs.Entry.{is_up, connection_of}
 use Rattle.hsms_machine.specs.View.{view_of}
 use Rattle.hsms_machine.specs.Step.{facts_of, is_closed_by, pool_after, view_after, IsUntil}
 use Rattle.hsms_machine.specs.Ordered.{AreUntil}
@@ -64,9 +65,15 @@ until-opened TakenControl time (Taken frame) = until-opened_by time frame.header
 until-opened pool time event = tt
 
 until-pool : (pool : Pool) (xs : List Transaction) (entry : Entry) → AreUntil entry.time xs → AreUntil entry.time (pool_after pool xs entry)
-until-pool pool xs entry h =
-    until-append entry.time (filter (λ opened. not (is_closed_by pool entry.event opened)) xs) (option_to_list (opened_as pool entry))
-    (until-filter entry.time (λ opened. not (is_closed_by pool entry.event opened)) xs h) (until-opened pool entry.time entry.event)
+until-pool pool xs entry h = by_case (is_up entry.event) where
+  kept : AreUntil entry.time (filter (λ opened. not (is_closed_by pool entry.event opened)) xs ++ option_to_list (opened_as pool entry))
+  kept =
+      until-append entry.time (filter (λ opened. not (is_closed_by pool entry.event opened)) xs) (option_to_list (opened_as pool entry))
+      (until-filter entry.time (λ opened. not (is_closed_by pool entry.event opened)) xs h) (until-opened pool entry.time entry.event)
+
+  by_case : (b : Bool) → AreUntil entry.time (cond b [] (filter (λ opened. not (is_closed_by pool entry.event opened)) xs ++ option_to_list (opened_as pool entry)))
+  by_case true = tt
+  by_case false = kept
 
 -- after a lawful entry nothing that is open was opened after it
 pub until_after : (view new : View) (entry : Entry) → IsUntil entry.time view → new ≡ view_after view entry → IsUntil new.last_time new
@@ -83,6 +90,7 @@ pub kept_until : (view new : View) → new ≡ view → IsUntil view.last_time v
 kept_until view new e h = subst (λ w. IsUntil w.last_time w) (sym e) h
 
 pub new_until : (settings : Parameters) (view : View) → view ≡ view_of settings [] → IsUntil view.last_time view
+unfolding connection_of
 new_until settings view e =
     let empty : IsUntil 0 (view_of settings []) = record { sent_data = tt; sent_control = tt; taken_data = tt; taken_control = tt } in
     subst (λ w. IsUntil w.last_time w) (sym e) empty

@@ -1,5 +1,6 @@
 -- Entries of a session log by their places (this project's own log of the messages of SEMI E37).
-use Rattle.std.specs.Prelude.{ℕ, ◌<◌, Bool, true, false, List, slice_index_or, IsTrue}
+use Rattle.std.specs.Prelude.{ℕ, ◌<◌, Bool, true, false, List, [], ◌∷◌, slice_index_or, IsTrue, if◌then◌else◌}
+use Rattle.std.specs.List.{list_any}
 use Rattle.hsms_frame.specs.declared.header.Header.{Header}
 use Rattle.hsms_frame.specs.declared.frame.Frame.{Frame}
 use Rattle.hsms_machine.specs.declared.entry.Entry.{Entry}
@@ -35,15 +36,16 @@ abbrev pub is_t3 : Event → Bool
 is_t3 (T3 system) = true
 is_t3 _ = false
 
--- The entry at k stands before position i, on the same connection. A log holds one connection, so each entry before i
--- does.
-abbrev pub IsOnConnection : List Entry → ℕ → ℕ → Type 0
-IsOnConnection log k i = k < i
+-- the entry at k stands before position i on the same connection: no `up` stands between
+unfoldable pub IsOnConnection : List Entry → ℕ → ℕ → Type 0
+IsOnConnection log k i = (k < i) × ((m : ℕ) → k < m → m < i → ¬ IsTrue (is_up (entry_at log m).event))
 
 -- some entry before position i, on the same connection, passes the test
 abbrev pub SomeBefore : List Entry → ℕ → (Entry → Bool) → Type 0
 SomeBefore log i test = (k : ℕ) × IsOnConnection log k i × IsTrue (test (entry_at log k))
 
--- the entries of the last connection: all, since a log holds one
-abbrev pub connection_of : List Entry → List Entry
-connection_of log = log
+-- the entries of the last connection: those from the last `up` on, or all where there is none
+unfoldable pub connection_of : List Entry → List Entry
+connection_of [] = []
+connection_of (entry ∷ later) =
+    if list_any (λ other. is_up other.event) later then connection_of later else entry ∷ later

@@ -1,16 +1,17 @@
 -- The laws of runs (this project's profile of SEMI E37 and E37.1), over positions of the whole log.
-use Rattle.std.specs.Prelude.{◌≡◌, ℕ, ◌-◌, ◌<◌, ◌≤◌, ◌==◌, ◌⊎◌, Bool, false, List, [], ◌∷◌, ◌++◌, Option, None, length, map, IsTrue}
+use Rattle.std.specs.Prelude.{◌≡◌, ◌↔◌, ℕ, ◌-◌, ◌<◌, ◌≤◌, ◌==◌, ◌⊎◌, Bool, false, List, [], ◌∷◌, ◌++◌, Option, None, length, map, IsTrue}
 use Rattle.secs_item.specs.Spelling.{IsOctets}
 use Rattle.hsms_machine.specs.declared.entry.Entry.{Entry}
 use Rattle.hsms_machine.specs.declared.entry.Event.{Event}
 use Rattle.hsms_machine.specs.declared.entry.Event.TheVariants.{Sent, Taken, Discarded}
 use Rattle.hsms_machine.specs.declared.rule.Rule.{Rule}
 use Rattle.hsms_machine.specs.Settings.{Parameters}
-use Rattle.hsms_machine.specs.Entry.{entry_at, is_t3, connection_of}
+use Rattle.hsms_machine.specs.Entry.{entry_at, is_up, is_t3, connection_of}
 use Rattle.hsms_machine.specs.Message.{is_data, is_response}
 use Rattle.hsms_machine.specs.Transaction.{IsOpen, answers}
-use Rattle.hsms_machine.specs.Session.{IsSelected, IsOver}
+use Rattle.hsms_machine.specs.Session.{IsSelected, IsOver, FollowsDown}
 use Rattle.hsms_machine.specs.Run.{Broken, IsRun}
+use Rattle.hsms_machine.specs.OneConnection.{BrokenOfOne, IsRunOfOne}
 use Rattle.hsms_machine.specs.View.{open_entries}
 
 -- the later event answers the earlier one
@@ -67,12 +68,14 @@ DataFlowsWhileSelected =
     → (i : ℕ) → i < length log → IsTrue (is_data_event (entry_at log i).event)
     → IsSelected log i × ¬ IsOver log i
 
--- sent data that has waited for longer than T3 is not open before any entry but a `t3`, while the session is not over
+-- Sent data that has waited for longer than T3 is not open before any entry but a `t3`, while the session is not over
+-- and the entry before is no `down`.
 abbrev pub ExpiryIsLoggedFirst : Type 0
 ExpiryIsLoggedFirst =
     (settings : Parameters) (log : List Entry) → IsRun settings log
     → (j i : ℕ) → j < i → i < length log
     → IsTrue (is_sent_data (entry_at log j).event) → ¬ IsTrue (is_t3 (entry_at log i).event) → ¬ IsOver log i
+    → ¬ FollowsDown log i
     → settings.t3 < (entry_at log i).time - (entry_at log j).time
     → ¬ IsOpen log j i
 
@@ -91,6 +94,41 @@ SystemBytesAreUnique =
     → (i j k : ℕ) → i ≤ length log → IsOpen log j i → IsOpen log k i
     → IsTrue (shares_system (entry_at log j).event (entry_at log k).event)
     → j ≡ k
+
+-- in a run of version 1 only the first entry is an `up`
+abbrev pub OneConnectionInVersionOne : Type 0
+OneConnectionInVersionOne =
+    (settings : Parameters) (log : List Entry) → IsRun settings log → settings.version ≡ 1
+    → (i : ℕ) → i < length log → IsTrue (is_up (entry_at log i).event) → i ≡ 0
+
+-- in a run each later `up` stands directly after a `down`, and only in version 2
+abbrev pub EachConnectionFollowsDown : Type 0
+EachConnectionFollowsDown =
+    (settings : Parameters) (log : List Entry) → IsRun settings log
+    → (i : ℕ) → 0 < i → i < length log → IsTrue (is_up (entry_at log i).event)
+    → (settings.version ≡ 2) × FollowsDown log i
+
+-- no transaction opened before an `up` is open after it
+abbrev pub NothingIsOpenOverUp : Type 0
+NothingIsOpenOverUp =
+    (log : List Entry) (j k i : ℕ) → j < k → k < i → IsTrue (is_up (entry_at log k).event) → ¬ IsOpen log j i
+
+-- a log of version 1 is a run exactly where it is one without a word of connections
+abbrev pub VersionOneKeepsRuns : Type 0
+VersionOneKeepsRuns =
+    (settings : Parameters) (log : List Entry) → settings.version ≡ 1 → IsRun settings log ↔ IsRunOfOne settings log
+
+-- after such a run each entry has the same answer
+abbrev pub VersionOneKeepsAnswers : Type 0
+VersionOneKeepsAnswers =
+    (settings : Parameters) (log : List Entry) (entry : Entry) (answer : Option Rule)
+    → settings.version ≡ 1 → IsRun settings log
+    → Broken settings log entry answer ↔ BrokenOfOne settings log entry answer
+
+-- and all of it is its connection, so that what is open after it is the same
+abbrev pub VersionOneIsOneConnection : Type 0
+VersionOneIsOneConnection =
+    (settings : Parameters) (log : List Entry) → settings.version ≡ 1 → IsRun settings log → connection_of log ≡ log
 
 abbrev pub IsIn : ℕ → List ℕ → Type 0
 IsIn j [] = ⊥

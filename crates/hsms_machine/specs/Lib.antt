@@ -10,4 +10,5 @@ pub mod Run
 pub mod View
 pub mod Step
 pub mod Ordered
+pub mod OneConnection
 pub mod Laws

@@ -25,10 +25,11 @@ use Rattle.hsms_machine.specs.Timer.{IsT3Overdue, IsT6Overdue, IsT7Overdue, IsNo
 
 -- ---- order
 
--- an `up` that is not the first entry; any other entry before `up` or after `down`
-abbrev pub IsNotUp : Facts → Event → Type 0
-IsNotUp facts Up = facts.HasEntry
-IsNotUp facts _ = ¬ facts.HasUp ⊎ facts.HasDown
+-- An `up` that is not the first entry, and in version 2 does not stand directly after `down` either. Any other entry
+-- before the first `up`, or after a `down` with no `up` since.
+abbrev pub IsNotUp : Facts → Parameters → Event → Type 0
+IsNotUp facts settings Up = facts.HasEntry × ¬ ((settings.version ≡ 2) × facts.FollowsDown)
+IsNotUp facts settings _ = ¬ facts.HasUp ⊎ facts.HasDown
 
 -- the events that only a session which is not over may have
 abbrev pub needs_session : Event → Bool
@@ -102,7 +103,7 @@ EventBreaks facts settings _ rule = ⊥
 -- the entry breaks the rule, where these facts hold of the entries before it
 abbrev pub Breaks : Facts → Parameters → Entry → Rule → Type 0
 Breaks facts settings entry Backwards = facts.IsPast entry.time
-Breaks facts settings entry NotUp = IsNotUp facts entry.event
+Breaks facts settings entry NotUp = IsNotUp facts settings entry.event
 Breaks facts settings entry Ended = IsTrue (needs_session entry.event) × facts.IsOver
 Breaks facts settings entry T3Overdue = ¬ IsTrue (is_t3 entry.event) × IsT3Overdue facts settings entry.time
 Breaks facts settings entry LinkOverdue =

@@ -1,5 +1,5 @@
 -- The state of a session, and what the rules ask of the entries before one (SEMI E37, section 5, connection states).
-use Rattle.std.specs.Prelude.{◌≡◌, ℕ, ◌+◌, ◌<◌, Bool, true, false, ◌&&◌, List}
+use Rattle.std.specs.Prelude.{◌≡◌, ℕ, ◌+◌, ◌<◌, Bool, true, false, ◌&&◌, List, IsTrue}
 use Rattle.hsms_machine.specs.declared.entry.Entry.{Entry}
 use Rattle.hsms_machine.specs.declared.entry.Event.{Event}
 use Rattle.hsms_machine.specs.declared.entry.Event.TheVariants.{Sent, Taken, Cut}
@@ -21,11 +21,15 @@ ends_session (Taken frame) = separates frame.header
 ends_session (Cut cause) = true
 ends_session _ = false
 
--- before position i the session has been selected
+-- the entry before position i is a `down`
+abbrev pub FollowsDown : List Entry → ℕ → Type 0
+FollowsDown log i = (k : ℕ) × (k + 1 ≡ i) × IsTrue (is_down (entry_at log k).event)
+
+-- on the connection of position i, the session has been selected
 abbrev pub IsSelected : List Entry → ℕ → Type 0
 IsSelected log i = SomeBefore log i (λ entry. selects entry.event)
 
--- before position i the session has ended
+-- on the connection of position i, the session has ended
 abbrev pub IsOver : List Entry → ℕ → Type 0
 IsOver log i = SomeBefore log i (λ entry. ends_session entry.event)
 
@@ -35,8 +39,12 @@ pub record Facts : Type 1 where
   pub IsPast : ℕ → Type 0
   -- there is an entry before
   pub HasEntry : Type 0
+  -- the connection came up
   pub HasUp : Type 0
+  -- it went down
   pub HasDown : Type 0
+  -- the entry before is a `down`
+  pub FollowsDown : Type 0
   -- the connection came up at a time that passes the test
   pub IsUpSince : (ℕ → Bool) → Type 0
   pub IsSelected : Type 0
@@ -51,6 +59,7 @@ facts_before log i = record {
   HasEntry = 0 < i;
   HasUp = SomeBefore log i (λ entry. is_up entry.event);
   HasDown = SomeBefore log i (λ entry. is_down entry.event);
+  FollowsDown = FollowsDown log i;
   IsUpSince = λ test. SomeBefore log i (λ entry. is_up entry.event && test entry.time);
   IsSelected = IsSelected log i;
   IsOver = IsOver log i;

@@ -1,6 +1,6 @@
 -- How a view answers what the rules ask, and how one entry changes it: the rules once more, without positions of a log.
 -- What a tracker answers is said both ways, of each log with its view and of the view alone.
-use Rattle.std.specs.Prelude.{◌≡◌, ◌≢◌, ℕ, ◌<◌, ◌==◌, Bool, true, false, ◌&&◌, ◌||◌, not, List, ◌++◌, Option, filter, IsTrue, if◌then◌else◌, option_to_list}
+use Rattle.std.specs.Prelude.{◌≡◌, ◌≢◌, ℕ, ◌<◌, ◌==◌, Bool, true, false, ◌&&◌, ◌||◌, not, List, [], ◌++◌, Option, filter, IsTrue, if◌then◌else◌, option_to_list}
 use Rattle.std.specs.List.{list_any}
 use Rattle.hsms_machine.specs.declared.entry.Entry.{Entry}
 use Rattle.hsms_machine.specs.declared.entry.Event.{Event}
@@ -8,7 +8,7 @@ use Rattle.hsms_machine.specs.declared.entry.Event.TheVariants.{Sent, Taken, T3}
 use Rattle.hsms_machine.specs.declared.act.Act.{Act}
 use Rattle.hsms_machine.specs.declared.act.Act.TheVariants.{Sent as ActSent, Taken as ActTaken}
 use Rattle.hsms_machine.specs.declared.phase.Phase.{Phase}
-use Rattle.hsms_machine.specs.declared.phase.Phase.TheVariants.{Before, Selected, Over, Gone}
+use Rattle.hsms_machine.specs.declared.phase.Phase.TheVariants.{Before, NotSelected, Selected, Over, Gone}
 use Rattle.hsms_machine.specs.declared.rule.Rule.{Rule}
 use Rattle.hsms_machine.specs.declared.open.Transaction.{Transaction}
 use Rattle.hsms_machine.specs.declared.view.View.{View}
@@ -40,6 +40,7 @@ facts_of view = record {
   HasEntry = view.phase ≢ Before;
   HasUp = view.phase ≢ Before;
   HasDown = view.phase ≡ Gone;
+  FollowsDown = view.phase ≡ Gone;
   IsUpSince = λ test. IsTrue (is_connected view.phase && test view.up_time);
   IsSelected = view.phase ≡ Selected;
   IsOver = view.phase ≡ Over;
@@ -64,9 +65,10 @@ abbrev pub is_selected : Phase → Bool
 is_selected Selected = true
 is_selected _ = false
 
--- the phase after an event
+-- the phase after an event: an `up` begins anew
 abbrev pub phase_after : Phase → Event → Phase
 phase_after phase event =
+    if is_up event then NotSelected else
     phase_by (is_gone phase || is_down event) (is_over phase || ends_session event) (is_selected phase || selects event)
 
 -- the event closes the transaction of the pool
@@ -78,9 +80,10 @@ is_closed_by TakenControl (Sent frame) opened = concludes opened.header frame.he
 is_closed_by SentData (T3 system) opened = opened.header.system == system
 is_closed_by _ event opened = false
 
--- the open transactions of the pool after an entry
+-- the open transactions of the pool after an entry: none after `up`
 abbrev pub pool_after : Pool → List Transaction → Entry → List Transaction
 pool_after pool opened entry =
+    if is_up entry.event then [] else
     filter (λ transaction. not (is_closed_by pool entry.event transaction)) opened
     ++ option_to_list (opened_as pool entry)
 

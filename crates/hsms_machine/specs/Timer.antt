@@ -13,9 +13,9 @@ use Rattle.hsms_machine.specs.Session.{Facts}
 
 -- ---- what is overdue at a time
 
--- nothing is overdue once the session is over
+-- nothing is overdue once the session is over, or directly after `down`
 abbrev pub IsTimed : Facts → Type 0
-IsTimed facts = ¬ facts.IsOver
+IsTimed facts = ¬ facts.IsOver × ¬ facts.FollowsDown
 
 -- an open sent data transaction has waited for longer than T3
 abbrev pub IsT3Overdue : Facts → Parameters → ℕ → Type 0

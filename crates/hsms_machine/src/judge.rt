@@ -22,7 +22,7 @@ impl View {
     ghost use Rattle.hsms_machine.specs.declared.rule.Rule.{Rule};
     ghost use Rattle.secs_item.specs.Spelling.{IsText};
     ghost use Rattle.hsms_machine.specs.Message.{is_request, is_response as is_response_message};
-    ghost use Rattle.hsms_machine.specs.Timer.{IsT6Overdue, IsT7Overdue, IsNotDue, IsCutNotDue};
+    ghost use Rattle.hsms_machine.specs.Timer.{IsTimed, IsT6Overdue, IsT7Overdue, IsNotDue, IsCutNotDue};
     ghost use Rattle.hsms_machine.specs.Rule.{Breaks, FrameBreaks, IsNotUp, IsNoCause, IsInUse, IsAnswer, IsFirst, needs_session, order_rules, timer_rules, format_rules, transaction_rules};
     ghost use Rattle.hsms_machine.specs.Act.{event_of, entry_of, frame_of};
     ghost use Rattle.hsms_machine.specs.Step.{facts_of, IsBrokenAt};
@@ -57,12 +57,30 @@ impl View {
     }
 
     fn is_not_up(&self, act: &Act) -> bool
-        ensures { IsTrue result ↔ IsNotUp (facts_of self.now) (event_of act.now []) }
+        ensures { IsTrue result ↔ IsNotUp (facts_of self.now) self.now.settings (event_of act.now []) }
     {
         match act {
-            Act::Up => self.phase != Phase::Before,
+            Act::Up => self.is_not_down(),
             _ => matches!(self.phase, Phase::Before | Phase::Gone),
         }
+    }
+
+    /// Whether no connection may come up now: there was one, and it isn't down or is the only one.
+    fn is_not_down(&self) -> bool
+        ensures { IsTrue result ↔ IsNotUp (facts_of self.now) self.now.settings Event.Up }
+    {
+        match self.phase {
+            Phase::Before => false,
+            Phase::Gone => self.settings.version() != 2,
+            Phase::NotSelected | Phase::Selected | Phase::Over => true,
+        }
+    }
+
+    /// Whether anything may be overdue now.
+    fn is_timed(&self) -> bool
+        ensures { IsTrue result ↔ IsTimed (facts_of self.now) }
+    {
+        self.phase != Phase::Over && self.phase != Phase::Gone
     }
 
     fn is_ended(&self, act: &Act) -> bool
@@ -93,9 +111,7 @@ impl View {
     {
         match act {
             Act::T3(_) => false,
-            _ => {
-                self.phase != Phase::Over && self.sent_data.has_overdue(time, self.settings.t3())
-            }
+            _ => self.is_timed() && self.sent_data.has_overdue(time, self.settings.t3()),
         }
     }
 
@@ -111,7 +127,7 @@ impl View {
     fn is_t6_overdue(&self, time: u64) -> bool
         ensures { IsTrue result ↔ IsT6Overdue (facts_of self.now) self.now.settings time }
     {
-        self.phase != Phase::Over && self.sent_control.has_overdue(time, self.settings.t6())
+        self.is_timed() && self.sent_control.has_overdue(time, self.settings.t6())
     }
 
     fn is_t7_overdue(&self, time: u64) -> bool

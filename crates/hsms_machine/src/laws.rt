@@ -1,6 +1,6 @@
 //! Laws over the definitions of a run. Each is the contract of a function that does nothing.
 
-ghost use Rattle.hsms_machine.specs.Laws.{EachResponseAnswersOne, DataFlowsWhileSelected, ExpiryIsLoggedFirst, RepliesComeWithinT3, SystemBytesAreUnique, ViewListsWhatIsOpen, LawfulEntryExtendsRun, FrontOfRunIsRun, NextOfRunIsLawful, EachEntryHasAnAnswer, NoEntryHasTwoAnswers, EmptyLogIsRun};
+ghost use Rattle.hsms_machine.specs.Laws.{EachResponseAnswersOne, DataFlowsWhileSelected, ExpiryIsLoggedFirst, RepliesComeWithinT3, SystemBytesAreUnique, OneConnectionInVersionOne, EachConnectionFollowsDown, NothingIsOpenOverUp, VersionOneKeepsRuns, VersionOneKeepsAnswers, VersionOneIsOneConnection, ViewListsWhatIsOpen, LawfulEntryExtendsRun, FrontOfRunIsRun, NextOfRunIsLawful, EachEntryHasAnAnswer, NoEntryHasTwoAnswers, EmptyLogIsRun};
 
 /// Each sent or taken response of a run answers exactly one open transaction, which it closes.
 pub fn each_response_answers_one()
@@ -25,6 +25,22 @@ pub fn replies_come_within_t3()
 /// In a run no two open transactions of one direction have the same system bytes.
 pub fn system_bytes_are_unique()
     ensures { SystemBytesAreUnique }
+{}
+
+/// In a run of version 1 only the first entry is an `up`. In version 2 each later one stands directly after a `down`. No
+/// transaction that was opened before an `up` is open after it.
+pub fn connections_stand_apart()
+    ensures one { OneConnectionInVersionOne }
+    ensures several { EachConnectionFollowsDown }
+    ensures apart { NothingIsOpenOverUp }
+{}
+
+/// Version 1 is read without a word of connections: the same logs are runs, each entry has the same answer after them, and
+/// the last connection is the whole log.
+pub fn version_one_is_kept()
+    ensures runs { VersionOneKeepsRuns }
+    ensures answers { VersionOneKeepsAnswers }
+    ensures whole { VersionOneIsOneConnection }
 {}
 
 /// The lists of a view hold exactly the open transactions, in order of opening.

@@ -221,6 +221,13 @@ impl Transactions {
         }
     }
 
+    /// Takes all out, in time in proportion to how many there are.
+    pub fn clear(&mut self)
+        ensures { self.new ≡ [] }
+    {
+        self.items.truncate(0);
+    }
+
     fn remove_at(&mut self, place: usize)
         ensures { self.new ≡ remove self.old place }
     {

@@ -22,6 +22,6 @@ pub enum Phase {
     Selected,
     /// A Separate.req or a cut has ended the session, and the connection isn't down yet.
     Over,
-    /// The connection went down.
+    /// The connection went down. In a log of several connections the next one may come up.
     Gone,
 }

@@ -6,7 +6,8 @@
 pub enum Rule {
     /// The time is less than that of the entry before.
     Backwards,
-    /// An `up` that is not the first entry, or another entry before `up` or after `down`.
+    /// An `up` that is not the first entry and, in version 2, doesn't stand directly after a `down`; or another entry
+    /// before the first `up`, or after a `down` with no `up` since.
     NotUp,
     /// A frame that is sent or taken, a `t3` or a cut, after a Separate.req or a cut ended the
     /// session (SEMI E37, section 7, separate procedure).

@@ -23,6 +23,7 @@ pub enum Side {
 /// The parameters of the end that logs (SEMI E37, section 10, parameters), each within its limits.
 #[derive(Clone, Copy, Debug, PartialEq, Eq)]
 pub struct Settings {
+    version: u8,
     role: Role,
     link: Side,
     device: u16,
@@ -39,11 +40,11 @@ impl Model for Settings {
 
     ghost Value = { Parameters };
 
-    ghost view = { λ s. record { role = s.role; link = s.link; device = s.device; t3 = s.t3; t6 = s.t6; t7 = s.t7; t8 = s.t8; max = s.max; depth = s.depth } };
+    ghost view = { λ s. record { version = s.version; role = s.role; link = s.link; device = s.device; t3 = s.t3; t6 = s.t6; t7 = s.t7; t8 = s.t8; max = s.max; depth = s.depth } };
 
-    ghost invariant = { λ s. IsWithinLimits (record { role = s.role; link = s.link; device = s.device; t3 = s.t3; t6 = s.t6; t7 = s.t7; t8 = s.t8; max = s.max; depth = s.depth }) };
+    ghost invariant = { λ s. IsWithinLimits (record { version = s.version; role = s.role; link = s.link; device = s.device; t3 = s.t3; t6 = s.t6; t7 = s.t7; t8 = s.t8; max = s.max; depth = s.depth }) };
 
-    ghost inverse = { λ p. record { role = p.role; link = p.link; device = p.device; t3 = p.t3; t6 = p.t6; t7 = p.t7; t8 = p.t8; max = p.max; depth = p.depth } };
+    ghost inverse = { λ p. record { version = p.version; role = p.role; link = p.link; device = p.device; t3 = p.t3; t6 = p.t6; t7 = p.t7; t8 = p.t8; max = p.max; depth = p.depth } };
 }
 
 /// The longest time of a timer in milliseconds: an hour.
@@ -53,8 +54,8 @@ impl Settings {
     ghost use Rattle.std.specs.Prelude.{◌≡◌, ◌≤◌, ◌↔◌, IsSome, IfSome, IsTrue};
     ghost use Rattle.hsms_machine.specs.Settings.{IsWithinLimits, IsTimeLimit};
 
-    /// The settings with these numbers, or None where one is out of its limits: `device` at most
-    /// 32,767; `t3`, `t6`, `t7` and `t8` from 1 to 3,600,000 ms; `max` from 256 to 33,554,432 octets;
+    /// The settings with these numbers, for a log of one connection (version 1), or None where one is out of its limits:
+    /// `device` at most 32,767; `t3`, `t6`, `t7` and `t8` from 1 to 3,600,000 ms; `max` from 256 to 33,554,432 octets;
     /// `depth` from 1 to 100.
     pub fn new(
         role: Role,
@@ -67,8 +68,8 @@ impl Settings {
         max: u32,
         depth: u8,
     ) -> Option<Settings>
-        ensures within { IsSome result ↔ IsWithinLimits (record { role = role; link = link; device = device; t3 = t3; t6 = t6; t7 = t7; t8 = t8; max = max; depth = depth }) }
-        ensures value { IfSome result (λ s. s ≡ record { role = role; link = link; device = device; t3 = t3; t6 = t6; t7 = t7; t8 = t8; max = max; depth = depth }) }
+        ensures within { IsSome result ↔ IsWithinLimits (record { version = 1; role = role; link = link; device = device; t3 = t3; t6 = t6; t7 = t7; t8 = t8; max = max; depth = depth }) }
+        ensures value { IfSome result (λ s. s ≡ record { version = 1; role = role; link = link; device = device; t3 = t3; t6 = t6; t7 = t7; t8 = t8; max = max; depth = depth }) }
     {
         let times = Self::is_time_limit(t3)
             && Self::is_time_limit(t6)
@@ -77,6 +78,7 @@ impl Settings {
         let sizes = 256 <= max && max <= 33_554_432 && 1 <= depth && depth <= 100;
         if device <= 32_767 && times && sizes {
             Some(Settings {
+                version: 1,
                 role,
                 link,
                 device,
@@ -90,6 +92,22 @@ impl Settings {
         } else {
             None
         }
+    }
+
+    /// The same numbers, for a log of several connections (version 2). Takes no memory.
+    pub fn several(self) -> Settings
+        ensures { result ≡ record self { version = 2 } }
+    {
+        Settings { version: 2, ..self }
+    }
+
+    /// The version of the log: 1 of one connection, 2 of several. Takes no memory.
+    pub fn version(&self) -> u8
+        ensures value { result ≡ self.now.version }
+        ensures least { 1 ≤ result }
+        ensures greatest { result ≤ 2 }
+    {
+        self.version
     }
 
     /// What the end is: host or equipment.

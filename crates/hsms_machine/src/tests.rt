@@ -1,6 +1,7 @@
 //! Worked sessions, as lists of entries. A header is written as its first six octets and its system
 //! bytes.
 
+mod connections;
 mod limits;
 mod rules;
 mod sessions;
@@ -37,6 +38,7 @@ enum Happening {
 }
 
 use Happening::{Cut, Discarded, Down, Sent, T3, Taken, Up};
+use connections::{ALONE, CONNECTIONS};
 use rules::BROKEN;
 use sessions::SESSIONS;
 
@@ -162,9 +164,14 @@ fn broken_by(
 }
 
 /// Each session breaks its rule, with its last entry, or none.
-fn judge_all(rt: &impl Abort, alloc: Global, cases: &[Case]) -> Result<(), Fail> {
+fn judge_all(
+    rt: &impl Abort,
+    alloc: Global,
+    settings: Settings,
+    cases: &[Case],
+) -> Result<(), Fail> {
     for case in cases {
-        let mut tracker = Tracker::new(alloc, settings(1_048_576).ok_or("the settings")?);
+        let mut tracker = Tracker::new(alloc, settings);
         let before = broken_by(rt, alloc, &mut tracker, case.after)?;
         assert_eq!(rt; before, None, "{}", case.name);
         let broken = broken_by(rt, alloc, &mut tracker, case.entries)?;
@@ -176,12 +183,29 @@ fn judge_all(rt: &impl Abort, alloc: Global, cases: &[Case]) -> Result<(), Fail>
 
 #[test]
 fn worked_sessions(rt: HostRuntime) -> Result<(), Fail> {
-    judge_all(&rt, rt.alloc(), SESSIONS)
+    judge_all(
+        &rt,
+        rt.alloc(),
+        settings(1_048_576).ok_or("the settings")?,
+        SESSIONS,
+    )
 }
 
 #[test]
 fn each_rule_is_broken(rt: HostRuntime) -> Result<(), Fail> {
-    judge_all(&rt, rt.alloc(), BROKEN)
+    judge_all(
+        &rt,
+        rt.alloc(),
+        settings(1_048_576).ok_or("the settings")?,
+        BROKEN,
+    )
+}
+
+#[test]
+fn several_connections(rt: HostRuntime) -> Result<(), Fail> {
+    let one = settings(1_048_576).ok_or("the settings")?;
+    judge_all(&rt, rt.alloc(), one, ALONE)?;
+    judge_all(&rt, rt.alloc(), one.several(), CONNECTIONS)
 }
 
 /// One item of binary octets, all zero.

@@ -11,7 +11,7 @@ use std::alloc::{AllocError, Global};
 use std::marker::Model;
 
 /// The judge of what is lawful in a session (SEMI E37, E37.1). It keeps the settings, the phase, the
-/// time of `up` and of the last entry, and the open transactions, each with its time and header: what
+/// time of the last `up` and of the last entry, and the open transactions, each with its time and header: what
 /// the rules need to know of the entries so far. It stores no log; some lawful log has led to it.
 #[derive(Debug, Drop)]
 pub struct Tracker {

@@ -31,6 +31,7 @@ impl View {
     ghost use Rattle.hsms_machine.specs.Ordered.{AreUntil, uses};
 
     /// The view of an empty log.
+    #[tactic(auto, unfolding(crate::specs::Entry::connection_of))]
     pub fn new(alloc: Global, settings: Settings) -> View
         ensures { result ≡ view_of settings [] }
     {
@@ -114,9 +115,20 @@ impl View {
                 self.sent_control.remove_concluded(*message);
             }
             Act::T3(system) => self.sent_data.remove_system(*system),
+            Act::Up => self.close_all(),
             _ => {}
         }
         Ok(())
+    }
+
+    /// Nothing is open any more.
+    fn close_all(&mut self)
+        ensures { self.new ≡ record self.old { sent_data = []; sent_control = []; taken_data = []; taken_control = [] } }
+    {
+        self.sent_data.clear();
+        self.sent_control.clear();
+        self.taken_data.clear();
+        self.taken_control.clear();
     }
 
     /// Puts the transaction that the message opens, if it opens one, at the end of its list.
@@ -148,7 +160,9 @@ impl View {
     fn next_phase(phase: Phase, act: &Act) -> Phase
         ensures { result ≡ phase_after phase (event_of act.now []) }
     {
-        if phase == Phase::Gone || matches!(act, Act::Down) {
+        if matches!(act, Act::Up) {
+            Phase::NotSelected
+        } else if phase == Phase::Gone || matches!(act, Act::Down) {
             Phase::Gone
         } else if phase == Phase::Over || Self::ends_session(act) {
             Phase::Over

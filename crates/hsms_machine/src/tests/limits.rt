@@ -67,5 +67,6 @@ fn the_readers_of_settings(rt: HostRuntime) -> Result<(), Fail> {
         (settings.t3(), settings.t6(), settings.t7(), settings.t8()),
         (3, 6, 7, 8)
     );
+    assert_eq!(rt; (settings.version(), settings.several().version()), (1, 2));
     Ok(())
 }
