@@ -51,10 +51,13 @@ time_decided t = both (at_most 1 t) (at_most t 3600000)
 
 within_decided : (s : Parameters) → Decided (IsWithinLimits s)
 within_decided s =
-    elim (both (at_most s.device 32767) (both (time_decided s.t3) (both (time_decided s.t6) (both (time_decided s.t7) (both (time_decided s.t8)
-    (both (at_most 256 s.max) (both (at_most s.max 33554432) (both (at_most 1 s.depth) (at_most s.depth 100))))))))) [
-      | inl w ↦ inl (record { device = w.0; t3 = w.1.0; t6 = w.1.1.0; t7 = w.1.1.1.0; t8 = w.1.1.1.1.0; least_max = w.1.1.1.1.1.0; greatest_max = w.1.1.1.1.1.1.0; least_depth = w.1.1.1.1.1.1.1.0; greatest_depth = w.1.1.1.1.1.1.1.1 })
-      | inr fails ↦ inr (λ w. fails (w.device, (w.t3, (w.t6, (w.t7, (w.t8, (w.least_max, (w.greatest_max, (w.least_depth, (w.greatest_depth))))))))))
+    elim (both (both (at_most 1 s.version) (at_most s.version 2)) (both (at_most s.device 32767) (both (time_decided s.t3) (both (time_decided s.t6) (both (time_decided s.t7) (both (time_decided s.t8)
+    (both (at_most 256 s.max) (both (at_most s.max 33554432) (both (at_most 1 s.depth) (at_most s.depth 100)))))))))) [
+      | inl h ↦
+          let v = h.0 in
+          let w = h.1 in
+          inl (record { least_version = v.0; greatest_version = v.1; device = w.0; t3 = w.1.0; t6 = w.1.1.0; t7 = w.1.1.1.0; t8 = w.1.1.1.1.0; least_max = w.1.1.1.1.1.0; greatest_max = w.1.1.1.1.1.1.0; least_depth = w.1.1.1.1.1.1.1.0; greatest_depth = w.1.1.1.1.1.1.1.1 })
+      | inr fails ↦ inr (λ w. fails ((w.least_version, w.greatest_version), (w.device, (w.t3, (w.t6, (w.t7, (w.t8, (w.least_max, (w.greatest_max, (w.least_depth, (w.greatest_depth)))))))))))
     ]
 
 settings_go : (line : List ℕ) (o : Option Parameters) → settings_at line ≡ o → Decided ((s : Parameters) × SpellsSettings line s)

@@ -17,7 +17,7 @@ use Rattle.hsms_machine.specs.declared.settings.Side.{Side}
 use Rattle.hsms_machine.specs.declared.settings.Side.TheVariants.{Active, Passive}
 use Rattle.hsms_machine.specs.Settings.{Parameters}
 use Rattle.hsms_log.specs.Spelling.{settings_line, role_word, link_word}
-use Rattle.hsms_log.specs.Writing.{Puts, spaced, opening_of, numbers_of}
+use Rattle.hsms_log.specs.Writing.{Puts, spaced, version_text, words_of, opening_of, numbers_of}
 
 pub grows_then : (old mid new : Option (List ℕ)) (a b : List ℕ) → Grows old mid a → Grows mid new b → Grows old new (a ++ b)
 grows_then old mid new a b h k octets told = k (octets ++ a) (h octets told) ∙ ap Some (append_assoc octets a b)
@@ -109,21 +109,29 @@ numbers_text : (front : List ℕ) (a b c d e f g : ℕ)
 numbers_text front a b c d e f g =
     ap (λ l. front ++ 32 ∷ (decimal a ++ 32 ∷ (decimal b ++ 32 ∷ (decimal c ++ 32 ∷ (decimal d ++ 32 ∷ (decimal e ++ 32 ∷ (decimal f ++ 32 ∷ l))))))) (sym (append-nil (decimal g)))
 
-pub line_text : (role : Role) (link : Side) (a b c d e f g : ℕ)
-    → settings_line (record { role = role; link = link; device = a; t3 = b; t6 = c; t7 = d; t8 = e; max = f; depth = g })
-    ≡ opening_of (record { role = role; link = link; device = a; t3 = b; t6 = c; t7 = d; t8 = e; max = f; depth = g }) ++ flat_map spaced (a ∷ b ∷ c ∷ d ∷ e ∷ f ∷ g ∷ [])
+-- the same behind the version
+version_front : (version : ℕ) (words : List ℕ) (a b c d e f g : ℕ)
+    → codes "hsms-log" ++ 32 ∷ (decimal version ++ (words ++ 32 ∷ (decimal a ++ 32 ∷ (decimal b ++ 32 ∷ (decimal c ++ 32 ∷ (decimal d ++ 32 ∷ (decimal e ++ 32 ∷ (decimal f ++ 32 ∷ decimal g))))))))
+    ≡ (version_text version ++ words) ++ flat_map spaced (a ∷ b ∷ c ∷ d ∷ e ∷ f ∷ g ∷ [])
+version_front version words a b c d e f g =
+    ap (λ l. codes "hsms-log" ++ 32 ∷ (decimal version ++ l)) (numbers_text words a b c d e f g)
+    ∙ ap (λ l. codes "hsms-log" ++ 32 ∷ l) (sym (append_assoc (decimal version) words (flat_map spaced (a ∷ b ∷ c ∷ d ∷ e ∷ f ∷ g ∷ []))))
+
+pub line_text : (version : ℕ) (role : Role) (link : Side) (a b c d e f g : ℕ)
+    → settings_line (record { version = version; role = role; link = link; device = a; t3 = b; t6 = c; t7 = d; t8 = e; max = f; depth = g })
+    ≡ opening_of (record { version = version; role = role; link = link; device = a; t3 = b; t6 = c; t7 = d; t8 = e; max = f; depth = g }) ++ flat_map spaced (a ∷ b ∷ c ∷ d ∷ e ∷ f ∷ g ∷ [])
 unfolding settings_line
-line_text Host Active a b c d e f g = numbers_text (codes "hsms-log 1 host active") a b c d e f g
-line_text Host Passive a b c d e f g = numbers_text (codes "hsms-log 1 host passive") a b c d e f g
-line_text Equipment Active a b c d e f g = numbers_text (codes "hsms-log 1 equipment active") a b c d e f g
-line_text Equipment Passive a b c d e f g = numbers_text (codes "hsms-log 1 equipment passive") a b c d e f g
+line_text version Host Active a b c d e f g = version_front version (codes " host active") a b c d e f g
+line_text version Host Passive a b c d e f g = version_front version (codes " host passive") a b c d e f g
+line_text version Equipment Active a b c d e f g = version_front version (codes " equipment active") a b c d e f g
+line_text version Equipment Passive a b c d e f g = version_front version (codes " equipment passive") a b c d e f g
 
 -- the first line in its two parts
 pub line_parts : (s : Parameters) → opening_of s ++ (flat_map spaced (numbers_of s) ++ 10 ∷ []) ≡ settings_line s ++ 10 ∷ []
 line_parts s =
     sym (append_assoc (opening_of s) (flat_map spaced (numbers_of s)) (10 ∷ []))
-    ∙ ap (λ l. l ++ 10 ∷ []) (sym (line_text s.role s.link s.device s.t3 s.t6 s.t7 s.t8 s.max s.depth))
+    ∙ ap (λ l. l ++ 10 ∷ []) (sym (line_text s.version s.role s.link s.device s.t3 s.t6 s.t7 s.t8 s.max s.depth))
 
-pub opening_is : (s : Parameters) (role : Role) (link : Side) → s.role ≡ role → s.link ≡ link → codes "hsms-log 1 " ++ (role_word role ++ 32 ∷ link_word link) ≡ opening_of s
-opening_is s role link p q =
-    ap (λ r. codes "hsms-log 1 " ++ (role_word r ++ 32 ∷ link_word link)) (sym p) ∙ ap (λ l. codes "hsms-log 1 " ++ (role_word s.role ++ 32 ∷ link_word l)) (sym q)
+pub words_are : (s : Parameters) (role : Role) (link : Side) → s.role ≡ role → s.link ≡ link → 32 ∷ (role_word role ++ 32 ∷ link_word link) ≡ words_of s
+words_are s role link p q =
+    ap (λ r. 32 ∷ (role_word r ++ 32 ∷ link_word link)) (sym p) ∙ ap (λ l. 32 ∷ (role_word s.role ++ 32 ∷ link_word l)) (sym q)

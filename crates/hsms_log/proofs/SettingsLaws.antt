@@ -87,6 +87,8 @@ settings_at-line : (s : Parameters) → IsWithinLimits s → settings_at (settin
 unfolding settings_at settings_line after
 settings_at-line s w =
     rw (
+      number_at-spelled s.version _ (omega arith),
+      below_fits (2 ^ 8) s.version (omega arith),
       word_at-role s.role _,
       role_of-word s.role,
       word_at-link s.link _,
@@ -134,8 +136,10 @@ last_number bound word m n a b = (number_of-some word m a).1 ∙ ap decimal (bel
 settings_at-some : (line : List ℕ) (s : Parameters) → settings_at line ≡ Some s → line ≡ settings_line s
 unfolding settings_at settings_line
 settings_at-some line s h =
-    bind_step (after (codes "hsms-log 1 ") line) _ s h (λ rest rest_is h.
-    bind_step (word_at rest) _ s h (λ a a_is h.
+    bind_step (after (codes "hsms-log ") line) _ s h (λ rest rest_is h.
+    bind_step (number_at rest) _ s h (λ v v_is h.
+    bind_step (below (2 ^ 8) v.0) _ s h (λ version version_is h.
+    bind_step (word_at v.1) _ s h (λ a a_is h.
     bind_step (role_of a.0) _ s h (λ role role_is h.
     bind_step (word_at a.1) _ s h (λ b b_is h.
     bind_step (link_of b.0) _ s h (λ link link_is h.
@@ -149,14 +153,15 @@ settings_at-some line s h =
     let same = some_inj _ s h in
     let P : Parameters → Type 0 = λ p. line ≡ settings_line p in
     subst P same
-    (after-some (codes "hsms-log 1 ") line rest rest_is
-    ∙ ap (λ t. codes "hsms-log 1 " ++ t) (word_at-some rest a.0 a.1 a_is ∙ ap (λ w. w ++ 32 ∷ a.1) (role_of-some a.0 role role_is)
+    (after-some (codes "hsms-log ") line rest rest_is
+    ∙ ap (λ t. codes "hsms-log " ++ t) (numbers_front (2 ^ 8) rest v.0 version v.1 v_is version_is
+    ∙ ap (λ t. decimal version ++ 32 ∷ t) (word_at-some v.1 a.0 a.1 a_is ∙ ap (λ w. w ++ 32 ∷ a.1) (role_of-some a.0 role role_is)
     ∙ ap (λ t. role_word role ++ 32 ∷ t) (word_at-some a.1 b.0 b.1 b_is ∙ ap (λ w. w ++ 32 ∷ b.1) (link_of-some b.0 link link_is)
     ∙ ap (λ t. link_word link ++ 32 ∷ t) (numbers_front (2 ^ 16) b.1 c.0 device c.1 c_is device_is
     ∙ ap (λ t. decimal device ++ 32 ∷ t) (times_at-some c.1 times times_is
     ∙ ap (λ t. decimal times.0 ++ 32 ∷ (decimal times.1 ++ 32 ∷ (decimal times.2 ++ 32 ∷ (decimal times.3 ++ 32 ∷ t))))
     (numbers_front (2 ^ 32) times.4 d.0 max d.1 d_is max_is
-    ∙ ap (λ t. decimal max ++ 32 ∷ t) (last_number (2 ^ 8) d.1 e depth e_is depth_is)))))))))))))))))))
+    ∙ ap (λ t. decimal max ++ 32 ∷ t) (last_number (2 ^ 8) d.1 e depth e_is depth_is))))))))))))))))))))))
 
 -- ---- the limit
 
@@ -171,6 +176,7 @@ link_word-short Passive = omega arith
 pub settings_line-short : (s : Parameters) → IsWithinLimits s → length (settings_line s) ≤ 256
 unfolding settings_line
 settings_line-short s w =
+    let version : length (decimal s.version) ≤ 1 = length-decimal-le 1 s.version (omega arith) (omega arith) (omega arith) in
     let role = role_word-short s.role in
     let link = link_word-short s.link in
     let device : length (decimal s.device) ≤ 5 = length-decimal-le 5 s.device (omega arith) (omega arith) (omega arith) in
@@ -181,6 +187,36 @@ settings_line-short s w =
     let max : length (decimal s.max) ≤ 8 = length-decimal-le 8 s.max (omega arith) (omega arith) (omega arith) in
     let depth : length (decimal s.depth) ≤ 3 = length-decimal-le 3 s.depth (omega arith) (omega arith) (omega arith) in
     simp length-append (omega arith)
+
+-- ---- the version
+
+version_within : (p : Parameters) (v : ℕ) → 1 ≤ v → v ≤ 2 → IsWithinLimits p → IsWithinLimits (record p { version = v })
+version_within p v least greatest w = record {
+  least_version = least;
+  greatest_version = greatest;
+  device = w.device;
+  t3 = w.t3;
+  t6 = w.t6;
+  t7 = w.t7;
+  t8 = w.t8;
+  least_max = w.least_max;
+  greatest_max = w.greatest_max;
+  least_depth = w.least_depth;
+  greatest_depth = w.greatest_depth;
+}
+
+-- settings within their limits, of version 1, are so with another version exactly where there is this version
+pub of_version_within : (p : Parameters) (v : ℕ) (r : Option Parameters) → p.version ≡ 1 → IsWithinLimits p → (IsSome r ↔ (1 ≤ v) × (v ≤ 2)) → IsSome r ↔ IsWithinLimits (record p { version = v })
+of_version_within p v r one w some = (
+  (λ h. let at = some.0 h in version_within p v at.0 at.1 w),
+  (λ h. some.1 (h.least_version, h.greatest_version)),
+)
+
+-- where there are none of version 1, there are none of another
+pub none_within : (p : Parameters) (v : ℕ) → p.version ≡ 1 → (IsWithinLimits p → ⊥) → IsWithinLimits (record p { version = v }) → ⊥
+none_within p v one never h =
+    let P : ℕ → Type 0 = λ n. IsWithinLimits (record p { version = n }) in
+    never (subst P (sym one) (version_within (record p { version = v }) 1 (omega arith) (omega arith) h))
 
 -- ---- what reading the line says
 

@@ -21,7 +21,7 @@ use Rattle.hsms_machine.specs.Settings.{Parameters, IsWithinLimits}
 use Rattle.hsms_log.specs.Lines.{HasNone, lines_of, ended_lines, open_line}
 use Rattle.hsms_log.specs.Spelling.{IsEntry, IsEvent, entry_line, event_text, settings_line, line_limit, message_octets, system_octets, role_word, link_word}
 use Rattle.hsms_log.specs.Log.{CarryLog, LogText, SpellLog, written_log}
-use Rattle.hsms_log.specs.Writing.{opening_of, numbers_of, spaced}
+use Rattle.hsms_log.specs.Writing.{version_text, words_of, opening_of, numbers_of, spaced}
 use Rattle.hsms_log.proofs.Numbers.{own}
 use Rattle.hsms_log.proofs.GrowingTexts.{lines_of-first, strip_kept}
 use Rattle.hsms_log.proofs.Parts.{line_text}
@@ -101,11 +101,15 @@ numbers_on_line (n ∷ ns) h =
     let parts = and_parts _ _ h in
     joined (spaced n) (flat_map spaced ns) (decimal_on_line n (ltb-true n (2 ^ 64) parts.0)) (numbers_on_line ns parts.1)
 
-opening_on_line : (role : Role) (link : Side) → on_line (codes "hsms-log 1 " ++ (role_word role ++ 32 ∷ link_word link)) ≡ true
-opening_on_line Host Active = refl
-opening_on_line Host Passive = refl
-opening_on_line Equipment Active = refl
-opening_on_line Equipment Passive = refl
+words_on_line : (role : Role) (link : Side) → on_line (32 ∷ (role_word role ++ 32 ∷ link_word link)) ≡ true
+words_on_line Host Active = refl
+words_on_line Host Passive = refl
+words_on_line Equipment Active = refl
+words_on_line Equipment Passive = refl
+
+opening_on_line : (s : Parameters) → s.version < 2 ^ 64 → on_line (opening_of s) ≡ true
+opening_on_line s fit =
+    joined (version_text s.version) (words_of s) (joined (codes "hsms-log") (spaced s.version) refl (decimal_on_line s.version fit)) (words_on_line s.role s.link)
 
 small : (n : ℕ) → n ≤ 33554432 → ltb n (2 ^ 64) ≡ true
 small n h = lt-ltb n (2 ^ 64) (omega (arith, h))
@@ -120,8 +124,8 @@ settings_on_line s w =
     and_from _ _ (small s.device (omega (arith, w.device))) (and_from _ _ (small s.t3 (omega (arith, t3))) (and_from _ _ (small s.t6 (omega (arith, t6)))
     (and_from _ _ (small s.t7 (omega (arith, t7))) (and_from _ _ (small s.t8 (omega (arith, t8))) (and_from _ _ (small s.max w.greatest_max)
     (and_from _ _ (small s.depth (omega (arith, w.greatest_depth))) refl)))))) in
-    ap on_line (line_text s.role s.link s.device s.t3 s.t6 s.t7 s.t8 s.max s.depth)
-    ∙ joined (opening_of s) (flat_map spaced (numbers_of s)) (opening_on_line s.role s.link) (numbers_on_line (numbers_of s) fit)
+    ap on_line (line_text s.version s.role s.link s.device s.t3 s.t6 s.t7 s.t8 s.max s.depth)
+    ∙ joined (opening_of s) (flat_map spaced (numbers_of s)) (opening_on_line s (omega (arith, w.greatest_version))) (numbers_on_line (numbers_of s) fit)
 
 -- ---- the lines of what is written
 

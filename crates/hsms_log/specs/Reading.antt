@@ -71,8 +71,10 @@ times_at text = do
 -- the settings, where their numbers fit their types
 unfoldable pub settings_at : List ℕ → Option Parameters
 settings_at line = do
-  rest ← after (codes "hsms-log 1 ") line
-  a ← word_at rest
+  rest ← after (codes "hsms-log ") line
+  v ← number_at rest
+  version ← below (2 ^ 8) v.0
+  a ← word_at v.1
   role ← role_of a.0
   b ← word_at a.1
   link ← link_of b.0
@@ -83,4 +85,4 @@ settings_at line = do
   max ← below (2 ^ 32) d.0
   e ← number_of d.1
   depth ← below (2 ^ 8) e
-  Some (record { role = role; link = link; device = device; t3 = times.0; t6 = times.1; t7 = times.2; t8 = times.3; max = max; depth = depth })
+  Some (record { version = version; role = role; link = link; device = device; t3 = times.0; t6 = times.1; t7 = times.2; t8 = times.3; max = max; depth = depth })

@@ -13,9 +13,17 @@ Puts (Err _) old new octets = GrowsByFront old new octets
 abbrev pub spaced : ℕ → List ℕ
 spaced n = 32 ∷ decimal n
 
--- the words of a first line before its numbers
+-- the first word of a first line, and its version
+abbrev pub version_text : ℕ → List ℕ
+version_text version = codes "hsms-log" ++ spaced version
+
+-- the two words behind the version, each behind a space
+abbrev pub words_of : Parameters → List ℕ
+words_of s = 32 ∷ (role_word s.role ++ 32 ∷ link_word s.link)
+
+-- a first line before its numbers
 abbrev pub opening_of : Parameters → List ℕ
-opening_of s = codes "hsms-log 1 " ++ (role_word s.role ++ 32 ∷ link_word s.link)
+opening_of s = version_text s.version ++ words_of s
 
 -- the numbers of a first line
 abbrev pub numbers_of : Parameters → List ℕ

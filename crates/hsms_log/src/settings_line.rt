@@ -1,7 +1,7 @@
 //! The first line of a log.
 
-ghost use Rattle.std.specs.Prelude.{◌≡◌, IfSome, IfNone, option_map};
-ghost use Rattle.hsms_machine.specs.Settings.{Parameters};
+ghost use Rattle.std.specs.Prelude.{◌≡◌, ◌≤◌, ◌↔◌, IsSome, IfSome, IfNone, option_map};
+ghost use Rattle.hsms_machine.specs.Settings.{Parameters, IsWithinLimits};
 ghost use Rattle.hsms_log.specs.Spelling.{SpellsSettings};
 ghost use Rattle.hsms_log.specs.Reading.{role_of, link_of, times_at as times_and_rest, settings_at};
 ghost use Rattle.hsms_log.specs.Fields.{parameters_of};
@@ -12,6 +12,7 @@ use hsms_machine::{Role, Settings, Side};
 /// The words of a first line, with numbers that fit their types.
 #[derive(Clone, Copy)]
 struct Fields {
+    version: u8,
     role: Role,
     link: Side,
     device: u16,
@@ -30,7 +31,16 @@ pub fn read_settings(line: &[u8]) -> Option<Settings>
     ensures none { IfNone result ((settings : Parameters) → SpellsSettings line.now settings → ⊥) }
 {
     let fields = read_fields(line)?;
+    settings_of(fields)
+}
+
+/// The settings of these words, or None where a number is out of its limits.
+fn settings_of(fields: Fields) -> Option<Settings>
+    ensures within { IsSome result ↔ IsWithinLimits (parameters_of fields) }
+    ensures value { IfSome result (λ settings. settings ≡ parameters_of fields) }
+{
     let Fields {
+        version,
         role,
         link,
         device,
@@ -41,14 +51,31 @@ pub fn read_settings(line: &[u8]) -> Option<Settings>
         max,
         depth,
     } = fields;
-    Settings::new(role, link, device, t3, t6, t7, t8, max, depth)
+    match Settings::new(role, link, device, t3, t6, t7, t8, max, depth) {
+        Some(settings) => of_version(version, settings),
+        None => None,
+    }
+}
+
+/// The same numbers for a log of this version, where there is one.
+fn of_version(version: u8, settings: Settings) -> Option<Settings>
+    ensures within { IsSome result ↔ (1 ≤ version) × (version ≤ 2) }
+    ensures value { IfSome result (λ s. settings.version ≡ 1 → s ≡ record settings { version = version }) }
+{
+    match version {
+        1 => Some(settings),
+        2 => Some(settings.several()),
+        _ => None,
+    }
 }
 
 #[tactic(auto, unfolding(crate::specs::Reading::settings_at))]
 fn read_fields(line: &[u8]) -> Option<Fields>
     ensures { option_map parameters_of result ≡ settings_at line.now }
 {
-    let rest = after_prefix(line, b"hsms-log 1 ")?;
+    let rest = after_prefix(line, b"hsms-log ")?;
+    let (version, rest) = number_at(rest)?;
+    let version = u8::try_from(version).ok()?;
     let (role, rest) = word_at(rest)?;
     let role = read_role(role)?;
     let (link, rest) = word_at(rest)?;
@@ -60,6 +87,7 @@ fn read_fields(line: &[u8]) -> Option<Fields>
     let max = u32::try_from(max).ok()?;
     let depth = u8::try_from(number(rest)?).ok()?;
     Some(Fields {
+        version,
         role,
         link,
         device,

@@ -4,7 +4,7 @@ ghost use Rattle.std.specs.Prelude.{◌≡◌, ◌≤◌, ◌++◌, [], ◌∷�
 ghost use Rattle.std.specs.List.{flat_map};
 ghost use Rattle.hex.specs.Hex.{encode_lower};
 ghost use Rattle.hsms_frame.specs.Count.{count_failure};
-ghost use Rattle.hsms_log.specs.Writing.{Puts, opening_of, numbers_of, spaced};
+ghost use Rattle.hsms_log.specs.Writing.{Puts, version_text, words_of, opening_of, numbers_of, spaced};
 ghost use Rattle.hsms_machine.specs.Settings.{IsWithinLimits};
 ghost use Rattle.hsms_log.specs.Spelling.{SpellsSettings, SpellsEntry, entry_line, settings_line, event_text, message_octets, system_octets};
 
@@ -116,19 +116,37 @@ pub fn write_settings<W: Sink>(sink: &mut W, settings: &Settings) -> Result<(), 
     ensures failures { (W.state sink.new).failures ≡ count_failure result (W.state sink.old).failures }
 {
     let numbers = numbers(settings);
-    put(sink, opening(settings))?;
+    put_opening(sink, settings)?;
     put_numbers(sink, &numbers)
 }
 
-/// The words before the numbers.
-fn opening(settings: &Settings) -> &'static [u8]
-    ensures { result.now ≡ opening_of settings.now }
+/// Writes the words before the numbers.
+fn put_opening<W: Sink>(sink: &mut W, settings: &Settings) -> Result<(), LogFault>
+    ensures written { Puts result (W.state sink.old).written (W.state sink.new).written (opening_of settings.now) }
+    ensures failures { (W.state sink.new).failures ≡ count_failure result (W.state sink.old).failures }
+{
+    put_version(sink, settings.version())?;
+    put(sink, words(settings))
+}
+
+/// Writes the first word and the version.
+fn put_version<W: Sink>(sink: &mut W, version: u8) -> Result<(), LogFault>
+    ensures written { Puts result (W.state sink.old).written (W.state sink.new).written (version_text version) }
+    ensures failures { (W.state sink.new).failures ≡ count_failure result (W.state sink.old).failures }
+{
+    put(sink, b"hsms-log")?;
+    put_spaced(sink, u64::from(version))
+}
+
+/// What the end is and how it is linked, each behind a space.
+fn words(settings: &Settings) -> &'static [u8]
+    ensures { result.now ≡ words_of settings.now }
 {
     match (settings.role(), settings.link()) {
-        (Role::Host, Side::Active) => b"hsms-log 1 host active",
-        (Role::Host, Side::Passive) => b"hsms-log 1 host passive",
-        (Role::Equipment, Side::Active) => b"hsms-log 1 equipment active",
-        (Role::Equipment, Side::Passive) => b"hsms-log 1 equipment passive",
+        (Role::Host, Side::Active) => b" host active",
+        (Role::Host, Side::Passive) => b" host passive",
+        (Role::Equipment, Side::Active) => b" equipment active",
+        (Role::Equipment, Side::Passive) => b" equipment passive",
     }
 }
 

@@ -6,7 +6,7 @@ pub returns-in_err-fields-clause-none : goal.returns-in_err-fields-clause-none
 returns-in_err-fields-clause-none c = rw c.from_residual.ensures (settings_unread c.args.line.now (sym c.in_err-fields.ensures))
 
 pub returns-clause-found : goal.returns-clause-found
-returns-clause-found c = settings_found c.args.line.now _ c.new.result (sym c.in_ok-fields.ensures) c.new.ensures.within c.new.ensures.value
+returns-clause-found c = settings_found c.args.line.now _ c.settings_of.result (sym c.in_ok-fields.ensures) c.settings_of.ensures.within c.settings_of.ensures.value
 
 pub returns-clause-none : goal.returns-clause-none
-returns-clause-none c = settings_none c.args.line.now _ c.new.result (sym c.in_ok-fields.ensures) c.new.ensures.within
+returns-clause-none c = settings_none c.args.line.now _ c.settings_of.result (sym c.in_ok-fields.ensures) c.settings_of.ensures.within
