@@ -170,8 +170,8 @@ down_over_never end over time NotUp b = elim b [
   | inr g ↦ let d : phase.Over ≡ phase.Gone = sym over ∙ g in cc
 ]
 down_over_never end over time Ended b = let d : false ≡ true = b.0 in cc
-down_over_never end over time T3Overdue b = b.1.0 over
-down_over_never end over time LinkOverdue b = elim b.1 [ inl p ↦ p.0 over | inr p ↦ p.0 over ]
+down_over_never end over time T3Overdue b = b.1.0.0 over
+down_over_never end over time LinkOverdue b = elim b.1 [ inl p ↦ p.0.0 over | inr p ↦ p.0.0 over ]
 down_over_never end over time NotDue b = b
 down_over_never end over time NoCause b = b
 down_over_never end over time rule b = b

@@ -84,7 +84,7 @@ module _ (end : State) (late : IsLate end) (in_time : is_data_overdue end ≡ fa
   t7_facts : is_t7_overdue end.tracker end.moment ≡ true → IsT7Overdue (facts_of end.tracker) end.tracker.settings end.moment
   t7_facts e =
       let h = unselected_phase end.tracker.phase (nat_lt end.tracker.settings.t7 (end.moment - end.tracker.up_time)) e in (
-        up_is_not_over end.tracker.phase late.up,
+        (up_is_not_over end.tracker.phase late.up, up_not_gone end.tracker.phase late.up),
         (λ (s : end.tracker.phase ≡ phase.Selected). let d : phase.NotSelected ≡ phase.Selected = sym h.0 ∙ s in cc),
         connected_late end.tracker.phase _ h.0 h.1,
       )

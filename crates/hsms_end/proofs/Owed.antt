@@ -8,13 +8,14 @@ use Rattle.hsms_machine.specs.declared.entry.Event.TheVariants.{Sent, Taken, Dis
 use Rattle.hsms_machine.specs.declared.phase.Phase.{Phase}
 use Rattle.hsms_machine.specs.declared.phase.Phase.TheVariants as phase
 use Rattle.hsms_machine.specs.declared.open.Transaction.{Transaction}
+use Rattle.hsms_machine.specs.Entry.{is_up as is_up_event, is_down}
 use Rattle.hsms_machine.specs.Message.{is_data_request, is_control_request, separates}
 use Rattle.hsms_machine.specs.Session.{selects, ends_session}
 use Rattle.hsms_machine.specs.Transaction.{SentData, SentControl, TakenData, TakenControl, concludes, opened_as_at, opened_by}
 use Rattle.hsms_machine.specs.View.{phase_by}
-use Rattle.hsms_machine.specs.Step.{phase_after, is_gone, is_over, is_selected, is_closed_by}
+use Rattle.hsms_machine.specs.Step.{phase_after, pool_after, is_gone, is_over, is_selected, is_closed_by}
 use Rattle.hsms_end.specs.declared.state.State.{State}
-use Rattle.hsms_end.specs.Inside.{after_event}
+use Rattle.hsms_end.specs.Inside.{entry_of, after_event}
 use Rattle.hsms_machine.specs.declared.entry.Entry.{Entry}
 use Rattle.hsms_machine.specs.View.{HasView}
 use Rattle.hsms_end.specs.Doing.{Does}
@@ -71,17 +72,25 @@ fewer stays (x ∷ xs) = pick_fewer (stays x) x (filter stays xs) (length xs) (f
 module _ (end : State) (event : Event) (primaries controls : List Transaction) (owing : IsOwing end primaries controls) (mild : IsMild end.moment event) where
   phase_is : phase_after end.tracker.phase event ≡ phase_by (is_gone end.tracker.phase || false) (is_over end.tracker.phase || false) (is_selected end.tracker.phase || selects event)
   phase_is =
-      ap (λ b. phase_by (is_gone end.tracker.phase || b) (is_over end.tracker.phase || ends_session event) (is_selected end.tracker.phase || selects event)) mild.not_down
+      ap (λ b. if b then phase.NotSelected else phase_by (is_gone end.tracker.phase || is_down event) (is_over end.tracker.phase || ends_session event) (is_selected end.tracker.phase || selects event)) mild.not_up
+      ∙ ap (λ b. phase_by (is_gone end.tracker.phase || b) (is_over end.tracker.phase || ends_session event) (is_selected end.tracker.phase || selects event)) mild.not_down
       ∙ ap (λ b. phase_by (is_gone end.tracker.phase || false) (is_over end.tracker.phase || b) (is_selected end.tracker.phase || selects event)) mild.goes_on
 
   still_unselected : is_unselected (phase_after end.tracker.phase event) ≡ true → is_unselected end.tracker.phase ≡ true
   still_unselected u = was_unselected end.tracker.phase (selects event) owing.up (sym (ap is_unselected phase_is) ∙ u)
 
-  data_is : filter (λ transaction. not (is_closed_by SentData event transaction)) end.tracker.sent_data ++ option_to_list (opened_as_at SentData end.moment event) ≡ filter (λ transaction. not (is_closed_by SentData event transaction)) end.tracker.sent_data ++ []
-  data_is = ap (λ (o : Option Transaction). filter (λ transaction. not (is_closed_by SentData event transaction)) end.tracker.sent_data ++ option_to_list o) mild.no_data
+  kept : (left : List Transaction) → (if is_up_event event then [] else left) ≡ left
+  kept left = ap (λ b. if b then [] else left) mild.not_up
 
-  control_is : filter (λ transaction. not (is_closed_by SentControl event transaction)) end.tracker.sent_control ++ option_to_list (opened_as_at SentControl end.moment event) ≡ filter (λ transaction. not (is_closed_by SentControl event transaction)) end.tracker.sent_control ++ []
-  control_is = ap (λ (o : Option Transaction). filter (λ transaction. not (is_closed_by SentControl event transaction)) end.tracker.sent_control ++ option_to_list o) mild.no_control
+  data_is : pool_after SentData end.tracker.sent_data (entry_of end event) ≡ filter (λ transaction. not (is_closed_by SentData event transaction)) end.tracker.sent_data ++ []
+  data_is =
+      kept (filter (λ transaction. not (is_closed_by SentData event transaction)) end.tracker.sent_data ++ option_to_list (opened_as_at SentData end.moment event))
+      ∙ ap (λ (o : Option Transaction). filter (λ transaction. not (is_closed_by SentData event transaction)) end.tracker.sent_data ++ option_to_list o) mild.no_data
+
+  control_is : pool_after SentControl end.tracker.sent_control (entry_of end event) ≡ filter (λ transaction. not (is_closed_by SentControl event transaction)) end.tracker.sent_control ++ []
+  control_is =
+      kept (filter (λ transaction. not (is_closed_by SentControl event transaction)) end.tracker.sent_control ++ option_to_list (opened_as_at SentControl end.moment event))
+      ∙ ap (λ (o : Option Transaction). filter (λ transaction. not (is_closed_by SentControl event transaction)) end.tracker.sent_control ++ option_to_list o) mild.no_control
 
   pub owing_after : IsOwing (after_event end event) (filter (λ transaction. not (is_closed_by TakenData event transaction)) primaries ++ option_to_list (opened_as_at TakenData end.moment event)) (filter (λ transaction. not (is_closed_by TakenControl event transaction)) controls ++ option_to_list (opened_as_at TakenControl end.moment event))
   owing_after =
@@ -100,8 +109,12 @@ module _ (end : State) (event : Event) (primaries controls : List Transaction) (
               ap (λ (b : Bool). is_unselected (phase_after end.tracker.phase event) && nat_lt end.tracker.settings.t7 (end.moment - (if b then end.moment else end.tracker.up_time))) mild.not_up
               ∙ and_false (is_unselected (phase_after end.tracker.phase event)) (is_unselected end.tracker.phase) (nat_lt end.tracker.settings.t7 (end.moment - end.tracker.up_time)) still_unselected owing.calm.selected_in_time;
         };
-        taken_data = ap (λ (xs : List Transaction). filter (λ transaction. not (is_closed_by TakenData event transaction)) xs ++ option_to_list (opened_as_at TakenData end.moment event)) owing.taken_data;
-        taken_control = ap (λ (xs : List Transaction). filter (λ transaction. not (is_closed_by TakenControl event transaction)) xs ++ option_to_list (opened_as_at TakenControl end.moment event)) owing.taken_control;
+        taken_data =
+            kept (filter (λ transaction. not (is_closed_by TakenData event transaction)) end.tracker.taken_data ++ option_to_list (opened_as_at TakenData end.moment event))
+            ∙ ap (λ (xs : List Transaction). filter (λ transaction. not (is_closed_by TakenData event transaction)) xs ++ option_to_list (opened_as_at TakenData end.moment event)) owing.taken_data;
+        taken_control =
+            kept (filter (λ transaction. not (is_closed_by TakenControl event transaction)) end.tracker.taken_control ++ option_to_list (opened_as_at TakenControl end.moment event))
+            ∙ ap (λ (xs : List Transaction). filter (λ transaction. not (is_closed_by TakenControl event transaction)) xs ++ option_to_list (opened_as_at TakenControl end.moment event)) owing.taken_control;
         few =
             (let e1 = ap (λ (xs : List Transaction). length xs) data_is in
             let e2 = ap (λ (xs : List Transaction). length xs) control_is in

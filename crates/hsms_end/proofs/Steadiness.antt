@@ -59,13 +59,10 @@ up_is_not_over p up e = let d : false ≡ true = ap is_up (sym e) ∙ up in cc
 no_time : (limit now : ℕ) → nat_lt limit (now - now) ≡ false
 no_time limit now = grind (arith, nat_tests)
 
-idle : (xs : List Transaction) → xs ≡ [] → filter (λ (transaction : Transaction). not false) xs ++ [] ≡ []
-idle xs e = ap (λ (ys : List Transaction). filter (λ (transaction : Transaction). not false) ys ++ []) e
-
 module _ (end : State) (before : end.tracker.phase ≡ phase.Before) (fresh : IsFresh end.tracker) where
   up_never : (rule : Rule) → Breaks (facts_of end.tracker) end.tracker.settings (entry_of end Up) rule → ⊥
   up_never Backwards b = let e : end.tracker.last_time ≡ 0 = fresh.time in absurd (omega arith)
-  up_never NotUp b = b before
+  up_never NotUp b = b.0 before
   up_never Ended b = let d : false ≡ true = b.0 in cc
   up_never T3Overdue b =
       let d : false ≡ true = sym (ap (λ (xs : List Transaction). list_any (λ opened. nat_lt end.tracker.settings.t3 (end.moment - opened.time)) xs) fresh.sent_data) ∙ b.1.1 in cc
@@ -89,24 +86,18 @@ module _ (end : State) (before : end.tracker.phase ≡ phase.Before) (fresh : Is
       record {
         calm = record {
           not_past = omega arith;
-          data_in_time = ap (λ (xs : List Transaction). list_any (λ opened. nat_lt end.tracker.settings.t3 (end.moment - opened.time)) xs) (idle end.tracker.sent_data fresh.sent_data);
-          control_in_time = ap (λ (xs : List Transaction). list_any (λ opened. nat_lt end.tracker.settings.t6 (end.moment - opened.time)) xs) (idle end.tracker.sent_control fresh.sent_control);
+          data_in_time = refl;
+          control_in_time = refl;
           selected_in_time = ap (λ (p : Phase). is_unselected p && nat_lt end.tracker.settings.t7 (end.moment - end.moment)) up_phase ∙ no_time end.tracker.settings.t7 end.moment;
         };
-        taken_data = idle end.tracker.taken_data fresh.taken_data;
-        taken_control = idle end.tracker.taken_control fresh.taken_control;
-        few =
-            (let e1 = ap (λ (xs : List Transaction). length xs) (idle end.tracker.sent_data fresh.sent_data) in
-            let e2 = ap (λ (xs : List Transaction). length xs) (idle end.tracker.sent_control fresh.sent_control) in
-            omega arith);
-        unselected = λ e. idle end.tracker.sent_data fresh.sent_data;
+        taken_data = refl;
+        taken_control = refl;
+        few = omega arith;
+        unselected = λ e. refl;
       }
 
   pub up_none : own_open_of (after_event end Up).tracker ≡ 0
-  up_none =
-      let e1 = ap (λ (xs : List Transaction). length xs) (idle end.tracker.sent_data fresh.sent_data) in
-      let e2 = ap (λ (xs : List Transaction). length xs) (idle end.tracker.sent_control fresh.sent_control) in
-      omega arith
+  up_none = refl
 
   pub up_sound : end.settings ≡ end.tracker.settings → IsWithinLimits end.settings → end.framer.max ≡ end.settings.max → IsSound (after_event end Up)
   up_sound settings within limit =
