@@ -7,14 +7,11 @@ ghost use Rattle.hsms_end.specs.Sending.{IsSpelt};
 
 use crate::fault::EndFault;
 use crate::state::State;
-use hsms_frame::{Frame, Text, data_header};
+use hsms_frame::{Frame, HEADER_LENGTH, Text, data_header};
 use hsms_machine::Entry;
 use secs_item::{Item, ItemFault, encode, nesting};
 use secs_text::Message;
 use std::alloc::{AllocError, Global};
-
-/// How many octets a header has (SEMI E37, section 8).
-const HEADER_LENGTH: usize = 10;
 
 impl State {
     ghost use Rattle.std.specs.Prelude.{◌<◌, ◌+◌, ◌≤◌, length, Some, None, [], ◌∷◌, OnOk};

@@ -3,10 +3,10 @@
 ghost use Rattle.std.specs.Prelude.{◌≡◌, ◌<◌};
 ghost use Rattle.hsms_frame.specs.Build.{data_header_of, control_header_of, reject_header_of};
 
-use crate::header::Header;
-
-// The session ID of a control message.
-const CONTROL: u16 = 0xffff;
+use crate::header::{CONTROL_SESSION, Header};
+use crate::stypes::{
+    DATA, LINKTEST_REQ, LINKTEST_RSP, REJECT_REQ, SELECT_REQ, SELECT_RSP, SEPARATE_REQ,
+};
 
 /// The header of a data message. The stream is below 128.
 pub fn data_header(device: u16, stream: u8, function: u8, wait: bool, system: u32) -> Header
@@ -18,7 +18,7 @@ pub fn data_header(device: u16, stream: u8, function: u8, wait: bool, system: u3
         byte2: if wait { stream + 128 } else { stream },
         byte3: function,
         ptype: 0,
-        stype: 0,
+        stype: DATA,
         system,
     }
 }
@@ -27,7 +27,7 @@ pub fn data_header(device: u16, stream: u8, function: u8, wait: bool, system: u3
 pub fn select_req(system: u32) -> Header
     ensures { result ≡ control_header_of 1 0 system }
 {
-    control_header(1, 0, system)
+    control_header(SELECT_REQ, 0, system)
 }
 
 /// The header of Select.rsp that answers a request. Status 0 establishes the session, 1 says that it already stands,
@@ -35,28 +35,28 @@ pub fn select_req(system: u32) -> Header
 pub fn select_rsp(request: Header, status: u8) -> Header
     ensures { result ≡ control_header_of 2 status request.system }
 {
-    control_header(2, status, request.system)
+    control_header(SELECT_RSP, status, request.system)
 }
 
 /// The header of Linktest.req: asks whether the other end is still there.
 pub fn linktest_req(system: u32) -> Header
     ensures { result ≡ control_header_of 5 0 system }
 {
-    control_header(5, 0, system)
+    control_header(LINKTEST_REQ, 0, system)
 }
 
 /// The header of Linktest.rsp that answers a request.
 pub fn linktest_rsp(request: Header) -> Header
     ensures { result ≡ control_header_of 6 0 request.system }
 {
-    control_header(6, 0, request.system)
+    control_header(LINKTEST_RSP, 0, request.system)
 }
 
 /// The header of Separate.req: ends the session.
 pub fn separate(system: u32) -> Header
     ensures { result ≡ control_header_of 9 0 system }
 {
-    control_header(9, 0, system)
+    control_header(SEPARATE_REQ, 0, system)
 }
 
 /// The header of Reject.req that refuses a message, with its session ID and system bytes. Reason 1 is an SType that
@@ -74,7 +74,7 @@ pub fn reject_of(header: Header, reason: u8) -> Header
         byte2: rejected,
         byte3: reason,
         ptype: 0,
-        stype: 7,
+        stype: REJECT_REQ,
         system: header.system,
     }
 }
@@ -83,7 +83,7 @@ fn control_header(stype: u8, byte3: u8, system: u32) -> Header
     ensures { result ≡ control_header_of stype byte3 system }
 {
     Header {
-        session: CONTROL,
+        session: CONTROL_SESSION,
         byte2: 0,
         byte3,
         ptype: 0,

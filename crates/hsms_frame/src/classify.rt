@@ -5,6 +5,9 @@ ghost use Rattle.hsms_frame.specs.Header.{kind_of};
 
 use crate::header::Header;
 use crate::kinds::Kind;
+use crate::stypes::{
+    DATA, LINKTEST_REQ, LINKTEST_RSP, REJECT_REQ, SELECT_REQ, SELECT_RSP, SEPARATE_REQ,
+};
 
 /// The kind of the message that has a header: its PType first, then its SType, and of data the function.
 pub fn kind(header: Header) -> Kind
@@ -14,14 +17,14 @@ pub fn kind(header: Header) -> Kind
         return Kind::OtherPType;
     }
     match header.stype {
-        0 if header.byte3 % 2 == 1 => Kind::Primary,
-        0 => Kind::Reply,
-        1 => Kind::SelectReq,
-        2 => Kind::SelectRsp,
-        5 => Kind::LinktestReq,
-        6 => Kind::LinktestRsp,
-        7 => Kind::Reject,
-        9 => Kind::Separate,
+        DATA if header.byte3 % 2 == 1 => Kind::Primary,
+        DATA => Kind::Reply,
+        SELECT_REQ => Kind::SelectReq,
+        SELECT_RSP => Kind::SelectRsp,
+        LINKTEST_REQ => Kind::LinktestReq,
+        LINKTEST_RSP => Kind::LinktestRsp,
+        REJECT_REQ => Kind::Reject,
+        SEPARATE_REQ => Kind::Separate,
         _ => Kind::OtherSType,
     }
 }

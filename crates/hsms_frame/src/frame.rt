@@ -2,7 +2,7 @@
 
 ghost use Rattle.std.specs.Prelude.{◌≡◌, List, ℕ};
 
-use crate::header::Header;
+use crate::header::{HEADER_LENGTH, Header};
 use std::marker::Model;
 
 /// The octets of a message's text, which contracts see as a list.
@@ -55,6 +55,6 @@ impl Frame {
     pub fn length(&self) -> u64
         ensures { result ≡ 10 + length self.now.text }
     {
-        self.text.as_slice().len() as u64 + 10
+        self.text.as_slice().len() as u64 + HEADER_LENGTH as u64
     }
 }

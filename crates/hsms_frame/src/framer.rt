@@ -5,7 +5,7 @@ ghost use Rattle.hsms_frame.specs.Framing.{FramesAs, FrontAs, IsPushed, rest_aft
 
 use crate::fault::FrameFault;
 use crate::frame::{Frame, Text};
-use crate::header::Header;
+use crate::header::{HEADER_LENGTH, Header};
 use std::alloc::{AllocError, Global};
 use std::marker::Model;
 
@@ -126,12 +126,12 @@ fn front(octets: &[u8], max: u32) -> Result<Option<(Header, usize)>, FrameFault>
         return Ok(None);
     };
     let length = u32::from_be_bytes(*field);
-    if length < 10 {
+    if length < HEADER_LENGTH as u32 {
         return Err(FrameFault::TooShort {
             length: u64::from(length),
         });
     }
-    let Some((header, text)) = behind.split_first_chunk::<10>() else {
+    let Some((header, text)) = behind.split_first_chunk::<HEADER_LENGTH>() else {
         return Ok(None);
     };
     let header = Header::of(*header);
@@ -141,7 +141,7 @@ fn front(octets: &[u8], max: u32) -> Result<Option<(Header, usize)>, FrameFault>
             header,
         });
     }
-    let size = length as usize - 10;
+    let size = length as usize - HEADER_LENGTH;
     if text.len() < size {
         return Ok(None);
     }

@@ -3,6 +3,12 @@
 ghost use Rattle.std.specs.Prelude.{◌≡◌};
 ghost use Rattle.hsms_frame.specs.Header.{header_octets, IsHeader, stream_of, function_of, wait_of};
 
+/// How many octets a header has (SEMI E37, section 8.2).
+pub const HEADER_LENGTH: usize = 10;
+
+/// The session ID of control messages (SEMI E37.1).
+pub const CONTROL_SESSION: u16 = 0xffff;
+
 /// The ten octets before a message's text (SEMI E37, section 8.2).
 #[derive(Clone, Copy, Debug, PartialEq, Eq)]
 pub struct Header {
@@ -22,7 +28,7 @@ pub struct Header {
 
 impl Header {
     /// The header that ten octets spell. Any ten octets spell one.
-    pub fn of(octets: [u8; 10]) -> Header
+    pub fn of(octets: [u8; HEADER_LENGTH]) -> Header
         ensures fits { IsHeader result }
         ensures spelled { header_octets result ≡ octets }
         ensures only { (header : Header) → IsHeader header → header_octets header ≡ octets → result ≡ header }
@@ -39,7 +45,7 @@ impl Header {
     }
 
     /// The ten octets that spell the header, the most significant octet of each number first.
-    pub fn octets(self) -> [u8; 10]
+    pub fn octets(self) -> [u8; HEADER_LENGTH]
         ensures { result ≡ header_octets self }
     {
         let [s0, s1] = self.session.to_be_bytes();

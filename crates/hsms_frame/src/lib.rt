@@ -15,7 +15,7 @@
 //! let mut framer = Framer::new(alloc, 1048576);
 //! framer.push(piece)?;
 //! while let Some(frame) = framer.next()? {
-//!     let kind = kind(frame.header); // Kind::Data, ..
+//!     let kind = kind(frame.header); // Kind::Primary, ..
 //! }
 //!
 //! let frame = read_frame(alloc, &mut source, 1048576)?;  // None at the end of the input
@@ -34,6 +34,7 @@ pub mod laws;
 mod memory;
 mod read;
 mod standard;
+mod stypes;
 mod tally;
 mod transfer;
 mod write;
@@ -46,7 +47,7 @@ pub use device::{Failed, Sink, Source};
 pub use fault::{FrameFault, ReadFault, WriteFault};
 pub use frame::{Frame, Text};
 pub use framer::Framer;
-pub use header::Header;
+pub use header::{CONTROL_SESSION, HEADER_LENGTH, Header};
 pub use kinds::Kind;
 pub use memory::{Feed, Store};
 pub use read::read_frame;

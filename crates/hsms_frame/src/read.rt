@@ -7,7 +7,7 @@ ghost use Rattle.hsms_frame.specs.Reading.{CountsPart, CountsWhole, ReadsAs, IsR
 use crate::device::Source;
 use crate::fault::ReadFault;
 use crate::frame::{Frame, Text};
-use crate::header::Header;
+use crate::header::{HEADER_LENGTH, Header};
 use crate::transfer::fill;
 use std::alloc::Global;
 
@@ -47,12 +47,12 @@ fn read_message<R: Source>(
     let Some(length) = read_length(source)? else {
         return Ok(None);
     };
-    if length < 10 {
+    if length < HEADER_LENGTH as u32 {
         return Err(ReadFault::TooShort {
             length: u64::from(length),
         });
     }
-    let mut octets = [0u8; 10];
+    let mut octets = [0u8; HEADER_LENGTH];
     read_all(source, &mut octets)?;
     let header = Header::of(octets);
     if length > max {
@@ -61,7 +61,7 @@ fn read_message<R: Source>(
             header,
         });
     }
-    let text = read_text(alloc, source, length as usize - 10)?;
+    let text = read_text(alloc, source, length as usize - HEADER_LENGTH)?;
     Ok(Some(Frame { header, text }))
 }
 

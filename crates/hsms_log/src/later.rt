@@ -11,6 +11,7 @@ use crate::judging::Tally;
 use crate::reading::{FrameLine, Line, read_frame_line, read_line};
 use crate::session::Session;
 use crate::verdict::Why;
+use hsms_frame::HEADER_LENGTH;
 use std::alloc::{AllocError, Global};
 
 /// Judges a line that is not the first. The octets of its frame take the place of what the vector holds.
@@ -33,7 +34,7 @@ pub fn later_line(
     }
     match read_frame_line(line, octets)? {
         Some(frame) => {
-            let (_, text) = octets.split_at(10);
+            let (_, text) = octets.split_at(HEADER_LENGTH);
             frame_line(session, tally, frame, text)
         }
         None => other_line(session, tally, alloc, line, max),

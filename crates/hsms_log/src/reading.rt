@@ -12,7 +12,7 @@ ghost use Rattle.hsms_log.specs.FrameLine.{IsSpelled, mark_word};
 use crate::digits::decode;
 use crate::fault::LineFault;
 use crate::number::{after_prefix, number_at};
-use hsms_frame::{Frame, Header, Text};
+use hsms_frame::{Frame, HEADER_LENGTH, Header, Text};
 use hsms_machine::{Cause, Entry, Event, Mark};
 use std::alloc::{AllocError, Global};
 
@@ -139,7 +139,7 @@ fn read_message(alloc: Global, digits: &[u8]) -> Result<Frame, LineFault>
     let Some(header) = read_octets(digits, &mut octets)? else {
         return Err(LineFault::Unreadable);
     };
-    drop_front(&mut octets, 10);
+    drop_front(&mut octets, HEADER_LENGTH);
     Ok(Frame {
         header,
         text: Text::new(octets),
@@ -174,7 +174,7 @@ fn read_octets(digits: &[u8], octets: &mut Vec<u8>) -> Result<Option<Header>, Al
     if !decode(digits, octets.as_mut_slice()) {
         return Ok(None);
     }
-    let Some((header, _)) = octets.split_first_chunk::<10>() else {
+    let Some((header, _)) = octets.split_first_chunk::<HEADER_LENGTH>() else {
         return Ok(None);
     };
     Ok(Some(Header::of(*header)))

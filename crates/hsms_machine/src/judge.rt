@@ -10,11 +10,8 @@ use crate::open::Flow;
 use crate::phase::Phase;
 use crate::rule::Rule;
 use crate::view::View;
-use hsms_frame::Kind;
+use hsms_frame::{HEADER_LENGTH, Kind};
 use secs_item::measure_text;
-
-/// How many octets a header has (SEMI E37, section 8).
-const HEADER_LENGTH: usize = 10;
 
 impl View {
     ghost use Rattle.std.specs.Prelude.{◌≡◌, ◌↔◌, ◌+◌, ◌<◌, ◌++◌, [], ◌∷◌, length, IsTrue};

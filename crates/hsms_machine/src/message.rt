@@ -6,11 +6,8 @@ ghost use Rattle.hsms_machine.specs.Transaction.{answers as is_answer, is_reply_
 
 use crate::open::Flow;
 use crate::settings::{Role, Settings, Side};
-use hsms_frame::{Header, Kind, kind};
+use hsms_frame::{CONTROL_SESSION, Header, Kind, kind};
 use std::marker::Model;
-
-/// The session ID of control messages (SEMI E37.1).
-const CONTROL_SESSION: u16 = 0xffff;
 
 /// The stream by which equipment tells of errors (SEMI E5).
 const ERROR_STREAM: u8 = 9;

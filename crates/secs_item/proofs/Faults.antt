@@ -8,7 +8,7 @@ use Rattle.secs_item.specs.Header.{Reason, Head, header_at}
 use Rattle.secs_item.specs.Spelling.{IsOctets, AllSpelled}
 use Rattle.secs_item.specs.Fault.{FaultsInElement, FaultsInHeader, Faults}
 use Rattle.secs_item.specs.Reading.{Fault, ◌>>=◌, behind, elements_by, item_by, item_at}
-use Rattle.secs_item.proofs.Octets.{IsOctets-drop}
+use Rattle.secs_item.proofs.Octets.{IsOctets-drop, IsOctets-rest}
 use Rattle.secs_item.proofs.Headers.{header_is}
 use Rattle.secs_item.proofs.Items.{IsItem, item_found}
 use Rattle.secs_item.proofs.Again.{item_reads}
@@ -38,10 +38,6 @@ behind_err size (Err g) f e = (g, refl, cc)
 bind_err : {A B : Type 0} (r : Result A Fault) (next : A → Result B Fault) (f : Fault) → (r >>= next) ≡ Err f → (r ≡ Err f) ⊎ ((x : A) × (r ≡ Ok x) × (next x ≡ Err f))
 bind_err (Ok x) next f e = inr (x, refl, e)
 bind_err (Err g) next f e = inl cc
-
-IsOctets-rest : (octets spelled rest : List ℕ) → octets ≡ spelled ++ rest → IsOctets octets → IsOctets rest
-IsOctets-rest octets spelled rest parts h =
-    subst IsOctets (ap (λ (o : List ℕ). drop (length spelled) o) parts ∙ drop_at spelled rest (length spelled) refl) (IsOctets-drop (length spelled) octets h)
 
 -- an element was read, and then those behind it
 abbrev and_others : Value × ℕ → Result (Elements × ℕ) Fault → Result (Elements × ℕ) Fault

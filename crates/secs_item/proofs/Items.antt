@@ -10,7 +10,7 @@ use Rattle.secs_item.specs.Item.{Value, list, values, Elements, no_elements, ele
 use Rattle.secs_item.specs.Header.{Reason, Head, header_at}
 use Rattle.secs_item.specs.Spelling.{IsOctets, header, Spells, AllSpelled}
 use Rattle.secs_item.specs.Reading.{Fault, ◌>>=◌, behind, values_of, elements_by, item_by, item_at}
-use Rattle.secs_item.proofs.Octets.{IsOctets-drop, IsOctets-take}
+use Rattle.secs_item.proofs.Octets.{IsOctets-drop, IsOctets-rest, IsOctets-take}
 use Rattle.secs_item.proofs.Bodies.{body_spelled}
 use Rattle.secs_item.proofs.Headers.{IsHeader, header_is}
 
@@ -42,10 +42,6 @@ pub record AreElements (depth number : ℕ) (octets : List ℕ) (es : Elements) 
   pub spells : AllSpelled es spelled
   pub count_is : count es ≡ number
   pub nesting : nest_of_elements es ≤ depth
-
-IsOctets-rest : (octets spelled rest : List ℕ) → octets ≡ spelled ++ rest → IsOctets octets → IsOctets rest
-IsOctets-rest octets spelled rest parts h =
-    subst IsOctets (ap (λ (o : List ℕ). drop (length spelled) o) parts ∙ drop_at spelled rest (length spelled) refl) (IsOctets-drop (length spelled) octets h)
 
 abbrev pub ElementFound : ℕ → (List ℕ → Result (Value × ℕ) Fault) → Type 0
 ElementFound depth one = (octets : List ℕ) (x : Value × ℕ) → IsOctets octets → one octets ≡ Ok x → IsItem depth octets x.0 x.1

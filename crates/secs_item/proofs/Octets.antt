@@ -1,7 +1,7 @@
 -- Octets, and numbers in them.
-use Rattle.std.proofs.Common.{◌≡◌, ℕ, zero, suc, ◌+◌, ◌*◌, ◌^◌, ◌<◌, List, [], ◌∷◌, ◌++◌, length, take, drop, sym, ap, ◌∙◌, arith, inl, inr}
+use Rattle.std.proofs.Common.{◌≡◌, ℕ, zero, suc, ◌+◌, ◌*◌, ◌^◌, ◌<◌, List, [], ◌∷◌, ◌++◌, length, take, drop, refl, sym, ap, ◌∙◌, subst, arith, inl, inr}
 use Rattle.std.proofs.lemmas.Bool.{cases_lt}
-use Rattle.std.proofs.lemmas.List.{append-nil, nil_from_length, length-take, get_or-drop, get_or-take, get_or_past}
+use Rattle.std.proofs.lemmas.List.{append-nil, drop_at, nil_from_length, length-take, get_or-drop, get_or-take, get_or_past}
 use Rattle.std.proofs.lemmas.Nat.{same_from_place}
 use Rattle.std.specs.Int.{byte_at}
 use Rattle.byteorder.specs.Endian.{big_bytes, big_number}
@@ -10,6 +10,10 @@ use Rattle.secs_item.specs.Spelling.{IsOctets}
 
 pub IsOctets-drop : (n : ℕ) (octets : List ℕ) → IsOctets octets → IsOctets (drop n octets)
 IsOctets-drop n octets h i = rw get_or-drop (h (n + i))
+
+pub IsOctets-rest : (octets spelled rest : List ℕ) → octets ≡ spelled ++ rest → IsOctets octets → IsOctets rest
+IsOctets-rest octets spelled rest parts h =
+    subst IsOctets (ap (λ (o : List ℕ). drop (length spelled) o) parts ∙ drop_at spelled rest (length spelled) refl) (IsOctets-drop (length spelled) octets h)
 
 pub IsOctets-take : (n : ℕ) (octets : List ℕ) → IsOctets octets → IsOctets (take n octets)
 IsOctets-take n octets h i =

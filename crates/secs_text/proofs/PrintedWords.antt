@@ -7,7 +7,7 @@ use Rattle.std.specs.Fmt.{decimal, signed_decimal, digit_glyph}
 use Rattle.std.specs.Str.Parse.{AllDigits, digits_value}
 use Rattle.std.proofs.lemmas.Fmt.{decimal_is_IsNumeral, decimal_digit, first_decimal}
 use Rattle.std.proofs.lemmas.Str.Parse.{digit_from_value}
-use Rattle.std.proofs.lemmas.Bool.{leb-true, le-leb, eq-eqb, eqb-true, ltb-true, ltb-false}
+use Rattle.std.proofs.lemmas.Bool.{false_from_ne_true, leb-true, le-leb, eq-eqb, eqb-true, ltb-true, ltb-false}
 use Rattle.secs_text.specs.Octets.{is_digit, is_letter, is_of_word}
 use Rattle.secs_text.specs.Words.{is_numeral, number_below, signed_below, negative_of, hex_digit, octet_from, octet_of_digits, octet_then, hex_octets, octets_of, only, octet_of, sized, float_of, truth_of}
 use Rattle.secs_text.specs.Body.{Spelling, hex_octet, truth_letter, signed_number, unsigned_number, hex_float, Spelled, spelled}
@@ -37,17 +37,13 @@ or_second true b c e = refl
 or_second false true c e = refl
 or_second false false c e = cc
 
-is_false : (b : Bool) → (b ≡ true → ⊥) → b ≡ false
-is_false true other = absurd (other refl)
-is_false false other = refl
-
 -- ---- decimal
 
 digit_is : (c : ℕ) → 48 ≤ c → c ≤ 57 → is_digit c ≡ true
 digit_is c low high = and_true _ _ (le-leb 48 c low) (le-leb c 57 high)
 
 no_digit : (c : ℕ) → 57 < c → is_digit c ≡ false
-no_digit c high = and_false (nat_le 48 c) (nat_le c 57) (is_false (nat_le c 57) (λ e. let le = leb-true c 57 e in absurd (omega arith)))
+no_digit c high = and_false (nat_le 48 c) (nat_le c 57) (false_from_ne_true (nat_le c 57) (λ e. let le = leb-true c 57 e in absurd (omega arith)))
 
 letter_is : (c : ℕ) → 65 ≤ c → c ≤ 90 → is_letter c ≡ true
 letter_is c low high = ap (λ b. b || (nat_le 97 c && nat_le c 122)) (and_true _ _ (le-leb 65 c low) (le-leb c 90 high))
@@ -106,7 +102,7 @@ signed_plain half n (c ∷ cs) h some is = let range = digit_from_value c h.0 in
 
 negative_is : (n : ℕ) → negative_of (suc n) ≡ Some (negsuc n)
 negative_is n =
-    let other : (suc n == 0) ≡ false = is_false (suc n == 0) (λ e. let same = eqb-true (suc n) 0 e in absurd (omega arith)) in
+    let other : (suc n == 0) ≡ false = false_from_ne_true (suc n == 0) (λ e. let same = eqb-true (suc n) 0 e in absurd (omega arith)) in
     let less : suc n - 1 ≡ n = omega arith in
     rw other (ap (λ k. Some (negsuc k)) less)
 

@@ -14,8 +14,8 @@ returns-in_err-length-clause-answer g c = λ input told.
 pub returns-in_default-clause-answer : goal.returns-in_default-clause-answer
 returns-in_default-clause-answer g c = λ input told. rw c.in_default.is at (c.in_ok-length.ensures.answer input told)
 
-pub returns-then-length-lt10-clause-answer : goal.returns-then-length-lt10-clause-answer
-returns-then-length-lt10-clause-answer g c = λ input told.
+pub returns-then-length-clause-answer : goal.returns-then-length-clause-answer
+returns-then-length-clause-answer g c = λ input told.
     let a = rw c.in-Some.is at (c.in_ok-length.ensures.answer input told) in
     (too_short input _ a.0 (c.from.ensures ∙ a.1) (omega arith), a.3)
 
