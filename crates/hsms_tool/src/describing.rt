@@ -1,12 +1,14 @@
 //! The command as it is described to `clap`: its subcommands, their options, and the ranges of these.
 
-ghost use Rattle.std.specs.Prelude.{◌≡◌, IfOk, [], codes, false};
-ghost use Rattle.clap.specs.Words.{app_of, rule_of};
-ghost use Rattle.hsms_tool.specs.Number.{depth_number, device_number, flag_option, max_number, option_of, system_number};
+ghost use Rattle.std.specs.Prelude.{◌≡◌, IfOk, []};
+ghost use Rattle.clap.specs.Words.{app_of};
 ghost use Rattle.hsms_tool.specs.Options.{audit_command, command_line, encode_command, show_command};
 
+use crate::describing_options::{
+    depth_option, device_option, hex_option, max_option, system_option,
+};
 use crate::describing_serve::serve_command;
-use clap::{Arg, ArgAction, Command, value_parser};
+use clap::Command;
 use std::alloc::{AllocError, Global};
 
 const SHOW_HELP: &str = "Example: hsms show < capture.bin\n\n\
@@ -53,19 +55,15 @@ const VERSION: &str = "0.1 (session logs of version 1)";
 pub fn command<'a>(alloc: Global) -> Result<Command<'a>, AllocError>
     ensures { IfOk result (λ command. app_of command ≡ command_line) }
 {
-    let show = show_command(alloc)?;
-    let audit = audit_command(alloc);
-    let encode = encode_command(alloc)?;
-    let serve = serve_command(alloc)?;
     let hsms = Command::new(alloc, "hsms")
         .bin_name("hsms")?
         .about("Audits HSMS session logs, reads and writes HSMS messages, and serves a connection")
         .version(VERSION)
         .subcommand_required(true);
-    hsms.subcommand(show)?
-        .subcommand(audit)?
-        .subcommand(encode)?
-        .subcommand(serve)
+    let hsms = hsms.subcommand(show_command(alloc)?)?;
+    let hsms = hsms.subcommand(audit_command(alloc))?;
+    let hsms = hsms.subcommand(encode_command(alloc)?)?;
+    hsms.subcommand(serve_command(alloc)?)
 }
 
 fn show_command<'a>(alloc: Global) -> Result<Command<'a>, AllocError>
@@ -98,63 +96,4 @@ fn encode_command<'a>(alloc: Global) -> Result<Command<'a>, AllocError>
         .arg(max_option(alloc))?
         .arg(depth_option(alloc))?
         .arg(hex_option(alloc))
-}
-
-/// The option `--max`.
-pub fn max_option<'a>(alloc: Global) -> Arg<'a>
-    ensures rule { rule_of result ≡ option_of max_number }
-    ensures local { result.global ≡ false }
-{
-    Arg::new(alloc, "max")
-        .long("max")
-        .value_name("N")
-        .help("Longest header and text of a message, in octets: 256 to 33554432 [default: 1048576]")
-        .value_parser(value_parser!(u32).range(256..=33554432))
-}
-
-/// The option `--depth`.
-pub fn depth_option<'a>(alloc: Global) -> Arg<'a>
-    ensures rule { rule_of result ≡ option_of depth_number }
-    ensures local { result.global ≡ false }
-{
-    Arg::new(alloc, "depth")
-        .long("depth")
-        .value_name("N")
-        .help("Deepest nesting of lists: 1 to 100 [default: 32]")
-        .value_parser(value_parser!(u8).range(1..=100))
-}
-
-/// The option `--device`.
-pub fn device_option<'a>(alloc: Global) -> Arg<'a>
-    ensures rule { rule_of result ≡ option_of device_number }
-    ensures local { result.global ≡ false }
-{
-    Arg::new(alloc, "device")
-        .long("device")
-        .value_name("N")
-        .help("Device, the session ID of the messages: 0 to 32767 [default: 0]")
-        .value_parser(value_parser!(u16).range(0..=32767))
-}
-
-fn system_option<'a>(alloc: Global) -> Arg<'a>
-    ensures rule { rule_of result ≡ option_of system_number }
-    ensures local { result.global ≡ false }
-{
-    Arg::new(alloc, "system")
-        .long("system")
-        .value_name("N")
-        .help(
-            "System bytes of the first message, from which they are counted up: 0 to 4294967295 [default: 1]",
-        )
-        .value_parser(value_parser!(u32))
-}
-
-fn hex_option<'a>(alloc: Global) -> Arg<'a>
-    ensures rule { rule_of result ≡ flag_option (codes "hex") }
-    ensures local { result.global ≡ false }
-{
-    Arg::new(alloc, "hex")
-        .long("hex")
-        .help("Write each message as a line of hexadecimal")
-        .action(ArgAction::SetTrue)
 }

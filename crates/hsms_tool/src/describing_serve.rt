@@ -7,7 +7,7 @@ ghost use Rattle.hsms_tool.specs.Number.{flag_option, option_of};
 ghost use Rattle.hsms_tool.specs.Options.{serve_command};
 ghost use Rattle.hsms_tool.specs.Service.{connection_rules, desk_rules, limit_rules, needed_option, port_number, text_option, with_rules};
 
-use crate::describing::{depth_option, device_option, max_option};
+use crate::describing_options::{depth_option, device_option, max_option};
 use clap::{Arg, ArgAction, Command, value_parser};
 use std::alloc::{AllocError, Global};
 

@@ -7,6 +7,7 @@ ghost use Rattle.hsms_tool.specs.Options.{IsTaskWithinLimits};
 mod auditing;
 mod calls;
 mod describing;
+mod describing_options;
 mod describing_serve;
 mod desks;
 mod doing;
@@ -20,11 +21,12 @@ mod service;
 mod serving;
 mod showing;
 mod socket;
+mod values;
 mod verdict;
 
 use desks::{OwnDesk, desk_of};
 use doing::perform;
-use fault::{ToolFault, exit_status};
+use fault::{ToolFault, exit_status, no_request};
 use hsms_ends::{Link, ServeFault, Served, Step};
 use hsms_frame::{Reader, Writer};
 use options::{Request, Task};
@@ -165,7 +167,7 @@ fn words<R: AllocGlobal + Env>(alloc: Global, rt: &R) -> Result<Vec<String>, Too
     match env::args(rt) {
         Ok(words) => Ok(words.collect(alloc)?),
         Err(error) if error.kind() == ErrorKind::OutOfMemory => Err(ToolFault::Memory),
-        Err(_) => Err(options::no_request(alloc)),
+        Err(_) => Err(no_request(alloc)),
     }
 }
 

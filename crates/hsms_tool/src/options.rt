@@ -1,9 +1,8 @@
 //! The command line, which is judged before anything is read.
 
-ghost use Rattle.std.specs.Prelude.{◌≡◌, ◌≢◌, ◌≤◌, ◌&&◌, IfOk, IfErr, IfSome, IsErrAnd, Ok, Some, None, codes, if◌then◌else◌, map, nat_le, string_bytes};
+ghost use Rattle.std.specs.Prelude.{◌≡◌, ◌≢◌, IfOk, IfErr, IfSome, IsErrAnd, Ok, None, codes, map, string_bytes};
 ghost use Rattle.clap.specs.Words.{found_of, kind_of, rows_of, subcommand_rows_of};
 ghost use Rattle.clap.specs.declared.error.kind.ErrorKind.TheVariants.{OutOfMemory};
-ghost use Rattle.hsms_tool.specs.Number.{IsFlag, depth_number, device_number, max_number, number_in, system_number};
 ghost use Rattle.hsms_tool.specs.Options.{AsksBy, AsksFor, AsksForTask, CallsForText, IsHelp, IsTaskWithinLimits, IsWithinLimits, Spells, SpellsNothing, request_to_serve};
 ghost use Rattle.hsms_tool.specs.Status.{IsRefusedAs, IsRefusedFor};
 ghost use Rattle.hsms_tool.specs.declared.options.Request.{Request};
@@ -11,8 +10,9 @@ ghost use Rattle.hsms_tool.specs.declared.options.Request.TheVariants as request
 ghost use Rattle.hsms_tool.specs.declared.options.Task.{Task};
 
 use crate::describing::command;
-use crate::fault::{ToolFault, refused};
+use crate::fault::{ToolFault, no_request};
 use crate::service::{Service, asked_to_serve};
+use crate::values::{depth_of, device_of, flag_of, max_of, system_of};
 use clap::error::ErrorKind;
 use clap::{ArgMatches, Error};
 use std::alloc::Global;
@@ -61,13 +61,6 @@ pub fn parse(alloc: Global, words: &[String]) -> Result<Request, ToolFault>
         Ok(matches) => asked(alloc, &matches),
         Err(error) => explained(alloc, &error),
     }
-}
-
-/// The fault of a command line that asks for nothing that the command does.
-pub fn no_request(alloc: Global) -> ToolFault
-    ensures { IsRefusedAs (codes "command line") result }
-{
-    refused(alloc, "command line")
 }
 
 fn asked(alloc: Global, matches: &ArgMatches<'_>) -> Result<Request, ToolFault>
@@ -146,78 +139,6 @@ fn asked_to_encode(options: &ArgMatches<'_>) -> Option<Task>
         depth,
         hex,
     })
-}
-
-/// The number of `--device`, where it is from 0 to 32,767.
-pub fn device_of(options: &ArgMatches<'_>) -> Option<u16>
-    ensures value { result ≡ number_in device_number (rows_of (found_of options.now)) }
-    ensures within { IfSome result (λ device. device ≤ 32767) }
-{
-    let device = number_of(options, "device", 0, 32767, Some(0))?;
-    Some(device as u16)
-}
-
-fn system_of(options: &ArgMatches<'_>) -> Option<u32>
-    ensures { result ≡ number_in system_number (rows_of (found_of options.now)) }
-{
-    number_of(options, "system", 0, 4294967295, Some(1))
-}
-
-/// The number of `--max`, where it is from 256 to 33,554,432.
-pub fn max_of(options: &ArgMatches<'_>) -> Option<u32>
-    ensures value { result ≡ number_in max_number (rows_of (found_of options.now)) }
-    ensures within { IfSome result (λ max. (256 ≤ max) × (max ≤ 33554432)) }
-{
-    number_of(options, "max", 256, 33554432, Some(1048576))
-}
-
-/// The number of `--depth`, where it is from 1 to 100.
-pub fn depth_of(options: &ArgMatches<'_>) -> Option<u8>
-    ensures value { result ≡ number_in depth_number (rows_of (found_of options.now)) }
-    ensures within { IfSome result (λ depth. (1 ≤ depth) × (depth ≤ 100)) }
-{
-    let depth = number_of(options, "depth", 1, 100, Some(32))?;
-    Some(depth as u8)
-}
-
-/// The number of an option, if it is from `least` to `greatest`; where the option is left out, it is `left_out`.
-pub fn number_of(
-    options: &ArgMatches<'_>,
-    name: &str,
-    least: u32,
-    greatest: u32,
-    left_out: Option<u32>,
-) -> Option<u32>
-    requires { IfSome left_out (λ number. (least ≤ number) × (number ≤ greatest)) }
-    ensures value { result ≡ number_in (record {
-      name = name.now;
-      least = least;
-      greatest = greatest;
-      left_out = left_out;
-    }) (rows_of (found_of options.now)) }
-    ensures within { IfSome result (λ number. (least ≤ number) × (number ≤ greatest)) }
-{
-    match options.try_get_one::<u32>(name) {
-        Ok(Some(number)) => within(number, least, greatest),
-        Ok(None) => left_out,
-        Err(_) => None,
-    }
-}
-
-fn within(number: u32, least: u32, greatest: u32) -> Option<u32>
-    ensures { result ≡ (if nat_le least number && nat_le number greatest then Some number else None) }
-{
-    if number < least || number > greatest {
-        return None;
-    }
-    Some(number)
-}
-
-/// Whether a flag is given.
-pub fn flag_of(options: &ArgMatches<'_>, name: &str) -> bool
-    ensures { IsFlag name.now (rows_of (found_of options.now)) result }
-{
-    options.get_flag(name)
 }
 
 // Help or the version is asked for, or the command line is refused.

@@ -10,8 +10,8 @@ ghost use Rattle.hsms_tool.specs.Service.{AsksToServe, HasSettings, HasTerms, Ha
 ghost use Rattle.hsms_tool.specs.Status.{IsRefusedFor};
 ghost use Rattle.hsms_tool.specs.declared.service.Service.{Service};
 
-use crate::fault::ToolFault;
-use crate::options::{depth_of, device_of, flag_of, max_of, no_request, number_of};
+use crate::fault::{ToolFault, no_request};
+use crate::values::{depth_of, device_of, flag_of, max_of, number_of};
 use clap::ArgMatches;
 use hsms_machine::{Role, Settings, Side};
 use std::alloc::Global;

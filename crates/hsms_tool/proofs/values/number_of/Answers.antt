@@ -3,7 +3,7 @@ use Rattle.std.specs.Str.Parse.{ExplainsUnsignedError, HasUnsignedDigitsIfOk, Pa
 use Rattle.clap.specs.Words.{found_of}
 use Rattle.hsms_tool.specs.Number.{Number}
 use Rattle.hsms_tool.proofs.Asked.{made_of, number_read}
-use Rattle.hsms_tool.proofs.options.number_of.Goals as goal
+use Rattle.hsms_tool.proofs.values.number_of.Goals as goal
 
 pub returns-in-Ok-Some-clause-value : goal.returns-in-Ok-Some-clause-value
 returns-in-Ok-Some-clause-value c =
