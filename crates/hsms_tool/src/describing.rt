@@ -55,19 +55,15 @@ const VERSION: &str = "0.1 (session logs of version 1)";
 pub fn command<'a>(alloc: Global) -> Result<Command<'a>, AllocError>
     ensures { IfOk result (λ command. app_of command ≡ command_line) }
 {
-    let show = show_command(alloc)?;
-    let audit = audit_command(alloc);
-    let encode = encode_command(alloc)?;
-    let serve = serve_command(alloc)?;
     let hsms = Command::new(alloc, "hsms")
         .bin_name("hsms")?
         .about("Audits HSMS session logs, reads and writes HSMS messages, and serves a connection")
         .version(VERSION)
         .subcommand_required(true);
-    hsms.subcommand(show)?
-        .subcommand(audit)?
-        .subcommand(encode)?
-        .subcommand(serve)
+    let hsms = hsms.subcommand(show_command(alloc)?)?;
+    let hsms = hsms.subcommand(audit_command(alloc))?;
+    let hsms = hsms.subcommand(encode_command(alloc)?)?;
+    hsms.subcommand(serve_command(alloc)?)
 }
 
 fn show_command<'a>(alloc: Global) -> Result<Command<'a>, AllocError>

@@ -13,11 +13,11 @@ returns c =
     let required : App → App = λ a. record { top = record a.top { subcommand_required = true }; subs = a.subs } in
     let requires : app_of c.subcommand_required-hsms.result ≡ required (app_of c.version.result) = rw c.subcommand_required-hsms.ensures refl in
     let hsms_is = requires ∙ ap required (version_is ∙ ap versioned told) in
-    let with_show = c.in_ok-subcommand.ensures.shape (third_fails _ _ _ _ (ap (λ (a : App). a.top.is_plain) c.in_ok-show.ensures))
-    ∙ ap₂ with_subcommand hsms_is (ap (λ (a : App). a.top) c.in_ok-show.ensures) in
-    let with_audit = c.in_ok-subcommand-2.ensures.shape (third_fails _ _ _ _ (ap (λ (a : App). a.top.is_plain) c.audit_command-audit.ensures))
-    ∙ ap₂ with_subcommand with_show (ap (λ (a : App). a.top) c.audit_command-audit.ensures) in
-    let with_encode = c.in_ok-subcommand-3.ensures.shape (third_fails _ _ _ _ (ap (λ (a : App). a.top.is_plain) c.in_ok-encode.ensures))
-    ∙ ap₂ with_subcommand with_audit (ap (λ (a : App). a.top) c.in_ok-encode.ensures) in
-    IfOk-weaker c.subcommand-4.result _ _ (λ command adds. adds.shape (third_fails _ _ _ _ (ap (λ (a : App). a.top.is_plain) c.in_ok-serve.ensures))
-    ∙ ap₂ with_subcommand with_encode (ap (λ (a : App). a.top) c.in_ok-serve.ensures)) c.subcommand-4.ensures
+    let with_show = c.in_ok-hsms.ensures.shape (third_fails _ _ _ _ (ap (λ (a : App). a.top.is_plain) c.in_ok-show_command.ensures))
+    ∙ ap₂ with_subcommand hsms_is (ap (λ (a : App). a.top) c.in_ok-show_command.ensures) in
+    let with_audit = c.in_ok-hsms-2.ensures.shape (third_fails _ _ _ _ (ap (λ (a : App). a.top.is_plain) c.audit_command.ensures))
+    ∙ ap₂ with_subcommand with_show (ap (λ (a : App). a.top) c.audit_command.ensures) in
+    let with_encode = c.in_ok-hsms-3.ensures.shape (third_fails _ _ _ _ (ap (λ (a : App). a.top.is_plain) c.in_ok-encode_command.ensures))
+    ∙ ap₂ with_subcommand with_audit (ap (λ (a : App). a.top) c.in_ok-encode_command.ensures) in
+    IfOk-weaker c.subcommand-4.result _ _ (λ command adds. adds.shape (third_fails _ _ _ _ (ap (λ (a : App). a.top.is_plain) c.in_ok-serve_command.ensures))
+    ∙ ap₂ with_subcommand with_encode (ap (λ (a : App). a.top) c.in_ok-serve_command.ensures)) c.subcommand-4.ensures
