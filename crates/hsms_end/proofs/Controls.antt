@@ -13,7 +13,7 @@ use Rattle.hsms_machine.specs.declared.settings.Side.{Side}
 use Rattle.hsms_machine.specs.declared.settings.Side.TheVariants.{Passive}
 use Rattle.hsms_machine.specs.declared.rule.Rule.TheVariants.{TooLong, PType, SType, ControlText, Session, Direction, NotSelected, WBit, Text, SystemInUse, NoTransaction, SelectStatus}
 use Rattle.hsms_machine.specs.declared.open.Transaction.{Transaction}
-use Rattle.hsms_machine.specs.declared.open.Flow.TheVariants.{Outgoing}
+use Rattle.hsms_machine.specs.declared.flow.Flow.TheVariants.{Outgoing}
 use Rattle.hsms_machine.specs.declared.view.View.{View}
 use Rattle.hsms_machine.specs.Settings.{Parameters, IsWithinLimits}
 use Rattle.hsms_machine.specs.Message.{is_data, is_control, is_response, establishes, separates, has_session, has_direction, has_wait, is_data_request, is_control_request, is_from_active}

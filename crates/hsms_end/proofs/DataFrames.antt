@@ -7,7 +7,7 @@ use Rattle.hsms_frame.specs.declared.kinds.Kind.TheVariants.{Primary, Reply}
 use Rattle.hsms_frame.specs.Header.{kind_of, stream_of, wait_of}
 use Rattle.hsms_machine.specs.declared.phase.Phase.TheVariants.{Selected}
 use Rattle.hsms_machine.specs.declared.rule.Rule.TheVariants.{TooLong, PType, SType, ControlText, Session, Direction, NotSelected, WBit, Text, SystemInUse, NoTransaction, SelectStatus}
-use Rattle.hsms_machine.specs.declared.open.Flow.TheVariants.{Outgoing}
+use Rattle.hsms_machine.specs.declared.flow.Flow.TheVariants.{Outgoing}
 use Rattle.hsms_machine.specs.declared.view.View.{View}
 use Rattle.hsms_machine.specs.Message.{is_data, is_control, is_response, establishes, has_session, has_direction, has_wait, is_data_request, is_control_request, is_from_active, is_from_equipment, is_data_kind, is_control_kind, is_response_kind, is_select_response, is_session, is_direction, is_wait, opens_data, opens_control}
 use Rattle.hsms_machine.specs.Rule.{IsAnswer}

@@ -7,7 +7,7 @@ use Rattle.hsms_machine.specs.declared.phase.Phase.{Phase}
 use Rattle.hsms_machine.specs.declared.phase.Phase.TheVariants as phase
 use Rattle.hsms_machine.specs.declared.rule.Rule.{Rule}
 use Rattle.hsms_machine.specs.declared.rule.Rule.TheVariants.{Backwards, NotUp, Ended, T3Overdue, LinkOverdue, NotDue, NoCause}
-use Rattle.hsms_machine.specs.declared.open.Flow.TheVariants.{Outgoing, Incoming}
+use Rattle.hsms_machine.specs.declared.flow.Flow.TheVariants.{Outgoing, Incoming}
 use Rattle.hsms_machine.specs.Rule.{Breaks, FrameBreaks, IsFirst, all_rules, format_rules, transaction_rules}
 use Rattle.hsms_machine.specs.Timer.{IsT3Overdue, IsT6Overdue, IsT7Overdue}
 use Rattle.hsms_machine.specs.Step.{facts_of, is_connected}

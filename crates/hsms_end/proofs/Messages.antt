@@ -11,7 +11,7 @@ use Rattle.hsms_frame.specs.Header.{kind_of, wait_of, stream_of}
 use Rattle.hsms_machine.specs.declared.entry.Event.TheVariants.{Sent}
 use Rattle.hsms_machine.specs.declared.phase.Phase.{Phase}
 use Rattle.hsms_machine.specs.declared.phase.Phase.TheVariants as phase
-use Rattle.hsms_machine.specs.declared.open.Flow.TheVariants.{Outgoing}
+use Rattle.hsms_machine.specs.declared.flow.Flow.TheVariants.{Outgoing}
 use Rattle.hsms_machine.specs.Settings.{Parameters}
 use Rattle.hsms_machine.specs.View.{own_open_of}
 use Rattle.hsms_machine.specs.Step.{is_selected}

@@ -14,7 +14,7 @@ use Rattle.hsms_frame.specs.Laws.{OneAnswerToPending}
 use Rattle.hsms_machine.specs.declared.entry.Entry.{Entry}
 use Rattle.hsms_machine.specs.declared.entry.Cause.TheVariants.{Length}
 use Rattle.hsms_machine.specs.declared.entry.Event.TheVariants.{Down}
-use Rattle.hsms_machine.specs.declared.open.Flow.TheVariants.{Incoming}
+use Rattle.hsms_machine.specs.declared.flow.Flow.TheVariants.{Incoming}
 use Rattle.hsms_machine.specs.declared.rule.Rule.{Rule}
 use Rattle.hsms_machine.specs.declared.view.View.{View}
 use Rattle.hsms_machine.specs.Settings.{Parameters}

@@ -5,7 +5,7 @@ use Rattle.hsms_frame.specs.declared.kinds.Kind.TheVariants.{SelectReq, Linktest
 use Rattle.hsms_machine.specs.declared.settings.Side.TheVariants.{Active}
 use Rattle.hsms_machine.specs.declared.rule.Rule.{Rule}
 use Rattle.hsms_machine.specs.declared.rule.Rule.TheVariants.{TooLong, PType, SType, ControlText, Session, Direction, NotSelected, WBit, Text, SystemInUse, NoTransaction, SelectStatus}
-use Rattle.hsms_machine.specs.declared.open.Flow.TheVariants.{Outgoing}
+use Rattle.hsms_machine.specs.declared.flow.Flow.TheVariants.{Outgoing}
 use Rattle.hsms_machine.specs.declared.view.View.{View}
 use Rattle.hsms_machine.specs.Settings.{IsWithinLimits}
 use Rattle.hsms_machine.specs.Message.{is_data, is_control, is_response, establishes, has_session, has_direction, has_wait, is_data_request, is_control_request, is_from_active}

@@ -15,7 +15,7 @@ use Rattle.hsms_machine.specs.declared.settings.Side.{Side}
 use Rattle.hsms_machine.specs.declared.settings.Side.TheVariants.{Active, Passive}
 use Rattle.hsms_machine.specs.declared.rule.Rule.{Rule}
 use Rattle.hsms_machine.specs.declared.rule.Rule.TheVariants.{Backwards, NotUp, Ended, T3Overdue, LinkOverdue, NotDue, NoCause, TooLong, PType, SType, ControlText, Session, Direction, NotSelected, WBit, Text, SystemInUse, NoTransaction, SelectStatus}
-use Rattle.hsms_machine.specs.declared.open.Flow.TheVariants.{Incoming}
+use Rattle.hsms_machine.specs.declared.flow.Flow.TheVariants.{Incoming}
 use Rattle.hsms_machine.specs.Settings.{Parameters}
 use Rattle.hsms_machine.specs.Message.{is_data, is_data_kind, is_data_request, is_control_request, establishes, separates, is_select_response, is_separate_kind, opens_data, opens_control, has_direction, is_direction, is_from_active, is_from_equipment}
 use Rattle.hsms_machine.specs.Transaction.{opened_by}

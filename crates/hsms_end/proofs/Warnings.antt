@@ -10,7 +10,7 @@ use Rattle.hsms_frame.specs.Header.{header_octets}
 use Rattle.hsms_machine.specs.declared.phase.Phase.TheVariants.{Selected}
 use Rattle.hsms_machine.specs.declared.settings.Role.{Role}
 use Rattle.hsms_machine.specs.declared.settings.Role.TheVariants.{Equipment}
-use Rattle.hsms_machine.specs.declared.open.Flow.TheVariants.{Outgoing}
+use Rattle.hsms_machine.specs.declared.flow.Flow.TheVariants.{Outgoing}
 use Rattle.hsms_machine.specs.declared.view.View.{View}
 use Rattle.hsms_machine.specs.Settings.{IsWithinLimits}
 use Rattle.hsms_machine.specs.Message.{is_from_equipment}

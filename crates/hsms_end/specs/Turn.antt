@@ -21,7 +21,7 @@ use Rattle.hsms_machine.specs.declared.phase.Phase.TheVariants.{NotSelected, Sel
 use Rattle.hsms_machine.specs.declared.settings.Side.{Side}
 use Rattle.hsms_machine.specs.declared.settings.Side.TheVariants.{Active, Passive}
 use Rattle.hsms_machine.specs.declared.open.Transaction.{Transaction}
-use Rattle.hsms_machine.specs.declared.open.Flow.TheVariants.{Incoming}
+use Rattle.hsms_machine.specs.declared.flow.Flow.TheVariants.{Incoming}
 use Rattle.hsms_machine.specs.declared.rule.Rule.{Rule}
 use Rattle.hsms_machine.specs.declared.view.View.{View}
 use Rattle.hsms_machine.specs.Settings.{Parameters}

@@ -1,6 +1,6 @@
 -- What a chain of steps that may give nothing shows.
-use Rattle.std.proofs.Common.{◌≡◌, ◌<◌, ℕ, Some, None, refl, arith}
-use Rattle.std.specs.Prelude.{Option, nat_lt}
+use Rattle.std.proofs.Common.{◌≡◌, ◌<◌, ℕ, Ok, Some, None, refl, arith}
+use Rattle.std.specs.Prelude.{Option, Result, nat_lt}
 use Rattle.std.proofs.lemmas.Option.{cond_some}
 use Rattle.std.proofs.lemmas.Bool.{ltb-true, lt-ltb}
 use Rattle.hsms_log.specs.Reading.{◌>>=◌, below}
@@ -26,3 +26,6 @@ some_inj x y h = cc
 pub bind_step : {A B C : Type 0} (o : Option A) (f : A → Option B) (y : B) → (o >>= f) ≡ Some y
     → ((x : A) → o ≡ Some x → f x ≡ Some y → C) → C
 bind_step o f y h next = let parts = bind_some o f y h in next parts.0 parts.1 parts.2
+
+pub ok_inj : {A E : Type 0} (x y : A) → ◌≡◌ {A = Result A E} (Ok x) (Ok y) → x ≡ y
+ok_inj x y h = cc

@@ -11,9 +11,7 @@ use Rattle.hsms_frame.specs.declared.frame.Frame.{Frame}
 use Rattle.hsms_frame.proofs.Octets.{IsOctets-drop}
 use Rattle.hsms_frame.specs.Header.{header_octets, IsHeader}
 use Rattle.hsms_log.specs.Spelling.{IsHexOf, IsMessage, message_octets, system_octets}
-
-ok_inj : {A E : Type 0} (x y : A) → ◌≡◌ {A = Result A E} (Ok x) (Ok y) → x ≡ y
-ok_inj x y h = cc
+use Rattle.hsms_log.proofs.Binds.{ok_inj}
 
 -- the answer of a decoder that was given room for four octets
 abbrev pub Sized : List ℕ → Result (Unit {0}) FromHexError → List ℕ → Type 0

@@ -25,14 +25,11 @@ use Rattle.hsms_log.specs.Log.{CarryLog, SpellLog}
 use Rattle.hsms_log.specs.declared.verdict.Verdict.{Verdict}
 use Rattle.hsms_log.specs.declared.verdict.Verdict.TheVariants.{Pass, Fail}
 use Rattle.hsms_log.specs.Verdict.{SpellRun, FailsRun, FailsAfter, LineFails, LinesJudged, summary_of}
-use Rattle.hsms_log.proofs.Binds.{some_inj}
+use Rattle.hsms_log.proofs.Binds.{some_inj, ok_inj}
 use Rattle.hsms_log.proofs.SettingsLaws.{SpellsSettings-unique}
 use Rattle.hsms_log.proofs.EntryLaws.{entry_parts}
 
 -- ---- entries
-
-ok_inj : {A E : Type 0} (x y : A) → ◌≡◌ {A = Result A E} (Ok x) (Ok y) → x ≡ y
-ok_inj x y h = cc
 
 frame_same : (f g : Frame) → f.header.session ≡ g.header.session → f.header.byte2 ≡ g.header.byte2 → f.header.byte3 ≡ g.header.byte3
     → f.header.ptype ≡ g.header.ptype → f.header.stype ≡ g.header.stype → f.header.system ≡ g.header.system → f.text ≡ g.text → f ≡ g

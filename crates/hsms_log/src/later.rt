@@ -7,9 +7,9 @@ ghost use Rattle.hsms_log.specs.Spelling.{Carries};
 ghost use Rattle.hsms_log.specs.Judging.{Tracks};
 
 use crate::fault::LineFault;
-use crate::judging::Tally;
 use crate::reading::{FrameLine, Line, read_frame_line, read_line};
 use crate::session::Session;
+use crate::tally::Tally;
 use crate::verdict::Why;
 use hsms_frame::HEADER_LENGTH;
 use std::alloc::{AllocError, Global};

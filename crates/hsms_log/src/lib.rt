@@ -32,6 +32,7 @@ mod range;
 mod reading;
 mod session;
 mod settings_line;
+mod tally;
 mod verdict;
 mod whole;
 mod writing;

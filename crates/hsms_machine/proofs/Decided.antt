@@ -15,8 +15,8 @@ use Rattle.hsms_machine.specs.declared.entry.Cause.TheVariants.{T6, T7}
 use Rattle.hsms_machine.specs.declared.rule.Rule.{Rule}
 use Rattle.hsms_machine.specs.declared.rule.Rule.TheVariants.{Backwards, NotUp, Ended, T3Overdue, LinkOverdue, NotDue, TooLong, PType, SType, ControlText, Session, Direction, NotSelected, WBit, Text, SystemInUse, NoTransaction, SelectStatus, NoCause}
 use Rattle.hsms_machine.specs.declared.open.Transaction.{Transaction}
-use Rattle.hsms_machine.specs.declared.open.Flow.{Flow}
-use Rattle.hsms_machine.specs.declared.open.Flow.TheVariants.{Outgoing, Incoming}
+use Rattle.hsms_machine.specs.declared.flow.Flow.{Flow}
+use Rattle.hsms_machine.specs.declared.flow.Flow.TheVariants.{Outgoing, Incoming}
 use Rattle.hsms_machine.specs.Settings.{Parameters}
 use Rattle.hsms_machine.specs.Entry.{is_up, is_down, is_t3}
 use Rattle.hsms_machine.specs.Message.{is_data, is_control, is_response, is_request, establishes, has_session, has_direction, has_wait}

@@ -14,8 +14,8 @@ use Rattle.hsms_machine.specs.Transaction.{Pool, SentData, SentControl, TakenDat
 use Rattle.hsms_machine.specs.Session.{Facts}
 use Rattle.hsms_machine.specs.Timer.{IsTimed, IsT3Overdue, IsT6Overdue, IsT7Overdue, IsCutNotDue, IsNotDue}
 use Rattle.hsms_machine.specs.Rule.{Breaks, EventBreaks, FrameBreaks, SomeOpenOf, opposite, IsNotUp, IsNoCause, IsFirst, needs_session, all_rules, timer_rules, format_rules, transaction_rules}
-use Rattle.hsms_machine.specs.declared.open.Flow.{Flow}
-use Rattle.hsms_machine.specs.declared.open.Flow.TheVariants.{Outgoing, Incoming}
+use Rattle.hsms_machine.specs.declared.flow.Flow.{Flow}
+use Rattle.hsms_machine.specs.declared.flow.Flow.TheVariants.{Outgoing, Incoming}
 use Rattle.hsms_machine.proofs.First.{first_alike}
 
 -- the facts that the rules of order ask for, but for the end of the session

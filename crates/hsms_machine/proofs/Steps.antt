@@ -21,8 +21,8 @@ use Rattle.hsms_machine.specs.Session.{Facts}
 use Rattle.hsms_machine.specs.Rule.{Breaks, FrameBreaks, IsNoCause, IsFirst, format_rules, transaction_rules}
 use Rattle.hsms_machine.specs.Act.{entry_of}
 use Rattle.hsms_machine.specs.Step.{pool_after}
-use Rattle.hsms_machine.specs.declared.open.Flow.{Flow}
-use Rattle.hsms_machine.specs.declared.open.Flow.TheVariants.{Outgoing, Incoming}
+use Rattle.hsms_machine.specs.declared.flow.Flow.{Flow}
+use Rattle.hsms_machine.specs.declared.flow.Flow.TheVariants.{Outgoing, Incoming}
 use Rattle.hsms_machine.specs.declared.view.View.{View}
 use Rattle.hsms_machine.proofs.First.{first_extend, none_head, first_none}
 

@@ -2,11 +2,11 @@
 
 use crate::act::Act;
 use crate::entry::Cause;
+use crate::flow::Flow;
 use crate::message::{
     Message, establishes, has_direction, has_session, has_wait, is_control, is_control_request,
     is_data, is_data_request, is_response,
 };
-use crate::open::Flow;
 use crate::phase::Phase;
 use crate::rule::Rule;
 use crate::view::View;

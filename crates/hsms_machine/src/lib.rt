@@ -21,6 +21,7 @@
 
 mod act;
 mod entry;
+mod flow;
 mod judge;
 pub mod laws;
 mod message;
@@ -34,7 +35,10 @@ mod view;
 pub use entry::{Cause, Entry, Event, Mark};
 pub use phase::Phase;
 pub use rule::Rule;
-pub use settings::{Role, Settings, Side};
+pub use settings::{
+    GREATEST_DEPTH, GREATEST_DEVICE, GREATEST_MAX, GREATEST_TIME, LEAST_DEPTH, LEAST_MAX,
+    LEAST_TIME, Role, Settings, Side,
+};
 pub use tracker::Tracker;
 
 #[cfg(test)]

@@ -6,13 +6,6 @@ use indexmap::IndexMap;
 use std::alloc::{AllocError, Global};
 use std::marker::Model;
 
-/// Which way a frame goes, as the logging end sees it.
-#[derive(Clone, Copy, Debug, PartialEq, Eq)]
-pub enum Flow {
-    Outgoing,
-    Incoming,
-}
-
 /// A transaction: when it was opened, and the header of its request.
 #[derive(Clone, Copy, Debug, PartialEq, Eq)]
 pub struct Transaction {

@@ -47,8 +47,26 @@ impl Model for Settings {
     ghost inverse = { λ p. record { version = p.version; role = p.role; link = p.link; device = p.device; t3 = p.t3; t6 = p.t6; t7 = p.t7; t8 = p.t8; max = p.max; depth = p.depth } };
 }
 
-/// The longest time of a timer in milliseconds: an hour.
-const TIME_LIMIT: u32 = 3_600_000;
+/// The greatest device ID (SEMI E37.1).
+pub const GREATEST_DEVICE: u16 = 32_767;
+
+/// The shortest time of a timer, in milliseconds.
+pub const LEAST_TIME: u32 = 1;
+
+/// The longest time of a timer, in milliseconds: an hour.
+pub const GREATEST_TIME: u32 = 3_600_000;
+
+/// The least that the longest header and text may be set to, in octets.
+pub const LEAST_MAX: u32 = 256;
+
+/// The most that the longest header and text may be set to, in octets.
+pub const GREATEST_MAX: u32 = 33_554_432;
+
+/// The least that the deepest nesting of lists may be set to.
+pub const LEAST_DEPTH: u8 = 1;
+
+/// The most that the deepest nesting of lists may be set to.
+pub const GREATEST_DEPTH: u8 = 100;
 
 impl Settings {
     ghost use Rattle.std.specs.Prelude.{◌≡◌, ◌≤◌, ◌↔◌, IsSome, IfSome, IsTrue};
@@ -75,8 +93,11 @@ impl Settings {
             && Self::is_time_limit(t6)
             && Self::is_time_limit(t7)
             && Self::is_time_limit(t8);
-        let sizes = 256 <= max && max <= 33_554_432 && 1 <= depth && depth <= 100;
-        if device <= 32_767 && times && sizes {
+        let sizes = LEAST_MAX <= max
+            && max <= GREATEST_MAX
+            && LEAST_DEPTH <= depth
+            && depth <= GREATEST_DEPTH;
+        if device <= GREATEST_DEVICE && times && sizes {
             Some(Settings {
                 version: 1,
                 role,
@@ -185,6 +206,6 @@ impl Settings {
     fn is_time_limit(time: u32) -> bool
         ensures { IsTrue result ↔ IsTimeLimit time }
     {
-        1 <= time && time <= TIME_LIMIT
+        LEAST_TIME <= time && time <= GREATEST_TIME
     }
 }

@@ -13,7 +13,7 @@ ghost use Rattle.hsms_tool.specs.declared.service.Service.{Service};
 use crate::fault::{ToolFault, no_request};
 use crate::values::{depth_of, device_of, flag_of, max_of, number_of};
 use clap::ArgMatches;
-use hsms_machine::{Role, Settings, Side};
+use hsms_machine::{GREATEST_TIME, LEAST_TIME, Role, Settings, Side};
 use std::alloc::Global;
 
 /// A connection that is to be served.
@@ -91,8 +91,8 @@ fn terms_of<'a>(options: &ArgMatches<'a>) -> Option<Terms<'a>>
     let settings = settings_of(options)?;
     let address = text_of(options, "address")?;
     let port = port_of(options)?;
-    let first_system = number_of(options, "first-system", 0, 4294967295, Some(1))?;
-    let turns = number_of(options, "turns", 0, 4294967295, Some(4294967295))?;
+    let first_system = number_of(options, "first-system", 0, u32::MAX, Some(1))?;
+    let turns = number_of(options, "turns", 0, u32::MAX, Some(u32::MAX))?;
     Some(Terms {
         settings,
         address,
@@ -135,14 +135,14 @@ fn time_of(options: &ArgMatches<'_>, name: &str, left_out: u32) -> Option<u32>
     ensures value { result ≡ number_in (time_number name.now left_out) (rows_of (found_of options.now)) }
     ensures within { IfSome result IsTimeLimit }
 {
-    number_of(options, name, 1, 3600000, Some(left_out))
+    number_of(options, name, LEAST_TIME, GREATEST_TIME, Some(left_out))
 }
 
 fn port_of(options: &ArgMatches<'_>) -> Option<u16>
     ensures value { result ≡ number_in port_number (rows_of (found_of options.now)) }
     ensures within { IfSome result (λ port. (1 ≤ port) × (port ≤ 65535)) }
 {
-    let port = number_of(options, "port", 1, 65535, None)?;
+    let port = number_of(options, "port", 1, u32::from(u16::MAX), None)?;
     Some(port as u16)
 }
 

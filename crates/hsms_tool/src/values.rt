@@ -5,13 +5,20 @@ ghost use Rattle.clap.specs.Words.{found_of, rows_of};
 ghost use Rattle.hsms_tool.specs.Number.{IsFlag, depth_number, device_number, max_number, number_in, system_number};
 
 use clap::ArgMatches;
+use hsms_machine::{GREATEST_DEPTH, GREATEST_DEVICE, GREATEST_MAX, LEAST_DEPTH, LEAST_MAX};
+
+/// The longest header and text where `--max` is left out, in octets.
+const DEFAULT_MAX: u32 = 1_048_576;
+
+/// The deepest nesting of lists where `--depth` is left out.
+const DEFAULT_DEPTH: u32 = 32;
 
 /// The number of `--device`, where it is from 0 to 32,767.
 pub fn device_of(options: &ArgMatches<'_>) -> Option<u16>
     ensures value { result ≡ number_in device_number (rows_of (found_of options.now)) }
     ensures within { IfSome result (λ device. device ≤ 32767) }
 {
-    let device = number_of(options, "device", 0, 32767, Some(0))?;
+    let device = number_of(options, "device", 0, u32::from(GREATEST_DEVICE), Some(0))?;
     Some(device as u16)
 }
 
@@ -19,7 +26,7 @@ pub fn device_of(options: &ArgMatches<'_>) -> Option<u16>
 pub fn system_of(options: &ArgMatches<'_>) -> Option<u32>
     ensures { result ≡ number_in system_number (rows_of (found_of options.now)) }
 {
-    number_of(options, "system", 0, 4294967295, Some(1))
+    number_of(options, "system", 0, u32::MAX, Some(1))
 }
 
 /// The number of `--max`, where it is from 256 to 33,554,432.
@@ -27,7 +34,7 @@ pub fn max_of(options: &ArgMatches<'_>) -> Option<u32>
     ensures value { result ≡ number_in max_number (rows_of (found_of options.now)) }
     ensures within { IfSome result (λ max. (256 ≤ max) × (max ≤ 33554432)) }
 {
-    number_of(options, "max", 256, 33554432, Some(1048576))
+    number_of(options, "max", LEAST_MAX, GREATEST_MAX, Some(DEFAULT_MAX))
 }
 
 /// The number of `--depth`, where it is from 1 to 100.
@@ -35,7 +42,13 @@ pub fn depth_of(options: &ArgMatches<'_>) -> Option<u8>
     ensures value { result ≡ number_in depth_number (rows_of (found_of options.now)) }
     ensures within { IfSome result (λ depth. (1 ≤ depth) × (depth ≤ 100)) }
 {
-    let depth = number_of(options, "depth", 1, 100, Some(32))?;
+    let depth = number_of(
+        options,
+        "depth",
+        u32::from(LEAST_DEPTH),
+        u32::from(GREATEST_DEPTH),
+        Some(DEFAULT_DEPTH),
+    )?;
     Some(depth as u8)
 }
 

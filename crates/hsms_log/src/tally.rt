@@ -1,0 +1,105 @@
+//! How many lines and entries a log has, as they are read.
+
+use crate::verdict::Summary;
+use hsms_machine::{Entry, Event, Mark};
+use std::marker::Model;
+
+/// How many lines and entries there were.
+#[derive(Drop)]
+pub struct Tally {
+    lines: u64,
+    entries: u64,
+    sent: u64,
+    taken: u64,
+    discarded: u64,
+    expired: u64,
+}
+
+impl Model for Tally {
+    ghost use Rattle.hsms_log.specs.Counters.{Counters, IsBounded};
+
+    ghost Value = { Counters };
+
+    ghost view = { λ t. record { lines = t.lines; entries = t.entries; sent = t.sent; taken = t.taken; discarded = t.discarded; expired = t.expired } };
+
+    ghost invariant = { λ t. IsBounded (record { lines = t.lines; entries = t.entries; sent = t.sent; taken = t.taken; discarded = t.discarded; expired = t.expired }) };
+}
+
+impl Tally {
+    ghost use Rattle.std.specs.Prelude.{◌≡◌, ◌+◌, ◌-◌, ◌<◌, ◌^◌, ℕ, List};
+    ghost use Rattle.hsms_frame.specs.declared.header.Header.{Header};
+    ghost use Rattle.hsms_machine.specs.Entry.{frame_entry};
+    ghost use Rattle.hsms_log.specs.Judging.{counted};
+
+    pub fn new() -> Tally
+        ensures { result ≡ record { lines = 0; entries = 0; sent = 0; taken = 0; discarded = 0; expired = 0 } }
+    {
+        Tally {
+            lines: 0,
+            entries: 0,
+            sent: 0,
+            taken: 0,
+            discarded: 0,
+            expired: 0,
+        }
+    }
+
+    /// Counts a line that carries nothing that is counted.
+    pub fn count_line(&mut self)
+        requires { self.old.lines < 2 ^ 64 - 1 }
+        ensures { self.new ≡ record self.old { lines = self.old.lines + 1 } }
+    {
+        self.lines += 1;
+    }
+
+    /// Counts a line that carries an entry.
+    pub fn count_entry(&mut self, entry: &Entry)
+        requires { self.old.lines < 2 ^ 64 - 1 }
+        ensures { self.new ≡ counted self.old entry.now }
+    {
+        self.lines += 1;
+        self.entries += 1;
+        match &entry.event {
+            Event::Sent(_) => self.sent += 1,
+            Event::Taken(_) => self.taken += 1,
+            Event::Discarded(_) => self.discarded += 1,
+            Event::T3(_) => self.expired += 1,
+            Event::Up | Event::Cut(_) | Event::Down => {}
+        }
+    }
+
+    /// Counts a line that carries a frame with this mark.
+    pub fn count_frame(&mut self, mark: Mark)
+        requires { self.old.lines < 2 ^ 64 - 1 }
+        ensures { (time : ℕ) (header : Header) (text : List ℕ) → self.new ≡ counted self.old (frame_entry time mark header text) }
+    {
+        self.lines += 1;
+        self.entries += 1;
+        match mark {
+            Mark::Sent => self.sent += 1,
+            Mark::Taken => self.taken += 1,
+            Mark::Discarded => self.discarded += 1,
+        }
+    }
+
+    /// How many lines there were.
+    pub fn lines(&self) -> u64
+        ensures { result ≡ self.now.lines }
+    {
+        self.lines
+    }
+
+    /// The summary of the entries.
+    pub fn summary(&self, waiting: u64) -> Summary
+        ensures { result ≡ record { entries = self.now.entries; sent = self.now.sent; taken = self.now.taken; discarded = self.now.discarded; expired = self.now.expired; waiting = waiting } }
+    {
+        Summary {
+            entries: self.entries,
+            sent: self.sent,
+            taken: self.taken,
+            discarded: self.discarded,
+            expired: self.expired,
+            waiting,
+        }
+    }
+}
