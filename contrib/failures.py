@@ -6,7 +6,8 @@
 Behind each failure it is told what the failing line has to do with, as the primary that is overdue, and what is changed
 in a copy of the log so that the audit goes on: a received frame that may not be taken is thrown away, an expiry that is
 missing is put in, a time that goes back is raised, any other line is left out. Later failures are those of the changed
-copy. At most MOST are listed, 100 if left out. `hsms` is that of the path, or else that of this repository. The status
+copy. In a log of version 2 a `down` that is missing before an `up` is put in too. At most MOST are listed, 100 if left
+out. `hsms` is that of the path, or else that of this repository. The status
 is 0 where the log passes, else 1.
 """
 import os
@@ -75,7 +76,9 @@ def open_before(lines, index, mark):
     """The entries that opened the transactions of one direction which are open before a line, the oldest first."""
     found = []
     for entry in entries(lines[:index]):
-        if entry.mark == mark and entry.frame.opens:
+        if entry.word == "up":
+            found = []
+        elif entry.mark == mark and entry.frame.opens:
             found.append(entry)
         elif entry.mark in ("<", ">") and entry.mark != mark:
             answered = next((one for one in found if one.frame.is_answered_by(entry.frame)), None)
@@ -92,6 +95,7 @@ class Failure:
         self.lines, self.index, self.rule, self.line = lines, index, rule, lines[index]
         self.entry = entry_of(self.line)
         self.timers = lines[0].text.split()[5:9]  # T3, T6, T7, T8
+        self.has_several = lines[0].text.split()[1:2] == ["2"]
 
     def repaired(self):
         """What is told, and the lines of the log that is audited next."""
@@ -99,7 +103,7 @@ class Failure:
             raise Stop("the line of settings is unreadable")
         repair = {
             "T3Overdue": self.log_expiries, "LinkOverdue": self.name_request, "Backwards": self.raise_times,
-            "NotUp": self.leave_out_to_up, "NoCause": self.take,
+            "NotUp": self.reconnect, "NoCause": self.take,
         }
         return repair.get(self.rule, self.throw_away)()
 
@@ -118,6 +122,8 @@ class Failure:
     def overdue(self, primary, limit):
         since = f"line {primary.line.number}, {primary.frame}, is overdue since {primary.time + limit}"
         for entry in entries([self.lines[0], *self.lines[self.index:]]):
+            if entry.word == "up":
+                break
             if entry.mark in ("<", "!") and primary.frame.is_answered_by(entry.frame):
                 return f"{since}; line {entry.line.number} answers it after {entry.time - primary.time} ms"
         return f"{since}; nothing answers it"
@@ -144,18 +150,22 @@ class Failure:
         step = time - self.entry.time
         return [f"it is {step} ms before the line before it", f"to go on, {to} the time {time}"], lines
 
-    def leave_out_to_up(self):
-        was_up = any(entry.word == "up" for entry in entries(self.lines[:self.index]))
+    def reconnect(self):
+        """An `up` gets a `down` before it, or what stands before the next `up` is left out."""
+        before = entries(self.lines[:self.index])
+        was_up = any(entry.word == "up" for entry in before)
         if was_up and self.entry.word == "up":
-            raise Stop("another connection begins here: audit it as a log of its own")
-        if was_up and not any(entry.word == "down" for entry in entries(self.lines[:self.index])):
-            return self.leave_out()
+            if not self.has_several:
+                raise Stop("another connection begins here: audit it as a log of its own, or make this one of version 2")
+            down = Line(self.line.number, f"{before[-1].time} down")
+            told = ["no `down` stands before it", f"to go on, `{down.text}` is put before it"]
+            return told, self.replaced(down, self.line)
         ups = (index for index in range(self.index, len(self.lines))
                if (entry_of(self.lines[index]) or self.entry).word == "up")
         index = next(ups, None)
         if index is None:
             raise Stop("the connection is down" if was_up else "the log has no `up`")
-        if was_up:
+        if was_up and not self.has_several:
             raise Stop(f"another connection begins at line {self.lines[index].number}: audit it as a log of its own")
         return ["to go on, what stands before `up` is left out"], [*self.lines[:self.index], *self.lines[index:]]
 
@@ -184,11 +194,14 @@ class Failure:
         if self.rule not in ("NoTransaction", "NotDue"):
             return []
         system = self.entry.expired if self.rule == "NotDue" else self.entry.frame.system
-        before = [one for one in entries(self.lines[:self.index]) if one.frame and one.frame.opens
-                  and one.mark != self.entry.mark and one.frame.system == system]
-        if not before:
+        before = entries(self.lines[:self.index])
+        openers = [at for at, one in enumerate(before) if one.frame and one.frame.opens
+                   and one.mark != self.entry.mark and one.frame.system == system]
+        if not openers:
             return ["no line before it opens a transaction with its system bytes"] if system else []
-        return [f"line {before[-1].line.number}, {before[-1].frame}, is the last one with its system bytes"]
+        last = before[openers[-1]]
+        where = ", on an earlier connection" if any(one.word == "up" for one in before[openers[-1]:]) else ""
+        return [f"line {last.line.number}, {last.frame}, is the last one with its system bytes{where}"]
 
 
 def audited(lines):
