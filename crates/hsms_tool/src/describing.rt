@@ -38,6 +38,7 @@ const AUDIT_HELP: &str =
     NoTransaction  it answers nothing that is open\n  \
     SelectStatus   this isn't the answer to this Select.req\n  \
     NoCause        nothing is wrong with a frame that was thrown away\n\n\
+    A log of version 2 may hold several connections: an `up` directly after a `down` begins the next one.\n\n\
     Example: hsms audit < session.log\n\n\
     Statuses: 0 the log passes; 1 it fails; 2 the command line is refused; 3 the log can't be read (Read), the verdict\n\
     can't be written (Write), there are more than 4294967295 reads (Endless), or memory is wanting (Memory).";
