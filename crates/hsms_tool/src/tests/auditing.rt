@@ -71,7 +71,11 @@ fn tells_the_verdict_on_two_connections(rt: HostRuntime) -> Result<(), Fail> {
         }
         let run = audited(alloc, &log, u64::MAX, u64::MAX)?.or_want_of_memory()?;
         assert_eq!(rt; run.written.as_slice(), row.line.as_bytes());
-        assert!(rt; matches!(run.result, Ok(passes) if passes == row.passes), "{}", row.line);
+        assert!(rt;
+            matches!(run.result, Ok(passes) if passes == row.passes),
+            "{}",
+            row.line
+        );
     }
     Ok(())
 }
