@@ -16,3 +16,4 @@ pub mod Parts
 pub mod Written
 pub mod WrittenLog
 pub mod Existence
+pub mod OneVersion

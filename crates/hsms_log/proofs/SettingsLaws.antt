@@ -13,7 +13,7 @@ use Rattle.hsms_machine.specs.declared.settings.Side.{Side}
 use Rattle.hsms_machine.specs.declared.settings.Side.TheVariants.{Active, Passive}
 use Rattle.hsms_machine.specs.Settings.{Parameters, IsWithinLimits}
 use Rattle.hsms_log.specs.Spelling.{settings_line, role_word, link_word, SpellsSettings}
-use Rattle.hsms_log.specs.Reading.{settings_at, times_at, number_at, number_of, word_at, role_of, link_of, after, below}
+use Rattle.hsms_log.specs.Reading.{settings_at, version_at, times_at, number_at, number_of, word_at, role_of, link_of, after, below}
 use Rattle.hsms_log.proofs.Binds.{bind_step, some_inj, below_fits, below_some}
 use Rattle.hsms_log.proofs.Numbers.{number_at-spelled, number_at-some, number_of-decimal, number_of-some, word_at-some}
 
@@ -68,6 +68,10 @@ after-some prefix text rest h =
 
 -- ---- written, then read
 
+version_at-spelled : (n : ℕ) (rest : List ℕ) → n < 2 ^ 8 → version_at (codes "hsms-log " ++ (decimal n ++ 32 ∷ rest)) ≡ Some (n, rest)
+unfolding version_at after
+version_at-spelled n rest h = rw (number_at-spelled n rest (omega arith), below_fits (2 ^ 8) n h) refl
+
 times_at-spelled : (a b c d : ℕ) (rest : List ℕ) → a < 2 ^ 32 → b < 2 ^ 32 → c < 2 ^ 32 → d < 2 ^ 32
     → times_at (decimal a ++ 32 ∷ (decimal b ++ 32 ∷ (decimal c ++ 32 ∷ (decimal d ++ 32 ∷ rest)))) ≡ Some (a, b, c, d, rest)
 unfolding times_at
@@ -84,11 +88,10 @@ times_at-spelled a b c d rest ha hb hc hd =
     ) refl
 
 settings_at-line : (s : Parameters) → IsWithinLimits s → settings_at (settings_line s) ≡ Some s
-unfolding settings_at settings_line after
+unfolding settings_at settings_line
 settings_at-line s w =
     rw (
-      number_at-spelled s.version _ (omega arith),
-      below_fits (2 ^ 8) s.version (omega arith),
+      version_at-spelled s.version _ (omega arith),
       word_at-role s.role _,
       role_of-word s.role,
       word_at-link s.link _,
@@ -108,6 +111,18 @@ numbers_front : (bound : ℕ) (text : List ℕ) (m n : ℕ) (rest : List ℕ) �
     → text ≡ decimal n ++ 32 ∷ rest
 numbers_front bound text m n rest a b =
     (number_at-some text m rest a).1 ∙ ap (λ k. decimal k ++ 32 ∷ rest) (below_some bound m n b).1
+
+version_at-some : (line : List ℕ) (x : ℕ × List ℕ) → version_at line ≡ Some x → line ≡ codes "hsms-log " ++ (decimal x.0 ++ 32 ∷ x.1)
+unfolding version_at
+version_at-some line x h =
+    bind_step (after (codes "hsms-log ") line) _ x h (λ rest rest_is h.
+    bind_step (number_at rest) _ x h (λ v v_is h.
+    bind_step (below (2 ^ 8) v.0) _ x h (λ version version_is h.
+    let same = some_inj {A = ℕ × List ℕ} (version, v.1) x h in
+    let P : ℕ × List ℕ → Type 0 = λ y. line ≡ codes "hsms-log " ++ (decimal y.0 ++ 32 ∷ y.1) in
+    subst P same
+    (after-some (codes "hsms-log ") line rest rest_is
+    ∙ ap (λ t. codes "hsms-log " ++ t) (numbers_front (2 ^ 8) rest v.0 version v.1 v_is version_is)))))
 
 times_at-some : (text : List ℕ) (x : ℕ × ℕ × ℕ × ℕ × List ℕ) → times_at text ≡ Some x
     → text ≡ decimal x.0 ++ 32 ∷ (decimal x.1 ++ 32 ∷ (decimal x.2 ++ 32 ∷ (decimal x.3 ++ 32 ∷ x.4)))
@@ -136,9 +151,7 @@ last_number bound word m n a b = (number_of-some word m a).1 ∙ ap decimal (bel
 settings_at-some : (line : List ℕ) (s : Parameters) → settings_at line ≡ Some s → line ≡ settings_line s
 unfolding settings_at settings_line
 settings_at-some line s h =
-    bind_step (after (codes "hsms-log ") line) _ s h (λ rest rest_is h.
-    bind_step (number_at rest) _ s h (λ v v_is h.
-    bind_step (below (2 ^ 8) v.0) _ s h (λ version version_is h.
+    bind_step (version_at line) _ s h (λ v v_is h.
     bind_step (word_at v.1) _ s h (λ a a_is h.
     bind_step (role_of a.0) _ s h (λ role role_is h.
     bind_step (word_at a.1) _ s h (λ b b_is h.
@@ -153,15 +166,14 @@ settings_at-some line s h =
     let same = some_inj _ s h in
     let P : Parameters → Type 0 = λ p. line ≡ settings_line p in
     subst P same
-    (after-some (codes "hsms-log ") line rest rest_is
-    ∙ ap (λ t. codes "hsms-log " ++ t) (numbers_front (2 ^ 8) rest v.0 version v.1 v_is version_is
-    ∙ ap (λ t. decimal version ++ 32 ∷ t) (word_at-some v.1 a.0 a.1 a_is ∙ ap (λ w. w ++ 32 ∷ a.1) (role_of-some a.0 role role_is)
+    (version_at-some line v v_is
+    ∙ ap (λ t. codes "hsms-log " ++ (decimal v.0 ++ 32 ∷ t)) (word_at-some v.1 a.0 a.1 a_is ∙ ap (λ w. w ++ 32 ∷ a.1) (role_of-some a.0 role role_is)
     ∙ ap (λ t. role_word role ++ 32 ∷ t) (word_at-some a.1 b.0 b.1 b_is ∙ ap (λ w. w ++ 32 ∷ b.1) (link_of-some b.0 link link_is)
     ∙ ap (λ t. link_word link ++ 32 ∷ t) (numbers_front (2 ^ 16) b.1 c.0 device c.1 c_is device_is
     ∙ ap (λ t. decimal device ++ 32 ∷ t) (times_at-some c.1 times times_is
     ∙ ap (λ t. decimal times.0 ++ 32 ∷ (decimal times.1 ++ 32 ∷ (decimal times.2 ++ 32 ∷ (decimal times.3 ++ 32 ∷ t))))
     (numbers_front (2 ^ 32) times.4 d.0 max d.1 d_is max_is
-    ∙ ap (λ t. decimal max ++ 32 ∷ t) (last_number (2 ^ 8) d.1 e depth e_is depth_is))))))))))))))))))))))
+    ∙ ap (λ t. decimal max ++ 32 ∷ t) (last_number (2 ^ 8) d.1 e depth e_is depth_is)))))))))))))))))))
 
 -- ---- the limit
 
@@ -205,12 +217,19 @@ version_within p v least greatest w = record {
   greatest_depth = w.greatest_depth;
 }
 
--- settings within their limits, of version 1, are so with another version exactly where there is this version
-pub of_version_within : (p : Parameters) (v : ℕ) (r : Option Parameters) → p.version ≡ 1 → IsWithinLimits p → (IsSome r ↔ (1 ≤ v) × (v ≤ 2)) → IsSome r ↔ IsWithinLimits (record p { version = v })
-of_version_within p v r one w some = (
+-- settings within their limits are so with another version exactly where there is this version
+pub of_version_within : (p : Parameters) (v : ℕ) (r : Option Parameters) → IsWithinLimits p → (IsSome r ↔ (1 ≤ v) × (v ≤ 2)) → IsSome r ↔ IsWithinLimits (record p { version = v })
+of_version_within p v r w some = (
   (λ h. let at = some.0 h in version_within p v at.0 at.1 w),
   (λ h. some.1 (h.least_version, h.greatest_version)),
 )
+
+pub of_version_is : (p s : Parameters) (v : ℕ) (r : Option Parameters) → s ≡ p → p.version ≡ 1
+    → IfSome r (λ t. s.version ≡ 1 → t ≡ record s { version = v }) → IfSome r (λ t. t ≡ record p { version = v })
+of_version_is p s v (Some t) same one h =
+    let F : Parameters → Parameters = λ q. record q { version = v } in
+    h (ap (λ (q : Parameters). q.version) same ∙ one) ∙ ap F same
+of_version_is p s v None same one h = tt
 
 -- where there are none of version 1, there are none of another
 pub none_within : (p : Parameters) (v : ℕ) → p.version ≡ 1 → (IsWithinLimits p → ⊥) → IsWithinLimits (record p { version = v }) → ⊥

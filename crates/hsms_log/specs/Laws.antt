@@ -1,11 +1,13 @@
 -- The laws of log text and of verdicts (this project's own).
-use Rattle.std.specs.Prelude.{◌≡◌, ◌≤◌, ℕ, List, Option, Some, All, length}
+use Rattle.std.specs.Prelude.{◌≡◌, ◌≤◌, ◌↔◌, ℕ, List, Option, Some, All, length}
 use Rattle.hsms_machine.specs.declared.entry.Entry.{Entry}
 use Rattle.hsms_machine.specs.Settings.{Parameters, IsWithinLimits}
 use Rattle.hsms_log.specs.declared.verdict.Verdict.{Verdict}
 use Rattle.hsms_log.specs.Spelling.{SpellsSettings, SpellsEntry, Carries, IsEntry, entry_line, settings_line, line_limit}
+use Rattle.hsms_log.specs.Lines.{lines_of}
 use Rattle.hsms_log.specs.Log.{LogText, written_log}
 use Rattle.hsms_log.specs.Verdict.{Judges}
+use Rattle.hsms_log.specs.VersionOne.{JudgesOfOne, SpellsNoVersionTwo}
 
 -- each text has a verdict
 abbrev pub EachTextHasAVerdict : Type 0
@@ -14,6 +16,11 @@ EachTextHasAVerdict = (text : List ℕ) → (verdict : Verdict) × Judges text v
 -- no text has two
 abbrev pub NoTextHasTwoVerdicts : Type 0
 NoTextHasTwoVerdicts = (text : List ℕ) (one other : Verdict) → Judges text one → Judges text other → one ≡ other
+
+-- a text that spells no settings of version 2 has the verdict of version 1
+abbrev pub VersionOneKeepsVerdicts : Type 0
+VersionOneKeepsVerdicts =
+    (text : List ℕ) (verdict : Verdict) → SpellsNoVersionTwo (lines_of text) → Judges text verdict ↔ JudgesOfOne text verdict
 
 -- a text spells at most one log
 abbrev pub TextSpellsOneLog : Type 0

@@ -2,6 +2,7 @@ pub mod Lines
 pub mod Spelling
 pub mod Log
 pub mod Verdict
+pub mod VersionOne
 pub mod Judging
 pub mod LineReader
 pub mod Reading

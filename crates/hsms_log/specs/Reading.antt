@@ -55,6 +55,14 @@ link_of word = if bytes_eq word (codes "active") then Some Active else if bytes_
 unfoldable pub after : List ℕ → List ℕ → Option (List ℕ)
 after prefix text = if bytes_eq (take (length prefix) text) prefix then Some (drop (length prefix) text) else None
 
+-- the version, and what follows it
+unfoldable pub version_at : List ℕ → Option (ℕ × List ℕ)
+version_at line = do
+  rest ← after (codes "hsms-log ") line
+  v ← number_at rest
+  version ← below (2 ^ 8) v.0
+  Some (version, v.1)
+
 -- the four times, and what follows them
 unfoldable pub times_at : List ℕ → Option (ℕ × ℕ × ℕ × ℕ × List ℕ)
 times_at text = do
@@ -71,9 +79,7 @@ times_at text = do
 -- the settings, where their numbers fit their types
 unfoldable pub settings_at : List ℕ → Option Parameters
 settings_at line = do
-  rest ← after (codes "hsms-log ") line
-  v ← number_at rest
-  version ← below (2 ^ 8) v.0
+  v ← version_at line
   a ← word_at v.1
   role ← role_of a.0
   b ← word_at a.1
@@ -85,4 +91,4 @@ settings_at line = do
   max ← below (2 ^ 32) d.0
   e ← number_of d.1
   depth ← below (2 ^ 8) e
-  Some (record { version = version; role = role; link = link; device = device; t3 = times.0; t6 = times.1; t7 = times.2; t8 = times.3; max = max; depth = depth })
+  Some (record { version = v.0; role = role; link = link; device = device; t3 = times.0; t6 = times.1; t7 = times.2; t8 = times.3; max = max; depth = depth })

@@ -34,8 +34,8 @@ const BLOCK: usize = 4096;
 ///   of its `specs/Transaction.antt`.
 /// - *awaited*, *within T3*, *unless .. came first*: `laws::expiry_is_logged_first` and `laws::replies_come_within_t3`
 ///   of `hsms_machine`. A reply is awaited by the end that sent a primary with the W bit; one at exactly T3 is in time
-///   (SEMI E5, SEMI E37). After a Separate.req or a cut nothing is overdue, and a log may end while replies are
-///   awaited.
+///   (SEMI E5, SEMI E37). After a Separate.req, a cut or a `down` nothing is overdue, and a log may end while replies
+///   are awaited.
 /// - *passes*, *names the first line, and why*: `Passes` and `Fails` of `specs/Verdict.antt`. Each text has exactly one
 ///   verdict: `laws::each_text_has_one_verdict`.
 ///

@@ -1,9 +1,10 @@
 //! Laws over the definitions of log text and of verdicts. Each is the contract of a function that does nothing.
 
-ghost use Rattle.hsms_log.specs.Laws.{EachTextHasAVerdict, NoTextHasTwoVerdicts, TextSpellsOneLog, WrittenEntryIsSpelled, WrittenSettingsAreSpelled, WrittenEntryIsReadBack, WrittenSettingsAreReadBack, WrittenLogIsItsText};
+ghost use Rattle.hsms_log.specs.Laws.{EachTextHasAVerdict, NoTextHasTwoVerdicts, VersionOneKeepsVerdicts, TextSpellsOneLog, WrittenEntryIsSpelled, WrittenSettingsAreSpelled, WrittenEntryIsReadBack, WrittenSettingsAreReadBack, WrittenLogIsItsText};
 
 use hsms_machine::laws::{
     each_entry_has_one_answer, empty_log_is_run, front_of_run_is_run, lawful_entry_extends_run,
+    version_one_is_kept,
 };
 
 /// Each text has exactly one verdict.
@@ -15,6 +16,14 @@ pub fn each_text_has_one_verdict()
     each_entry_has_one_answer();
     lawful_entry_extends_run();
     empty_log_is_run();
+}
+
+/// A text of version 1 keeps its verdict, its summary too: it is judged without a word of versions and connections, and
+/// so is each text whose first line spells no settings.
+pub fn version_one_keeps_verdicts()
+    ensures { VersionOneKeepsVerdicts }
+{
+    version_one_is_kept();
 }
 
 /// A text spells the settings and the entries of at most one log.

@@ -2,10 +2,11 @@
 
 ghost use Rattle.hsms_frame.specs.Frame.{IsOctets};
 ghost use Rattle.hsms_frame.specs.Header.{IsHeader};
+ghost use Rattle.hsms_machine.specs.Settings.{IsWithinLimits};
 ghost use Rattle.hsms_log.specs.Spelling.{IsEntry, IsEvent, IsMessage};
 
 use hsms_frame::{Frame, Header};
-use hsms_machine::{Entry, Event};
+use hsms_machine::{Entry, Event, Settings};
 
 /// Does nothing. Its contract is the fact.
 pub fn entry_is_in_range(entry: &Entry)
@@ -46,4 +47,18 @@ fn octets_are_in_range(octets: &[u8])
     ensures { IsOctets octets.now }
 {
     let _count = octets.len();
+}
+
+/// Does nothing. Its contract is the fact.
+pub fn settings_are_in_range(settings: &Settings)
+    ensures { IsWithinLimits settings.now }
+{
+    let _version = settings.version();
+    let _device = settings.device();
+    let _t3 = settings.t3();
+    let _t6 = settings.t6();
+    let _t7 = settings.t7();
+    let _t8 = settings.t8();
+    let _max = settings.max();
+    let _depth = settings.depth();
 }

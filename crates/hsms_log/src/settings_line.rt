@@ -3,7 +3,7 @@
 ghost use Rattle.std.specs.Prelude.{◌≡◌, ◌≤◌, ◌↔◌, IsSome, IfSome, IfNone, option_map};
 ghost use Rattle.hsms_machine.specs.Settings.{Parameters, IsWithinLimits};
 ghost use Rattle.hsms_log.specs.Spelling.{SpellsSettings};
-ghost use Rattle.hsms_log.specs.Reading.{role_of, link_of, times_at as times_and_rest, settings_at};
+ghost use Rattle.hsms_log.specs.Reading.{role_of, link_of, version_at as version_and_rest, times_at as times_and_rest, settings_at};
 ghost use Rattle.hsms_log.specs.Fields.{parameters_of};
 
 use crate::number::{after_prefix, number, number_at, word_at};
@@ -73,9 +73,7 @@ fn of_version(version: u8, settings: Settings) -> Option<Settings>
 fn read_fields(line: &[u8]) -> Option<Fields>
     ensures { option_map parameters_of result ≡ settings_at line.now }
 {
-    let rest = after_prefix(line, b"hsms-log ")?;
-    let (version, rest) = number_at(rest)?;
-    let version = u8::try_from(version).ok()?;
+    let (version, rest) = version_at(line)?;
     let (role, rest) = word_at(rest)?;
     let role = read_role(role)?;
     let (link, rest) = word_at(rest)?;
@@ -98,6 +96,17 @@ fn read_fields(line: &[u8]) -> Option<Fields>
         max,
         depth,
     })
+}
+
+/// The version, and what follows it.
+#[tactic(auto, unfolding(crate::specs::Reading::version_at))]
+fn version_at(line: &[u8]) -> Option<(u8, &[u8])>
+    ensures { option_map (λ x. (x.0, x.1.now)) result ≡ version_and_rest line.now }
+{
+    let rest = after_prefix(line, b"hsms-log ")?;
+    let (version, rest) = number_at(rest)?;
+    let version = u8::try_from(version).ok()?;
+    Some((version, rest))
 }
 
 #[tactic(auto, unfolding(crate::specs::Reading::role_of))]

@@ -1,4 +1,5 @@
 mod cases;
+mod connections;
 
 use super::*;
 use cases::{CASES, REPLY, SELECTED};
@@ -38,6 +39,15 @@ fn judges_each_log(rt: HostRuntime) -> Result<(), Fail> {
                 case.name
             );
         }
+    }
+    Ok(())
+}
+
+#[test]
+fn judges_each_log_of_several_connections(rt: HostRuntime) -> Result<(), Fail> {
+    for text in connections::TEXTS {
+        let octets = joined(rt.alloc(), text.parts)?;
+        assert_eq!(rt; judge(rt.alloc(), &octets)?, text.verdict, "{}", text.name);
     }
     Ok(())
 }

@@ -5,11 +5,10 @@ ghost use Rattle.std.specs.List.{flat_map};
 ghost use Rattle.hex.specs.Hex.{encode_lower};
 ghost use Rattle.hsms_frame.specs.Count.{count_failure};
 ghost use Rattle.hsms_log.specs.Writing.{Puts, version_text, words_of, opening_of, numbers_of, spaced};
-ghost use Rattle.hsms_machine.specs.Settings.{IsWithinLimits};
 ghost use Rattle.hsms_log.specs.Spelling.{SpellsSettings, SpellsEntry, entry_line, settings_line, event_text, message_octets, system_octets};
 
 use crate::fault::LogFault;
-use crate::range::entry_is_in_range;
+use crate::range::{entry_is_in_range, settings_are_in_range};
 use hsms_frame::{Frame, Sink, give_all};
 use hsms_machine::{Cause, Entry, Event, Role, Settings, Side};
 use itoa::Buffer;
@@ -115,6 +114,7 @@ pub fn write_settings<W: Sink>(sink: &mut W, settings: &Settings) -> Result<(), 
     ensures spelled { SpellsSettings (settings_line settings.now) settings.now }
     ensures failures { (W.state sink.new).failures ≡ count_failure result (W.state sink.old).failures }
 {
+    settings_are_in_range(settings);
     let numbers = numbers(settings);
     put_opening(sink, settings)?;
     put_numbers(sink, &numbers)
@@ -151,8 +151,7 @@ fn words(settings: &Settings) -> &'static [u8]
 }
 
 fn numbers(settings: &Settings) -> [u64; 7]
-    ensures value { result ≡ numbers_of settings.now }
-    ensures within { IsWithinLimits settings.now }
+    ensures { result ≡ numbers_of settings.now }
 {
     [
         u64::from(settings.device()),

@@ -42,6 +42,8 @@ pub const FIRST_LINES: &[&str] = &[
     "hsms-log 1 host passive 1 1 1 1 1 256 1",
     "hsms-log 1 equipment active 32767 3600000 3600000 3600000 3600000 33554432 100",
     "hsms-log 1 equipment passive 10 20 30 40 50 260 9",
+    "hsms-log 2 host active 0 45000 6000 10000 5000 1048576 32",
+    "hsms-log 2 equipment passive 32767 3600000 3600000 3600000 3600000 33554432 100",
 ];
 
 #[derive(Clone, Copy)]

@@ -1,4 +1,3 @@
-use Rattle.std.proofs.Common.{◌∷◌, []}
 use Rattle.std.specs.Prelude.{codes}
 use Rattle.std.proofs.lemmas.Result.{err_from_is_err_and}
 use Rattle.hsms_log.specs.Writing.{spaced, version_text}
@@ -13,5 +12,6 @@ returns-in_err-put-clause-written g c =
 
 pub returns-clause-written : goal.returns-clause-written
 returns-clause-written g c =
+    let last = rw c.from.ensures at c.put_spaced.ensures.written in
     puts_then c.put_spaced.result (g.W.Sink.state c.args.sink.now).written (g.W.Sink.state c.put.new.sink).written (g.W.Sink.state c.put_spaced.new.sink).written (codes "hsms-log") (spaced c.args.version)
-    c.in_ok-put.ensures.written c.put_spaced.ensures.written
+    c.in_ok-put.ensures.written last

@@ -20,12 +20,12 @@ pub returns-clause-written : goal.returns-clause-written
 returns-clause-written g c =
     let s = c.args.settings.now in
     let rest = flat_map spaced (numbers_of s) ++ 10 ∷ [] in
-    let last = rw c.numbers-numbers.ensures.value at c.put_numbers.ensures.written in
+    let last = rw c.numbers-numbers.ensures at c.put_numbers.ensures.written in
     puts_along c.put_numbers.result (g.W.Sink.state c.args.sink.now).written (g.W.Sink.state c.put_numbers.new.sink).written (opening_of s ++ rest) (settings_line s ++ 10 ∷ []) (line_parts s)
     (puts_then c.put_numbers.result (g.W.Sink.state c.args.sink.now).written (g.W.Sink.state c.put_opening.new.sink).written (g.W.Sink.state c.put_numbers.new.sink).written (opening_of s) rest c.in_ok-put_opening.ensures.written last)
 
 pub returns-in_err-put_opening-clause-spelled : goal.returns-in_err-put_opening-clause-spelled
-returns-in_err-put_opening-clause-spelled g c = settings_written c.args.settings.now c.numbers-numbers.ensures.within
+returns-in_err-put_opening-clause-spelled g c = settings_written c.args.settings.now c.settings_are_in_range.ensures
 
 pub returns-clause-spelled : goal.returns-clause-spelled
-returns-clause-spelled g c = settings_written c.args.settings.now c.numbers-numbers.ensures.within
+returns-clause-spelled g c = settings_written c.args.settings.now c.settings_are_in_range.ensures
