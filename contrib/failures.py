@@ -6,8 +6,8 @@
 Behind each failure it is told what the failing line has to do with, as the primary that is overdue, and what is changed
 in a copy of the log so that the audit goes on: a received frame that may not be taken is thrown away, an expiry that is
 missing is put in, a time that goes back is raised, any other line is left out. Later failures are those of the changed
-copy. In a log of version 2 a `down` that is missing before an `up` is put in too. At most MOST are listed, 100 if left
-out. `hsms` is that of the path, or else that of this repository. The status
+copy. In a log of version 2 a `down` that is missing before an `up` is put in too, and where T6 or T7 ran out a cut stands
+in place of the rest of the connection. At most MOST are listed, 100 if left out. `hsms` is that of the path, or else that of this repository. The status
 is 0 where the log passes, else 1.
 """
 import os
@@ -102,7 +102,7 @@ class Failure:
         if self.rule is None and self.index == 0:
             raise Stop("the line of settings is unreadable")
         repair = {
-            "T3Overdue": self.log_expiries, "LinkOverdue": self.name_request, "Backwards": self.raise_times,
+            "T3Overdue": self.log_expiries, "LinkOverdue": self.cut_link, "Backwards": self.raise_times,
             "NotUp": self.reconnect, "NoCause": self.take,
         }
         return repair.get(self.rule, self.throw_away)()
@@ -128,13 +128,29 @@ class Failure:
                 return f"{since}; line {entry.line.number} answers it after {entry.time - primary.time} ms"
         return f"{since}; nothing answers it"
 
-    def name_request(self):
+    def cut_link(self):
         limit = int(self.timers[1])
         for one in open_before(self.lines, self.index, ">"):
             if not one.frame.is_data and self.entry.time - one.time > limit:
-                since = f"line {one.line.number}, {one.frame}, is overdue since {one.time + limit}"
-                raise Stop(f"{since}, so the connection had to be cut")
-        raise Stop("the session wasn't selected within T7, so the connection had to be cut")
+                due = one.time + limit
+                return self.cut(f"line {one.line.number}, {one.frame}, is overdue since {due}", due, "t6")
+        up = [entry for entry in entries(self.lines[:self.index]) if entry.word == "up"][-1]
+        return self.cut("the session wasn't selected within T7", up.time + int(self.timers[2]), "t7")
+
+    def cut(self, why, due, timer):
+        """Where another connection follows, a cut stands in place of the rest of this one."""
+        told, index = f"{why}, so the connection had to be cut", self.next_up()
+        if index is None or not self.has_several:
+            raise Stop(told)
+        time = max(due, entries(self.lines[:self.index])[-1].time)
+        added = [Line(self.line.number, f"{time} {words}") for words in (f"cut {timer}", "down")]
+        to_go_on = f"to go on, `{added[0].text}` and `{added[1].text}` stand in place of the rest of the connection"
+        return [told, to_go_on], [*self.lines[:self.index], *added, *self.lines[index:]]
+
+    def next_up(self):
+        """The index of the first `up` behind the failing line, or None."""
+        words = [entry_of(line) and entry_of(line).word for line in self.lines[self.index + 1:]]
+        return self.index + 1 + words.index("up") if "up" in words else None
 
     def raise_times(self):
         """The times of the failing line and of those behind it that are earlier than the one before it."""
@@ -160,9 +176,7 @@ class Failure:
             down = Line(self.line.number, f"{before[-1].time} down")
             told = ["no `down` stands before it", f"to go on, `{down.text}` is put before it"]
             return told, self.replaced(down, self.line)
-        ups = (index for index in range(self.index, len(self.lines))
-               if (entry_of(self.lines[index]) or self.entry).word == "up")
-        index = next(ups, None)
+        index = self.next_up()
         if index is None:
             raise Stop("the connection is down" if was_up else "the log has no `up`")
         if was_up and not self.has_several:
