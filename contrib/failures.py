@@ -5,10 +5,10 @@
 
 Behind each failure it is told what the failing line has to do with, as the primary that is overdue, and what is changed
 in a copy of the log so that the audit goes on: a received frame that may not be taken is thrown away, an expiry that is
-missing is put in, a time that goes back is raised, any other line is left out. Later failures are those of the changed
-copy. In a log of version 2 a `down` that is missing before an `up` is put in too, and where T6 or T7 ran out a cut stands
-in place of the rest of the connection. At most MOST are listed, 100 if left out. `hsms` is that of the path, or else that of this repository. The status
-is 0 where the log passes, else 1.
+missing is put in, a time that goes back is raised, any other line is left out. In a log of version 2 a `down` that is
+missing before an `up` is put in too, and where T6 or T7 ran out a cut stands in place of the rest of the connection.
+Later failures are those of the changed copy. At most MOST are listed, 100 if left out. `hsms` is that of the path, or
+else that of this repository. The status is 0 where the log passes, else 1.
 """
 import os
 import re
