@@ -172,7 +172,8 @@ class Failure:
         was_up = any(entry.word == "up" for entry in before)
         if was_up and self.entry.word == "up":
             if not self.has_several:
-                raise Stop("another connection begins here: audit it as a log of its own, or make this one of version 2")
+                begins = "another connection begins here"
+                raise Stop(f"{begins}: audit it as a log of its own, or make this one of version 2")
             down = Line(self.line.number, f"{before[-1].time} down")
             told = ["no `down` stands before it", f"to go on, `{down.text}` is put before it"]
             return told, self.replaced(down, self.line)

@@ -507,7 +507,8 @@ def odd_line(chance: Chance, line: bytes) -> bytes:
 
 # Words where the version stands, `1` and `2` among them.
 VERSIONS = [
-    *[[word] for word in "0 1 2 3 9 10 11 12 20 21 01 02 002 2.0 2. 1.0 1,2 +1 +2 -1 -2 0x2 2x x2 two 1e0 \u0662".split()],
+    *[[word] for word in "0 1 2 3 9 10 11 12 20 21 01 02 002".split()],
+    *[[word] for word in "2.0 2. 1.0 1,2 +1 +2 -1 -2 0x2 2x x2 two 1e0 \u0662".split()],
     *[[str(number)] for number in (257, 258, (1 << 32) + 2, (1 << 64) + 1, (1 << 64) + 2)],
     *[[], [""], ["", "2"], ["2", ""], ["1", "2"], ["2", "2"], ["\t2"], ["2\x00"]],
 ]
