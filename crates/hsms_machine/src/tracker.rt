@@ -12,7 +12,8 @@ use std::marker::Model;
 
 /// The judge of what is lawful in a session (SEMI E37, E37.1). It keeps the settings, the phase, the
 /// time of the last `up` and of the last entry, and the open transactions, each with its time and header: what
-/// the rules need to know of the entries so far. It stores no log; some lawful log has led to it.
+/// the rules need to know of the entries so far. It stores no log; some lawful log has led to it. In a log of several
+/// connections (`Settings::several`) what is open and the phase are those of the connection since the last `up`.
 #[derive(Debug, Drop)]
 pub struct Tracker {
     view: View,
