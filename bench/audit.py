@@ -4,7 +4,8 @@ instructions for an octet of the log, where valgrind is installed; and the most 
 
 Use: bench/audit.py [MEGABYTES [WORD..]], 100 if left out; with words only the logs in whose description one stands. It
 runs what `rt ci` or the first use of `hsms` has built. Logs with many transactions open at once have 96,000 lines,
-whatever the size. Instructions are counted over 3 MB of a log, or 9,600 lines with up to 2,400 open. Every log passes.
+and logs of many connections 100,000 connections, whatever the size. Instructions are counted over 3 MB of a log, over
+9,600 lines with up to 2,400 open, or over all connections. Every log passes.
 """
 import os
 import sys
@@ -16,17 +17,19 @@ from commands import notation, report, stream
 from running import MB, PROGRAM, Runner, lines_of, write
 
 LINES = 96_000
+CONNECTIONS = 100_000
 SELECTED = b"""\
 hsms-log 1 equipment passive 0 3600000 6000 10000 5000 1048576 32
 0 up
 0 < ffff0000000100000001
 0 > ffff0000000200000001
 """
+SEVERAL = b"hsms-log 2 equipment passive 0 3600000 6000 10000 5000 1048576 32\n"
 
 
-def log(lines):
-    """A log of these lines after the selection, as pieces of some 100 KB."""
-    yield SELECTED
+def log(lines, front=SELECTED):
+    """A log of these lines after the selection, or another front, as pieces of some 100 KB."""
+    yield front
     piece, size = [], 0
     for line in lines:
         piece.append(line)
@@ -119,6 +122,39 @@ def open_at_once(count, newest_first):
     return made
 
 
+def frames_of_connection(turn, status):
+    """Select, and then a question and its answer, with the same system bytes on each connection."""
+    yield f"{turn} < ffff0000000100000001\n"
+    yield f"{turn} > ffff00{status:02x}000200000001\n"
+    yield f"{turn} > 00008101000000000002\n"
+    yield f"{turn} < 00000102000000000002\n"
+
+
+def connections(open_at_end=0, open_at_first=0):
+    """Lines of many connections; at the end of each, or of one that comes first, so many questions are open."""
+
+    def made(count):
+        return log(lines(count), SEVERAL)
+
+    def questions(turn, many):
+        for system in range(3, 3 + many):
+            yield f"{turn} > 000081010000{system:08x}\n"
+
+    def lines(count):
+        for turn in range(count):
+            yield f"{turn} up\n"
+            yield from frames_of_connection(turn, 0)
+            yield from questions(turn, open_at_end + (0 if turn else open_at_first))
+            yield f"{turn} down\n"
+
+    return made
+
+
+def one_connection(count):
+    """The frames of as many connections in one: each later Select is answered by another status."""
+    return log((line for turn in range(count) for line in frames_of_connection(turn, 1)))
+
+
 def logs(size):
     """Each kind of log: what it is, how it is made, its size, and the size over which instructions are counted."""
     yield "ordinary traffic, one open at a time", lambda size: [one_at_a_time(size)], size, 3 * MB
@@ -131,6 +167,15 @@ def logs(size):
             closed = "newest" if newest_first else "oldest"
             counted = LINES // 10 if count < 24_000 else LINES // 2
             yield f"{count:,} open at once, closed {closed} first", open_at_once(count, newest_first), LINES, counted
+    many = f"{CONNECTIONS:,} connections"
+    of_connections = [
+        (f"{many}, all in one", one_connection),
+        (many, connections()),
+        (f"{many}, one question open at the end of each", connections(open_at_end=1)),
+        (f"{many} after one with 24,000 questions open", connections(open_at_first=24_000)),
+    ]
+    for what, make in of_connections:
+        yield what, make, CONNECTIONS, CONNECTIONS
 
 
 def others(size):

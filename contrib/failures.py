@@ -5,9 +5,10 @@
 
 Behind each failure it is told what the failing line has to do with, as the primary that is overdue, and what is changed
 in a copy of the log so that the audit goes on: a received frame that may not be taken is thrown away, an expiry that is
-missing is put in, a time that goes back is raised, any other line is left out. Later failures are those of the changed
-copy. At most MOST are listed, 100 if left out. `hsms` is that of the path, or else that of this repository. The status
-is 0 where the log passes, else 1.
+missing is put in, a time that goes back is raised, any other line is left out. In a log of version 2 a `down` that is
+missing before an `up` is put in too, and where T6 or T7 ran out a cut stands in place of the rest of the connection.
+Later failures are those of the changed copy. At most MOST are listed, 100 if left out. `hsms` is that of the path, or
+else that of this repository. The status is 0 where the log passes, else 1.
 """
 import os
 import re
@@ -75,7 +76,9 @@ def open_before(lines, index, mark):
     """The entries that opened the transactions of one direction which are open before a line, the oldest first."""
     found = []
     for entry in entries(lines[:index]):
-        if entry.mark == mark and entry.frame.opens:
+        if entry.word == "up":
+            found = []
+        elif entry.mark == mark and entry.frame.opens:
             found.append(entry)
         elif entry.mark in ("<", ">") and entry.mark != mark:
             answered = next((one for one in found if one.frame.is_answered_by(entry.frame)), None)
@@ -92,14 +95,15 @@ class Failure:
         self.lines, self.index, self.rule, self.line = lines, index, rule, lines[index]
         self.entry = entry_of(self.line)
         self.timers = lines[0].text.split()[5:9]  # T3, T6, T7, T8
+        self.has_several = lines[0].text.split()[1:2] == ["2"]
 
     def repaired(self):
         """What is told, and the lines of the log that is audited next."""
         if self.rule is None and self.index == 0:
             raise Stop("the line of settings is unreadable")
         repair = {
-            "T3Overdue": self.log_expiries, "LinkOverdue": self.name_request, "Backwards": self.raise_times,
-            "NotUp": self.leave_out_to_up, "NoCause": self.take,
+            "T3Overdue": self.log_expiries, "LinkOverdue": self.cut_link, "Backwards": self.raise_times,
+            "NotUp": self.reconnect, "NoCause": self.take,
         }
         return repair.get(self.rule, self.throw_away)()
 
@@ -118,17 +122,35 @@ class Failure:
     def overdue(self, primary, limit):
         since = f"line {primary.line.number}, {primary.frame}, is overdue since {primary.time + limit}"
         for entry in entries([self.lines[0], *self.lines[self.index:]]):
+            if entry.word == "up":
+                break
             if entry.mark in ("<", "!") and primary.frame.is_answered_by(entry.frame):
                 return f"{since}; line {entry.line.number} answers it after {entry.time - primary.time} ms"
         return f"{since}; nothing answers it"
 
-    def name_request(self):
+    def cut_link(self):
         limit = int(self.timers[1])
         for one in open_before(self.lines, self.index, ">"):
             if not one.frame.is_data and self.entry.time - one.time > limit:
-                since = f"line {one.line.number}, {one.frame}, is overdue since {one.time + limit}"
-                raise Stop(f"{since}, so the connection had to be cut")
-        raise Stop("the session wasn't selected within T7, so the connection had to be cut")
+                due = one.time + limit
+                return self.cut(f"line {one.line.number}, {one.frame}, is overdue since {due}", due, "t6")
+        up = [entry for entry in entries(self.lines[:self.index]) if entry.word == "up"][-1]
+        return self.cut("the session wasn't selected within T7", up.time + int(self.timers[2]), "t7")
+
+    def cut(self, why, due, timer):
+        """Where another connection follows, a cut stands in place of the rest of this one."""
+        told, index = f"{why}, so the connection had to be cut", self.next_up()
+        if index is None or not self.has_several:
+            raise Stop(told)
+        time = max(due, entries(self.lines[:self.index])[-1].time)
+        added = [Line(self.line.number, f"{time} {words}") for words in (f"cut {timer}", "down")]
+        to_go_on = f"to go on, `{added[0].text}` and `{added[1].text}` stand in place of the rest of the connection"
+        return [told, to_go_on], [*self.lines[:self.index], *added, *self.lines[index:]]
+
+    def next_up(self):
+        """The index of the first `up` behind the failing line, or None."""
+        words = [entry_of(line) and entry_of(line).word for line in self.lines[self.index + 1:]]
+        return self.index + 1 + words.index("up") if "up" in words else None
 
     def raise_times(self):
         """The times of the failing line and of those behind it that are earlier than the one before it."""
@@ -144,18 +166,21 @@ class Failure:
         step = time - self.entry.time
         return [f"it is {step} ms before the line before it", f"to go on, {to} the time {time}"], lines
 
-    def leave_out_to_up(self):
-        was_up = any(entry.word == "up" for entry in entries(self.lines[:self.index]))
+    def reconnect(self):
+        """An `up` gets a `down` before it, or what stands before the next `up` is left out."""
+        before = entries(self.lines[:self.index])
+        was_up = any(entry.word == "up" for entry in before)
         if was_up and self.entry.word == "up":
-            raise Stop("another connection begins here: audit it as a log of its own")
-        if was_up and not any(entry.word == "down" for entry in entries(self.lines[:self.index])):
-            return self.leave_out()
-        ups = (index for index in range(self.index, len(self.lines))
-               if (entry_of(self.lines[index]) or self.entry).word == "up")
-        index = next(ups, None)
+            if not self.has_several:
+                begins = "another connection begins here"
+                raise Stop(f"{begins}: audit it as a log of its own, or make this one of version 2")
+            down = Line(self.line.number, f"{before[-1].time} down")
+            told = ["no `down` stands before it", f"to go on, `{down.text}` is put before it"]
+            return told, self.replaced(down, self.line)
+        index = self.next_up()
         if index is None:
             raise Stop("the connection is down" if was_up else "the log has no `up`")
-        if was_up:
+        if was_up and not self.has_several:
             raise Stop(f"another connection begins at line {self.lines[index].number}: audit it as a log of its own")
         return ["to go on, what stands before `up` is left out"], [*self.lines[:self.index], *self.lines[index:]]
 
@@ -184,11 +209,14 @@ class Failure:
         if self.rule not in ("NoTransaction", "NotDue"):
             return []
         system = self.entry.expired if self.rule == "NotDue" else self.entry.frame.system
-        before = [one for one in entries(self.lines[:self.index]) if one.frame and one.frame.opens
-                  and one.mark != self.entry.mark and one.frame.system == system]
-        if not before:
+        before = entries(self.lines[:self.index])
+        openers = [at for at, one in enumerate(before) if one.frame and one.frame.opens
+                   and one.mark != self.entry.mark and one.frame.system == system]
+        if not openers:
             return ["no line before it opens a transaction with its system bytes"] if system else []
-        return [f"line {before[-1].line.number}, {before[-1].frame}, is the last one with its system bytes"]
+        last = before[openers[-1]]
+        where = ", on an earlier connection" if any(one.word == "up" for one in before[openers[-1]:]) else ""
+        return [f"line {last.line.number}, {last.frame}, is the last one with its system bytes{where}"]
 
 
 def audited(lines):

@@ -15,7 +15,8 @@ BEGIN {
   if (role == "") role = "host"
   if (link == "") link = "active"
   if (t3 == "") t3 = 45000
-  print "hsms-log 1", role, link, device + 0, t3, "6000 10000 5000 1048576 32"
+  # (version 2: the log may go over several connections)
+  print "hsms-log 2", role, link, device + 0, t3, "6000 10000 5000 1048576 32"
 }
 
 # The days up to a date, of the calendar that has leap years.

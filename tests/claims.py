@@ -3,7 +3,7 @@
 
 Each is compared with an input of about as many octets that claims nothing: it may take a little more, and not in
 proportion to what is claimed. The one exception is a message whose length is within `--max`: its text is given room at
-once.
+once. So is a log of many connections, each of which leaves a primary open, with one whose primaries are answered.
 
 Counted is what the command asks for, whether it uses it or not. It runs what `rt ci` has built. The last line is
 `N passed, M failed`.
@@ -28,6 +28,7 @@ MORE = 65_536
 GREATEST = 33_554_432
 HEADER = "00008101000000000002"
 LOG = f"hsms-log 1 host active 0 45000 6000 10000 5000 {GREATEST} 100\n{ENTRIES}"
+CONNECTIONS = 10_000
 
 
 @dataclass(frozen=True)
@@ -73,8 +74,18 @@ def at_end(piece, beside):
     return Claim("", listed.text().encode(), list_with(beside).text().encode(), answer, program=DRIVER)
 
 
+def connections(*ending):
+    """A log of many connections, each with a primary of system bytes of its own, and behind it these lines."""
+    lines = ["up", "> ffff0000000100000001", "< ffff0000000200000001", "> 000081010000{0:08x}", *ending, "down"]
+    numbers = range(2, 2 + CONNECTIONS)
+    log = "".join(f"{number} {line.format(number)}\n" for number in numbers for line in lines)
+    return f"hsms-log 2 host active 0 45000 6000 10000 5000 1048576 32\n{log}".encode()
+
+
 def claims():
     verdict = Answer(1, b"fail line=5 rule=Text\n", b"")
+    counts = f"entries={5 * CONNECTIONS} sent={2 * CONNECTIONS} taken={CONNECTIONS} discarded=0 expired=0 waiting=1"
+    waits = Answer(0, f"pass {counts}\n".encode(), b"")
     too_long, cut_off = refused(f"TooLong length={0xFFFFFFFF}"), refused("CutOff")
     greatest = f"show --max {GREATEST}"
     return [
@@ -96,6 +107,7 @@ def claims():
         in_notation("encode", "S1F1 <L [18446744073709551615]> .", "Count at=8"),
         Claim("audit", f"{LOG}6 > {HEADER}{'03ffffff' * 100}\n".encode(), f"{LOG}6 > {HEADER}\n".encode(), verdict),
         Claim("audit", f"{LOG}6 > {HEADER}43ffffff41\n".encode(), f"{LOG}6 > {HEADER}\n".encode(), verdict),
+        Claim("audit", connections(), connections("< 000001020000{0:08x}"), waits),
         at_end(octets("ffffffff" + HEADER), octets("0000000b" + HEADER)),
         at_end(octets("02000000" + HEADER), octets("0000000b" + HEADER)),
         at_end(octets("02000000" + HEADER) + bytes(1000), octets("00000400" + HEADER) + bytes(1000)),

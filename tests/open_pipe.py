@@ -16,12 +16,15 @@ A_WHILE = 0.5
 
 FIRST = b"hsms-log 1 host active 0 45000 6000 10000 5000 1048576 32\n"
 FRONT = FIRST + b"0 up\n0 > ffff0000000100000001\n"
+AGAIN = FRONT.replace(b"hsms-log 1", b"hsms-log 2") + b"5 down\n90000 up\n"
 
 # Each begins a log, and fails at once, whatever follows.
 FAILING = [
     (b"x\n", b"fail line=1 unreadable\n"),
     (b"x" * 258, b"fail line=1 unreadable\n"),
     (FRONT + b"3 < 00008101000000000002\n", b"fail line=4 rule=NotSelected\n"),
+    (AGAIN + b"90003 < 00008101000000000002\n", b"fail line=6 rule=NotSelected\n"),
+    (AGAIN + b"90003 up\n", b"fail line=6 rule=NotUp\n"),
     (FRONT + b"# a comment\n" * 6000 + b"3 < 00008101000000000002\n", b"fail line=6004 rule=NotSelected\n"),
 ]
 
@@ -29,6 +32,8 @@ FAILING = [
 PASSING = [
     (FRONT, b"", b"pass entries=2 sent=1 taken=0 discarded=0 expired=0 waiting=0\n"),
     (FRONT + b"3 < 000081010000", b"00000002\n", b"fail line=4 rule=NotSelected\n"),
+    (AGAIN, b"", b"pass entries=4 sent=1 taken=0 discarded=0 expired=0 waiting=0\n"),
+    (AGAIN + b"90003 down\n", b"90004 up\n", b"pass entries=6 sent=1 taken=0 discarded=0 expired=0 waiting=0\n"),
 ]
 
 

@@ -20,14 +20,16 @@ sys.dont_write_bytecode = True
 
 from command import LONGEST_SHOWN, Answer, answer_of
 from second_reading import ends, inputs, messages, session, talks, walks
-from second_reading.cases import Case, audit_case, encode_case, show_case
+from second_reading.cases import SEVERAL, Case, audit_case, encode_case, show_case
 from second_reading.inputs import Chance
 
 WORKERS = 2
 
-# What the inputs have to reach, by command.
+VERDICTS = ["pass", "unreadable", *session.RULES]
+
+# What the inputs have to reach, by command: each verdict of an audit also where several connections had come up.
 TO_REACH = {
-    "audit": ["pass", "unreadable", *session.RULES],
+    "audit": [what + several for what in VERDICTS for several in ("", f", {SEVERAL}")],
     "show": [
         *["no fault", "TooShort", "TooLong", "CutOff"],
         *["primary", "reply", *messages.CONTROL_KINDS.values(), "other-stype", "other-ptype"],

@@ -106,6 +106,32 @@ REPLY = "1000 > 00008101000000000002\n46000 < 0000010200000000000201024101414101
 PRIMARY = "1000 > 00008101000000000002\n"
 TWO = PRIMARY + "1000 > 00008101000000000003\n46001 t3 00000002\n"
 
+CONNECTIONS = """\
+hsms-log 2 host active 0 45000 6000 10000 5000 1048576 32
+0 up
+0 > ffff0000000100000001
+5 < ffff0000000200000001
+10 > 00008101000000000002
+20 down
+90000 up
+90000 > ffff0000000100000001
+90001 < ffff0000000200000001
+90002 > 00008101000000000002
+90003 < 00000102000000000002
+90004 down
+"""
+
+
+def with_line(log: str, number: int, *lines: str) -> str:
+    """A log with these lines in place of one."""
+    all_of = log.splitlines(keepends=True)
+    return "".join([*all_of[:number - 1], *[line + "\n" for line in lines], *all_of[number:]])
+
+
+def front(log: str, count: int) -> str:
+    """The first lines of a log."""
+    return "".join(log.splitlines(keepends=True)[:count])
+
 
 def passes(entries, sent, taken, discarded=0, expired=0, waiting=0) -> str:
     counts = f"entries={entries} sent={sent} taken={taken} discarded={discarded} expired={expired} waiting={waiting}"
@@ -140,6 +166,30 @@ LOGS = [
     (SMALL + ENTRIES + "#" + "." * 576 + "\n", "fail line=5 unreadable"),
     (SMALL + ENTRIES + "5 > " + "0" * 572 + "\n", "fail line=5 rule=TooLong"),
     (SMALL + ENTRIES + "5 > " + "0" * 574 + "\n", "fail line=5 unreadable"),
+    (CONNECTIONS, passes(11, 4, 3)),
+    (CONNECTIONS.replace("hsms-log 2", "hsms-log 1"), "fail line=7 rule=NotUp"),
+    (CONNECTIONS.replace("hsms-log 2", "hsms-log 3"), "fail line=1 unreadable"),
+    (CONNECTIONS.replace("hsms-log 2", "hsms-log 0"), "fail line=1 unreadable"),
+    (CONNECTIONS.replace("hsms-log 2", "hsms-log 02"), "fail line=1 unreadable"),
+    (CONNECTIONS.replace("hsms-log 2", "hsms-log 2.0"), "fail line=1 unreadable"),
+    (CONNECTIONS.replace("hsms-log 2", "hsms-log 258"), "fail line=1 unreadable"),
+    (CONNECTIONS.replace("hsms-log 2", "hsms-log"), "fail line=1 unreadable"),
+    (with_line(CONNECTIONS, 6), "fail line=6 rule=NotUp"),
+    (with_line(CONNECTIONS, 6, "20 down", "", "# the second"), passes(11, 4, 3)),
+    (with_line(CONNECTIONS, 6, "20 cut length"), "fail line=7 rule=NotUp"),
+    (with_line(CONNECTIONS, 6, "45011 down"), "fail line=6 rule=T3Overdue"),
+    (with_line(CONNECTIONS, 7, "19 up"), "fail line=7 rule=Backwards"),
+    (with_line(CONNECTIONS, 7, "90000 down"), "fail line=7 rule=NotUp"),
+    (with_line(CONNECTIONS, 7, "90000 up", "90000 up"), "fail line=8 rule=NotUp"),
+    (with_line(CONNECTIONS, 7, "90000 t3 00000002"), "fail line=7 rule=NotUp"),
+    (with_line(CONNECTIONS, 8, "90000 < 00000102000000000002"), "fail line=8 rule=NotSelected"),
+    (with_line(CONNECTIONS, 8, "90000 t3 00000002"), "fail line=8 rule=NotDue"),
+    (with_line(CONNECTIONS, 8, "100000 cut t7"), "fail line=9 rule=Backwards"),
+    (with_line(CONNECTIONS, 10, "90001 < 00000102000000000002"), "fail line=10 rule=NoTransaction"),
+    (front(CONNECTIONS, 6), passes(5, 2, 1, waiting=1)),
+    (front(CONNECTIONS, 7), passes(6, 2, 1)),
+    (front(CONNECTIONS, 7) + "100001 down\n", "fail line=8 rule=LinkOverdue"),
+    (front(CONNECTIONS, 7) + "100000 cut t7\n100000 down\n100000 up\n", passes(9, 2, 1)),
 ]
 
 

@@ -1,4 +1,5 @@
 """Runs of the command, each with the answer that the second reading gives."""
+import re
 from dataclasses import dataclass, fields
 from typing import List, Optional, Set
 
@@ -6,6 +7,9 @@ from command import Answer
 from second_reading import items, messages, session
 from second_reading.items import Fault
 from second_reading.messages import Options
+
+# What is said of a verdict on a log in which more than one connection had come up by then.
+SEVERAL = "several connections"
 
 
 @dataclass(frozen=True)
@@ -21,8 +25,16 @@ class Case:
 def audit_case(log: bytes) -> Case:
     verdict = session.audit(log)
     passes = verdict.startswith("pass")
-    reached = verdict.split("rule=")[-1] if "rule=" in verdict else "pass" if passes else "unreadable"
-    return Case(["audit"], log, Answer(0 if passes else 1, verdict.encode() + b"\n", b""), {reached})
+    what = verdict.split("rule=")[-1] if "rule=" in verdict else "pass" if passes else "unreadable"
+    reached = {what, f"{what}, {SEVERAL}"} if connections_before(log, verdict) > 1 else {what}
+    return Case(["audit"], log, Answer(0 if passes else 1, verdict.encode() + b"\n", b""), reached)
+
+
+def connections_before(log: bytes, verdict: str) -> int:
+    """How many connections had come up before the line that fails, or the end of a log that passes."""
+    failing = re.match(r"fail line=(\d+)", verdict)
+    lines = session.lines_of(log)[1:int(failing.group(1)) - 1 if failing else None]
+    return sum(line.endswith(b" up") and not line.startswith(b"#") for line in lines)
 
 
 def show_case(stream: bytes, options: Options) -> Case:

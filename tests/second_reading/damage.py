@@ -1,4 +1,5 @@
-"""Damaged inputs: examples and random inputs that are cut, of which bits are flipped, whose lengths and counts lie.
+"""Damaged inputs: examples and random inputs that are cut, of which bits are flipped, whose lengths and counts lie; of
+logs also connections that come up twice or go on, and other versions.
 
 Nothing here judges: what an input is worth, the two readings say.
 """
@@ -113,6 +114,28 @@ def mix(chance: Chance, octets: bytes) -> bytes:
     return octets[:at] + other[begin:end] + octets[at:]
 
 
+def reconnect(chance: Chance, octets: bytes) -> bytes:
+    """An `up` or a `down` of a log stands twice, is left out or is the other one; or one more comes in between."""
+    lines = octets.split(b"\n")
+    places = [at for at, line in enumerate(lines) if line.endswith((b" up", b" down"))]
+    if not places or chance.happens(0.2):
+        at = chance.place(lines)
+        time = lines[at].split(b" ")[0]
+        lines.insert(at, time + chance.one(b" up", b" down"))
+    else:
+        at = chance.choice(places)
+        time, word = lines[at].rsplit(b" ", 1)
+        other = time + (b" down" if word == b"up" else b" up")
+        lines[at:at + 1] = chance.one([lines[at]] * 2, [], [other], [lines[at], other], [other, lines[at]])
+    return b"\n".join(lines)
+
+
+def other_version(chance: Chance, octets: bytes) -> bytes:
+    """The first line of a log has another version, mostly one of the two that there are."""
+    version = chance.one(b"1", b"2", b"1", b"2", b"0", b"3", b"01", b"02", b"2.0", b"")
+    return re.sub(rb"^hsms-log [^ \n]*", b"hsms-log " + version, octets)
+
+
 def fill(chance: Chance, octets: bytes) -> bytes:
     begin, end = part(chance, octets)
     return octets[:begin] + chance.octets(end - begin) + octets[end:]
@@ -121,7 +144,10 @@ def fill(chance: Chance, octets: bytes) -> bytes:
 DAMAGES = {
     "show": [cut, flip, flip, claim, claim, claim_of_message, claim_of_message, repeat, leave_out, mix, fill],
     "encode": [cut, flip, other_digit, claim_in_words, claim_in_words, repeat, leave_out, mix, fill],
-    "audit": [cut, flip, *[other_digit] * 4, claim_in_words, claim_in_words, repeat, leave_out, mix, fill],
+    "audit": [
+        *[cut, flip, *[other_digit] * 4, claim_in_words, claim_in_words, repeat, leave_out, mix, fill],
+        *[reconnect, reconnect, other_version],
+    ],
 }
 
 

@@ -331,7 +331,7 @@ def line_of(entry: Entry) -> str:
 
 def first_line(given: Settings) -> str:
     numbers = (given.device, given.t3, given.t6, given.t7, given.t8, given.max, given.depth)
-    return " ".join(["hsms-log 1", given.role, given.link, *map(str, numbers)])
+    return " ".join(["hsms-log", str(given.version), given.role, given.link, *map(str, numbers)])
 
 
 def log_of(end: End) -> bytes:

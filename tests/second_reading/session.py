@@ -15,6 +15,9 @@ from second_reading.notation import number_below
 SENT, TAKEN, DISCARDED = ">", "<", "!"
 OTHER_DIRECTION = {SENT: TAKEN, TAKEN: SENT}
 LONGEST_FIRST_LINE = 256
+
+# The versions of a log: of one connection, and of one or more.
+VERSIONS = {b"1": 1, b"2": 2}
 HEXADECIMAL = re.compile(rb"[0-9A-Fa-f]*")
 
 # The numbers of the first line, in order, with the least and the greatest.
@@ -35,7 +38,8 @@ class Unreadable(Exception):
 
 @dataclass(frozen=True)
 class Settings:
-    """The first line: what the end that logs is, its device, its timers in milliseconds, its limits."""
+    """The first line: what the end that logs is, its device, its timers in milliseconds, its limits, and the version
+    of the log."""
 
     role: str
     link: str
@@ -46,6 +50,7 @@ class Settings:
     t8: int
     max: int
     depth: int
+    version: int = 1
 
 
 @dataclass(frozen=True)
@@ -93,13 +98,15 @@ def octets_of(word: bytes) -> bytes:
 
 def settings_of(line: bytes) -> Settings:
     words = line.split(b" ")
-    if len(line) > LONGEST_FIRST_LINE or len(words) != 4 + len(LIMITS) or words[:2] != [b"hsms-log", b"1"]:
+    if len(line) > LONGEST_FIRST_LINE or len(words) != 4 + len(LIMITS) or words[0] != b"hsms-log":
         raise Unreadable
-    role, link = words[2], words[3]
+    version, role, link = words[1:4]
+    if version not in VERSIONS:
+        raise Unreadable
     if role not in (b"host", b"equipment") or link not in (b"active", b"passive"):
         raise Unreadable
     numbers = [number_of(word, least, greatest) for word, (_, least, greatest) in zip(words[4:], LIMITS)]
-    return Settings(role.decode(), link.decode(), *numbers)
+    return Settings(role.decode(), link.decode(), *numbers, VERSIONS[version])
 
 
 def entry_of(line: bytes, settings: Settings) -> Optional[Entry]:
@@ -158,10 +165,16 @@ def closes(opener: Entry, later: Entry) -> bool:
 
 
 def is_open(entries: List[Entry], opener: int, position: int) -> bool:
-    """Whether the transaction of the entry at a position is open before a later position."""
+    """Whether the transaction of the entry at a position is open before a later position. An `up` leaves none open."""
     if not opens(entries[opener]):
         return False
-    return not any(closes(entries[opener], entries[later]) for later in range(opener + 1, position))
+    between = entries[opener + 1:position]
+    return not any(later.event == "up" or closes(entries[opener], later) for later in between)
+
+
+def connection_of(entries: List[Entry]) -> List[Entry]:
+    """The entries of the last connection: the last `up` and those behind it, or all where there is none."""
+    return next((entries[at:] for at in reversed(range(len(entries))) if entries[at].event == "up"), entries)
 
 
 class Before:
@@ -170,25 +183,38 @@ class Before:
     def __init__(self, settings: Settings, entries: List[Entry]):
         self.settings = settings
         self.entries = entries
+        self.connection = connection_of(entries)
         self.open = [entry for at, entry in enumerate(entries) if is_open(entries, at, len(entries))]
 
     @property
     def up(self) -> Optional[Entry]:
-        return next((entry for entry in self.entries if entry.event == "up"), None)
+        """The last `up`."""
+        return next((entry for entry in reversed(self.entries) if entry.event == "up"), None)
 
     @property
     def is_down(self) -> bool:
-        return any(entry.event == "down" for entry in self.entries)
+        """Whether the connection went down, and no `up` followed."""
+        return any(entry.event == "down" for entry in self.connection)
+
+    @property
+    def follows_down(self) -> bool:
+        """Whether the last entry is a `down`."""
+        return bool(self.entries) and self.entries[-1].event == "down"
 
     @property
     def is_selected(self) -> bool:
-        """Whether a Select.rsp with status 0 was sent or taken."""
-        return any(e.flows and e.frame.kind == "select.rsp" and e.frame.byte3 == 0 for e in self.entries)
+        """Whether a Select.rsp with status 0 was sent or taken on this connection."""
+        return any(e.flows and e.frame.kind == "select.rsp" and e.frame.byte3 == 0 for e in self.connection)
 
     @property
     def is_over(self) -> bool:
-        """Whether a Separate was sent or taken, or a cut logged."""
-        return any(e.event == "cut" or e.flows and e.frame.kind == "separate" for e in self.entries)
+        """Whether a Separate was sent or taken on this connection, or a cut logged."""
+        return any(e.event == "cut" or e.flows and e.frame.kind == "separate" for e in self.connection)
+
+    @property
+    def is_timed(self) -> bool:
+        """Whether something can be overdue: not once the session is over, nor directly after `down`."""
+        return not self.is_over and not self.follows_down
 
     @property
     def sent_data(self) -> List[Entry]:
@@ -217,8 +243,9 @@ def breaks_backwards(before: Before, entry: Entry) -> bool:
 
 
 def breaks_not_up(before: Before, entry: Entry) -> bool:
+    """An `up` is the first entry, or in version 2 stands directly after `down`; all others are on a connection."""
     if entry.event == "up":
-        return bool(before.entries)
+        return bool(before.entries) and not (before.settings.version == 2 and before.follows_down)
     return before.up is None or before.is_down
 
 
@@ -227,11 +254,11 @@ def breaks_ended(before: Before, entry: Entry) -> bool:
 
 
 def breaks_t3_overdue(before: Before, entry: Entry) -> bool:
-    return not before.is_over and entry.event != "t3" and before.waited_past_t3(entry.time)
+    return before.is_timed and entry.event != "t3" and before.waited_past_t3(entry.time)
 
 
 def breaks_link_overdue(before: Before, entry: Entry) -> bool:
-    if before.is_over or entry.event == "t3" or entry.cause in ("t6", "t7"):
+    if not before.is_timed or entry.event == "t3" or entry.cause in ("t6", "t7"):
         return False
     return before.waited_past_t6(entry.time) or before.waited_past_t7(entry.time)
 

@@ -48,7 +48,8 @@ class Party:
     def __init__(self, chance: Chance, role: str, link: str):
         timers = (chance.one(20, 60, 3600), chance.one(60, 200, 1000), chance.one(100, 1000), chance.one(50, 200, 1000))
         device = chance.one(0, 0, 0, 0, 0, 1)
-        self.settings = Settings(role, link, device, *timers, chance.choice(LIMITS), chance.one(1, 2, 4, 32))
+        limits = (chance.choice(LIMITS), chance.one(1, 2, 4, 32))
+        self.settings = Settings(role, link, device, *timers, *limits, chance.one(1, 1, 2))
         self.model = bytes(chance.one(0, 1, 6, 240))
         self.first_system = chance.one(0, 1, 5, (1 << 32) - 2)
         self.end = new_end(self.settings, self.model, self.first_system)

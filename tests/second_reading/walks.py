@@ -38,13 +38,19 @@ class Walk:
         self.t7 = chance.one(1, 3, 30, 3_600_000)
         self.max = chance.one(256, 256, 257, 300, 1_048_576, 33_554_432)
         self.depth = chance.one(1, 2, 3, 32, 100)
+        self.version = chance.one(1, 2, 2)
         self.time = chance.one(0, 0, 5, chance.randrange(100_000), GREATEST_TIME - chance.randrange(100))
+        self.earlier: List[Request] = []
+        self.begin_anew()
+        numbers = (self.device, self.t3, self.t6, self.t7, chance.one(1, 3_600_000), self.max, self.depth)
+        self.lines = [" ".join(["hsms-log", str(self.version), self.role, self.link, *map(str, numbers)])]
+
+    def begin_anew(self):
+        """Nothing is known of the connection that comes up next."""
         self.began = self.time
         self.requests: List[Request] = []
         self.is_selected = False
         self.is_over = False
-        numbers = (self.device, self.t3, self.t6, self.t7, chance.one(1, 3_600_000), self.max, self.depth)
-        self.lines = [" ".join(["hsms-log 1", self.role, self.link, *map(str, numbers)])]
 
     def write(self, words: str):
         self.lines.append(f"{self.time} {words}")
@@ -221,6 +227,70 @@ class Walk:
             self.go_to(self.time + self.chance.one(0, 1, self.t3 + 1, self.t6 + 1, self.t7 + 1))
             self.write(self.chance.one("down", "down", "up", f"cut {self.chance.one(*CAUSES)}", "t3 00000001"))
 
+    # Several connections.
+
+    def connection(self):
+        """A connection that comes up and goes down, and the time up to the next one."""
+        self.begin()
+        for _ in range(self.chance.one(0, 0, 1, 2, 5)):
+            self.step()
+        if self.chance.happens(0.5):
+            self.open_one()
+        if self.chance.happens(0.3):
+            self.move(self.chance.one(SENT, TAKEN), Draft(stype=9, system=self.any_system()))
+        elif self.chance.happens(0.15):
+            self.write(f"cut {self.chance.one('t8', 'length')}")
+            self.is_over = True
+        self.go_down()
+
+    def go_down(self):
+        """The connection goes down, mostly. What was open on it counts no longer, and time goes on past each timer."""
+        self.wait()
+        if self.chance.happens(0.99):
+            self.write("down")
+        self.earlier += self.requests
+        gaps = (0, 0, 1, self.t3, self.t3 + 1, self.t6 + 1, self.t7 + 1, 100_000)
+        self.go_to(self.time + self.chance.choice(gaps))
+        self.begin_anew()
+
+    def use_earlier(self):
+        """Something of a request that was open when an earlier connection went down."""
+        request = self.chance.choice(self.earlier or [self.any_request()])
+        kind = self.chance.randrange(5)
+        if kind == 0:
+            self.go_to(request.time + self.chance.one(self.t3, self.t3 + 1, self.t6, self.t6 + 1))
+            self.any_entry()
+        elif kind == 1:
+            self.write(f"t3 {request.draft.system:08x}")
+        elif kind == 2:
+            self.move(request.direction, request.draft)
+        else:
+            self.move(*self.answer(request))
+
+    def reconnect_badly(self):
+        """The connection goes down and comes up again, with something wrong about it, or nothing."""
+        kind = self.chance.randrange(8)
+        if kind == 0:
+            self.write("up")
+        elif kind == 1:
+            self.go_down()
+            self.write("down")
+        elif kind == 2:
+            self.go_down()
+            self.any_entry()
+        elif kind == 3:
+            self.go_down()
+            self.write("up")
+            self.write("up")
+        elif kind == 4:
+            self.end()
+            self.write("up")
+        else:
+            self.go_down()
+            self.time = max(0, self.time - self.chance.one(0, 0, 1))
+            self.write("up")
+            self.any_entry()
+
     # What breaks a rule, or nearly does.
 
     def twisted(self, direction: str, draft: Draft) -> Tuple[str, Draft]:
@@ -311,6 +381,8 @@ class Walk:
 
 AIMS = [
     *[Walk.twist_frame] * 6,
+    *[Walk.use_earlier] * 2,
+    *[Walk.reconnect_badly] * 2,
     Walk.repeat_answer,
     *[Walk.answer_nearly] * 2,
     Walk.open_again,
@@ -402,7 +474,7 @@ TWISTS_OF_ANSWERS: List[Twist] = [
 
 ODD_LINE_WORDS = [
     *"up down > < ! t3 cut t6 t7 t8 length Up T3 CUT # x 0 -1 +1 01 00 0x1 1e3".split(),
-    *"hsms-log 1 2 host equipment active passive".split(),
+    *"hsms-log 0 1 2 3 02 2.0 host equipment active passive".split(),
     *"18446744073709551615 18446744073709551616 99999999999999999999 32767 32768 3600000 3600001 255 256".split(),
     *"33554432 33554433 100 101 ffff0000000100000001 ffff000000010000000 ffff00000001000000 0000000g FFFFFFFF".split(),
     *"ffffffff fffffff fffffffff FFFF0000000500000001 ffff00000001000000010".split(),
@@ -433,14 +505,27 @@ def odd_line(chance: Chance, line: bytes) -> bytes:
     return b" ".join(words)
 
 
+# Words where the version stands, `1` and `2` among them.
+VERSIONS = [
+    *[[word] for word in "0 1 2 3 9 10 11 12 20 21 01 02 002".split()],
+    *[[word] for word in "2.0 2. 1.0 1,2 +1 +2 -1 -2 0x2 2x x2 two 1e0 \u0662".split()],
+    *[[str(number)] for number in (257, 258, (1 << 32) + 2, (1 << 64) + 1, (1 << 64) + 2)],
+    *[[], [""], ["", "2"], ["2", ""], ["1", "2"], ["2", "2"], ["\t2"], ["2\x00"]],
+]
+
+
 def logs_at_edges() -> List[bytes]:
-    """Settings with each number at and past the edges of its range, frames at the edge of a header, no lines at all."""
+    """Settings with each number at and past the edges of its range, versions that there are and that there aren't,
+    frames at the edge of a header, no lines at all."""
     logs = [b"", b"\n", b"\r\n", b"#\n", b"\x00"]
     words = "hsms-log 1 host active 0 1 1 1 1 256 1".split(" ")
     edges = [(0, 32_767), *[(1, 3_600_000)] * 4, (256, 33_554_432), (1, 100)]
     for at, (least, greatest) in enumerate(edges, start=4):
         for number in (least - 1, least, greatest, greatest + 1, (1 << 64) + least):
             logs.append(" ".join([*words[:at], str(number), *words[at + 1:]]).encode() + b"\n0 up\n")
+    for version in VERSIONS:
+        first = " ".join(["hsms-log", *version, *words[2:]])
+        logs += [f"{first}\n".encode(), f"{first}\n0 up\n0 down\n0 up\n".encode()]
     for digits in ("0" * 18, "0" * 19, "0" * 20, "0" * 21, "A" * 20, "g" * 20):
         logs.append((" ".join(words) + f"\n0 up\n0 ! {digits}\n").encode())
     for time in (1 << 64) - 2, (1 << 64) - 1, 1 << 64:
@@ -470,8 +555,11 @@ def with_ends(chance: Chance, lines: List[bytes]) -> bytes:
 
 
 def random_log(chance: Chance) -> bytes:
-    """A log: a walk that mostly ends at a rule or close to one, and then often is changed at random."""
+    """A log: a walk that mostly ends at a rule or close to one, and then often is changed at random. Of version 2 it
+    mostly has several connections."""
     walk = Walk(chance)
+    for _ in range(chance.one(0, 1, 1, 2, 4) if walk.version == 2 or chance.happens(0.03) else 0):
+        walk.connection()
     walk.begin()
     for _ in range(chance.one(0, 1, 2, 5, 10, 20)):
         walk.step()

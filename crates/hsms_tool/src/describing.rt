@@ -22,7 +22,7 @@ const AUDIT_HELP: &str =
     "It tells `pass` and what the log holds, or the first line that can't follow those before it, and why:\n\
     `fail line=N unreadable`, or `fail line=N rule=NAME` with the first of these rules that the line breaks.\n\n  \
     Backwards      its time is before that of the last line\n  \
-    NotUp          the connection isn't up, or `up` isn't the first entry\n  \
+    NotUp          the connection isn't up, or this `up` may not stand here\n  \
     Ended          the session is over\n  \
     T3Overdue      a reply is overdue, and no `t3` says so\n  \
     LinkOverdue    T6 or T7 has run out, and no `cut` says so\n  \
@@ -40,6 +40,7 @@ const AUDIT_HELP: &str =
     NoTransaction  it answers nothing that is open\n  \
     SelectStatus   this isn't the answer to this Select.req\n  \
     NoCause        nothing is wrong with a frame that was thrown away\n\n\
+    A log of version 2 may hold several connections: an `up` directly after a `down` begins the next one.\n\n\
     Example: hsms audit < session.log\n\n\
     Statuses: 0 the log passes; 1 it fails; 2 the command line is refused; 3 the log can't be read (Read), the verdict\n\
     can't be written (Write), there are more than 4294967295 reads (Endless), or memory is wanting (Memory).";
@@ -49,7 +50,7 @@ const ENCODE_HELP: &str = "Example: echo 'S1F13 W <L> .' | hsms encode > message
     Deep, TooLarge, TooLong); 3 the input can't be read (Read), the output can't be written (Write), or memory is\n\
     wanting (Memory). Nothing is written where the input is refused.";
 
-const VERSION: &str = "0.1 (session logs of version 1)";
+const VERSION: &str = "0.1 (session logs of versions 1 and 2)";
 
 /// The command `hsms`, which wants one of four subcommands.
 pub fn command<'a>(alloc: Global) -> Result<Command<'a>, AllocError>

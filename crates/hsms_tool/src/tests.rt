@@ -1,4 +1,5 @@
 mod auditing;
+mod connections;
 mod encoding;
 mod loopback;
 

@@ -1,3 +1,4 @@
+use super::connections::ROWS;
 use crate::auditing::audit_to;
 use crate::fault::ToolFault;
 use hsms_frame::{Feed, Store};
@@ -56,6 +57,26 @@ fn tells_the_verdict(rt: HostRuntime) -> Result<(), Fail> {
         run.written.as_slice(),
         b"fail line=1 unreadable\n".as_slice()
     );
+    Ok(())
+}
+
+// The first connection goes down while a primary waits for its reply.
+#[test]
+fn tells_the_verdict_on_two_connections(rt: HostRuntime) -> Result<(), Fail> {
+    let alloc = rt.alloc();
+    for row in ROWS {
+        let mut log = Vec::new(alloc);
+        for part in row.parts {
+            log.extend_from_slice(part.as_bytes())?;
+        }
+        let run = audited(alloc, &log, u64::MAX, u64::MAX)?.or_want_of_memory()?;
+        assert_eq!(rt; run.written.as_slice(), row.line.as_bytes());
+        assert!(rt;
+            matches!(run.result, Ok(passes) if passes == row.passes),
+            "{}",
+            row.line
+        );
+    }
     Ok(())
 }
 
