@@ -103,7 +103,7 @@ values_found depth octets head h is lists =
       nesting = omega arith;
     }
 
-is_format_list : (f : Format) → is_list f ≡ true → f ≡ format.List
+pub is_format_list : (f : Format) → is_list f ≡ true → f ≡ format.List
 is_format_list format.List e = refl
 is_format_list format.Binary e = absurd cc
 is_format_list format.Boolean e = absurd cc

@@ -13,6 +13,7 @@ use byteorder::{BigEndian, ByteOrder};
 /// A header that has been read.
 #[derive(Clone, Copy)]
 pub struct Header {
+    /// What the item holds.
     pub format: Format,
     /// The place of the body's first octet.
     pub body: usize,
@@ -34,7 +35,11 @@ pub fn read_length(octets: &[u8], field: usize) -> usize
     }
 }
 
-/// Reads the header at `place`. The body of values is there whole.
+/// Reads the header at `place`, where lists may still be nested `depth` deep. The body of values is there whole.
+///
+/// # Errors
+///
+/// The first fault of the header, at `place`.
 #[tactic(auto, unfolding(crate::specs::Header::header_at))]
 pub fn read_header(octets: &[u8], place: usize, depth: u8) -> Result<Header, ItemFault>
     requires { place ≤ length octets.now }

@@ -32,6 +32,7 @@ pub use decode::{decode_front, decode_text};
 pub use encoding::encode;
 pub use fault::ItemFault;
 pub use format::Format;
+pub use header::{Header, read_header};
 pub use item::{Item, nesting};
 pub use measure::{measure_front, measure_text};
 

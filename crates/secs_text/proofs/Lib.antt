@@ -17,3 +17,8 @@ pub mod PrintedNotation
 pub mod Answered
 pub mod Reasons
 pub mod MessageLeads
+pub mod Blocks
+pub mod RawWords
+pub mod RawText
+pub mod RawItems
+pub mod RawMessages

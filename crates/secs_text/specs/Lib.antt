@@ -14,4 +14,5 @@ pub mod Fault
 pub mod View
 pub mod Reads
 pub mod SeenWord
+pub mod Laid
 pub mod Laws

@@ -14,17 +14,25 @@
 //! ```
 #![tactic(auto)]
 
+mod block;
 mod count;
 mod fault;
 mod items;
 pub mod laws;
+mod laying;
 mod message;
 mod number_words;
 mod octet;
 mod octet_words;
 mod opening;
 mod printing;
+mod raw_items;
+mod raw_message;
+mod raw_text;
+mod raw_values;
+mod raw_words;
 mod reading;
+mod tables;
 mod token;
 mod tokens;
 mod type_name;
@@ -32,9 +40,11 @@ mod word;
 mod words;
 mod written;
 
+pub use block::{Block, Output};
 pub use fault::TextFault;
 pub use message::Message;
 pub use printing::print;
+pub use raw_message::{Head, print_text};
 pub use reading::{read, read_all};
 
 #[cfg(test)]

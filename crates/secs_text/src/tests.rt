@@ -1,5 +1,5 @@
 use super::*;
-use secs_item::Item;
+use secs_item::{Item, ItemFault};
 use std::alloc::Global;
 use std::test::Fail;
 
@@ -128,5 +128,115 @@ fn too_many_lists(rt: HostRuntime) -> Result<(), Fail> {
     text[5..308].copy_from_slice(lists.as_flattened());
     let fault = fault_of(rt.alloc(), &text, 100)?;
     assert_eq!(rt; fault, Some(TextFault::Deep { at: 305 }));
+    Ok(())
+}
+
+/// Octets that were given, as far as there was memory for them.
+#[derive(Drop)]
+struct Kept {
+    octets: Vec<u8>,
+    is_whole: bool,
+}
+
+impl Output for Kept {
+    ghost Given = { λ _ _. ⊥ };
+
+    fn give(&mut self, octets: &[u8]) {
+        if self.octets.extend_from_slice(octets).is_err() {
+            self.is_whole = false;
+        }
+    }
+}
+
+/// What is printed of a text, unless there is no memory.
+fn printed_text(
+    alloc: Global,
+    head: Head,
+    text: &[u8],
+    depth: u8,
+) -> Result<Result<Vec<u8>, ItemFault>, TextFault> {
+    let mut out = Kept {
+        octets: Vec::new(alloc),
+        is_whole: true,
+    };
+    let mut block = Block::new(alloc)?;
+    let answer = print_text(&mut out, &mut block, head, text, depth.min(100));
+    block.give_all(&mut out);
+    let Kept { octets, is_whole } = out;
+    match answer {
+        Err(fault) => Ok(Err(fault)),
+        Ok(()) => {
+            if is_whole {
+                Ok(Ok(octets))
+            } else {
+                Err(TextFault::Memory)
+            }
+        }
+    }
+}
+
+#[test]
+fn from_octets(rt: HostRuntime) -> Result<(), Fail> {
+    let head = Head {
+        stream: 6,
+        function: 11,
+        wait: true,
+    };
+    let cases = [
+        (b"".as_slice(), "S6F11 W ."),
+        (
+            b"\x01\x02\x41\x02AB\xa5\x02\x01\xff",
+            "S6F11 W <L [2] <A [2] \"AB\"> <U1 [2] 1 255>> .",
+        ),
+        (b"\x41\x04A\n\"B", "S6F11 W <A [4] \"A\" 0x0A 0x22 \"B\"> ."),
+        (b"\x42\x00\x00", "S6F11 W <A [0]> ."),
+        (b"\x25\x03\x00\x01\x02", "S6F11 W <BOOLEAN [3] F T T> ."),
+        (
+            b"\x01\x03\x21\x01\xff\x45\x01\xff\x49\x02\x00A",
+            "S6F11 W <L [3] <B [1] 0xFF> <J [1] 0xFF> <C2 [2] 0x00 0x41>> .",
+        ),
+        (
+            b"\x01\x04\x65\x01\x80\x69\x02\xff\xff\x71\x04\x7f\xff\xff\xff\x61\x08\x80\0\0\0\0\0\0\0",
+            "S6F11 W <L [4] <I1 [1] -128> <I2 [1] -1> <I4 [1] 2147483647> <I8 [1] -9223372036854775808>> .",
+        ),
+        (
+            b"\x01\x04\xa5\x01\x00\xa9\x02\xff\xff\xb1\x04\xff\xff\xff\xff\xa1\x08\xff\xff\xff\xff\xff\xff\xff\xff",
+            "S6F11 W <L [4] <U1 [1] 0> <U2 [1] 65535> <U4 [1] 4294967295> <U8 [1] 18446744073709551615>> .",
+        ),
+        (
+            b"\x01\x02\x91\x04\x3f\x80\x00\x00\x81\x08\x40\x09\x21\xfb\x54\x44\x2d\x18",
+            "S6F11 W <L [2] <F4 [1] 0x3F800000> <F8 [1] 0x400921FB54442D18>> .",
+        ),
+        (
+            b"\x01\x03\x01\x00\x01\x01\x01\x00\xa5\x01\x0a",
+            "S6F11 W <L [3] <L [0]> <L [1] <L [0]>> <U1 [1] 10>> .",
+        ),
+    ];
+    for (text, wanted) in cases {
+        let printed = printed_text(rt.alloc(), head, text, 32)?;
+        match printed {
+            Ok(octets) => assert!(rt; octets.as_slice() == wanted.as_bytes(), "{wanted}"),
+            Err(fault) => return Err(fault.into()),
+        }
+    }
+    Ok(())
+}
+
+#[test]
+fn no_text(rt: HostRuntime) -> Result<(), Fail> {
+    let head = Head {
+        stream: 1,
+        function: 1,
+        wait: false,
+    };
+    let cases = [
+        (b"\x01\x01\x01\x00".as_slice(), 1, ItemFault::Deep { at: 2 }),
+        (b"\xa5\x01\x00\x00", 32, ItemFault::Trailing { at: 3 }),
+        (b"\x41\x02A", 32, ItemFault::Truncated { at: 0 }),
+    ];
+    for (text, depth, wanted) in cases {
+        let printed = printed_text(rt.alloc(), head, text, depth)?;
+        assert_eq!(rt; printed.err(), Some(wanted));
+    }
     Ok(())
 }

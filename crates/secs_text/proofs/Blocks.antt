@@ -1,0 +1,113 @@
+-- Putting octets into a block, one word after another.
+use Rattle.std.proofs.Common.{◌≡◌, ℕ, zero, suc, ◌+◌, ◌/◌, ◌%◌, ◌≤◌, ◌<◌, true, cond, eqb, ltb, lt-ltb, le-ltb, List, [], ◌∷◌, ◌++◌, length, get_or, take, codes, refl, ap, sym, ◌∙◌, arith, append_assoc, append-nil, subst, length-append, length-take-le, take-add, take-take, take_at, drop_at}
+use Rattle.std.specs.Fmt.{decimal}
+use Rattle.std.specs.Cmp.Lexicographic.{pointwise}
+use Rattle.std.proofs.lemmas.Bool.{agree_below_at, ltb-true}
+use Rattle.std.proofs.lemmas.Fmt.{AppendsLastDigit, decimal_from_appends, length-decimal-le}
+use Rattle.secs_item.specs.Equality.{octets_Decides}
+use Rattle.secs_text.specs.declared.tables.TheConstants.{WORDS, DIGITS, NUMBERS}
+use Rattle.secs_text.specs.Laid.{Laid, Puts}
+use Rattle.secs_text.specs.Printed.{hexadecimal, two_digits}
+
+-- a second text begins where the first ended
+pub laid_then : {a b c xs ys : List ℕ} {i j k : ℕ} → Laid a b i xs j → Laid b c j ys k → Laid a c i (xs ++ ys) k
+laid_then {a} {b} {c} {xs} {ys} {i} p q = record {
+  octets = q.octets ∙ ap (λ l. l ++ ys) p.octets ∙ append_assoc (take i a) xs ys;
+  moved = omega (arith, p.moved, q.moved, length-append xs ys);
+  size = q.size ∙ p.size;
+}
+
+pub laid_nothing : (block : List ℕ) (at : ℕ) → Laid block block at [] at
+laid_nothing block at = record { octets = sym (append-nil (take at block)); moved = omega arith; size = refl }
+
+pub laid_same : {old now : List ℕ} {at end : ℕ} {xs : List ℕ} (ys : List ℕ) → xs ≡ ys → Laid old now at xs end → Laid old now at ys end
+laid_same {old} {now} {at} {end} ys same p = subst (λ (o : List ℕ). Laid old now at o end) same p
+
+-- only the first n octets count
+pub laid_less : {a b xs : List ℕ} {i j : ℕ} (n : ℕ) → i ≤ length a → n ≤ length xs → Laid a b i xs j → Laid a b i (take n xs) (i + n)
+laid_less {a} {b} {xs} {i} {j} n within few p =
+    let front = length-take-le i a within in
+    record {
+      octets = sym (take-take (i + n) j b (omega (arith, p.moved))) ∙ ap (take (i + n)) p.octets ∙ take-add i n (take i a ++ xs)
+          ∙ (λ k. take_at (take i a) xs i front k ++ take n (drop_at (take i a) xs i front k));
+      moved = omega (arith, length-take-le n xs few);
+      size = p.size;
+    }
+
+-- ---- the tables
+
+pub words_right : (octet : ℕ) → octet < 256 → take 5 (get_or WORDS octet []) ≡ codes " " ++ hexadecimal (octet ∷ [])
+words_right octet lt =
+    (octets_Decides _ _).0 (agree_below_at (λ k. pointwise eqb (take 5 (get_or WORDS k [])) (codes " " ++ hexadecimal (k ∷ []))) (λ k. true) 256 octet refl lt)
+
+pub digits_right : (octet : ℕ) → octet < 256 → take 2 (get_or DIGITS octet []) ≡ two_digits octet
+digits_right octet lt =
+    (octets_Decides _ _).0 (agree_below_at (λ k. pointwise eqb (take 2 (get_or DIGITS k [])) (two_digits k)) (λ k. true) 256 octet refl lt)
+
+-- the digits of a number, at most so many
+abbrev by_digits : ℕ → ℕ → List ℕ
+by_digits zero n = []
+by_digits (suc k) n = cond (ltb n 10) ((48 + n) ∷ []) (by_digits k (n / 10) ++ ((48 + n % 10) ∷ []))
+
+appends : AppendsLastDigit by_digits
+appends = record { one = λ k n lt. rw (lt-ltb n 10 lt) refl; more = λ k n le. rw (le-ltb n 10 le) refl }
+
+abbrev number_at : ℕ → List ℕ
+number_at n = get_or NUMBERS n []
+
+pub numbers_right : (n : ℕ) → n < 256 → take (get_or (get_or NUMBERS n []) 3 0) (get_or NUMBERS n []) ≡ decimal n
+numbers_right n lt =
+    (octets_Decides _ _).0 (agree_below_at (λ k. pointwise eqb (take (get_or (number_at k) 3 0) (number_at k)) (by_digits 3 k)) (λ k. true) 256 n refl lt)
+    ∙ decimal_from_appends by_digits appends 3 n (omega arith) (length-decimal-le 3 n (omega arith) (omega arith) (omega arith))
+
+pub numbers_short : (n : ℕ) → n < 256 → get_or (get_or NUMBERS n []) 3 0 < 5
+numbers_short n lt = ltb-true _ 5 (agree_below_at (λ k. ltb (get_or (number_at k) 3 0) 5) (λ k. true) 256 n refl lt)
+
+-- ---- putting them to an output
+
+pub puts_nothing : (G : List ℕ → Type 0) (block : List ℕ) (at : ℕ) → at ≤ 65536 → length block ≡ 65536 → Puts G block at G block at []
+puts_nothing G block at within size = record {
+  octets = λ given h. (given, h, sym (append-nil (given ++ take at block)));
+  within = within;
+  size = size;
+}
+
+-- all that stands in the block was given
+pub puts_given : (G H : List ℕ → Type 0) (block : List ℕ) (at : ℕ) → length block ≡ 65536 → ((given : List ℕ) → G given → H (given ++ take at block)) → Puts G block at H block 0 []
+puts_given G H block at size gives = record {
+  octets = λ given h. (given ++ take at block, gives given h, refl);
+  within = omega arith;
+  size = size;
+}
+
+-- what is laid behind what was put
+pub puts_laid : {G H : List ℕ → Type 0} {block now new : List ℕ} {from at end : ℕ} {xs ys : List ℕ} → Puts G block from H now at xs → Laid now new at ys end → end ≤ 65536 → Puts G block from H new end (xs ++ ys)
+puts_laid {G} {H} {block} {now} {new} {from} {at} {end} {xs} {ys} p q within = record {
+  octets = λ given h.
+      let a = p.octets given h in
+      (a.0, a.1, ap (λ o. a.0 ++ o) q.octets ∙ sym (append_assoc a.0 (take at now) ys) ∙ ap (λ o. o ++ ys) a.2 ∙ append_assoc (given ++ take from block) xs ys);
+  within = within;
+  size = q.size ∙ p.size;
+}
+
+-- what is laid at first
+pub puts_first : (G : List ℕ → Type 0) {block new : List ℕ} {from end : ℕ} {ys : List ℕ} → from ≤ 65536 → length block ≡ 65536 → Laid block new from ys end → end ≤ 65536 → Puts G block from G new end ys
+puts_first G {block} {new} {from} within size q at_most = puts_laid (puts_nothing G block from within size) q at_most
+
+-- what is put behind what was put
+pub puts_then : {G H K : List ℕ → Type 0} {block now new : List ℕ} {from at end : ℕ} {xs ys : List ℕ} → Puts G block from H now at xs → Puts H now at K new end ys → Puts G block from K new end (xs ++ ys)
+puts_then {G} {H} {K} {block} {now} {new} {from} {at} {end} {xs} {ys} p q = record {
+  octets = λ given h.
+      let a = p.octets given h in
+      let b = q.octets a.0 a.1 in
+      (b.0, b.1, b.2 ∙ ap (λ o. o ++ ys) a.2 ∙ append_assoc (given ++ take from block) xs ys);
+  within = q.within;
+  size = q.size;
+}
+
+-- room was made behind what was put
+pub puts_room : {G H K : List ℕ → Type 0} {block now new : List ℕ} {from at end : ℕ} {xs : List ℕ} → Puts G block from H now at xs → Puts H now at K new end [] → Puts G block from K new end xs
+puts_room {G} {H} {K} {block} {now} {new} {from} {at} {end} {xs} p q = rw (append-nil xs) at (puts_then p q)
+
+pub puts_same : {G H : List ℕ → Type 0} {block now : List ℕ} {from at : ℕ} {xs : List ℕ} (ys : List ℕ) → xs ≡ ys → Puts G block from H now at xs → Puts G block from H now at ys
+puts_same {G} {H} {block} {now} {from} {at} ys same p = subst (λ (o : List ℕ). Puts G block from H now at o) same p

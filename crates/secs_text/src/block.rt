@@ -1,0 +1,85 @@
+//! A block of octets on their way to an output.
+
+ghost use Rattle.std.specs.Prelude.{◌≡◌, ◌≤◌, ◌+◌, ◌++◌, ℕ, List, [], length, take, IfOk};
+ghost use Rattle.secs_text.specs.Laid.{Puts};
+
+use std::alloc::{AllocError, Global};
+use std::marker::Model;
+
+/// How many octets a block holds.
+const SIZE: usize = 65536;
+
+/// How many octets of it are free once there is room: for the words of the octets that are laid at a time, and for what
+/// stands before and behind them.
+const FREE: usize = 24704;
+
+/// Where octets go, one slice after another. An output that can fail keeps its failure, for its owner to ask for.
+pub trait Output {
+    /// These are the octets that it was given. Of an output that can't tell them nothing has to hold.
+    ghost Given: { Self → List ℕ → Type 0 };
+
+    /// Takes octets.
+    fn give(&mut self, octets: &[u8])
+        ensures { (given : List ℕ) → Given self.old given → Given self.new (given ++ octets.now) };
+}
+
+/// Octets that weren't given to an output yet, at most 65,536. Contracts see them as a list.
+#[derive(Drop)]
+pub struct Block {
+    pub(crate) octets: Vec<u8>,
+    pub(crate) used: usize,
+}
+
+impl Model for Block {
+    ghost Value = { List ℕ };
+
+    ghost view = { λ b. take b.used b.octets.items };
+
+    ghost invariant = { λ b. (length b.octets.items ≡ 65536) × (b.used ≤ 65536) };
+}
+
+impl Block {
+    /// A block with no octets.
+    ///
+    /// # Errors
+    ///
+    /// Where there is no memory.
+    pub fn new(alloc: Global) -> Result<Block, AllocError>
+        ensures { IfOk result (λ block. block ≡ []) }
+    {
+        let octets = vec![in alloc; 0u8; SIZE]?;
+        Ok(Block { octets, used: 0 })
+    }
+
+    /// Its octets.
+    pub fn as_slice(&self) -> &[u8]
+        ensures { result.now ≡ self.now }
+    {
+        &self.octets[..self.used]
+    }
+
+    /// Gives an output all octets.
+    pub fn give_all<O: Output>(&mut self, out: &mut O)
+        ensures given { (given : List ℕ) → O.Given out.old given → O.Given out.new (given ++ self.old) }
+        ensures none_left { self.new ≡ [] }
+    {
+        out.give(&self.octets[..self.used]);
+        self.used = 0;
+    }
+}
+
+/// Where octets can be laid into a block: behind what is laid, or from its front on, once that was given.
+#[inline(always)]
+#[tactic(auto, using(crate::proofs::Blocks::puts_nothing, crate::proofs::Blocks::puts_given))]
+pub fn room<O: Output>(out: &mut O, block: &[u8], at: usize) -> usize
+    requires size { length block.now ≡ 65536 }
+    requires within { at ≤ 65536 }
+    ensures puts { Puts (O.Given out.old) block.now at (O.Given out.new) block.now result [] }
+    ensures free { result + 24704 ≤ 65536 }
+{
+    if at <= SIZE - FREE {
+        return at;
+    }
+    out.give(&block[..at]);
+    0
+}

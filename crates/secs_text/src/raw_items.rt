@@ -1,0 +1,295 @@
+//! Items from their octets to an output, with no item made. For each list that stands open it is kept how many elements
+//! are still to come.
+
+ghost use Rattle.std.specs.Prelude.{◌≡◌, ◌≤◌, ◌<◌, ◌+◌, ◌-◌, ◌/◌, ◌++◌, ℕ, Ok, false, true, length, take, drop, IsOk, codes, decimal};
+ghost use Rattle.secs_item.specs.Format.{is_list, value_size};
+ghost use Rattle.secs_item.specs.Item.{Value, Elements};
+ghost use Rattle.secs_item.specs.Reading.{item_at, elements_by, values_of};
+ghost use Rattle.secs_text.specs.Body.{body_of};
+ghost use Rattle.secs_text.specs.Laid.{Laid, Puts, opening_of};
+ghost use Rattle.secs_text.specs.Printed.{printed_elements, printed_item, printed_values};
+ghost use Rattle.secs_text.specs.TypeName.{type_name};
+
+use crate::block::{Output, room};
+use crate::laying::{lay_byte, lay_number, lay_small, lay_word};
+use crate::raw_values::put_values;
+use secs_item::{Format, Header, read_header};
+
+/// How deep lists nest at most.
+const MAX_DEPTH: usize = 100;
+
+/// The words before the count of an item: as many octets as it says.
+#[derive(Clone, Copy)]
+struct Opening {
+    word: &'static [u8; 16],
+    length: usize,
+}
+
+fn opening_word(format: Format) -> Opening
+    ensures text { take result.length result.word.now ≡ codes " <" ++ type_name format ++ codes " [" }
+    ensures short { result.length ≤ 16 }
+{
+    match format {
+        Format::List => Opening {
+            word: b" <L [           ",
+            length: 5,
+        },
+        Format::Binary => Opening {
+            word: b" <B [           ",
+            length: 5,
+        },
+        Format::Boolean => Opening {
+            word: b" <BOOLEAN [     ",
+            length: 11,
+        },
+        Format::Ascii => Opening {
+            word: b" <A [           ",
+            length: 5,
+        },
+        Format::Jis8 => Opening {
+            word: b" <J [           ",
+            length: 5,
+        },
+        Format::Char2 => Opening {
+            word: b" <C2 [          ",
+            length: 6,
+        },
+        Format::I1 => Opening {
+            word: b" <I1 [          ",
+            length: 6,
+        },
+        Format::I2 => Opening {
+            word: b" <I2 [          ",
+            length: 6,
+        },
+        Format::I4 => Opening {
+            word: b" <I4 [          ",
+            length: 6,
+        },
+        Format::I8 => Opening {
+            word: b" <I8 [          ",
+            length: 6,
+        },
+        Format::U1 => Opening {
+            word: b" <U1 [          ",
+            length: 6,
+        },
+        Format::U2 => Opening {
+            word: b" <U2 [          ",
+            length: 6,
+        },
+        Format::U4 => Opening {
+            word: b" <U4 [          ",
+            length: 6,
+        },
+        Format::U8 => Opening {
+            word: b" <U8 [          ",
+            length: 6,
+        },
+        Format::F4 => Opening {
+            word: b" <F4 [          ",
+            length: 6,
+        },
+        Format::F8 => Opening {
+            word: b" <F8 [          ",
+            length: 6,
+        },
+    }
+}
+
+/// How many elements or values a body of this length has.
+fn count_of(format: Format, length: usize) -> usize
+    ensures { result ≡ length / value_size format }
+{
+    match format {
+        Format::List
+        | Format::Binary
+        | Format::Boolean
+        | Format::Ascii
+        | Format::Jis8
+        | Format::Char2
+        | Format::I1
+        | Format::U1 => length,
+        Format::I2 | Format::U2 => length / 2,
+        Format::I4 | Format::U4 | Format::F4 => length / 4,
+        Format::I8 | Format::U8 | Format::F8 => length / 8,
+    }
+}
+
+/// Lays a number.
+#[inline(always)]
+fn lay_count(block: &mut [u8], at: usize, count: usize) -> usize
+    requires { at + 40 ≤ length block.old }
+    ensures laid { Laid block.old block.new at (decimal count) result }
+    ensures near { result ≤ at + 40 }
+{
+    if count < 256 {
+        lay_small(block, at, count as u8)
+    } else {
+        lay_number(block, at, count)
+    }
+}
+
+/// Lays the opening of an item, after a space.
+fn lay_opening(block: &mut [u8], at: usize, format: Format, count: usize) -> usize
+    requires { at + 64 ≤ length block.old }
+    ensures laid { Laid block.old block.new at (opening_of format count) result }
+    ensures near { result ≤ at + 64 }
+{
+    let opening = opening_word(format);
+    let at = lay_word(block, at, opening.word, opening.length);
+    let at = lay_count(block, at, count);
+    lay_byte(block, at, b']')
+}
+
+/// Puts the opening of an item with this header, after a space.
+fn put_opening<O: Output>(out: &mut O, block: &mut [u8], from: usize, header: Header) -> usize
+    requires size { length block.old ≡ 65536 }
+    requires within { from ≤ 65536 }
+    ensures { Puts (O.Given out.old) block.old from (O.Given out.new) block.new result
+        (opening_of header.format (header.length / value_size header.format)) }
+{
+    let at = room(out, block, from);
+    lay_opening(
+        block,
+        at,
+        header.format,
+        count_of(header.format, header.length),
+    )
+}
+
+/// Puts what ends an item.
+fn put_end<O: Output>(out: &mut O, block: &mut [u8], from: usize) -> usize
+    requires size { length block.old ≡ 65536 }
+    requires within { from ≤ 65536 }
+    ensures { Puts (O.Given out.old) block.old from (O.Given out.new) block.new result (codes ">") }
+{
+    let at = room(out, block, from);
+    lay_byte(block, at, b'>')
+}
+
+/// Puts an item of values with this header, after a space.
+fn put_item_of_values<O: Output>(
+    out: &mut O,
+    block: &mut [u8],
+    from: usize,
+    octets: &[u8],
+    header: Header,
+) -> usize
+    requires no_list { is_list header.format ≡ false }
+    requires there { header.body + header.length ≤ length octets.now }
+    requires size { length block.old ≡ 65536 }
+    requires within { from ≤ 65536 }
+    ensures { Puts (O.Given out.old) block.old from (O.Given out.new) block.new result
+        (opening_of header.format (header.length / value_size header.format)
+        ++ printed_values (body_of (values_of header.format (take header.length (drop header.body octets.now)))) ++ codes ">") }
+{
+    let at = put_opening(out, block, from, header);
+    let body = &octets[header.body..header.body + header.length];
+    let at = put_values(out, block, at, header.format, body);
+    put_end(out, block, at)
+}
+
+/// Whether items of this format are lists.
+#[inline(always)]
+fn is_list(format: Format) -> bool
+    ensures { result ≡ is_list format }
+{
+    match format {
+        Format::List => true,
+        Format::Binary
+        | Format::Boolean
+        | Format::Ascii
+        | Format::Jis8
+        | Format::Char2
+        | Format::I1
+        | Format::I2
+        | Format::I4
+        | Format::I8
+        | Format::U1
+        | Format::U2
+        | Format::U4
+        | Format::U8
+        | Format::F4
+        | Format::F8 => false,
+    }
+}
+
+/// Puts the elements of a list, each after a space, and what ends the list. The list's header was read where lists
+/// could be nested `depth` deep; it has `count` elements, and its body begins at `place`.
+fn put_elements<O: Output>(
+    out: &mut O,
+    block: &mut [u8],
+    from: usize,
+    octets: &[u8],
+    place: usize,
+    count: usize,
+    depth: u8,
+) -> usize
+    requires there { place ≤ length octets.now }
+    requires some { 0 < depth }
+    requires few { depth ≤ 100 }
+    requires measured { IsOk (elements_by (item_at (depth - 1)) count (drop place octets.now)) }
+    requires size { length block.old ≡ 65536 }
+    requires within { from ≤ 65536 }
+    ensures puts { (es : Elements) (n : ℕ) → elements_by (item_at (depth - 1)) count (drop place octets.now) ≡ Ok (es, n)
+        → Puts (O.Given out.old) block.old from (O.Given out.new) block.new result (printed_elements es ++ codes ">") }
+    ensures size { length block.new ≡ 65536 }
+    ensures within { result ≤ 65536 }
+{
+    let mut counts = [0; MAX_DEPTH];
+    counts[0] = count;
+    let mut lists = 1u8;
+    let mut end = place;
+    let mut at = from;
+    while lists > 0 {
+        let innermost = usize::from(lists) - 1;
+        let left = counts[innermost];
+        if left == 0 {
+            at = put_end(out, block, at);
+            lists -= 1;
+            continue;
+        }
+        counts[innermost] = left - 1;
+        let Ok(header) = read_header(octets, end, depth - lists) else {
+            unreachable!()
+        };
+        if is_list(header.format) {
+            at = put_opening(out, block, at, header);
+            counts[usize::from(lists)] = header.length;
+            lists += 1;
+            end = header.body;
+        } else {
+            at = put_item_of_values(out, block, at, octets, header);
+            end = header.body + header.length;
+        }
+    }
+    at
+}
+
+/// Puts the item at the front of octets that were measured, after a space.
+pub fn put_item<O: Output>(
+    out: &mut O,
+    block: &mut [u8],
+    from: usize,
+    octets: &[u8],
+    depth: u8,
+) -> usize
+    requires few { depth ≤ 100 }
+    requires measured { IsOk (item_at depth octets.now) }
+    requires size { length block.old ≡ 65536 }
+    requires within { from ≤ 65536 }
+    ensures puts { (v : Value) (n : ℕ) → item_at depth octets.now ≡ Ok (v, n)
+        → Puts (O.Given out.old) block.old from (O.Given out.new) block.new result (codes " " ++ printed_item v) }
+    ensures size { length block.new ≡ 65536 }
+    ensures within { result ≤ 65536 }
+{
+    let Ok(header) = read_header(octets, 0, depth) else {
+        unreachable!()
+    };
+    if is_list(header.format) {
+        let at = put_opening(out, block, from, header);
+        return put_elements(out, block, at, octets, header.body, header.length, depth);
+    }
+    put_item_of_values(out, block, from, octets, header)
+}
