@@ -1,0 +1,79 @@
+//! What tests of served connections share.
+
+ghost use Rattle.std.specs.Prelude.{◌<◌};
+
+use super::{
+    AllocError, EquipmentDesk, Fail, Global, HostDesk, Role, Settings, Side, Store, equipment,
+    settings,
+};
+use hsms_ends::{Scripted, ServeFault, Served, Step, serve};
+use hsms_log::{Summary, Verdict, judge};
+
+pub const EQUIPMENT_LINE: &str =
+    "hsms-log 1 equipment passive 0 45000 6000 10000 5000 1048576 32\n";
+
+pub const HOST_LINE: &str = "hsms-log 1 host active 0 45000 6000 10000 5000 1048576 32\n";
+
+/// A log of so much room that takes so many octets a call, and fails after so many calls.
+pub fn log_of(alloc: Global, room: usize, piece: usize, fuse: u64) -> Result<Store, AllocError>
+    requires { 0 < piece }
+{
+    Ok(Store::new(vec![in alloc; 0u8; room]?, piece, fuse))
+}
+
+/// The settings of a passive equipment, or of an active host.
+pub fn settings_of(role: Role) -> Option<Settings> {
+    match role {
+        Role::Equipment => settings(role, Side::Passive, 1_048_576),
+        Role::Host => settings(role, Side::Active, 1_048_576),
+    }
+}
+
+fn serve_host(
+    alloc: Global,
+    link: &mut Scripted,
+    log: &mut Store,
+    settings: Settings,
+    script: &[Step],
+    turns: u64,
+) -> Result<Served, ServeFault> {
+    serve(alloc, link, log, settings, HostDesk, 1, script, turns)
+}
+
+fn serve_equipment(
+    alloc: Global,
+    link: &mut Scripted,
+    log: &mut Store,
+    settings: Settings,
+    desk: EquipmentDesk,
+    script: &[Step],
+    turns: u64,
+) -> Result<Served, ServeFault> {
+    serve(alloc, link, log, settings, desk, 1, script, turns)
+}
+
+/// What an end of these settings answers, served over this link with this log.
+pub fn answer_of(
+    alloc: Global,
+    link: &mut Scripted,
+    log: &mut Store,
+    settings: Settings,
+    script: &[Step],
+    turns: u64,
+) -> Result<Result<Served, ServeFault>, AllocError> {
+    match settings.role() {
+        Role::Host => Ok(serve_host(alloc, link, log, settings, script, turns)),
+        Role::Equipment => {
+            let desk = equipment(alloc)?;
+            Ok(serve_equipment(alloc, link, log, settings, desk, script, turns))
+        }
+    }
+}
+
+/// The summary of a log, which has to pass the audit.
+pub fn audited(alloc: Global, log: &[u8]) -> Result<Summary, Fail> {
+    match judge(alloc, log)? {
+        Verdict::Pass(summary) => Ok(summary),
+        Verdict::Fail { .. } => Err("a log that fails".into()),
+    }
+}

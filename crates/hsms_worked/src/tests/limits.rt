@@ -1,0 +1,274 @@
+//! What an end refuses to send, replies past a limit, desks of others, and when an end is due.
+
+use super::{
+    Abort, AllocError, Answer, CONNECTED, Case, Comes, Desk, End, EndFault, Entry, EquipmentDesk,
+    Event, Fail, Global, HostDesk, Input, Lost, Message, Octets, Role, SELECT, Send, Settings,
+    Side, Start, Tick, Told, assert_fault, end_of, equipment, judge, settings, tell, tell_well,
+};
+use secs_item::Item;
+
+/// Equipment that was selected, with MAX 256 and first system bytes 1.
+fn selected(alloc: Global) -> Result<End<EquipmentDesk>, Fail> {
+    let given = settings(Role::Equipment, Side::Passive, 256).ok_or("the settings")?;
+    let mut end = end_of(alloc, given, equipment(alloc)?, 1);
+    tell_well(alloc, &mut end, Start(10))?;
+    tell_well(alloc, &mut end, Comes("ffff0000000100000001"))?;
+    Ok(end)
+}
+
+/// The octets of header and text of the one frame that was sent, and its system bytes.
+fn sent(entries: &[Entry]) -> Option<(usize, u32)> {
+    match entries {
+        [
+            Entry {
+                event: Event::Sent(frame),
+                ..
+            },
+        ] => Some((
+            frame.text.as_slice().len().saturating_add(10),
+            frame.header.system,
+        )),
+        _ => None,
+    }
+}
+
+/// What comes of sending S1F1 with an item.
+fn send_item(
+    alloc: Global,
+    wait: bool,
+    item: Option<Item>,
+    end: &mut End<EquipmentDesk>,
+) -> Result<Option<(usize, u32)>, EndFault> {
+    let input = Input::Send(Message::new(1, 1, wait, item));
+    let entries = tell(alloc, end, &input)?;
+    Ok(sent(&entries))
+}
+
+/// Lists in one another, the innermost one empty.
+fn nested(alloc: Global, count: usize) -> Result<Item, AllocError> {
+    let mut item = Item::List(Vec::new(alloc));
+    for _ in 1..count {
+        item = Item::List(vec![in alloc; item]?);
+    }
+    Ok(item)
+}
+
+fn zeros(alloc: Global, count: usize) -> Result<Item, AllocError> {
+    Ok(Item::Binary(vec![in alloc; 0u8; count]?))
+}
+
+/// The fault of a call. Want of memory is handed up.
+fn fault_of(answer: Result<Option<(usize, u32)>, EndFault>) -> Result<Option<EndFault>, EndFault> {
+    match answer {
+        Ok(_) => Ok(None),
+        Err(EndFault::Memory) => Err(EndFault::Memory),
+        Err(fault) => Ok(Some(fault)),
+    }
+}
+
+/// An item is refused with a fault.
+fn assert_refused(
+    rt: &impl Abort,
+    alloc: Global,
+    end: &mut End<EquipmentDesk>,
+    item: Item,
+    want: EndFault,
+) -> Result<(), Fail> {
+    let answer = send_item(alloc, false, Some(item), end);
+    assert_fault(rt, fault_of(answer)?, Some(want), "refused");
+    Ok(())
+}
+
+/// A message with an item is sent in so many octets, with these system bytes.
+fn assert_sent(
+    rt: &impl Abort,
+    alloc: Global,
+    end: &mut End<EquipmentDesk>,
+    wait: bool,
+    item: Option<Item>,
+    want: (usize, u32),
+) -> Result<(), Fail> {
+    let answer = send_item(alloc, wait, item, end)?;
+    assert_eq!(rt; answer, Some(want));
+    Ok(())
+}
+
+/// No transaction is open for another primary that awaits a reply, nor for a Linktest.req.
+fn assert_full(rt: &impl Abort, alloc: Global, end: &mut End<EquipmentDesk>) {
+    let full = send_item(alloc, true, None, end);
+    assert_fault(rt, full.err(), Some(EndFault::Full), "a primary");
+    let full = tell(alloc, end, &Input::Linktest);
+    assert_fault(rt, full.err(), Some(EndFault::Full), "a linktest");
+}
+
+/// The longest item and the deepest one are sent, and what is one longer or one deeper is refused.
+fn judge_greatest(
+    rt: &impl Abort,
+    alloc: Global,
+    end: &mut End<EquipmentDesk>,
+) -> Result<(), Fail> {
+    assert_refused(rt, alloc, end, zeros(alloc, 245)?, EndFault::TooLong)?;
+    assert_refused(rt, alloc, end, nested(alloc, 33)?, EndFault::TooDeep)?;
+    assert_sent(rt, alloc, end, false, Some(zeros(alloc, 244)?), (256, 1))?;
+    assert_sent(rt, alloc, end, false, Some(nested(alloc, 32)?), (74, 2))
+}
+
+#[test]
+fn the_greatest_items(rt: HostRuntime) -> Result<(), Fail> {
+    let mut end = selected(rt.alloc())?;
+    judge_greatest(&rt, rt.alloc(), &mut end)
+}
+
+/// 64 transactions are open at most.
+fn judge_open(rt: &impl Abort, alloc: Global, end: &mut End<EquipmentDesk>) -> Result<(), Fail> {
+    for system in 1..=64u32 {
+        assert_sent(rt, alloc, end, true, None, (10, system))?;
+    }
+    assert_full(rt, alloc, end);
+    assert_sent(rt, alloc, end, false, None, (10, 65))?;
+    assert_eq!(rt; end.own_open(), 64);
+    Ok(())
+}
+
+#[test]
+fn the_most_own_transactions(rt: HostRuntime) -> Result<(), Fail> {
+    let mut end = selected(rt.alloc())?;
+    judge_open(&rt, rt.alloc(), &mut end)
+}
+
+/// Answers by the stream: 1 with no item, 2 with nothing, any other one with want of memory.
+#[derive(Clone, Copy)]
+struct ByStream;
+
+impl Desk for ByStream {
+    ghost use Rattle.std.specs.Prelude.{None, ◌==◌, if◌then◌else◌};
+    ghost use Rattle.hsms_end.specs.Answer.{replies, quiet};
+
+    ghost answers = { λ desk message. if message.stream == 1 then replies None else quiet };
+
+    fn answer(&self, alloc: Global, message: &Message) -> Result<Answer, AllocError> {
+        match message.stream() {
+            1 => Ok(Answer::Reply(None)),
+            2 => Ok(Answer::Quiet),
+            _ => Err(AllocError),
+        }
+    }
+}
+
+const ANSWERED_BY_STREAM: Case = Case {
+    name: "a desk of its own",
+    role: Role::Equipment,
+    side: Side::Passive,
+    max: 256,
+    first_system: 1,
+    told: &[
+        CONNECTED,
+        SELECT,
+        (
+            Comes("0000810d000000000007"),
+            Ok("0 < 0000810d000000000007\n0 > 0000010e000000000007\n"),
+        ),
+        (
+            Comes("000081ff000000000007"),
+            Ok("0 < 000081ff000000000007\n0 > 00000100000000000007\n"),
+        ),
+        (
+            Comes("00008201000000000007"),
+            Ok("0 < 00008201000000000007\n0 > 00000200000000000007\n"),
+        ),
+        (
+            Comes("00000201000000000007"),
+            Ok("0 < 00000201000000000007\n"),
+        ),
+        (Comes("00008301000000000007"), Err(EndFault::Memory)),
+    ],
+    pending: b"",
+};
+
+#[test]
+fn a_desk_of_its_own(rt: HostRuntime) -> Result<(), Fail> {
+    let alloc = rt.alloc();
+    let given = settings(Role::Equipment, Side::Passive, 256).ok_or("the settings")?;
+    let mut end = end_of(alloc, given, ByStream, 1);
+    judge(&rt, alloc, &mut end, &ANSWERED_BY_STREAM)
+}
+
+const ABORTED: Case = Case {
+    name: "a reply past a limit",
+    role: Role::Equipment,
+    side: Side::Passive,
+    max: 256,
+    first_system: 1,
+    told: &[
+        CONNECTED,
+        SELECT,
+        (
+            Comes("0000810d000000000007"),
+            Ok("0 < 0000810d000000000007\n0 > 00000100000000000007\n"),
+        ),
+    ],
+    pending: b"",
+};
+
+/// Equipment that nests so deep, with a model of so many octets, aborts.
+fn judge_aborted(rt: &impl Abort, alloc: Global, depth: u8, length: usize) -> Result<(), Fail> {
+    let given = Settings::new(
+        Role::Equipment,
+        Side::Passive,
+        0,
+        45000,
+        6000,
+        10000,
+        5000,
+        256,
+        depth,
+    );
+    let desk = EquipmentDesk {
+        mdln: vec![in alloc; 77u8; length]?,
+        softrev: Vec::new(alloc),
+    };
+    let mut end = end_of(alloc, given.ok_or("the settings")?, desk, 1);
+    judge(rt, alloc, &mut end, &ABORTED)
+}
+
+// S1F14 nests 2, and with a model of 250 octets it is past the greatest size.
+#[test]
+fn a_reply_past_a_limit_is_an_abort(rt: HostRuntime) -> Result<(), Fail> {
+    let alloc = rt.alloc();
+    judge_aborted(&rt, alloc, 1, 1)?;
+    judge_aborted(&rt, alloc, 32, 250)
+}
+
+/// When a host is due, after each thing that it is told.
+const DUE: &[(Told, Option<u64>)] = &[
+    (Start(100), Some(6100)),
+    (Octets(b"\0"), Some(5100)),
+    (Tick(200), Some(5100)),
+    (Octets(b"\0\0\x0a\xff\xff\0\0\0\x02\0\0\0\x01"), None),
+    (Send("S1F1 W ."), Some(45200)),
+    (Lost, None),
+];
+
+/// When an end is due once it is told something.
+fn assert_due<D: Desk>(
+    rt: &impl Abort,
+    alloc: Global,
+    end: &mut End<D>,
+    told: Told,
+    due: Option<u64>,
+) -> Result<(), Fail> {
+    tell_well(alloc, end, told)?;
+    assert_eq!(rt; end.next_due(), due);
+    Ok(())
+}
+
+#[test]
+fn when_an_end_is_due(rt: HostRuntime) -> Result<(), Fail> {
+    let alloc = rt.alloc();
+    let given = settings(Role::Host, Side::Active, 256).ok_or("the settings")?;
+    let mut end = end_of(alloc, given, HostDesk, 1);
+    for (told, due) in DUE {
+        assert_due(&rt, alloc, &mut end, *told, *due)?;
+    }
+    Ok(())
+}

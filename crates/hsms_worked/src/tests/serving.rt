@@ -1,0 +1,349 @@
+//! Connections that are served over a link in memory, and the logs that come of them.
+
+ghost use Rattle.std.specs.Prelude.{◌<◌};
+
+use super::connection::{EQUIPMENT_LINE, HOST_LINE, answer_of, audited, log_of, settings_of};
+use super::{Abort, Fail, Global, Role, Send, Separate, Store, Told, assert_octets, octets_of};
+use hsms_ends::{Scripted, ServeFault, Served, Step};
+use secs_text::read;
+
+/// A connection: what the peer says, and what is to come of it.
+#[derive(Clone, Copy)]
+struct Connection {
+    name: &'static str,
+    role: Role,
+    moments: &'static [u64],
+    /// What each wait gives: nothing, or the octets of these messages.
+    waits: &'static [Option<&'static [&'static str]>],
+    /// How many waits and sends don't fail.
+    fuse: u64,
+    /// How many octets the log has room for.
+    room: usize,
+    script: &'static [Told],
+    turns: u64,
+    answer: Result<Served, ServeFault>,
+    /// Until when the last wait was asked to wait.
+    until: Option<u64>,
+    /// The log after its first line.
+    log: &'static str,
+    /// The messages that the link took.
+    sent: &'static [&'static str],
+}
+
+/// The peer selects, asks for the link and separates.
+const PASSIVE: Connection = Connection {
+    name: "equipment is selected, tested and left",
+    role: Role::Equipment,
+    moments: &[],
+    waits: &[Some(&[
+        "ffff0000000100000001",
+        "ffff0000000500000002",
+        "ffff0000000900000003",
+    ])],
+    fuse: u64::MAX,
+    room: 4096,
+    script: &[],
+    turns: 100,
+    answer: Ok(Served {
+        entries: 7,
+        refused: 0,
+    }),
+    until: Some(10001),
+    log: "0 up
+0 < ffff0000000100000001
+0 > ffff0000000200000001
+0 < ffff0000000500000002
+0 > ffff0000000600000002
+0 < ffff0000000900000003
+0 down
+",
+    sent: &["ffff0000000200000001", "ffff0000000600000002"],
+};
+
+const HOST_LOG: &str = "0 up
+0 > ffff0000000100000001
+0 < ffff0000000200000001
+0 > 00008101000000000002
+0 < 00000102000000000002
+0 > ffff0000000900000003
+0 down
+";
+
+/// A host sends a reply, which is refused, then S1F1, and separates.
+const ACTIVE: Connection = Connection {
+    name: "a host takes its script",
+    role: Role::Host,
+    moments: &[],
+    waits: &[
+        Some(&["ffff0000000200000001"]),
+        Some(&["00000102000000000002"]),
+    ],
+    fuse: u64::MAX,
+    room: 4096,
+    script: &[Send("S1F2 ."), Send("S1F1 W ."), Separate],
+    turns: 5,
+    answer: Ok(Served {
+        entries: 7,
+        refused: 1,
+    }),
+    until: Some(45001),
+    log: HOST_LOG,
+    sent: &[
+        "ffff0000000100000001",
+        "00008101000000000002",
+        "ffff0000000900000003",
+    ],
+};
+
+/// With single octets each octet takes a turn.
+const PATIENT: Connection = Connection {
+    name: "a host takes its script, and has turns enough",
+    turns: 100,
+    ..ACTIVE
+};
+
+const CONNECTIONS: &[Connection] = &[
+    PASSIVE,
+    ACTIVE,
+    Connection {
+        name: "a message comes in each wait, and nothing between",
+        waits: &[
+            Some(&["ffff0000000100000001"]),
+            None,
+            Some(&["ffff0000000500000002"]),
+            Some(&[]),
+            Some(&["ffff0000000900000003"]),
+        ],
+        until: None,
+        ..PASSIVE
+    },
+    Connection {
+        name: "a host has one turn too few",
+        turns: 4,
+        answer: Err(ServeFault::Turns),
+        log: "0 up
+0 > ffff0000000100000001
+0 < ffff0000000200000001
+0 > 00008101000000000002
+0 < 00000102000000000002
+",
+        sent: &["ffff0000000100000001", "00008101000000000002"],
+        ..ACTIVE
+    },
+    Connection {
+        name: "equipment has no turn",
+        turns: 0,
+        answer: Err(ServeFault::Turns),
+        until: None,
+        log: "0 up\n",
+        sent: &[],
+        ..PASSIVE
+    },
+    Connection {
+        name: "nobody selects",
+        moments: &[0, 0, 10001],
+        waits: &[None],
+        turns: 2,
+        answer: Ok(Served {
+            entries: 3,
+            refused: 0,
+        }),
+        until: Some(10001),
+        log: "0 up\n10001 cut t7\n10001 down\n",
+        sent: &[],
+        ..PASSIVE
+    },
+    Connection {
+        name: "the peer closes at once",
+        waits: &[],
+        turns: 1,
+        answer: Ok(Served {
+            entries: 2,
+            refused: 0,
+        }),
+        until: Some(10001),
+        log: "0 up\n0 down\n",
+        sent: &[],
+        ..PASSIVE
+    },
+    Connection {
+        name: "the link fails at once",
+        fuse: 0,
+        answer: Err(ServeFault::Link),
+        until: Some(10001),
+        log: "0 up\n0 down\n",
+        sent: &[],
+        ..PASSIVE
+    },
+    Connection {
+        name: "the log fails in its first entry",
+        room: EQUIPMENT_LINE.len() + 3,
+        answer: Err(ServeFault::Log),
+        until: None,
+        log: "0 u",
+        sent: &[],
+        ..PASSIVE
+    },
+];
+
+/// The octets of messages.
+fn octets_of_all(alloc: Global, messages: &[&'static str]) -> Result<Vec<u8>, Fail> {
+    let mut octets = Vec::new(alloc);
+    for message in messages {
+        octets.extend_from_slice(&octets_of(alloc, message)?)?;
+    }
+    Ok(octets)
+}
+
+/// What each wait of a connection gives.
+fn waits_of(alloc: Global, case: &Connection) -> Result<Vec<Option<Vec<u8>>>, Fail> {
+    let mut waits = Vec::new(alloc);
+    for messages in case.waits {
+        match messages {
+            Some(messages) => waits.push(Some(octets_of_all(alloc, messages)?))?,
+            None => waits.push(None)?,
+        }
+    }
+    Ok(waits)
+}
+
+fn link_of(alloc: Global, case: &Connection, piece: usize) -> Result<Scripted, Fail>
+    requires { 0 < piece }
+{
+    let waits = waits_of(alloc, case)?;
+    let moments = Vec::from_slice(alloc, case.moments)?;
+    let room = vec![in alloc; 0u8; 1024]?;
+    Ok(Scripted::new(moments, waits, room, piece, case.fuse))
+}
+
+fn step_of(alloc: Global, told: &Told) -> Result<Step, Fail> {
+    match told {
+        Send(text) => Ok(Step::Send(read(alloc, text.as_bytes(), 100)?)),
+        Separate => Ok(Step::Separate),
+        _ => Ok(Step::Linktest),
+    }
+}
+
+fn script_of(alloc: Global, told: &[Told]) -> Result<Vec<Step>, Fail> {
+    let mut script = Vec::new(alloc);
+    for step in told {
+        script.push(step_of(alloc, step)?)?;
+    }
+    Ok(script)
+}
+
+/// The text that the log of a connection is to be.
+fn text_of(alloc: Global, case: &Connection) -> Result<Vec<u8>, Fail> {
+    let first_line = match case.role {
+        Role::Host => HOST_LINE,
+        Role::Equipment => EQUIPMENT_LINE,
+    };
+    let mut text = Vec::from_slice(alloc, first_line.as_bytes())?;
+    text.extend_from_slice(case.log.as_bytes())?;
+    Ok(text)
+}
+
+/// The log of a connection is what it is to be, and passes the audit, unless a write to it failed.
+fn judge_log(rt: &impl Abort, alloc: Global, case: &Connection, log: &Store) -> Result<(), Fail> {
+    let text = text_of(alloc, case)?;
+    assert_octets(rt, log.written(), text.as_slice(), case.name);
+    if case.answer != Err(ServeFault::Log) {
+        audited(alloc, log.written())?;
+    }
+    Ok(())
+}
+
+/// The link took what it is to take.
+fn judge_link(
+    rt: &impl Abort,
+    alloc: Global,
+    case: &Connection,
+    link: &Scripted,
+) -> Result<(), Fail> {
+    let sent = octets_of_all(alloc, case.sent)?;
+    assert_octets(rt, link.taken(), sent.as_slice(), case.name);
+    Ok(())
+}
+
+/// What is answered to a connection over this link with this log. Want of memory ends the test.
+fn answer_to(
+    alloc: Global,
+    case: &Connection,
+    link: &mut Scripted,
+    log: &mut Store,
+) -> Result<Result<Served, ServeFault>, Fail> {
+    let script = script_of(alloc, case.script)?;
+    let settings = settings_of(case.role).ok_or("the settings")?;
+    match answer_of(alloc, link, log, settings, &script, case.turns)? {
+        Err(ServeFault::Memory) => Err(ServeFault::Memory.into()),
+        answer => Ok(answer),
+    }
+}
+
+fn assert_answer(rt: &impl Abort, case: &Connection, answer: Result<Served, ServeFault>) {
+    assert_eq!(rt; answer, case.answer, "{}", case.name);
+}
+
+fn assert_until(rt: &impl Abort, case: &Connection, until: Option<u64>, want: Option<u64>) {
+    assert_eq!(rt; until, want, "{}", case.name);
+}
+
+/// Serves a connection, and tells until when the last wait was asked to wait.
+fn judge_connection(
+    rt: &impl Abort,
+    alloc: Global,
+    case: &Connection,
+    link: &mut Scripted,
+    log: &mut Store,
+) -> Result<Option<u64>, Fail> {
+    assert_answer(rt, case, answer_to(alloc, case, link, log)?);
+    judge_log(rt, alloc, case, log)?;
+    judge_link(rt, alloc, case, link)?;
+    Ok(link.until())
+}
+
+/// A connection that is served moves so many octets a call, and until then its last wait was asked to wait.
+fn judge_served(
+    rt: &impl Abort,
+    alloc: Global,
+    case: &Connection,
+    piece: usize,
+    until: Option<u64>,
+) -> Result<(), Fail>
+    requires { 0 < piece }
+{
+    let mut link = link_of(alloc, case, piece)?;
+    let mut log = log_of(alloc, case.room, 4096, u64::MAX)?;
+    let last = judge_connection(rt, alloc, case, &mut link, &mut log)?;
+    assert_until(rt, case, last, until);
+    Ok(())
+}
+
+#[test]
+fn connections_are_served(rt: HostRuntime) -> Result<(), Fail> {
+    for case in CONNECTIONS {
+        judge_served(&rt, rt.alloc(), case, 4096, case.until)?;
+    }
+    Ok(())
+}
+
+fn judge_pieces(
+    rt: &impl Abort,
+    alloc: Global,
+    piece: usize,
+    until: Option<u64>,
+) -> Result<(), Fail>
+    requires { 0 < piece }
+{
+    judge_served(rt, alloc, &PASSIVE, piece, until)
+}
+
+/// Where a message came in part, a wait lasts until T8 is past.
+#[test]
+fn pieces_do_not_matter(rt: HostRuntime) -> Result<(), Fail> {
+    let alloc = rt.alloc();
+    judge_pieces(&rt, alloc, 1, Some(5001))?;
+    judge_pieces(&rt, alloc, 3, Some(5001))?;
+    judge_pieces(&rt, alloc, 14, None)?;
+    judge_served(&rt, alloc, &PATIENT, 1, Some(5001))
+}
