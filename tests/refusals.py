@@ -65,7 +65,7 @@ JUDGE = ("hsms_machine tests::",)
 TRY_AGAIN = ("hsms_frame tests::framing::",)
 
 # A test with a desk that refuses memory itself, at last, and wants to be told so.
-REFUSES = ("hsms_ends tests::limits::a_desk_of_its_own",)
+REFUSES = ("hsms_worked tests::limits::a_desk_of_its_own",)
 
 # A port at which nobody listens.
 NOBODY_THERE = "--role equipment --link active --address 127.0.0.1 --port 1 --mdln M --softrev 1".split()

@@ -31,6 +31,3 @@ pub use link::{Got, Link};
 pub use scripted::Scripted;
 pub use serving::{Served, serve};
 pub use step::Step;
-
-#[cfg(test)]
-mod tests;

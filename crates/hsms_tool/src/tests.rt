@@ -9,6 +9,7 @@ use crate::fault::ToolFault;
 use crate::showing::show;
 use hsms_frame::{Feed, Store};
 use std::alloc::{AllocError, Global};
+use std::process::Abort;
 use std::test::Fail;
 
 const SELECT: [u8; 14] = *b"\x00\x00\x00\x0a\xff\xff\x00\x00\x00\x01\x00\x00\x00\x01";
@@ -44,84 +45,147 @@ fn shown(
     Ok(Run { result, written })
 }
 
+// An assertion stands in a function of its own, since it is proved in a tenth of the time there.
+
+fn assert_octets(rt: &impl Abort, octets: &[u8], want: &[u8], name: &str) {
+    assert_eq!(rt; octets, want, "{name}");
+}
+
+// All is done, and this is written.
+fn assert_done(rt: &impl Abort, run: &Run, written: &[u8], name: &str) {
+    assert!(rt; run.result.is_ok(), "{name}");
+    assert_octets(rt, run.written.as_slice(), written, name);
+}
+
+// The input is refused under these words, and this is written.
+fn assert_refused(rt: &impl Abort, run: &Run, want: &str, written: &[u8]) {
+    assert!(rt;
+        matches!(&run.result, Err(ToolFault::Refused(words)) if words.as_str() == want),
+        "{want}"
+    );
+    assert_octets(rt, run.written.as_slice(), written, want);
+}
+
+// A device failed.
+fn assert_device(rt: &impl Abort, run: &Run, want: &str) {
+    assert!(rt;
+        matches!(&run.result, Err(ToolFault::Device(word)) if *word == want),
+        "{want}"
+    );
+}
+
+fn assert_count(rt: &impl Abort, run: &Run, count: u64) {
+    assert_eq!(rt; run.written.len() as u64, count);
+}
+
+// Messages, and their lines.
+const KINDS: &[(&[u8], &str)] = &[
+    (&SELECT, "select.req ffff 00000001\n"),
+    (
+        b"\x00\x00\x00\x0c\x00\x00\x81\x0d\x00\x00\x00\x00\x00\x01\x01\x00",
+        "data 0000 00000001 S1F13 W <L [0]> .\n",
+    ),
+    (
+        b"\x00\x00\x00\x0a\x00\x00\x81\x01\x00\x00\x00\x00\x00\x02",
+        "data 0000 00000002 S1F1 W .\n",
+    ),
+    (
+        b"\x00\x00\x00\x0b\x00\x00\x81\x01\x00\x00\x00\x00\x00\x02\x40",
+        "data 0000 00000002 S1F1 W ! 40\n",
+    ),
+    (
+        b"\x00\x00\x00\x0a\xff\xff\x00\x00\x00\x02\x00\x00\x00\x01",
+        "select.rsp ffff 00000001 0\n",
+    ),
+    (
+        b"\x00\x00\x00\x0a\x00\x00\x00\x04\x00\x07\x00\x00\x00\x02",
+        "reject 0000 00000002 0 4\n",
+    ),
+    (
+        b"\x00\x00\x00\x0a\xff\xff\x00\x00\x00\x03\x00\x00\x00\x05",
+        "other-stype ffff 00000005 3\n",
+    ),
+    (
+        b"\x00\x00\x00\x0a\xff\xff\x00\x00\x01\x01\x00\x00\x00\x05",
+        "other-ptype ffff 00000005 1\n",
+    ),
+    (
+        b"\x00\x00\x00\x0b\xff\xff\x00\x00\x00\x05\x00\x00\x00\x02\x00",
+        "linktest.req ffff 00000002 ! 00\n",
+    ),
+];
+
+fn judge_kind(
+    rt: &impl Abort,
+    alloc: Global,
+    octets: &[u8],
+    line: &str,
+    piece: usize,
+) -> Result<(), Fail>
+    requires { 0 < piece }
+{
+    let run = shown(alloc, octets, piece, u64::MAX, u64::MAX)?.or_want_of_memory()?;
+    assert_done(rt, &run, line.as_bytes(), line);
+    Ok(())
+}
+
 #[test]
 fn shows_each_kind(rt: HostRuntime) -> Result<(), Fail> {
-    let rows = [
-        (SELECT.as_slice(), "select.req ffff 00000001\n"),
-        (
-            b"\x00\x00\x00\x0c\x00\x00\x81\x0d\x00\x00\x00\x00\x00\x01\x01\x00".as_slice(),
-            "data 0000 00000001 S1F13 W <L [0]> .\n",
-        ),
-        (
-            b"\x00\x00\x00\x0a\x00\x00\x81\x01\x00\x00\x00\x00\x00\x02".as_slice(),
-            "data 0000 00000002 S1F1 W .\n",
-        ),
-        (
-            b"\x00\x00\x00\x0b\x00\x00\x81\x01\x00\x00\x00\x00\x00\x02\x40".as_slice(),
-            "data 0000 00000002 S1F1 W ! 40\n",
-        ),
-        (
-            b"\x00\x00\x00\x0a\xff\xff\x00\x00\x00\x02\x00\x00\x00\x01".as_slice(),
-            "select.rsp ffff 00000001 0\n",
-        ),
-        (
-            b"\x00\x00\x00\x0a\x00\x00\x00\x04\x00\x07\x00\x00\x00\x02".as_slice(),
-            "reject 0000 00000002 0 4\n",
-        ),
-        (
-            b"\x00\x00\x00\x0a\xff\xff\x00\x00\x00\x03\x00\x00\x00\x05".as_slice(),
-            "other-stype ffff 00000005 3\n",
-        ),
-        (
-            b"\x00\x00\x00\x0a\xff\xff\x00\x00\x01\x01\x00\x00\x00\x05".as_slice(),
-            "other-ptype ffff 00000005 1\n",
-        ),
-        (
-            b"\x00\x00\x00\x0b\xff\xff\x00\x00\x00\x05\x00\x00\x00\x02\x00".as_slice(),
-            "linktest.req ffff 00000002 ! 00\n",
-        ),
-    ];
-    for (octets, line) in rows {
+    for (octets, line) in KINDS {
         for piece in [1, 3, 4096] {
-            let run = shown(rt.alloc(), octets, piece, u64::MAX, u64::MAX)?.or_want_of_memory()?;
-            assert!(rt; run.result.is_ok(), "{line}");
-            assert_eq!(rt; run.written.as_slice(), line.as_bytes());
+            judge_kind(&rt, rt.alloc(), octets, line, piece)?;
         }
     }
+    Ok(())
+}
+
+// Octets are refused under these words, once this is shown.
+fn judge_refused(
+    rt: &impl Abort,
+    alloc: Global,
+    octets: &[u8],
+    piece: usize,
+    words: &str,
+    lines: &str,
+) -> Result<(), Fail>
+    requires { 0 < piece }
+{
+    let run = shown(alloc, octets, piece, u64::MAX, u64::MAX)?.or_want_of_memory()?;
+    assert_refused(rt, &run, words, lines.as_bytes());
     Ok(())
 }
 
 #[test]
 fn refuses_what_is_no_message(rt: HostRuntime) -> Result<(), Fail> {
     let alloc = rt.alloc();
-    let run = shown(alloc, &[0, 0, 0, 9], 4096, u64::MAX, u64::MAX)?.or_want_of_memory()?;
-    assert!(rt;
-        matches!(&run.result, Err(ToolFault::Refused(words)) if words.as_str() == "TooShort length=9")
-    );
-    assert!(rt; run.written.is_empty());
+    judge_refused(&rt, alloc, &[0, 0, 0, 9], 4096, "TooShort length=9", "")?;
     let mut octets = Vec::from_slice(alloc, &SELECT)?;
     octets.extend_from_slice(&[0, 0])?;
-    let run = shown(alloc, &octets, 1, u64::MAX, u64::MAX)?.or_want_of_memory()?;
-    assert!(rt;
-        matches!(&run.result, Err(ToolFault::Refused(words)) if words.as_str() == "CutOff")
-    );
-    assert_eq!(rt;
-        run.written.as_slice(),
-        b"select.req ffff 00000001\n".as_slice()
-    );
+    judge_refused(
+        &rt,
+        alloc,
+        &octets,
+        1,
+        "CutOff",
+        "select.req ffff 00000001\n",
+    )
+}
+
+// After so many calls the source fails, and in a second run the sink.
+fn judge_devices(rt: &impl Abort, alloc: Global, calls: u64) -> Result<(), Fail> {
+    let run = shown(alloc, &SELECT, 1, calls, u64::MAX)?.or_want_of_memory()?;
+    assert_device(rt, &run, "Read");
+    let run = shown(alloc, &SELECT, 1, u64::MAX, calls)?.or_want_of_memory()?;
+    assert_device(rt, &run, "Write");
+    assert_count(rt, &run, calls);
     Ok(())
 }
 
 // The messages before a fault are shown, whichever device is at fault.
 #[test]
 fn tells_which_device_failed(rt: HostRuntime) -> Result<(), Fail> {
-    let alloc = rt.alloc();
     for calls in 0..14 {
-        let run = shown(alloc, &SELECT, 1, calls, u64::MAX)?.or_want_of_memory()?;
-        assert!(rt; matches!(run.result, Err(ToolFault::Device("Read"))));
-        let run = shown(alloc, &SELECT, 1, u64::MAX, calls)?.or_want_of_memory()?;
-        assert!(rt; matches!(run.result, Err(ToolFault::Device("Write"))));
-        assert_eq!(rt; run.written.len() as u64, calls);
+        judge_devices(&rt, rt.alloc(), calls)?;
     }
     Ok(())
 }
@@ -137,12 +201,12 @@ fn refused_lines(rt: HostRuntime) -> Result<(), Fail> {
     };
     match &run.result {
         Err(ToolFault::Refused(words)) if words.as_str() == "TooShort length=9" => {
-            assert_eq!(rt; run.written.as_slice(), lines);
+            assert_octets(&rt, run.written.as_slice(), lines, "each line");
         }
         Err(ToolFault::Memory) => {
             let count = run.written.len();
             assert!(rt; count == 0 || count == 25 || count == 62);
-            assert_eq!(rt; run.written.as_slice(), &lines[..count]);
+            assert_octets(&rt, run.written.as_slice(), &lines[..count], "whole lines");
         }
         _ => return Err("the fault, or want of memory".into()),
     }

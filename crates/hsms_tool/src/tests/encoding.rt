@@ -1,8 +1,9 @@
-use super::Run;
+use super::{Run, assert_count, assert_device, assert_done, assert_octets, assert_refused};
 use crate::encoding::encode_all;
 use crate::fault::ToolFault;
 use hsms_frame::{Feed, Store};
 use std::alloc::{AllocError, Global};
+use std::process::Abort;
 use std::test::Fail;
 
 const NOTATION: &str = "S6F11 W <L <A \"AB\"> <U1 1 255>> .";
@@ -24,41 +25,51 @@ fn encoded(
     Ok(Run { result, written })
 }
 
+// A text, its first system bytes, and the lines of its messages.
+const ENCODED: &[(&str, u32, &str)] = &[
+    (NOTATION, 1, FRAME),
+    (
+        "S1F1 W . S1F2 .",
+        u32::MAX,
+        "0000000a000081010000ffffffff\n0000000a00000102000000000000\n",
+    ),
+    ("", 1, ""),
+    (" \n", 1, ""),
+];
+
+fn judge_encoded(
+    rt: &impl Abort,
+    alloc: Global,
+    text: &str,
+    system: u32,
+    lines: &str,
+) -> Result<(), Fail> {
+    let run = encoded(alloc, text, system, u64::MAX, u64::MAX)?.or_want_of_memory()?;
+    assert_done(rt, &run, lines.as_bytes(), text);
+    Ok(())
+}
+
 #[test]
 fn encodes_messages(rt: HostRuntime) -> Result<(), Fail> {
-    let rows = [
-        (NOTATION, 1, FRAME),
-        (
-            "S1F1 W . S1F2 .",
-            u32::MAX,
-            "0000000a000081010000ffffffff\n0000000a00000102000000000000\n",
-        ),
-        ("", 1, ""),
-        (" \n", 1, ""),
-    ];
-    for (text, system, lines) in rows {
-        let run = encoded(rt.alloc(), text, system, u64::MAX, u64::MAX)?.or_want_of_memory()?;
-        assert!(rt; run.result.is_ok(), "{text}");
-        assert_eq!(rt; run.written.as_slice(), lines.as_bytes());
+    for (text, system, lines) in ENCODED {
+        judge_encoded(&rt, rt.alloc(), text, *system, lines)?;
     }
+    Ok(())
+}
+
+// A text is refused under these words, and nothing is written.
+fn judge_refused(rt: &impl Abort, alloc: Global, text: &str, words: &str) -> Result<(), Fail> {
+    let run = encoded(alloc, text, 1, u64::MAX, u64::MAX)?.or_want_of_memory()?;
+    assert_refused(rt, &run, words, b"");
     Ok(())
 }
 
 #[test]
 fn writes_nothing_of_what_is_refused(rt: HostRuntime) -> Result<(), Fail> {
-    for (text, words) in [
-        ("S1F1 W <U1 256> .", "Number at=11"),
-        ("S1F1 . S1F1 <B [2] 0x00> .", "Count at=15"),
-        ("S1F1", "Syntax at=4"),
-    ] {
-        let run = encoded(rt.alloc(), text, 1, u64::MAX, u64::MAX)?.or_want_of_memory()?;
-        assert!(rt;
-            matches!(&run.result, Err(ToolFault::Refused(told)) if told.as_str() == words),
-            "{text}"
-        );
-        assert!(rt; run.written.is_empty());
-    }
-    Ok(())
+    let alloc = rt.alloc();
+    judge_refused(&rt, alloc, "S1F1 W <U1 256> .", "Number at=11")?;
+    judge_refused(&rt, alloc, "S1F1 . S1F1 <B [2] 0x00> .", "Count at=15")?;
+    judge_refused(&rt, alloc, "S1F1", "Syntax at=4")
 }
 
 // The first message is fine, and the second is one octet past the limit.
@@ -70,23 +81,24 @@ fn writes_nothing_before_all_are_encoded(rt: HostRuntime) -> Result<(), Fail> {
         text.push_str(" 0x00")?;
     }
     text.push_str("> .")?;
-    let run = encoded(alloc, text.as_str(), 1, u64::MAX, u64::MAX)?.or_want_of_memory()?;
-    assert!(rt;
-        matches!(&run.result, Err(ToolFault::Refused(told)) if told.as_str() == "TooLong length=257")
-    );
-    assert!(rt; run.written.is_empty());
+    judge_refused(&rt, alloc, text.as_str(), "TooLong length=257")
+}
+
+// After so many calls the source fails, and in a second run the sink.
+fn judge_devices(rt: &impl Abort, alloc: Global, calls: u64) -> Result<(), Fail> {
+    let run = encoded(alloc, NOTATION, 1, calls, u64::MAX)?.or_want_of_memory()?;
+    assert_device(rt, &run, "Read");
+    assert_count(rt, &run, 0);
+    let run = encoded(alloc, NOTATION, 1, u64::MAX, calls)?.or_want_of_memory()?;
+    assert_device(rt, &run, "Write");
+    assert_count(rt, &run, calls.saturating_mul(11));
     Ok(())
 }
 
 #[test]
 fn tells_which_device_failed(rt: HostRuntime) -> Result<(), Fail> {
     for calls in 0..4 {
-        let run = encoded(rt.alloc(), NOTATION, 1, calls, u64::MAX)?.or_want_of_memory()?;
-        assert!(rt; matches!(run.result, Err(ToolFault::Device("Read"))));
-        assert!(rt; run.written.is_empty());
-        let run = encoded(rt.alloc(), NOTATION, 1, u64::MAX, calls)?.or_want_of_memory()?;
-        assert!(rt; matches!(run.result, Err(ToolFault::Device("Write"))));
-        assert_eq!(rt; run.written.len() as u64, 11 * calls);
+        judge_devices(&rt, rt.alloc(), calls)?;
     }
     Ok(())
 }
@@ -98,7 +110,7 @@ fn refused_frames(rt: HostRuntime) -> Result<(), Fail> {
         return Ok(());
     };
     match &run.result {
-        Ok(()) => assert_eq!(rt; run.written.as_slice(), FRAME.as_bytes()),
+        Ok(()) => assert_octets(&rt, run.written.as_slice(), FRAME.as_bytes(), "the frame"),
         Err(ToolFault::Memory) => assert!(rt; run.written.is_empty()),
         _ => return Err("the frame, or want of memory".into()),
     }

@@ -1,3 +1,4 @@
+use super::assert_octets;
 use crate::auditing::audit_to;
 use crate::desks::desk_of;
 use crate::service::Service;
@@ -9,6 +10,7 @@ use hsms_machine::{Role, Settings, Side};
 use std::alloc::Global;
 use std::io::{Read, Write};
 use std::net::{TcpListener, TcpStream};
+use std::process::Abort;
 use std::test::Fail;
 
 const SELECT: &[u8] = b"\x00\x00\x00\x0a\xff\xff\x00\x00\x00\x01\x00\x00\x00\x01";
@@ -52,6 +54,27 @@ fn verdict<L: Link>(
     Ok(Vec::from_slice(alloc, line.written())?)
 }
 
+fn judge_verdict<L: Link>(
+    rt: &impl Abort,
+    alloc: Global,
+    link: &mut L,
+    service: &Service,
+    script: &[Step],
+    want: &[u8],
+) -> Result<(), Fail> {
+    let line = verdict(alloc, link, service, script)?;
+    assert_octets(rt, line.as_slice(), want, "the verdict");
+    Ok(())
+}
+
+// The next message that a peer reads.
+fn assert_reads<S: Read>(rt: &impl Abort, peer: &mut S, want: &[u8]) -> Result<(), Fail> {
+    let mut message = [0u8; 14];
+    peer.read_exact(&mut message)?;
+    assert_octets(rt, &message, want, "sent");
+    Ok(())
+}
+
 // The peer has written all that it says before the end is served.
 #[test]
 fn equipment_over_a_socket(rt: HostRuntime) -> Result<(), Fail> {
@@ -63,16 +86,16 @@ fn equipment_over_a_socket(rt: HostRuntime) -> Result<(), Fail> {
     let (stream, _) = listener.accept()?;
     let mut link = SocketLink::new(&rt, stream);
     let equipment = service(alloc, Role::Equipment, Side::Passive)?;
-    let line = verdict(alloc, &mut link, &equipment, &[])?;
-    assert_eq!(rt;
-        line.as_slice(),
-        b"pass entries=7 sent=2 taken=3 discarded=0 expired=0 waiting=0\n".as_slice()
-    );
-    let mut sent = [0u8; 28];
-    peer.read_exact(&mut sent)?;
-    assert_eq!(rt; &sent[..14], SELECTED);
-    assert_eq!(rt; &sent[14..], LINKTESTED);
-    Ok(())
+    judge_verdict(
+        &rt,
+        alloc,
+        &mut link,
+        &equipment,
+        &[],
+        b"pass entries=7 sent=2 taken=3 discarded=0 expired=0 waiting=0\n",
+    )?;
+    assert_reads(&rt, &mut peer, SELECTED)?;
+    assert_reads(&rt, &mut peer, LINKTESTED)
 }
 
 #[test]
@@ -84,14 +107,14 @@ fn host_over_a_socket(rt: HostRuntime) -> Result<(), Fail> {
     peer.write_all(SELECTED)?;
     let mut link = SocketLink::new(&rt, stream);
     let host = service(alloc, Role::Host, Side::Active)?;
-    let line = verdict(alloc, &mut link, &host, &[Step::Separate])?;
-    assert_eq!(rt;
-        line.as_slice(),
-        b"pass entries=5 sent=2 taken=1 discarded=0 expired=0 waiting=0\n".as_slice()
-    );
-    let mut sent = [0u8; 28];
-    peer.read_exact(&mut sent)?;
-    assert_eq!(rt; &sent[..14], SELECT);
-    assert_eq!(rt; &sent[14..], SEPARATED);
-    Ok(())
+    judge_verdict(
+        &rt,
+        alloc,
+        &mut link,
+        &host,
+        &[Step::Separate],
+        b"pass entries=5 sent=2 taken=1 discarded=0 expired=0 waiting=0\n",
+    )?;
+    assert_reads(&rt, &mut peer, SELECT)?;
+    assert_reads(&rt, &mut peer, SEPARATED)
 }

@@ -3,8 +3,8 @@
 ghost use Rattle.std.specs.Prelude.{◌<◌};
 
 use super::connection::{answer_of, audited, log_of, settings_of};
-use super::{Abort, AllocError, Fail, Global, Role, Store};
-use crate::{Scripted, ServeFault, Served};
+use super::{Abort, AllocError, Fail, Global, Role, Store, assert_octets};
+use hsms_ends::{Scripted, ServeFault, Served};
 use hsms_log::{Summary, Verdict, judge};
 
 /// Select.req, Linktest.req and Separate.req of the host.
@@ -67,10 +67,26 @@ fn served(
 }
 
 fn assert_whole(rt: &impl Abort, answer: Served, link: &Scripted, log: &Store) {
-    assert_eq!(rt; answer.entries, 7);
-    assert_eq!(rt; answer.refused, 0);
-    assert_eq!(rt; log.written(), WHOLE_LOG.as_bytes());
-    assert_eq!(rt; link.taken(), ANSWERED);
+    let whole = Served {
+        entries: 7,
+        refused: 0,
+    };
+    assert_eq!(rt; answer, whole);
+    assert_octets(rt, log.written(), WHOLE_LOG.as_bytes(), "a whole log");
+    assert_octets(rt, link.taken(), ANSWERED, "all that is answered");
+}
+
+fn assert_fault(rt: &impl Abort, fault: Option<ServeFault>, want: ServeFault) {
+    assert_eq!(rt; fault, Some(want));
+}
+
+fn assert_begins(rt: &impl Abort, whole: &[u8], part: &[u8]) {
+    assert!(rt; whole.starts_with(part));
+}
+
+/// The link took nothing.
+fn assert_none_taken(rt: &impl Abort, link: &Scripted) {
+    assert_octets(rt, link.taken(), b"", "nothing is taken");
 }
 
 /// The link failed: the log passes the audit and ends with `down`.
@@ -78,7 +94,7 @@ fn assert_closed(rt: &impl Abort, alloc: Global, link: &Scripted, log: &Store) -
     let summary = audited(alloc, log.written())?;
     assert!(rt; summary.entries <= 7);
     assert!(rt; log.written().ends_with(b"0 down\n"));
-    assert!(rt; ANSWERED.starts_with(link.taken()));
+    assert_begins(rt, ANSWERED, link.taken());
     Ok(())
 }
 
@@ -98,8 +114,8 @@ fn sent_lines(log: &[u8]) -> usize {
 /// The log failed or memory was refused: the log is a part of a log from its front, and the messages of its whole lines
 /// were sent, and no other one.
 fn assert_front(rt: &impl Abort, link: &Scripted, log: &Store) {
-    assert!(rt; WHOLE_LOG.as_bytes().starts_with(log.written()));
-    assert!(rt; ANSWERED.starts_with(link.taken()));
+    assert_begins(rt, WHOLE_LOG.as_bytes(), log.written());
+    assert_begins(rt, ANSWERED, link.taken());
     assert_eq!(rt;
         link.taken().len(),
         sent_lines(log.written()).saturating_mul(14)
@@ -108,10 +124,30 @@ fn assert_front(rt: &impl Abort, link: &Scripted, log: &Store) {
 
 /// Memory was refused: the log has whole lines and passes the audit.
 fn assert_refused(rt: &impl Abort, alloc: Global, fault: ServeFault, link: &Scripted, log: &Store) {
-    assert_eq!(rt; fault, ServeFault::Memory);
+    assert_fault(rt, Some(fault), ServeFault::Memory);
     assert_front(rt, link, log);
     assert!(rt; log.written().ends_with(b"\n"));
     assert!(rt; matches!(judge(alloc, log.written()), Ok(Verdict::Pass(_))));
+}
+
+/// The link fails, or nothing does. Answers whether nothing did.
+fn judge_link(
+    rt: &impl Abort,
+    alloc: Global,
+    link: &mut Scripted,
+    log: &mut Store,
+) -> Result<bool, Fail> {
+    match served(alloc, link, log)? {
+        Ok(answer) => {
+            assert_whole(rt, answer, link, log);
+            Ok(true)
+        }
+        Err(fault) => {
+            assert_fault(rt, Some(fault), ServeFault::Link);
+            assert_closed(rt, alloc, link, log)?;
+            Ok(false)
+        }
+    }
 }
 
 /// The link fails after so many calls. Answers whether it met no failure.
@@ -120,14 +156,24 @@ fn fail_link_at(rt: &impl Abort, alloc: Global, piece: usize, fuse: u64) -> Resu
 {
     let mut link = link_of(alloc, piece, fuse)?;
     let mut log = log_of(alloc, 400, piece, u64::MAX)?;
-    match served(alloc, &mut link, &mut log)? {
+    judge_link(rt, alloc, &mut link, &mut log)
+}
+
+/// The log fails, or nothing does. Answers whether nothing did.
+fn judge_log(
+    rt: &impl Abort,
+    alloc: Global,
+    link: &mut Scripted,
+    log: &mut Store,
+) -> Result<bool, Fail> {
+    match served(alloc, link, log)? {
         Ok(answer) => {
-            assert_whole(rt, answer, &link, &log);
+            assert_whole(rt, answer, link, log);
             Ok(true)
         }
         Err(fault) => {
-            assert_eq!(rt; fault, ServeFault::Link);
-            assert_closed(rt, alloc, &link, &log)?;
+            assert_fault(rt, Some(fault), ServeFault::Log);
+            assert_front(rt, link, log);
             Ok(false)
         }
     }
@@ -139,17 +185,7 @@ fn fail_log_at(rt: &impl Abort, alloc: Global, piece: usize, fuse: u64) -> Resul
 {
     let mut link = link_of(alloc, piece, u64::MAX)?;
     let mut log = log_of(alloc, 400, piece, fuse)?;
-    match served(alloc, &mut link, &mut log)? {
-        Ok(answer) => {
-            assert_whole(rt, answer, &link, &log);
-            Ok(true)
-        }
-        Err(fault) => {
-            assert_eq!(rt; fault, ServeFault::Log);
-            assert_front(rt, &link, &log);
-            Ok(false)
-        }
-    }
+    judge_log(rt, alloc, &mut link, &mut log)
 }
 
 /// The link fails after each number of calls, until it meets no failure.
@@ -239,19 +275,40 @@ const FAILING: &[Failing] = &[
     },
 ];
 
+/// The log passes the audit with this summary.
+fn assert_summary(rt: &impl Abort, alloc: Global, log: &Store, want: Summary) -> Result<(), Fail> {
+    let summary = audited(alloc, log.written())?;
+    assert_eq!(rt; summary, want);
+    Ok(())
+}
+
 /// Nothing is sent in a row.
+fn judge_row(
+    rt: &impl Abort,
+    alloc: Global,
+    row: &Failing,
+    link: &mut Scripted,
+    log: &mut Store,
+) -> Result<(), Fail> {
+    let answer = served(alloc, link, log)?;
+    assert_fault(rt, answer.err(), row.fault);
+    assert_octets(
+        rt,
+        log.written(),
+        row.left.as_bytes(),
+        "the log that is left",
+    );
+    assert_none_taken(rt, link);
+    match row.passes {
+        Some(summary) => assert_summary(rt, alloc, log, summary),
+        None => Ok(()),
+    }
+}
+
 fn judge_failing(rt: &impl Abort, alloc: Global, row: &Failing) -> Result<(), Fail> {
     let mut link = link_of(alloc, 400, row.link)?;
     let mut log = log_of(alloc, 400, 400, row.log)?;
-    let answer = served(alloc, &mut link, &mut log)?;
-    assert_eq!(rt; answer.err(), Some(row.fault));
-    assert_eq!(rt; log.written(), row.left.as_bytes());
-    assert_eq!(rt; link.taken(), b"".as_slice());
-    if row.passes.is_some() {
-        let summary = audited(alloc, log.written())?;
-        assert_eq!(rt; Some(summary), row.passes);
-    }
-    Ok(())
+    judge_row(rt, alloc, row, &mut link, &mut log)
 }
 
 #[test]
@@ -263,15 +320,25 @@ fn worked_failures(rt: HostRuntime) -> Result<(), Fail> {
 }
 
 /// The first send fails, and then the log, after so many octets.
+fn judge_twice(
+    rt: &impl Abort,
+    alloc: Global,
+    room: usize,
+    link: &mut Scripted,
+    log: &mut Store,
+) -> Result<(), Fail> {
+    let answer = served(alloc, link, log)?;
+    assert_fault(rt, answer.err(), ServeFault::Log);
+    assert_eq!(rt; log.written().len(), room);
+    assert_begins(rt, LOG_WITHOUT_SELECT_RSP.as_bytes(), log.written());
+    assert_none_taken(rt, link);
+    Ok(())
+}
+
 fn fail_twice(rt: &impl Abort, alloc: Global, room: usize) -> Result<(), Fail> {
     let mut link = link_of(alloc, 400, 1)?;
     let mut log = log_of(alloc, room, 400, u64::MAX)?;
-    let answer = served(alloc, &mut link, &mut log)?;
-    assert_eq!(rt; answer.err(), Some(ServeFault::Log));
-    assert_eq!(rt; log.written().len(), room);
-    assert!(rt; LOG_WITHOUT_SELECT_RSP.as_bytes().starts_with(log.written()));
-    assert_eq!(rt; link.taken(), b"".as_slice());
-    Ok(())
+    judge_twice(rt, alloc, room, &mut link, &mut log)
 }
 
 /// The log fails at each octet of the line `0 down`.
@@ -284,6 +351,17 @@ fn the_later_fault_is_told(rt: HostRuntime) -> Result<(), Fail> {
     Ok(())
 }
 
+fn judge_refused(rt: &impl Abort, alloc: Global, link: &mut Scripted, log: &mut Store) {
+    let Some(settings) = settings_of(Role::Equipment) else {
+        return;
+    };
+    match answer_of(alloc, link, log, settings, &[], 200) {
+        Ok(Ok(answer)) => assert_whole(rt, answer, link, log),
+        Ok(Err(fault)) => assert_refused(rt, alloc, fault, link, log),
+        Err(_) => {}
+    }
+}
+
 // Where its own input is refused, a test of refusals has nothing to say.
 #[test]
 fn refused_connection(rt: HostRuntime) {
@@ -294,12 +372,5 @@ fn refused_connection(rt: HostRuntime) {
     let Ok(mut log) = log_of(alloc, 400, 400, u64::MAX) else {
         return;
     };
-    let Some(settings) = settings_of(Role::Equipment) else {
-        return;
-    };
-    match answer_of(alloc, &mut link, &mut log, settings, &[], 200) {
-        Ok(Ok(answer)) => assert_whole(&rt, answer, &link, &log),
-        Ok(Err(fault)) => assert_refused(&rt, alloc, fault, &link, &log),
-        Err(_) => {}
-    }
+    judge_refused(&rt, alloc, &mut link, &mut log)
 }

@@ -2,7 +2,8 @@
 
 use super::party::Party;
 use super::{
-    Desk, Fail, Global, HostDesk, Input, Message, Role, Settings, Side, equipment, octets_of, read,
+    Desk, EquipmentDesk, Fail, Global, HostDesk, Input, Message, Role, Settings, Side, equipment,
+    octets_of, read,
 };
 use hsms_log::Summary;
 
@@ -150,7 +151,61 @@ fn jump(chance: &mut Chance) -> Result<u64, Fail> {
     one_of(chance, jumps)
 }
 
-/// Two ends live through a list of a thousand things. Answers the summaries of their logs.
+fn host_of(alloc: Global, link: Side) -> Result<Party<HostDesk>, Fail> {
+    let given = settings(Role::Host, link).ok_or("the host's")?;
+    Party::new(alloc, given, HostDesk, 0xffff_fff0)
+}
+
+fn tool_of(alloc: Global, link: Side) -> Result<Party<EquipmentDesk>, Fail> {
+    let given = settings(Role::Equipment, link).ok_or("the tool's")?;
+    Party::new(alloc, given, equipment(alloc)?, 1)
+}
+
+/// Time goes on, and then one thing happens to one of two ends. Answers the time.
+fn go_on<D: Desk + Drop, E: Desk + Drop>(
+    alloc: Global,
+    chance: &mut Chance,
+    host: &mut Party<D>,
+    tool: &mut Party<E>,
+    now: u64,
+) -> Result<u64, Fail> {
+    let now = now.saturating_add(jump(chance)?);
+    if chance.below(2) == 0 {
+        step(alloc, chance, host, tool, now)?;
+    } else {
+        step(alloc, chance, tool, host, now)?;
+    }
+    Ok(now)
+}
+
+/// A thousand things happen to two ends.
+fn wander<D: Desk + Drop, E: Desk + Drop>(
+    alloc: Global,
+    chance: &mut Chance,
+    host: &mut Party<D>,
+    tool: &mut Party<E>,
+) -> Result<(), Fail> {
+    let mut now = 0u64;
+    for _ in 0..1000 {
+        now = go_on(alloc, chance, host, tool, now)?;
+    }
+    Ok(())
+}
+
+/// Two ends start and live. Answers the summaries of their logs.
+fn live<D: Desk + Drop, E: Desk + Drop>(
+    alloc: Global,
+    chance: &mut Chance,
+    host: &mut Party<D>,
+    tool: &mut Party<E>,
+) -> Result<[Summary; 2], Fail> {
+    host.tell(alloc, &Input::Start(0))?;
+    tool.tell(alloc, &Input::Start(0))?;
+    wander(alloc, chance, host, tool)?;
+    Ok([host.audited(alloc)?, tool.audited(alloc)?])
+}
+
+/// Two ends live through a list of a thousand things.
 fn walk(alloc: Global, seed: u64) -> Result<[Summary; 2], Fail> {
     let mut chance = Chance { state: seed };
     let (one, two) = if chance.below(2) == 0 {
@@ -158,22 +213,9 @@ fn walk(alloc: Global, seed: u64) -> Result<[Summary; 2], Fail> {
     } else {
         (Side::Passive, Side::Active)
     };
-    let of_host = settings(Role::Host, one).ok_or("the host's")?;
-    let of_tool = settings(Role::Equipment, two).ok_or("the tool's")?;
-    let mut host = Party::new(alloc, of_host, HostDesk, 0xffff_fff0)?;
-    let mut tool = Party::new(alloc, of_tool, equipment(alloc)?, 1)?;
-    host.tell(alloc, &Input::Start(0))?;
-    tool.tell(alloc, &Input::Start(0))?;
-    let mut now = 0u64;
-    for _ in 0..1000 {
-        now = now.saturating_add(jump(&mut chance)?);
-        if chance.below(2) == 0 {
-            step(alloc, &mut chance, &mut host, &mut tool, now)?;
-        } else {
-            step(alloc, &mut chance, &mut tool, &mut host, now)?;
-        }
-    }
-    Ok([host.audited(alloc)?, tool.audited(alloc)?])
+    let mut host = host_of(alloc, one)?;
+    let mut tool = tool_of(alloc, two)?;
+    live(alloc, &mut chance, &mut host, &mut tool)
 }
 
 #[test]

@@ -3,7 +3,7 @@
 use super::{
     CONNECTED, CONNECTING, Case, Comes, Linktest, Lost, Octets, SELECTED, Send, Separate, Tick,
 };
-use crate::EndFault;
+use hsms_ends::EndFault;
 use hsms_machine::{Role, Side};
 
 pub const OWN: &[Case] = &[

@@ -6,7 +6,7 @@ use super::{
     AllocError, EquipmentDesk, Fail, Global, HostDesk, Role, Settings, Side, Store, equipment,
     settings,
 };
-use crate::{Scripted, ServeFault, Served, Step, serve};
+use hsms_ends::{Scripted, ServeFault, Served, Step, serve};
 use hsms_log::{Summary, Verdict, judge};
 
 pub const EQUIPMENT_LINE: &str =

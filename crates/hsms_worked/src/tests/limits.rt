@@ -1,9 +1,9 @@
 //! What an end refuses to send, replies past a limit, desks of others, and when an end is due.
 
 use super::{
-    AllocError, Answer, CONNECTED, Case, Comes, Desk, End, EndFault, Entry, EquipmentDesk, Event,
-    Fail, Global, HostDesk, Input, Lost, Message, Octets, Role, SELECT, Send, Settings, Side,
-    Start, Tick, Told, end_of, equipment, input_of, judge, settings, tell,
+    Abort, AllocError, Answer, CONNECTED, Case, Comes, Desk, End, EndFault, Entry, EquipmentDesk,
+    Event, Fail, Global, HostDesk, Input, Lost, Message, Octets, Role, SELECT, Send, Settings,
+    Side, Start, Tick, Told, assert_fault, end_of, equipment, judge, settings, tell, tell_well,
 };
 use secs_item::Item;
 
@@ -11,9 +11,8 @@ use secs_item::Item;
 fn selected(alloc: Global) -> Result<End<EquipmentDesk>, Fail> {
     let given = settings(Role::Equipment, Side::Passive, 256).ok_or("the settings")?;
     let mut end = end_of(alloc, given, equipment(alloc)?, 1);
-    for told in [Start(10), Comes("ffff0000000100000001")] {
-        tell(alloc, &mut end, &input_of(alloc, told)?)?;
-    }
+    tell_well(alloc, &mut end, Start(10))?;
+    tell_well(alloc, &mut end, Comes("ffff0000000100000001"))?;
     Ok(end)
 }
 
@@ -67,35 +66,74 @@ fn fault_of(answer: Result<Option<(usize, u32)>, EndFault>) -> Result<Option<End
     }
 }
 
+/// An item is refused with a fault.
+fn assert_refused(
+    rt: &impl Abort,
+    alloc: Global,
+    end: &mut End<EquipmentDesk>,
+    item: Item,
+    want: EndFault,
+) -> Result<(), Fail> {
+    let answer = send_item(alloc, false, Some(item), end);
+    assert_fault(rt, fault_of(answer)?, Some(want), "refused");
+    Ok(())
+}
+
+/// A message with an item is sent in so many octets, with these system bytes.
+fn assert_sent(
+    rt: &impl Abort,
+    alloc: Global,
+    end: &mut End<EquipmentDesk>,
+    wait: bool,
+    item: Option<Item>,
+    want: (usize, u32),
+) -> Result<(), Fail> {
+    let answer = send_item(alloc, wait, item, end)?;
+    assert_eq!(rt; answer, Some(want));
+    Ok(())
+}
+
+/// No transaction is open for another primary that awaits a reply, nor for a Linktest.req.
+fn assert_full(rt: &impl Abort, alloc: Global, end: &mut End<EquipmentDesk>) {
+    let full = send_item(alloc, true, None, end);
+    assert_fault(rt, full.err(), Some(EndFault::Full), "a primary");
+    let full = tell(alloc, end, &Input::Linktest);
+    assert_fault(rt, full.err(), Some(EndFault::Full), "a linktest");
+}
+
+/// The longest item and the deepest one are sent, and what is one longer or one deeper is refused.
+fn judge_greatest(
+    rt: &impl Abort,
+    alloc: Global,
+    end: &mut End<EquipmentDesk>,
+) -> Result<(), Fail> {
+    assert_refused(rt, alloc, end, zeros(alloc, 245)?, EndFault::TooLong)?;
+    assert_refused(rt, alloc, end, nested(alloc, 33)?, EndFault::TooDeep)?;
+    assert_sent(rt, alloc, end, false, Some(zeros(alloc, 244)?), (256, 1))?;
+    assert_sent(rt, alloc, end, false, Some(nested(alloc, 32)?), (74, 2))
+}
+
 #[test]
 fn the_greatest_items(rt: HostRuntime) -> Result<(), Fail> {
-    let alloc = rt.alloc();
-    let mut end = selected(alloc)?;
-    let long = send_item(alloc, false, Some(zeros(alloc, 245)?), &mut end);
-    assert_eq!(rt; fault_of(long)?, Some(EndFault::TooLong));
-    let deep = send_item(alloc, false, Some(nested(alloc, 33)?), &mut end);
-    assert_eq!(rt; fault_of(deep)?, Some(EndFault::TooDeep));
-    let longest = send_item(alloc, false, Some(zeros(alloc, 244)?), &mut end)?;
-    assert_eq!(rt; longest, Some((256, 1)));
-    let deepest = send_item(alloc, false, Some(nested(alloc, 32)?), &mut end)?;
-    assert_eq!(rt; deepest, Some((74, 2)));
+    let mut end = selected(rt.alloc())?;
+    judge_greatest(&rt, rt.alloc(), &mut end)
+}
+
+/// 64 transactions are open at most.
+fn judge_open(rt: &impl Abort, alloc: Global, end: &mut End<EquipmentDesk>) -> Result<(), Fail> {
+    for system in 1..=64u32 {
+        assert_sent(rt, alloc, end, true, None, (10, system))?;
+    }
+    assert_full(rt, alloc, end);
+    assert_sent(rt, alloc, end, false, None, (10, 65))?;
+    assert_eq!(rt; end.own_open(), 64);
     Ok(())
 }
 
 #[test]
 fn the_most_own_transactions(rt: HostRuntime) -> Result<(), Fail> {
-    let alloc = rt.alloc();
-    let mut end = selected(alloc)?;
-    for system in 1..=64u32 {
-        assert_eq!(rt; send_item(alloc, true, None, &mut end)?, Some((10, system)));
-    }
-    let full = send_item(alloc, true, None, &mut end);
-    assert_eq!(rt; full, Err(EndFault::Full));
-    let full = tell(alloc, &mut end, &Input::Linktest);
-    assert_eq!(rt; full.err(), Some(EndFault::Full));
-    assert_eq!(rt; send_item(alloc, false, None, &mut end)?, Some((10, 65)));
-    assert_eq!(rt; end.own_open(), 64);
-    Ok(())
+    let mut end = selected(rt.alloc())?;
+    judge_open(&rt, rt.alloc(), &mut end)
 }
 
 /// Answers by the stream: 1 with no item, 2 with nothing, any other one with want of memory.
@@ -172,30 +210,33 @@ const ABORTED: Case = Case {
     pending: b"",
 };
 
+/// Equipment that nests so deep, with a model of so many octets, aborts.
+fn judge_aborted(rt: &impl Abort, alloc: Global, depth: u8, length: usize) -> Result<(), Fail> {
+    let given = Settings::new(
+        Role::Equipment,
+        Side::Passive,
+        0,
+        45000,
+        6000,
+        10000,
+        5000,
+        256,
+        depth,
+    );
+    let desk = EquipmentDesk {
+        mdln: vec![in alloc; 77u8; length]?,
+        softrev: Vec::new(alloc),
+    };
+    let mut end = end_of(alloc, given.ok_or("the settings")?, desk, 1);
+    judge(rt, alloc, &mut end, &ABORTED)
+}
+
 // S1F14 nests 2, and with a model of 250 octets it is past the greatest size.
 #[test]
 fn a_reply_past_a_limit_is_an_abort(rt: HostRuntime) -> Result<(), Fail> {
     let alloc = rt.alloc();
-    for (depth, length) in [(1, 1usize), (32, 250)] {
-        let given = Settings::new(
-            Role::Equipment,
-            Side::Passive,
-            0,
-            45000,
-            6000,
-            10000,
-            5000,
-            256,
-            depth,
-        );
-        let desk = EquipmentDesk {
-            mdln: vec![in alloc; 77u8; length]?,
-            softrev: Vec::new(alloc),
-        };
-        let mut end = end_of(alloc, given.ok_or("the settings")?, desk, 1);
-        judge(&rt, alloc, &mut end, &ABORTED)?;
-    }
-    Ok(())
+    judge_aborted(&rt, alloc, 1, 1)?;
+    judge_aborted(&rt, alloc, 32, 250)
 }
 
 /// When a host is due, after each thing that it is told.
@@ -208,14 +249,26 @@ const DUE: &[(Told, Option<u64>)] = &[
     (Lost, None),
 ];
 
+/// When an end is due once it is told something.
+fn assert_due<D: Desk>(
+    rt: &impl Abort,
+    alloc: Global,
+    end: &mut End<D>,
+    told: Told,
+    due: Option<u64>,
+) -> Result<(), Fail> {
+    tell_well(alloc, end, told)?;
+    assert_eq!(rt; end.next_due(), due);
+    Ok(())
+}
+
 #[test]
 fn when_an_end_is_due(rt: HostRuntime) -> Result<(), Fail> {
     let alloc = rt.alloc();
     let given = settings(Role::Host, Side::Active, 256).ok_or("the settings")?;
     let mut end = end_of(alloc, given, HostDesk, 1);
     for (told, due) in DUE {
-        tell(alloc, &mut end, &input_of(alloc, *told)?)?;
-        assert_eq!(rt; end.next_due(), *due);
+        assert_due(&rt, alloc, &mut end, *told, *due)?;
     }
     Ok(())
 }

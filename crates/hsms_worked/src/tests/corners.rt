@@ -4,7 +4,7 @@ use super::{
     CONNECTED, CONNECTING, Case, Comes, Linktest, Octets, SELECT, SELECTED, Send, Separate, Start,
     Tick,
 };
-use crate::EndFault;
+use hsms_ends::EndFault;
 use hsms_machine::{Role, Side};
 
 pub const CORNERS: &[Case] = &[

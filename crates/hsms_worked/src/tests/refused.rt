@@ -3,7 +3,7 @@
 use super::{
     AllocError, Fail, Global, HostDesk, Message, Role, Settings, Side, Store, equipment, settings,
 };
-use crate::{Scripted, ServeFault, Served, Step, serve};
+use hsms_ends::{Scripted, ServeFault, Served, Step, serve};
 use hsms_log::{Verdict, judge};
 use std::process::Abort;
 
@@ -114,17 +114,13 @@ fn calls_of(rt: &impl Abort, case: &Connection, log: &[u8], taken: &[u8]) -> usi
     calls
 }
 
-/// The log has the entries of the calls before the refused one, and passes the audit. Where the test's own memory is
-/// refused, it has nothing to say.
-fn assert_log_of_calls(rt: &impl Abort, alloc: Global, case: &Connection) -> Result<(), Fail> {
-    let settings = settings(case.role, case.side, 1_048_576).ok_or("the settings")?;
-    let room = vec![in alloc; 0u8; 400];
-    let (Ok(mut link), Ok(room)) = (link_of(alloc, case), room) else {
-        return Ok(());
-    };
-    let mut log = Store::new(room, 400, u64::MAX);
-    let answer = served(alloc, case, settings, &mut link, &mut log);
-    let calls = calls_of(rt, case, log.written(), link.taken());
+/// All calls were served, or the one after so many of them was refused memory.
+fn assert_answer(
+    rt: &impl Abort,
+    case: &Connection,
+    answer: Result<Served, ServeFault>,
+    calls: usize,
+) {
     match answer {
         Ok(served) => {
             assert_eq!(rt; (served.entries, served.refused), (7, 0));
@@ -135,11 +131,39 @@ fn assert_log_of_calls(rt: &impl Abort, alloc: Global, case: &Connection) -> Res
             assert!(rt; calls < case.log.len());
         }
     }
+}
+
+fn assert_not_failing(rt: &impl Abort, alloc: Global, log: &[u8]) {
+    let verdict = judge(alloc, log);
+    assert!(rt; !matches!(verdict, Ok(Verdict::Fail { .. })));
+}
+
+/// The log has the entries of the calls before the refused one, and passes the audit.
+fn judge_calls(
+    rt: &impl Abort,
+    alloc: Global,
+    case: &Connection,
+    link: &mut Scripted,
+    log: &mut Store,
+) -> Result<(), Fail> {
+    let settings = settings(case.role, case.side, 1_048_576).ok_or("the settings")?;
+    let answer = served(alloc, case, settings, link, log);
+    let calls = calls_of(rt, case, log.written(), link.taken());
+    assert_answer(rt, case, answer, calls);
     if calls > 0 {
-        let verdict = judge(alloc, log.written());
-        assert!(rt; !matches!(verdict, Ok(Verdict::Fail { .. })));
+        assert_not_failing(rt, alloc, log.written());
     }
     Ok(())
+}
+
+/// Where the test's own memory is refused, it has nothing to say.
+fn assert_log_of_calls(rt: &impl Abort, alloc: Global, case: &Connection) -> Result<(), Fail> {
+    let room = vec![in alloc; 0u8; 400];
+    let (Ok(mut link), Ok(room)) = (link_of(alloc, case), room) else {
+        return Ok(());
+    };
+    let mut log = Store::new(room, 400, u64::MAX);
+    judge_calls(rt, alloc, case, &mut link, &mut log)
 }
 
 #[test]

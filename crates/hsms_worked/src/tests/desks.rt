@@ -42,6 +42,12 @@ fn words_of(alloc: Global, answer: Answer) -> Result<String, Fail> {
     }
 }
 
+/// What a desk says to a message.
+fn said_by<D: Desk>(alloc: Global, desk: &D, text: &str) -> Result<String, Fail> {
+    let message = read(alloc, text.as_bytes(), 100)?;
+    words_of(alloc, desk.answer(alloc, &message)?)
+}
+
 fn assert_says<D: Desk>(
     rt: &impl Abort,
     alloc: Global,
@@ -49,8 +55,7 @@ fn assert_says<D: Desk>(
     text: &str,
     want: &str,
 ) -> Result<(), Fail> {
-    let message = read(alloc, text.as_bytes(), 100)?;
-    let words = words_of(alloc, desk.answer(alloc, &message)?)?;
+    let words = said_by(alloc, desk, text)?;
     assert_eq!(rt; words.as_str(), want, "{text}");
     Ok(())
 }

@@ -3,8 +3,8 @@
 ghost use Rattle.std.specs.Prelude.{◌<◌};
 
 use super::connection::{EQUIPMENT_LINE, HOST_LINE, answer_of, audited, log_of, settings_of};
-use super::{Abort, Fail, Global, Role, Send, Separate, Store, Told, octets_of};
-use crate::{Scripted, ServeFault, Served, Step};
+use super::{Abort, Fail, Global, Role, Send, Separate, Store, Told, assert_octets, octets_of};
+use hsms_ends::{Scripted, ServeFault, Served, Step};
 use secs_text::read;
 
 /// A connection: what the peer says, and what is to come of it.
@@ -246,7 +246,7 @@ fn text_of(alloc: Global, case: &Connection) -> Result<Vec<u8>, Fail> {
 /// The log of a connection is what it is to be, and passes the audit, unless a write to it failed.
 fn judge_log(rt: &impl Abort, alloc: Global, case: &Connection, log: &Store) -> Result<(), Fail> {
     let text = text_of(alloc, case)?;
-    assert_eq!(rt; log.written(), text.as_slice(), "{}", case.name);
+    assert_octets(rt, log.written(), text.as_slice(), case.name);
     if case.answer != Err(ServeFault::Log) {
         audited(alloc, log.written())?;
     }
@@ -261,49 +261,89 @@ fn judge_link(
     link: &Scripted,
 ) -> Result<(), Fail> {
     let sent = octets_of_all(alloc, case.sent)?;
-    assert_eq!(rt; link.taken(), sent.as_slice(), "{}", case.name);
+    assert_octets(rt, link.taken(), sent.as_slice(), case.name);
     Ok(())
 }
 
-/// Serves a connection, and tells until when the last wait was asked to wait. Want of memory ends the test.
+/// What is answered to a connection over this link with this log. Want of memory ends the test.
+fn answer_to(
+    alloc: Global,
+    case: &Connection,
+    link: &mut Scripted,
+    log: &mut Store,
+) -> Result<Result<Served, ServeFault>, Fail> {
+    let script = script_of(alloc, case.script)?;
+    let settings = settings_of(case.role).ok_or("the settings")?;
+    match answer_of(alloc, link, log, settings, &script, case.turns)? {
+        Err(ServeFault::Memory) => Err(ServeFault::Memory.into()),
+        answer => Ok(answer),
+    }
+}
+
+fn assert_answer(rt: &impl Abort, case: &Connection, answer: Result<Served, ServeFault>) {
+    assert_eq!(rt; answer, case.answer, "{}", case.name);
+}
+
+fn assert_until(rt: &impl Abort, case: &Connection, until: Option<u64>, want: Option<u64>) {
+    assert_eq!(rt; until, want, "{}", case.name);
+}
+
+/// Serves a connection, and tells until when the last wait was asked to wait.
+fn judge_connection(
+    rt: &impl Abort,
+    alloc: Global,
+    case: &Connection,
+    link: &mut Scripted,
+    log: &mut Store,
+) -> Result<Option<u64>, Fail> {
+    assert_answer(rt, case, answer_to(alloc, case, link, log)?);
+    judge_log(rt, alloc, case, log)?;
+    judge_link(rt, alloc, case, link)?;
+    Ok(link.until())
+}
+
+/// A connection that is served moves so many octets a call, and until then its last wait was asked to wait.
 fn judge_served(
     rt: &impl Abort,
     alloc: Global,
     case: &Connection,
     piece: usize,
-) -> Result<Option<u64>, Fail>
+    until: Option<u64>,
+) -> Result<(), Fail>
     requires { 0 < piece }
 {
-    let script = script_of(alloc, case.script)?;
     let mut link = link_of(alloc, case, piece)?;
     let mut log = log_of(alloc, case.room, 4096, u64::MAX)?;
-    let settings = settings_of(case.role).ok_or("the settings")?;
-    let answer = answer_of(alloc, &mut link, &mut log, settings, &script, case.turns)?;
-    if answer == Err(ServeFault::Memory) {
-        return Err(ServeFault::Memory.into());
-    }
-    assert_eq!(rt; answer, case.answer, "{}", case.name);
-    judge_log(rt, alloc, case, &log)?;
-    judge_link(rt, alloc, case, &link)?;
-    Ok(link.until())
+    let last = judge_connection(rt, alloc, case, &mut link, &mut log)?;
+    assert_until(rt, case, last, until);
+    Ok(())
 }
 
 #[test]
 fn connections_are_served(rt: HostRuntime) -> Result<(), Fail> {
     for case in CONNECTIONS {
-        let until = judge_served(&rt, rt.alloc(), case, 4096)?;
-        assert_eq!(rt; until, case.until, "{}", case.name);
+        judge_served(&rt, rt.alloc(), case, 4096, case.until)?;
     }
     Ok(())
+}
+
+fn judge_pieces(
+    rt: &impl Abort,
+    alloc: Global,
+    piece: usize,
+    until: Option<u64>,
+) -> Result<(), Fail>
+    requires { 0 < piece }
+{
+    judge_served(rt, alloc, &PASSIVE, piece, until)
 }
 
 /// Where a message came in part, a wait lasts until T8 is past.
 #[test]
 fn pieces_do_not_matter(rt: HostRuntime) -> Result<(), Fail> {
     let alloc = rt.alloc();
-    assert_eq!(rt; judge_served(&rt, alloc, &PASSIVE, 1)?, Some(5001));
-    assert_eq!(rt; judge_served(&rt, alloc, &PASSIVE, 3)?, Some(5001));
-    assert_eq!(rt; judge_served(&rt, alloc, &PASSIVE, 14)?, None);
-    assert_eq!(rt; judge_served(&rt, alloc, &PATIENT, 1)?, Some(5001));
-    Ok(())
+    judge_pieces(&rt, alloc, 1, Some(5001))?;
+    judge_pieces(&rt, alloc, 3, Some(5001))?;
+    judge_pieces(&rt, alloc, 14, None)?;
+    judge_served(&rt, alloc, &PATIENT, 1, Some(5001))
 }

@@ -1,0 +1,163 @@
+//! The link in memory: its clock, its waits, its room and its fuse.
+
+ghost use Rattle.std.specs.Prelude.{◌<◌};
+
+use super::assert_octets;
+use hsms_ends::{Got, Link, LinkFault, Scripted};
+use std::alloc::{AllocError, Global};
+use std::process::Abort;
+use std::test::Fail;
+
+/// A link with these moments.
+fn clock(alloc: Global, moments: &[u64]) -> Result<Scripted, AllocError> {
+    let moments = Vec::from_slice(alloc, moments)?;
+    Ok(Scripted::new(moments, Vec::new(alloc), Vec::new(alloc), 1, u64::MAX))
+}
+
+/// A link with these waits, a room of four octets, and a clock that stands at 0.
+fn peer(
+    alloc: Global,
+    waits: &[Option<&[u8]>],
+    piece: usize,
+    fuse: u64,
+) -> Result<Scripted, AllocError>
+    requires { 0 < piece }
+{
+    let mut said = Vec::new(alloc);
+    for wait in waits {
+        match wait {
+            Some(octets) => said.push(Some(Vec::from_slice(alloc, octets)?))?,
+            None => said.push(None)?,
+        }
+    }
+    let room = vec![in alloc; 0u8; 4]?;
+    Ok(Scripted::new(Vec::new(alloc), said, room, piece, fuse))
+}
+
+/// Waits with room for three octets, and looks at the answer and the octets that came.
+fn assert_wait(rt: &impl Abort, link: &mut Scripted, want: Got, octets: &[u8]) {
+    let mut into = [b'.'; 3];
+    assert_eq!(rt; link.wait(None, &mut into), Ok(want));
+    assert!(rt; into.starts_with(octets));
+}
+
+/// The next moment of a link.
+fn assert_now(rt: &impl Abort, link: &mut Scripted, want: u64) {
+    assert_eq!(rt; link.now(), want);
+}
+
+/// Sends octets, and looks at the answer.
+fn assert_send(
+    rt: &impl Abort,
+    link: &mut Scripted,
+    octets: &[u8],
+    want: Result<usize, LinkFault>,
+) {
+    assert_eq!(rt; link.send(octets), want);
+}
+
+/// Waits until a moment, which fails or doesn't, and is noted.
+fn assert_until(rt: &impl Abort, link: &mut Scripted, until: Option<u64>, fails: bool) {
+    let answer = link.wait(until, &mut [0u8; 3]);
+    assert!(rt; answer.is_err() == fails);
+    assert_eq!(rt; link.until(), until);
+}
+
+fn assert_taken(rt: &impl Abort, link: &Scripted, want: &[u8]) {
+    assert_octets(rt, link.taken(), want, "taken");
+}
+
+fn assert_moments(rt: &impl Abort, link: &mut Scripted, moments: &[u64]) {
+    for moment in moments {
+        assert_now(rt, link, *moment);
+    }
+}
+
+#[test]
+fn moments_in_order(rt: HostRuntime) -> Result<(), Fail> {
+    assert_moments(&rt, &mut clock(rt.alloc(), &[3, 7, 5])?, &[3, 7, 5, 5, 5]);
+    assert_moments(&rt, &mut clock(rt.alloc(), &[])?, &[0, 0]);
+    Ok(())
+}
+
+const WAITS: &[Option<&[u8]>] = &[
+    Some(b""),
+    Some(b"abcd"),
+    None,
+    Some(b""),
+    Some(b""),
+    Some(b"ef"),
+];
+
+/// What waits answer, and what begins their octets then.
+const WAITED: &[(Got, &[u8])] = &[
+    (Got::Octets(3), b"abc"),
+    (Got::Octets(1), b"d"),
+    (Got::Quiet, b"..."),
+    (Got::Octets(2), b"ef."),
+    (Got::Closed, b"..."),
+    (Got::Closed, b"..."),
+];
+
+/// The same where a wait gives one octet at most.
+const WAITED_FOR_ONE: &[(Got, &[u8])] = &[
+    (Got::Octets(1), b"a"),
+    (Got::Octets(1), b"b"),
+    (Got::Octets(1), b"c"),
+    (Got::Octets(1), b"d"),
+    (Got::Quiet, b"..."),
+    (Got::Octets(1), b"e.."),
+];
+
+fn assert_waits(rt: &impl Abort, link: &mut Scripted, waited: &[(Got, &[u8])]) {
+    for (want, octets) in waited {
+        assert_wait(rt, link, *want, octets);
+    }
+}
+
+#[test]
+fn waits_in_order(rt: HostRuntime) -> Result<(), Fail> {
+    assert_waits(&rt, &mut peer(rt.alloc(), WAITS, 10, u64::MAX)?, WAITED);
+    assert_waits(
+        &rt,
+        &mut peer(rt.alloc(), WAITS, 1, u64::MAX)?,
+        WAITED_FOR_ONE,
+    );
+    Ok(())
+}
+
+#[test]
+fn room_and_pieces(rt: HostRuntime) -> Result<(), Fail> {
+    let mut link = peer(rt.alloc(), &[], 3, u64::MAX)?;
+    assert_taken(&rt, &link, b"");
+    assert_send(&rt, &mut link, b"abcde", Ok(3));
+    assert_send(&rt, &mut link, b"", Ok(0));
+    assert_send(&rt, &mut link, b"fg", Ok(1));
+    assert_taken(&rt, &link, b"abcf");
+    assert_send(&rt, &mut link, b"g", Err(LinkFault));
+    assert_send(&rt, &mut link, b"", Err(LinkFault));
+    assert_taken(&rt, &link, b"abcf");
+    Ok(())
+}
+
+#[test]
+fn waits_and_sends_share_a_fuse(rt: HostRuntime) -> Result<(), Fail> {
+    let mut link = peer(rt.alloc(), &[Some(b"ab")], 1, 2)?;
+    assert_wait(&rt, &mut link, Got::Octets(1), b"a");
+    assert_send(&rt, &mut link, b"x", Ok(1));
+    assert_now(&rt, &mut link, 0);
+    assert_send(&rt, &mut link, b"y", Err(LinkFault));
+    assert_until(&rt, &mut link, None, true);
+    assert_taken(&rt, &link, b"x");
+    Ok(())
+}
+
+#[test]
+fn until_is_noted(rt: HostRuntime) -> Result<(), Fail> {
+    let mut link = peer(rt.alloc(), &[], 1, 2)?;
+    assert!(rt; link.until().is_none());
+    for until in [Some(9), None, Some(8)] {
+        assert_until(&rt, &mut link, until, until == Some(8));
+    }
+    Ok(())
+}

@@ -1,0 +1,113 @@
+//! A host and an equipment talk over memory, one octet at a time.
+
+use super::party::Party;
+use super::{
+    Abort, Desk, EquipmentDesk, Fail, Global, HostDesk, Input, Linktest, Role, Send, Separate,
+    Side, Told, assert_octets, equipment, input_of, settings,
+};
+
+const HOST_LOG: &str = "hsms-log 1 host active 0 45000 6000 10000 5000 1048576 32
+0 up
+0 > ffff0000000100000001
+2 < ffff0000000200000001
+2 > 0000810d0000000000020100
+4 < 0000010e0000000000020102210100010241014d410131
+4 > 0000821900000000000321020102
+6 < 0000021a00000000000321020102
+6 > ffff0000000500000004
+8 < ffff0000000600000004
+8 > ffff0000000900000005
+8 down
+";
+
+const EQUIPMENT_LOG: &str = "hsms-log 1 equipment passive 0 45000 6000 10000 5000 1048576 32
+0 up
+1 < ffff0000000100000001
+1 > ffff0000000200000001
+3 < 0000810d0000000000020100
+3 > 0000010e0000000000020102210100010241014d410131
+5 < 0000821900000000000321020102
+5 > 0000021a00000000000321020102
+7 < ffff0000000500000004
+7 > ffff0000000600000004
+9 < ffff0000000900000005
+9 down
+";
+
+const SAID: &[Told] = &[
+    Send("S1F13 W <L> ."),
+    Send("S2F25 W <B 0x01 0x02> ."),
+    Linktest,
+    Separate,
+];
+
+/// What one end sent comes to the other one, at this time.
+fn pass<D: Desk + Drop, E: Desk + Drop>(
+    alloc: Global,
+    from: &mut Party<D>,
+    to: &mut Party<E>,
+    now: u64,
+) -> Result<(), Fail> {
+    let octets = from.take(alloc, 100)?;
+    to.tell(alloc, &Input::Tick(now))?;
+    to.hear(alloc, &octets)
+}
+
+/// What is said goes to and fro, a millisecond each way.
+fn talk<D: Desk + Drop, E: Desk + Drop>(
+    alloc: Global,
+    host: &mut Party<D>,
+    tool: &mut Party<E>,
+) -> Result<(), Fail> {
+    tool.tell(alloc, &Input::Start(0))?;
+    host.tell(alloc, &Input::Start(0))?;
+    let mut now = 0u64;
+    for told in SAID {
+        now = now.saturating_add(1);
+        pass(alloc, host, tool, now)?;
+        now = now.saturating_add(1);
+        pass(alloc, tool, host, now)?;
+        host.tell(alloc, &input_of(alloc, *told)?)?;
+    }
+    pass(alloc, host, tool, 9)
+}
+
+/// The log of a party is this text of 11 entries, and passes the audit.
+fn assert_log<D: Desk + Drop>(
+    rt: &impl Abort,
+    alloc: Global,
+    party: &Party<D>,
+    text: &str,
+) -> Result<(), Fail> {
+    assert_octets(rt, party.log.as_slice(), text.as_bytes(), "the log");
+    assert_eq!(rt; party.audited(alloc)?.entries, 11);
+    Ok(())
+}
+
+fn judge_talk<D: Desk + Drop, E: Desk + Drop>(
+    rt: &impl Abort,
+    alloc: Global,
+    host: &mut Party<D>,
+    tool: &mut Party<E>,
+) -> Result<(), Fail> {
+    talk(alloc, host, tool)?;
+    assert_log(rt, alloc, host, HOST_LOG)?;
+    assert_log(rt, alloc, tool, EQUIPMENT_LOG)
+}
+
+fn host_of(alloc: Global) -> Result<Party<HostDesk>, Fail> {
+    let given = settings(Role::Host, Side::Active, 1_048_576).ok_or("the host's")?;
+    Party::new(alloc, given, HostDesk, 1)
+}
+
+fn tool_of(alloc: Global) -> Result<Party<EquipmentDesk>, Fail> {
+    let given = settings(Role::Equipment, Side::Passive, 1_048_576).ok_or("the tool's")?;
+    Party::new(alloc, given, equipment(alloc)?, 1)
+}
+
+#[test]
+fn two_ends_talk(rt: HostRuntime) -> Result<(), Fail> {
+    let mut host = host_of(rt.alloc())?;
+    let mut tool = tool_of(rt.alloc())?;
+    judge_talk(&rt, rt.alloc(), &mut host, &mut tool)
+}
