@@ -37,7 +37,8 @@ const BLOCK: usize = 4096;
 ///   (SEMI E5, SEMI E37). After a Separate.req, a cut or a `down` nothing is overdue, and a log may end while replies
 ///   are awaited.
 /// - *passes*, *names the first line, and why*: `Passes` and `Fails` of `specs/Verdict.antt`. Each text has exactly one
-///   verdict: `laws::each_text_has_one_verdict`.
+///   verdict: `laws::each_text_has_one_verdict`. One of version 1 has that which it has where nothing is said of
+///   connections: `laws::version_one_keeps_verdicts`.
 ///
 /// A line is judged as soon as it has ended or is too long. Each read is into a block of 4,096 octets, none is made
 /// after a failing line was found, and of the log no more is held than that block, a line that goes on, and the octets

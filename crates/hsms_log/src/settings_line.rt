@@ -24,8 +24,8 @@ struct Fields {
     depth: u8,
 }
 
-/// The settings that the first line of a log spells, or None where it spells none: other words, a number out of its
-/// limits, or more than 256 octets. The line is given without its end.
+/// The settings that the first line of a log spells, or None where it spells none: other words, a version other than 1
+/// and 2, a number out of its limits, or more than 256 octets. The line is given without its end.
 pub fn read_settings(line: &[u8]) -> Option<Settings>
     ensures found { IfSome result (SpellsSettings line.now) }
     ensures none { IfNone result ((settings : Parameters) → SpellsSettings line.now settings → ⊥) }

@@ -107,7 +107,7 @@ fn put<W: Sink>(sink: &mut W, octets: &[u8]) -> Result<(), LogFault>
     Ok(())
 }
 
-/// Writes the settings as the first line of a log, with LF.
+/// Writes the settings as the first line of a log of their version, with LF.
 pub fn write_settings<W: Sink>(sink: &mut W, settings: &Settings) -> Result<(), LogFault>
     ensures written { Puts result (W.state sink.old).written (W.state sink.new).written
         (settings_line settings.now ++ 10 ∷ []) }
