@@ -191,17 +191,17 @@ fn assert_lines(
 fn judge_answer(
     rt: &impl Abort,
     alloc: Global,
-    answer: Result<Vec<Entry>, EndFault>,
+    answer: &Result<Vec<Entry>, EndFault>,
     want: Result<&str, EndFault>,
     name: &str,
 ) -> Result<(), Fail> {
     match answer {
         Ok(entries) => match want {
-            Ok(text) => assert_lines(rt, alloc, &entries, text, name),
+            Ok(text) => assert_lines(rt, alloc, entries, text, name),
             Err(_) => Err("a fault was wanted".into()),
         },
         Err(fault) => {
-            assert_fault(rt, Some(fault), want.err(), name);
+            assert_fault(rt, Some(*fault), want.err(), name);
             Ok(())
         }
     }
@@ -224,7 +224,7 @@ fn judge<D: Desk>(
             }
             return Ok(());
         }
-        judge_answer(rt, alloc, answer, *want, case.name)?;
+        judge_answer(rt, alloc, &answer, *want, case.name)?;
     }
     assert_octets(rt, end.pending(), case.pending, case.name);
     Ok(())
@@ -255,19 +255,33 @@ fn judge_all(rt: &impl Abort, alloc: Global, cases: &[Case]) -> Result<(), Fail>
     Ok(())
 }
 
+// Where a constant is used, the check reads all of it.
+
+fn answer_cases() -> &'static [Case] {
+    ANSWERS
+}
+
+fn own_cases() -> &'static [Case] {
+    OWN
+}
+
+fn corner_cases() -> &'static [Case] {
+    CORNERS
+}
+
 #[test]
 fn what_follows_messages(rt: HostRuntime) -> Result<(), Fail> {
-    judge_all(&rt, rt.alloc(), ANSWERS)
+    judge_all(&rt, rt.alloc(), answer_cases())
 }
 
 #[test]
 fn own_messages_and_timers(rt: HostRuntime) -> Result<(), Fail> {
-    judge_all(&rt, rt.alloc(), OWN)
+    judge_all(&rt, rt.alloc(), own_cases())
 }
 
 #[test]
 fn corners_of_an_end(rt: HostRuntime) -> Result<(), Fail> {
-    judge_all(&rt, rt.alloc(), CORNERS)
+    judge_all(&rt, rt.alloc(), corner_cases())
 }
 
 /// The list of a case.
@@ -316,12 +330,16 @@ fn judge_driven(rt: &impl Abort, alloc: Global, case: &Case) -> Result<(), Fail>
     assert_driven(rt, alloc, case, &driven(alloc, case, &inputs)?)
 }
 
-#[test]
-fn sessions_as_lists(rt: HostRuntime) -> Result<(), Fail> {
-    for cases in [ANSWERS, OWN, CORNERS] {
-        for case in cases {
-            judge_driven(&rt, rt.alloc(), case)?;
-        }
+fn judge_all_driven(rt: &impl Abort, alloc: Global, cases: &[Case]) -> Result<(), Fail> {
+    for case in cases {
+        judge_driven(rt, alloc, case)?;
     }
     Ok(())
+}
+
+#[test]
+fn sessions_as_lists(rt: HostRuntime) -> Result<(), Fail> {
+    judge_all_driven(&rt, rt.alloc(), answer_cases())?;
+    judge_all_driven(&rt, rt.alloc(), own_cases())?;
+    judge_all_driven(&rt, rt.alloc(), corner_cases())
 }
