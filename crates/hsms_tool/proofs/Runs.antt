@@ -193,6 +193,11 @@ stops max depth input count (Device word) before left old mid new few (messages,
   ],
 )
 
+-- memory is wanting before the first message
+pub none_begun : (max depth : ℕ) (input : List ℕ) (left written : Option (List ℕ)) → left ≡ Some input → Shows {T = Unit {0}} max depth input (Err Memory) left written written
+none_begun max depth input left written told =
+    stops max depth input 0 Memory left left written written written (omega arith) (begins max depth input left written told) (λ rest is. (all_left rest left is, λ octets same. same))
+
 -- as many messages as the command shows
 pub stops_full : (max depth : ℕ) (input : List ℕ) (count : ℕ) (r : Result (Unit {0}) ToolFault) (before left old new : Option (List ℕ)) → count ≡ 4294967295
     → Begun max depth input count before old new → WhereTold before (λ rest. IsEnded max rest r left)

@@ -15,6 +15,7 @@ mod encoding;
 mod fault;
 mod input;
 mod line;
+mod notation;
 mod options;
 mod script;
 mod service;

@@ -7,7 +7,9 @@ ghost use Rattle.hsms_tool.specs.Show.{Shows, ShowsNext, ReadsNext, IsEnded, Tel
 
 use crate::fault::ToolFault;
 use crate::line::frame_line;
+use crate::notation::Line;
 use hsms_frame::{Frame, ReadFault, Sink, Source, give_all, read_frame};
+use secs_text::Block;
 use std::alloc::Global;
 
 /// Writes the line of each message of the input, in order, up to the end of the input or the first fault.
@@ -38,8 +40,10 @@ pub fn show<R: Source, W: Sink>(
     ensures reads { CountsFailure (codes "Read") result (R.state source.old).failures (R.state source.new).failures }
     ensures writes { CountsFailure (codes "Write") result (W.state sink.old).failures (W.state sink.new).failures }
 {
+    let mut block = Block::new(alloc)?;
+    let mut line = Line::new(alloc);
     for _ in 0..u32::MAX {
-        if !show_next(alloc, source, sink, max, depth)? {
+        if !show_next(alloc, source, sink, &mut line, &mut block, max, depth)? {
             return Ok(());
         }
     }
@@ -64,6 +68,8 @@ fn show_next<R: Source, W: Sink>(
     alloc: Global,
     source: &mut R,
     sink: &mut W,
+    line: &mut Line,
+    block: &mut Block,
     max: u32,
     depth: u8,
 ) -> Result<bool, ToolFault>
@@ -79,8 +85,8 @@ fn show_next<R: Source, W: Sink>(
     let Some(frame) = next_frame(alloc, source, max)? else {
         return Ok(false);
     };
-    let line = frame_line(alloc, &frame, depth)?;
-    put(sink, line.as_bytes())?;
+    let octets = frame_line(alloc, line, block, &frame, depth)?;
+    put(sink, octets)?;
     Ok(true)
 }
 

@@ -1,12 +1,17 @@
 use Rattle.std.proofs.Common.{arith, ◌∙◌}
 use Rattle.std.proofs.lemmas.Result.{err_from_is_err_and}
-use Rattle.hsms_tool.proofs.Runs.{goes_on, ends, input_is_no_write, stops, stops_full}
+use Rattle.hsms_tool.proofs.Runs.{goes_on, none_begun, ends, input_is_no_write, stops, stops_full}
 use Rattle.hsms_tool.proofs.Devices.{of_input, wider}
 use Rattle.hsms_tool.proofs.showing.show.Goals as goal
 
+pub returns-in_err-block-clause-lines : goal.returns-in_err-block-clause-lines
+returns-in_err-block-clause-lines g c = λ input told.
+    let p = err_from_is_err_and c.from_residual.result c.from_residual.ensures.1 in
+    rw (p.1, p.2) (none_begun c.args.max c.args.depth input (g.R.Source.state c.args.source.now).left (g.W.Sink.state c.args.sink.now).written told)
+
 pub returns-in_err-show_next-clause-lines : goal.returns-in_err-show_next-clause-lines
 returns-in_err-show_next-clause-lines g c = λ input told.
-    let p = err_from_is_err_and c.from_residual.result c.from_residual.ensures.1 in
+    let p = err_from_is_err_and c.from_residual-in_err-show_next.result c.from_residual-in_err-show_next.ensures.1 in
     rw (p.1, p.2) (stops _ _ _ c.loop.counter _ _ (g.R.Source.state c.show_next.new.source).left _ _ (g.W.Sink.state c.show_next.new.sink).written (omega arith)
     (c.loop.invariant.0 input told) c.in_err-show_next.ensures.line)
 
@@ -31,7 +36,7 @@ returns-clause-lines g c = λ input told.
 
 pub returns-in_err-show_next-clause-word : goal.returns-in_err-show_next-clause-word
 returns-in_err-show_next-clause-word g c =
-    let p = err_from_is_err_and c.from_residual.result c.from_residual.ensures.1 in
+    let p = err_from_is_err_and c.from_residual-in_err-show_next.result c.from_residual-in_err-show_next.ensures.1 in
     rw (p.1, p.2) (wider _ c.in_err-show_next.ensures.word)
 
 pub returns-clause-word : goal.returns-clause-word
