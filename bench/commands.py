@@ -1,9 +1,10 @@
 #!/usr/bin/env python3
 """How fast the commands are: MB/s of their input in processor time, beside `cat` over the same input in the same run,
-and the most memory that they held.
+the instructions for an octet of it, where valgrind is installed, and the most memory that they held.
 
-Use: bench/commands.py [MEGABYTES], 100 if left out. It runs what `rt ci` or the first use of `hsms` has built. The
-texts of `encode` are kept below its limit of 67,108,864 octets.
+Use: bench/commands.py [MEGABYTES [WORD..]], 100 if left out; with words only the inputs in whose description one
+stands. It runs what `rt ci` or the first use of `hsms` has built. The texts of `encode` are kept below its limit of
+67,108,864 octets. Instructions are counted over 3 MB.
 """
 import os
 import sys
@@ -47,6 +48,28 @@ def notation(size):
     return unit * (size // len(unit))
 
 
+def nested(size):
+    """Data messages whose text is a number in 31 lists of one element."""
+    unit = frame("00008101000000000002", b"\x01\x01" * 31 + b"\xa5\x01\x07")
+    return unit * (size // len(unit))
+
+
+def empty_lists(size):
+    """Data messages whose text is a list of 255 lists, of which each holds none."""
+    unit = frame("00008101000000000002", b"\x01\xff" + b"\x01\x00" * 255)
+    return unit * (size // len(unit))
+
+
+def small_notation(size):
+    unit = b"S1F1 W .\nS1F2 <L> .\nS2F17 W .\n"
+    return unit * (size // len(unit))
+
+
+def nested_notation(size):
+    unit = b"S1F1 W " + b"<L " * 31 + b"<U1 7>" + b">" * 31 + b" .\n"
+    return unit * (size // len(unit))
+
+
 def log(size):
     lines = [
         "hsms-log 1 equipment passive 0 45000 6000 10000 5000 1048576 32",
@@ -68,24 +91,48 @@ def log(size):
 
 def main():
     size = int(sys.argv[1] if len(sys.argv) > 1 else 100) * MB
+    words = sys.argv[2:]
     bare = frame("ffff0000000500000003")
     runs = [
         ("show", "ordinary traffic", stream, size),
         ("show", "bare headers", lambda size: bare * (size // len(bare)), size),
+        ("show", "lists nested to 32", nested, size),
+        ("show", "lists of empty lists", empty_lists, size),
         ("encode", "event reports", notation, min(size, 67 * MB)),
+        ("encode", "small messages", small_notation, min(size, 67 * MB)),
+        ("encode", "lists nested to 32", nested_notation, min(size, 67 * MB)),
         ("audit", "ordinary traffic", log, size),
     ]
     with tempfile.TemporaryDirectory(prefix="hsms-bench-") as room:
         runner = Runner(room)
-        path = f"{room}/input"
         for command, what, make, size in runs:
-            write(path, lambda size: [make(size)], size)
-            given = os.path.getsize(path)
-            copied, _ = runner.run(["cat"], path)
-            taken, held = runner.run([PROGRAM, command], path)
-            lines = f", {lines_of(path) / taken / 1e6:.2f} million lines/s" if command == "audit" else ""
-            print(f"hsms {command}, {what}, {given // MB} MB: {given / MB / taken:.0f} MB/s{lines}, ", end="")
-            print(f"{taken / max(copied, 1e-3):.0f} times cat, {held:.0f} MB held")
+            if not words or any(word in f"{command}, {what}" for word in words):
+                print(told(runner, command, what, make, size), flush=True)
+
+
+def told(runner, command, what, make, size):
+    """The line that tells of a command over an input."""
+    path = f"{runner.room}/input"
+    write(path, lambda size: [make(size)], size)
+    given = os.path.getsize(path)
+    copied, _ = runner.run(["cat"], path)
+    taken, held = runner.run([PROGRAM, command], path)
+    lines = f", {lines_of(path) / taken / 1e6:.2f} million lines/s" if command == "audit" else ""
+    speed = f"{given / MB / taken:.0f} MB/s{lines}, {taken / max(copied, 1e-3):.0f} times cat"
+    return f"hsms {command}, {what}, {given // MB} MB: {speed}, {per_octet(runner, command, make)}{held:.0f} MB held"
+
+
+def per_octet(runner, command, make):
+    """How many instructions an octet takes: those of two inputs, one twice as long as the other, less one another."""
+    path, counts = f"{runner.room}/small", []
+    for size in (3 * MB, 6 * MB):
+        write(path, lambda size: [make(size)], size)
+        count = runner.instructions([PROGRAM, command], path)
+        if count is None:
+            return ""
+        counts.append((count, os.path.getsize(path)))
+    (few, short), (many, long) = counts
+    return f"{(many - few) / (long - short):.1f} instructions an octet, "
 
 
 if __name__ == "__main__":

@@ -39,6 +39,22 @@ struct Told {
     accepted: Vec<u8>,
 }
 
+impl Told {
+    /// Adds what comes of an input that isn't refused.
+    fn accept(&mut self, line: &[u8]) -> Result<(), anyhow::Error> {
+        self.lines.extend_from_slice(line)?;
+        self.accepted.extend_from_slice(line)?;
+        Ok(())
+    }
+
+    /// Adds why an input is refused.
+    fn refuse(&mut self, alloc: Global, fault: &EndFault) -> Result<(), anyhow::Error> {
+        let line = format!(in alloc; "refused {fault:?}\n")?;
+        self.lines.extend_from_slice(line.as_bytes())?;
+        Ok(())
+    }
+}
+
 /// Tells an end each input of a list.
 fn tell_all<D: Desk + Drop>(
     alloc: Global,
@@ -47,25 +63,38 @@ fn tell_all<D: Desk + Drop>(
     list: &List,
 ) -> Result<Told, anyhow::Error> {
     let mut end = End::new(alloc, settings, desk, list.first_system);
-    let mut lines = Vec::new(alloc);
-    let mut accepted = Vec::new(alloc);
-    for input in &list.inputs {
-        match tell(alloc, &mut end, input) {
-            Ok(entries) => {
-                let new = lines_of(alloc, &entries)?;
-                lines.extend_from_slice(&new)?;
-                accepted.extend_from_slice(&new)?;
-            }
-            Err(fault) => {
-                let refused = format!(in alloc; "refused {fault:?}\n")?;
-                lines.extend_from_slice(refused.as_bytes())?;
-            }
-        }
+    let mut told = Told {
+        lines: Vec::new(alloc),
+        accepted: Vec::new(alloc),
+    };
+    tell_each(alloc, &mut end, &mut told, &list.inputs)?;
+    Ok(told)
+}
+
+/// Tells an end inputs, and adds what comes of them, and last what is pending.
+fn tell_each<D: Desk>(
+    alloc: Global,
+    end: &mut End<D>,
+    told: &mut Told,
+    inputs: &[Input],
+) -> Result<(), anyhow::Error> {
+    for input in inputs {
+        tell_and_add(alloc, end, told, input)?;
     }
-    let pending = pending_line(alloc, end.pending())?;
-    lines.extend_from_slice(&pending)?;
-    accepted.extend_from_slice(&pending)?;
-    Ok(Told { lines, accepted })
+    told.accept(&pending_line(alloc, end.pending())?)
+}
+
+/// Tells an end one input, and adds what comes of it.
+fn tell_and_add<D: Desk>(
+    alloc: Global,
+    end: &mut End<D>,
+    told: &mut Told,
+    input: &Input,
+) -> Result<(), anyhow::Error> {
+    match tell(alloc, end, input) {
+        Ok(entries) => told.accept(&lines_of(alloc, &entries)?),
+        Err(fault) => told.refuse(alloc, &fault),
+    }
 }
 
 /// Tells an end one input.
