@@ -1,11 +1,15 @@
 mod cases;
 mod connections;
 
+ghost use Rattle.std.specs.Prelude.{◌<◌};
+
 use super::*;
-use cases::{CASES, REPLY, SELECTED};
+use cases::{CASES, Case, ENTRIES, FIRST_LINES, REPLY, SELECTED, WRITTEN};
+use connections::{TEXTS, Text};
 use hsms_frame::{Feed, Store};
-use hsms_machine::Rule;
+use hsms_machine::{Entry, Rule, Settings};
 use std::alloc::{AllocError, Global};
+use std::process::Abort;
 use std::test::Fail;
 
 const SMALL: &str = "hsms-log 1 host active 0 45000 6000 10000 5000 256 32\n";
@@ -26,48 +30,78 @@ fn told(answer: Result<Verdict, AuditFault>) -> Result<Result<Verdict, AuditFaul
     }
 }
 
+fn assert_answer(
+    rt: &impl Abort,
+    answer: Result<Verdict, AuditFault>,
+    want: Result<Verdict, AuditFault>,
+    name: &str,
+) {
+    assert_eq!(rt; answer, want, "{name}");
+}
+
+/// What an audit answers of a log that comes in pieces of so many octets.
+fn judge_pieces(rt: &impl Abort, alloc: Global, case: &Case, piece: usize) -> Result<(), Fail>
+    requires { 0 < piece }
+{
+    let mut feed = Feed::new(joined(alloc, &[case.after, case.lines])?, piece, u64::MAX);
+    let answer = told(audit(alloc, &mut feed))?;
+    assert_answer(rt, answer, Ok(case.verdict), case.name);
+    Ok(())
+}
+
+fn judge_case(rt: &impl Abort, alloc: Global, case: &Case) -> Result<(), Fail> {
+    for piece in [1, 2, 3, 4096] {
+        judge_pieces(rt, alloc, case, piece)?;
+    }
+    Ok(())
+}
+
 #[test]
 fn judges_each_log(rt: HostRuntime) -> Result<(), Fail> {
     for case in CASES {
-        for piece in [1, 2, 3, 4096] {
-            let text = joined(rt.alloc(), &[case.after, case.lines])?;
-            let mut feed = Feed::new(text, piece, u64::MAX);
-            assert_eq!(rt;
-                told(audit(rt.alloc(), &mut feed))?,
-                Ok(case.verdict),
-                "{}",
-                case.name
-            );
-        }
+        judge_case(&rt, rt.alloc(), case)?;
     }
+    Ok(())
+}
+
+fn judge_text(rt: &impl Abort, alloc: Global, text: &Text) -> Result<(), Fail> {
+    let octets = joined(alloc, text.parts)?;
+    let verdict = judge(alloc, &octets)?;
+    assert_answer(rt, Ok(verdict), Ok(text.verdict), text.name);
     Ok(())
 }
 
 #[test]
 fn judges_each_log_of_several_connections(rt: HostRuntime) -> Result<(), Fail> {
-    for text in connections::TEXTS {
-        let octets = joined(rt.alloc(), text.parts)?;
-        assert_eq!(rt; judge(rt.alloc(), &octets)?, text.verdict, "{}", text.name);
+    for text in TEXTS {
+        judge_text(&rt, rt.alloc(), text)?;
     }
+    Ok(())
+}
+
+/// A source that gives pieces of so many octets, and fails after so many calls, has this fault within so many reads.
+fn judge_fault(
+    rt: &impl Abort,
+    alloc: Global,
+    piece: usize,
+    fuse: u64,
+    reads: u32,
+    fault: AuditFault,
+) -> Result<(), Fail>
+    requires { 0 < piece }
+{
+    let mut feed = Feed::new(joined(alloc, &[SELECTED, REPLY])?, piece, fuse);
+    let answer = told(audit_within(alloc, &mut feed, reads))?;
+    assert_answer(rt, answer, Err(fault), "a fault");
     Ok(())
 }
 
 #[test]
 fn tells_each_fault(rt: HostRuntime) -> Result<(), Fail> {
-    let rows = [
-        (1, u64::MAX, 3, AuditFault::Endless),
-        (1, 0, 100, AuditFault::Read),
-        (58, 1, 100, AuditFault::Read),
-    ];
-    for (piece, fuse, reads, fault) in rows {
-        let text = joined(rt.alloc(), &[SELECTED, REPLY])?;
-        let mut feed = Feed::new(text, piece, fuse);
-        assert_eq!(rt;
-            told(audit_within(rt.alloc(), &mut feed, reads))?,
-            Err(fault)
-        );
-    }
-    Ok(())
+    let alloc = rt.alloc();
+    judge_fault(&rt, alloc, 1, u64::MAX, 3, AuditFault::Endless)?;
+    judge_fault(&rt, alloc, 1, 0, 100, AuditFault::Read)?;
+    judge_fault(&rt, alloc, 58, 1, 100, AuditFault::Read)
 }
 
 // The reads after the second fail.
@@ -78,77 +112,171 @@ fn names_a_failing_line_before_a_failing_read(rt: HostRuntime) -> Result<(), Fai
         line: 1,
         why: Why::Unreadable,
     };
-    assert_eq!(rt; told(audit(rt.alloc(), &mut feed))?, Ok(first));
+    let answer = told(audit(rt.alloc(), &mut feed))?;
+    assert_answer(&rt, answer, Ok(first), "a line");
+    Ok(())
+}
+
+const PASSES: Verdict = Verdict::Pass(Summary {
+    entries: 3,
+    sent: 1,
+    taken: 1,
+    discarded: 0,
+    expired: 0,
+    waiting: 0,
+});
+
+const TOO_LONG: Verdict = Verdict::Fail {
+    line: 5,
+    why: Why::Broken(Rule::TooLong),
+};
+
+const UNREADABLE: Verdict = Verdict::Fail {
+    line: 5,
+    why: Why::Unreadable,
+};
+
+/// The front of a line, the octet that fills it, how often, its end, and the verdict.
+type Filled = (&'static str, u8, u32, &'static str, Verdict);
+
+const FILLED: &[Filled] = &[
+    ("#", b'.', 575, "\n", PASSES),
+    ("#", b'.', 575, "\r\n", PASSES),
+    ("#", b'.', 575, "\r\r\n", UNREADABLE),
+    ("#", b'.', 576, "\n", UNREADABLE),
+    ("#", b'.', 576, "", UNREADABLE),
+    ("5 > ", b'0', 572, "\n", TOO_LONG),
+    ("5 > ", b'0', 574, "\n", UNREADABLE),
+];
+
+fn filled(
+    alloc: Global,
+    front: &str,
+    filling: u8,
+    count: u32,
+    end: &str,
+) -> Result<Vec<u8>, AllocError> {
+    let mut text = joined(alloc, &[SMALL, ENTRIES, front])?;
+    for _ in 0..count {
+        text.push(filling)?;
+    }
+    text.extend_from_slice(end.as_bytes())?;
+    Ok(text)
+}
+
+fn assert_filled(
+    rt: &impl Abort,
+    answer: Result<Verdict, AuditFault>,
+    want: Verdict,
+    front: &str,
+    count: u32,
+) {
+    assert_eq!(rt; answer, Ok(want), "{front} {count}");
+}
+
+fn judge_filled(rt: &impl Abort, alloc: Global, row: Filled) -> Result<(), Fail> {
+    let (front, filling, count, end, verdict) = row;
+    let mut feed = Feed::new(filled(alloc, front, filling, count, end)?, 4096, u64::MAX);
+    let answer = told(audit(alloc, &mut feed))?;
+    assert_filled(rt, answer, verdict, front, count);
     Ok(())
 }
 
 // The limit of a later line is 576 octets here.
 #[test]
 fn keeps_to_the_limits_of_lines(rt: HostRuntime) -> Result<(), Fail> {
-    let passes = Verdict::Pass(Summary {
-        entries: 3,
-        sent: 1,
-        taken: 1,
-        discarded: 0,
-        expired: 0,
-        waiting: 0,
-    });
-    let too_long = Verdict::Fail {
-        line: 5,
-        why: Why::Broken(Rule::TooLong),
-    };
-    let unreadable = Verdict::Fail {
-        line: 5,
-        why: Why::Unreadable,
-    };
-    let rows = [
-        ("#", b'.', 575, "\n", passes),
-        ("#", b'.', 575, "\r\n", passes),
-        ("#", b'.', 575, "\r\r\n", unreadable),
-        ("#", b'.', 576, "\n", unreadable),
-        ("#", b'.', 576, "", unreadable),
-        ("5 > ", b'0', 572, "\n", too_long),
-        ("5 > ", b'0', 574, "\n", unreadable),
-    ];
-    for (front, filling, count, end, verdict) in rows {
-        let mut text = joined(rt.alloc(), &[SMALL, cases::ENTRIES, front])?;
-        for _ in 0..count {
-            text.push(filling)?;
-        }
-        text.extend_from_slice(end.as_bytes())?;
-        let mut feed = Feed::new(text, 4096, u64::MAX);
-        assert_eq!(rt;
-            told(audit(rt.alloc(), &mut feed))?,
-            Ok(verdict),
-            "{front} {count}"
-        );
+    for row in FILLED {
+        judge_filled(&rt, rt.alloc(), *row)?;
     }
     Ok(())
 }
 
-#[test]
-fn writes_what_it_reads(rt: HostRuntime) -> Result<(), Fail> {
-    for line in cases::WRITTEN {
-        let Line::Entry(entry) = read_line(rt.alloc(), line.as_bytes(), 256)? else {
-            return Err("an entry".into());
-        };
-        let mut store = Store::new(vec![in rt.alloc(); 0u8; 128]?, 7, u64::MAX);
-        assert!(rt; write_entry(&mut store, &entry).is_ok());
-        let text = joined(rt.alloc(), &[line, "\n"])?;
-        assert_eq!(rt; store.written(), text.as_slice());
+fn assert_written(rt: &impl Abort, store: &Store, octets: &[u8]) {
+    assert_eq!(rt; store.written(), octets);
+}
+
+fn assert_entry(rt: &impl Abort, store: &mut Store, entry: &Entry, line: &[u8]) {
+    assert!(rt; write_entry(store, entry).is_ok());
+    assert_written(rt, store, line);
+}
+
+fn judge_entry(
+    rt: &impl Abort,
+    alloc: Global,
+    entry: &Entry,
+    line: &str,
+) -> Result<(), AllocError> {
+    let text = joined(alloc, &[line, "\n"])?;
+    let mut store = Store::new(vec![in alloc; 0u8; 128]?, 7, u64::MAX);
+    assert_entry(rt, &mut store, entry, &text);
+    Ok(())
+}
+
+fn entry_of(alloc: Global, line: &str) -> Result<Entry, Fail> {
+    match read_line(alloc, line.as_bytes(), 256)? {
+        Line::Entry(entry) => Ok(entry),
+        Line::Nothing => Err("an entry".into()),
     }
-    assert!(rt; matches!(read_line(rt.alloc(), b"# comment", 256), Ok(Line::Nothing)));
-    let late = read_line(rt.alloc(), b"18446744073709551616 up", 256);
-    assert!(rt; matches!(late, Err(LineFault::Unreadable)));
-    for line in cases::FIRST_LINES {
-        let settings = read_settings(line.as_bytes()).ok_or("settings")?;
-        let mut store = Store::new(vec![in rt.alloc(); 0u8; 128]?, 7, u64::MAX);
-        assert!(rt; write_settings(&mut store, &settings).is_ok());
-        let text = joined(rt.alloc(), &[line, "\n"])?;
-        assert_eq!(rt; store.written(), text.as_slice());
-        let mut full = Store::new(vec![in rt.alloc(); 0u8; 4]?, 7, u64::MAX);
-        assert_eq!(rt; write_settings(&mut full, &settings), Err(LogFault::Write));
-        assert_eq!(rt; full.written(), b"hsms".as_slice());
+}
+
+fn judge_line(rt: &impl Abort, alloc: Global, line: &str) -> Result<(), Fail> {
+    let entry = entry_of(alloc, line)?;
+    judge_entry(rt, alloc, &entry, line)?;
+    Ok(())
+}
+
+fn assert_settings(rt: &impl Abort, store: &mut Store, settings: &Settings, line: &[u8]) {
+    assert!(rt; write_settings(store, settings).is_ok());
+    assert_written(rt, store, line);
+}
+
+fn judge_settings(
+    rt: &impl Abort,
+    alloc: Global,
+    settings: &Settings,
+    line: &str,
+) -> Result<(), AllocError> {
+    let text = joined(alloc, &[line, "\n"])?;
+    let mut store = Store::new(vec![in alloc; 0u8; 128]?, 7, u64::MAX);
+    assert_settings(rt, &mut store, settings, &text);
+    Ok(())
+}
+
+fn assert_full(rt: &impl Abort, store: &mut Store, settings: &Settings) {
+    assert!(rt; write_settings(store, settings) == Err(LogFault::Write));
+    assert_written(rt, store, b"hsms");
+}
+
+fn judge_first_line(rt: &impl Abort, alloc: Global, line: &str) -> Result<(), Fail> {
+    let settings = read_settings(line.as_bytes()).ok_or("settings")?;
+    judge_settings(rt, alloc, &settings, line)?;
+    let mut full = Store::new(vec![in alloc; 0u8; 4]?, 7, u64::MAX);
+    assert_full(rt, &mut full, &settings);
+    Ok(())
+}
+
+fn judge_first_lines(rt: &impl Abort, alloc: Global) -> Result<(), Fail> {
+    for line in FIRST_LINES {
+        judge_first_line(rt, alloc, line)?;
     }
     Ok(())
+}
+
+fn assert_nothing(rt: &impl Abort, alloc: Global, line: &[u8]) {
+    assert!(rt; matches!(read_line(alloc, line, 256), Ok(Line::Nothing)));
+}
+
+fn assert_unreadable(rt: &impl Abort, alloc: Global, line: &[u8]) {
+    assert!(rt; matches!(read_line(alloc, line, 256), Err(LineFault::Unreadable)));
+}
+
+#[test]
+fn writes_what_it_reads(rt: HostRuntime) -> Result<(), Fail> {
+    let alloc = rt.alloc();
+    for line in WRITTEN {
+        judge_line(&rt, alloc, line)?;
+    }
+    assert_nothing(&rt, alloc, b"# comment");
+    assert_unreadable(&rt, alloc, b"18446744073709551616 up");
+    judge_first_lines(&rt, alloc)
 }

@@ -1,6 +1,7 @@
 use super::*;
 use secs_item::{Item, ItemFault};
-use std::alloc::Global;
+use std::alloc::{AllocError, Global};
+use std::process::Abort;
 use std::test::Fail;
 
 /// The fault of a text that is read as one message.
@@ -12,112 +13,175 @@ fn fault_of(alloc: Global, text: &[u8], depth: u8) -> Result<Option<TextFault>, 
     }
 }
 
+/// A text, how deep it may nest, and its fault.
+const FAULTS: &[(&str, u8, TextFault)] = &[
+    ("S1F1 W <U1 256> .", 32, TextFault::Number { at: 11 }),
+    ("S1F1 <B [2] 0x00> .", 32, TextFault::Count { at: 8 }),
+    ("S1F1", 32, TextFault::Syntax { at: 4 }),
+    ("S1F1  ", 32, TextFault::Syntax { at: 6 }),
+    ("S128F1 .", 32, TextFault::Number { at: 0 }),
+    ("S1F1 <L <L>> .", 1, TextFault::Deep { at: 8 }),
+    ("S1F1 <L .", 0, TextFault::Deep { at: 5 }),
+    ("S1F1 W . S1F2 .", 32, TextFault::Syntax { at: 9 }),
+    ("", 32, TextFault::Syntax { at: 0 }),
+    ("S01F1 .", 32, TextFault::Number { at: 0 }),
+    ("S1F .", 32, TextFault::Syntax { at: 0 }),
+    ("S1F1 <U1 \"a\"> .", 32, TextFault::Syntax { at: 9 }),
+    ("S1F1 <A \"a", 32, TextFault::Syntax { at: 10 }),
+    ("S1F1 <A \"a\tb\"> .", 32, TextFault::Syntax { at: 10 }),
+    ("S1F1 <I2 -0> .", 32, TextFault::Number { at: 9 }),
+    ("S1F1 <I1 -129> .", 32, TextFault::Number { at: 9 }),
+    ("S1F1 <F4 0x3F8000> .", 32, TextFault::Number { at: 9 }),
+    ("S1F1 <L 1> .", 32, TextFault::Syntax { at: 8 }),
+    ("S1F1 <L [01]> .", 32, TextFault::Number { at: 9 }),
+    ("S1F1 <L [2] <B [1]>> .", 32, TextFault::Count { at: 15 }),
+    ("S1F1 <U3> .", 32, TextFault::Syntax { at: 6 }),
+];
+
+fn assert_fault(rt: &impl Abort, fault: Option<TextFault>, want: TextFault, text: &str) {
+    assert_eq!(rt; fault, Some(want), "{text}");
+}
+
 #[test]
 fn faults(rt: HostRuntime) -> Result<(), Fail> {
-    let cases = [
-        ("S1F1 W <U1 256> .", 32, TextFault::Number { at: 11 }),
-        ("S1F1 <B [2] 0x00> .", 32, TextFault::Count { at: 8 }),
-        ("S1F1", 32, TextFault::Syntax { at: 4 }),
-        ("S1F1  ", 32, TextFault::Syntax { at: 6 }),
-        ("S128F1 .", 32, TextFault::Number { at: 0 }),
-        ("S1F1 <L <L>> .", 1, TextFault::Deep { at: 8 }),
-        ("S1F1 <L .", 0, TextFault::Deep { at: 5 }),
-        ("S1F1 W . S1F2 .", 32, TextFault::Syntax { at: 9 }),
-        ("", 32, TextFault::Syntax { at: 0 }),
-        ("S01F1 .", 32, TextFault::Number { at: 0 }),
-        ("S1F .", 32, TextFault::Syntax { at: 0 }),
-        ("S1F1 <U1 \"a\"> .", 32, TextFault::Syntax { at: 9 }),
-        ("S1F1 <A \"a", 32, TextFault::Syntax { at: 10 }),
-        ("S1F1 <A \"a\tb\"> .", 32, TextFault::Syntax { at: 10 }),
-        ("S1F1 <I2 -0> .", 32, TextFault::Number { at: 9 }),
-        ("S1F1 <I1 -129> .", 32, TextFault::Number { at: 9 }),
-        ("S1F1 <F4 0x3F8000> .", 32, TextFault::Number { at: 9 }),
-        ("S1F1 <L 1> .", 32, TextFault::Syntax { at: 8 }),
-        ("S1F1 <L [01]> .", 32, TextFault::Number { at: 9 }),
-        ("S1F1 <L [2] <B [1]>> .", 32, TextFault::Count { at: 15 }),
-        ("S1F1 <U3> .", 32, TextFault::Syntax { at: 6 }),
-    ];
-    for (text, depth, fault) in cases {
-        assert_eq!(rt;
-            fault_of(rt.alloc(), text.as_bytes(), depth)?,
-            Some(fault),
-            "{text}"
-        );
+    for (text, depth, want) in FAULTS {
+        let fault = fault_of(rt.alloc(), text.as_bytes(), *depth)?;
+        assert_fault(&rt, fault, *want, text);
     }
     Ok(())
+}
+
+/// A text, and how its message is printed.
+const PRINTED: &[(&str, &str)] = &[
+    (
+        "S6F11 W <L <A \"AB\"> <U1 1 255>> .",
+        "S6F11 W <L [2] <A [2] \"AB\"> <U1 [2] 1 255>> .",
+    ),
+    ("S1F1 <A \"a\" 0x0A \"\"> .", "S1F1 <A [2] \"a\" 0x0A> ."),
+    ("S1F1<A\"a\"0x0A\"\">.", "S1F1 <A [2] \"a\" 0x0A> ."),
+    ("S1F1 <U2> .", "S1F1 <U2 [0]> ."),
+    (
+        "S1F1 <A \"A\" 0x0a 0x22 \"B\"> .",
+        "S1F1 <A [4] \"A\" 0x0A 0x22 \"B\"> .",
+    ),
+    ("S1F1\r\n<A>\t.", "S1F1 <A [0]> ."),
+    ("S1F1 <BOOLEAN F T T> .", "S1F1 <BOOLEAN [3] F T T> ."),
+    (
+        "S0F0 <L <B 0xff> <J 0xFF> <C2 0x00 0x41>> .",
+        "S0F0 <L [3] <B [1] 0xFF> <J [1] 0xFF> <C2 [2] 0x00 0x41>> .",
+    ),
+    (
+        "S1F1 <L <I1 -128> <I2 -1> <I4 2147483647> <I8 -9223372036854775808>> .",
+        "S1F1 <L [4] <I1 [1] -128> <I2 [1] -1> <I4 [1] 2147483647> <I8 [1] -9223372036854775808>> .",
+    ),
+    (
+        "S127F255 <L <U1 0> <U2 65535> <U4 4294967295> <U8 18446744073709551615>> .",
+        "S127F255 <L [4] <U1 [1] 0> <U2 [1] 65535> <U4 [1] 4294967295> <U8 [1] 18446744073709551615>> .",
+    ),
+    (
+        "S1F1 <L <F4 0x3f800000> <F8 0x400921FB54442D18>> .",
+        "S1F1 <L [2] <F4 [1] 0x3F800000> <F8 [1] 0x400921FB54442D18>> .",
+    ),
+];
+
+fn assert_printed(rt: &impl Abort, printed: &str, want: &str) {
+    assert_eq!(rt; printed, want);
+}
+
+fn judge_message(
+    rt: &impl Abort,
+    alloc: Global,
+    message: &Message,
+    want: &str,
+) -> Result<(), TextFault> {
+    let printed = print(alloc, message)?;
+    assert_printed(rt, printed.as_str(), want);
+    Ok(())
+}
+
+fn judge_printed(rt: &impl Abort, alloc: Global, text: &str, want: &str) -> Result<(), TextFault> {
+    let message = read(alloc, text.as_bytes(), 32)?;
+    judge_message(rt, alloc, &message, want)
 }
 
 #[test]
 fn printed(rt: HostRuntime) -> Result<(), Fail> {
-    let cases = [
-        (
-            "S6F11 W <L <A \"AB\"> <U1 1 255>> .",
-            "S6F11 W <L [2] <A [2] \"AB\"> <U1 [2] 1 255>> .",
-        ),
-        ("S1F1 <A \"a\" 0x0A \"\"> .", "S1F1 <A [2] \"a\" 0x0A> ."),
-        ("S1F1<A\"a\"0x0A\"\">.", "S1F1 <A [2] \"a\" 0x0A> ."),
-        ("S1F1 <U2> .", "S1F1 <U2 [0]> ."),
-        (
-            "S1F1 <A \"A\" 0x0a 0x22 \"B\"> .",
-            "S1F1 <A [4] \"A\" 0x0A 0x22 \"B\"> .",
-        ),
-        ("S1F1\r\n<A>\t.", "S1F1 <A [0]> ."),
-        ("S1F1 <BOOLEAN F T T> .", "S1F1 <BOOLEAN [3] F T T> ."),
-        (
-            "S0F0 <L <B 0xff> <J 0xFF> <C2 0x00 0x41>> .",
-            "S0F0 <L [3] <B [1] 0xFF> <J [1] 0xFF> <C2 [2] 0x00 0x41>> .",
-        ),
-        (
-            "S1F1 <L <I1 -128> <I2 -1> <I4 2147483647> <I8 -9223372036854775808>> .",
-            "S1F1 <L [4] <I1 [1] -128> <I2 [1] -1> <I4 [1] 2147483647> <I8 [1] -9223372036854775808>> .",
-        ),
-        (
-            "S127F255 <L <U1 0> <U2 65535> <U4 4294967295> <U8 18446744073709551615>> .",
-            "S127F255 <L [4] <U1 [1] 0> <U2 [1] 65535> <U4 [1] 4294967295> <U8 [1] 18446744073709551615>> .",
-        ),
-        (
-            "S1F1 <L <F4 0x3f800000> <F8 0x400921FB54442D18>> .",
-            "S1F1 <L [2] <F4 [1] 0x3F800000> <F8 [1] 0x400921FB54442D18>> .",
-        ),
-    ];
-    for (text, wanted) in cases {
-        let message = read(rt.alloc(), text.as_bytes(), 32)?;
-        let printed = print(rt.alloc(), &message)?;
-        assert_eq!(rt; printed.as_str(), wanted);
+    for (text, want) in PRINTED {
+        judge_printed(&rt, rt.alloc(), text, want)?;
     }
     Ok(())
 }
 
-#[test]
-fn made(rt: HostRuntime) -> Result<(), Fail> {
-    let octets = Vec::from_slice(rt.alloc(), b"AB")?;
-    let message = Message::new(6, 11, true, Some(Item::Ascii(octets)));
+fn report(alloc: Global) -> Result<Message, AllocError> {
+    let octets = Vec::from_slice(alloc, b"AB")?;
+    Ok(Message::new(6, 11, true, Some(Item::Ascii(octets))))
+}
+
+fn assert_report(rt: &impl Abort, message: &Message) {
     assert_eq!(rt;
         (message.stream(), message.function(), message.wait()),
         (6, 11, true)
     );
     assert!(rt; matches!(message.item(), Some(Item::Ascii(_))));
-    let printed = print(rt.alloc(), &message)?;
-    assert_eq!(rt; printed.as_str(), "S6F11 W <A [2] \"AB\"> .");
-    let message = read(rt.alloc(), b"S1F1 <A \"a\" 0x0A \"\"> .", 0)?;
-    let octets = Vec::from_slice(rt.alloc(), b"a\n")?;
-    assert!(rt; message.item() == Some(&Item::Ascii(octets)));
+}
+
+fn judge_report(rt: &impl Abort, alloc: Global) -> Result<(), Fail> {
+    let message = report(alloc)?;
+    assert_report(rt, &message);
+    judge_message(rt, alloc, &message, "S6F11 W <A [2] \"AB\"> .")?;
     Ok(())
+}
+
+fn assert_item(rt: &impl Abort, message: &Message, item: &Item) {
+    assert!(rt; message.item() == Some(item));
+}
+
+fn judge_read(rt: &impl Abort, alloc: Global, message: &Message) -> Result<(), AllocError> {
+    let item = Item::Ascii(Vec::from_slice(alloc, b"a\n")?);
+    assert_item(rt, message, &item);
+    Ok(())
+}
+
+#[test]
+fn made(rt: HostRuntime) -> Result<(), Fail> {
+    judge_report(&rt, rt.alloc())?;
+    let message = read(rt.alloc(), b"S1F1 <A \"a\" 0x0A \"\"> .", 0)?;
+    judge_read(&rt, rt.alloc(), &message)?;
+    Ok(())
+}
+
+fn assert_count(rt: &impl Abort, messages: &[Message], count: usize, text: &str) {
+    assert_eq!(rt; messages.len(), count, "{text}");
+}
+
+fn judge_several(
+    rt: &impl Abort,
+    alloc: Global,
+    text: &str,
+    count: usize,
+) -> Result<(), TextFault> {
+    let messages = read_all(alloc, text.as_bytes(), 32)?;
+    assert_count(rt, &messages, count, text);
+    Ok(())
+}
+
+/// The fault of a text that is read as messages.
+fn fault_of_several(alloc: Global, text: &[u8]) -> Result<Option<TextFault>, TextFault> {
+    match read_all(alloc, text, 32) {
+        Ok(_) => Ok(None),
+        Err(TextFault::Memory) => Err(TextFault::Memory),
+        Err(fault) => Ok(Some(fault)),
+    }
 }
 
 #[test]
 fn several(rt: HostRuntime) -> Result<(), Fail> {
     for (text, count) in [("S1F1 W . S1F2 .", 2), ("", 0), (" \r\n", 0)] {
-        let messages = read_all(rt.alloc(), text.as_bytes(), 32)?;
-        assert_eq!(rt; messages.len(), count, "{text}");
+        judge_several(&rt, rt.alloc(), text, count)?;
     }
-    match read_all(rt.alloc(), b"S1F1 . S1F2", 32) {
-        Err(TextFault::Memory) => Err(TextFault::Memory.into()),
-        answer => {
-            assert_eq!(rt; answer.err(), Some(TextFault::Syntax { at: 11 }));
-            Ok(())
-        }
-    }
+    let fault = fault_of_several(rt.alloc(), b"S1F1 . S1F2")?;
+    assert_fault(&rt, fault, TextFault::Syntax { at: 11 }, "two messages");
+    Ok(())
 }
 
 #[test]
@@ -127,7 +191,7 @@ fn too_many_lists(rt: HostRuntime) -> Result<(), Fail> {
     text[0..5].copy_from_slice(b"S1F1 ");
     text[5..308].copy_from_slice(lists.as_flattened());
     let fault = fault_of(rt.alloc(), &text, 100)?;
-    assert_eq!(rt; fault, Some(TextFault::Deep { at: 305 }));
+    assert_fault(&rt, fault, TextFault::Deep { at: 305 }, "101 lists");
     Ok(())
 }
 
@@ -175,68 +239,101 @@ fn printed_text(
     }
 }
 
+const REPORT: Head = Head {
+    stream: 6,
+    function: 11,
+    wait: true,
+};
+
+/// A text, and how it is printed behind the head of a report.
+const SPELLED: &[(&[u8], &str)] = &[
+    (b"", "S6F11 W ."),
+    (
+        b"\x01\x02\x41\x02AB\xa5\x02\x01\xff",
+        "S6F11 W <L [2] <A [2] \"AB\"> <U1 [2] 1 255>> .",
+    ),
+    (b"\x41\x04A\n\"B", "S6F11 W <A [4] \"A\" 0x0A 0x22 \"B\"> ."),
+    (b"\x42\x00\x00", "S6F11 W <A [0]> ."),
+    (b"\x25\x03\x00\x01\x02", "S6F11 W <BOOLEAN [3] F T T> ."),
+    (
+        b"\x01\x03\x21\x01\xff\x45\x01\xff\x49\x02\x00A",
+        "S6F11 W <L [3] <B [1] 0xFF> <J [1] 0xFF> <C2 [2] 0x00 0x41>> .",
+    ),
+    (
+        b"\x01\x04\x65\x01\x80\x69\x02\xff\xff\x71\x04\x7f\xff\xff\xff\x61\x08\x80\0\0\0\0\0\0\0",
+        "S6F11 W <L [4] <I1 [1] -128> <I2 [1] -1> <I4 [1] 2147483647> <I8 [1] -9223372036854775808>> .",
+    ),
+    (
+        b"\x01\x04\xa5\x01\x00\xa9\x02\xff\xff\xb1\x04\xff\xff\xff\xff\xa1\x08\xff\xff\xff\xff\xff\xff\xff\xff",
+        "S6F11 W <L [4] <U1 [1] 0> <U2 [1] 65535> <U4 [1] 4294967295> <U8 [1] 18446744073709551615>> .",
+    ),
+    (
+        b"\x01\x02\x91\x04\x3f\x80\x00\x00\x81\x08\x40\x09\x21\xfb\x54\x44\x2d\x18",
+        "S6F11 W <L [2] <F4 [1] 0x3F800000> <F8 [1] 0x400921FB54442D18>> .",
+    ),
+    (
+        b"\x01\x03\x01\x00\x01\x01\x01\x00\xa5\x01\x0a",
+        "S6F11 W <L [3] <L [0]> <L [1] <L [0]>> <U1 [1] 10>> .",
+    ),
+];
+
+fn assert_notation(rt: &impl Abort, octets: &[u8], want: &str) {
+    assert!(rt; octets == want.as_bytes(), "{want}");
+}
+
+fn judge_spelled(rt: &impl Abort, alloc: Global, text: &[u8], want: &str) -> Result<(), Fail> {
+    let octets = printed_text(alloc, REPORT, text, 32)??;
+    assert_notation(rt, &octets, want);
+    Ok(())
+}
+
 #[test]
 fn from_octets(rt: HostRuntime) -> Result<(), Fail> {
-    let head = Head {
-        stream: 6,
-        function: 11,
-        wait: true,
-    };
-    let cases = [
-        (b"".as_slice(), "S6F11 W ."),
-        (
-            b"\x01\x02\x41\x02AB\xa5\x02\x01\xff",
-            "S6F11 W <L [2] <A [2] \"AB\"> <U1 [2] 1 255>> .",
-        ),
-        (b"\x41\x04A\n\"B", "S6F11 W <A [4] \"A\" 0x0A 0x22 \"B\"> ."),
-        (b"\x42\x00\x00", "S6F11 W <A [0]> ."),
-        (b"\x25\x03\x00\x01\x02", "S6F11 W <BOOLEAN [3] F T T> ."),
-        (
-            b"\x01\x03\x21\x01\xff\x45\x01\xff\x49\x02\x00A",
-            "S6F11 W <L [3] <B [1] 0xFF> <J [1] 0xFF> <C2 [2] 0x00 0x41>> .",
-        ),
-        (
-            b"\x01\x04\x65\x01\x80\x69\x02\xff\xff\x71\x04\x7f\xff\xff\xff\x61\x08\x80\0\0\0\0\0\0\0",
-            "S6F11 W <L [4] <I1 [1] -128> <I2 [1] -1> <I4 [1] 2147483647> <I8 [1] -9223372036854775808>> .",
-        ),
-        (
-            b"\x01\x04\xa5\x01\x00\xa9\x02\xff\xff\xb1\x04\xff\xff\xff\xff\xa1\x08\xff\xff\xff\xff\xff\xff\xff\xff",
-            "S6F11 W <L [4] <U1 [1] 0> <U2 [1] 65535> <U4 [1] 4294967295> <U8 [1] 18446744073709551615>> .",
-        ),
-        (
-            b"\x01\x02\x91\x04\x3f\x80\x00\x00\x81\x08\x40\x09\x21\xfb\x54\x44\x2d\x18",
-            "S6F11 W <L [2] <F4 [1] 0x3F800000> <F8 [1] 0x400921FB54442D18>> .",
-        ),
-        (
-            b"\x01\x03\x01\x00\x01\x01\x01\x00\xa5\x01\x0a",
-            "S6F11 W <L [3] <L [0]> <L [1] <L [0]>> <U1 [1] 10>> .",
-        ),
-    ];
-    for (text, wanted) in cases {
-        let printed = printed_text(rt.alloc(), head, text, 32)?;
-        match printed {
-            Ok(octets) => assert!(rt; octets.as_slice() == wanted.as_bytes(), "{wanted}"),
-            Err(fault) => return Err(fault.into()),
-        }
+    for (text, want) in SPELLED {
+        judge_spelled(&rt, rt.alloc(), text, want)?;
     }
+    Ok(())
+}
+
+const BARE: Head = Head {
+    stream: 1,
+    function: 1,
+    wait: false,
+};
+
+fn assert_item_fault(rt: &impl Abort, fault: Option<ItemFault>, want: ItemFault) {
+    assert_eq!(rt; fault, Some(want));
+}
+
+fn judge_no_text(
+    rt: &impl Abort,
+    alloc: Global,
+    text: &[u8],
+    depth: u8,
+    want: ItemFault,
+) -> Result<(), TextFault> {
+    let printed = printed_text(alloc, BARE, text, depth)?;
+    assert_item_fault(rt, printed.err(), want);
     Ok(())
 }
 
 #[test]
 fn no_text(rt: HostRuntime) -> Result<(), Fail> {
-    let head = Head {
-        stream: 1,
-        function: 1,
-        wait: false,
-    };
-    let cases = [
-        (b"\x01\x01\x01\x00".as_slice(), 1, ItemFault::Deep { at: 2 }),
-        (b"\xa5\x01\x00\x00", 32, ItemFault::Trailing { at: 3 }),
-        (b"\x41\x02A", 32, ItemFault::Truncated { at: 0 }),
-    ];
-    for (text, depth, wanted) in cases {
-        let printed = printed_text(rt.alloc(), head, text, depth)?;
-        assert_eq!(rt; printed.err(), Some(wanted));
-    }
+    let alloc = rt.alloc();
+    judge_no_text(
+        &rt,
+        alloc,
+        b"\x01\x01\x01\x00",
+        1,
+        ItemFault::Deep { at: 2 },
+    )?;
+    judge_no_text(
+        &rt,
+        alloc,
+        b"\xa5\x01\x00\x00",
+        32,
+        ItemFault::Trailing { at: 3 },
+    )?;
+    judge_no_text(&rt, alloc, b"\x41\x02A", 32, ItemFault::Truncated { at: 0 })?;
     Ok(())
 }
