@@ -1,13 +1,3 @@
-pub mod Audit
 pub mod Calls
-pub mod Doing
-pub mod Encode
-pub mod Line
-pub mod Number
-pub mod Options
 pub mod Script
-pub mod Service
 pub mod Serving
-pub mod Show
-pub mod Status
-pub mod Verdict

@@ -6,9 +6,9 @@ use Rattle.secs_text.specs.Fault.{NotesFault}
 use Rattle.secs_text.specs.View.{contents}
 use Rattle.hsms_ends.specs.declared.step.Step.{Step}
 use Rattle.hsms_ends.specs.declared.step.Step.TheVariants.{Send, Separate}
-use Rattle.hsms_tool.specs.declared.fault.ToolFault.{ToolFault}
-use Rattle.hsms_tool.specs.declared.fault.ToolFault.TheVariants.{Refused, Device, Memory}
-use Rattle.hsms_tool.specs.Encode.{SpellsMessages, input_limit, text_fault_text}
+use Rattle.hsms_options.specs.declared.fault.ToolFault.{ToolFault}
+use Rattle.hsms_options.specs.declared.fault.ToolFault.TheVariants.{Refused, Device, Memory}
+use Rattle.hsms_tasks.specs.Encode.{SpellsMessages, input_limit, text_fault_text}
 
 -- each message is sent, and then the session is separated
 abbrev pub sends : List Message → List Step

@@ -14,9 +14,9 @@ use Rattle.hsms_ends.specs.Link.{Told}
 use Rattle.hsms_ends.specs.Serving.{Serves}
 use Rattle.hsms_tool.specs.declared.desks.OwnDesk.{OwnDesk}
 use Rattle.hsms_tool.specs.declared.desks.OwnDesk.TheVariants.{Host, Equipment}
-use Rattle.hsms_tool.specs.declared.fault.ToolFault.{ToolFault}
-use Rattle.hsms_tool.specs.declared.fault.ToolFault.TheVariants.{Refused, Device, Memory}
-use Rattle.hsms_tool.specs.declared.service.Service.{Service}
+use Rattle.hsms_options.specs.declared.fault.ToolFault.{ToolFault}
+use Rattle.hsms_options.specs.declared.fault.ToolFault.TheVariants.{Refused, Device, Memory}
+use Rattle.hsms_options.specs.declared.service.Service.{Service}
 
 -- what a desk answers
 abbrev pub own_answer : OwnDesk → Content → Answered

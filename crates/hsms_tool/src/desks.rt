@@ -3,9 +3,9 @@
 ghost use Rattle.std.specs.Prelude.{IfOk};
 ghost use Rattle.hsms_tool.specs.Serving.{IsDeskOf};
 
-use crate::service::Service;
 use hsms_ends::{Answer, Desk, EquipmentDesk, HostDesk};
 use hsms_machine::Role;
+use hsms_options::Service;
 use secs_text::Message;
 use std::alloc::{AllocError, Global};
 

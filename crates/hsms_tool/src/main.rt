@@ -2,37 +2,20 @@
 //! that are written in notation, and serves a connection.
 #![tactic(auto)]
 
-ghost use Rattle.hsms_tool.specs.Options.{IsTaskWithinLimits};
+ghost use Rattle.hsms_options.specs.Options.{IsTaskWithinLimits};
 
-mod auditing;
 mod calls;
-mod describing;
-mod describing_options;
-mod describing_serve;
 mod desks;
-mod doing;
-mod encoding;
-mod fault;
-mod input;
-mod line;
-mod notation;
-mod options;
 mod script;
-mod service;
 mod serving;
-mod showing;
 mod socket;
-mod values;
-mod verdict;
 
 use desks::{OwnDesk, desk_of};
-use doing::perform;
-use fault::{ToolFault, exit_status, no_request};
 use hsms_ends::{Link, ServeFault, Served, Step};
 use hsms_frame::{Reader, Writer};
-use options::{Request, Task};
+use hsms_options::{Request, Service, Task, ToolFault, exit_status, no_request, parse};
+use hsms_tasks::perform;
 use script::read_script;
-use service::Service;
 use serving::{serve_to, told};
 use socket::connected;
 use std::alloc::Global;
@@ -58,7 +41,7 @@ fn main(rt: HostRuntime) -> ExitCode {
 fn run<R: AllocGlobal + Clock + Env + Input + Net + Print>(rt: &R) -> Result<bool, ToolFault> {
     let alloc = rt.alloc();
     let words = words(alloc, rt)?;
-    match options::parse(alloc, words.as_slice())? {
+    match parse(alloc, words.as_slice())? {
         Request::Task(task) => run_task(alloc, rt, task),
         Request::Serve(service) => run_service(alloc, rt, &service),
     }

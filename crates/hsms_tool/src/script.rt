@@ -4,13 +4,12 @@ ghost use Rattle.std.specs.Prelude.{◌≡◌, ◌≤◌, IfOk, IfErr, OnOk, cod
 ghost use Rattle.hsms_frame.specs.Count.{next_count};
 ghost use Rattle.hsms_frame.specs.Device.{WhereTold};
 ghost use Rattle.hsms_tool.specs.Script.{IsNoScript, IsScript, sends};
-ghost use Rattle.hsms_tool.specs.Show.{CountsFailure, HasWord};
+ghost use Rattle.hsms_tasks.specs.Show.{CountsFailure, HasWord};
 
-use crate::encoding::{INPUT_LIMIT, messages_of};
-use crate::fault::ToolFault;
-use crate::input::read_whole;
 use hsms_ends::Step;
 use hsms_frame::Source;
+use hsms_options::ToolFault;
+use hsms_tasks::{INPUT_LIMIT, messages_of, read_whole};
 use secs_text::Message;
 use std::alloc::{AllocError, Global};
 

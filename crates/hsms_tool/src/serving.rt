@@ -3,10 +3,9 @@
 ghost use Rattle.hsms_tool.specs.Serving.{ServesTo, TellsServe, TellsServed};
 
 use crate::desks::OwnDesk;
-use crate::fault::ToolFault;
-use crate::service::Service;
 use hsms_ends::{Link, ServeFault, Served, Step, serve};
 use hsms_frame::Sink;
+use hsms_options::{Service, ToolFault};
 use std::alloc::Global;
 
 /// Serves a connection as a service asks, and writes its log. Faults:

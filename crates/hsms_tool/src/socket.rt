@@ -4,9 +4,9 @@ ghost use Rattle.std.specs.Prelude.{◌≡◌, ◌≤◌, IfOk, length};
 ghost use Rattle.hsms_tool.specs.Calls.{told_of};
 
 use crate::calls::Calls;
-use crate::service::Service;
 use hsms_ends::{Got, Link, LinkFault, ServeFault};
 use hsms_machine::Side;
+use hsms_options::Service;
 use std::io;
 use std::io::{ErrorKind, Read, Write};
 use std::net::{Net, OpenListener, OpenStream, TcpListener, TcpStream};

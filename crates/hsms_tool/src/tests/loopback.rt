@@ -1,12 +1,12 @@
 use super::assert_octets;
-use crate::auditing::audit_to;
 use crate::desks::desk_of;
-use crate::service::Service;
 use crate::serving::serve_to;
 use crate::socket::SocketLink;
 use hsms_ends::{Link, Step};
 use hsms_frame::{Feed, Store};
 use hsms_machine::{Role, Settings, Side};
+use hsms_options::Service;
+use hsms_tasks::audit_to;
 use std::alloc::Global;
 use std::io::{Read, Write};
 use std::net::{TcpListener, TcpStream};

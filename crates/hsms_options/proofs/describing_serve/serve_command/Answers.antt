@@ -1,0 +1,12 @@
+use Rattle.std.proofs.Common.{ap, codes, ◌≡◌, ◌∙◌}
+use Rattle.std.proofs.lemmas.Result.{IfOk-weaker}
+use Rattle.clap.specs.Words.{App, app_of, new_app}
+use Rattle.hsms_options.specs.Service.{connection_rules, desk_rules, limit_rules, with_rules}
+use Rattle.hsms_options.proofs.describing_serve.serve_command.Goals as goal
+
+pub returns : goal.returns
+returns c =
+    let named : app_of c.after_help-serve.result ≡ new_app (codes "serve") = rw (c.after_help-serve.ensures, c.override_usage.ensures, c.about.ensures) c.new.ensures.app in
+    let connected = c.in_ok-connected.ensures ∙ ap (λ (a : App). with_rules a connection_rules) named in
+    let limited = c.in_ok-limited.ensures ∙ ap (λ (a : App). with_rules a limit_rules) connected in
+    IfOk-weaker c.with_desk.result _ _ (λ command shape. shape ∙ ap (λ (a : App). with_rules a desk_rules) limited) c.with_desk.ensures

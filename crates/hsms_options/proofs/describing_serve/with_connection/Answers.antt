@@ -1,0 +1,12 @@
+use Rattle.std.proofs.Common.{refl, ap₂, ◌∙◌}
+use Rattle.std.proofs.lemmas.Result.{IfOk-weaker}
+use Rattle.clap.specs.Words.{with_rule}
+use Rattle.hsms_options.proofs.describing_serve.with_connection.Goals as goal
+
+pub returns : goal.returns
+returns c =
+    let one = c.in_ok-arg.ensures.shape c.needed_option.ensures.local ∙ ap₂ with_rule refl c.needed_option.ensures.rule in
+    let two = c.in_ok-arg-2.ensures.shape c.needed_option-2.ensures.local ∙ ap₂ with_rule one c.needed_option-2.ensures.rule in
+    let three = c.in_ok-arg-3.ensures.shape c.needed_option-3.ensures.local ∙ ap₂ with_rule two c.needed_option-3.ensures.rule in
+    let four = c.in_ok-arg-4.ensures.shape c.port_option.ensures.local ∙ ap₂ with_rule three c.port_option.ensures.rule in
+    IfOk-weaker c.arg-5.result _ _ (λ command adds. adds.shape c.device_option.ensures.local ∙ ap₂ with_rule four c.device_option.ensures.rule) c.arg-5.ensures

@@ -1,0 +1,12 @@
+use Rattle.std.proofs.Common.{refl, ap₂, ◌∙◌}
+use Rattle.std.proofs.lemmas.Result.{IfOk-weaker}
+use Rattle.clap.specs.Words.{with_rule}
+use Rattle.hsms_options.proofs.describing_serve.with_desk.Goals as goal
+
+pub returns : goal.returns
+returns c =
+    let one = c.in_ok-arg.ensures.shape c.count_option.ensures.local ∙ ap₂ with_rule refl c.count_option.ensures.rule in
+    let two = c.in_ok-arg-2.ensures.shape c.count_option-2.ensures.local ∙ ap₂ with_rule one c.count_option-2.ensures.rule in
+    let three = c.in_ok-arg-3.ensures.shape c.text_option.ensures.local ∙ ap₂ with_rule two c.text_option.ensures.rule in
+    let four = c.in_ok-arg-4.ensures.shape c.text_option-2.ensures.local ∙ ap₂ with_rule three c.text_option-2.ensures.rule in
+    IfOk-weaker c.arg-5.result _ _ (λ command adds. adds.shape c.send_option.ensures.local ∙ ap₂ with_rule four c.send_option.ensures.rule) c.arg-5.ensures

@@ -1,0 +1,4 @@
+pub mod Number
+pub mod Options
+pub mod Service
+pub mod Status

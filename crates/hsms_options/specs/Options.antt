@@ -1,0 +1,116 @@
+-- What the words of a command line ask for, by the way in which `clap` reads them.
+use Rattle.std.specs.Prelude.{◌≡◌, ◌≢◌, ◌≤◌, ◌⊎◌, true, false, List, [], ◌∷◌, codes, Option, Some, Result, Ok, Err}
+use Rattle.clap.specs.Words.{App, IsAmong, Row, Shape, Text, fault_of, new_app, subcommand_of}
+use Rattle.clap.specs.declared.error.kind.ErrorKind.{ErrorKind}
+use Rattle.clap.specs.declared.error.kind.ErrorKind.TheVariants.{DisplayHelp, DisplayVersion}
+use Rattle.hsms_options.specs.declared.fault.ToolFault.{ToolFault}
+use Rattle.hsms_options.specs.declared.options.Request.{Request}
+use Rattle.hsms_options.specs.declared.options.Request.TheVariants as request
+use Rattle.hsms_options.specs.declared.options.Task.{Task}
+use Rattle.hsms_options.specs.declared.options.Task.TheVariants as asked
+use Rattle.hsms_options.specs.declared.service.Service.{Service}
+use Rattle.hsms_options.specs.Number.{IsFlag, depth_number, device_number, flag_option, max_number, number_in, option_of, system_number}
+use Rattle.hsms_options.specs.Service.{AsksToServe, serve_rules}
+
+-- ---- the command that is described to `clap`
+
+-- a command of this name, with nothing else
+abbrev pub named : Text → Shape
+named name = (new_app name).top
+
+abbrev pub show_command : Shape
+show_command = record (named (codes "show")) { rules = option_of max_number ∷ option_of depth_number ∷ [] }
+
+abbrev pub audit_command : Shape
+audit_command = named (codes "audit")
+
+abbrev pub encode_command : Shape
+encode_command = record (named (codes "encode")) {
+  rules = option_of device_number ∷ option_of system_number ∷ option_of max_number ∷ option_of depth_number ∷ flag_option (codes "hex") ∷ [];
+}
+
+abbrev pub serve_command : Shape
+serve_command = record (named (codes "serve")) { rules = serve_rules }
+
+-- the command, which wants one of the four subcommands, and has a version
+abbrev pub command_line : App
+command_line = record {
+  top = record (named (codes "hsms")) { is_leaf = false; subcommand_required = true; has_version = true };
+  subs = show_command ∷ audit_command ∷ encode_command ∷ serve_command ∷ [];
+}
+
+-- ---- what is asked for
+
+-- what a subcommand of this name asks for, with these matches, where it is a task
+abbrev pub AsksForTask : Text → List Row → Task → Type 0
+AsksForTask name rows (asked.Help text) = ⊥
+AsksForTask name rows asked.Audit = name ≡ codes "audit"
+AsksForTask name rows (asked.Show max depth) =
+    (name ≡ codes "show") × (number_in max_number rows ≡ Some max) × (number_in depth_number rows ≡ Some depth)
+AsksForTask name rows (asked.Encode device system max depth hex) =
+    (name ≡ codes "encode") × (number_in device_number rows ≡ Some device) × (number_in system_number rows ≡ Some system)
+    × (number_in max_number rows ≡ Some max) × (number_in depth_number rows ≡ Some depth) × IsFlag (codes "hex") rows hex
+
+-- what a subcommand of this name asks for, with these matches
+abbrev pub AsksFor : Text → List Row → Request → Type 0
+AsksFor name rows (request.Task task) = AsksForTask name rows task
+AsksFor name rows (request.Serve service) = (name ≡ codes "serve") × AsksToServe rows service
+
+-- the request to serve what is asked for
+abbrev pub request_to_serve : Result Service ToolFault → Result Request ToolFault
+request_to_serve (Ok service) = Ok (request.Serve service)
+request_to_serve (Err fault) = Err fault
+
+-- what the matches of a parse ask for
+abbrev pub AsksBy : Option (Text × List Row) → Request → Type 0
+AsksBy entered request = (name : Text) × (rows : List Row) × (entered ≡ Some (name, rows)) × AsksFor name rows request
+
+-- the words are those of a subcommand, and ask for this
+abbrev pub SpellsWork : List Text → Request → Type 0
+SpellsWork words request = (fault_of command_line words ≡ []) × AsksBy (subcommand_of command_line words) request
+
+-- the kinds of error that call for a text: help, or the version
+abbrev pub CallsForText : ErrorKind → Type 0
+CallsForText kind = (kind ≡ DisplayHelp) ⊎ (kind ≡ DisplayVersion)
+
+-- the words ask for this task, or may call for help or for the version
+abbrev pub SpellsTask : List Text → Task → Type 0
+SpellsTask words (asked.Help text) = IsAmong DisplayHelp (fault_of command_line words) ⊎ IsAmong DisplayVersion (fault_of command_line words)
+SpellsTask words asked.Audit = SpellsWork words (request.Task asked.Audit)
+SpellsTask words (asked.Show max depth) = SpellsWork words (request.Task (asked.Show max depth))
+SpellsTask words (asked.Encode device system max depth hex) = SpellsWork words (request.Task (asked.Encode device system max depth hex))
+
+-- the words ask for this, or may call for help or for the version
+abbrev pub Spells : List Text → Request → Type 0
+Spells words (request.Task task) = SpellsTask words task
+Spells words (request.Serve service) = SpellsWork words (request.Serve service)
+
+-- the words ask for no work, and nothing says that they call for help alone, or for the version alone
+abbrev pub SpellsNothing : List Text → Type 0
+SpellsNothing words =
+    (fault_of command_line words ≢ DisplayHelp ∷ []) × (fault_of command_line words ≢ DisplayVersion ∷ [])
+    × ((request : Request) → SpellsWork words request → ⊥)
+
+-- each number of a task is within its limits
+abbrev pub IsTaskWithinLimits : Task → Type 0
+IsTaskWithinLimits (asked.Help text) = Unit {0}
+IsTaskWithinLimits asked.Audit = Unit {0}
+IsTaskWithinLimits (asked.Show max depth) = (256 ≤ max) × (max ≤ 33554432) × (1 ≤ depth) × (depth ≤ 100)
+IsTaskWithinLimits (asked.Encode device system max depth hex) =
+    (device ≤ 32767) × (256 ≤ max) × (max ≤ 33554432) × (1 ≤ depth) × (depth ≤ 100)
+
+-- each number of a request is within its limits; those of settings are by their type
+abbrev pub IsWithinLimits : Request → Type 0
+IsWithinLimits (request.Task task) = IsTaskWithinLimits task
+IsWithinLimits (request.Serve service) = (1 ≤ service.port) × (service.port ≤ 65535)
+
+-- a text is to be printed
+abbrev pub IsHelpText : Task → Type 0
+IsHelpText (asked.Help text) = Unit {0}
+IsHelpText asked.Audit = ⊥
+IsHelpText (asked.Show max depth) = ⊥
+IsHelpText (asked.Encode device system max depth hex) = ⊥
+
+abbrev pub IsHelp : Request → Type 0
+IsHelp (request.Task task) = IsHelpText task
+IsHelp (request.Serve service) = ⊥

@@ -1,0 +1,110 @@
+-- What the options of `hsms serve` are, and what they ask for.
+use Rattle.std.specs.Prelude.{◌≡◌, ◌++◌, ℕ, true, List, [], ◌∷◌, codes, Some, None, string_bytes, unwrap_or}
+use Rattle.clap.specs.Words.{App, Row, Rule, Text, first_of, new_rule, with_rule}
+use Rattle.hsms_machine.specs.declared.settings.Role.{Role}
+use Rattle.hsms_machine.specs.declared.settings.Role.TheVariants.{Host, Equipment}
+use Rattle.hsms_machine.specs.declared.settings.Side.{Side}
+use Rattle.hsms_machine.specs.declared.settings.Side.TheVariants.{Active, Passive}
+use Rattle.hsms_machine.specs.Settings.{Parameters}
+use Rattle.hsms_options.specs.declared.service.Service.{Service}
+use Rattle.hsms_options.specs.Number.{IsFlag, Number, depth_number, device_number, flag_option, max_number, number_in, option_of}
+
+-- ---- the options
+
+-- a time in milliseconds
+abbrev pub time_number : Text → ℕ → Number
+time_number name left_out = record { name = name; least = 1; greatest = 3600000; left_out = Some left_out }
+
+abbrev pub t3_number : Number
+t3_number = time_number (codes "t3") 45000
+
+abbrev pub t6_number : Number
+t6_number = time_number (codes "t6") 6000
+
+abbrev pub t7_number : Number
+t7_number = time_number (codes "t7") 10000
+
+abbrev pub t8_number : Number
+t8_number = time_number (codes "t8") 5000
+
+-- a TCP port, which has to be given
+abbrev pub port_number : Number
+port_number = record { name = codes "port"; least = 1; greatest = 65535; left_out = None }
+
+-- the system bytes of the first own message
+abbrev pub first_system_number : Number
+first_system_number = record { name = codes "first-system"; least = 0; greatest = 4294967295; left_out = Some 1 }
+
+abbrev pub turns_number : Number
+turns_number = record { name = codes "turns"; least = 0; greatest = 4294967295; left_out = Some 4294967295 }
+
+-- an option with a text, `--NAME TEXT`
+abbrev pub text_option : Text → Rule
+text_option name = record (new_rule name) { long = Some name; value_names = 1 }
+
+-- the same, which has to be given
+abbrev pub needed_option : Text → Rule
+needed_option name = record (text_option name) { required = true }
+
+abbrev pub connection_rules : List Rule
+connection_rules =
+    needed_option (codes "role") ∷ needed_option (codes "link") ∷ needed_option (codes "address") ∷ option_of port_number
+    ∷ option_of device_number ∷ []
+
+abbrev pub limit_rules : List Rule
+limit_rules =
+    option_of t3_number ∷ option_of t6_number ∷ option_of t7_number ∷ option_of t8_number ∷ option_of max_number
+    ∷ option_of depth_number ∷ []
+
+abbrev pub desk_rules : List Rule
+desk_rules =
+    option_of first_system_number ∷ option_of turns_number ∷ text_option (codes "mdln") ∷ text_option (codes "softrev")
+    ∷ flag_option (codes "send") ∷ []
+
+abbrev pub serve_rules : List Rule
+serve_rules = connection_rules ++ (limit_rules ++ desk_rules)
+
+-- a command with these options more
+abbrev pub with_rules : App → List Rule → App
+with_rules app [] = app
+with_rules app (rule ∷ rules) = with_rules (with_rule app rule) rules
+
+-- ---- what they ask for
+
+abbrev pub role_word : Role → Text
+role_word Host = codes "host"
+role_word Equipment = codes "equipment"
+
+abbrev pub side_word : Side → Text
+side_word Active = codes "active"
+side_word Passive = codes "passive"
+
+-- the text that the matches have of an option, which is empty where it is left out
+abbrev pub text_in : Text → List Row → Text
+text_in name rows = unwrap_or (first_of name rows) []
+
+-- the matches have these times
+abbrev pub HasTimes : List Row → ℕ → ℕ → ℕ → ℕ → Type 0
+HasTimes rows t3 t6 t7 t8 =
+    (number_in t3_number rows ≡ Some t3) × (number_in t6_number rows ≡ Some t6) × (number_in t7_number rows ≡ Some t7)
+    × (number_in t8_number rows ≡ Some t8)
+
+-- the matches have these settings
+abbrev pub HasSettings : List Row → Parameters → Type 0
+HasSettings rows s =
+    (first_of (codes "role") rows ≡ Some (role_word s.role)) × (first_of (codes "link") rows ≡ Some (side_word s.link))
+    × (number_in device_number rows ≡ Some s.device) × HasTimes rows s.t3 s.t6 s.t7 s.t8
+    × (number_in max_number rows ≡ Some s.max) × (number_in depth_number rows ≡ Some s.depth)
+
+-- the matches have these settings, address, port, first system bytes and turns
+abbrev pub HasTerms : List Row → Parameters → Text → ℕ → ℕ → ℕ → Type 0
+HasTerms rows settings address port first_system turns =
+    HasSettings rows settings × (first_of (codes "address") rows ≡ Some address) × (number_in port_number rows ≡ Some port)
+    × (number_in first_system_number rows ≡ Some first_system) × (number_in turns_number rows ≡ Some turns)
+
+-- the matches ask for this service
+abbrev pub AsksToServe : List Row → Service → Type 0
+AsksToServe rows service =
+    HasTerms rows service.settings (string_bytes service.address) service.port service.first_system service.turns
+    × (string_bytes service.mdln ≡ text_in (codes "mdln") rows) × (string_bytes service.softrev ≡ text_in (codes "softrev") rows)
+    × IsFlag (codes "send") rows service.send

@@ -1,0 +1,100 @@
+//! The command as it is described to `clap`: its subcommands, their options, and the ranges of these.
+
+ghost use Rattle.std.specs.Prelude.{◌≡◌, IfOk, []};
+ghost use Rattle.clap.specs.Words.{app_of};
+ghost use Rattle.hsms_options.specs.Options.{audit_command, command_line, encode_command, show_command};
+
+use crate::describing_options::{
+    depth_option, device_option, hex_option, max_option, system_option,
+};
+use crate::describing_serve::serve_command;
+use clap::Command;
+use std::alloc::{AllocError, Global};
+
+const SHOW_HELP: &str = "Example: hsms show < capture.bin\n\n\
+    Statuses: 0 every message is shown; 2 the command line or the input is refused (TooShort, TooLong, CutOff);\n\
+    3 the input can't be read (Read), the output can't be written (Write), there are more than 4294967295 messages\n\
+    (Endless), or memory is wanting (Memory). What was shown before a fault stays shown.";
+
+const AUDIT_USAGE: &str = "hsms audit [OPTIONS] < LOG";
+
+const AUDIT_HELP: &str =
+    "It tells `pass` and what the log holds, or the first line that can't follow those before it, and why:\n\
+    `fail line=N unreadable`, or `fail line=N rule=NAME` with the first of these rules that the line breaks.\n\n  \
+    Backwards      its time is before that of the last line\n  \
+    NotUp          the connection isn't up, or this `up` may not stand here\n  \
+    Ended          the session is over\n  \
+    T3Overdue      a reply is overdue, and no `t3` says so\n  \
+    LinkOverdue    T6 or T7 has run out, and no `cut` says so\n  \
+    NotDue         this timer hasn't run out\n  \
+    TooLong        the frame is longer than the settings allow\n  \
+    PType          its PType isn't 0\n  \
+    SType          its SType is none of the standard\n  \
+    ControlText    a control message with a text\n  \
+    Session        its session ID isn't that of such a message\n  \
+    Direction      this end may not send or take it\n  \
+    NotSelected    data, and the session isn't selected\n  \
+    WBit           a reply that asks for a reply\n  \
+    Text           its text is no item, or is nested too deep\n  \
+    SystemInUse    its system bytes are those of an open transaction\n  \
+    NoTransaction  it answers nothing that is open\n  \
+    SelectStatus   this isn't the answer to this Select.req\n  \
+    NoCause        nothing is wrong with a frame that was thrown away\n\n\
+    A log of version 2 may hold several connections: an `up` directly after a `down` begins the next one.\n\n\
+    Example: hsms audit < session.log\n\n\
+    Statuses: 0 the log passes; 1 it fails; 2 the command line is refused; 3 the log can't be read (Read), the verdict\n\
+    can't be written (Write), there are more than 4294967295 reads (Endless), or memory is wanting (Memory).";
+
+const ENCODE_HELP: &str = "Example: echo 'S1F13 W <L> .' | hsms encode > message.bin\n\n\
+    Statuses: 0 every message is encoded; 2 the command line is refused, or the input (Input, Syntax, Number, Count,\n\
+    Deep, TooLarge, TooLong); 3 the input can't be read (Read), the output can't be written (Write), or memory is\n\
+    wanting (Memory). Nothing is written where the input is refused.";
+
+const VERSION: &str = "0.1 (session logs of versions 1 and 2)";
+
+/// The command `hsms`, which wants one of four subcommands.
+pub fn command<'a>(alloc: Global) -> Result<Command<'a>, AllocError>
+    ensures { IfOk result (λ command. app_of command ≡ command_line) }
+{
+    let hsms = Command::new(alloc, "hsms")
+        .bin_name("hsms")?
+        .about("Audits HSMS session logs, reads and writes HSMS messages, and serves a connection")
+        .version(VERSION)
+        .subcommand_required(true);
+    let hsms = hsms.subcommand(show_command(alloc)?)?;
+    let hsms = hsms.subcommand(audit_command(alloc))?;
+    let hsms = hsms.subcommand(encode_command(alloc)?)?;
+    hsms.subcommand(serve_command(alloc)?)
+}
+
+fn show_command<'a>(alloc: Global) -> Result<Command<'a>, AllocError>
+    ensures { IfOk result (λ command. app_of command ≡ record { top = show_command; subs = [] }) }
+{
+    Command::new(alloc, "show")
+        .about("Shows the HSMS messages of standard input, a line each")
+        .after_help(SHOW_HELP)
+        .arg(max_option(alloc))?
+        .arg(depth_option(alloc))
+}
+
+fn audit_command<'a>(alloc: Global) -> Command<'a>
+    ensures { app_of result ≡ record { top = audit_command; subs = [] } }
+{
+    Command::new(alloc, "audit")
+        .about("Audits the session log of standard input")
+        .override_usage(AUDIT_USAGE)
+        .after_help(AUDIT_HELP)
+}
+
+fn encode_command<'a>(alloc: Global) -> Result<Command<'a>, AllocError>
+    ensures { IfOk result (λ command. app_of command ≡ record { top = encode_command; subs = [] }) }
+{
+    Command::new(alloc, "encode")
+        .about("Encodes the messages of standard input, in notation, as HSMS octets")
+        .after_help(ENCODE_HELP)
+        .arg(device_option(alloc))?
+        .arg(system_option(alloc))?
+        .arg(max_option(alloc))?
+        .arg(depth_option(alloc))?
+        .arg(hex_option(alloc))
+}

@@ -1,0 +1,69 @@
+//! The options of messages as they are described to `clap`.
+
+ghost use Rattle.std.specs.Prelude.{◌≡◌, codes, false};
+ghost use Rattle.clap.specs.Words.{rule_of};
+ghost use Rattle.hsms_options.specs.Number.{depth_number, device_number, flag_option, max_number, option_of, system_number};
+
+use clap::{Arg, ArgAction, value_parser};
+use std::alloc::Global;
+
+/// The option `--max`.
+pub fn max_option<'a>(alloc: Global) -> Arg<'a>
+    ensures rule { rule_of result ≡ option_of max_number }
+    ensures local { result.global ≡ false }
+{
+    Arg::new(alloc, "max")
+        .long("max")
+        .value_name("N")
+        .help("Longest header and text of a message, in octets: 256 to 33554432 [default: 1048576]")
+        .value_parser(value_parser!(u32).range(256..=33554432))
+}
+
+/// The option `--depth`.
+pub fn depth_option<'a>(alloc: Global) -> Arg<'a>
+    ensures rule { rule_of result ≡ option_of depth_number }
+    ensures local { result.global ≡ false }
+{
+    Arg::new(alloc, "depth")
+        .long("depth")
+        .value_name("N")
+        .help("Deepest nesting of lists: 1 to 100 [default: 32]")
+        .value_parser(value_parser!(u8).range(1..=100))
+}
+
+/// The option `--device`.
+pub fn device_option<'a>(alloc: Global) -> Arg<'a>
+    ensures rule { rule_of result ≡ option_of device_number }
+    ensures local { result.global ≡ false }
+{
+    Arg::new(alloc, "device")
+        .long("device")
+        .value_name("N")
+        .help("Device, the session ID of the messages: 0 to 32767 [default: 0]")
+        .value_parser(value_parser!(u16).range(0..=32767))
+}
+
+/// The option `--system`.
+pub fn system_option<'a>(alloc: Global) -> Arg<'a>
+    ensures rule { rule_of result ≡ option_of system_number }
+    ensures local { result.global ≡ false }
+{
+    Arg::new(alloc, "system")
+        .long("system")
+        .value_name("N")
+        .help(
+            "System bytes of the first message, from which they are counted up: 0 to 4294967295 [default: 1]",
+        )
+        .value_parser(value_parser!(u32))
+}
+
+/// The option `--hex`.
+pub fn hex_option<'a>(alloc: Global) -> Arg<'a>
+    ensures rule { rule_of result ≡ flag_option (codes "hex") }
+    ensures local { result.global ≡ false }
+{
+    Arg::new(alloc, "hex")
+        .long("hex")
+        .help("Write each message as a line of hexadecimal")
+        .action(ArgAction::SetTrue)
+}

@@ -1,0 +1,175 @@
+//! The subcommand `hsms serve` as it is described to `clap`.
+
+ghost use Rattle.std.specs.Prelude.{◌≡◌, IfOk, Some, [], codes, pos, false};
+ghost use Rattle.clap.specs.Words.{app_of, rule_of};
+ghost use Rattle.clap.specs.declared.builder.value_parser.ValueParser.TheVariants.{Signed};
+ghost use Rattle.hsms_options.specs.Number.{flag_option, option_of};
+ghost use Rattle.hsms_options.specs.Options.{serve_command};
+ghost use Rattle.hsms_options.specs.Service.{connection_rules, desk_rules, limit_rules, needed_option, port_number, text_option, with_rules};
+
+use crate::describing_options::{depth_option, device_option, max_option};
+use clap::{Arg, ArgAction, Command, value_parser};
+use std::alloc::{AllocError, Global};
+
+const SERVE_USAGE: &str =
+    "hsms serve --role ROLE --link LINK --address A --port P [OPTIONS] [--send < NOTATION] > LOG";
+
+const SERVE_HELP: &str =
+    "Each end answers Select, Linktest, S1F1, S1F13 and S2F25, and rejects or aborts what it may not take.\n\n\
+    Example: hsms serve --role equipment --link passive --address 127.0.0.1 --port 5000 > equipment.log\n\n\
+    Statuses: 0 the connection was served to its end; 2 the command line or the script is refused (Input, Syntax,\n\
+    Number, Count, Deep); 3 there is no connection, or it broke (Link), the log can't be written (Log), all turns are\n\
+    used (Turns), standard input can't be read (Read), or memory is wanting (Memory).";
+
+/// The subcommand `serve`.
+pub fn serve_command<'a>(alloc: Global) -> Result<Command<'a>, AllocError>
+    ensures { IfOk result (λ command. app_of command ≡ record { top = serve_command; subs = [] }) }
+{
+    let serve = Command::new(alloc, "serve")
+        .about("Serves one HSMS connection, and writes its log")
+        .override_usage(SERVE_USAGE)
+        .after_help(SERVE_HELP);
+    let connected = with_connection(alloc, serve)?;
+    let limited = with_limits(alloc, connected)?;
+    with_desk(alloc, limited)
+}
+
+// Adds how the end gets its connection, and its device.
+fn with_connection<'a>(alloc: Global, command: Command<'a>) -> Result<Command<'a>, AllocError>
+    ensures { IfOk result (λ c. app_of c ≡ with_rules (app_of command.entry) connection_rules) }
+{
+    command
+        .arg(needed_option(alloc, "role", "ROLE", "What this end is: host or equipment"))?
+        .arg(needed_option(
+            alloc,
+            "link",
+            "LINK",
+            "How it gets its connection: active connects, passive listens",
+        ))?
+        .arg(needed_option(
+            alloc,
+            "address",
+            "A",
+            "Where it connects to, or listens: an IP address or the name of a host",
+        ))?
+        .arg(port_option(alloc))?
+        .arg(device_option(alloc))
+}
+
+// Adds its times, and the greatest length and depth of its messages.
+fn with_limits<'a>(alloc: Global, command: Command<'a>) -> Result<Command<'a>, AllocError>
+    ensures { IfOk result (λ c. app_of c ≡ with_rules (app_of command.entry) limit_rules) }
+{
+    command
+        .arg(time_option(
+            alloc,
+            "t3",
+            "Longest wait for a reply, in ms: 1 to 3600000 [default: 45000]",
+        ))?
+        .arg(time_option(
+            alloc,
+            "t6",
+            "Longest wait for a control response, in ms: 1 to 3600000 [default: 6000]",
+        ))?
+        .arg(time_option(
+            alloc,
+            "t7",
+            "Longest time without being selected, in ms: 1 to 3600000 [default: 10000]",
+        ))?
+        .arg(time_option(
+            alloc,
+            "t8",
+            "Longest time between octets of a message, in ms: 1 to 3600000 [default: 5000]",
+        ))?
+        .arg(max_option(alloc))?
+        .arg(depth_option(alloc))
+}
+
+// Adds what it sends, and how long it goes on.
+fn with_desk<'a>(alloc: Global, command: Command<'a>) -> Result<Command<'a>, AllocError>
+    ensures { IfOk result (λ c. app_of c ≡ with_rules (app_of command.entry) desk_rules) }
+{
+    command
+        .arg(count_option(
+            alloc,
+            "first-system",
+            "System bytes of the first own message, from which they are counted up: 0 to 4294967295 [default: 1]",
+        ))?
+        .arg(count_option(
+            alloc,
+            "turns",
+            "How many turns it takes at most, each a wait or a message: 0 to 4294967295 [default: 4294967295]",
+        ))?
+        .arg(text_option(alloc, "mdln", "Model of the equipment [default: empty]"))?
+        .arg(text_option(
+            alloc,
+            "softrev",
+            "Software revision of the equipment [default: empty]",
+        ))?
+        .arg(send_option(alloc))
+}
+
+fn needed_option<'a>(alloc: Global, name: &'a str, value: &'a str, help: &'a str) -> Arg<'a>
+    ensures rule { rule_of result ≡ needed_option name.entry.now }
+    ensures local { result.global ≡ false }
+{
+    Arg::new(alloc, name)
+        .long(name)
+        .value_name(value)
+        .required(true)
+        .help(help)
+}
+
+fn text_option<'a>(alloc: Global, name: &'a str, help: &'a str) -> Arg<'a>
+    ensures rule { rule_of result ≡ text_option name.entry.now }
+    ensures local { result.global ≡ false }
+{
+    Arg::new(alloc, name)
+        .long(name)
+        .value_name("TEXT")
+        .help(help)
+}
+
+fn time_option<'a>(alloc: Global, name: &'a str, help: &'a str) -> Arg<'a>
+    ensures rule { rule_of result ≡ record (text_option name.entry.now) { parser = Some (Signed (pos 1) (pos 3600000)) } }
+    ensures local { result.global ≡ false }
+{
+    Arg::new(alloc, name)
+        .long(name)
+        .value_name("N")
+        .help(help)
+        .value_parser(value_parser!(u32).range(1..=3600000))
+}
+
+fn count_option<'a>(alloc: Global, name: &'a str, help: &'a str) -> Arg<'a>
+    ensures rule { rule_of result ≡ record (text_option name.entry.now) { parser = Some (Signed (pos 0) (pos 4294967295)) } }
+    ensures local { result.global ≡ false }
+{
+    Arg::new(alloc, name)
+        .long(name)
+        .value_name("N")
+        .help(help)
+        .value_parser(value_parser!(u32))
+}
+
+fn port_option<'a>(alloc: Global) -> Arg<'a>
+    ensures rule { rule_of result ≡ option_of port_number }
+    ensures local { result.global ≡ false }
+{
+    Arg::new(alloc, "port")
+        .long("port")
+        .value_name("P")
+        .required(true)
+        .help("TCP port there: 1 to 65535")
+        .value_parser(value_parser!(u16).range(1..=65535))
+}
+
+fn send_option<'a>(alloc: Global) -> Arg<'a>
+    ensures rule { rule_of result ≡ flag_option (codes "send") }
+    ensures local { result.global ≡ false }
+{
+    Arg::new(alloc, "send")
+        .long("send")
+        .help("Send the messages of standard input, in notation, and then separate")
+        .action(ArgAction::SetTrue)
+}

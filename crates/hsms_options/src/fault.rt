@@ -1,0 +1,82 @@
+//! Why the command ends before its work is done.
+
+ghost use Rattle.std.specs.Prelude.{◌≡◌, Some, codes};
+ghost use Rattle.hsms_options.specs.Status.{IsRefusedAs, exit_status_of, fault_text};
+ghost use Rattle.hsms_options.specs.declared.fault.ToolFault.TheVariants.{Memory};
+
+use std::alloc::{AllocError, Global};
+use std::error::Error;
+use std::fmt;
+
+/// A fault, which is shown as its words for the user.
+#[derive(Debug, Drop)]
+pub enum ToolFault {
+    /// The input is refused.
+    Refused(String),
+    /// A device failed, or gives more than the command takes.
+    Device(&'static str),
+    Memory,
+}
+
+impl ToolFault {
+    ghost use Rattle.hsms_options.specs.Status.{status_of};
+
+    /// The status with which the command ends.
+    pub fn status(&self) -> u8
+        ensures { result ≡ status_of self.now }
+    {
+        match self {
+            ToolFault::Refused(_) => 2,
+            ToolFault::Device(_) | ToolFault::Memory => 3,
+        }
+    }
+}
+
+impl fmt::Display for ToolFault {
+    ghost output = { λ fault. Some (fault_text fault) };
+
+    fn fmt<W: fmt::Write>(&self, f: &mut fmt::Formatter<W>) -> fmt::Result {
+        match self {
+            ToolFault::Refused(words) => write!(f, "{words}"),
+            ToolFault::Device(word) => write!(f, "{word}"),
+            ToolFault::Memory => write!(f, "Memory"),
+        }
+    }
+}
+
+impl Error for ToolFault {}
+
+impl From<AllocError> for ToolFault {
+    ghost from_gives = { λ _ e. e ≡ Memory };
+
+    fn from(_: AllocError) -> ToolFault {
+        ToolFault::Memory
+    }
+}
+
+/// The refusal of an input under these words, or want of memory for them.
+pub fn refused(alloc: Global, words: &str) -> ToolFault
+    ensures { IsRefusedAs words.now result }
+{
+    match String::from_str(alloc, words) {
+        Ok(words) => ToolFault::Refused(words),
+        Err(_) => ToolFault::Memory,
+    }
+}
+
+/// The status with which the command ends on an answer, which is whether all is well.
+pub fn exit_status(answer: &Result<bool, ToolFault>) -> u8
+    ensures { result ≡ exit_status_of answer.now }
+{
+    match answer {
+        Ok(well) => if *well { 0 } else { 1 },
+        Err(fault) => fault.status(),
+    }
+}
+
+/// The fault of a command line that asks for nothing that the command does.
+pub fn no_request(alloc: Global) -> ToolFault
+    ensures { IsRefusedAs (codes "command line") result }
+{
+    refused(alloc, "command line")
+}

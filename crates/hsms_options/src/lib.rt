@@ -1,0 +1,23 @@
+//! The command line of `hsms`: how it is described to `clap`, and what its words ask for.
+//!
+//! [`parse`] answers what the words ask for, as a [`Request`]: a [`Task`] between standard input and standard output, or
+//! a connection that is to be served. What the command refuses, and what stops it, is a [`ToolFault`]; [`exit_status`]
+//! has the status with which the command ends:
+//!
+//! ```
+//! let request = parse(alloc, &words)?;
+//! let status = exit_status(&Err(ToolFault::Memory)); // 3
+//! ```
+#![tactic(auto)]
+
+mod describing;
+mod describing_options;
+mod describing_serve;
+mod fault;
+mod options;
+mod service;
+mod values;
+
+pub use fault::{ToolFault, exit_status, no_request, refused};
+pub use options::{Request, Task, parse};
+pub use service::Service;

@@ -1,0 +1,158 @@
+//! The command line, which is judged before anything is read.
+
+ghost use Rattle.std.specs.Prelude.{◌≡◌, ◌≢◌, IfOk, IfErr, IfSome, IsErrAnd, Ok, None, codes, map, string_bytes};
+ghost use Rattle.clap.specs.Words.{found_of, kind_of, rows_of, subcommand_rows_of};
+ghost use Rattle.clap.specs.declared.error.kind.ErrorKind.TheVariants.{OutOfMemory};
+ghost use Rattle.hsms_options.specs.Options.{AsksBy, AsksFor, AsksForTask, CallsForText, IsHelp, IsTaskWithinLimits, IsWithinLimits, Spells, SpellsNothing, request_to_serve};
+ghost use Rattle.hsms_options.specs.Status.{IsRefusedAs, IsRefusedFor};
+ghost use Rattle.hsms_options.specs.declared.options.Request.{Request};
+ghost use Rattle.hsms_options.specs.declared.options.Request.TheVariants as request;
+ghost use Rattle.hsms_options.specs.declared.options.Task.{Task};
+
+use crate::describing::command;
+use crate::fault::{ToolFault, no_request};
+use crate::service::{Service, asked_to_serve};
+use crate::values::{depth_of, device_of, flag_of, max_of, system_of};
+use clap::error::ErrorKind;
+use clap::{ArgMatches, Error};
+use std::alloc::Global;
+
+/// What the user asks for.
+#[derive(Debug, Drop)]
+pub enum Request {
+    /// A task between standard input and standard output.
+    Task(Task),
+    /// A connection is to be served.
+    Serve(Service),
+}
+
+/// What is to be done with standard input and standard output.
+#[derive(Debug, Drop)]
+pub enum Task {
+    /// The text is to be printed.
+    Help(String),
+    /// The messages of standard input are to be shown. `max` is the greatest count of octets of header and text, and
+    /// `depth` the deepest nesting of lists.
+    Show {
+        max: u32,
+        depth: u8,
+    },
+    /// The log of standard input is to be audited.
+    Audit,
+    /// The messages of standard input, in notation, are to be encoded for a device, with system bytes from `system` on:
+    /// as octets, or with `hex` as lines of hexadecimal.
+    Encode {
+        device: u16,
+        system: u32,
+        max: u32,
+        depth: u8,
+        hex: bool,
+    },
+}
+
+/// What the words of the command line ask for, the first of which is the command's name.
+pub fn parse(alloc: Global, words: &[String]) -> Result<Request, ToolFault>
+    ensures asks { IfOk result (Spells (map string_bytes words.now)) }
+    ensures limits { IfOk result IsWithinLimits }
+    ensures refusal { IfErr result (IsRefusedFor (SpellsNothing (map string_bytes words.now)) (codes "command line")) }
+{
+    let command = command(alloc)?;
+    match command.try_get_matches_from(words) {
+        Ok(matches) => asked(alloc, &matches),
+        Err(error) => explained(alloc, &error),
+    }
+}
+
+fn asked(alloc: Global, matches: &ArgMatches<'_>) -> Result<Request, ToolFault>
+    ensures asks { IfOk result (AsksBy (subcommand_rows_of matches.now)) }
+    ensures limits { IfOk result IsWithinLimits }
+    ensures refusal { IfErr result (IsRefusedFor
+        ((request : Request) → AsksBy (subcommand_rows_of matches.now) request → ⊥) (codes "command line")) }
+{
+    match matches.subcommand() {
+        Some((name, options)) => asked_by(alloc, name, options),
+        None => Err(no_request(alloc)),
+    }
+}
+
+// What a subcommand asks for, with these options.
+fn asked_by(alloc: Global, name: &str, options: &ArgMatches<'_>) -> Result<Request, ToolFault>
+    ensures asks { IfOk result (AsksFor name.now (rows_of (found_of options.now))) }
+    ensures limits { IfOk result IsWithinLimits }
+    ensures refusal { IfErr result (IsRefusedFor
+        ((request : Request) → AsksFor name.now (rows_of (found_of options.now)) request → ⊥) (codes "command line")) }
+{
+    match name {
+        "audit" => Ok(Request::Task(Task::Audit)),
+        "show" => of_task(alloc, asked_to_show(options)),
+        "encode" => of_task(alloc, asked_to_encode(options)),
+        "serve" => of_service(asked_to_serve(alloc, options)),
+        _ => Err(no_request(alloc)),
+    }
+}
+
+fn of_task(alloc: Global, asked: Option<Task>) -> Result<Request, ToolFault>
+    ensures some { IfSome asked (λ task. result ≡ Ok (request.Task task)) }
+    ensures none { asked ≡ None → IsErrAnd result (IsRefusedAs (codes "command line")) }
+{
+    match asked {
+        Some(task) => Ok(Request::Task(task)),
+        None => Err(no_request(alloc)),
+    }
+}
+
+fn of_service(asked: Result<Service, ToolFault>) -> Result<Request, ToolFault>
+    ensures { result ≡ request_to_serve asked }
+{
+    match asked {
+        Ok(service) => Ok(Request::Serve(service)),
+        Err(fault) => Err(fault),
+    }
+}
+
+fn asked_to_show(options: &ArgMatches<'_>) -> Option<Task>
+    ensures asks { IfSome result (AsksForTask (codes "show") (rows_of (found_of options.now))) }
+    ensures limits { IfSome result IsTaskWithinLimits }
+    ensures none { result ≡ None → (task : Task)
+        → AsksForTask (codes "show") (rows_of (found_of options.now)) task → ⊥ }
+{
+    let max = max_of(options)?;
+    let depth = depth_of(options)?;
+    Some(Task::Show { max, depth })
+}
+
+fn asked_to_encode(options: &ArgMatches<'_>) -> Option<Task>
+    ensures asks { IfSome result (AsksForTask (codes "encode") (rows_of (found_of options.now))) }
+    ensures limits { IfSome result IsTaskWithinLimits }
+    ensures none { result ≡ None → (task : Task)
+        → AsksForTask (codes "encode") (rows_of (found_of options.now)) task → ⊥ }
+{
+    let device = device_of(options)?;
+    let system = system_of(options)?;
+    let max = max_of(options)?;
+    let depth = depth_of(options)?;
+    let hex = flag_of(options, "hex");
+    Some(Task::Encode {
+        device,
+        system,
+        max,
+        depth,
+        hex,
+    })
+}
+
+// Help or the version is asked for, or the command line is refused.
+fn explained(alloc: Global, error: &Error) -> Result<Request, ToolFault>
+    ensures help { IfOk result (λ request. IsHelp request × CallsForText (kind_of error.now)) }
+    ensures limits { IfOk result IsWithinLimits }
+    ensures refusal { IfErr result (IsRefusedFor
+        ((CallsForText (kind_of error.now) → ⊥) × (kind_of error.now ≢ OutOfMemory)) (codes "command line")) }
+{
+    match error.kind() {
+        ErrorKind::DisplayHelp | ErrorKind::DisplayVersion => {
+            Ok(Request::Task(Task::Help(error.to_string(alloc)?)))
+        }
+        ErrorKind::OutOfMemory => Err(ToolFault::Memory),
+        _ => Err(no_request(alloc)),
+    }
+}

@@ -1,0 +1,79 @@
+-- An input that is read piece by piece.
+use Rattle.std.proofs.Common.{◌≡◌, ◌≤◌, ◌<◌, ◌+◌, ◌++◌, ℕ, List, [], length, take, drop, Some, Ok, Err, refl, sym, ◌∙◌, ap, subst, codes, arith}
+use Rattle.std.specs.Prelude.{Option}
+use Rattle.std.proofs.lemmas.List.{append-nil, append_assoc, length-append, take-append-drop, take_at}
+use Rattle.std.proofs.lemmas.Bool.Decides.{nat_tests}
+use Rattle.hsms_frame.specs.Device.{WhereTold, Takes, IsAtEnd, ends_after}
+use Rattle.hsms_options.specs.declared.fault.ToolFault.{ToolFault}
+use Rattle.hsms_options.specs.declared.fault.ToolFault.TheVariants.{Refused, Device, Memory}
+use Rattle.hsms_tasks.specs.Encode.{IsWholeInput, IsPartOfInput}
+use Rattle.hsms_tasks.specs.Show.{CountsFailure, HasWord, IsRead}
+use Rattle.hsms_options.specs.Status.{IsRefusedAs}
+
+-- these octets were read, and the others are left
+abbrev pub ReadSoFar : Option (List ℕ) → Option (List ℕ) → List ℕ → Type 0
+ReadSoFar initial left octets =
+    (input : List ℕ) → initial ≡ Some input → (rest : List ℕ) × (input ≡ octets ++ rest) × (left ≡ Some rest)
+
+pub reads_none : (initial : Option (List ℕ)) → ReadSoFar initial initial []
+reads_none initial = λ input told. (input, refl, told)
+
+pub reads_more : (initial mid left : Option (List ℕ)) (octets buffer new : List ℕ) (n : ℕ) → ReadSoFar initial mid octets → Takes mid left n buffer
+    → new ≡ octets ++ take n buffer → ReadSoFar initial left new
+reads_more initial mid left octets buffer new n so_far takes added input told =
+    let a = so_far input told in
+    let rest : List ℕ = a.0 in
+    let t = takes rest a.2 in (
+      drop n rest,
+      a.1 ∙ ap (λ xs. octets ++ xs) (sym (take-append-drop n rest)) ∙ sym (append_assoc octets (take n rest) (drop n rest))
+          ∙ ap (λ xs. (octets ++ xs) ++ drop n rest) (sym t.1) ∙ ap (λ xs. xs ++ drop n rest) (sym added),
+      t.2,
+    )
+
+pub reads_whole : (initial left : Option (List ℕ)) (octets : List ℕ) (limit : ℕ) → ReadSoFar initial left octets → IsAtEnd left → length octets ≤ limit
+    → WhereTold initial (IsWholeInput limit octets)
+reads_whole initial left octets limit so_far end within input told =
+    let a = so_far input told in
+    let none : a.0 ≡ [] = end a.0 a.2 in
+    let same : octets ≡ input = sym (a.1 ∙ ap (λ xs. octets ++ xs) none ∙ append-nil octets) in
+    let P : List ℕ → Type 0 = λ xs. length xs ≤ limit in
+    (same, subst P same within)
+
+pub reads_past : (initial left : Option (List ℕ)) (octets : List ℕ) (limit : ℕ) (fault : ToolFault) → ReadSoFar initial left octets → limit < length octets
+    → IsRefusedAs (codes "Input") fault → WhereTold initial (λ input. IsPartOfInput limit input fault)
+reads_past initial left octets limit (Refused words) so_far past told_as input told =
+    let a = so_far input told in
+    let size : length input ≡ length octets + length a.0 = ap length a.1 ∙ length-append octets a.0 in
+    (omega arith, told_as)
+reads_past initial left octets limit (Device word) so_far past told_as input told = absurd told_as
+reads_past initial left octets limit Memory so_far past told_as input told = tt
+
+pub fails_to_read : (limit : ℕ) (fault : ToolFault) → IsRead fault → (input : List ℕ) → IsPartOfInput limit input fault
+fails_to_read limit (Refused words) is input = absurd is
+fails_to_read limit (Device word) is input = is
+fails_to_read limit Memory is input = tt
+
+-- a vector whose whole slice was written
+pub rewritten : (len : ℕ) (part old : List ℕ) → length part ≡ len → take len (part ++ drop (length part) old) ≡ part
+rewritten len part old size = take_at part (drop (length part) old) len size
+
+-- a read that gave something didn't find the end
+pub not_at_end : (room n ends new : ℕ) → (n ≡ 0 → ⊥) → new ≡ ends_after room (Ok n) ends → new ≡ ends
+not_at_end room n ends new some step = grind (arith, nat_tests, step, some)
+
+-- a refusal is no failure of a device
+pub refuses : (T : Type 0) (words word : List ℕ) (fault : ToolFault) (old new : ℕ) → IsRefusedAs words fault → new ≡ old
+    → CountsFailure {T = T} word (Err fault) old new
+refuses T words word (Refused given) old new told_as same = same
+refuses T words word (Device given) old new told_as same = absurd told_as
+refuses T words word Memory old new told_as same = same
+
+pub word_of_refusal : (words word : List ℕ) (fault : ToolFault) → IsRefusedAs words fault → HasWord word fault
+word_of_refusal words word (Refused given) told_as = tt
+word_of_refusal words word (Device given) told_as = absurd told_as
+word_of_refusal words word Memory told_as = tt
+
+pub word_of_read : (fault : ToolFault) → IsRead fault → HasWord (codes "Read") fault
+word_of_read (Refused given) is = absurd is
+word_of_read (Device given) is = is
+word_of_read Memory is = tt

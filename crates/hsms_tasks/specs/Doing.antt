@@ -1,0 +1,41 @@
+-- What the command does between its input and its output.
+use Rattle.std.specs.Prelude.{◌≡◌, ℕ, Bool, true, List, codes, string_bytes, Option, Result, Ok, Err, IfOk}
+use Rattle.std.specs.Bool.{OnTrue}
+use Rattle.hsms_frame.specs.Device.{SourceState, SinkState, WhereTold, Grows, GrowsByFront}
+use Rattle.hsms_log.specs.Auditing.{HasEnded}
+use Rattle.hsms_options.specs.declared.fault.ToolFault.{ToolFault}
+use Rattle.hsms_options.specs.declared.fault.ToolFault.TheVariants.{Refused, Device, Memory}
+use Rattle.hsms_options.specs.declared.options.Task.{Task}
+use Rattle.hsms_options.specs.declared.options.Task.TheVariants as asked
+use Rattle.hsms_tasks.specs.Audit.{AuditsTo}
+use Rattle.hsms_tasks.specs.Encode.{EncodesAll}
+use Rattle.hsms_tasks.specs.Show.{Shows}
+
+-- a text is written, or a part of it where the write fails
+abbrev pub Prints : List ℕ → Result Bool ToolFault → Option (List ℕ) → Option (List ℕ) → Type 0
+Prints text (Ok well) old new = (well ≡ true) × Grows old new text
+Prints text (Err (Refused words)) old new = ⊥
+Prints text (Err (Device word)) old new = (word.now ≡ codes "Write") × GrowsByFront old new text
+Prints text (Err Memory) old new = ⊥
+
+-- all is well where the work is done, and the end of the input was found then
+abbrev pub IsDone : Result Bool ToolFault → SourceState → SourceState → Type 0
+IsDone result old new = IfOk result (λ well. (well ≡ true) × HasEnded old.ends new.ends)
+
+-- What is done for a task, with the states of input and output before and now: help is printed; messages are shown,
+-- or encoded; a log is audited, and all is well where it passes.
+abbrev pub Performs : Task → Result Bool ToolFault → SourceState → SourceState → SinkState → SinkState → Type 0
+Performs (asked.Help text) result old new before after = Prints (string_bytes text) result before.written after.written
+Performs (asked.Show max depth) result old new before after =
+    IsDone result old new × WhereTold old.left (λ input. Shows max depth input result new.left before.written after.written)
+Performs asked.Audit result old new before after =
+    IfOk result (λ well. OnTrue well (HasEnded old.ends new.ends))
+    × WhereTold old.left (λ input. AuditsTo input result new.left (HasEnded old.ends new.ends) before.written after.written)
+Performs (asked.Encode device system max depth hex) result old new before after =
+    IsDone result old new
+    × WhereTold old.left (λ input. EncodesAll device max depth hex system input result before.written after.written)
+
+-- all is well where it is done
+abbrev pub well : Result (Unit {0}) ToolFault → Result Bool ToolFault
+well (Ok _) = Ok true
+well (Err fault) = Err fault

@@ -1,0 +1,6 @@
+pub mod Audit
+pub mod Doing
+pub mod Encode
+pub mod Line
+pub mod Show
+pub mod Verdict

@@ -1,0 +1,55 @@
+//! The whole of an input.
+
+ghost use Rattle.std.specs.Prelude.{◌≡◌, ◌≤◌, ◌<◌, length, IfOk, OnOk, IfErr, Ok, codes};
+ghost use Rattle.hsms_frame.specs.Count.{next_count};
+ghost use Rattle.hsms_frame.specs.Device.{WhereTold, Takes, IsAtEnd, ends_after};
+ghost use Rattle.hsms_tasks.specs.Encode.{IsWholeInput, IsPartOfInput};
+ghost use Rattle.hsms_tasks.specs.Show.{CountsFailure, HasWord, IsRead};
+
+use hsms_frame::Source;
+use hsms_options::{ToolFault, refused};
+use std::alloc::Global;
+
+const BLOCK: usize = 65536;
+
+/// The octets of an input, which is refused under the word `Input` where it has more than `limit` of them.
+pub fn read_whole<R: Source>(
+    alloc: Global,
+    source: &mut R,
+    limit: usize,
+) -> Result<Vec<u8>, ToolFault>
+    ensures ok { IfOk result (λ octets. WhereTold (R.state source.old).left (IsWholeInput limit octets.items)) }
+    ensures err { IfErr result (λ fault. WhereTold (R.state source.old).left
+        (λ input. IsPartOfInput limit input fault)) }
+    ensures word { IfErr result (HasWord (codes "Read")) }
+    ensures end { OnOk result ((R.state source.new).ends ≡ next_count (R.state source.old).ends) }
+    ensures reads { CountsFailure (codes "Read") result (R.state source.old).failures (R.state source.new).failures }
+{
+    let mut octets = Vec::new(alloc);
+    let mut block = vec![in alloc; 0u8; BLOCK]?;
+    while octets.len() <= limit {
+        let count = pull(source, &mut block)?;
+        if count == 0 {
+            return Ok(octets);
+        }
+        octets.extend_from_slice(&block[..count])?;
+    }
+    Err(refused(alloc, "Input"))
+}
+
+// Reads some octets to the front of a slice with room, and says how many: none only at the end of the input.
+fn pull<R: Source>(source: &mut R, into: &mut [u8]) -> Result<usize, ToolFault>
+    ensures len { length into.new ≡ length into.old }
+    ensures bound { IfOk result (λ n. n ≤ length into.new) }
+    ensures octets { IfOk result (λ n. Takes (R.state source.old).left (R.state source.new).left n into.new) }
+    ensures end { IfOk result (λ n. n ≡ 0 → 0 < length into.new → IsAtEnd (R.state source.old).left) }
+    ensures ends { IfOk result (λ n. (R.state source.new).ends
+        ≡ ends_after (length into.new) (Ok n) (R.state source.old).ends) }
+    ensures word { IfErr result IsRead }
+    ensures reads { CountsFailure (codes "Read") result (R.state source.old).failures (R.state source.new).failures }
+{
+    match source.pull(into) {
+        Ok(count) => Ok(count),
+        Err(_) => Err(ToolFault::Device("Read")),
+    }
+}

@@ -1,0 +1,137 @@
+//! `hsms show`: messages in octets, as lines.
+
+ghost use Rattle.std.specs.Prelude.{◌≡◌, ◌≤◌, IfOk, IfErr, OnOk, OnErr, is_some, codes, if◌then◌else◌};
+ghost use Rattle.hsms_frame.specs.Count.{count_failure, next_count};
+ghost use Rattle.hsms_frame.specs.Device.{WhereTold, Grows, GrowsByFront};
+ghost use Rattle.hsms_tasks.specs.Show.{Shows, ShowsNext, ReadsNext, IsEnded, Tells, CountsFailure, HasWord, IsOfInput, IsReadOrWrite, IsReadWriteOrEndless, IsWrite};
+
+use crate::line::frame_line;
+use crate::notation::Line;
+use hsms_frame::{Frame, ReadFault, Sink, Source, give_all, read_frame};
+use hsms_options::ToolFault;
+use secs_text::Block;
+use std::alloc::Global;
+
+/// Writes the line of each message of the input, in order, up to the end of the input or the first fault.
+///
+/// `max` is the greatest count of octets of header and text of a message. A data message is shown in notation where its
+/// text is empty or one item whose lists are nested at most `depth` deep, and else with its text in hexadecimal.
+/// Faults:
+///
+/// - `Refused`, where the input isn't messages: `TooShort`, `TooLong` or `CutOff`. The lines of the messages before are
+///   written.
+/// - `Device`: `Read` or `Write`, where a device failed in this call, and `Endless`, where 4,294,967,295 messages are
+///   shown and one more is there. After a failed write a part of the next line may be written. After a failed read all
+///   messages that were taken whole are shown.
+/// - `Memory`. The lines of the messages before are written.
+pub fn show<R: Source, W: Sink>(
+    alloc: Global,
+    source: &mut R,
+    sink: &mut W,
+    max: u32,
+    depth: u8,
+) -> Result<(), ToolFault>
+    requires { depth ≤ 100 }
+    ensures lines { WhereTold (R.state source.old).left (λ input. Shows max depth input result
+        (R.state source.new).left (W.state sink.old).written (W.state sink.new).written) }
+    // Where the source doesn't tell its octets, its end was found once all the same.
+    ensures end { OnOk result ((R.state source.new).ends ≡ next_count (R.state source.old).ends) }
+    ensures word { IfErr result IsReadWriteOrEndless }
+    ensures reads { CountsFailure (codes "Read") result (R.state source.old).failures (R.state source.new).failures }
+    ensures writes { CountsFailure (codes "Write") result (W.state sink.old).failures (W.state sink.new).failures }
+{
+    let mut block = Block::new(alloc)?;
+    let mut line = Line::new(alloc);
+    for _ in 0..u32::MAX {
+        if !show_next(alloc, source, sink, &mut line, &mut block, max, depth)? {
+            return Ok(());
+        }
+    }
+    find_end(alloc, source, max)
+}
+
+// Looks for the end of the input, where as many messages are shown as the command shows.
+fn find_end<R: Source>(alloc: Global, source: &mut R, max: u32) -> Result<(), ToolFault>
+    ensures answer { WhereTold (R.state source.old).left (λ input. IsEnded max input result (R.state source.new).left) }
+    ensures end { OnOk result ((R.state source.new).ends ≡ next_count (R.state source.old).ends) }
+    ensures word { IfErr result IsOfInput }
+    ensures reads { CountsFailure (codes "Read") result (R.state source.old).failures (R.state source.new).failures }
+{
+    let Some(_) = next_frame(alloc, source, max)? else {
+        return Ok(());
+    };
+    Err(ToolFault::Device("Endless"))
+}
+
+// Shows one message, if there is one.
+fn show_next<R: Source, W: Sink>(
+    alloc: Global,
+    source: &mut R,
+    sink: &mut W,
+    line: &mut Line,
+    block: &mut Block,
+    max: u32,
+    depth: u8,
+) -> Result<bool, ToolFault>
+    requires { depth ≤ 100 }
+    ensures line { WhereTold (R.state source.old).left (λ input. ShowsNext max depth input result
+        (R.state source.new).left (W.state sink.old).written (W.state sink.new).written) }
+    ensures end { IfOk result (λ is_shown. (R.state source.new).ends
+        ≡ (if is_shown then (R.state source.old).ends else next_count (R.state source.old).ends)) }
+    ensures word { IfErr result IsReadOrWrite }
+    ensures reads { CountsFailure (codes "Read") result (R.state source.old).failures (R.state source.new).failures }
+    ensures writes { CountsFailure (codes "Write") result (W.state sink.old).failures (W.state sink.new).failures }
+{
+    let Some(frame) = next_frame(alloc, source, max)? else {
+        return Ok(false);
+    };
+    let octets = frame_line(alloc, line, block, &frame, depth)?;
+    put(sink, octets)?;
+    Ok(true)
+}
+
+fn next_frame<R: Source>(
+    alloc: Global,
+    source: &mut R,
+    max: u32,
+) -> Result<Option<Frame>, ToolFault>
+    ensures frame { WhereTold (R.state source.old).left
+        (λ input. ReadsNext max input result (R.state source.new).left) }
+    ensures end { IfOk result (λ frame. (R.state source.new).ends
+        ≡ (if is_some frame then (R.state source.old).ends else next_count (R.state source.old).ends)) }
+    ensures word { IfErr result (HasWord (codes "Read")) }
+    ensures reads { CountsFailure (codes "Read") result (R.state source.old).failures (R.state source.new).failures }
+{
+    match read_frame(alloc, source, max) {
+        Ok(frame) => Ok(frame),
+        Err(fault) => Err(told(alloc, fault)),
+    }
+}
+
+fn told(alloc: Global, fault: ReadFault) -> ToolFault
+    ensures { Tells fault result }
+{
+    match fault {
+        ReadFault::Memory => ToolFault::Memory,
+        ReadFault::Read => ToolFault::Device("Read"),
+        ReadFault::TooShort { .. } | ReadFault::TooLong { .. } | ReadFault::CutOff => {
+            match fault.to_string(alloc) {
+                Ok(words) => ToolFault::Refused(words),
+                Err(_) => ToolFault::Memory,
+            }
+        }
+    }
+}
+
+/// Writes all octets.
+pub fn put<W: Sink>(sink: &mut W, octets: &[u8]) -> Result<(), ToolFault>
+    ensures ok { OnOk result (Grows (W.state sink.old).written (W.state sink.new).written octets.now) }
+    ensures err { OnErr result (GrowsByFront (W.state sink.old).written (W.state sink.new).written octets.now) }
+    ensures word { IfErr result IsWrite }
+    ensures writes { (W.state sink.new).failures ≡ count_failure result (W.state sink.old).failures }
+{
+    match give_all(sink, octets) {
+        Ok(()) => Ok(()),
+        Err(_) => Err(ToolFault::Device("Write")),
+    }
+}
