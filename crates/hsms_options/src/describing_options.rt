@@ -5,6 +5,7 @@ ghost use Rattle.clap.specs.Words.{rule_of};
 ghost use Rattle.hsms_options.specs.Number.{depth_number, device_number, flag_option, max_number, option_of, system_number};
 
 use clap::{Arg, ArgAction, value_parser};
+use hsms_machine::{GREATEST_DEPTH, GREATEST_DEVICE, GREATEST_MAX, LEAST_DEPTH, LEAST_MAX};
 use std::alloc::Global;
 
 /// The option `--max`.
@@ -16,7 +17,7 @@ pub fn max_option<'a>(alloc: Global) -> Arg<'a>
         .long("max")
         .value_name("N")
         .help("Longest header and text of a message, in octets: 256 to 33554432 [default: 1048576]")
-        .value_parser(value_parser!(u32).range(256..=33554432))
+        .value_parser(value_parser!(u32).range(i64::from(LEAST_MAX)..=i64::from(GREATEST_MAX)))
 }
 
 /// The option `--depth`.
@@ -28,7 +29,7 @@ pub fn depth_option<'a>(alloc: Global) -> Arg<'a>
         .long("depth")
         .value_name("N")
         .help("Deepest nesting of lists: 1 to 100 [default: 32]")
-        .value_parser(value_parser!(u8).range(1..=100))
+        .value_parser(value_parser!(u8).range(i64::from(LEAST_DEPTH)..=i64::from(GREATEST_DEPTH)))
 }
 
 /// The option `--device`.
@@ -40,7 +41,7 @@ pub fn device_option<'a>(alloc: Global) -> Arg<'a>
         .long("device")
         .value_name("N")
         .help("Device, the session ID of the messages: 0 to 32767 [default: 0]")
-        .value_parser(value_parser!(u16).range(0..=32767))
+        .value_parser(value_parser!(u16).range(0..=i64::from(GREATEST_DEVICE)))
 }
 
 /// The option `--system`.

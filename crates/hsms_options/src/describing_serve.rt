@@ -8,7 +8,9 @@ ghost use Rattle.hsms_options.specs.Options.{serve_command};
 ghost use Rattle.hsms_options.specs.Service.{connection_rules, desk_rules, limit_rules, needed_option, port_number, text_option, with_rules};
 
 use crate::describing_options::{depth_option, device_option, max_option};
+use crate::limits::{GREATEST_PORT, LEAST_PORT};
 use clap::{Arg, ArgAction, Command, value_parser};
+use hsms_machine::{GREATEST_TIME, LEAST_TIME};
 use std::alloc::{AllocError, Global};
 
 const SERVE_USAGE: &str =
@@ -138,7 +140,7 @@ fn time_option<'a>(alloc: Global, name: &'a str, help: &'a str) -> Arg<'a>
         .long(name)
         .value_name("N")
         .help(help)
-        .value_parser(value_parser!(u32).range(1..=3600000))
+        .value_parser(value_parser!(u32).range(i64::from(LEAST_TIME)..=i64::from(GREATEST_TIME)))
 }
 
 fn count_option<'a>(alloc: Global, name: &'a str, help: &'a str) -> Arg<'a>
@@ -161,7 +163,7 @@ fn port_option<'a>(alloc: Global) -> Arg<'a>
         .value_name("P")
         .required(true)
         .help("TCP port there: 1 to 65535")
-        .value_parser(value_parser!(u16).range(1..=65535))
+        .value_parser(value_parser!(u16).range(i64::from(LEAST_PORT)..=i64::from(GREATEST_PORT)))
 }
 
 fn send_option<'a>(alloc: Global) -> Arg<'a>

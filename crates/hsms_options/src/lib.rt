@@ -14,6 +14,7 @@ mod describing;
 mod describing_options;
 mod describing_serve;
 mod fault;
+mod limits;
 mod options;
 mod service;
 mod values;

@@ -11,6 +11,10 @@ ghost use Rattle.hsms_options.specs.Status.{IsRefusedFor};
 ghost use Rattle.hsms_options.specs.declared.service.Service.{Service};
 
 use crate::fault::{ToolFault, no_request};
+use crate::limits::{
+    DEFAULT_SYSTEM, DEFAULT_T3, DEFAULT_T6, DEFAULT_T7, DEFAULT_T8, DEFAULT_TURNS, GREATEST_PORT,
+    LEAST_PORT,
+};
 use crate::values::{depth_of, device_of, flag_of, max_of, number_of};
 use clap::ArgMatches;
 use hsms_machine::{GREATEST_TIME, LEAST_TIME, Role, Settings, Side};
@@ -91,8 +95,8 @@ fn terms_of<'a>(options: &ArgMatches<'a>) -> Option<Terms<'a>>
     let settings = settings_of(options)?;
     let address = text_of(options, "address")?;
     let port = port_of(options)?;
-    let first_system = number_of(options, "first-system", 0, u32::MAX, Some(1))?;
-    let turns = number_of(options, "turns", 0, u32::MAX, Some(u32::MAX))?;
+    let first_system = number_of(options, "first-system", 0, u32::MAX, Some(DEFAULT_SYSTEM))?;
+    let turns = number_of(options, "turns", 0, u32::MAX, Some(DEFAULT_TURNS))?;
     Some(Terms {
         settings,
         address,
@@ -123,10 +127,10 @@ fn times_of(options: &ArgMatches<'_>) -> Option<Times>
         IsTimeLimit times.t3 × IsTimeLimit times.t6 × IsTimeLimit times.t7 × IsTimeLimit times.t8) }
     ensures none { result ≡ None → (t3 t6 t7 t8 : ℕ) → HasTimes (rows_of (found_of options.now)) t3 t6 t7 t8 → ⊥ }
 {
-    let t3 = time_of(options, "t3", 45000)?;
-    let t6 = time_of(options, "t6", 6000)?;
-    let t7 = time_of(options, "t7", 10000)?;
-    let t8 = time_of(options, "t8", 5000)?;
+    let t3 = time_of(options, "t3", DEFAULT_T3)?;
+    let t6 = time_of(options, "t6", DEFAULT_T6)?;
+    let t7 = time_of(options, "t7", DEFAULT_T7)?;
+    let t8 = time_of(options, "t8", DEFAULT_T8)?;
     Some(Times { t3, t6, t7, t8 })
 }
 
@@ -142,7 +146,8 @@ fn port_of(options: &ArgMatches<'_>) -> Option<u16>
     ensures value { result ≡ number_in port_number (rows_of (found_of options.now)) }
     ensures within { IfSome result (λ port. (1 ≤ port) × (port ≤ 65535)) }
 {
-    let port = number_of(options, "port", 1, u32::from(u16::MAX), None)?;
+    let greatest = u32::from(GREATEST_PORT);
+    let port = number_of(options, "port", u32::from(LEAST_PORT), greatest, None)?;
     Some(port as u16)
 }
 

@@ -4,21 +4,17 @@ ghost use Rattle.std.specs.Prelude.{◌≡◌, ◌≤◌, ◌&&◌, IfSome, Some
 ghost use Rattle.clap.specs.Words.{found_of, rows_of};
 ghost use Rattle.hsms_options.specs.Number.{IsFlag, depth_number, device_number, max_number, number_in, system_number};
 
+use crate::limits::{DEFAULT_DEPTH, DEFAULT_DEVICE, DEFAULT_MAX, DEFAULT_SYSTEM};
 use clap::ArgMatches;
 use hsms_machine::{GREATEST_DEPTH, GREATEST_DEVICE, GREATEST_MAX, LEAST_DEPTH, LEAST_MAX};
-
-/// The longest header and text where `--max` is left out, in octets.
-const DEFAULT_MAX: u32 = 1_048_576;
-
-/// The deepest nesting of lists where `--depth` is left out.
-const DEFAULT_DEPTH: u32 = 32;
 
 /// The number of `--device`, where it is from 0 to 32,767.
 pub fn device_of(options: &ArgMatches<'_>) -> Option<u16>
     ensures value { result ≡ number_in device_number (rows_of (found_of options.now)) }
     ensures within { IfSome result (λ device. device ≤ 32767) }
 {
-    let device = number_of(options, "device", 0, u32::from(GREATEST_DEVICE), Some(0))?;
+    let greatest = u32::from(GREATEST_DEVICE);
+    let device = number_of(options, "device", 0, greatest, Some(DEFAULT_DEVICE))?;
     Some(device as u16)
 }
 
@@ -26,7 +22,7 @@ pub fn device_of(options: &ArgMatches<'_>) -> Option<u16>
 pub fn system_of(options: &ArgMatches<'_>) -> Option<u32>
     ensures { result ≡ number_in system_number (rows_of (found_of options.now)) }
 {
-    number_of(options, "system", 0, u32::MAX, Some(1))
+    number_of(options, "system", 0, u32::MAX, Some(DEFAULT_SYSTEM))
 }
 
 /// The number of `--max`, where it is from 256 to 33,554,432.

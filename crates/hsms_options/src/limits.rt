@@ -1,0 +1,34 @@
+//! What options are where they are left out, and the limits of those that settings don't limit.
+
+/// The device, the session ID of the messages.
+pub const DEFAULT_DEVICE: u32 = 0;
+
+/// The longest header and text of a message, in octets.
+pub const DEFAULT_MAX: u32 = 1_048_576;
+
+/// The deepest nesting of lists.
+pub const DEFAULT_DEPTH: u32 = 32;
+
+/// The system bytes of the first message.
+pub const DEFAULT_SYSTEM: u32 = 1;
+
+/// The longest wait for a reply, in milliseconds (SEMI E37, T3).
+pub const DEFAULT_T3: u32 = 45_000;
+
+/// The longest wait for a control response, in milliseconds (SEMI E37, T6).
+pub const DEFAULT_T6: u32 = 6_000;
+
+/// The longest time without being selected, in milliseconds (SEMI E37, T7).
+pub const DEFAULT_T7: u32 = 10_000;
+
+/// The longest time between octets of a message, in milliseconds (SEMI E37, T8).
+pub const DEFAULT_T8: u32 = 5_000;
+
+/// How many turns an end takes at most.
+pub const DEFAULT_TURNS: u32 = u32::MAX;
+
+/// The least TCP port.
+pub const LEAST_PORT: u16 = 1;
+
+/// The greatest TCP port.
+pub const GREATEST_PORT: u16 = u16::MAX;
