@@ -1,12 +1,10 @@
 //! The numbers of what a program holds lie within the ranges of their types.
 
 ghost use Rattle.std.specs.Prelude.{All};
-ghost use Rattle.hsms_frame.specs.Frame.{IsOctets};
-ghost use Rattle.hsms_frame.specs.Header.{IsHeader};
-ghost use Rattle.hsms_log.specs.Spelling.{IsEntry, IsEvent, IsMessage};
+ghost use Rattle.hsms_log.specs.Spelling.{IsEntry};
 
-use hsms_frame::{Frame, Header};
-use hsms_machine::{Entry, Event};
+use hsms_log::laws::entry_is_in_range;
+use hsms_machine::Entry;
 
 /// Does nothing. Its contract is the fact.
 pub fn entries_are_in_range(entries: &[Entry])
@@ -17,44 +15,4 @@ pub fn entries_are_in_range(entries: &[Entry])
         entry_is_in_range(&entries[place]);
         place += 1;
     }
-}
-
-fn entry_is_in_range(entry: &Entry)
-    ensures { IsEntry entry.now }
-{
-    let _time = entry.time;
-    event_is_in_range(&entry.event);
-}
-
-fn event_is_in_range(event: &Event)
-    ensures { IsEvent event.now }
-{
-    match event {
-        Event::Sent(frame) => message_is_in_range(frame),
-        Event::Taken(frame) => message_is_in_range(frame),
-        Event::Discarded(frame) => message_is_in_range(frame),
-        Event::T3(system) => {
-            let _system = *system;
-        }
-        Event::Up | Event::Cut(_) | Event::Down => {}
-    }
-}
-
-fn message_is_in_range(frame: &Frame)
-    ensures { IsMessage frame.now }
-{
-    header_is_in_range(frame.header);
-    octets_are_in_range(frame.text.as_slice());
-}
-
-fn header_is_in_range(header: Header)
-    ensures { IsHeader header }
-{
-    let _header = header;
-}
-
-fn octets_are_in_range(octets: &[u8])
-    ensures { IsOctets octets.now }
-{
-    let _count = octets.len();
 }

@@ -2,6 +2,7 @@
 
 ghost use Rattle.hsms_log.specs.Laws.{EachTextHasAVerdict, NoTextHasTwoVerdicts, VersionOneKeepsVerdicts, TextSpellsOneLog, WrittenEntryIsSpelled, WrittenSettingsAreSpelled, WrittenEntryIsReadBack, WrittenSettingsAreReadBack, WrittenLogIsItsText};
 
+pub use crate::range::entry_is_in_range;
 use hsms_machine::laws::{
     each_entry_has_one_answer, empty_log_is_run, front_of_run_is_run, lawful_entry_extends_run,
     version_one_is_kept,

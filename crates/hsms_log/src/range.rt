@@ -1,4 +1,5 @@
-//! The numbers of what a program holds lie within the ranges of their types.
+//! The numbers of what a program holds lie within the ranges of their types. The functions do nothing: their contracts
+//! are the facts.
 
 ghost use Rattle.hsms_frame.specs.Frame.{IsOctets};
 ghost use Rattle.hsms_frame.specs.Header.{IsHeader};
@@ -8,7 +9,7 @@ ghost use Rattle.hsms_log.specs.Spelling.{IsEntry, IsEvent, IsMessage};
 use hsms_frame::{Frame, Header};
 use hsms_machine::{Entry, Event, Settings};
 
-/// Does nothing. Its contract is the fact.
+/// Each entry that a program holds has numbers within the ranges of their types, as one that a line spells has.
 pub fn entry_is_in_range(entry: &Entry)
     ensures { IsEntry entry.now }
 {
@@ -49,7 +50,7 @@ fn octets_are_in_range(octets: &[u8])
     let _count = octets.len();
 }
 
-/// Does nothing. Its contract is the fact.
+/// All settings that a program holds are within their limits.
 pub fn settings_are_in_range(settings: &Settings)
     ensures { IsWithinLimits settings.now }
 {
