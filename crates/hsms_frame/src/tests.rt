@@ -4,6 +4,7 @@ mod writing;
 
 use super::*;
 use std::alloc::{AllocError, Global};
+use std::process::Abort;
 use std::test::Fail;
 
 const SELECT: [u8; 14] = *b"\x00\x00\x00\x0a\xff\xff\x00\x00\x00\x01\x00\x00\x00\x01";
@@ -11,6 +12,8 @@ const SELECT: [u8; 14] = *b"\x00\x00\x00\x0a\xff\xff\x00\x00\x00\x01\x00\x00\x00
 const DATA: [u8; 16] = *b"\x00\x00\x00\x0c\x00\x00\x81\x0d\x00\x00\x00\x00\x00\x01\x01\x00";
 
 const LONG: [u8; 14] = *b"\x00\x00\x01\x01\x00\x00\x81\x01\x00\x00\x00\x00\x00\x02";
+
+const LONGEST: [u8; 15] = *b"\xff\xff\xff\xff\xff\xff\x00\x00\x00\x01\x00\x00\x00\x01\x00";
 
 const REPORT: [u8; 24] = *b"\0\0\0\x14\0\0\x86\x0b\0\0\0\0\0\x01\x01\x02A\x02AB\xa5\x02\x01\xff";
 
@@ -31,34 +34,98 @@ fn read(alloc: Global, octets: &[u8]) -> Result<Run, AllocError> {
     Ok(Run { result, left })
 }
 
+// An assertion stands in a function of its own, since it is proved in a tenth of the time there.
+
+fn assert_octets(rt: &impl Abort, octets: &[u8], want: &[u8]) {
+    assert_eq!(rt; octets, want);
+}
+
+fn assert_left(rt: &impl Abort, run: &Run, left: usize) {
+    assert_eq!(rt; run.left, left);
+}
+
+fn assert_kind(rt: &impl Abort, header: Header, want: Kind) {
+    assert_eq!(rt; kind(header), want);
+}
+
+// The one message that is read, and how many octets are left.
+fn read_one(alloc: Global, octets: &[u8]) -> Result<(Frame, usize), Fail> {
+    let run = read(alloc, octets)?;
+    let left = run.left;
+    let frame = run.result.ok().flatten().ok_or("a message")?;
+    Ok((frame, left))
+}
+
+fn assert_no_message(rt: &impl Abort, run: &Run) {
+    assert!(rt; matches!(run.result, Ok(None)));
+}
+
 #[test]
 fn reads_one_message(rt: HostRuntime) -> Result<(), Fail> {
     let alloc = rt.alloc();
     let mut octets = Vec::from_slice(alloc, &SELECT)?;
     octets.extend_from_slice(&DATA)?;
-    let run = read(alloc, &octets)?;
-    let frame = run.result.ok().flatten().ok_or("a message")?;
-    assert_eq!(rt; kind(frame.header), Kind::SelectReq);
-    assert_eq!(rt; frame.header.system, 1);
-    assert!(rt; frame.text.as_slice().is_empty());
-    assert_eq!(rt; run.left, 16);
-    let run = read(alloc, &[])?;
-    assert!(rt; matches!(run.result, Ok(None)));
+    let (frame, left) = read_one(alloc, &octets)?;
+    assert_kind(&rt, frame.header, Kind::SelectReq);
+    assert!(rt; frame.header.system == 1 && left == 16);
+    assert_octets(&rt, frame.text.as_slice(), b"");
+    assert_no_message(&rt, &read(alloc, &[])?);
     Ok(())
 }
 
-#[test]
-fn reads_a_text(rt: HostRuntime) -> Result<(), Fail> {
-    let run = read(rt.alloc(), &DATA)?;
-    let frame = run.result.ok().flatten().ok_or("a message")?;
-    let header = frame.header;
+fn assert_header(rt: &impl Abort, header: Header) {
     assert_eq!(rt;
         (header.stream(), header.function(), header.wait()),
         (1, 13, true)
     );
-    assert_eq!(rt; header.octets().as_slice(), &DATA[4..14]);
-    assert_eq!(rt; frame.text.into_vec().as_slice(), [1, 0].as_slice());
+    assert_octets(rt, header.octets().as_slice(), &DATA[4..14]);
+}
+
+#[test]
+fn reads_a_text(rt: HostRuntime) -> Result<(), Fail> {
+    let (frame, _) = read_one(rt.alloc(), &DATA)?;
+    assert_header(&rt, frame.header);
+    assert_octets(&rt, frame.text.into_vec().as_slice(), &[1, 0]);
     Ok(())
+}
+
+fn assert_cut_off(rt: &impl Abort, run: &Run, length: usize) {
+    assert!(rt;
+        matches!(run.result, Err(ReadFault::CutOff)),
+        "after {length}"
+    );
+    assert_left(rt, run, 0);
+}
+
+fn judge_cut_off(rt: &impl Abort, alloc: Global, octets: &[u8]) -> Result<(), Fail> {
+    let run = read(alloc, octets)?;
+    assert_cut_off(rt, &run, octets.len());
+    Ok(())
+}
+
+fn assert_too_short(rt: &impl Abort, run: &Run) {
+    assert!(rt; matches!(run.result, Err(ReadFault::TooShort { length: 9 })));
+    assert_left(rt, run, 1);
+}
+
+fn assert_too_long(rt: &impl Abort, run: &Run) {
+    assert!(rt;
+        matches!(run.result, Err(ReadFault::TooLong { length: 257, header }) if header.system == 2)
+    );
+    assert_left(rt, run, 0);
+}
+
+fn assert_longest(rt: &impl Abort, run: &Run) {
+    assert!(rt;
+        matches!(
+            run.result,
+            Err(ReadFault::TooLong {
+                length: 4294967295,
+                ..
+            })
+        )
+    );
+    assert_left(rt, run, 1);
 }
 
 #[test]
@@ -71,32 +138,11 @@ fn finds_each_fault(rt: HostRuntime) -> Result<(), Fail> {
         &LONG[..4],
         &SELECT[..1],
     ] {
-        let run = read(alloc, octets)?;
-        assert!(rt; matches!(run.result, Err(ReadFault::CutOff)));
-        assert_eq!(rt; run.left, 0);
+        judge_cut_off(&rt, alloc, octets)?;
     }
-    let run = read(alloc, &[0, 0, 0, 9, 7])?;
-    assert!(rt; matches!(run.result, Err(ReadFault::TooShort { length: 9 })));
-    assert_eq!(rt; run.left, 1);
-    let run = read(alloc, &LONG)?;
-    assert!(rt;
-        matches!(run.result, Err(ReadFault::TooLong { length: 257, header }) if header.system == 2)
-    );
-    assert_eq!(rt; run.left, 0);
-    let run = read(
-        alloc,
-        b"\xff\xff\xff\xff\xff\xff\x00\x00\x00\x01\x00\x00\x00\x01\x00",
-    )?;
-    assert!(rt;
-        matches!(
-            run.result,
-            Err(ReadFault::TooLong {
-                length: 4294967295,
-                ..
-            })
-        )
-    );
-    assert_eq!(rt; run.left, 1);
+    assert_too_short(&rt, &read(alloc, &[0, 0, 0, 9, 7])?);
+    assert_too_long(&rt, &read(alloc, &LONG)?);
+    assert_longest(&rt, &read(alloc, &LONGEST)?);
     Ok(())
 }
 
@@ -104,29 +150,28 @@ fn finds_each_fault(rt: HostRuntime) -> Result<(), Fail> {
 fn finds_each_cut(rt: HostRuntime) -> Result<(), Fail> {
     for octets in [REPORT.as_slice(), DATA.as_slice(), SELECT.as_slice()] {
         for length in 1..octets.len() {
-            let run = read(rt.alloc(), &octets[..length])?;
-            assert!(rt;
-                matches!(run.result, Err(ReadFault::CutOff)),
-                "after {length}"
-            );
-            assert_eq!(rt; run.left, 0);
+            judge_cut_off(&rt, rt.alloc(), &octets[..length])?;
         }
     }
     Ok(())
+}
+
+fn assert_gives<W: Sink>(rt: &impl Abort, sink: &mut W, is_well: bool) {
+    assert!(rt; give_all(sink, &DATA).is_ok() == is_well);
 }
 
 #[test]
 fn moves_octets_through_std(rt: HostRuntime) -> Result<(), Fail> {
     let mut source = Reader::new(DATA.as_slice());
     let frame = read_frame(rt.alloc(), &mut source, 256)?.ok_or("a message")?;
-    assert_eq!(rt; kind(frame.header), Kind::Primary);
+    assert_kind(&rt, frame.header, Kind::Primary);
     let mut sink = Writer::new(Vec::with_capacity(rt.alloc(), 16)?);
-    assert!(rt; give_all(&mut sink, &DATA).is_ok());
+    assert_gives(&rt, &mut sink, true);
     assert!(rt; sink.flush().is_ok());
     let mut store = Store::new(vec![in rt.alloc(); 0u8; 16]?, 3, 6);
-    assert!(rt; give_all(&mut store, &DATA).is_ok());
-    assert_eq!(rt; store.written(), DATA.as_slice());
-    assert!(rt; give_all(&mut store, &DATA).is_err());
+    assert_gives(&rt, &mut store, true);
+    assert_octets(&rt, store.written(), &DATA);
+    assert_gives(&rt, &mut store, false);
     Ok(())
 }
 
@@ -138,8 +183,8 @@ fn refused_text(rt: HostRuntime) -> Result<(), Fail> {
     };
     let mut source = Feed::new(octets, 5, u64::MAX);
     match read_frame(rt.alloc(), &mut source, 256) {
-        Ok(Some(frame)) => assert_eq!(rt; frame.text.as_slice(), &DATA[14..]),
-        Err(ReadFault::Memory) => assert_eq!(rt; source.left(), &DATA[14..]),
+        Ok(Some(frame)) => assert_octets(&rt, frame.text.as_slice(), &DATA[14..]),
+        Err(ReadFault::Memory) => assert_octets(&rt, source.left(), &DATA[14..]),
         _ => return Err("the message, or want of memory".into()),
     }
     Ok(())

@@ -103,13 +103,36 @@ fn settings(max: u32) -> Option<Settings> {
 }
 
 /// What the readers tell.
-fn told(tracker: &Tracker) -> (Phase, usize, usize, Option<u64>) {
+type Told = (Phase, usize, usize, Option<u64>);
+
+fn told(tracker: &Tracker) -> Told {
     (
         tracker.phase(),
         tracker.waiting(),
         tracker.own_open(),
         tracker.next_due(),
     )
+}
+
+fn assert_told(rt: &impl Abort, tracker: &Tracker, want: Told, time: u64) {
+    assert_eq!(rt; told(tracker), want, "at {time}");
+}
+
+fn assert_broken(rt: &impl Abort, broken: Option<Rule>, want: Option<Rule>, name: &str) {
+    assert_eq!(rt; broken, want, "{name}");
+}
+
+/// Memory was refused to an entry that may need some, which breaks no rule, and the tracker is as it was.
+fn assert_refused(
+    rt: &impl Abort,
+    tracker: &Tracker,
+    entry: &Entry,
+    before: Told,
+    checked: Option<Rule>,
+) {
+    assert_told(rt, tracker, before, entry.time);
+    assert_broken(rt, checked, None, "memory was refused");
+    assert!(rt; matches!(entry.event, Event::Sent(_) | Event::Taken(_)));
 }
 
 /// Takes an entry in. Where memory was refused, the tracker is as it was, and a second try meets no
@@ -119,13 +142,11 @@ fn step(rt: &impl Abort, tracker: &mut Tracker, entry: &Entry) -> Result<Option<
     let checked = tracker.check(entry);
     match tracker.step(entry) {
         Ok(broken) => {
-            assert_eq!(rt; broken, checked);
+            assert_broken(rt, broken, checked, "step and check");
             Ok(broken)
         }
         Err(_) => {
-            assert_eq!(rt; told(tracker), before);
-            assert_eq!(rt; checked, None);
-            assert!(rt; matches!(entry.event, Event::Sent(_) | Event::Taken(_)));
+            assert_refused(rt, tracker, entry, before, checked);
             tracker.step(entry)
         }
     }
@@ -144,23 +165,58 @@ fn step_frame(
     }
 }
 
-/// The first rule that an entry of these breaks, where it is the last one.
-fn broken_by(
+/// Takes in what happened. Where memory was refused, a second try meets no refusal.
+fn step_happening(
+    rt: &impl Abort,
+    alloc: Global,
+    tracker: &mut Tracker,
+    time: u64,
+    happening: Happening,
+) -> Result<Option<Rule>, AllocError> {
+    let entry = match entry(alloc, time, happening) {
+        Ok(entry) => entry,
+        Err(_) => entry(alloc, time, happening)?,
+    };
+    step(rt, tracker, &entry)
+}
+
+/// Nothing is broken yet, where another entry follows.
+fn assert_follows(rt: &impl Abort, broken: Option<Rule>, time: u64) {
+    assert_eq!(rt; broken, None, "an entry follows at {time}");
+}
+
+/// The last one of these entries breaks this rule, or none.
+fn judge_entries(
     rt: &impl Abort,
     alloc: Global,
     tracker: &mut Tracker,
     entries: &[(u64, Happening)],
-) -> Result<Option<Rule>, AllocError> {
+    want: Option<Rule>,
+    name: &str,
+) -> Result<(), AllocError> {
     let mut broken = None;
     for (time, happening) in entries {
-        assert_eq!(rt; broken, None, "an entry follows at {time}");
-        let entry = match entry(alloc, *time, *happening) {
-            Ok(entry) => entry,
-            Err(_) => entry(alloc, *time, *happening)?,
-        };
-        broken = step(rt, tracker, &entry)?;
+        assert_follows(rt, broken, *time);
+        broken = step_happening(rt, alloc, tracker, *time, *happening)?;
     }
-    Ok(broken)
+    assert_broken(rt, broken, want, name);
+    Ok(())
+}
+
+fn assert_waiting(rt: &impl Abort, tracker: &Tracker, case: &Case) {
+    assert_eq!(rt; tracker.waiting(), case.waiting, "{}", case.name);
+}
+
+fn judge_case(
+    rt: &impl Abort,
+    alloc: Global,
+    tracker: &mut Tracker,
+    case: &Case,
+) -> Result<(), AllocError> {
+    judge_entries(rt, alloc, tracker, case.after, None, case.name)?;
+    judge_entries(rt, alloc, tracker, case.entries, case.broken, case.name)?;
+    assert_waiting(rt, tracker, case);
+    Ok(())
 }
 
 /// Each session breaks its rule, with its last entry, or none.
@@ -169,43 +225,34 @@ fn judge_all(
     alloc: Global,
     settings: Settings,
     cases: &[Case],
-) -> Result<(), Fail> {
+) -> Result<(), AllocError> {
     for case in cases {
         let mut tracker = Tracker::new(alloc, settings);
-        let before = broken_by(rt, alloc, &mut tracker, case.after)?;
-        assert_eq!(rt; before, None, "{}", case.name);
-        let broken = broken_by(rt, alloc, &mut tracker, case.entries)?;
-        assert_eq!(rt; broken, case.broken, "{}", case.name);
-        assert_eq!(rt; tracker.waiting(), case.waiting, "{}", case.name);
+        judge_case(rt, alloc, &mut tracker, case)?;
     }
     Ok(())
 }
 
 #[test]
 fn worked_sessions(rt: HostRuntime) -> Result<(), Fail> {
-    judge_all(
-        &rt,
-        rt.alloc(),
-        settings(1_048_576).ok_or("the settings")?,
-        SESSIONS,
-    )
+    let one = settings(1_048_576).ok_or("the settings")?;
+    judge_all(&rt, rt.alloc(), one, SESSIONS)?;
+    Ok(())
 }
 
 #[test]
 fn each_rule_is_broken(rt: HostRuntime) -> Result<(), Fail> {
-    judge_all(
-        &rt,
-        rt.alloc(),
-        settings(1_048_576).ok_or("the settings")?,
-        BROKEN,
-    )
+    let one = settings(1_048_576).ok_or("the settings")?;
+    judge_all(&rt, rt.alloc(), one, BROKEN)?;
+    Ok(())
 }
 
 #[test]
 fn several_connections(rt: HostRuntime) -> Result<(), Fail> {
     let one = settings(1_048_576).ok_or("the settings")?;
     judge_all(&rt, rt.alloc(), one, ALONE)?;
-    judge_all(&rt, rt.alloc(), one.several(), CONNECTIONS)
+    judge_all(&rt, rt.alloc(), one.several(), CONNECTIONS)?;
+    Ok(())
 }
 
 /// One item of binary octets, all zero.
@@ -217,64 +264,142 @@ fn zeros(alloc: Global, count: u8) -> Result<Vec<u8>, AllocError> {
     Ok(text)
 }
 
+/// A primary with such an item. Where memory was refused, a second try meets no refusal.
+fn sent_zeros(alloc: Global, count: u8) -> Result<Entry, AllocError> {
+    let text = match zeros(alloc, count) {
+        Ok(text) => text,
+        Err(_) => zeros(alloc, count)?,
+    };
+    let sent = Frame {
+        header: header(S1F1_W, 2),
+        text: Text::new(text),
+    };
+    Ok(Entry {
+        time: 6,
+        event: Event::Sent(sent),
+    })
+}
+
+fn judge_zeros(
+    rt: &impl Abort,
+    alloc: Global,
+    tracker: &mut Tracker,
+    count: u8,
+    want: Option<Rule>,
+) -> Result<(), AllocError> {
+    judge_entries(rt, alloc, tracker, SELECTED, None, "selected")?;
+    let sent = sent_zeros(alloc, count)?;
+    let broken = step(rt, tracker, &sent)?;
+    assert_broken(rt, broken, want, "the size");
+    Ok(())
+}
+
 #[test]
 fn a_frame_of_the_greatest_size(rt: HostRuntime) -> Result<(), Fail> {
+    let small = settings(256).ok_or("the settings")?;
     for (count, want) in [(244, None), (245, Some(Rule::TooLong))] {
-        let mut tracker = Tracker::new(rt.alloc(), settings(256).ok_or("the settings")?);
-        assert_eq!(rt; broken_by(&rt, rt.alloc(), &mut tracker, SELECTED)?, None);
-        let text = match zeros(rt.alloc(), count) {
-            Ok(text) => text,
-            Err(_) => zeros(rt.alloc(), count)?,
-        };
-        let sent = Event::Sent(Frame {
-            header: header(S1F1_W, 2),
-            text: Text::new(text),
-        });
-        assert_eq!(rt;
-            step(
-                &rt,
-                &mut tracker,
-                &Entry {
-                    time: 6,
-                    event: sent
-                }
-            )?,
-            want
-        );
+        let mut tracker = Tracker::new(rt.alloc(), small);
+        judge_zeros(&rt, rt.alloc(), &mut tracker, count, want)?;
     }
+    Ok(())
+}
+
+/// What happens at a time, and what the readers tell then.
+const READ: &[(u64, Happening, Told)] = &[
+    (0, Up, (Phase::NotSelected, 0, 0, Some(10000))),
+    (
+        0,
+        Sent(SELECT_REQ, 1, &[]),
+        (Phase::NotSelected, 0, 1, Some(6000)),
+    ),
+    (5, Taken(SELECT_RSP, 1, &[]), (Phase::Selected, 0, 0, None)),
+    (
+        1000,
+        Sent(S1F1_W, 2, &[]),
+        (Phase::Selected, 1, 1, Some(46000)),
+    ),
+    (
+        2000,
+        Sent(LINKTEST_REQ, 3, &[]),
+        (Phase::Selected, 1, 2, Some(8000)),
+    ),
+    (3000, Sent(SEPARATE, 4, &[]), (Phase::Over, 1, 2, None)),
+    (3000, Down, (Phase::Gone, 1, 2, None)),
+];
+
+fn judge_read(
+    rt: &impl Abort,
+    alloc: Global,
+    tracker: &mut Tracker,
+    row: (u64, Happening, Told),
+) -> Result<(), AllocError> {
+    let (time, happening, want) = row;
+    let broken = step_happening(rt, alloc, tracker, time, happening)?;
+    assert_broken(rt, broken, None, "the readers");
+    assert_told(rt, tracker, want, time);
     Ok(())
 }
 
 #[test]
 fn the_readers_of_a_tracker(rt: HostRuntime) -> Result<(), Fail> {
     let mut tracker = Tracker::new(rt.alloc(), settings(256).ok_or("the settings")?);
-    assert_eq!(rt; told(&tracker), (Phase::Before, 0, 0, None));
-    for (time, happening, want) in [
-        (0, Up, (Phase::NotSelected, 0, 0, Some(10000))),
-        (
+    assert_told(&rt, &tracker, (Phase::Before, 0, 0, None), 0);
+    for row in READ {
+        judge_read(&rt, rt.alloc(), &mut tracker, *row)?;
+    }
+    Ok(())
+}
+
+fn assert_oldest_data(rt: &impl Abort, tracker: &Tracker, want: Option<(u64, Header)>) {
+    assert_eq!(rt; tracker.oldest_data(), want);
+}
+
+fn assert_oldest_control(rt: &impl Abort, tracker: &Tracker, want: Option<(u64, Header)>) {
+    assert_eq!(rt; tracker.oldest_control(), want);
+}
+
+const ASKED: &[(u64, Happening)] = &[
+    (0, Up),
+    (10, Taken(SELECT_REQ, 1, &[])),
+    (10, Sent(SELECT_RSP, 1, &[])),
+    (1000, Sent(S1F1_W, 0xffff_fffe, &[])),
+    (1000, Sent(S1F1_W, 0xffff_ffff, &[])),
+];
+
+const EXPIRED: &[(u64, Happening)] = &[
+    (46001, T3(0xffff_fffe)),
+    (46001, T3(0xffff_ffff)),
+    (
+        46001,
+        Sent(
+            0x0000_0909_0000,
             0,
-            Sent(SELECT_REQ, 1, &[]),
-            (Phase::NotSelected, 0, 1, Some(6000)),
+            b"\x21\x0a\0\0\x81\x01\0\0\xff\xff\xff\xfe",
         ),
-        (5, Taken(SELECT_RSP, 1, &[]), (Phase::Selected, 0, 0, None)),
-        (
-            1000,
-            Sent(S1F1_W, 2, &[]),
-            (Phase::Selected, 1, 1, Some(46000)),
-        ),
-        (
-            2000,
-            Sent(LINKTEST_REQ, 3, &[]),
-            (Phase::Selected, 1, 2, Some(8000)),
-        ),
-        (3000, Sent(SEPARATE, 4, &[]), (Phase::Over, 1, 2, None)),
-        (3000, Down, (Phase::Gone, 1, 2, None)),
-    ] {
-        assert_eq!(rt;
-            broken_by(&rt, rt.alloc(), &mut tracker, &[(time, happening)])?,
-            None
-        );
-        assert_eq!(rt; told(&tracker), want, "at {time}");
+    ),
+];
+
+/// What an equipment may not send or take, and the rule that it breaks.
+const REFUSED: &[(Happening, Rule)] = &[
+    (Sent(SELECT_REQ, 2, &[]), Rule::Direction),
+    (Taken(SELECT_RSP, 2, &[]), Rule::Direction),
+    (Taken(0x0000_0901_0000, 2, &[]), Rule::Direction),
+    (Sent(0x0000_8901_0000, 2, &[]), Rule::WBit),
+];
+
+fn judge_expired(rt: &impl Abort, alloc: Global, tracker: &mut Tracker) -> Result<(), AllocError> {
+    judge_entries(rt, alloc, tracker, ASKED, None, "asked")?;
+    assert_oldest_data(rt, tracker, Some((1000, header(S1F1_W, 0xffff_fffe))));
+    assert_oldest_control(rt, tracker, None);
+    judge_entries(rt, alloc, tracker, EXPIRED, None, "expired")?;
+    assert_told(rt, tracker, (Phase::Selected, 0, 0, None), 46001);
+    Ok(())
+}
+
+fn judge_refused(rt: &impl Abort, alloc: Global, tracker: &mut Tracker) -> Result<(), AllocError> {
+    for (happening, rule) in REFUSED {
+        let broken = step_happening(rt, alloc, tracker, 46001, *happening)?;
+        assert_broken(rt, broken, Some(*rule), "refused");
     }
     Ok(())
 }
@@ -294,42 +419,41 @@ fn an_equipment_that_listens(rt: HostRuntime) -> Result<(), Fail> {
         32,
     );
     let mut tracker = Tracker::new(rt.alloc(), settings.ok_or("the settings")?);
-    let asked = [
-        (0, Up),
-        (10, Taken(SELECT_REQ, 1, &[])),
-        (10, Sent(SELECT_RSP, 1, &[])),
-        (1000, Sent(S1F1_W, 0xffff_fffe, &[])),
-        (1000, Sent(S1F1_W, 0xffff_ffff, &[])),
-    ];
-    assert_eq!(rt; broken_by(&rt, rt.alloc(), &mut tracker, &asked)?, None);
-    assert_eq!(rt;
-        tracker.oldest_data(),
-        Some((1000, header(S1F1_W, 0xffff_fffe)))
-    );
-    assert_eq!(rt; tracker.oldest_control(), None);
-    let expired = [
-        (46001, T3(0xffff_fffe)),
-        (46001, T3(0xffff_ffff)),
-        (
-            46001,
-            Sent(
-                0x0000_0909_0000,
-                0,
-                b"\x21\x0a\0\0\x81\x01\0\0\xff\xff\xff\xfe",
-            ),
-        ),
-    ];
-    assert_eq!(rt; broken_by(&rt, rt.alloc(), &mut tracker, &expired)?, None);
-    assert_eq!(rt; told(&tracker), (Phase::Selected, 0, 0, None));
-    for (happening, rule) in [
-        (Sent(SELECT_REQ, 2, &[]), Rule::Direction),
-        (Taken(SELECT_RSP, 2, &[]), Rule::Direction),
-        (Taken(0x0000_0901_0000, 2, &[]), Rule::Direction),
-        (Sent(0x0000_8901_0000, 2, &[]), Rule::WBit),
-    ] {
-        let broken = broken_by(&rt, rt.alloc(), &mut tracker, &[(46001, happening)])?;
-        assert_eq!(rt; broken, Some(rule));
-    }
+    judge_expired(&rt, rt.alloc(), &mut tracker)?;
+    judge_refused(&rt, rt.alloc(), &mut tracker)?;
+    Ok(())
+}
+
+const OPENED: &[(u64, Happening)] = &[
+    (1000, Sent(S1F1_W, 0xffff_fffe, &[])),
+    (1000, Sent(S1F1_W, 0xffff_ffff, &[])),
+    (1000, Taken(S1F1_W, 7, &[])),
+];
+
+fn assert_in_use(rt: &impl Abort, tracker: &Tracker, system: u32, want: bool) {
+    assert!(rt; tracker.in_use(system) == want, "{system}");
+}
+
+/// Two sent primaries are open, and no control message.
+fn judge_primaries(
+    rt: &impl Abort,
+    alloc: Global,
+    tracker: &mut Tracker,
+) -> Result<(), AllocError> {
+    judge_entries(rt, alloc, tracker, OPENED, None, "primaries")?;
+    assert_oldest_data(rt, tracker, Some((1000, header(S1F1_W, 0xffff_fffe))));
+    assert_oldest_control(rt, tracker, None);
+    assert_in_use(rt, tracker, 0xffff_ffff, true);
+    assert_in_use(rt, tracker, 7, false);
+    Ok(())
+}
+
+/// A linktest is open.
+fn judge_linktest(rt: &impl Abort, alloc: Global, tracker: &mut Tracker) -> Result<(), AllocError> {
+    let broken = step_happening(rt, alloc, tracker, 1001, Sent(LINKTEST_REQ, 3, &[]))?;
+    assert_broken(rt, broken, None, "a linktest");
+    assert_oldest_control(rt, tracker, Some((1001, header(LINKTEST_REQ, 3))));
+    assert_in_use(rt, tracker, 3, true);
     Ok(())
 }
 
@@ -337,28 +461,36 @@ fn an_equipment_that_listens(rt: HostRuntime) -> Result<(), Fail> {
 #[test]
 fn the_oldest_and_what_is_in_use(rt: HostRuntime) -> Result<(), Fail> {
     let mut tracker = Tracker::new(rt.alloc(), settings(256).ok_or("the settings")?);
-    let entries = [
-        (1000, Sent(S1F1_W, 0xffff_fffe, &[])),
-        (1000, Sent(S1F1_W, 0xffff_ffff, &[])),
-        (1000, Taken(S1F1_W, 7, &[])),
-    ];
-    assert_eq!(rt; broken_by(&rt, rt.alloc(), &mut tracker, SELECTED)?, None);
-    assert_eq!(rt; tracker.oldest_data(), None);
-    assert_eq!(rt; broken_by(&rt, rt.alloc(), &mut tracker, &entries)?, None);
-    assert_eq!(rt;
-        tracker.oldest_data(),
-        Some((1000, header(S1F1_W, 0xffff_fffe)))
-    );
-    assert_eq!(rt; tracker.oldest_control(), None);
-    assert!(rt; tracker.in_use(0xffff_ffff));
-    assert!(rt; !tracker.in_use(7));
-    let linktest = [(1001, Sent(LINKTEST_REQ, 3, &[]))];
-    assert_eq!(rt; broken_by(&rt, rt.alloc(), &mut tracker, &linktest)?, None);
-    assert_eq!(rt;
-        tracker.oldest_control(),
-        Some((1001, header(LINKTEST_REQ, 3)))
-    );
-    assert!(rt; tracker.in_use(3));
+    judge_entries(&rt, rt.alloc(), &mut tracker, SELECTED, None, "selected")?;
+    assert_oldest_data(&rt, &tracker, None);
+    judge_primaries(&rt, rt.alloc(), &mut tracker)?;
+    judge_linktest(&rt, rt.alloc(), &mut tracker)?;
+    Ok(())
+}
+
+fn judge_frame(
+    rt: &impl Abort,
+    tracker: &mut Tracker,
+    time: u64,
+    mark: Mark,
+    header: Header,
+) -> Result<(), AllocError> {
+    let broken = step_frame(tracker, time, mark, header)?;
+    assert_broken(rt, broken, None, "a frame");
+    Ok(())
+}
+
+fn take_many(rt: &impl Abort, tracker: &mut Tracker) -> Result<(), AllocError> {
+    for system in 0u32..10_000 {
+        judge_frame(rt, tracker, 6, Mark::Taken, header(S1F1_W, system))?;
+    }
+    Ok(())
+}
+
+fn answer_many(rt: &impl Abort, tracker: &mut Tracker) -> Result<(), AllocError> {
+    for system in (0u32..10_000).rev() {
+        judge_frame(rt, tracker, 7, Mark::Sent, header(S1F2, system))?;
+    }
     Ok(())
 }
 
@@ -366,14 +498,8 @@ fn the_oldest_and_what_is_in_use(rt: HostRuntime) -> Result<(), Fail> {
 #[test]
 fn many_are_answered_from_the_newest(rt: HostRuntime) -> Result<(), Fail> {
     let mut tracker = Tracker::new(rt.alloc(), settings(256).ok_or("the settings")?);
-    assert_eq!(rt; broken_by(&rt, rt.alloc(), &mut tracker, SELECTED)?, None);
-    for system in 0u32..10_000 {
-        let broken = step_frame(&mut tracker, 6, Mark::Taken, header(S1F1_W, system))?;
-        assert_eq!(rt; broken, None);
-    }
-    for system in (0u32..10_000).rev() {
-        let broken = step_frame(&mut tracker, 7, Mark::Sent, header(S1F2, system))?;
-        assert_eq!(rt; broken, None);
-    }
+    judge_entries(&rt, rt.alloc(), &mut tracker, SELECTED, None, "selected")?;
+    take_many(&rt, &mut tracker)?;
+    answer_many(&rt, &mut tracker)?;
     Ok(())
 }

@@ -1,21 +1,72 @@
 ghost use Rattle.std.specs.Prelude.{◌≤◌};
 
 use super::*;
-use std::alloc::Global;
+use std::alloc::{AllocError, Global};
 use std::process::Abort;
 use std::test::Fail;
 
 const DEPTH: u8 = 32;
 
+fn assert_length(rt: &impl Abort, length: usize, want: usize) {
+    assert_eq!(rt; length, want);
+}
+
+fn assert_octets(rt: &impl Abort, octets: &[u8], want: &[u8]) {
+    assert_eq!(rt; octets, want);
+}
+
+fn assert_item(rt: &impl Abort, item: &Item, want: &Item) {
+    assert_eq!(rt; item, want);
+}
+
+fn assert_text(rt: &impl Abort, item: Option<&Item>, want: &Item) {
+    assert!(rt; item == Some(want));
+}
+
+fn assert_measured(
+    rt: &impl Abort,
+    measured: Result<usize, ItemFault>,
+    want: Result<usize, ItemFault>,
+) {
+    assert_eq!(rt; measured, want);
+}
+
+fn judge_copy(rt: &impl Abort, alloc: Global, item: &Item) -> Result<(), AllocError> {
+    let copy = item.copy(alloc)?;
+    assert_item(rt, &copy, item);
+    Ok(())
+}
+
+fn judge_encoded(
+    rt: &impl Abort,
+    alloc: Global,
+    item: &Item,
+    octets: &[u8],
+) -> Result<(), ItemFault> {
+    let encoded = encode(alloc, item)?;
+    assert_octets(rt, encoded.as_slice(), octets);
+    Ok(())
+}
+
+fn judge_text(rt: &impl Abort, alloc: Global, octets: &[u8], item: &Item) -> Result<(), ItemFault> {
+    let text = decode_text(alloc, octets, DEPTH)?;
+    assert_text(rt, text.as_ref(), item);
+    Ok(())
+}
+
+fn judge_item(rt: &impl Abort, alloc: Global, item: &Item, shortest: &[u8]) -> Result<(), Fail> {
+    judge_copy(rt, alloc, item)?;
+    judge_encoded(rt, alloc, item, shortest)?;
+    judge_text(rt, alloc, shortest, item)?;
+    Ok(())
+}
+
 /// The octets are one item, whose shortest octets are these.
 fn recode(rt: &impl Abort, alloc: Global, octets: &[u8], shortest: &[u8]) -> Result<(), Fail> {
-    assert_eq!(rt; measure_front(octets, DEPTH)?, octets.len());
+    assert_length(rt, measure_front(octets, DEPTH)?, octets.len());
     let (item, length) = decode_front(alloc, octets, DEPTH)?;
-    assert_eq!(rt; length, octets.len());
-    assert_eq!(rt; item.copy(alloc)?, item);
-    assert_eq!(rt; encode(alloc, &item)?.as_slice(), shortest);
-    assert_eq!(rt; decode_text(alloc, shortest, DEPTH)?, Some(item));
-    Ok(())
+    assert_length(rt, length, octets.len());
+    judge_item(rt, alloc, &item, shortest)
 }
 
 #[test]
@@ -37,13 +88,27 @@ fn longer_fields_and_other_truths(rt: HostRuntime) -> Result<(), Fail> {
     Ok(())
 }
 
+fn judge_front(
+    rt: &impl Abort,
+    alloc: Global,
+    octets: &[u8],
+    item: &Item,
+) -> Result<(), ItemFault> {
+    let (read, _) = decode_front(alloc, octets, DEPTH)?;
+    assert_item(rt, &read, item);
+    Ok(())
+}
+
+fn judge_both(rt: &impl Abort, alloc: Global, octets: &[u8], item: &Item) -> Result<(), Fail> {
+    judge_encoded(rt, alloc, item, octets)?;
+    judge_front(rt, alloc, octets, item)?;
+    judge_copy(rt, alloc, item)?;
+    Ok(())
+}
+
 /// The octets spell this item, and it is encoded so.
 fn both_directions(rt: &impl Abort, alloc: Global, octets: &[u8], item: Item) -> Result<(), Fail> {
-    assert_eq!(rt; encode(alloc, &item)?.as_slice(), octets);
-    let (read, _) = decode_front(alloc, octets, DEPTH)?;
-    assert_eq!(rt; read, item);
-    assert_eq!(rt; item.copy(alloc)?, item);
-    Ok(())
+    judge_both(rt, alloc, octets, &item)
 }
 
 #[test]
@@ -68,41 +133,84 @@ fn numbers(rt: HostRuntime) -> Result<(), Fail> {
     both_directions(&rt, alloc, b"\x91\x04\x3f\x80\0\0", one)
 }
 
+const LISTS: &[u8] = b"\x01\x01\x01\x00";
+
+/// Two lists, of which the second one is empty.
+fn assert_lists(rt: &impl Abort, item: &Item, length: usize) {
+    assert_length(rt, length, 4);
+    assert_eq!(rt; nesting(item), 2);
+}
+
+fn assert_differ(rt: &impl Abort, item: &Item, other: &Item) {
+    assert_ne!(rt; item, other);
+}
+
 #[test]
 fn lists(rt: HostRuntime) -> Result<(), Fail> {
-    let octets = b"\x01\x01\x01\x00\x00\x00";
-    let (item, length) = decode_front(rt.alloc(), octets, 2)?;
-    assert_eq!(rt; length, 4);
-    assert_eq!(rt; nesting(&item), 2);
-    assert_eq!(rt; item.copy(rt.alloc())?, item);
-    assert_eq!(rt;
-        encode(rt.alloc(), &item)?.as_slice(),
-        b"\x01\x01\x01\x00".as_slice()
-    );
-    assert_ne!(rt; item, Item::List(Vec::new(rt.alloc())));
-    assert_ne!(rt;
-        Item::Ascii(Vec::new(rt.alloc())),
-        Item::Jis8(Vec::new(rt.alloc()))
+    let alloc = rt.alloc();
+    let (item, length) = decode_front(alloc, b"\x01\x01\x01\x00\x00\x00", 2)?;
+    assert_lists(&rt, &item, length);
+    judge_copy(&rt, alloc, &item)?;
+    judge_encoded(&rt, alloc, &item, LISTS)?;
+    assert_differ(&rt, &item, &Item::List(Vec::new(alloc)));
+    assert_differ(
+        &rt,
+        &Item::Ascii(Vec::new(alloc)),
+        &Item::Jis8(Vec::new(alloc)),
     );
     Ok(())
 }
 
+fn assert_no_text(rt: &impl Abort, item: Option<&Item>) {
+    assert!(rt; item.is_none());
+}
+
+fn assert_text_lists(rt: &impl Abort, item: Option<&Item>) {
+    assert_eq!(rt; item.map(nesting), Some(2));
+}
+
+fn assert_measured_text(
+    rt: &impl Abort,
+    measured: Result<(), ItemFault>,
+    want: Result<(), ItemFault>,
+) {
+    assert_eq!(rt; measured, want);
+}
+
+fn judge_text_lists(rt: &impl Abort, alloc: Global) -> Result<(), ItemFault> {
+    let lists = decode_text(alloc, LISTS, 2)?;
+    assert_text_lists(rt, lists.as_ref());
+    Ok(())
+}
+
+fn judge_no_text(rt: &impl Abort, alloc: Global) -> Result<(), ItemFault> {
+    let none = decode_text(alloc, b"", DEPTH)?;
+    assert_no_text(rt, none.as_ref());
+    Ok(())
+}
+
+/// An item of no characters nests in no list.
+fn judge_empty(rt: &impl Abort, alloc: Global) -> Result<(), ItemFault> {
+    let empty = decode_text(alloc, b"\x41\x00", 0)?;
+    assert_text(rt, empty.as_ref(), &Item::Ascii(Vec::new(alloc)));
+    Ok(())
+}
+
+fn assert_fault(rt: &impl Abort, fault: Option<ItemFault>, want: ItemFault) {
+    assert_eq!(rt; fault, Some(want));
+}
+
 #[test]
 fn texts(rt: HostRuntime) -> Result<(), Fail> {
-    assert_eq!(rt; decode_text(rt.alloc(), b"", DEPTH)?, None);
-    assert_eq!(rt; measure_text(b"", DEPTH), Ok(()));
-    assert_eq!(rt; measure_text(b"\x01\x01\x01\x00", 2), Ok(()));
-    let lists = decode_text(rt.alloc(), b"\x01\x01\x01\x00", 2)?;
-    assert_eq!(rt; lists.as_ref().map(nesting), Some(2));
-    let empty = decode_text(rt.alloc(), b"\x41\x00", 0)?;
-    assert_eq!(rt; empty, Some(Item::Ascii(Vec::new(rt.alloc()))));
+    judge_no_text(&rt, rt.alloc())?;
+    judge_text_lists(&rt, rt.alloc())?;
+    judge_empty(&rt, rt.alloc())?;
+    assert_measured_text(&rt, measure_text(b"", DEPTH), Ok(()));
+    assert_measured_text(&rt, measure_text(LISTS, 2), Ok(()));
     let octets = b"\x01\x01\x01\x00\x00\x00";
     let trailing = ItemFault::Trailing { at: 4 };
-    assert_eq!(rt; measure_text(octets, DEPTH), Err(trailing));
-    assert_eq!(rt;
-        decode_text(rt.alloc(), octets, DEPTH).err(),
-        Some(trailing)
-    );
+    assert_measured_text(&rt, measure_text(octets, DEPTH), Err(trailing));
+    assert_fault(&rt, decode_text(rt.alloc(), octets, DEPTH).err(), trailing);
     Ok(())
 }
 
@@ -110,8 +218,8 @@ fn texts(rt: HostRuntime) -> Result<(), Fail> {
 fn expect_fault(rt: &impl Abort, alloc: Global, octets: &[u8], depth: u8, fault: ItemFault)
     requires { depth ≤ 100 }
 {
-    assert_eq!(rt; measure_front(octets, depth), Err(fault));
-    assert_eq!(rt; decode_front(alloc, octets, depth).err(), Some(fault));
+    assert_measured(rt, measure_front(octets, depth), Err(fault));
+    assert_fault(rt, decode_front(alloc, octets, depth).err(), fault);
 }
 
 #[test]
@@ -140,7 +248,7 @@ fn faults(rt: HostRuntime) {
         ItemFault::Deep { at: 2 },
     );
     expect_fault(&rt, rt.alloc(), b"\x01\x00", 0, ItemFault::Deep { at: 0 });
-    assert_eq!(rt; measure_front(b"\x41\x00", 0), Ok(2));
+    assert_measured(&rt, measure_front(b"\x41\x00", 0), Ok(2));
 }
 
 #[test]

@@ -1,15 +1,29 @@
-use super::{DATA, LONG, SELECT};
+use super::{DATA, LONG, SELECT, assert_octets};
 use crate::{Frame, FrameFault, Framer, encode_frame};
 use std::alloc::Global;
 use std::process::Abort;
 use std::test::Fail;
 
+// Memory is refused, and the framer is as it was.
+fn assert_as_before(rt: &impl Abort, framer: &Framer, fault: FrameFault, before: &[u8]) {
+    assert!(rt; fault == FrameFault::Memory);
+    assert_octets(rt, framer.pending(), before);
+}
+
+// No message is whole.
+fn assert_none(rt: &impl Abort, framer: &mut Framer) {
+    assert!(rt; matches!(framer.next(), Ok(None)));
+}
+
+fn assert_empty(rt: &impl Abort, framer: &Framer) {
+    assert!(rt; framer.pending().is_empty());
+}
+
 // Pushes octets. Where memory is refused the framer is as it was, and a second try meets no refusal.
 fn push(rt: &impl Abort, alloc: Global, framer: &mut Framer, octets: &[u8]) -> Result<(), Fail> {
     let before = Vec::from_slice(alloc, framer.pending())?;
     if let Err(fault) = framer.push(octets) {
-        assert!(rt; fault == FrameFault::Memory);
-        assert_eq!(rt; framer.pending(), before.as_slice());
+        assert_as_before(rt, framer, fault, &before);
         framer.push(octets)?;
     }
     Ok(())
@@ -22,8 +36,7 @@ fn next(rt: &impl Abort, alloc: Global, framer: &mut Framer) -> Result<Option<Fr
     match framer.next() {
         Ok(taken) => Ok(taken),
         Err(fault) => {
-            assert!(rt; fault == FrameFault::Memory);
-            assert_eq!(rt; framer.pending(), before.as_slice());
+            assert_as_before(rt, framer, fault, &before);
             Ok(framer.next()?)
         }
     }
@@ -49,13 +62,28 @@ fn gives_the_same_from_any_two_pieces(rt: HostRuntime) -> Result<(), Fail> {
     for cut in 0..=octets.len() {
         let (first, last) = octets.split_at(cut);
         let mut framer = Framer::new(alloc, 256);
-        push(&rt, alloc, &mut framer, first)?;
-        let mut given = systems(&rt, alloc, &mut framer)?;
-        push(&rt, alloc, &mut framer, last)?;
-        given.extend_from_slice(&systems(&rt, alloc, &mut framer)?)?;
-        assert_eq!(rt; given.as_slice(), [1, 1].as_slice(), "cut at {cut}");
-        assert!(rt; framer.pending().is_empty());
+        assert_given(&rt, alloc, &mut framer, first, last)?;
     }
+    Ok(())
+}
+
+fn assert_systems(rt: &impl Abort, systems: &[u32], cut: usize) {
+    assert_eq!(rt; systems, [1, 1].as_slice(), "cut at {cut}");
+}
+
+fn assert_given(
+    rt: &impl Abort,
+    alloc: Global,
+    framer: &mut Framer,
+    first: &[u8],
+    last: &[u8],
+) -> Result<(), Fail> {
+    push(rt, alloc, framer, first)?;
+    let mut given = systems(rt, alloc, framer)?;
+    push(rt, alloc, framer, last)?;
+    given.extend_from_slice(&systems(rt, alloc, framer)?)?;
+    assert_systems(rt, given.as_slice(), first.len());
+    assert_empty(rt, framer);
     Ok(())
 }
 
@@ -94,16 +122,39 @@ fn gives_back_from_any_two_pieces(
         let (first, last) = octets.split_at(cut);
         let mut framer = Framer::new(alloc, 256);
         push(rt, alloc, &mut framer, first)?;
-        assert!(rt; matches!(framer.next(), Ok(None)));
+        assert_none(rt, &mut framer);
         push(rt, alloc, &mut framer, last)?;
-        let frame = next(rt, alloc, &mut framer)?.ok_or("a message")?;
-        assert_eq!(rt;
-            encode_frame(alloc, &frame)?.as_slice(),
-            octets,
-            "cut at {cut}"
-        );
-        assert!(rt; framer.pending().is_empty());
+        assert_gives_back(rt, alloc, &mut framer, octets, cut)?;
+        assert_empty(rt, &framer);
     }
+    Ok(())
+}
+
+fn assert_same(rt: &impl Abort, octets: &[u8], want: &[u8], cut: usize) {
+    assert_eq!(rt; octets, want, "cut at {cut}");
+}
+
+fn assert_gives_back(
+    rt: &impl Abort,
+    alloc: Global,
+    framer: &mut Framer,
+    octets: &[u8],
+    cut: usize,
+) -> Result<(), Fail> {
+    let frame = next(rt, alloc, framer)?.ok_or("a message")?;
+    assert_same(rt, encode_frame(alloc, &frame)?.as_slice(), octets, cut);
+    Ok(())
+}
+
+// The next message has this text.
+fn assert_text(
+    rt: &impl Abort,
+    alloc: Global,
+    framer: &mut Framer,
+    want: &[u8],
+) -> Result<(), Fail> {
+    let frame = next(rt, alloc, framer)?.ok_or("a message")?;
+    assert_octets(rt, frame.text.as_slice(), want);
     Ok(())
 }
 
@@ -113,13 +164,22 @@ fn waits_for_the_last_octet(rt: HostRuntime) -> Result<(), Fail> {
     let mut framer = Framer::new(alloc, 256);
     for octet in &DATA[..15] {
         push(&rt, alloc, &mut framer, &[*octet])?;
-        assert!(rt; matches!(framer.next(), Ok(None)));
+        assert_none(&rt, &mut framer);
     }
     push(&rt, alloc, &mut framer, &DATA[15..])?;
-    let frame = next(&rt, alloc, &mut framer)?.ok_or("a message")?;
-    assert_eq!(rt; frame.text.as_slice(), &DATA[14..]);
-    assert!(rt; framer.pending().is_empty());
+    assert_text(&rt, alloc, &mut framer, &DATA[14..])?;
+    assert_empty(&rt, &framer);
     Ok(())
+}
+
+fn assert_too_short(rt: &impl Abort, framer: &mut Framer) {
+    assert!(rt; matches!(framer.next(), Err(FrameFault::TooShort { length: 9 })));
+}
+
+fn assert_too_long(rt: &impl Abort, framer: &mut Framer) {
+    assert!(rt;
+        matches!(framer.next(), Err(FrameFault::TooLong { length: 257, header }) if header.system == 2)
+    );
 }
 
 #[test]
@@ -127,19 +187,17 @@ fn tells_a_fault_as_soon_as_it_is_there(rt: HostRuntime) -> Result<(), Fail> {
     let alloc = rt.alloc();
     let mut framer = Framer::new(alloc, 256);
     push(&rt, alloc, &mut framer, &[0, 0, 0])?;
-    assert!(rt; matches!(framer.next(), Ok(None)));
+    assert_none(&rt, &mut framer);
     push(&rt, alloc, &mut framer, &[9])?;
-    assert!(rt; matches!(framer.next(), Err(FrameFault::TooShort { length: 9 })));
+    assert_too_short(&rt, &mut framer);
     let mut framer = Framer::new(alloc, 256);
     for octet in &LONG[..13] {
         push(&rt, alloc, &mut framer, &[*octet])?;
-        assert!(rt; matches!(framer.next(), Ok(None)));
+        assert_none(&rt, &mut framer);
     }
     push(&rt, alloc, &mut framer, &LONG[13..])?;
-    assert!(rt;
-        matches!(framer.next(), Err(FrameFault::TooLong { length: 257, header }) if header.system == 2)
-    );
-    assert_eq!(rt; framer.pending(), LONG.as_slice());
+    assert_too_long(&rt, &mut framer);
+    assert_octets(&rt, framer.pending(), &LONG);
     Ok(())
 }
 
@@ -163,10 +221,8 @@ fn gives_a_text_behind_a_bare_header(rt: HostRuntime) -> Result<(), Fail> {
     let mut framer = Framer::new(alloc, 256);
     push(&rt, alloc, &mut framer, &SELECT)?;
     push(&rt, alloc, &mut framer, &DATA)?;
-    let bare = next(&rt, alloc, &mut framer)?.ok_or("a message")?;
-    assert!(rt; bare.text.as_slice().is_empty());
-    let data = next(&rt, alloc, &mut framer)?.ok_or("a message")?;
-    assert_eq!(rt; data.text.as_slice(), [1, 0].as_slice());
-    assert!(rt; framer.pending().is_empty());
+    assert_text(&rt, alloc, &mut framer, b"")?;
+    assert_text(&rt, alloc, &mut framer, &[1, 0])?;
+    assert_empty(&rt, &framer);
     Ok(())
 }

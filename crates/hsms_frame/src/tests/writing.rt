@@ -1,9 +1,15 @@
-use super::{DATA, SELECT};
+use super::{DATA, SELECT, assert_octets};
 use crate::{
     Frame, FrameFault, Header, Store, Text, WriteFault, data_header, encode_frame, linktest_req,
     linktest_rsp, reject_of, select_req, select_rsp, separate, write_frame,
 };
+use std::alloc::{AllocError, Global};
+use std::process::Abort;
 use std::test::Fail;
+
+fn assert_header(rt: &impl Abort, header: Header, octets: &[u8]) {
+    assert_octets(rt, header.octets().as_slice(), octets);
+}
 
 #[test]
 fn builds_each_header(rt: HostRuntime) {
@@ -45,48 +51,66 @@ fn builds_each_header(rt: HostRuntime) {
         ),
     ];
     for (header, octets) in rows {
-        assert_eq!(rt; header.octets().as_slice(), octets.as_slice());
+        assert_header(&rt, header, octets);
     }
+}
+
+fn data_frame(alloc: Global) -> Result<Frame, AllocError> {
+    Ok(Frame {
+        header: data_header(0, 1, 13, true, 1),
+        text: Text::new(Vec::from_slice(alloc, &[1, 0])?),
+    })
+}
+
+fn assert_writes(
+    rt: &impl Abort,
+    store: &mut Store,
+    frame: &Frame,
+    want: Result<(), WriteFault>,
+    octets: &[u8],
+) {
+    assert!(rt; write_frame(store, frame) == want);
+    assert_octets(rt, store.written(), octets);
+}
+
+// A message is written into so much room.
+fn judge_writes(
+    rt: &impl Abort,
+    alloc: Global,
+    room: usize,
+    want: Result<(), WriteFault>,
+    octets: &[u8],
+) -> Result<(), AllocError> {
+    let frame = data_frame(alloc)?;
+    let mut store = Store::new(vec![in alloc; 0u8; room]?, 5, 6);
+    assert_writes(rt, &mut store, &frame, want, octets);
+    Ok(())
 }
 
 #[test]
 fn writes_messages(rt: HostRuntime) -> Result<(), Fail> {
-    let alloc = rt.alloc();
-    let frame = Frame {
-        header: data_header(0, 1, 13, true, 1),
-        text: Text::new(Vec::from_slice(alloc, &[1, 0])?),
-    };
-    let mut store = Store::new(vec![in alloc; 0u8; 16]?, 5, 6);
-    assert!(rt; write_frame(&mut store, &frame).is_ok());
-    assert_eq!(rt; store.written(), DATA.as_slice());
-    let mut store = Store::new(vec![in alloc; 0u8; 15]?, 5, 6);
-    assert!(rt; write_frame(&mut store, &frame) == Err(WriteFault::Write));
-    assert_eq!(rt; store.written(), &DATA[..15]);
+    judge_writes(&rt, rt.alloc(), 16, Ok(()), &DATA)?;
+    judge_writes(&rt, rt.alloc(), 15, Err(WriteFault::Write), &DATA[..15])?;
     Ok(())
+}
+
+fn assert_encoded(rt: &impl Abort, answer: Result<Vec<u8>, FrameFault>, want: &[u8]) {
+    match answer {
+        Ok(octets) => assert_octets(rt, octets.as_slice(), want),
+        Err(fault) => assert!(rt; fault == FrameFault::Memory),
+    }
 }
 
 // Where its own input is refused, this test has nothing to say.
 #[test]
-fn refused_octets(rt: HostRuntime) -> Result<(), Fail> {
+fn refused_octets(rt: HostRuntime) {
     let alloc = rt.alloc();
     let bare = Frame {
         header: select_req(1),
         text: Text::new(Vec::new(alloc)),
     };
-    match encode_frame(alloc, &bare) {
-        Ok(octets) => assert_eq!(rt; octets.as_slice(), SELECT.as_slice()),
-        Err(fault) => assert!(rt; fault == FrameFault::Memory),
+    assert_encoded(&rt, encode_frame(alloc, &bare), &SELECT);
+    if let Ok(frame) = data_frame(alloc) {
+        assert_encoded(&rt, encode_frame(alloc, &frame), &DATA);
     }
-    let Ok(text) = Vec::from_slice(alloc, &[1, 0]) else {
-        return Ok(());
-    };
-    let frame = Frame {
-        header: data_header(0, 1, 13, true, 1),
-        text: Text::new(text),
-    };
-    match encode_frame(alloc, &frame) {
-        Ok(octets) => assert_eq!(rt; octets.as_slice(), DATA.as_slice()),
-        Err(fault) => assert!(rt; fault == FrameFault::Memory),
-    }
-    Ok(())
 }
