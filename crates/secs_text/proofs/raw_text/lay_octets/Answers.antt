@@ -2,7 +2,7 @@ use Rattle.std.proofs.Common.{[], ◌++◌, get_or, refl, arith}
 use Rattle.secs_text.specs.Printed.{printed_octet}
 use Rattle.secs_text.proofs.Blocks.{laid_then, laid_nothing}
 use Rattle.secs_text.proofs.RawText.{text_goes, text_done}
-use Rattle.secs_text.proofs.raw_text.lay_text.Goals as goal
+use Rattle.secs_text.proofs.raw_text.lay_octets.Goals as goal
 
 pub loop-octet-init : goal.loop-octet-init
 loop-octet-init c = record { near = omega arith; text = ([], laid_nothing c.args.block.now c.args.from, λ tail. refl) }

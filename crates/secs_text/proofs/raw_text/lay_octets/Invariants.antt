@@ -1,7 +1,7 @@
 use Rattle.std.proofs.Common.{◌≡◌, ◌≤◌, ◌+◌, ◌*◌, ◌++◌, ℕ, List, drop}
 use Rattle.secs_text.specs.Laid.{Laid}
 use Rattle.secs_text.specs.Printed.{printed_text}
-use Rattle.secs_text.proofs.raw_text.lay_text.Given as goal
+use Rattle.secs_text.proofs.raw_text.lay_octets.Given as goal
 
 abbrev pub invariant-loop-octet : goal.invariant-loop-octet
 invariant-loop-octet l = record {
