@@ -40,6 +40,7 @@ pub fn read_length(octets: &[u8], field: usize) -> usize
 /// # Errors
 ///
 /// The first fault of the header, at `place`.
+#[inline(always)]
 #[tactic(auto, unfolding(crate::specs::Header::header_at))]
 pub fn read_header(octets: &[u8], place: usize, depth: u8) -> Result<Header, ItemFault>
     requires { place ≤ length octets.now }

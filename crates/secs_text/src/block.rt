@@ -68,6 +68,16 @@ impl Block {
     }
 }
 
+/// Gives an output what stands in a block up to a place.
+#[cold]
+#[inline(never)]
+fn give_front<O: Output>(out: &mut O, block: &[u8], at: usize)
+    requires { at ≤ length block.now }
+    ensures { (given : List ℕ) → O.Given out.old given → O.Given out.new (given ++ take at block.now) }
+{
+    out.give(&block[..at]);
+}
+
 /// Where octets can be laid into a block: behind what is laid, or from its front on, once that was given.
 #[inline(always)]
 #[tactic(auto, using(crate::proofs::Blocks::puts_nothing, crate::proofs::Blocks::puts_given))]
@@ -80,6 +90,6 @@ pub fn room<O: Output>(out: &mut O, block: &[u8], at: usize) -> usize
     if at <= SIZE - FREE {
         return at;
     }
-    out.give(&block[..at]);
+    give_front(out, block, at);
     0
 }
