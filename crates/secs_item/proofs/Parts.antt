@@ -62,6 +62,13 @@ from_list place r head is lists = rw (is, lists) refl
 same_part : (x y n m : ℕ) → x ≡ y → n ≡ m → ◌≡◌ {A = Result Part ItemFault} (Ok (record { end = x; elements = n })) (Ok (record { end = y; elements = m }))
 same_part x y n m xs ns = cc
 
+-- a list with one length octet
+pub short_list_read : (depth place : ℕ) (rest : List ℕ) → 1 ≤ length rest → 0 < depth → ◌≡◌ {A = Result Part ItemFault} (Ok (record { end = place + 2; elements = big_number 1 rest })) (part_from place (header_at depth (1 ∷ rest)))
+unfolding format_with_code
+short_list_read depth place rest some deep =
+    from_list place (header_at depth (1 ∷ rest)) (record { format = format.List; size = 2; length = big_number 1 rest })
+    (faultless depth 1 rest format.List (λ e. absurd cc) (omega arith) refl (λ lists. deep) (λ lists. absurd cc)) refl
+
 -- the format with this code has this mask
 values_with : (o : Option Format) (mask : ℕ) → mask ≡ mask_for o → mask < 128 → (f : Format) × (o ≡ Some f) × (is_list f ≡ false) × (mask ≡ value_size f - 1)
 values_with None mask is low = absurd (omega arith)

@@ -7,7 +7,7 @@ ghost use Rattle.secs_item.specs.Measure.{mask_for, part_from, LiesIn};
 
 use crate::fault::ItemFault;
 use crate::format::Format;
-use crate::header::{read_header, read_length};
+use crate::header::{SHORT_LIST, read_header, read_length};
 
 /// What stands at a place, up to where the next item can begin: an item of values, or the header of a list.
 #[derive(Clone, Copy)]
@@ -46,6 +46,15 @@ fn quick_part(octets: &[u8], place: usize, depth: u8) -> Option<Part>
     ensures within { IfSome result (LiesIn depth place (length octets.now)) }
 {
     let (&first, rest) = octets[place..].split_first()?;
+    if first == SHORT_LIST {
+        if rest.is_empty() || depth == 0 {
+            return None;
+        }
+        return Some(Part {
+            end: place + 2,
+            elements: read_length(rest, 1),
+        });
+    }
     let field = usize::from(first % 4);
     if field != 1 || rest.len() < field {
         return None;
