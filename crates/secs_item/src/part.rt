@@ -60,23 +60,16 @@ fn quick_part(octets: &[u8], place: usize, depth: u8) -> Option<Part>
         return None;
     }
     let mask = mask_of(first);
-    let length = read_length(rest, field);
-    let body = place + 1 + field;
-    if mask < LIST {
-        if length & usize::from(mask) != 0 || rest.len() - field < length {
-            return None;
-        }
-        return Some(Part {
-            end: body + length,
-            elements: 0,
-        });
+    if mask >= LIST {
+        return None;
     }
-    if mask > LIST || depth == 0 {
+    let length = read_length(rest, field);
+    if length & usize::from(mask) != 0 || rest.len() - field < length {
         return None;
     }
     Some(Part {
-        end: body,
-        elements: length,
+        end: place + 1 + field + length,
+        elements: 0,
     })
 }
 

@@ -47,7 +47,7 @@ impl Block {
     pub fn new(alloc: Global) -> Result<Block, AllocError>
         ensures { IfOk result (λ block. block ≡ []) }
     {
-        let octets = vec![in alloc; 0u8; SIZE]?;
+        let octets = blank(alloc)?;
         Ok(Block { octets, used: 0 })
     }
 
@@ -66,6 +66,14 @@ impl Block {
         out.give(&self.octets[..self.used]);
         self.used = 0;
     }
+}
+
+/// As many octets as a block holds.
+fn blank(alloc: Global) -> Result<Vec<u8>, AllocError>
+    ensures { IfOk result (λ octets. length octets.items ≡ 65536) }
+{
+    let octets = vec![in alloc; 0u8; SIZE]?;
+    Ok(octets)
 }
 
 /// Gives an output what stands in a block up to a place.
