@@ -184,9 +184,9 @@ fn body(octets: &[u8], header: Header) -> &[u8]
     &octets[header.body..header.body + header.length]
 }
 
-/// Puts an item of values with this body, after a space.
-#[inline(never)]
-fn put_item_of_values<O: Output>(
+/// Puts an item of values of a known format with this body, after a space.
+#[inline(always)]
+fn put_values_of<O: Output>(
     out: &mut O,
     block: &mut [u8],
     from: usize,
@@ -203,6 +203,42 @@ fn put_item_of_values<O: Output>(
     let at = put_opening(out, block, from, format, body.len());
     let at = put_values(out, block, at, format, body);
     put_end(out, block, at)
+}
+
+/// Puts an item of values with this body, after a space. Each format has code of its own.
+#[inline(never)]
+fn put_item_of_values<O: Output>(
+    out: &mut O,
+    block: &mut [u8],
+    from: usize,
+    format: Format,
+    body: &[u8],
+) -> usize
+    requires no_list { is_list format ≡ false }
+    requires size { length block.old ≡ 65536 }
+    requires within { from ≤ 65536 }
+    ensures { Puts (O.Given out.old) block.old from (O.Given out.new) block.new result
+        (opening_of format (length body.now / value_size format)
+        ++ printed_values (body_of (values_of format body.now)) ++ codes ">") }
+{
+    match format {
+        Format::List => unreachable!(),
+        Format::Binary => put_values_of(out, block, from, Format::Binary, body),
+        Format::Boolean => put_values_of(out, block, from, Format::Boolean, body),
+        Format::Ascii => put_values_of(out, block, from, Format::Ascii, body),
+        Format::Jis8 => put_values_of(out, block, from, Format::Jis8, body),
+        Format::Char2 => put_values_of(out, block, from, Format::Char2, body),
+        Format::I1 => put_values_of(out, block, from, Format::I1, body),
+        Format::I2 => put_values_of(out, block, from, Format::I2, body),
+        Format::I4 => put_values_of(out, block, from, Format::I4, body),
+        Format::I8 => put_values_of(out, block, from, Format::I8, body),
+        Format::U1 => put_values_of(out, block, from, Format::U1, body),
+        Format::U2 => put_values_of(out, block, from, Format::U2, body),
+        Format::U4 => put_values_of(out, block, from, Format::U4, body),
+        Format::U8 => put_values_of(out, block, from, Format::U8, body),
+        Format::F4 => put_values_of(out, block, from, Format::F4, body),
+        Format::F8 => put_values_of(out, block, from, Format::F8, body),
+    }
 }
 
 /// Whether items of this format are lists.
