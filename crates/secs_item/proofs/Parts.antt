@@ -62,6 +62,13 @@ from_list place r head is lists = rw (is, lists) refl
 same_part : (x y n m : ℕ) → x ≡ y → n ≡ m → ◌≡◌ {A = Result Part ItemFault} (Ok (record { end = x; elements = n })) (Ok (record { end = y; elements = m }))
 same_part x y n m xs ns = cc
 
+-- a list with one length octet
+pub short_list_read : (depth place : ℕ) (rest : List ℕ) → 1 ≤ length rest → 0 < depth → ◌≡◌ {A = Result Part ItemFault} (Ok (record { end = place + 2; elements = big_number 1 rest })) (part_from place (header_at depth (1 ∷ rest)))
+unfolding format_with_code
+short_list_read depth place rest some deep =
+    from_list place (header_at depth (1 ∷ rest)) (record { format = format.List; size = 2; length = big_number 1 rest })
+    (faultless depth 1 rest format.List (λ e. absurd cc) (omega arith) refl (λ lists. deep) (λ lists. absurd cc)) refl
+
 -- the format with this code has this mask
 values_with : (o : Option Format) (mask : ℕ) → mask ≡ mask_for o → mask < 128 → (f : Format) × (o ≡ Some f) × (is_list f ≡ false) × (mask ≡ value_size f - 1)
 values_with None mask is low = absurd (omega arith)
@@ -71,33 +78,7 @@ values_with (Some f) mask is low = by_kind (is_list f) refl
     by_kind true lists = let m : mask ≡ 0x80 = is ∙ rw lists refl in absurd (omega arith)
     by_kind false lists = (f, refl, lists, is ∙ rw lists refl)
 
-sizes_are_small : (f : Format) → value_size f ≤ 8
-sizes_are_small format.List = omega arith
-sizes_are_small format.Binary = omega arith
-sizes_are_small format.Boolean = omega arith
-sizes_are_small format.Ascii = omega arith
-sizes_are_small format.Jis8 = omega arith
-sizes_are_small format.Char2 = omega arith
-sizes_are_small format.I8 = omega arith
-sizes_are_small format.I1 = omega arith
-sizes_are_small format.I2 = omega arith
-sizes_are_small format.I4 = omega arith
-sizes_are_small format.F8 = omega arith
-sizes_are_small format.F4 = omega arith
-sizes_are_small format.U8 = omega arith
-sizes_are_small format.U1 = omega arith
-sizes_are_small format.U2 = omega arith
-sizes_are_small format.U4 = omega arith
-
-list_with : (o : Option Format) (mask : ℕ) → mask ≡ mask_for o → mask ≡ 128 → (f : Format) × (o ≡ Some f) × (is_list f ≡ true)
-list_with None mask is high = absurd (omega arith)
-list_with (Some f) mask is high = by_kind (is_list f) refl
-  where
-    by_kind : (b : Bool) → is_list f ≡ b → (g : Format) × (Some f ≡ Some g) × (is_list g ≡ true)
-    by_kind true lists = (f, refl, lists)
-    by_kind false lists = let m : mask ≡ value_size f - 1 = is ∙ rw lists refl in absurd (omega (arith, sizes_are_small f))
-
--- a header of values, and of a list
+-- a header of values
 pub values_read : (depth place first number field : ℕ) (octets rest : List ℕ) (mask : ℕ) → drop place octets ≡ first ∷ rest → field ≡ first % 4 → (field ≡ 0 → ⊥) → field ≤ length rest → mask ≡ mask_for (format_with_code (first / 4)) → mask < 128
     → number ≡ big_number field rest → bit_and number mask ≡ 0 → number ≤ length rest - field
     → ◌≡◌ {A = Result Part ItemFault} (Ok (record { end = place + 1 + field + number; elements = 0 })) (part_from place (header_at depth (drop place octets)))
@@ -108,12 +89,3 @@ values_read depth place first number field octets rest mask front field_is some 
     let same : number ≡ big_number (first % 4) rest = rw field_is at number_is in
     same_part (place + 1 + field + number) (place + (1 + first % 4) + big_number (first % 4) rest) 0 0 (omega (arith, field_is, same)) refl
     ∙ from_values place (header_at depth (drop place octets)) (record { format = p.0; size = 1 + first % 4; length = big_number (first % 4) rest }) (ap (header_at depth) front ∙ read) p.2
-
-pub list_read : (depth place first number field : ℕ) (octets rest : List ℕ) (mask : ℕ) → drop place octets ≡ first ∷ rest → field ≡ first % 4 → (field ≡ 0 → ⊥) → field ≤ length rest → mask ≡ mask_for (format_with_code (first / 4)) → mask ≡ 128
-    → number ≡ big_number field rest → 0 < depth
-    → ◌≡◌ {A = Result Part ItemFault} (Ok (record { end = place + 1 + field; elements = number })) (part_from place (header_at depth (drop place octets)))
-list_read depth place first number field octets rest mask front field_is some long is list number_is deep =
-    let p = list_with (format_with_code (first / 4)) mask is list in
-    let read = faultless depth first rest p.0 (rw field_is at some) (rw field_is at long) p.1 (λ lists. deep) (λ lists. absurd cc) in
-    same_part (place + 1 + field) (place + (1 + first % 4)) number (big_number (first % 4) rest) (omega (arith, field_is)) (rw field_is at number_is)
-    ∙ from_list place (header_at depth (drop place octets)) (record { format = p.0; size = 1 + first % 4; length = big_number (first % 4) rest }) (ap (header_at depth) front ∙ read) p.2

@@ -1,6 +1,6 @@
 //! Item headers.
 
-ghost use Rattle.std.specs.Prelude.{◌≡◌, ◌≤◌, ◌<◌, ◌+◌, ◌%◌, true, false, length, drop, IfOk};
+ghost use Rattle.std.specs.Prelude.{◌≡◌, ◌≤◌, ◌<◌, ◌+◌, ◌%◌, ◌^◌, ◌∷◌, true, false, length, drop, IfOk};
 ghost use Rattle.byteorder.specs.Endian.{big_number};
 ghost use Rattle.secs_item.specs.Format.{is_list, value_size};
 ghost use Rattle.secs_item.specs.Header.{header_at};
@@ -9,6 +9,9 @@ ghost use Rattle.secs_item.specs.Measure.{header_from};
 use crate::fault::ItemFault;
 use crate::format::Format;
 use byteorder::{BigEndian, ByteOrder};
+
+/// The first octet of a list's header with one length octet.
+pub const SHORT_LIST: u8 = 1;
 
 /// A header that has been read.
 #[derive(Clone, Copy)]
@@ -35,11 +38,36 @@ pub fn read_length(octets: &[u8], field: usize) -> usize
     }
 }
 
+/// Reads the header of a list behind its first octet, which stands at `place` and tells one length octet.
+#[inline(always)]
+#[tactic(auto, unfolding(crate::specs::Header::header_at, crate::specs::Format::format_with_code))]
+fn short_list(rest: &[u8], place: usize, depth: u8) -> Result<Header, ItemFault>
+    requires { place + length rest.now + 1 < 2 ^ 64 }
+    ensures read { result ≡ header_from place (header_at depth (1 ∷ rest.now)) }
+    ensures list { IfOk result (λ h. is_list h.format ≡ true) }
+    ensures deep { IfOk result (λ h. 0 < depth) }
+    ensures behind { IfOk result (λ h. place < h.body) }
+    ensures header { IfOk result (λ h. h.body ≤ place + 1 + length rest.now) }
+{
+    if depth == 0 {
+        return Err(ItemFault::Deep { at: place });
+    }
+    if rest.is_empty() {
+        return Err(ItemFault::Truncated { at: place });
+    }
+    Ok(Header {
+        format: Format::List,
+        body: place + 2,
+        length: read_length(rest, 1),
+    })
+}
+
 /// Reads the header at `place`, where lists may still be nested `depth` deep. The body of values is there whole.
 ///
 /// # Errors
 ///
 /// The first fault of the header, at `place`.
+#[inline(always)]
 #[tactic(auto, unfolding(crate::specs::Header::header_at))]
 pub fn read_header(octets: &[u8], place: usize, depth: u8) -> Result<Header, ItemFault>
     requires { place ≤ length octets.now }
@@ -53,6 +81,9 @@ pub fn read_header(octets: &[u8], place: usize, depth: u8) -> Result<Header, Ite
     let Some((&first, rest)) = octets[place..].split_first() else {
         return Err(ItemFault::Truncated { at: place });
     };
+    if first == SHORT_LIST {
+        return short_list(rest, place, depth);
+    }
     let length_octets = usize::from(first % 4);
     if length_octets == 0 {
         return Err(ItemFault::NoLength { at: place });

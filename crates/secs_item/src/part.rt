@@ -7,7 +7,7 @@ ghost use Rattle.secs_item.specs.Measure.{mask_for, part_from, LiesIn};
 
 use crate::fault::ItemFault;
 use crate::format::Format;
-use crate::header::{read_header, read_length};
+use crate::header::{SHORT_LIST, read_header, read_length};
 
 /// What stands at a place, up to where the next item can begin: an item of values, or the header of a list.
 #[derive(Clone, Copy)]
@@ -46,28 +46,30 @@ fn quick_part(octets: &[u8], place: usize, depth: u8) -> Option<Part>
     ensures within { IfSome result (LiesIn depth place (length octets.now)) }
 {
     let (&first, rest) = octets[place..].split_first()?;
+    if first == SHORT_LIST {
+        if rest.is_empty() || depth == 0 {
+            return None;
+        }
+        return Some(Part {
+            end: place + 2,
+            elements: read_length(rest, 1),
+        });
+    }
     let field = usize::from(first % 4);
     if field != 1 || rest.len() < field {
         return None;
     }
     let mask = mask_of(first);
-    let length = read_length(rest, field);
-    let body = place + 1 + field;
-    if mask < LIST {
-        if length & usize::from(mask) != 0 || rest.len() - field < length {
-            return None;
-        }
-        return Some(Part {
-            end: body + length,
-            elements: 0,
-        });
+    if mask >= LIST {
+        return None;
     }
-    if mask > LIST || depth == 0 {
+    let length = read_length(rest, field);
+    if length & usize::from(mask) != 0 || rest.len() - field < length {
         return None;
     }
     Some(Part {
-        end: body,
-        elements: length,
+        end: place + 1 + field + length,
+        elements: 0,
     })
 }
 

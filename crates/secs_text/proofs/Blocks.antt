@@ -1,12 +1,12 @@
 -- Putting octets into a block, one word after another.
-use Rattle.std.proofs.Common.{◌≡◌, ℕ, zero, suc, ◌+◌, ◌/◌, ◌%◌, ◌≤◌, ◌<◌, true, cond, eqb, ltb, lt-ltb, le-ltb, List, [], ◌∷◌, ◌++◌, length, get_or, take, codes, refl, ap, sym, ◌∙◌, arith, append_assoc, append-nil, subst, length-append, length-take-le, take-add, take-take, take_at, drop_at}
+use Rattle.std.proofs.Common.{◌≡◌, ℕ, zero, suc, ◌+◌, ◌/◌, ◌%◌, ◌≤◌, ◌<◌, ◌^◌, true, cond, eqb, ltb, lt-ltb, le-ltb, List, [], ◌∷◌, ◌++◌, length, get_or, take, codes, refl, ap, sym, ◌∙◌, arith, append_assoc, append-nil, subst, length-append, length-take-le, take-add, take-take, take_at, drop_at}
 use Rattle.std.specs.Fmt.{decimal}
 use Rattle.std.specs.Cmp.Lexicographic.{pointwise}
 use Rattle.std.proofs.lemmas.Bool.{agree_below_at, ltb-true}
-use Rattle.std.proofs.lemmas.Fmt.{AppendsLastDigit, decimal_from_appends, length-decimal-le}
+use Rattle.std.proofs.lemmas.Fmt.{AppendsLastDigit, decimal_from_appends, decimal_step, length-decimal-le}
 use Rattle.secs_item.specs.Equality.{octets_Decides}
-use Rattle.secs_text.specs.declared.tables.TheConstants.{WORDS, DIGITS, NUMBERS}
-use Rattle.secs_text.specs.Laid.{Laid, Puts}
+use Rattle.secs_text.specs.declared.tables.TheConstants.{WORDS, DIGITS, NUMBERS, PAIRS}
+use Rattle.secs_text.specs.Laid.{Laid, Puts, two_decimals}
 use Rattle.secs_text.specs.Printed.{hexadecimal, two_digits}
 
 -- a second text begins where the first ended
@@ -62,6 +62,19 @@ numbers_right n lt =
 
 pub numbers_short : (n : ℕ) → n < 256 → get_or (get_or NUMBERS n []) 3 0 < 5
 numbers_short n lt = ltb-true _ 5 (agree_below_at (λ k. ltb (get_or (number_at k) 3 0) 5) (λ k. true) 256 n refl lt)
+
+pub pairs_right : (n : ℕ) → n < 100 → take 2 (get_or PAIRS n []) ≡ two_decimals n
+pairs_right n lt = (octets_Decides _ _).0 (agree_below_at (λ k. pointwise eqb (take 2 (get_or PAIRS k [])) (two_decimals k)) (λ k. true) 100 n refl lt)
+
+-- a number by its hundreds
+pub decimal_hundreds : (n : ℕ) → 100 ≤ n → n < 2 ^ 64 → decimal (n / 100) ++ two_decimals (n % 100) ≡ decimal n
+decimal_hundreds n enough small =
+    let tens : n / 10 / 10 ≡ n / 100 = omega arith in
+    let high : n / 10 % 10 ≡ n % 100 / 10 = omega arith in
+    let low : n % 10 ≡ n % 100 % 10 = omega arith in
+    let step : decimal (n / 10) ≡ decimal (n / 100) ++ ((48 + n % 100 / 10) ∷ []) = rw (tens, high) at (decimal_step (n / 10) (omega arith) (omega arith)) in
+    let last : decimal n ≡ decimal (n / 10) ++ ((48 + n % 100 % 10) ∷ []) = rw low at (decimal_step n (omega arith) small) in
+    sym (last ∙ ap (λ o. o ++ ((48 + n % 100 % 10) ∷ [])) step ∙ append_assoc (decimal (n / 100)) ((48 + n % 100 / 10) ∷ []) ((48 + n % 100 % 10) ∷ []))
 
 -- ---- putting them to an output
 

@@ -18,7 +18,7 @@ use Rattle.secs_item.proofs.Lengths.{elements_measured, list_is, values_are}
 use Rattle.secs_text.specs.Body.{body_of}
 use Rattle.secs_text.specs.Laid.{Puts, opening_of}
 use Rattle.secs_text.specs.Printed.{printed_elements, printed_item, printed_values}
-use Rattle.secs_text.proofs.Blocks.{puts_then, puts_nothing}
+use Rattle.secs_text.proofs.Blocks.{puts_then, puts_nothing, puts_same}
 
 -- ---- reading elements
 
@@ -295,6 +295,31 @@ module _ {G H K : List ℕ → Type 0} {block now new : List ℕ} {from at end :
       let k = next_element counts depth octets lists i place p.rest lists_is within some p.lists_are in
       let e = elements_next counts depth octets lists i place p.rest k h is of_list deep room in
       rw j_is (goes (set (set counts i (get_or counts i 0 - 1)) lists h.length) (lists + 1) h.body (opening_of h.format (h.length / value_size h.format)) e.0 e.1 e.2 puts)
+
+-- an empty list
+pub putting_empty : {G H K L : List ℕ → Type 0} {block now new last : List ℕ} {from at end stop : ℕ} (counts : List ℕ) (depth : ℕ) (octets : List ℕ) (lists i place : ℕ) (all : List ℕ) → Putting G block from H now at counts depth octets lists place all
+    → lists ≡ suc i → i < length counts → (get_or counts i 0 ≡ 0 → ⊥) → (h : Header) → Ok h ≡ header_from place (header_at (depth - lists) (drop place octets)) → is_list h.format ≡ true → 0 < depth - lists → lists < length counts
+    → Puts H now at K new end (opening_of h.format (h.length / value_size h.format)) → (j : ℕ) → j ≡ lists → h.length ≡ 0 → Puts K new end L last stop (codes ">")
+    → Putting G block from L last stop (set (set counts i (get_or counts i 0 - 1)) j h.length) depth octets lists h.body all
+putting_empty counts depth octets lists i place all p lists_is within some h is of_list deep room puts j j_is none closes =
+    let left = set counts i (get_or counts i 0 - 1) in
+    let opened = putting_list counts depth octets lists i place all p lists_is within some h is of_list deep room puts j j_is in
+    let inside : j < length left = rw length-set (omega arith) in
+    let got : get_or (set left j h.length) j 0 ≡ 0 = get_or-set_same left j h.length 0 inside ∙ none in
+    let more : lists + 1 ≡ suc j = omega arith in
+    let less : lists + 1 - 1 ≡ lists = omega arith in
+    rw less at (putting_closes (set left j h.length) depth octets (lists + 1) j h.body all opened more got closes)
+
+-- the opening of a list
+pub list_opening : {G H : List ℕ → Type 0} {block now : List ℕ} {from at : ℕ} (h : Header) → is_list h.format ≡ true → Puts G block from H now at (opening_of format.List (h.length / 1))
+    → Puts G block from H now at (opening_of h.format (h.length / value_size h.format))
+list_opening h of_list puts = puts_same _ (ap (λ (f : Format). opening_of f (h.length / value_size f)) (sym (is_format_list h.format of_list))) puts
+
+-- the text of an item of values, by its body
+pub values_by_body : {G H : List ℕ → Type 0} {block now : List ℕ} {from at : ℕ} (h : Header) (octets body : List ℕ) → body ≡ take h.length (drop h.body octets) → length body ≡ h.length
+    → Puts G block from H now at (values_text h.format (length body) body) → Puts G block from H now at (values_text h.format h.length (take h.length (drop h.body octets)))
+values_by_body h octets body is len puts =
+    puts_same _ (ap (λ (n : ℕ). values_text h.format n body) len ∙ ap (λ (o : List ℕ). values_text h.format h.length o) is) puts
 
 -- ---- the item at the front
 

@@ -1,10 +1,16 @@
 -- Text from octets, one octet and one chunk after another.
-use Rattle.std.proofs.Common.{◌≡◌, ℕ, ◌+◌, ◌<◌, ◌≤◌, Bool, true, false, List, [], ◌++◌, length, get_or, drop, codes, refl, sym, ap, ◌∙◌, append_assoc, append-nil, add-one, drop-cons}
+use Rattle.std.proofs.Common.{◌≡◌, ℕ, ◌+◌, ◌<◌, ◌≤◌, Bool, true, false, List, [], ◌∷◌, ◌++◌, length, get_or, drop, codes, if◌then◌else◌, refl, sym, ap, ◌∙◌, append_assoc, append-nil, add-one, drop-cons, arith}
 use Rattle.std.proofs.lemmas.List.{drop_all}
+use Rattle.std.proofs.lemmas.Bool.{and_parts}
+use Rattle.std.specs.List.{list_all}
 use Rattle.secs_text.specs.Laid.{Laid, Puts}
 use Rattle.secs_text.specs.Octets.{is_quotable}
 use Rattle.secs_text.specs.Printed.{printed_octet, printed_text}
-use Rattle.secs_text.proofs.Blocks.{laid_then, laid_same, puts_laid, puts_room, puts_same}
+use Rattle.secs_text.proofs.Blocks.{laid_then, laid_nothing, laid_same, puts_laid, puts_room, puts_same}
+
+-- what is laid of a chunk
+abbrev pub ChunkLaid : List ℕ → List ℕ → ℕ → ℕ → Bool → Bool → List ℕ → Type 0
+ChunkLaid now new at end in_quotes quoted chunk = (text : List ℕ) × Laid now new at text end × ((tail : List ℕ) → text ++ printed_text quoted tail ≡ printed_text in_quotes (chunk ++ tail))
 
 -- the octet at a place, and those after it
 printed_with : (in_quotes : Bool) (octets tail : List ℕ) (i : ℕ) → i < length octets
@@ -22,6 +28,61 @@ text_goes text all tail in_quotes octets i lt before =
 -- no octet is left
 pub text_done : (text all tail : List ℕ) (in_quotes : Bool) (octets : List ℕ) (i : ℕ) → length octets ≤ i → text ++ printed_text in_quotes (drop i octets ++ tail) ≡ all → text ++ printed_text in_quotes tail ≡ all
 text_done text all tail in_quotes octets i done before = ap (λ o. text ++ printed_text in_quotes (o ++ tail)) (sym (drop_all i octets done)) ∙ before
+
+-- octets that may stand between quotes, where a quote is open
+printed_run : (octets tail : List ℕ) → list_all is_quotable octets ≡ true → octets ++ printed_text true tail ≡ printed_text true (octets ++ tail)
+unfolding printed_text
+printed_run [] tail all = refl
+printed_run (c ∷ cs) tail all =
+    let p = and_parts (is_quotable c) (list_all is_quotable cs) all in
+    rw p.0 (ap (λ (o : List ℕ). c ∷ o) (printed_run cs tail p.1))
+
+-- a run is laid after the quote that it opens
+pub run_laid : {old now new : List ℕ} {from at end : ℕ} (quoted : Bool) (octets : List ℕ) → list_all is_quotable octets ≡ true → 0 < length octets → Laid old now from (if quoted then [] else codes " \"") at → Laid now new at octets end
+    → ChunkLaid old new from end quoted true octets
+unfolding printed_text
+run_laid quoted [] all some opens laid = absurd (omega arith)
+run_laid true (c ∷ cs) all some opens laid = (c ∷ cs, laid_then opens laid, λ tail. printed_run (c ∷ cs) tail all)
+run_laid false (c ∷ cs) all some opens laid = (
+  codes " \"" ++ (c ∷ cs),
+  laid_then opens laid,
+  λ tail.
+      let p = and_parts (is_quotable c) (list_all is_quotable cs) all in
+      rw p.0 (ap (λ (o : List ℕ). codes " \"" ++ c ∷ o) (printed_run cs tail p.1)),
+)
+
+-- how far it came: what is laid of the octets before those that are left
+pub record TextLaid (old : List ℕ) (from : ℕ) (quoted : Bool) (all now : List ℕ) (at : ℕ) (in_quotes : Bool) (left : List ℕ) : Type 0 where
+  pub done : List ℕ
+  pub parts : done ++ left ≡ all
+  pub laid : ChunkLaid old now from at quoted in_quotes done
+
+pub laid_starts : (block : List ℕ) (from : ℕ) (quoted : Bool) (all : List ℕ) → TextLaid block from quoted all block from quoted all
+laid_starts block from quoted all = record { done = []; parts = refl; laid = ([], laid_nothing block from, λ tail. refl) }
+
+module _ {old now new : List ℕ} {from at end : ℕ} (all : List ℕ) (quoted in_quotes after_it : Bool) where
+  chunks : (xs ys : List ℕ) → ChunkLaid old now from at quoted in_quotes xs → ChunkLaid now new at end in_quotes after_it ys → ChunkLaid old new from end quoted after_it (xs ++ ys)
+  chunks xs ys p q = (
+    p.0 ++ q.0,
+    laid_then p.1 q.1,
+    λ tail.
+        append_assoc p.0 q.0 (printed_text after_it tail) ∙ ap (λ o. p.0 ++ o) (q.2 tail) ∙ p.2 (ys ++ tail)
+        ∙ ap (λ o. printed_text quoted o) (sym (append_assoc xs ys tail)),
+  )
+
+  -- one more run
+  pub laid_more : (left run after : List ℕ) → TextLaid old from quoted all now at in_quotes left → run ++ after ≡ left → ChunkLaid now new at end in_quotes after_it run → TextLaid old from quoted all new end after_it after
+  laid_more left run after before parts laid = record {
+    done = before.done ++ run;
+    parts = append_assoc before.done run after ∙ ap (λ o. before.done ++ o) parts ∙ before.parts;
+    laid = chunks before.done run before.laid laid;
+  }
+
+  -- all that is left
+  pub laid_whole : (left : List ℕ) → TextLaid old from quoted all now at in_quotes left → ChunkLaid now new at end in_quotes after_it left → ChunkLaid old new from end quoted after_it all
+  laid_whole left before laid =
+      let whole = chunks before.done left before.laid laid in
+      (whole.0, whole.1, λ tail. whole.2 tail ∙ ap (λ o. printed_text quoted (o ++ tail)) before.parts)
 
 -- no quote is open at the end
 pub last_ends : {now new : List ℕ} {at end : ℕ} (text : List ℕ) (in_quotes quoted : Bool) (octets : List ℕ) → quoted ≡ false → Laid now new at text end → ((tail : List ℕ) → text ++ printed_text quoted tail ≡ printed_text in_quotes (octets ++ tail))
@@ -46,10 +107,6 @@ pub record TextOn (G : List ℕ → Type 0) (block : List ℕ) (from : ℕ) (H :
   pub done : List ℕ
   pub puts : Puts G block from H now at done
   pub parts : (tail : List ℕ) → done ++ printed_text in_quotes (left ++ tail) ≡ printed_text false (all ++ tail)
-
--- what is laid of a chunk
-abbrev pub ChunkLaid : List ℕ → List ℕ → ℕ → ℕ → Bool → Bool → List ℕ → Type 0
-ChunkLaid now new at end in_quotes quoted chunk = (text : List ℕ) × Laid now new at text end × ((tail : List ℕ) → text ++ printed_text quoted tail ≡ printed_text in_quotes (chunk ++ tail))
 
 module _ (G : List ℕ → Type 0) (block : List ℕ) (from : ℕ) (all : List ℕ) where
   pub text_starts : (H : List ℕ → Type 0) (at : ℕ) → Puts G block from H block at [] → TextOn G block from H block at false all all

@@ -1,5 +1,5 @@
 -- What is put into a block of octets.
-use Rattle.std.specs.Prelude.{◌≡◌, ◌≤◌, ℕ, zero, suc, ◌+◌, ◌/◌, drop, refl, List, ◌++◌, length, take, codes}
+use Rattle.std.specs.Prelude.{◌≡◌, ◌≤◌, ℕ, zero, suc, ◌+◌, ◌/◌, ◌%◌, drop, refl, List, [], ◌∷◌, ◌++◌, length, take, codes}
 use Rattle.std.specs.Fmt.{decimal}
 use Rattle.std.proofs.Common.{ap, sym, ◌∙◌}
 use Rattle.std.proofs.lemmas.List.Concat.{flat_map-cons}
@@ -24,6 +24,10 @@ pub record Puts (Given : List ℕ → Type 0) (block : List ℕ) (from : ℕ) (G
   pub octets : (given : List ℕ) → Given given → (now : List ℕ) × GivenNow now × (now ++ take at block_now ≡ given ++ take from block ++ text)
   pub within : at ≤ 65536
   pub size : length block_now ≡ 65536
+
+-- the two digits of a number below 100
+abbrev pub two_decimals : ℕ → List ℕ
+two_decimals n = (48 + n / 10) ∷ (48 + n % 10) ∷ []
 
 -- the opening of an item with a count, after a space
 abbrev pub opening_of : Format → ℕ → List ℕ

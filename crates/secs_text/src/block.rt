@@ -47,7 +47,7 @@ impl Block {
     pub fn new(alloc: Global) -> Result<Block, AllocError>
         ensures { IfOk result (λ block. block ≡ []) }
     {
-        let octets = vec![in alloc; 0u8; SIZE]?;
+        let octets = blank(alloc)?;
         Ok(Block { octets, used: 0 })
     }
 
@@ -68,6 +68,24 @@ impl Block {
     }
 }
 
+/// As many octets as a block holds.
+fn blank(alloc: Global) -> Result<Vec<u8>, AllocError>
+    ensures { IfOk result (λ octets. length octets.items ≡ 65536) }
+{
+    let octets = vec![in alloc; 0u8; SIZE]?;
+    Ok(octets)
+}
+
+/// Gives an output what stands in a block up to a place.
+#[cold]
+#[inline(never)]
+fn give_front<O: Output>(out: &mut O, block: &[u8], at: usize)
+    requires { at ≤ length block.now }
+    ensures { (given : List ℕ) → O.Given out.old given → O.Given out.new (given ++ take at block.now) }
+{
+    out.give(&block[..at]);
+}
+
 /// Where octets can be laid into a block: behind what is laid, or from its front on, once that was given.
 #[inline(always)]
 #[tactic(auto, using(crate::proofs::Blocks::puts_nothing, crate::proofs::Blocks::puts_given))]
@@ -80,6 +98,6 @@ pub fn room<O: Output>(out: &mut O, block: &[u8], at: usize) -> usize
     if at <= SIZE - FREE {
         return at;
     }
-    out.give(&block[..at]);
+    give_front(out, block, at);
     0
 }

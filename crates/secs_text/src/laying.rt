@@ -3,10 +3,10 @@
 
 ghost use Rattle.std.specs.Prelude.{◌≡◌, ◌+◌, ◌≤◌, ◌<◌, ◌++◌, [], ◌∷◌, length, take, codes};
 ghost use Rattle.std.specs.Fmt.{decimal};
-ghost use Rattle.secs_text.specs.Laid.{Laid};
+ghost use Rattle.secs_text.specs.Laid.{Laid, two_decimals};
 ghost use Rattle.secs_text.specs.Printed.{hexadecimal, two_digits};
 
-use crate::tables::{DIGITS, NUMBERS, WORDS};
+use crate::tables::{DIGITS, NUMBERS, PAIRS, WORDS};
 use itoa::{Buffer, Integer};
 use std::simd::Simd;
 
@@ -74,8 +74,77 @@ pub fn lay_small(block: &mut [u8], at: usize, number: u8) -> usize
     lay_word(block, at, word, usize::from(word[3]))
 }
 
-/// Lays a number.
+/// Lays the two digits of a number below 100.
 #[inline(always)]
+fn lay_pair(block: &mut [u8], at: usize, number: u64) -> usize
+    requires small { number < 100 }
+    requires room { at + 2 ≤ length block.old }
+    ensures laid { Laid block.old block.new at (two_decimals number) result }
+    ensures near { result ≤ at + 2 }
+{
+    lay_word(block, at, &PAIRS[number as usize], 2)
+}
+
+/// Lays a number below 25,600.
+#[inline(always)]
+fn lay_hundreds(block: &mut [u8], at: usize, number: u64) -> usize
+    requires small { number < 25600 }
+    requires room { at + 8 ≤ length block.old }
+    ensures laid { Laid block.old block.new at (decimal number) result }
+    ensures near { result ≤ at + 6 }
+{
+    if number < 256 {
+        return lay_small(block, at, number as u8);
+    }
+    let at = lay_small(block, at, (number / 100) as u8);
+    lay_pair(block, at, number % 100)
+}
+
+/// Lays a number below 2,560,000.
+#[inline(always)]
+fn lay_ten_thousands(block: &mut [u8], at: usize, number: u64) -> usize
+    requires small { number < 2560000 }
+    requires room { at + 10 ≤ length block.old }
+    ensures laid { Laid block.old block.new at (decimal number) result }
+    ensures near { result ≤ at + 8 }
+{
+    if number < 25600 {
+        return lay_hundreds(block, at, number);
+    }
+    let at = lay_hundreds(block, at, number / 100);
+    lay_pair(block, at, number % 100)
+}
+
+/// Lays a number below 256,000,000.
+#[inline(always)]
+fn lay_millions(block: &mut [u8], at: usize, number: u64) -> usize
+    requires small { number < 256000000 }
+    requires room { at + 12 ≤ length block.old }
+    ensures laid { Laid block.old block.new at (decimal number) result }
+    ensures near { result ≤ at + 10 }
+{
+    if number < 2560000 {
+        return lay_ten_thousands(block, at, number);
+    }
+    let at = lay_ten_thousands(block, at, number / 100);
+    lay_pair(block, at, number % 100)
+}
+
+/// Lays a number that is not negative.
+#[inline(always)]
+pub fn lay_natural(block: &mut [u8], at: usize, number: u64) -> usize
+    requires { at + 40 ≤ length block.old }
+    ensures laid { Laid block.old block.new at (decimal number) result }
+    ensures near { result ≤ at + 40 }
+{
+    if number < 256000000 {
+        lay_millions(block, at, number)
+    } else {
+        lay_number(block, at, number)
+    }
+}
+
+/// Lays a number.
 pub fn lay_number<I: Integer>(block: &mut [u8], at: usize, number: I) -> usize
     requires { at + 40 ≤ length block.old }
     ensures laid { Laid block.old block.new at (I.text number) result }

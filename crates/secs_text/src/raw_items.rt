@@ -25,6 +25,7 @@ struct Opening {
     length: usize,
 }
 
+#[inline(always)]
 fn opening_word(format: Format) -> Opening
     ensures text { take result.length result.word.now ≡ codes " <" ++ type_name format ++ codes " [" }
     ensures short { result.length ≤ 16 }
@@ -98,6 +99,7 @@ fn opening_word(format: Format) -> Opening
 }
 
 /// How many elements or values a body of this length has.
+#[inline(always)]
 fn count_of(format: Format, length: usize) -> usize
     ensures { result ≡ length / value_size format }
 {
@@ -131,6 +133,7 @@ fn lay_count(block: &mut [u8], at: usize, count: usize) -> usize
 }
 
 /// Lays the opening of an item, after a space.
+#[inline(always)]
 fn lay_opening(block: &mut [u8], at: usize, format: Format, count: usize) -> usize
     requires { at + 64 ≤ length block.old }
     ensures laid { Laid block.old block.new at (opening_of format count) result }
@@ -142,23 +145,26 @@ fn lay_opening(block: &mut [u8], at: usize, format: Format, count: usize) -> usi
     lay_byte(block, at, b']')
 }
 
-/// Puts the opening of an item with this header, after a space.
-fn put_opening<O: Output>(out: &mut O, block: &mut [u8], from: usize, header: Header) -> usize
+/// Puts the opening of an item with a body of this length, after a space.
+#[inline(always)]
+fn put_opening<O: Output>(
+    out: &mut O,
+    block: &mut [u8],
+    from: usize,
+    format: Format,
+    body_length: usize,
+) -> usize
     requires size { length block.old ≡ 65536 }
     requires within { from ≤ 65536 }
     ensures { Puts (O.Given out.old) block.old from (O.Given out.new) block.new result
-        (opening_of header.format (header.length / value_size header.format)) }
+        (opening_of format (body_length / value_size format)) }
 {
     let at = room(out, block, from);
-    lay_opening(
-        block,
-        at,
-        header.format,
-        count_of(header.format, header.length),
-    )
+    lay_opening(block, at, format, count_of(format, body_length))
 }
 
 /// Puts what ends an item.
+#[inline(always)]
 fn put_end<O: Output>(out: &mut O, block: &mut [u8], from: usize) -> usize
     requires size { length block.old ≡ 65536 }
     requires within { from ≤ 65536 }
@@ -168,26 +174,71 @@ fn put_end<O: Output>(out: &mut O, block: &mut [u8], from: usize) -> usize
     lay_byte(block, at, b'>')
 }
 
-/// Puts an item of values with this header, after a space.
+/// The body of an item of values with this header.
+#[inline(always)]
+fn body(octets: &[u8], header: Header) -> &[u8]
+    requires { header.body + header.length ≤ length octets.now }
+    ensures octets { result.now ≡ take header.length (drop header.body octets.now) }
+    ensures length { length result.now ≡ header.length }
+{
+    &octets[header.body..header.body + header.length]
+}
+
+/// Puts an item of values of a known format with this body, after a space.
+#[inline(always)]
+fn put_values_of<O: Output>(
+    out: &mut O,
+    block: &mut [u8],
+    from: usize,
+    format: Format,
+    body: &[u8],
+) -> usize
+    requires no_list { is_list format ≡ false }
+    requires size { length block.old ≡ 65536 }
+    requires within { from ≤ 65536 }
+    ensures { Puts (O.Given out.old) block.old from (O.Given out.new) block.new result
+        (opening_of format (length body.now / value_size format)
+        ++ printed_values (body_of (values_of format body.now)) ++ codes ">") }
+{
+    let at = put_opening(out, block, from, format, body.len());
+    let at = put_values(out, block, at, format, body);
+    put_end(out, block, at)
+}
+
+/// Puts an item of values with this body, after a space. Each format has code of its own.
+#[inline(never)]
 fn put_item_of_values<O: Output>(
     out: &mut O,
     block: &mut [u8],
     from: usize,
-    octets: &[u8],
-    header: Header,
+    format: Format,
+    body: &[u8],
 ) -> usize
-    requires no_list { is_list header.format ≡ false }
-    requires there { header.body + header.length ≤ length octets.now }
+    requires no_list { is_list format ≡ false }
     requires size { length block.old ≡ 65536 }
     requires within { from ≤ 65536 }
     ensures { Puts (O.Given out.old) block.old from (O.Given out.new) block.new result
-        (opening_of header.format (header.length / value_size header.format)
-        ++ printed_values (body_of (values_of header.format (take header.length (drop header.body octets.now)))) ++ codes ">") }
+        (opening_of format (length body.now / value_size format)
+        ++ printed_values (body_of (values_of format body.now)) ++ codes ">") }
 {
-    let at = put_opening(out, block, from, header);
-    let body = &octets[header.body..header.body + header.length];
-    let at = put_values(out, block, at, header.format, body);
-    put_end(out, block, at)
+    match format {
+        Format::List => unreachable!(),
+        Format::Binary => put_values_of(out, block, from, Format::Binary, body),
+        Format::Boolean => put_values_of(out, block, from, Format::Boolean, body),
+        Format::Ascii => put_values_of(out, block, from, Format::Ascii, body),
+        Format::Jis8 => put_values_of(out, block, from, Format::Jis8, body),
+        Format::Char2 => put_values_of(out, block, from, Format::Char2, body),
+        Format::I1 => put_values_of(out, block, from, Format::I1, body),
+        Format::I2 => put_values_of(out, block, from, Format::I2, body),
+        Format::I4 => put_values_of(out, block, from, Format::I4, body),
+        Format::I8 => put_values_of(out, block, from, Format::I8, body),
+        Format::U1 => put_values_of(out, block, from, Format::U1, body),
+        Format::U2 => put_values_of(out, block, from, Format::U2, body),
+        Format::U4 => put_values_of(out, block, from, Format::U4, body),
+        Format::U8 => put_values_of(out, block, from, Format::U8, body),
+        Format::F4 => put_values_of(out, block, from, Format::F4, body),
+        Format::F8 => put_values_of(out, block, from, Format::F8, body),
+    }
 }
 
 /// Whether items of this format are lists.
@@ -217,6 +268,7 @@ fn is_list(format: Format) -> bool
 
 /// Puts the elements of a list, each after a space, and what ends the list. The list's header was read where lists
 /// could be nested `depth` deep; it has `count` elements, and its body begins at `place`.
+#[inline(never)]
 fn put_elements<O: Output>(
     out: &mut O,
     block: &mut [u8],
@@ -255,12 +307,17 @@ fn put_elements<O: Output>(
             unreachable!()
         };
         if is_list(header.format) {
-            at = put_opening(out, block, at, header);
+            at = put_opening(out, block, at, Format::List, header.length);
             counts[usize::from(lists)] = header.length;
-            lists += 1;
             end = header.body;
+            if header.length == 0 {
+                at = put_end(out, block, at);
+            } else {
+                lists += 1;
+            }
         } else {
-            at = put_item_of_values(out, block, at, octets, header);
+            let body = body(octets, header);
+            at = put_item_of_values(out, block, at, header.format, body);
             end = header.body + header.length;
         }
     }
@@ -288,8 +345,8 @@ pub fn put_item<O: Output>(
         unreachable!()
     };
     if is_list(header.format) {
-        let at = put_opening(out, block, from, header);
+        let at = put_opening(out, block, from, Format::List, header.length);
         return put_elements(out, block, at, octets, header.body, header.length, depth);
     }
-    put_item_of_values(out, block, from, octets, header)
+    put_item_of_values(out, block, from, header.format, body(octets, header))
 }

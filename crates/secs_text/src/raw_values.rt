@@ -62,6 +62,7 @@ fn put_text<O: Output>(out: &mut O, block: &mut [u8], from: usize, octets: &[u8]
 }
 
 /// Puts the values of a format that have this body.
+#[inline(always)]
 pub fn put_values<O: Output>(
     out: &mut O,
     block: &mut [u8],

@@ -11,7 +11,7 @@ ghost use Rattle.secs_text.specs.Body.{body_of};
 ghost use Rattle.secs_text.specs.Laid.{Laid, words_of, each_words};
 ghost use Rattle.secs_text.specs.Printed.{hexadecimal, truth_word, printed_values};
 
-use crate::laying::{lay_byte, lay_digits, lay_number, lay_octet, lay_slice, lay_small};
+use crate::laying::{lay_byte, lay_digits, lay_natural, lay_number, lay_octet, lay_slice};
 use byteorder::{BigEndian, ByteOrder};
 
 /// A format each value of which is one word, told by its octets.
@@ -66,11 +66,7 @@ fn lay_unsigned(block: &mut [u8], at: usize, number: u64) -> usize
     ensures near { result ≤ at + 48 }
 {
     let at = lay_byte(block, at, b' ');
-    if number < 256 {
-        lay_small(block, at, number as u8)
-    } else {
-        lay_number(block, at, number)
-    }
+    lay_natural(block, at, number)
 }
 
 /// Lays a number that may be negative, after a space.
@@ -81,8 +77,8 @@ fn lay_signed(block: &mut [u8], at: usize, number: i64) -> usize
     ensures near { result ≤ at + 48 }
 {
     let at = lay_byte(block, at, b' ');
-    if number >= 0 && number < 256 {
-        lay_small(block, at, number as u8)
+    if number >= 0 {
+        lay_natural(block, at, number as u64)
     } else {
         lay_number(block, at, number)
     }

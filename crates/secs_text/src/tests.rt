@@ -275,6 +275,24 @@ const SPELLED: &[(&[u8], &str)] = &[
         b"\x01\x03\x01\x00\x01\x01\x01\x00\xa5\x01\x0a",
         "S6F11 W <L [3] <L [0]> <L [1] <L [0]>> <U1 [1] 10>> .",
     ),
+    (b"\x41\x08WaferMap", "S6F11 W <A [8] \"WaferMap\"> ."),
+    (
+        b"\x41\x13recipe 12345678\nabc",
+        "S6F11 W <A [19] \"recipe 12345678\" 0x0A \"abc\"> .",
+    ),
+    (
+        b"\x41\x10ABCDEFG\x00HIJKLMNO",
+        "S6F11 W <A [16] \"ABCDEFG\" 0x00 \"HIJKLMNO\"> .",
+    ),
+    (b"\x41\x09\"ABCDEFGH", "S6F11 W <A [9] 0x22 \"ABCDEFGH\"> ."),
+    (
+        b"\xb1\x28\x00\x00\x00\xff\x00\x00\x01\x00\x00\x00\x27\xdb\x00\x00\x63\xff\x00\x00\x64\x00\x00\x0f\x4a\x13\x00\x27\x0f\xff\x00\x27\x10\x00\x0f\x42\x3f\xff\x0f\x42\x40\x00",
+        "S6F11 W <U4 [10] 255 256 10203 25599 25600 1002003 2559999 2560000 255999999 256000000> .",
+    ),
+    (
+        b"\x71\x08\x00\x01\x86\xa7\xff\xfe\x79\x59",
+        "S6F11 W <I4 [2] 100007 -100007> .",
+    ),
 ];
 
 fn assert_notation(rt: &impl Abort, octets: &[u8], want: &str) {

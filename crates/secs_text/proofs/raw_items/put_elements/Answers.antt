@@ -2,7 +2,7 @@ use Rattle.std.proofs.Common.{◌≡◌, ◌-◌, suc, true, false, refl, sym, �
 use Rattle.std.proofs.Math.ListN.{length-set}
 use Rattle.secs_item.specs.Format.{is_list}
 use Rattle.secs_item.proofs.Lengths.{header_measured}
-use Rattle.secs_text.proofs.RawItems.{ok_is, putting_starts, putting_ends, putting_closes, putting_values, putting_list, element_measured}
+use Rattle.secs_text.proofs.RawItems.{ok_is, putting_starts, putting_ends, putting_closes, putting_values, putting_list, putting_empty, list_opening, values_by_body, element_measured}
 use Rattle.secs_text.proofs.raw_items.put_elements.Goals as goal
 
 pub loop-lists-init : goal.loop-lists-init
@@ -38,8 +38,25 @@ unreachable-requires g c =
     header_measured k.end (c.args.depth - k.lists) c.args.octets.now c.in_default.field-0 (sym c.in_default.is ∙ c.read_header.ensures.read)
     (element_measured k.counts c.args.depth c.args.octets.now k.lists i k.end _ (k.invariant.putting x.0.0 x.0.1 x.1) lists_is (omega arith) c.if-left-eq0.false)
 
-pub loop-lists-preserved-then-is_list : goal.loop-lists-preserved-then-is_list
-loop-lists-preserved-then-is_list g c =
+pub loop-lists-preserved-then-header-eq0 : goal.loop-lists-preserved-then-header-eq0
+loop-lists-preserved-then-header-eq0 g c =
+    let k = c.loop-lists in
+    let i = c.from-innermost.result - 1 in
+    let h = c.in-Ok.header in
+    let lists_is : k.lists ≡ suc i = omega arith in
+    let of_list : is_list h.format ≡ true = sym c.is_list.ensures ∙ c.if-is_list.true in
+    let deep = c.in-Ok.ensures.list of_list in
+    record {
+      nested = k.invariant.nested;
+      there = c.in-Ok.ensures.header;
+      row = simp length-set k.invariant.row;
+      size = c.put_end-at-then-header-eq0.ensures.size;
+      within = c.put_end-at-then-header-eq0.ensures.within;
+      putting = λ es n read. putting_empty k.counts c.args.depth c.args.octets.now k.lists i k.end _ (k.invariant.putting es n read) lists_is (omega arith) c.if-left-eq0.false h c.in-Ok.ensures.read of_list deep (omega arith) (list_opening h of_list c.put_opening-at.ensures) c.from.result c.from.ensures c.if-header-eq0.true c.put_end-at-then-header-eq0.ensures;
+    }
+
+pub loop-lists-preserved-else-header-eq0 : goal.loop-lists-preserved-else-header-eq0
+loop-lists-preserved-else-header-eq0 g c =
     let k = c.loop-lists in
     let i = c.from-innermost.result - 1 in
     let h = c.in-Ok.header in
@@ -52,7 +69,7 @@ loop-lists-preserved-then-is_list g c =
       row = simp length-set k.invariant.row;
       size = c.put_opening-at.ensures.size;
       within = c.put_opening-at.ensures.within;
-      putting = λ es n read. putting_list k.counts c.args.depth c.args.octets.now k.lists i k.end _ (k.invariant.putting es n read) lists_is (omega arith) c.if-left-eq0.false h c.in-Ok.ensures.read of_list deep (omega arith) c.put_opening-at.ensures c.from.result c.from.ensures;
+      putting = λ es n read. putting_list k.counts c.args.depth c.args.octets.now k.lists i k.end _ (k.invariant.putting es n read) lists_is (omega arith) c.if-left-eq0.false h c.in-Ok.ensures.read of_list deep (omega arith) (list_opening h of_list c.put_opening-at.ensures) c.from.result c.from.ensures;
     }
 
 pub loop-lists-preserved : goal.loop-lists-preserved
@@ -69,7 +86,7 @@ loop-lists-preserved g c =
       row = simp length-set k.invariant.row;
       size = c.put_item_of_values-at.ensures.size;
       within = c.put_item_of_values-at.ensures.within;
-      putting = λ es n read. putting_values k.counts c.args.depth c.args.octets.now k.lists i k.end _ (k.invariant.putting es n read) lists_is (omega arith) c.if-left-eq0.false h c.in-Ok.ensures.read no_list there c.put_item_of_values-at.ensures;
+      putting = λ es n read. putting_values k.counts c.args.depth c.args.octets.now k.lists i k.end _ (k.invariant.putting es n read) lists_is (omega arith) c.if-left-eq0.false h c.in-Ok.ensures.read no_list there (values_by_body h c.args.octets.now c.body-body.result.now c.body-body.ensures.octets c.body-body.ensures.length c.put_item_of_values-at.ensures);
     }
 
 pub returns-clause-puts : goal.returns-clause-puts

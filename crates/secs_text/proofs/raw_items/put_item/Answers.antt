@@ -2,7 +2,7 @@ use Rattle.std.proofs.Common.{◌≡◌, true, false, sym, ◌∙◌}
 use Rattle.secs_item.specs.Format.{is_list}
 use Rattle.secs_item.proofs.Lengths.{header_measured, elements_measured}
 use Rattle.secs_text.proofs.Blocks.{puts_then, puts_same}
-use Rattle.secs_text.proofs.RawItems.{item_values, item_list}
+use Rattle.secs_text.proofs.RawItems.{item_values, item_list, list_opening, values_by_body}
 use Rattle.secs_text.proofs.raw_items.put_item.Goals as goal
 
 pub unreachable-requires : goal.unreachable-requires
@@ -20,10 +20,10 @@ returns-then-is_list-clause-puts g c = λ v n read.
     let h = c.in-Ok.header in
     let of_list : is_list h.format ≡ true = sym c.is_list.ensures ∙ c.if-is_list.true in
     let e = item_list c.args.depth c.args.octets.now v n h read c.in-Ok.ensures.read of_list (c.in-Ok.ensures.list of_list) in
-    puts_same _ e.2 (puts_then c.put_opening-at.ensures (c.put_elements.ensures.puts e.0.0 e.0.1 e.1))
+    puts_same _ e.2 (puts_then (list_opening h of_list c.put_opening-at.ensures) (c.put_elements.ensures.puts e.0.0 e.0.1 e.1))
 
 pub returns-clause-puts : goal.returns-clause-puts
 returns-clause-puts g c = λ v n read.
     let h = c.in-Ok.header in
     let no_list : is_list h.format ≡ false = sym c.is_list.ensures ∙ c.if-is_list.false in
-    puts_same _ (item_values c.args.depth c.args.octets.now v n h read c.in-Ok.ensures.read no_list (c.in-Ok.ensures.values no_list)) c.put_item_of_values.ensures
+    puts_same _ (item_values c.args.depth c.args.octets.now v n h read c.in-Ok.ensures.read no_list (c.in-Ok.ensures.values no_list)) (values_by_body h c.args.octets.now c.body.result.now c.body.ensures.octets c.body.ensures.length c.put_item_of_values.ensures)

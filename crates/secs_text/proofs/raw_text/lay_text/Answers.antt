@@ -1,27 +1,28 @@
-use Rattle.std.proofs.Common.{[], ◌++◌, get_or, refl, arith}
-use Rattle.secs_text.specs.Printed.{printed_octet}
-use Rattle.secs_text.proofs.Blocks.{laid_then, laid_nothing}
-use Rattle.secs_text.proofs.RawText.{text_goes, text_done}
+use Rattle.std.proofs.Common.{◌≡◌, ◌++◌, length, take, refl, ap, ◌∙◌, arith, take-append-drop}
+use Rattle.std.proofs.lemmas.List.{length-take}
+use Rattle.secs_text.proofs.RawText.{laid_starts, laid_more, laid_whole}
 use Rattle.secs_text.proofs.raw_text.lay_text.Goals as goal
 
-pub loop-octet-init : goal.loop-octet-init
-loop-octet-init c = record { near = omega arith; text = ([], laid_nothing c.args.block.now c.args.from, λ tail. refl) }
+pub loop-run-init : goal.loop-run-init
+loop-run-init c = record { near = omega arith; size = refl; laid = laid_starts c.args.block.now c.args.from c.args.quoted c.args.octets.now }
 
-pub loop-octet-preserved : goal.loop-octet-preserved
-loop-octet-preserved c =
-    let k = c.loop-octet in
-    let before = k.invariant.text in
-    let laid = c.lay_text_octet-at.ensures.laid in
+pub lay_run-requires : goal.lay_run-requires
+lay_run-requires c =
+    let p = c.in-Some.ensures.cases in
+    omega (arith, p.2, c.requires, c.loop-run.invariant.near, c.loop-run.invariant.size, ap length p.0, length-take 8 c.loop-run.rest.now)
+
+pub loop-run-preserved : goal.loop-run-preserved
+loop-run-preserved c =
+    let k = c.loop-run in
+    let p = c.in-Some.ensures.cases in
+    let octets = c.in-Some.run'.now in
+    let after = c.in-Some.after.now in
+    let parts : octets ++ after ≡ k.rest.now = ap (λ o. o ++ after) p.0 ∙ ap (λ o. take 8 k.rest.now ++ o) p.1 ∙ take-append-drop 8 k.rest.now in
     record {
-      near = omega (arith, c.lay_text_octet-at.ensures.near, k.invariant.near);
-      text = (before.0 ++ printed_octet k.in_quotes (get_or c.args.octets.now k.octet-index 0), laid_then before.1 laid, λ tail. rw c.is_quotable-in_quotes.ensures (text_goes before.0 _ tail k.in_quotes c.args.octets.now k.octet-index c.loop-octet-test.true (before.2 tail)));
+      near = omega (arith, c.lay_run.ensures.near, k.invariant.near, p.2, ap length p.0, length-take 8 k.rest.now);
+      size = c.lay_run.ensures.size ∙ k.invariant.size;
+      laid = laid_more c.args.octets.now c.args.quoted k.in_quotes c.lay_run.result.1 k.rest.now octets after k.invariant.laid parts c.lay_run.ensures.text;
     }
 
 pub returns-clause-text : goal.returns-clause-text
-returns-clause-text c =
-    let k = c.loop-octet in
-    let before = k.invariant.text in
-    (before.0, before.1, λ tail. text_done before.0 _ tail k.in_quotes c.args.octets.now k.octet-index c.loop-octet-test.false (before.2 tail))
-
-pub returns-clause-size : goal.returns-clause-size
-returns-clause-size c = c.loop-octet.invariant.text.1.size
+returns-clause-text c = laid_whole c.args.octets.now c.args.quoted c.loop-run.in_quotes c.lay_octets.result.1 c.loop-run.rest.now c.loop-run.invariant.laid c.lay_octets.ensures.text

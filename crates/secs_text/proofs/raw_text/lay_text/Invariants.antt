@@ -1,10 +1,13 @@
-use Rattle.std.proofs.Common.{◌≡◌, ◌≤◌, ◌+◌, ◌*◌, ◌++◌, ℕ, List, drop}
-use Rattle.secs_text.specs.Laid.{Laid}
-use Rattle.secs_text.specs.Printed.{printed_text}
+use Rattle.std.proofs.Common.{◌≡◌, ◌≤◌, ◌+◌, ◌*◌, length}
+use Rattle.secs_text.proofs.RawText.{TextLaid}
 use Rattle.secs_text.proofs.raw_text.lay_text.Given as goal
 
-abbrev pub invariant-loop-octet : goal.invariant-loop-octet
-invariant-loop-octet l = record {
-  near : l.at ≤ l.from + 48 * l.octet-index;
-  text : (text : List ℕ) × Laid l.initial.block l.block l.from text l.at × ((tail : List ℕ) → text ++ printed_text l.in_quotes (drop l.octet-index l.octets ++ tail) ≡ printed_text l.quoted (l.octets ++ tail));
+abbrev pub invariant-loop-run : goal.invariant-loop-run
+invariant-loop-run l = record {
+  near : l.at + 48 * length l.rest ≤ l.from + 48 * length l.octets;
+  size : length l.block ≡ length l.initial.block;
+  laid : TextLaid l.initial.block l.from l.quoted l.octets l.block l.at l.in_quotes l.rest;
 }
+
+abbrev pub decreases-loop-run : goal.decreases-loop-run
+decreases-loop-run l = length l.rest
