@@ -48,6 +48,16 @@ fn reads_one_message(rt: HostRuntime) -> Result<(), Fail> {
 }
 
 #[test]
+fn finds_a_message_at_the_front(rt: HostRuntime) -> Result<(), Fail> {
+    let (header, size) = front(&DATA, 256).ok().flatten().ok_or("a message")?;
+    assert_eq!(rt; header.octets().as_slice(), &DATA[4..14]);
+    assert_eq!(rt; size, 2);
+    assert!(rt; matches!(front(&DATA[..15], 256), Ok(None)));
+    assert!(rt; matches!(front(&DATA, 11), Err(FrameFault::TooLong { length: 12, .. })));
+    Ok(())
+}
+
+#[test]
 fn reads_a_text(rt: HostRuntime) -> Result<(), Fail> {
     let run = read(rt.alloc(), &DATA)?;
     let frame = run.result.ok().flatten().ok_or("a message")?;
