@@ -14,7 +14,41 @@ use std::alloc::Global;
 
 /// The header of the next message, and how many octets its text has: the message is at the front of what was read ahead,
 /// then. There is none at the end of the input. More is read only where the message isn't there whole.
+#[inline(always)]
 pub fn next_message<R: Source>(
+    alloc: Global,
+    source: &mut R,
+    ahead: &mut Ahead,
+    max: u32,
+) -> Result<Option<(Header, usize)>, ToolFault>
+    ensures message { WhereTold (R.state source.old).left
+        (λ rest. FindsNext max (ahead.old ++ rest) result ahead.new (R.state source.new).left) }
+    ensures whole { IfOk result (λ found. IfSome found (λ message. IsFrontOf max ahead.new message.0 message.1)) }
+    ensures end { IfOk result (λ found. (R.state source.new).ends
+        ≡ (if is_some found then (R.state source.old).ends else next_count (R.state source.old).ends)) }
+    ensures word { IfErr result (HasWord (codes "Read")) }
+    ensures reads { CountsFailure (codes "Read") result (R.state source.old).failures (R.state source.new).failures }
+{
+    match whole_front(ahead.as_slice(), max) {
+        Some(message) => Ok(Some(message)),
+        None => read_message(alloc, source, ahead, max),
+    }
+}
+
+// The message at the front of octets, if it is there whole.
+#[inline(always)]
+fn whole_front(octets: &[u8], max: u32) -> Option<(Header, usize)>
+    ensures { IfSome result (λ message. IsFrontOf max octets.now message.0 message.1) }
+{
+    match front(octets, max) {
+        Ok(found) => found,
+        Err(_) => None,
+    }
+}
+
+// Reads more until a message or a fault is there.
+#[inline(never)]
+fn read_message<R: Source>(
     alloc: Global,
     source: &mut R,
     ahead: &mut Ahead,

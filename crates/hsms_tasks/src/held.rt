@@ -20,6 +20,7 @@ impl Output for Line {
 
     ghost Given = { λ line given. line.is_whole ≡ true → line.octets.items ≡ given };
 
+    #[inline(always)]
     fn give(&mut self, octets: &[u8]) {
         if self.octets.extend_from_slice(octets).is_err() {
             self.is_whole = false;
@@ -38,6 +39,7 @@ impl Line {
 
     /// Holds the line of a message, with its end, in place of what it held, and gives its octets. A text is readable
     /// where its lists are nested at most `depth` deep.
+    #[inline(always)]
     pub fn show(
         &mut self,
         block: &mut Block,

@@ -38,6 +38,7 @@ pub fn give_line<O: Output>(
 }
 
 // Of a message that is told by its name, session ID and system bytes.
+#[inline(always)]
 fn give_bare<O: Output>(out: &mut O, name: &[u8], header: Header, text: &[u8])
     ensures { Adds (O.Given out.old) (O.Given out.new)
         (name.now ++ address_of header ++ [] ++ text_of text.now ++ 10 ∷ []) }
@@ -48,6 +49,7 @@ fn give_bare<O: Output>(out: &mut O, name: &[u8], header: Header, text: &[u8])
 }
 
 // Of a message that is told by a number besides.
+#[inline(always)]
 fn give_counted<O: Output>(out: &mut O, name: &[u8], header: Header, number: u8, text: &[u8])
     ensures { Adds (O.Given out.old) (O.Given out.new)
         (name.now ++ address_of header ++ (codes " " ++ decimal number) ++ text_of text.now ++ 10 ∷ []) }

@@ -14,6 +14,7 @@ use secs_text::Output;
 const PIECE: usize = 32;
 
 /// What a line begins with: a name, session ID and system bytes.
+#[inline(always)]
 pub fn give_front<O: Output>(out: &mut O, name: &[u8], header: Header)
     ensures { Adds (O.Given out.old) (O.Given out.new) (name.now ++ address_of header) }
 {

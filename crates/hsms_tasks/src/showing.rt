@@ -75,6 +75,7 @@ fn find_end<R: Source>(
 }
 
 // Shows one message, if there is one.
+#[inline(always)]
 fn show_next<R: Source, W: Sink>(
     alloc: Global,
     source: &mut R,
