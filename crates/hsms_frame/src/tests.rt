@@ -53,7 +53,12 @@ fn finds_a_message_at_the_front(rt: HostRuntime) -> Result<(), Fail> {
     assert_eq!(rt; header.octets().as_slice(), &DATA[4..14]);
     assert_eq!(rt; size, 2);
     assert!(rt; matches!(front(&DATA[..15], 256), Ok(None)));
-    assert!(rt; matches!(front(&DATA, 11), Err(FrameFault::TooLong { length: 12, .. })));
+    assert!(rt;
+        matches!(
+            front(&DATA, 11),
+            Err(FrameFault::TooLong { length: 12, .. })
+        )
+    );
     Ok(())
 }
 

@@ -1,5 +1,5 @@
 -- Octets that are read ahead.
-use Rattle.std.specs.Prelude.{◌≡◌, ◌≢◌, ◌++◌, ℕ, List, [], codes, string_bytes, Bool, true, false, Option, Some, None, Result, Ok, Err}
+use Rattle.std.specs.Prelude.{◌≡◌, ◌≢◌, ◌++◌, ℕ, List, [], string_bytes, Bool, true, false, Option, Some, None, Result, Ok, Err}
 use Rattle.hsms_frame.specs.declared.fault.FrameFault.{FrameFault}
 use Rattle.hsms_frame.specs.declared.fault.FrameFault.TheVariants as frame
 use Rattle.hsms_frame.specs.declared.fault.ReadFault.{ReadFault}

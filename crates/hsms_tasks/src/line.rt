@@ -11,13 +11,7 @@ use secs_text::{Block, Output};
 
 /// Gives an output the line of a message, with its end. A text is readable where its lists are nested at most `depth`
 /// deep. The block holds nothing, before and afterwards.
-pub fn give_line<O: Output>(
-    out: &mut O,
-    block: &mut Block,
-    header: Header,
-    text: &[u8],
-    depth: u8,
-)
+pub fn give_line<O: Output>(out: &mut O, block: &mut Block, header: Header, text: &[u8], depth: u8)
     requires depth { depth ≤ 100 }
     requires block { block.old ≡ [] }
     ensures line { (line : List ℕ) × LineOf depth (record { header = header; text = text.now }) line

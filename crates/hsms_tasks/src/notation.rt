@@ -10,13 +10,7 @@ use hsms_frame::Header;
 use secs_text::{Block, Head, Output, print_text};
 
 /// Gives an output the line of a data message. Its text is readable where its lists are nested at most `depth` deep.
-pub fn give_data<O: Output>(
-    out: &mut O,
-    block: &mut Block,
-    header: Header,
-    text: &[u8],
-    depth: u8,
-)
+pub fn give_data<O: Output>(out: &mut O, block: &mut Block, header: Header, text: &[u8], depth: u8)
     requires depth { depth ≤ 100 }
     requires block { block.old ≡ [] }
     ensures line { (line : List ℕ) × DataLine depth (record { header = header; text = text.now }) line

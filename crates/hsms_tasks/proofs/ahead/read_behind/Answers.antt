@@ -1,4 +1,4 @@
-use Rattle.std.proofs.Common.{◌++◌, ◌∙◌, ℕ, arith, ap, drop, sym, take}
+use Rattle.std.proofs.Common.{◌++◌, ◌∙◌, ℕ, ap, drop, sym, take}
 use Rattle.std.proofs.lemmas.Result.{err_from_is_err_and}
 use Rattle.std.proofs.lemmas.List.{take-append-drop}
 use Rattle.hsms_tasks.proofs.Found.{more_read, unread}

@@ -1,4 +1,4 @@
-use Rattle.std.proofs.Common.{◌≡◌, ◌++◌, ◌∷◌, [], codes, decimal, refl, sym, ◌∙◌}
+use Rattle.std.proofs.Common.{◌++◌, ◌∷◌, [], codes, decimal, refl, sym, ◌∙◌}
 use Rattle.hsms_frame.specs.declared.frame.Frame.{Frame}
 use Rattle.hsms_frame.specs.declared.kinds.Kind.TheVariants.{SelectReq, SelectRsp, LinktestReq, LinktestRsp, Reject, Separate, OtherSType, OtherPType}
 use Rattle.hsms_tasks.specs.Line.{address_of, control_line, text_of}

@@ -1,4 +1,4 @@
-use Rattle.std.proofs.Common.{◌≡◌, ◌++◌, ◌∷◌, [], List, ℕ, codes, decimal, refl, sym, subst, inl, inr, if◌then◌else◌}
+use Rattle.std.proofs.Common.{◌++◌, ◌∷◌, [], codes, decimal, refl, sym, subst, inl, inr, if◌then◌else◌}
 use Rattle.hex.specs.Hex.{encode_lower}
 use Rattle.secs_text.specs.Printed.{printed}
 use Rattle.hsms_frame.specs.Header.{stream_of, function_of, wait_of}

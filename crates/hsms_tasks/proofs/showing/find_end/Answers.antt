@@ -1,4 +1,4 @@
-use Rattle.std.proofs.Common.{inr, refl}
+use Rattle.std.proofs.Common.{inr}
 use Rattle.std.proofs.lemmas.Result.{err_from_is_err_and}
 use Rattle.hsms_tasks.proofs.Runs.{no_more, one_more, read_of_input}
 use Rattle.hsms_tasks.proofs.showing.find_end.Goals as goal

@@ -1,4 +1,4 @@
-use Rattle.std.proofs.Common.{◌≡◌, ◌+◌, ◌-◌, ◌++◌, Bool, ℕ, List, refl, sym, ◌∙◌, ap, arith, drop, take}
+use Rattle.std.proofs.Common.{◌≡◌, ◌+◌, ◌-◌, ◌++◌, Bool, ℕ, List, refl, ◌∙◌, ap, arith, drop, take}
 use Rattle.std.proofs.lemmas.Result.{err_from_is_err_and}
 use Rattle.hsms_frame.specs.declared.frame.Frame.{Frame}
 use Rattle.hsms_tasks.specs.Ahead.{behind}
