@@ -118,8 +118,16 @@ fn text_of(alloc: Global, octets: &[u8]) -> Result<Text, AllocError>
     Ok(Text::new(text))
 }
 
-// The header and the size of the text of the message at the front, if it is there whole.
-fn front(octets: &[u8], max: u32) -> Result<Option<(Header, usize)>, FrameFault>
+/// The header of the message at the front of octets, and how many octets its text has, which lies behind the first
+/// fourteen. There is none where the octets end within a message. `max` is the greatest count of octets of header and
+/// text. Takes no memory.
+///
+/// # Errors
+///
+/// `TooShort`, once four octets are there, where they count fewer than ten; `TooLong`, once fourteen are there, where the
+/// first four count more than the limit.
+#[inline(always)]
+pub fn front(octets: &[u8], max: u32) -> Result<Option<(Header, usize)>, FrameFault>
     ensures { FrontAs max octets.now result }
 {
     let Some((field, behind)) = octets.split_first_chunk::<4>() else {

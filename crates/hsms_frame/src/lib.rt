@@ -46,7 +46,7 @@ pub use classify::kind;
 pub use device::{Failed, Sink, Source};
 pub use fault::{FrameFault, ReadFault, WriteFault};
 pub use frame::{Frame, Text};
-pub use framer::Framer;
+pub use framer::{Framer, front};
 pub use header::{CONTROL_SESSION, HEADER_LENGTH, Header};
 pub use kinds::Kind;
 pub use memory::{Feed, Store};

@@ -73,6 +73,25 @@ fn reads_one_message(rt: HostRuntime) -> Result<(), Fail> {
     Ok(())
 }
 
+fn assert_front(rt: &impl Abort) {
+    assert!(rt; matches!(front(&DATA, 256), Ok(Some((_, 2)))));
+    assert!(rt; matches!(front(&DATA[..15], 256), Ok(None)));
+    assert!(rt;
+        matches!(
+            front(&DATA, 11),
+            Err(FrameFault::TooLong { length: 12, .. })
+        )
+    );
+}
+
+#[test]
+fn finds_a_message_at_the_front(rt: HostRuntime) -> Result<(), Fail> {
+    assert_front(&rt);
+    let (header, _) = front(&DATA, 256).ok().flatten().ok_or("a message")?;
+    assert_eq!(rt; header.octets().as_slice(), &DATA[4..14]);
+    Ok(())
+}
+
 fn assert_header(rt: &impl Abort, header: Header) {
     assert_eq!(rt;
         (header.stream(), header.function(), header.wait()),

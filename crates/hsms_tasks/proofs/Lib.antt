@@ -1,7 +1,9 @@
 pub mod Audits
 pub mod Devices
+pub mod DigitTable
 pub mod Doings
 pub mod Encodings
-pub mod Notated
+pub mod Found
+pub mod Givens
 pub mod Runs
 pub mod Wholes

@@ -1,45 +1,37 @@
 -- Runs of `hsms show`, one message after another.
-use Rattle.std.proofs.Common.{◌≡◌, ◌≢◌, ◌≤◌, ◌+◌, ◌++◌, ℕ, List, [], ◌∷◌, length, take, drop, Some, Ok, Err, true, false, Bool, refl, sym, ◌∙◌, ap, subst, inl, inr, arith, get_or, codes}
+use Rattle.std.proofs.Common.{◌≡◌, ◌≢◌, ◌≤◌, ◌+◌, ◌++◌, ℕ, List, [], ◌∷◌, length, take, drop, None, Some, Ok, Err, true, false, Bool, refl, sym, ◌∙◌, ap, subst, inl, inr, arith, get_or, codes}
 use Rattle.std.specs.Prelude.{Option, Result, All, IfErr}
-use Rattle.std.proofs.lemmas.List.{append-nil, append_assoc, length-append, take-append-drop}
+use Rattle.std.proofs.lemmas.List.{append-nil, append_assoc, length-append, length-drop, length-take-le}
 use Rattle.std.proofs.lemmas.Grind.{flat_map-append}
 use Rattle.std.proofs.lemmas.List.Elements.{All-push}
 use Rattle.hsms_frame.specs.declared.frame.Frame.{Frame}
-use Rattle.hsms_frame.specs.declared.fault.ReadFault.{ReadFault}
-use Rattle.hsms_frame.specs.declared.fault.ReadFault.TheVariants as read
+use Rattle.hsms_frame.specs.declared.header.Header.{Header}
 use Rattle.hsms_frame.specs.Device.{WhereTold, Stays, Grows, GrowsByFront}
 use Rattle.hsms_frame.specs.Frame.{frame_octets}
-use Rattle.hsms_frame.specs.Reading.{ReadsAs}
+use Rattle.hsms_frame.specs.Framing.{IsFrontOf}
+use Rattle.hsms_frame.proofs.Fronts.{whole_at_front}
 use Rattle.hsms_options.specs.declared.fault.ToolFault.{ToolFault}
 use Rattle.hsms_options.specs.declared.fault.ToolFault.TheVariants.{Refused, Device, Memory}
+use Rattle.hsms_tasks.specs.Ahead.{IsStopped, behind}
 use Rattle.hsms_tasks.specs.Line.{LineOf}
-use Rattle.hsms_tasks.specs.Show.{Begins, IsWithin, octets_of, LeavesPart, LinesOf, GrowsThenByFront, Shows, CountsFailure, ReadsNext, ShowsNext, IsEnded, Tells, HasWord, IsOfInput, IsWrite}
+use Rattle.hsms_tasks.specs.Show.{Begins, IsWithin, octets_of, LeavesPart, LinesOf, GrowsThenByFront, Shows, CountsFailure, ShowsNext, IsEnded, HasWord, IsOfInput, IsWrite}
 
--- a reading that stops leaves a part of its input
-leaves : (max : ℕ) (input : List ℕ) (fault : ReadFault) (left : Option (List ℕ)) → ReadsAs max input (Err fault) left → LeavesPart input left
-leaves max input (read.TooShort n) left reads = (take 4 input, drop 4 input, sym (take-append-drop 4 input), reads.1)
-leaves max input (read.TooLong n h) left reads = (take 14 input, drop 14 input, sym (take-append-drop 14 input), reads.1)
-leaves max input read.Memory left reads = (take 14 input, drop 14 input, sym (take-append-drop 14 input), reads.1)
-leaves max input read.CutOff left reads = (input, [], sym (append-nil input), reads.3)
-leaves max input read.Read left (taken, rest, parts, is, fine, begun) = (taken, rest, parts, is)
-
--- a reading's fault, told by the command
-pub tells : (max : ℕ) (input : List ℕ) (fault : ReadFault) (left : Option (List ℕ)) (tool : ToolFault)
-    → ReadsAs max input (Err fault) left → Tells fault tool → ReadsNext max input (Err tool) left
-tells max input fault left (Refused words) reads t = ((fault, left, reads, t.0, t.1, t.2), leaves max input fault left reads)
-tells max input fault left (Device word) reads t =
-    let P : ReadFault → Type 0 = λ f. ReadsAs max input (Err f) left in subst P t.0 reads
-tells max input fault left Memory reads t = leaves max input fault left reads
-
--- a device's fault that comes from a reading
-pub tells_word : (fault : ReadFault) (tool : ToolFault) → Tells fault tool → HasWord (codes "Read") tool
-tells_word fault (Refused words) t = tt
-tells_word fault (Device word) t = t.1
-tells_word fault Memory t = tt
+-- a message that is there whole is the next
+pub begins_with : (max : ℕ) (input ahead rest text : List ℕ) (h : Header) (size : ℕ) → input ≡ ahead ++ rest → IsFrontOf max ahead h size
+    → text ≡ take size (drop 14 ahead) → Begins max input (record { header = h; text = text }) (drop (14 + size) ahead ++ rest)
+begins_with max input ahead rest text h size parts front same =
+    let f : Frame = record { header = h; text = text } in
+    let room : size ≤ length (drop 14 ahead) = omega (arith, length-drop 14 ahead, front.there) in
+    let count : length text ≡ size = ap length same ∙ length-take-le size (drop 14 ahead) room in
+    let whole = whole_at_front max ahead text h size front same in (
+      parts ∙ ap (λ (xs : List ℕ). xs ++ rest) (whole.0 ∙ ap (λ (n : ℕ). frame_octets f ++ drop (14 + n) ahead) count)
+          ∙ append_assoc (frame_octets f) (drop (14 + size) ahead) rest,
+      (whole.1, whole.2),
+    )
 
 -- a reading stopped the call, and nothing was written
 pub read_stops : (max depth : ℕ) (input : List ℕ) (fault : ToolFault) (left written : Option (List ℕ))
-    → ReadsNext max input (Err fault) left → HasWord (codes "Read") fault → ShowsNext max depth input (Err fault) left written written
+    → IsStopped max input fault left → HasWord (codes "Read") fault → ShowsNext max depth input (Err fault) left written written
 read_stops max depth input (Refused words) left written reads word = (reads.0, reads.1, (λ octets told. told))
 read_stops max depth input (Device given) left written reads word = inl (word, reads, (λ octets told. told))
 read_stops max depth input Memory left written reads word = (reads, (λ octets told. told))
@@ -48,25 +40,29 @@ all_left : (after : List ℕ) (left : Option (List ℕ)) → left ≡ Some after
 all_left after left is = ([], after, refl, is)
 
 -- memory is wanting for the line
-pub line_stops : (max depth : ℕ) (input rest : List ℕ) (f : Frame) (left written : Option (List ℕ)) → input ≡ frame_octets f ++ rest → left ≡ Some rest
+pub line_stops : (max depth : ℕ) (input : List ℕ) (left written : Option (List ℕ)) → LeavesPart input left
     → ShowsNext max depth input (Err Memory) left written written
-line_stops max depth input rest f left written reads is = ((frame_octets f, rest, reads, is), (λ octets told. told))
+line_stops max depth input left written leaves = (leaves, (λ octets told. told))
 
 -- a write stopped the call
-pub write_stops : (max depth : ℕ) (input rest line : List ℕ) (f : Frame) (fault : ToolFault) (left old written : Option (List ℕ))
-    → IsWrite fault → input ≡ frame_octets f ++ rest → IsWithin max f → left ≡ Some rest → LineOf depth f line → GrowsByFront old written line
+pub write_stops : (max depth : ℕ) (input after line : List ℕ) (f : Frame) (fault : ToolFault) (left old written : Option (List ℕ))
+    → IsWrite fault → Begins max input f after → LeavesPart after left → LineOf depth f line → GrowsByFront old written line
     → ShowsNext max depth input (Err fault) left old written
-write_stops max depth input rest line f (Refused words) left old written word reads within is shown grows = absurd word
-write_stops max depth input rest line f (Device given) left old written word reads within is shown grows =
-    inr (word, f, rest, line, (reads, within), shown, all_left rest left is, grows)
-write_stops max depth input rest line f Memory left old written word reads within is shown grows = absurd word
+write_stops max depth input after line f (Refused words) left old written word begins leaves shown grows = absurd word
+write_stops max depth input after line f (Device given) left old written word begins leaves shown grows =
+    inr (word, f, after, line, begins, shown, leaves, grows)
+write_stops max depth input after line f Memory left old written word begins leaves shown grows = absurd word
 
 -- one message more is there
-pub one_more : (max : ℕ) (input : List ℕ) (f : Frame) (left : Option (List ℕ)) (word : List ℕ) → word ≡ codes "Endless" → ReadsAs max input (Ok (Some f)) left
-    → (word ≡ codes "Endless") × (f : Frame) × (after : List ℕ) × Begins max input f after × LeavesPart after left
-one_more max input f left word is (rest, parts, left_is, frame, size) = (is, f, rest, (parts, (frame, size)), all_left rest left left_is)
+pub one_more : (max : ℕ) (input ahead : List ℕ) (m : Header × ℕ) (left : Option (List ℕ)) → (rest : List ℕ) × (left ≡ Some rest) × (input ≡ ahead ++ rest)
+    → IsFrontOf max ahead m.0 m.1
+    → (codes "Endless" ≡ codes "Endless") × (f : Frame) × (after : List ℕ) × Begins max input f after × LeavesPart after left
+one_more max input ahead m left (rest, is, parts) front =
+    let begins_so = begins_with max input ahead rest (take m.1 (drop 14 ahead)) m.0 m.1 parts front refl in
+    let f : Frame = record { header = m.0; text = take m.1 (drop 14 ahead) } in
+    (refl, f, drop (14 + m.1) ahead ++ rest, begins_so, (drop (14 + m.1) ahead, rest, refl, is))
 
-pub no_more : (max : ℕ) (input : List ℕ) (fault : ToolFault) (left : Option (List ℕ)) → HasWord (codes "Read") fault → ReadsNext max input (Err fault) left
+pub no_more : (max : ℕ) (input : List ℕ) (fault : ToolFault) (left : Option (List ℕ)) → HasWord (codes "Read") fault → IsStopped max input fault left
     → IsEnded max input (Err fault) left
 no_more max input (Refused words) left word reads = reads
 no_more max input (Device given) left word reads = inl (word, reads)
@@ -128,6 +124,11 @@ grows_front old mid new lines line grows front = λ octets told. front (octets +
 
 -- ---- the run
 
+-- a claim on what is left, which was read ahead in part
+pub along : (ahead : List ℕ) (left : Option (List ℕ)) (P : List ℕ → Type 0) → WhereTold left (λ rest. P (ahead ++ rest)) → WhereTold (behind ahead left) P
+along ahead None P claim input is = cc
+along ahead (Some rest) P claim input is = let same : ahead ++ rest ≡ input = cc in subst P same (claim rest refl)
+
 -- after some messages
 abbrev pub Begun : ℕ → ℕ → List ℕ → ℕ → Option (List ℕ) → Option (List ℕ) → Option (List ℕ) → Type 0
 Begun max depth input count left old new =
@@ -141,6 +142,11 @@ Next max depth before result left old new = WhereTold before (λ input. ShowsNex
 pub begins : (max depth : ℕ) (input : List ℕ) (left written : Option (List ℕ)) → left ≡ Some input → Begun max depth input 0 left written written
 begins max depth input left written told =
     ([], [], input, refl, (λ k d below. absurd (omega arith)), refl, refl, told, grows_none written)
+
+pub begins_unread : (max depth : ℕ) (input ahead : List ℕ) (left written : Option (List ℕ)) → ahead ≡ [] → left ≡ Some input
+    → Begun max depth input 0 (behind ahead left) written written
+begins_unread max depth input ahead left written none told =
+    begins max depth input (behind ahead left) written (ap (λ (xs : List ℕ). behind xs left) none ∙ ap (behind []) told)
 
 pub goes_on : (max depth : ℕ) (input : List ℕ) (count : ℕ) (before left old mid new : Option (List ℕ)) → Begun max depth input count before old mid
     → Next max depth before (Ok true) left mid new → Begun max depth input (count + 1) left old new

@@ -84,13 +84,6 @@ CountsFailure word (Err Memory) old new = new ≡ old
 CountsFailure word (Err (Device given)) old new =
     ((given.now ≡ word) × (new ≡ next_count old)) ⊎ ((given.now ≢ word) × (new ≡ old))
 
--- one message is read, or none is left
-abbrev pub ReadsNext : ℕ → List ℕ → Result (Option Frame) ToolFault → Option (List ℕ) → Type 0
-ReadsNext max input (Ok next) left = ReadsAs max input (Ok next) left
-ReadsNext max input (Err (Refused words)) left = IsRefused max input (string_bytes words) × LeavesPart input left
-ReadsNext max input (Err (Device word)) left = StopsWithin max input left
-ReadsNext max input (Err Memory) left = LeavesPart input left
-
 -- one message is read and its line written, or none is left
 abbrev pub ShowsNext : ℕ → ℕ → List ℕ → Result Bool ToolFault → Option (List ℕ) → Option (List ℕ) → Option (List ℕ) → Type 0
 ShowsNext max depth input (Ok true) left old new =

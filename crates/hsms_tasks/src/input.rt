@@ -1,8 +1,8 @@
 //! The whole of an input.
 
-ghost use Rattle.std.specs.Prelude.{◌≡◌, ◌≤◌, ◌<◌, length, IfOk, OnOk, IfErr, Ok, codes};
+ghost use Rattle.std.specs.Prelude.{◌≡◌, ◌≤◌, ◌<◌, length, IfOk, OnOk, IfErr, OnErr, Ok, codes};
 ghost use Rattle.hsms_frame.specs.Count.{next_count};
-ghost use Rattle.hsms_frame.specs.Device.{WhereTold, Takes, IsAtEnd, ends_after};
+ghost use Rattle.hsms_frame.specs.Device.{WhereTold, Takes, IsAtEnd, Stays, ends_after};
 ghost use Rattle.hsms_tasks.specs.Encode.{IsWholeInput, IsPartOfInput};
 ghost use Rattle.hsms_tasks.specs.Show.{CountsFailure, HasWord, IsRead};
 
@@ -37,14 +37,15 @@ pub fn read_whole<R: Source>(
     Err(refused(alloc, "Input"))
 }
 
-// Reads some octets to the front of a slice with room, and says how many: none only at the end of the input.
-fn pull<R: Source>(source: &mut R, into: &mut [u8]) -> Result<usize, ToolFault>
+/// Reads some octets to the front of a slice with room, and says how many: none only at the end of the input.
+pub fn pull<R: Source>(source: &mut R, into: &mut [u8]) -> Result<usize, ToolFault>
     ensures len { length into.new ≡ length into.old }
     ensures bound { IfOk result (λ n. n ≤ length into.new) }
     ensures octets { IfOk result (λ n. Takes (R.state source.old).left (R.state source.new).left n into.new) }
     ensures end { IfOk result (λ n. n ≡ 0 → 0 < length into.new → IsAtEnd (R.state source.old).left) }
     ensures ends { IfOk result (λ n. (R.state source.new).ends
         ≡ ends_after (length into.new) (Ok n) (R.state source.old).ends) }
+    ensures none_lost { OnErr result (Stays (R.state source.old).left (R.state source.new).left) }
     ensures word { IfErr result IsRead }
     ensures reads { CountsFailure (codes "Read") result (R.state source.old).failures (R.state source.new).failures }
 {

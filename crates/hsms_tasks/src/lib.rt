@@ -8,12 +8,17 @@
 //! ```
 #![tactic(auto)]
 
+mod ahead;
 mod auditing;
+mod digits;
 mod doing;
 mod encoding;
+mod finding;
+mod held;
 mod input;
 mod line;
 mod notation;
+mod parts;
 mod showing;
 mod verdict;
 

@@ -1,13 +1,15 @@
 //! `hsms show`: messages in octets, as lines.
 
-ghost use Rattle.std.specs.Prelude.{◌≡◌, ◌≤◌, IfOk, IfErr, OnOk, OnErr, is_some, codes, if◌then◌else◌};
+ghost use Rattle.std.specs.Prelude.{◌≡◌, ◌≤◌, ◌++◌, [], IfOk, IfErr, OnOk, OnErr, codes, if◌then◌else◌};
 ghost use Rattle.hsms_frame.specs.Count.{count_failure, next_count};
 ghost use Rattle.hsms_frame.specs.Device.{WhereTold, Grows, GrowsByFront};
-ghost use Rattle.hsms_tasks.specs.Show.{Shows, ShowsNext, ReadsNext, IsEnded, Tells, CountsFailure, HasWord, IsOfInput, IsReadOrWrite, IsReadWriteOrEndless, IsWrite};
+ghost use Rattle.hsms_tasks.specs.Ahead.{left_after};
+ghost use Rattle.hsms_tasks.specs.Show.{Shows, ShowsNext, IsEnded, CountsFailure, IsOfInput, IsReadOrWrite, IsReadWriteOrEndless, IsWrite};
 
-use crate::line::frame_line;
-use crate::notation::Line;
-use hsms_frame::{Frame, ReadFault, Sink, Source, give_all, read_frame};
+use crate::ahead::Ahead;
+use crate::finding::next_message;
+use crate::held::Line;
+use hsms_frame::{Sink, Source, give_all};
 use hsms_options::ToolFault;
 use secs_text::Block;
 use std::alloc::Global;
@@ -40,87 +42,69 @@ pub fn show<R: Source, W: Sink>(
     ensures reads { CountsFailure (codes "Read") result (R.state source.old).failures (R.state source.new).failures }
     ensures writes { CountsFailure (codes "Write") result (W.state sink.old).failures (W.state sink.new).failures }
 {
+    let mut ahead = Ahead::new(alloc)?;
     let mut block = Block::new(alloc)?;
     let mut line = Line::new(alloc);
     for _ in 0..u32::MAX {
-        if !show_next(alloc, source, sink, &mut line, &mut block, max, depth)? {
+        if !show_next(
+            alloc, source, sink, &mut ahead, &mut line, &mut block, max, depth,
+        )? {
             return Ok(());
         }
     }
-    find_end(alloc, source, max)
+    find_end(alloc, source, &mut ahead, max)
 }
 
 // Looks for the end of the input, where as many messages are shown as the command shows.
-fn find_end<R: Source>(alloc: Global, source: &mut R, max: u32) -> Result<(), ToolFault>
-    ensures answer { WhereTold (R.state source.old).left (λ input. IsEnded max input result (R.state source.new).left) }
+fn find_end<R: Source>(
+    alloc: Global,
+    source: &mut R,
+    ahead: &mut Ahead,
+    max: u32,
+) -> Result<(), ToolFault>
+    ensures answer { WhereTold (R.state source.old).left
+        (λ rest. IsEnded max (ahead.old ++ rest) result (R.state source.new).left) }
     ensures end { OnOk result ((R.state source.new).ends ≡ next_count (R.state source.old).ends) }
     ensures word { IfErr result IsOfInput }
     ensures reads { CountsFailure (codes "Read") result (R.state source.old).failures (R.state source.new).failures }
 {
-    let Some(_) = next_frame(alloc, source, max)? else {
+    let Some(_) = next_message(alloc, source, ahead, max)? else {
         return Ok(());
     };
     Err(ToolFault::Device("Endless"))
 }
 
 // Shows one message, if there is one.
+#[inline(always)]
 fn show_next<R: Source, W: Sink>(
     alloc: Global,
     source: &mut R,
     sink: &mut W,
+    ahead: &mut Ahead,
     line: &mut Line,
     block: &mut Block,
     max: u32,
     depth: u8,
 ) -> Result<bool, ToolFault>
-    requires { depth ≤ 100 }
-    ensures line { WhereTold (R.state source.old).left (λ input. ShowsNext max depth input result
-        (R.state source.new).left (W.state sink.old).written (W.state sink.new).written) }
+    requires depth { depth ≤ 100 }
+    requires block { block.old ≡ [] }
+    ensures line { WhereTold (R.state source.old).left (λ rest. ShowsNext max depth (ahead.old ++ rest) result
+        (left_after result ahead.new (R.state source.new).left) (W.state sink.old).written (W.state sink.new).written) }
+    ensures block { block.new ≡ [] }
     ensures end { IfOk result (λ is_shown. (R.state source.new).ends
         ≡ (if is_shown then (R.state source.old).ends else next_count (R.state source.old).ends)) }
     ensures word { IfErr result IsReadOrWrite }
     ensures reads { CountsFailure (codes "Read") result (R.state source.old).failures (R.state source.new).failures }
     ensures writes { CountsFailure (codes "Write") result (W.state sink.old).failures (W.state sink.new).failures }
 {
-    let Some(frame) = next_frame(alloc, source, max)? else {
+    let Some((header, size)) = next_message(alloc, source, ahead, max)? else {
         return Ok(false);
     };
-    let octets = frame_line(alloc, line, block, &frame, depth)?;
+    let text = &ahead.as_slice()[14..14 + size];
+    let octets = line.show(block, header, text, depth)?;
     put(sink, octets)?;
+    ahead.pass(14 + size);
     Ok(true)
-}
-
-fn next_frame<R: Source>(
-    alloc: Global,
-    source: &mut R,
-    max: u32,
-) -> Result<Option<Frame>, ToolFault>
-    ensures frame { WhereTold (R.state source.old).left
-        (λ input. ReadsNext max input result (R.state source.new).left) }
-    ensures end { IfOk result (λ frame. (R.state source.new).ends
-        ≡ (if is_some frame then (R.state source.old).ends else next_count (R.state source.old).ends)) }
-    ensures word { IfErr result (HasWord (codes "Read")) }
-    ensures reads { CountsFailure (codes "Read") result (R.state source.old).failures (R.state source.new).failures }
-{
-    match read_frame(alloc, source, max) {
-        Ok(frame) => Ok(frame),
-        Err(fault) => Err(told(alloc, fault)),
-    }
-}
-
-fn told(alloc: Global, fault: ReadFault) -> ToolFault
-    ensures { Tells fault result }
-{
-    match fault {
-        ReadFault::Memory => ToolFault::Memory,
-        ReadFault::Read => ToolFault::Device("Read"),
-        ReadFault::TooShort { .. } | ReadFault::TooLong { .. } | ReadFault::CutOff => {
-            match fault.to_string(alloc) {
-                Ok(words) => ToolFault::Refused(words),
-                Err(_) => ToolFault::Memory,
-            }
-        }
-    }
 }
 
 /// Writes all octets.
