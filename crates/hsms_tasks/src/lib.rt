@@ -11,9 +11,11 @@
 mod auditing;
 mod doing;
 mod encoding;
+mod frames;
 mod input;
 mod line;
 mod notation;
+mod refusal;
 mod showing;
 mod verdict;
 
