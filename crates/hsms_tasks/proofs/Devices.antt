@@ -1,11 +1,10 @@
 -- The words of a device's fault.
 use Rattle.std.proofs.Common.{ℕ, Bool, List, Ok, Err, inl, inr, codes}
 use Rattle.std.specs.Prelude.{Result, IfErr}
-use Rattle.secs_text.specs.Content.{Content}
 use Rattle.hsms_options.specs.declared.fault.ToolFault.{ToolFault}
 use Rattle.hsms_options.specs.declared.fault.ToolFault.TheVariants.{Refused, Device, Memory}
 use Rattle.hsms_tasks.specs.Show.{HasWord, IsOfInput, IsReadOrWrite, IsReadWriteOrEndless, IsReading, IsWrite}
-use Rattle.hsms_tasks.specs.Encode.{AreNotEncoded, IsNotRead}
+use Rattle.hsms_tasks.specs.Encode.{IsNotEncoded}
 
 pub of_read : (fault : ToolFault) → HasWord (codes "Read") fault → IsReadOrWrite fault
 of_read (Refused words) word = tt
@@ -17,16 +16,11 @@ of_write (Refused words) word = absurd word
 of_write (Device given) word = inr word
 of_write Memory word = absurd word
 
-pub of_notation : (depth : ℕ) (input : List ℕ) (fault : ToolFault) → IsNotRead depth input fault → IsReadOrWrite fault
-of_notation depth input (Refused words) why = tt
-of_notation depth input (Device given) why = absurd why
-of_notation depth input Memory why = tt
-
-pub of_messages : (device max : ℕ) (hex : Bool) (system : ℕ) (ms : List Content) (fault : ToolFault) → AreNotEncoded device max hex system ms fault
+pub of_encoding : (device max depth : ℕ) (hex : Bool) (system : ℕ) (input : List ℕ) (fault : ToolFault) → IsNotEncoded device max depth hex system input fault
     → IsReadOrWrite fault
-of_messages device max hex system ms (Refused words) why = tt
-of_messages device max hex system ms (Device given) why = absurd why
-of_messages device max hex system ms Memory why = tt
+of_encoding device max depth hex system input (Refused words) why = tt
+of_encoding device max depth hex system input (Device given) why = absurd why
+of_encoding device max depth hex system input Memory why = tt
 
 pub wider : (fault : ToolFault) → IsReadOrWrite fault → IsReadWriteOrEndless fault
 wider (Refused words) word = tt

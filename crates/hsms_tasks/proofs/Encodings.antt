@@ -1,15 +1,19 @@
 -- Messages encoded one after another.
-use Rattle.std.proofs.Common.{Ok, Err, inr, ◌≡◌, ◌<◌, ◌+◌, ◌++◌, ℕ, zero, suc, Bool, List, [], ◌∷◌, length, map, take, drop, get_or, add-one, refl, sym, ◌∙◌, ap, subst, arith}
-use Rattle.std.proofs.lemmas.List.{append-nil, append_assoc, map-append, length-map, length-take-le, take_more, take-append-drop}
-use Rattle.std.specs.Prelude.{Option}
+use Rattle.std.proofs.Common.{Ok, Err, inl, inr, ◌≡◌, ◌+◌, ◌++◌, ℕ, zero, suc, Bool, List, [], ◌∷◌, length, add-one, refl, sym, ◌∙◌, ap, subst}
+use Rattle.std.proofs.lemmas.List.{append-nil, append_assoc}
+use Rattle.std.specs.Prelude.{Option, Some, None, ◌⊎◌}
 use Rattle.secs_text.specs.Content.{Content, AllWithin}
 use Rattle.secs_text.specs.Notation.{Notations}
-use Rattle.hsms_frame.specs.Device.{Grows, GrowsByFront}
+use Rattle.hsms_frame.specs.Device.{Grows, GrowsByFront, Stays}
 use Rattle.hsms_frame.specs.declared.frame.Frame.{Frame}
 use Rattle.hsms_options.specs.declared.fault.ToolFault.{ToolFault}
 use Rattle.hsms_options.specs.declared.fault.ToolFault.TheVariants.{Refused, Device, Memory}
 use Rattle.hsms_tasks.specs.Show.{IsWrite}
-use Rattle.hsms_tasks.specs.Encode.{EncodesAll, IsWholeInput, SpellsMessages, input_limit, AreNotEncoded, Encodes, FrameOf, IsNotFramed, next_system, output_of, system_after}
+use Rattle.secs_text.specs.Fault.{NotesFault}
+use Rattle.secs_text.specs.declared.fault.TextFault.{TextFault}
+use Rattle.secs_text.specs.declared.fault.TextFault.TheVariants as text
+use Rattle.hsms_tasks.specs.declared.refusal.Refusal.{Refusal}
+use Rattle.hsms_tasks.specs.Encode.{EncodesAll, IsWholeInput, SpellsMessages, input_limit, Encodes, FrameOf, FirstWithoutFrame, Frames, HasRefused, IsNotEncoded, IsToldText, next_system, output_of, system_after}
 
 next_system-suc : (system n : ℕ) → next_system (system_after system n) ≡ system_after system (suc n)
 next_system-suc system zero = refl
@@ -33,42 +37,6 @@ Encodes-push device max hex system (x ∷ xs) output m f (g, rest, one, others, 
   ap (λ ys. ys ++ output_of hex f) parts ∙ append_assoc (output_of hex g) rest (output_of hex f),
 )
 
--- ---- over a slice of messages, of which the first i were encoded
-
-section : {X : Type 0} (f : X → Content) (xs : List X) (i : ℕ) (x : X) → i < length xs → x ≡ get_or xs i x
-    → map f (take (i + 1) xs) ≡ map f (take i xs) ++ f x ∷ []
-section f xs i x within is =
-    ap (map f) (take_more xs i x within) ∙ map-append f (take i xs) (get_or xs i x ∷ []) ∙ ap (λ y. map f (take i xs) ++ f y ∷ []) (sym is)
-
--- the next one was encoded
-pub encodes_next : {X : Type 0} (f : X → Content) (xs : List X) (i : ℕ) (x : X) (device max : ℕ) (hex : Bool) (system next : ℕ) (output new : List ℕ) (frame : Frame)
-    → i < length xs → x ≡ get_or xs i x → Encodes device max hex system (map f (take i xs)) output → next ≡ system_after system i
-    → FrameOf device max next (f x) frame → new ≡ output ++ output_of hex frame → Encodes device max hex system (map f (take (i + 1) xs)) new
-encodes_next f xs i x device max hex system next output new frame within is so_far after framed added =
-    let size : length (map f (take i xs)) ≡ i = length-map (take i xs) f ∙ length-take-le i xs (omega arith) in
-    let P : ℕ → Type 0 = λ s. FrameOf device max s (f x) frame in
-    let Q : List Content → Type 0 = λ ms. Encodes device max hex system ms new in
-    let R : List ℕ → Type 0 = λ o. Encodes device max hex system (map f (take i xs) ++ f x ∷ []) o in
-    subst Q (sym (section f xs i x within is)) (subst R (sym added)
-    (Encodes-push device max hex system (map f (take i xs)) output (f x) frame so_far (subst P (after ∙ ap (λ n. system_after system n) (sym size)) framed)))
-
--- the next one has no frame
-pub first_without : {X : Type 0} (f : X → Content) (xs : List X) (i : ℕ) (x : X) (device max : ℕ) (hex : Bool) (system : ℕ) (output : List ℕ) (fault : ToolFault)
-    → i < length xs → x ≡ get_or xs i x → Encodes device max hex system (map f (take i xs)) output → IsNotFramed max (f x) fault
-    → AreNotEncoded device max hex system (map f xs) fault
-first_without f xs i x device max hex system output (Refused words) within is so_far why = record {
-  before = map f (take i xs);
-  message = f x;
-  after = map f (drop (i + 1) xs);
-  parts = ap (map f) (sym (take-append-drop (i + 1) xs)) ∙ map-append f (take (i + 1) xs) (drop (i + 1) xs)
-      ∙ ap (λ ys. ys ++ map f (drop (i + 1) xs)) (section f xs i x within is) ∙ append_assoc (map f (take i xs)) (f x ∷ []) (map f (drop (i + 1) xs));
-  output = output;
-  encoded = so_far;
-  refused = why;
-}
-first_without f xs i x device max hex system output (Device word) within is so_far why = absurd why
-first_without f xs i x device max hex system output Memory within is so_far why = tt
-
 -- ---- where the command stops
 
 -- what was read is the notation of these messages
@@ -91,3 +59,48 @@ pub writes_all : (device max depth : ℕ) (hex : Bool) (system : ℕ) (octets in
     → Grows old written output → EncodesAll {T = Unit {0}} device max depth hex system input (Ok tt) old written
 writes_all device max depth hex system octets input output ms old written whole noted encoded grows =
     (ms, output, spells depth octets input ms whole noted, encoded, grows)
+
+-- an input that was not encoded
+pub stops_encoding : (device max depth : ℕ) (hex : Bool) (system : ℕ) (octets input : List ℕ) (fault : ToolFault) (old written : Option (List ℕ))
+    → IsWholeInput input_limit octets input → IsNotEncoded device max depth hex system octets fault → Stays old written
+    → EncodesAll {T = Unit {0}} device max depth hex system input (Err fault) old written
+stops_encoding device max depth hex system octets input (Refused words) old written whole (inl (f, faulty, told)) stays =
+    let P : List ℕ → Type 0 = λ text. NotesFault text depth f in
+    (inr (inl (f, whole.1, subst P whole.0 faulty, told)), stays)
+stops_encoding device max depth hex system octets input (Refused words) old written whole (inr (ms, noted, within, first)) stays =
+    (inr (inr (ms, spells depth octets input ms whole (noted, within), first)), stays)
+stops_encoding device max depth hex system octets input (Device word) old written whole why stays = absurd why
+stops_encoding device max depth hex system octets input Memory old written whole why stays = stays
+
+-- ---- frames that were gathered
+
+-- what was made of all messages
+pub all_framed : (device max : ℕ) (hex : Bool) (system next : ℕ) (refusal : Option Refusal) (output made : List ℕ) (ms : List Content)
+    → Frames device max hex system next refusal made ms → (refusal ≡ None) × (output ≡ made) → Encodes device max hex system ms output
+all_framed device max hex system next None output made ms h e = let P : List ℕ → Type 0 = λ o. Encodes device max hex system ms o in subst P (sym e.1) h.0
+all_framed device max hex system next (Some refusal) output made ms h e = cc
+
+pub none_framed : (device max depth : ℕ) (hex : Bool) (system next : ℕ) (refusal : Option Refusal) (input made : List ℕ) (ms : List Content) (fault : ToolFault)
+    → Notations ms input → AllWithin depth ms → Frames device max hex system next refusal made ms → HasRefused refusal fault → IsNotEncoded device max depth hex system input fault
+none_framed device max depth hex system next None input made ms (Refused words) noted within h told = absurd told
+none_framed device max depth hex system next None input made ms (Device word) noted within h told = absurd told
+none_framed device max depth hex system next None input made ms Memory noted within h told = tt
+none_framed device max depth hex system next (Some refusal) input made ms (Refused words) noted within h told =
+    let P : List ℕ → Type 0 = λ o. FirstWithoutFrame device max hex system ms o in
+    inr (ms, noted, within, subst P (sym told) h)
+none_framed device max depth hex system next (Some refusal) input made ms (Device word) noted within h told = absurd told
+none_framed device max depth hex system next (Some refusal) input made ms Memory noted within h told = tt
+
+pub not_notation : (device max depth : ℕ) (hex : Bool) (system : ℕ) (input : List ℕ) (fault : TextFault) (told : ToolFault)
+    → (fault ≡ text.Memory) ⊎ NotesFault input depth fault → IsToldText fault told → IsNotEncoded device max depth hex system input told
+not_notation device max depth hex system input text.Memory (Refused words) why is = absurd is
+not_notation device max depth hex system input (text.Syntax at) (Refused words) (inr why) is = inl (text.Syntax at, why, is)
+not_notation device max depth hex system input (text.Syntax at) (Refused words) (inl why) is = cc
+not_notation device max depth hex system input (text.Number at) (Refused words) (inr why) is = inl (text.Number at, why, is)
+not_notation device max depth hex system input (text.Number at) (Refused words) (inl why) is = cc
+not_notation device max depth hex system input (text.Count at) (Refused words) (inr why) is = inl (text.Count at, why, is)
+not_notation device max depth hex system input (text.Count at) (Refused words) (inl why) is = cc
+not_notation device max depth hex system input (text.Deep at) (Refused words) (inr why) is = inl (text.Deep at, why, is)
+not_notation device max depth hex system input (text.Deep at) (Refused words) (inl why) is = cc
+not_notation device max depth hex system input fault (Device word) why is = absurd is
+not_notation device max depth hex system input fault Memory why is = tt

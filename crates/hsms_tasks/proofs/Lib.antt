@@ -4,6 +4,7 @@ pub mod DigitTable
 pub mod Doings
 pub mod Encodings
 pub mod Found
+pub mod Framed
 pub mod Givens
 pub mod Runs
 pub mod Wholes

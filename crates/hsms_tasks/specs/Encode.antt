@@ -12,6 +12,8 @@ use Rattle.hsms_frame.specs.declared.frame.Frame.{Frame}
 use Rattle.hsms_frame.specs.Build.{data_header_of}
 use Rattle.hsms_frame.specs.Device.{Stays, Grows, GrowsByFront}
 use Rattle.hsms_frame.specs.Frame.{frame_octets}
+use Rattle.hsms_tasks.specs.declared.refusal.Refusal.{Refusal}
+use Rattle.hsms_tasks.specs.declared.refusal.Refusal.TheVariants.{TooLarge, TooLong}
 use Rattle.hsms_options.specs.declared.fault.ToolFault.{ToolFault}
 use Rattle.hsms_options.specs.declared.fault.ToolFault.TheVariants.{Refused, Device, Memory}
 
@@ -69,6 +71,25 @@ pub record FirstWithoutFrame (device max : ℕ) (hex : Bool) (system : ℕ) (ms 
   pub encoded : Encodes device max hex system before output
   pub refused : HasNoFrame max message words
 
+-- ---- frames, one behind another
+
+-- why a message has no frame, in words
+abbrev pub refusal_words : Refusal → List ℕ
+refusal_words TooLarge = codes "TooLarge"
+refusal_words (TooLong length) = codes "TooLong length=" ++ decimal length
+
+-- what was made of messages, and which system bytes are next; or why the first one that has no frame has none
+abbrev pub Frames : ℕ → ℕ → Bool → ℕ → ℕ → Option Refusal → List ℕ → List Content → Type 0
+Frames device max hex system next None output ms = Encodes device max hex system ms output × (next ≡ system_after system (length ms))
+Frames device max hex system next (Some refusal) output ms = FirstWithoutFrame device max hex system ms (refusal_words refusal)
+
+-- this is the fault for a refusal, unless memory is wanting
+abbrev pub HasRefused : Option Refusal → ToolFault → Type 0
+HasRefused (Some refusal) (Refused words) = string_bytes words ≡ refusal_words refusal
+HasRefused None (Refused words) = ⊥
+HasRefused refusal (Device word) = ⊥
+HasRefused refusal Memory = Unit {0}
+
 -- ---- the answers
 
 -- the words for a fault of notation
@@ -122,20 +143,17 @@ IsNotRead depth input (Refused words) = (fault : TextFault) × NotesFault input 
 IsNotRead depth input (Device word) = ⊥
 IsNotRead depth input Memory = Unit {0}
 
--- why an item has no text: it has no spelling, or memory is wanting
-abbrev pub HasNoText : Option Value → ToolFault → Type 0
-HasNoText item (Refused words) = (v : Value) × (item ≡ Some v) × (short v ≡ None) × (string_bytes words ≡ codes "TooLarge")
-HasNoText item (Device word) = ⊥
-HasNoText item Memory = Unit {0}
+-- this is a text's fault, in words
+abbrev pub IsToldText : TextFault → ToolFault → Type 0
+IsToldText text.Memory (Refused words) = ⊥
+IsToldText fault (Refused words) = string_bytes words ≡ text_fault_text fault
+IsToldText fault (Device word) = ⊥
+IsToldText fault Memory = Unit {0}
 
--- why a message was not encoded
-abbrev pub IsNotFramed : ℕ → Content → ToolFault → Type 0
-IsNotFramed max m (Refused words) = HasNoFrame max m (string_bytes words)
-IsNotFramed max m (Device word) = ⊥
-IsNotFramed max m Memory = Unit {0}
-
--- why messages were not encoded
-abbrev pub AreNotEncoded : ℕ → ℕ → Bool → ℕ → List Content → ToolFault → Type 0
-AreNotEncoded device max hex system ms (Refused words) = FirstWithoutFrame device max hex system ms (string_bytes words)
-AreNotEncoded device max hex system ms (Device word) = ⊥
-AreNotEncoded device max hex system ms Memory = Unit {0}
+-- why a text was not encoded: it isn't messages, or one of them has no frame
+abbrev pub IsNotEncoded : ℕ → ℕ → ℕ → Bool → ℕ → List ℕ → ToolFault → Type 0
+IsNotEncoded device max depth hex system input (Refused words) =
+    ((fault : TextFault) × NotesFault input depth fault × (string_bytes words ≡ text_fault_text fault))
+    ⊎ ((ms : List Content) × Notations ms input × AllWithin depth ms × FirstWithoutFrame device max hex system ms (string_bytes words))
+IsNotEncoded device max depth hex system input (Device word) = ⊥
+IsNotEncoded device max depth hex system input Memory = Unit {0}

@@ -1,20 +1,20 @@
 //! `hsms encode`: messages in notation, as octets.
 
-ghost use Rattle.std.specs.Prelude.{◌≡◌, ◌≤◌, ◌++◌, IfOk, IfErr, OnOk, MatchResult, codes};
-ghost use Rattle.secs_text.specs.Content.{AllWithin};
+ghost use Rattle.std.specs.Prelude.{◌≡◌, ◌≤◌, List, IfOk, IfErr, OnOk, MatchResult, codes};
+ghost use Rattle.secs_text.specs.Content.{Content, AllWithin};
 ghost use Rattle.secs_text.specs.Notation.{Notations};
-ghost use Rattle.secs_text.specs.View.{content, contents};
+ghost use Rattle.secs_text.specs.View.{contents};
 ghost use Rattle.hsms_frame.specs.Count.{next_count};
 ghost use Rattle.hsms_frame.specs.Device.{WhereTold};
-ghost use Rattle.hsms_tasks.specs.Encode.{EncodesAll, Encodes, AreNotEncoded, FrameOf, HasNoText, IsNotFramed, IsNotRead, TextOf, output_of};
+ghost use Rattle.hsms_tasks.specs.Encode.{EncodesAll, Encodes, IsNotEncoded, IsNotRead, IsToldText};
 ghost use Rattle.hsms_tasks.specs.Show.{CountsFailure, IsReadOrWrite};
 
+use crate::frames::{Frames, Framing};
 use crate::input::read_whole;
 use crate::showing::put;
-use hsms_frame::{Frame, FrameFault, Sink, Source, Text, data_header, encode_frame};
-use hsms_options::{ToolFault, refused};
-use secs_item::{Item, ItemFault, encode};
-use secs_text::{Message, TextFault, read_all};
+use hsms_frame::{Sink, Source};
+use hsms_options::ToolFault;
+use secs_text::{Message, TextFault, read_all, spell_all};
 use std::alloc::{AllocError, Global};
 
 /// The longest input, in octets.
@@ -53,8 +53,13 @@ pub fn encode_all<R: Source, W: Sink>(
     ensures writes { CountsFailure (codes "Write") result (W.state sink.old).failures (W.state sink.new).failures }
 {
     let input = read_whole(alloc, source, INPUT_LIMIT)?;
-    let messages = messages_of(alloc, &input, depth)?;
-    let output = encoded(alloc, &messages, device, system, max, hex)?;
+    let framing = Framing {
+        device,
+        system,
+        max,
+        hex,
+    };
+    let output = encoded(alloc, &input, framing, depth)?;
     put(sink, &output)?;
     Ok(())
 }
@@ -67,97 +72,40 @@ pub fn messages_of(alloc: Global, input: &[u8], depth: u8) -> Result<Vec<Message
 {
     match read_all(alloc, input, depth) {
         Ok(messages) => Ok(messages),
-        Err(TextFault::Syntax { at }) => Err(refusal(format!(in alloc; "Syntax at={at}"))),
-        Err(TextFault::Number { at }) => Err(refusal(format!(in alloc; "Number at={at}"))),
-        Err(TextFault::Count { at }) => Err(refusal(format!(in alloc; "Count at={at}"))),
-        Err(TextFault::Deep { at }) => Err(refusal(format!(in alloc; "Deep at={at}"))),
-        Err(TextFault::Memory) => Err(ToolFault::Memory),
+        Err(fault) => Err(not_read(alloc, fault)),
     }
 }
 
-// The octets of the messages' frames, or their lines.
+// The octets of the frames of the messages that an input is the notation of, or their lines.
 fn encoded(
     alloc: Global,
-    messages: &[Message],
-    device: u16,
-    system: u32,
-    max: u32,
-    hex: bool,
+    input: &[u8],
+    framing: Framing,
+    depth: u8,
 ) -> Result<Vec<u8>, ToolFault>
-    ensures ok { IfOk result (λ output. Encodes device max hex system (contents messages.now) output.items) }
-    ensures err { IfErr result (AreNotEncoded device max hex system (contents messages.now)) }
+    requires { depth ≤ 100 }
+    ensures ok { IfOk result (λ output. (ms : List Content) × Notations ms input.now × AllWithin depth ms
+        × Encodes framing.device framing.max framing.hex framing.system ms output.items) }
+    ensures err { IfErr result (IsNotEncoded framing.device framing.max depth framing.hex framing.system input.now) }
 {
-    let mut output = Vec::new(alloc);
-    let mut next = system;
-    for message in messages {
-        let frame = frame_of(alloc, message, device, next, max)?;
-        push_frame(alloc, &mut output, &frame, hex)?;
-        next = next.wrapping_add(1);
-    }
-    Ok(output)
-}
-
-fn frame_of(
-    alloc: Global,
-    message: &Message,
-    device: u16,
-    system: u32,
-    max: u32,
-) -> Result<Frame, ToolFault>
-    ensures ok { IfOk result (FrameOf device max system (content message.now)) }
-    ensures err { IfErr result (IsNotFramed max (content message.now)) }
-{
-    let text = text_of(alloc, message)?;
-    let header = data_header(
-        device,
-        message.stream(),
-        message.function(),
-        message.wait(),
-        system,
-    );
-    let frame = Frame { header, text };
-    let length = frame.length();
-    if length > u64::from(max) {
-        let fault = FrameFault::TooLong { length, header };
-        return Err(refusal(fault.to_string(alloc)));
-    }
-    Ok(frame)
-}
-
-// The text of a message: nothing, or the shortest spelling of its item.
-fn text_of(alloc: Global, message: &Message) -> Result<Text, ToolFault>
-    ensures ok { IfOk result (TextOf (content message.now).item) }
-    ensures err { IfErr result (HasNoText (content message.now).item) }
-{
-    match message.item() {
-        None => Ok(Text::new(Vec::new(alloc))),
-        Some(item) => match encode(alloc, item) {
-            Ok(octets) => Ok(Text::new(octets)),
-            Err(ItemFault::TooLarge) => Err(refused(alloc, "TooLarge")),
-            Err(_) => Err(ToolFault::Memory),
-        },
+    let mut frames = Frames::new(alloc, framing);
+    match spell_all(alloc, input, depth, &mut frames) {
+        Ok(()) => frames.finish(),
+        Err(fault) => Err(not_read(alloc, fault)),
     }
 }
 
-// Adds the octets of a frame, or their line. A frame within a limit of 32 bits is never too long to be encoded.
-fn push_frame(
-    alloc: Global,
-    output: &mut Vec<u8>,
-    frame: &Frame,
-    hex: bool,
-) -> Result<(), AllocError>
-    ensures { OnOk result (output.new.items ≡ output.old.items ++ output_of hex frame.now) }
+// The fault for a text that isn't messages, in words.
+fn not_read(alloc: Global, fault: TextFault) -> ToolFault
+    ensures { IsToldText fault result }
 {
-    let Ok(octets) = encode_frame(alloc, frame) else {
-        return Err(AllocError);
-    };
-    if !hex {
-        return output.extend_from_slice(&octets);
+    match fault {
+        TextFault::Syntax { at } => refusal(format!(in alloc; "Syntax at={at}")),
+        TextFault::Number { at } => refusal(format!(in alloc; "Number at={at}")),
+        TextFault::Count { at } => refusal(format!(in alloc; "Count at={at}")),
+        TextFault::Deep { at } => refusal(format!(in alloc; "Deep at={at}")),
+        TextFault::Memory => ToolFault::Memory,
     }
-    let digits = hex::encode(alloc, &octets)?;
-    output.extend_from_slice(digits.as_bytes())?;
-    output.push(b'\n')?;
-    Ok(())
 }
 
 // A refusal in words, or want of memory for them.

@@ -14,11 +14,13 @@ mod digits;
 mod doing;
 mod encoding;
 mod finding;
+mod frames;
 mod held;
 mod input;
 mod line;
 mod notation;
 mod parts;
+mod refusal;
 mod showing;
 mod verdict;
 

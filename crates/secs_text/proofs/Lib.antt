@@ -22,3 +22,6 @@ pub mod RawWords
 pub mod RawText
 pub mod RawItems
 pub mod RawMessages
+pub mod Gathering
+pub mod Lists
+pub mod Handing

@@ -15,4 +15,5 @@ pub mod View
 pub mod Reads
 pub mod SeenWord
 pub mod Laid
+pub mod Spellings
 pub mod Laws

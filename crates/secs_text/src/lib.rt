@@ -32,6 +32,10 @@ mod raw_text;
 mod raw_values;
 mod raw_words;
 mod reading;
+mod short_header;
+mod short_items;
+mod short_messages;
+mod short_values;
 mod tables;
 mod token;
 mod tokens;
@@ -46,6 +50,7 @@ pub use message::Message;
 pub use printing::print;
 pub use raw_message::{Head, print_text};
 pub use reading::{read, read_all};
+pub use short_messages::{Receiver, spell_all};
 
 #[cfg(test)]
 mod tests;

@@ -22,7 +22,7 @@ use crate::word::{HeadWord, head_of};
 use std::alloc::Global;
 
 /// The stream and function that a message's first token names.
-fn head(first: Placed) -> Result<(u8, u8), TextFault>
+pub fn head(first: Placed) -> Result<(u8, u8), TextFault>
     ensures reads { (rules : Rules) (ms : List Content) (ts : List math.Placed) → rules.several || is_empty ms ≡ true
         → (first.entry.token ≡ Token.End → rules.several || not (is_empty ms) ≡ false)
         → Reads result (walk rules (start ms) (then_tokens (placed first.entry) ts))
@@ -41,7 +41,7 @@ fn head(first: Placed) -> Result<(u8, u8), TextFault>
 }
 
 /// Reads the `W`, if there is one, and the token after it.
-fn optional_wait<'a>(tokens: &mut Tokens<'a>) -> (bool, Placed<'a>)
+pub fn optional_wait<'a>(tokens: &mut Tokens<'a>) -> (bool, Placed<'a>)
     ensures reads { (rules : Rules) (ms : List Content) (m : Content) → m.wait ≡ false
         → walk rules (after_head ms m) (left tokens.old)
         ≡ walk rules (after_wait ms (record m { wait = result.0 })) (then_tokens (placed result.1) (left tokens.new)) }

@@ -1,18 +1,39 @@
-use Rattle.std.proofs.Common.{◌∙◌, ap}
-use Rattle.std.proofs.lemmas.Result.{err_from_is_err_and}
-use Rattle.secs_text.specs.View.{content}
-use Rattle.hsms_tasks.specs.Encode.{next_system}
-use Rattle.hsms_tasks.proofs.Encodings.{encodes_next, first_without, next_system-system_after}
+use Rattle.std.proofs.Common.{[], subst}
+use Rattle.std.specs.Prelude.{Result, Ok, Err, IfOk, IfErr}
+use Rattle.hsms_tasks.specs.Encode.{Frames}
+use Rattle.hsms_tasks.specs.declared.frames.Framing.{Framing}
+use Rattle.hsms_tasks.proofs.Encodings.{all_framed, none_framed, not_notation}
 use Rattle.hsms_tasks.proofs.encoding.encoded.Goals as goal
 
-pub returns-in_err-frame-clause-err : goal.returns-in_err-frame-clause-err
-returns-in_err-frame-clause-err c =
-    let p = err_from_is_err_and c.from_residual.result c.from_residual.ensures.1 in
-    rw (p.1, p.2) (first_without content c.args.messages.now c.loop-message.message-index c.message-item.result _ _ _ _ _ _ c.loop-message-test.true c.message-item.is c.loop-message.invariant.0 c.in_err-frame.ensures.err)
+if_ok : {X E : Type 0} {P Q : X → Type 0} (r : Result X E) → IfOk r P → ((x : X) → P x → Q x) → IfOk r Q
+if_ok (Ok x) p f = f x p
+if_ok (Err e) p f = tt
 
-pub loop-message-preserved : goal.loop-message-preserved
-loop-message-preserved c = (
-  encodes_next content c.args.messages.now c.loop-message.message-index c.message-item.result _ _ _ _ _ _ _ _ c.loop-message-test.true c.message-item.is
-      c.loop-message.invariant.0 c.loop-message.invariant.1 c.in_ok-frame.ensures.ok c.in_ok-push_frame.ensures,
-  ap next_system c.loop-message.invariant.1 ∙ next_system-system_after c.args.system c.loop-message.message-index,
-)
+if_err : {X E : Type 0} {P Q : E → Type 0} (r : Result X E) → IfErr r P → ((e : E) → P e → Q e) → IfErr r Q
+if_err (Ok x) p f = tt
+if_err (Err e) p f = f e p
+
+pub returns-in-Ok-clause-ok : goal.returns-in-Ok-clause-ok
+returns-in-Ok-clause-ok c =
+    let told = c.in-Ok.ensures.ok in
+    let made = c.spell_all.new.receiver in
+    let k = c.args.framing in
+    let given = told.3 k [] c.new-frames.ensures in
+    let P : Framing → Type 0 = λ f. Frames f.device f.max f.hex f.system made.next made.refusal made.output.items told.0 in
+    if_ok c.finish.result c.finish.ensures.ok (λ output e.
+    (told.0, told.1, told.2, all_framed k.device k.max k.hex k.system made.next made.refusal output.items made.output.items told.0 (subst P given.0 given.1) e))
+
+pub returns-in-Ok-clause-err : goal.returns-in-Ok-clause-err
+returns-in-Ok-clause-err c =
+    let told = c.in-Ok.ensures.ok in
+    let made = c.spell_all.new.receiver in
+    let k = c.args.framing in
+    let given = told.3 k [] c.new-frames.ensures in
+    let P : Framing → Type 0 = λ f. Frames f.device f.max f.hex f.system made.next made.refusal made.output.items told.0 in
+    if_err c.finish.result c.finish.ensures.err (λ fault e.
+    none_framed k.device k.max c.args.depth k.hex k.system made.next made.refusal c.args.input.now made.output.items told.0 fault told.1 told.2 (subst P given.0 given.1) e)
+
+pub returns-in-Err-clause-err : goal.returns-in-Err-clause-err
+returns-in-Err-clause-err c =
+    let k = c.args.framing in
+    not_notation k.device k.max c.args.depth k.hex k.system c.args.input.now c.in-Err.fault c.not_read.result c.in-Err.ensures.err c.not_read.ensures

@@ -1,0 +1,154 @@
+-- Items and the elements of a list, laid onto octets one after another.
+use Rattle.std.proofs.Common.{◌≡◌, ℕ, suc, ◌+◌, ◌*◌, ◌&&◌, Bool, true, false, List, [], ◌∷◌, ◌++◌, length, refl, sym, ap, ◌∙◌, append_assoc, append-nil, length-append, arith, if◌then◌else◌, ◌-◌}
+use Rattle.std.specs.Prelude.{Ok, Err, Option, Some, None, option_map, option_and_then}
+use Rattle.secs_item.specs.declared.format.Format.{Format}
+use Rattle.secs_item.specs.declared.format.Format.TheVariants as format
+use Rattle.secs_item.specs.Format.{value_size}
+use Rattle.secs_item.specs.Item.{Value, list, values, Elements, no_elements, element, count, with_element, count_of_values}
+use Rattle.secs_item.specs.Short.{framed, short, short_elements, short_body}
+use Rattle.secs_text.specs.Body.{nothing_of}
+use Rattle.secs_text.specs.Token as math
+use Rattle.secs_text.specs.Token.{Placed}
+use Rattle.secs_text.specs.Places.{Rules, Before, Count, walk, type_wanted, in_item, closed, is_counted, count_place, ◌>>=◌}
+use Rattle.secs_text.specs.Reads.{Checks, Fails}
+use Rattle.secs_text.specs.Spellings.{laid, Lays, Closed, Itemized, Deep, Anywhere}
+use Rattle.secs_text.specs.declared.fault.TextFault.{TextFault}
+use Rattle.secs_text.specs.declared.fault.TextFault.TheVariants as fault
+
+-- ---- items of values
+
+-- behind two octets the values were laid, and then the header over these
+pub item_sealed : {f : Format} {c : Option Count} {before after : List Placed} (old from mid now : List ℕ) (fits : Bool) (start end : ℕ)
+    → Closed f c before after from mid → from ≡ old ++ 0 ∷ 0 ∷ [] → start ≡ length old → end ≡ length mid
+    → ((front body : List ℕ) (a b : ℕ) → length front ≡ start → mid ≡ front ++ a ∷ b ∷ body → Lays fits front now (framed f (end - start - 2) body))
+    → Itemized Anywhere (λ b. in_item b (record { count = c; so_far = nothing_of f })) before after fits old now
+item_sealed {f} {c} old from mid now fits start end h kept start_is end_is sealed =
+    let body = short_body h.held in
+    let parts : mid ≡ old ++ 0 ∷ 0 ∷ body = h.octets ∙ ap (λ o. o ++ body) kept ∙ append_assoc old (0 ∷ 0 ∷ []) body in
+    let long : length mid ≡ length old + length (0 ∷ 0 ∷ body) = ap length parts ∙ length-append old (0 ∷ 0 ∷ body) in
+    let rest : length (0 ∷ 0 ∷ body) ≡ length body + 2 = omega arith in
+    let size : end - start - 2 ≡ value_size f * count_of_values h.held = (let s : length body ≡ value_size f * count_of_values h.held = h.size in omega arith) in
+    record {
+      value = values h.held;
+      leads = λ rules b where_. h.leads rules b;
+      lays = sealed old body 0 0 (sym start_is) parts ∙ ap (λ n. option_map (λ o. old ++ o) (framed f n body)) size
+          ∙ ap (λ g. option_map (λ o. old ++ o) (framed g (value_size g * count_of_values h.held) body)) (sym h.form);
+    }
+
+-- ---- lists
+
+-- elements, to which these tokens lead up to those, inside a list with this count
+pub record ListedSoFar (depth : ℕ) (c : Option Count) (before after : List Placed) (fits : Bool) (number : ℕ) (old new : List ℕ) : Type 0 where
+  pub elements : Elements
+  pub leads : (rules : Rules) (b : Before) → Deep (1 + depth) rules b → walk rules (in_item b (record { count = c; so_far = list no_elements })) before ≡ walk rules (in_item b (record { count = c; so_far = list elements })) after
+  pub counted : count elements ≡ number
+  pub lays : Lays fits (old ++ 0 ∷ 0 ∷ []) new (short_elements elements)
+
+pub none_listed : (depth : ℕ) (c : Option Count) (before : List Placed) (old new : List ℕ) → new ≡ old ++ 0 ∷ 0 ∷ [] → ListedSoFar depth c before before true 0 old new
+none_listed depth c before old new is = record {
+  elements = no_elements;
+  leads = λ rules b deep. refl;
+  counted = refl;
+  lays = ap (λ o. Some o) (is ∙ sym (append-nil (old ++ 0 ∷ 0 ∷ [])));
+}
+
+-- one more element
+count-with : (es : Elements) (v : Value) → count (with_element es v) ≡ suc (count es)
+count-with no_elements v = refl
+count-with (element w es) v = ap suc (count-with es v)
+
+-- octets behind octets
+abbrev behind : Option (List ℕ) → Option (List ℕ) → Option (List ℕ)
+behind first others = option_and_then (λ f. option_map (λ o. f ++ o) others) first
+
+behind_none : (first : Option (List ℕ)) → behind first None ≡ None
+behind_none None = refl
+behind_none (Some f) = refl
+
+behind_nothing : (first : Option (List ℕ)) → behind first (Some []) ≡ first
+behind_nothing None = refl
+behind_nothing (Some f) = ap (λ o. Some o) (append-nil f)
+
+behind_both : (a b c : Option (List ℕ)) → behind (behind a b) c ≡ behind a (behind b c)
+behind_both None b c = refl
+behind_both (Some a) None c = refl
+behind_both (Some a) (Some b) None = refl
+behind_both (Some a) (Some b) (Some c) = ap (λ o. Some o) (append_assoc a b c)
+
+short-with : (es : Elements) (v : Value) → short_elements (with_element es v) ≡ behind (short_elements es) (short v)
+short-with no_elements v = behind_nothing (short v) ∙ same (short v)
+  where
+    same : (r : Option (List ℕ)) → r ≡ behind (Some []) r
+    same None = refl
+    same (Some o) = refl
+short-with (element w es) v = ap (λ o. behind (short w) o) (short-with es v) ∙ sym (behind_both (short w) (short_elements es) (short v))
+
+lays_both : (first second : Bool) (old mid new : List ℕ) (a b : Option (List ℕ)) → Lays first old mid a → Lays second mid new b → Lays (first && second) old new (behind a b)
+lays_both true true old mid new (Some a) (Some b) e g =
+    let one : mid ≡ old ++ a = cc in
+    let two : new ≡ mid ++ b = cc in
+    ap (λ o. Some o) (two ∙ ap (λ o. o ++ b) one ∙ append_assoc old a b)
+lays_both true true old mid new (Some a) None e g = cc
+lays_both true true old mid new None b e g = cc
+lays_both true false old mid new (Some a) None e g = refl
+lays_both true false old mid new None None e g = refl
+lays_both true false old mid new a (Some b) e g = cc
+lays_both false second old mid new None b e g = refl
+lays_both false second old mid new (Some a) b e g = cc
+
+pub element_listed : {depth : ℕ} {c : Option Count} {before after : List Placed} {fits : Bool} {number : ℕ} {old new : List ℕ} (at : ℕ) (from rest : List Placed) (done : Bool) (now : List ℕ)
+    → ListedSoFar depth c before after fits number old new → after ≡ record { at = at; token = math.less } ∷ from → Itemized (Deep depth) (λ b. type_wanted b at) from rest done new now
+    → ListedSoFar depth c before rest (fits && done) (number + 1) old now
+element_listed {depth} {c} {fits = fits} {old = old} {new = new} at from rest done now h is item = record {
+  elements = with_element h.elements item.value;
+  leads = λ rules b deep.
+      let inner : Before = record b { lists = record { count = c; so_far = list h.elements } ∷ b.lists } in
+      h.leads rules b deep ∙ ap (λ ps. walk rules (in_item b (record { count = c; so_far = list h.elements })) ps) is ∙ item.leads rules inner (let d : length b.lists + (1 + depth) ≡ rules.depth = deep in omega arith);
+  counted = count-with h.elements item.value ∙ (let k = h.counted in omega arith);
+  lays = lays_both fits done (old ++ 0 ∷ 0 ∷ []) new now (short_elements h.elements) (short item.value) h.lays item.lays ∙ ap (λ s. option_map (λ o. (old ++ 0 ∷ 0 ∷ []) ++ o) s) (sym (short-with h.elements item.value));
+}
+
+-- ---- the end of a list
+
+module _ {depth : ℕ} {c : Option Count} {before after : List Placed} {fits : Bool} {number : ℕ} {old new : List ℕ} (at : ℕ) (rest : List Placed) (h : ListedSoFar depth c before after fits number old new)
+    (is : after ≡ record { at = at; token = math.greater } ∷ rest) where
+  close : (rules : Rules) (b : Before) (t : Bool) → Deep (1 + depth) rules b → is_counted c number ≡ t → walk rules (in_item b (record { count = c; so_far = list no_elements })) before
+      ≡ (if t then Ok (closed b.lists b (list h.elements)) else Err (fault.Count (count_place c))) >>= (λ next. walk rules next rest)
+  close rules b t deep right =
+      h.leads rules b deep ∙ ap (λ ps. walk rules (in_item b (record { count = c; so_far = list h.elements })) ps) is
+      ∙ ap (λ u. (if u then Ok (closed b.lists b (list h.elements)) else Err (fault.Count (count_place c))) >>= (λ next. walk rules next rest)) (ap (λ n. is_counted c n) h.counted ∙ right)
+
+  pub list_miscounted : (f : TextFault) → Checks c number (Err f) → (rules : Rules) (b : Before) → Deep (1 + depth) rules b
+      → Fails f (walk rules (in_item b (record { count = c; so_far = list no_elements })) before)
+  list_miscounted f checks rules b deep = rw checks.1 (close rules b false deep checks.0)
+
+  -- some element has no octets
+  pub list_unfit : (now : List ℕ) → fits ≡ false → is_counted c number ≡ true
+      → Itemized (Deep (1 + depth)) (λ b. in_item b (record { count = c; so_far = list no_elements })) before rest false old now
+  list_unfit now unfit right = record {
+    value = list h.elements;
+    leads = λ rules b deep. close rules b true deep right;
+    lays = by_elements (short_elements h.elements) (ap (λ d. laid d new) (sym unfit) ∙ h.lays);
+  }
+    where
+      by_elements : (s : Option (List ℕ)) → ◌≡◌ {A = Option (List ℕ)} None (option_map (λ o. (old ++ 0 ∷ 0 ∷ []) ++ o) s)
+          → ◌≡◌ {A = Option (List ℕ)} None (option_map (λ o. old ++ o) (option_and_then (λ body. framed format.List (count h.elements) body) s))
+      by_elements None e = refl
+      by_elements (Some s) e = cc
+
+  -- behind two octets the elements were laid, and then the header over these
+  pub list_sealed : (done : Bool) (now : List ℕ) → fits ≡ true → is_counted c number ≡ true
+      → ((front body : List ℕ) (a b : ℕ) → length front ≡ length old → new ≡ front ++ a ∷ b ∷ body → Lays done front now (framed format.List number body))
+      → Itemized (Deep (1 + depth)) (λ b. in_item b (record { count = c; so_far = list no_elements })) before rest done old now
+  list_sealed done now fit right sealed = record {
+    value = list h.elements;
+    leads = λ rules b deep. close rules b true deep right;
+    lays = by_elements (short_elements h.elements) (ap (λ d. laid d new) (sym fit) ∙ h.lays);
+  }
+    where
+      by_elements : (s : Option (List ℕ)) → ◌≡◌ {A = Option (List ℕ)} (Some new) (option_map (λ o. (old ++ 0 ∷ 0 ∷ []) ++ o) s)
+          → laid done now ≡ option_map (λ o. old ++ o) (option_and_then (λ body. framed format.List (count h.elements) body) s)
+      by_elements None e = cc
+      by_elements (Some s) e =
+          let parts : new ≡ (old ++ 0 ∷ 0 ∷ []) ++ s = cc in
+          sealed old s 0 0 refl (parts ∙ append_assoc old (0 ∷ 0 ∷ []) s) ∙ ap (λ n. option_map (λ o. old ++ o) (framed format.List n s)) (sym h.counted)

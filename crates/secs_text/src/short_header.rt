@@ -1,0 +1,97 @@
+//! Headers of items, written when what stands behind them is known.
+
+ghost use Rattle.std.specs.Prelude.{◌≡◌, ◌≤◌, ◌<◌, ◌+◌, ◌*◌, ◌++◌, ◌^◌, ℕ, List, ◌∷◌, length, IfOk, OnOk};
+ghost use Rattle.secs_item.specs.Format.{code_of};
+ghost use Rattle.secs_item.specs.Short.{framed, field_of};
+ghost use Rattle.secs_item.specs.Spelling.{header};
+ghost use Rattle.secs_text.specs.Spellings.{Lays};
+
+use secs_item::Format;
+use std::alloc::AllocError;
+
+/// The greatest number that three length octets hold.
+const MAX_LENGTH: usize = 0xff_ffff;
+
+/// The format octet, without the count of the length octets.
+fn format_octet(format: Format) -> u8
+    ensures value { result ≡ 4 * code_of format }
+    ensures small { result < 252 }
+{
+    match format {
+        Format::List => 0,
+        Format::Binary => 0o10 * 4,
+        Format::Boolean => 0o11 * 4,
+        Format::Ascii => 0o20 * 4,
+        Format::Jis8 => 0o21 * 4,
+        Format::Char2 => 0o22 * 4,
+        Format::I8 => 0o30 * 4,
+        Format::I1 => 0o31 * 4,
+        Format::I2 => 0o32 * 4,
+        Format::I4 => 0o34 * 4,
+        Format::F8 => 0o40 * 4,
+        Format::F4 => 0o44 * 4,
+        Format::U8 => 0o50 * 4,
+        Format::U1 => 0o51 * 4,
+        Format::U2 => 0o52 * 4,
+        Format::U4 => 0o54 * 4,
+    }
+}
+
+/// Writes two octets over two that stand there.
+fn set_two(out: &mut Vec<u8>, at: usize, first: u8, second: u8)
+    requires { at + 2 ≤ length out.old.items }
+    ensures octets { (before body : List ℕ) (a b : ℕ) → length before ≡ at → out.old.items ≡ before ++ a ∷ b ∷ body
+        → out.new.items ≡ before ++ first ∷ second ∷ body }
+    ensures size { length out.new.items ≡ length out.old.items }
+{
+    out[at] = first;
+    out[at + 1] = second;
+}
+
+/// Moves up what stands from a place on, and writes an octet there.
+fn insert_octet(out: &mut Vec<u8>, at: usize, octet: u8) -> Result<(), AllocError>
+    requires { at ≤ length out.old.items }
+    ensures octets { OnOk result ((front back : List ℕ) → length front ≡ at → out.old.items ≡ front ++ back
+        → out.new.items ≡ front ++ octet ∷ back) }
+    ensures size { OnOk result (length out.new.items ≡ length out.old.items + 1) }
+{
+    out.insert(at, octet)?;
+    Ok(())
+}
+
+/// Writes a header of three or four octets over the two that are kept for it. What stands behind them is moved up.
+fn seal_long(out: &mut Vec<u8>, start: usize, format: Format, number: usize) -> Result<(), AllocError>
+    requires there { start + 2 ≤ length out.old.items }
+    requires long { 256 ≤ number }
+    requires within { number < 256 ^ 3 }
+    ensures { OnOk result ((before body : List ℕ) (a b : ℕ) → length before ≡ start → out.old.items ≡ before ++ a ∷ b ∷ body
+        → out.new.items ≡ before ++ (header format (field_of number) number ++ body)) }
+{
+    if number <= 0xffff {
+        let [high, low] = (number as u16).to_be_bytes();
+        set_two(out, start, format_octet(format) + 2, high);
+        return insert_octet(out, start + 2, low);
+    }
+    let [_, high, middle, low] = (number as u32).to_be_bytes();
+    set_two(out, start, format_octet(format) + 3, high);
+    insert_octet(out, start + 2, middle)?;
+    insert_octet(out, start + 3, low)
+}
+
+/// Writes the header of an item over the two octets that are kept for it, before its body: with the fewest length
+/// octets that hold the number. Whether three length octets hold it.
+pub fn seal(out: &mut Vec<u8>, start: usize, format: Format, number: usize) -> Result<bool, AllocError>
+    requires { start + 2 ≤ length out.old.items }
+    ensures { IfOk result (λ fits. (before body : List ℕ) (a b : ℕ) → length before ≡ start → out.old.items ≡ before ++ a ∷ b ∷ body
+        → Lays fits before out.new.items (framed format number body)) }
+{
+    if number <= 0xff {
+        set_two(out, start, format_octet(format) + 1, number as u8);
+        return Ok(true);
+    }
+    if number > MAX_LENGTH {
+        return Ok(false);
+    }
+    seal_long(out, start, format, number)?;
+    Ok(true)
+}
