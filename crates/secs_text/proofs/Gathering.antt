@@ -234,8 +234,8 @@ module _ {f : Format} {count : Option Count} {before after : List Placed} {old n
           let t = word_taken g.held w o (ap (λ k. word_octets k w) g.form ∙ e) in
           let one : length o ≡ value_size f = (let total : length now ≡ length new + length o = ap length pushed ∙ length-append new o in omega arith) in
           more_gathered g (with_word g.held w) t.more rest o now 1 t.is
-              (λ rules b. sym (ap (λ ps. walk rules (in_item b (record { count = count; so_far = values g.held })) ps) is ∙ ap (λ r. or_fault (fault.Number at) b count r >>= (λ next. walk rules next rest)) t.is))
-              t.form t.longer t.counted (one ∙ sym (times_one (value_size f))) pushed
+          (λ rules b. sym (ap (λ ps. walk rules (in_item b (record { count = count; so_far = values g.held })) ps) is ∙ ap (λ r. or_fault (fault.Number at) b count r >>= (λ next. walk rules next rest)) t.is))
+          t.form t.longer t.counted (one ∙ sym (times_one (value_size f))) pushed
 
   -- a quoted text
   pub quoted_gathered : (at : ℕ) (text : List ℕ) (rest : List Placed) (now : List ℕ) → Gathered f count before after old new
@@ -253,8 +253,8 @@ module _ {f : Format} {count : Option Count} {before after : List Placed} {old n
           let pushed : now ≡ new ++ o = cc in
           let t = quoted_taken g.held text o (ap (λ k. quoted_octets k text) g.form ∙ e) in
           more_gathered g (with_quoted g.held text) t.more rest o now (length o) t.is
-              (λ rules b. sym (ap (λ ps. walk rules (in_item b (record { count = count; so_far = values g.held })) ps) is ∙ ap (λ r. or_fault (fault.Syntax at) b count r >>= (λ next. walk rules next rest)) t.is))
-              t.form t.longer t.counted (let one = ascii_sized f text o e in rw one (omega arith)) pushed
+          (λ rules b. sym (ap (λ ps. walk rules (in_item b (record { count = count; so_far = values g.held })) ps) is ∙ ap (λ r. or_fault (fault.Syntax at) b count r >>= (λ next. walk rules next rest)) t.is))
+          t.form t.longer t.counted (let one = ascii_sized f text o e in rw one (omega arith)) pushed
 
   -- ---- faults
 
@@ -307,4 +307,4 @@ module _ {f : Format} {count : Option Count} {before after : List Placed} {old n
   values_read at number rest (Err e) g is sized some checks = λ rules b.
       let wrong : is_counted count (count_of_values g.held) ≡ false = ap (is_counted count) (sym (gathered_number number g sized some g)) ∙ checks.0 in
       rw checks.1 (g.leads rules b ∙ ap (λ ps. walk rules (in_item b (record { count = count; so_far = values g.held })) ps) is
-          ∙ ap (λ t. (if t then Ok (closed b.lists b (values g.held)) else Err (fault.Count (count_place count))) >>= (λ next. walk rules next rest)) wrong)
+      ∙ ap (λ t. (if t then Ok (closed b.lists b (values g.held)) else Err (fault.Count (count_place count))) >>= (λ next. walk rules next rest)) wrong)
