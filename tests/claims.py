@@ -2,8 +2,8 @@
 """Measures the most memory that the command, or an end, holds of inputs that claim what they don't hold.
 
 Each is compared with an input of about as many octets that claims nothing: it may take a little more, and not in
-proportion to what is claimed. The one exception is a message whose length is within `--max`: its text is given room at
-once. So is a log of many connections, each of which leaves a primary open, with one whose primaries are answered.
+proportion to what is claimed. So is a log of many connections, each of which leaves a primary open, with one whose
+primaries are answered.
 
 Counted is what the command asks for, whether it uses it or not. It runs what `rt ci` has built. The last line is
 `N passed, M failed`.
@@ -39,8 +39,6 @@ class Claim:
     given: bytes
     beside: bytes
     answer: Answer
-    # how much is given room at once
-    room: int = 0
     program: str = PROGRAM
 
 
@@ -99,7 +97,7 @@ def claims():
         Claim(greatest, octets("ffffffff"), octets("0000"), cut_off),
         Claim(greatest, octets("02000000"), octets("0000"), cut_off),
         Claim("show", octets("02000000" + HEADER), octets("0000000a" + HEADER), refused(f"TooLong length={GREATEST}")),
-        Claim(greatest, octets("02000000" + HEADER), octets("0000000a" + HEADER), cut_off, room=GREATEST),
+        Claim(greatest, octets("02000000" + HEADER), octets("0000000a" + HEADER), cut_off),
         in_notation("encode", "S1F1 <L [99999999]> .", "Count at=8"),
         in_notation("encode", 'S1F1 <A [99999999] "a"> .', "Count at=8"),
         in_notation("encode", "S1F1 <U8 [99999999] 1> .", "Count at=9"),
@@ -137,7 +135,7 @@ def main():
         for claim in claims():
             answer, held = measure.most(claim, claim.given)
             _, beside = measure.most(claim, claim.beside)
-            is_well = answer == claim.answer and 0 < beside and held <= beside + claim.room + MORE
+            is_well = answer == claim.answer and 0 < beside and held <= beside + MORE
             passed, failed = passed + is_well, failed + (not is_well)
             told = f"held {held}, beside {beside}" if answer == claim.answer else str(answer)
             name = f"hsms {claim.words}, {claim.given[:60]!r}" if claim.words else f"an end, {claim.given[-60:]!r}"

@@ -1,11 +1,13 @@
 #!/usr/bin/env python3
-"""Audits logs over a pipe that is held open: a failing line has to be named while its writer may still write.
+"""Audits logs over a pipe that is held open: a failing line has to be named while its writer may still write. Shows
+messages that come in pieces, each of which is there before the next is written.
 
 It runs what `rt ci` has built. The last line is `N passed, M failed`.
 """
 import os
 import subprocess
 import sys
+import time
 
 TOP = os.path.dirname(os.path.dirname(os.path.abspath(__file__)))
 PROGRAM = f"{TOP}/crates/hsms_tool/out/hsms_tool"
@@ -36,9 +38,34 @@ PASSING = [
     (AGAIN + b"90003 down\n", b"90004 up\n", b"pass entries=6 sent=1 taken=0 discarded=0 expired=0 waiting=0\n"),
 ]
 
+# Messages and their lines, which come cut at each place.
+MESSAGES = bytes.fromhex("0000000affff0000000100000001" "0000000c0000810d000000000001" "0100")
+LINES = b"select.req ffff 00000001\ndata 0000 00000001 S1F13 W <L [0]> .\n"
+CUTS = [[MESSAGES[:at], MESSAGES[at:]] for at in range(1, len(MESSAGES))]
 
-def started():
-    return subprocess.Popen([PROGRAM, "audit"], stdin=subprocess.PIPE, stdout=subprocess.PIPE, stderr=subprocess.STDOUT)
+# A message that is longer than what is read at a time, between others.
+BODY = bytes(200_000)
+LONG = (200_014).to_bytes(4, "big") + bytes.fromhex("00008101000000000003" "23030d40") + BODY
+LONG_LINE = b"data 0000 00000003 S1F1 W <B [200000]" + b" 0x00" * len(BODY) + b"> .\n"
+PIECES = [MESSAGES + LONG[:100_000], LONG[100_000:199_999], LONG[199_999:] + MESSAGES]
+
+SHOWN = [(pieces, LINES) for pieces in CUTS] + [(PIECES, LINES + LONG_LINE + LINES)]
+
+# How long a piece is given to be read by itself, in seconds.
+A_MOMENT = 0.03
+
+
+def shown_in_pieces(pieces):
+    """What is shown of messages that come in these pieces."""
+    with started("show") as show:
+        for piece in pieces:
+            given(show, piece)
+            time.sleep(A_MOMENT)
+        return show.communicate(None, SOON)[0]
+
+
+def started(command="audit"):
+    return subprocess.Popen([PROGRAM, command], stdin=subprocess.PIPE, stdout=subprocess.PIPE, stderr=subprocess.STDOUT)
 
 
 def given(audit, octets):
@@ -72,6 +99,7 @@ def told_at_the_end(front, rest):
 def main():
     answers = [(told_while_open(octets), wanted) for octets, wanted in FAILING]
     answers += [(told_at_the_end(front, rest), wanted) for front, rest, wanted in PASSING]
+    answers += [(shown_in_pieces(pieces), wanted) for pieces, wanted in SHOWN]
     differing = [(told, wanted) for told, wanted in answers if told != wanted]
     for told, wanted in differing:
         print(f"wanted {wanted!r}, told {told!r}")

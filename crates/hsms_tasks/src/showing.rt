@@ -17,7 +17,8 @@ use std::alloc::Global;
 /// Writes the line of each message of the input, in order, up to the end of the input or the first fault.
 ///
 /// `max` is the greatest count of octets of header and text of a message. A data message is shown in notation where its
-/// text is empty or one item whose lists are nested at most `depth` deep, and else with its text in hexadecimal.
+/// text is empty or one item whose lists are nested at most `depth` deep, and else with its text in hexadecimal. The
+/// source is read in blocks: of a fault other than a failed read, octets behind the messages that are shown may be taken.
 /// Faults:
 ///
 /// - `Refused`, where the input isn't messages: `TooShort`, `TooLong` or `CutOff`. The lines of the messages before are
