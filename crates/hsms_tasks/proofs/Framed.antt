@@ -73,8 +73,7 @@ module _ (device max : ℕ) (hex : Bool) (system next : ℕ) (output : List ℕ)
       let f : Frame = record { header = header; text = text } in
       let P : List ℕ → Type 0 = λ o. Encodes device max hex system (given ++ m ∷ []) o in
       let Q : ℕ → Type 0 = λ k. FrameOf device max k m f in
-      let framed : FrameOf device max next m f = record { header = is; text = text_is item text e; within = short_enough } in
-      (
+      let framed : FrameOf device max next m f = record { header = is; text = text_is item text e; within = short_enough } in (
         subst P (sym pushed) (Encodes-push device max hex system given output m f h.0 (subst Q h.1 framed)),
         following ∙ ap next_system h.1 ∙ next_system-system_after system (length given) ∙ ap (λ k. system_after system k) (sym (length-append given (m ∷ []))),
       )

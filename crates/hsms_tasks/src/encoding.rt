@@ -77,12 +77,7 @@ pub fn messages_of(alloc: Global, input: &[u8], depth: u8) -> Result<Vec<Message
 }
 
 // The octets of the frames of the messages that an input is the notation of, or their lines.
-fn encoded(
-    alloc: Global,
-    input: &[u8],
-    framing: Framing,
-    depth: u8,
-) -> Result<Vec<u8>, ToolFault>
+fn encoded(alloc: Global, input: &[u8], framing: Framing, depth: u8) -> Result<Vec<u8>, ToolFault>
     requires { depth ≤ 100 }
     ensures ok { IfOk result (λ output. (ms : List Content) × Notations ms input.now × AllWithin depth ms
         × Encodes framing.device framing.max framing.hex framing.system ms output.items) }

@@ -19,9 +19,7 @@ fn front(length: u32, header: Header) -> [u8; 14]
 {
     let [l0, l1, l2, l3] = length.to_be_bytes();
     let [h0, h1, h2, h3, h4, h5, h6, h7, h8, h9] = header.octets();
-    [
-        l0, l1, l2, l3, h0, h1, h2, h3, h4, h5, h6, h7, h8, h9,
-    ]
+    [l0, l1, l2, l3, h0, h1, h2, h3, h4, h5, h6, h7, h8, h9]
 }
 
 /// Adds the octets of a frame.

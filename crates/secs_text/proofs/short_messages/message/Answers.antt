@@ -22,6 +22,6 @@ returns-in-Stop-token-clause-reads c =
           ∙ ap (λ t. walk rules (after_wait ms waited) (then_tokens (record { at = next.at; token = seen t }) (left c.optional_wait-wait.new.tokens))) c.in-Less.is
           ∙ item.leads rules (before_item ms waited) (omega arith)
           ∙ ap (λ ps. walk rules (stop_wanted ms (record waited { item = Some item.value })) ps)
-              (c.next-next.ensures.tokens ∙ ap (λ t. then_tokens (record { at = c.next-next.result.at; token = seen t }) (left c.next-next.new.self)) c.in-Stop-token.is);
+          (c.next-next.ensures.tokens ∙ ap (λ t. then_tokens (record { at = c.next-next.result.at; token = seen t }) (left c.next-next.new.self)) c.in-Stop-token.is);
       lays = item.lays;
     }
