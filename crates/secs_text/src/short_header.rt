@@ -60,7 +60,12 @@ fn insert_octet(out: &mut Vec<u8>, at: usize, octet: u8) -> Result<(), AllocErro
 }
 
 /// Writes a header of three or four octets over the two that are kept for it. What stands behind them is moved up.
-fn seal_long(out: &mut Vec<u8>, start: usize, format: Format, number: usize) -> Result<(), AllocError>
+fn seal_long(
+    out: &mut Vec<u8>,
+    start: usize,
+    format: Format,
+    number: usize,
+) -> Result<(), AllocError>
     requires there { start + 2 ≤ length out.old.items }
     requires long { 256 ≤ number }
     requires within { number < 256 ^ 3 }
@@ -80,7 +85,12 @@ fn seal_long(out: &mut Vec<u8>, start: usize, format: Format, number: usize) -> 
 
 /// Writes the header of an item over the two octets that are kept for it, before its body: with the fewest length
 /// octets that hold the number. Whether three length octets hold it.
-pub fn seal(out: &mut Vec<u8>, start: usize, format: Format, number: usize) -> Result<bool, AllocError>
+pub fn seal(
+    out: &mut Vec<u8>,
+    start: usize,
+    format: Format,
+    number: usize,
+) -> Result<bool, AllocError>
     requires { start + 2 ≤ length out.old.items }
     ensures { IfOk result (λ fits. (before body : List ℕ) (a b : ℕ) → length before ≡ start → out.old.items ≡ before ++ a ∷ b ∷ body
         → Lays fits before out.new.items (framed format number body)) }

@@ -351,7 +351,8 @@ impl Receiver for Hearing {
 
     fn take(&mut self, head: Head, text: Option<&[u8]>) -> Result<(), AllocError> {
         let wait = u8::from(head.wait);
-        self.heard.extend_from_slice(&[head.stream, head.function, wait])?;
+        self.heard
+            .extend_from_slice(&[head.stream, head.function, wait])?;
         self.heard.extend_from_slice(text.unwrap_or(b"?"))?;
         Ok(())
     }
