@@ -181,7 +181,7 @@ def logs(size):
 def others(size):
     """Inputs of the other commands."""
     yield "show", "ordinary traffic", lambda size: [stream(size)], size, 3 * MB
-    yield "encode", "event reports", lambda size: [notation(size)], min(size, 67 * MB), 3 * MB
+    yield "encode", "ordinary traffic", lambda size: [notation(size)], min(size, 67 * MB), 3 * MB
 
 
 def instructions(runner, path, words, make, counted):

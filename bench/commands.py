@@ -7,6 +7,7 @@ stands. It runs what `rt ci` or the first use of `hsms` has built. The texts of 
 67,108,864 octets. Instructions are counted over 3 MB.
 """
 import os
+import subprocess
 import sys
 import tempfile
 
@@ -26,10 +27,10 @@ def report(count):
     return b"\x01\x03" + numbers + b"\x01" + bytes([count]) + value * count
 
 
-def stream(size):
-    """Linktests, event reports and their replies, and a recipe now and then."""
+def unit_of_stream():
+    """Linktests, event reports and their replies, and a recipe."""
     recipe = b"\x01\x02\x41\x06RECIPE\x22\x10\x00" + bytes(range(256)) * 16
-    unit = b"".join(
+    return b"".join(
         [
             frame("ffff0000000500000003"),
             frame("ffff0000000600000003"),
@@ -38,20 +39,31 @@ def stream(size):
             frame("00000704000000000008", b"\x21\x01\x00"),
         ]
     )
+
+
+def stream(size):
+    """Linktests, event reports and their replies, and a recipe now and then."""
+    unit = unit_of_stream()
     return unit * (size // len(unit))
+
+
+def shown(octets):
+    """The data messages of a stream in notation, as `hsms show` prints them."""
+    lines = subprocess.run([PROGRAM, "show"], input=octets, stdout=subprocess.PIPE, check=True).stdout.splitlines()
+    return b"".join(line.split(b" ", 3)[3] + b"\n" for line in lines if line.startswith(b"data "))
 
 
 def notation(size):
-    value = '<L [2] <A [8] "WaferMap"> <U4 [1] 100000>>'
-    values = " ".join([value] * 8)
-    unit = f"S6F11 W <L [3] <U4 [1] 7> <U4 [1] 256> <L [8] {values}>> .\nS6F12 <B [1] 0x00> .\n".encode()
+    unit = shown(unit_of_stream())
     return unit * (size // len(unit))
+
+
+# a data message whose text is a number in 31 lists of one element
+NESTED = frame("00008101000000000002", b"\x01\x01" * 31 + b"\xa5\x01\x07")
 
 
 def nested(size):
-    """Data messages whose text is a number in 31 lists of one element."""
-    unit = frame("00008101000000000002", b"\x01\x01" * 31 + b"\xa5\x01\x07")
-    return unit * (size // len(unit))
+    return NESTED * (size // len(NESTED))
 
 
 def empty_lists(size):
@@ -61,12 +73,12 @@ def empty_lists(size):
 
 
 def small_notation(size):
-    unit = b"S1F1 W .\nS1F2 <L> .\nS2F17 W .\n"
+    unit = b"S1F1 W .\nS1F2 <L [0]> .\nS2F17 W .\n"
     return unit * (size // len(unit))
 
 
 def nested_notation(size):
-    unit = b"S1F1 W " + b"<L " * 31 + b"<U1 7>" + b">" * 31 + b" .\n"
+    unit = shown(NESTED)
     return unit * (size // len(unit))
 
 
@@ -98,7 +110,7 @@ def main():
         ("show", "bare headers", lambda size: bare * (size // len(bare)), size),
         ("show", "lists nested to 32", nested, size),
         ("show", "lists of empty lists", empty_lists, size),
-        ("encode", "event reports", notation, min(size, 67 * MB)),
+        ("encode", "ordinary traffic", notation, min(size, 67 * MB)),
         ("encode", "small messages", small_notation, min(size, 67 * MB)),
         ("encode", "lists nested to 32", nested_notation, min(size, 67 * MB)),
         ("audit", "ordinary traffic", log, size),

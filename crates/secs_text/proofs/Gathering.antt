@@ -16,9 +16,10 @@ use Rattle.secs_text.specs.Body.{nothing_of}
 use Rattle.secs_text.specs.Token as math
 use Rattle.secs_text.specs.Token.{Placed}
 use Rattle.secs_text.specs.Words.{number_below, signed_below, octet_of, float_of, truth_of}
+use Rattle.secs_text.specs.OctetWord.{IsOctetWord}
 use Rattle.secs_text.specs.Places.{Rules, Before, Count, walk, in_item, closed, with_word, with_quoted, or_fault, is_counted, count_place, ◌>>=◌}
 use Rattle.secs_text.specs.Reads.{Checks}
-use Rattle.secs_text.specs.Spellings.{word_octets, quoted_octets, laid, Lays, Gathered, ValuesRead}
+use Rattle.secs_text.specs.Spellings.{word_octets, holds_octets, quoted_octets, laid, Lays, Gathered, ValuesRead}
 use Rattle.secs_text.specs.declared.fault.TextFault.{TextFault}
 use Rattle.secs_text.specs.declared.fault.TextFault.TheVariants as fault
 
@@ -202,6 +203,24 @@ none_gathered f count before old e =
       size = let short : length (short_body n.held) ≡ 0 = ap length n.octets in short ∙ sym (times_zero (value_size f)) ∙ ap (λ k. value_size f * k) (sym n.size);
     }
 
+octet_like : (f : Format) → holds_octets f ≡ true → ((w : List ℕ) → word_octets f w ≡ option_map octet_alone (octet_of w)) × (value_size f ≡ 1)
+octet_like format.List e = cc
+octet_like format.Binary e = (λ w. refl, refl)
+octet_like format.Boolean e = cc
+octet_like format.Ascii e = (λ w. refl, refl)
+octet_like format.Jis8 e = (λ w. refl, refl)
+octet_like format.Char2 e = (λ w. refl, refl)
+octet_like format.I1 e = cc
+octet_like format.I2 e = cc
+octet_like format.I4 e = cc
+octet_like format.I8 e = cc
+octet_like format.U1 e = cc
+octet_like format.U2 e = cc
+octet_like format.U4 e = cc
+octet_like format.U8 e = cc
+octet_like format.F4 e = cc
+octet_like format.F8 e = cc
+
 module _ {f : Format} {count : Option Count} {before after : List Placed} {old new : List ℕ} where
   -- these values, and what octets joined to theirs stand for
   more_gathered : (g : Gathered f count before after old new) (with : Option Values) (more : Values) (rest : List Placed) (o now : List ℕ) (n : ℕ)
@@ -236,6 +255,15 @@ module _ {f : Format} {count : Option Count} {before after : List Placed} {old n
           more_gathered g (with_word g.held w) t.more rest o now 1 t.is
           (λ rules b. sym (ap (λ ps. walk rules (in_item b (record { count = count; so_far = values g.held })) ps) is ∙ ap (λ r. or_fault (fault.Number at) b count r >>= (λ next. walk rules next rest)) t.is))
           t.form t.longer t.counted (one ∙ sym (times_one (value_size f))) pushed
+
+  -- the word of an octet
+  pub octet_gathered : (octet : ℕ) (rest : List Placed) (now : List ℕ) → holds_octets f ≡ true → IsOctetWord octet after rest → now ≡ new ++ octet ∷ [] → Gathered f count before after old new
+      → Gathered f count before rest old now
+  octet_gathered octet rest now holds w pushed g =
+      let like = octet_like f holds in
+      let lays : Lays true new now (word_octets f w.text) = ap (λ o. Some o) pushed ∙ ap (option_map (λ o. new ++ o)) (sym (like.0 w.text ∙ ap (option_map octet_alone) w.spells)) in
+      let one : length now ≡ length new + value_size f = ap length pushed ∙ length-append new (octet ∷ []) ∙ ap (λ n. length new + n) (sym like.1) in
+      word_gathered w.at w.text rest now g w.parts true refl lays one
 
   -- a quoted text
   pub quoted_gathered : (at : ℕ) (text : List ℕ) (rest : List Placed) (now : List ℕ) → Gathered f count before after old new

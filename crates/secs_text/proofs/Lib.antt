@@ -23,5 +23,6 @@ pub mod RawText
 pub mod RawItems
 pub mod RawMessages
 pub mod Gathering
+pub mod OctetWords
 pub mod Lists
 pub mod Handing

@@ -3,6 +3,7 @@ pub mod Token
 pub mod Seen
 pub mod Left
 pub mod Words
+pub mod OctetWord
 pub mod TypeName
 pub mod Content
 pub mod Body

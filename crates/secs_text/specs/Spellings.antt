@@ -38,6 +38,14 @@ word_octets format.U8 w = option_map (big_bytes 8) (number_below (2 ^ 64) w)
 word_octets format.F4 w = float_of 4 w
 word_octets format.F8 w = float_of 8 w
 
+-- formats whose values are single octets in hexadecimal
+abbrev pub holds_octets : Format → Bool
+holds_octets format.Binary = true
+holds_octets format.Ascii = true
+holds_octets format.Jis8 = true
+holds_octets format.Char2 = true
+holds_octets f = false
+
 -- the octets of a quoted text in an item of this format
 abbrev pub quoted_octets : Format → List ℕ → Option (List ℕ)
 quoted_octets format.Ascii text = Some text
@@ -61,6 +69,11 @@ pub record Gathered (f : Format) (count : Option Count) (before after : List Pla
   pub form : format_of_values held ≡ f
   pub octets : new ≡ old ++ short_body held
   pub size : length (short_body held) ≡ value_size f * count_of_values held
+
+-- more values of a format were gathered
+abbrev pub GathersMore : Format → List Placed → List Placed → List ℕ → List ℕ → Type 0
+GathersMore f before after old new =
+    (count : Option Count) (first : List Placed) (start : List ℕ) → Gathered f count first before start old → Gathered f count first after start new
 
 -- the same up to the end of their item
 pub record Closed (f : Format) (count : Option Count) (before after : List Placed) (old new : List ℕ) : Type 0 where

@@ -1,6 +1,6 @@
 //! Values from their words onto octets.
 
-ghost use Rattle.std.specs.Prelude.{◌≡◌, ◌≤◌, ◌<◌, ◌+◌, ◌/◌, true, false, length, IfOk, option_map};
+ghost use Rattle.std.specs.Prelude.{◌≡◌, ◌≤◌, ◌<◌, ◌+◌, ◌/◌, true, false, length, IfOk, OnOk, option_map};
 ghost use Rattle.std.specs.Int.{w8, w16, w32, w64};
 ghost use Rattle.std.specs.Prelude.{◌^◌};
 ghost use Rattle.byteorder.specs.Endian.{big_bytes};
@@ -8,7 +8,7 @@ ghost use Rattle.secs_item.specs.Format.{is_list, value_size};
 ghost use Rattle.secs_item.specs.Short.{octet_alone, octet_of_truth, octets_of_signed};
 ghost use Rattle.secs_text.specs.Left.{left, octets_left};
 ghost use Rattle.secs_text.specs.Reads.{count_seen};
-ghost use Rattle.secs_text.specs.Spellings.{Lays, ValuesRead, quoted_octets, word_octets};
+ghost use Rattle.secs_text.specs.Spellings.{GathersMore, Lays, ValuesRead, holds_octets, quoted_octets, word_octets};
 ghost use Rattle.secs_text.specs.Words.{number_below, signed_below, octet_of, float_of, truth_of};
 
 use crate::count::Count;
@@ -222,6 +222,43 @@ fn push_quoted(out: &mut Vec<u8>, format: Format, text: &[u8]) -> Result<bool, A
     Ok(true)
 }
 
+/// Whether the values of this format are single octets in hexadecimal.
+fn holds_octets(format: Format) -> bool
+    ensures { result ≡ holds_octets format }
+{
+    match format {
+        Format::Binary | Format::Ascii | Format::Jis8 | Format::Char2 => true,
+        Format::List
+        | Format::Boolean
+        | Format::I1
+        | Format::I2
+        | Format::I4
+        | Format::I8
+        | Format::U1
+        | Format::U2
+        | Format::U4
+        | Format::U8
+        | Format::F4
+        | Format::F8 => false,
+    }
+}
+
+/// Adds the octets of the words that come next, as far as each is an octet behind one space.
+fn gather_octets(out: &mut Vec<u8>, tokens: &mut Tokens, format: Format) -> Result<(), AllocError>
+    ensures gathered { OnOk result (GathersMore format (left tokens.old) (left tokens.new) out.old.items out.new.items) }
+    ensures no_longer { octets_left tokens.new ≤ octets_left tokens.old }
+{
+    if !holds_octets(format) {
+        return Ok(());
+    }
+    loop {
+        let Some(octet) = tokens.next_octet() else {
+            return Ok(());
+        };
+        out.push(octet)?;
+    }
+}
+
 /// Reads the values of an item up to its `>`, and adds their octets.
 pub fn gather(
     out: &mut Vec<u8>,
@@ -234,6 +271,7 @@ pub fn gather(
     ensures no_longer { octets_left tokens.new ≤ octets_left tokens.old }
 {
     let start = out.len();
+    gather_octets(out, tokens, format)?;
     loop {
         let next = tokens.next();
         match next.token {

@@ -355,3 +355,106 @@ fn no_text(rt: HostRuntime) -> Result<(), Fail> {
     judge_no_text(&rt, alloc, b"\x41\x02A", 32, ItemFault::Truncated { at: 0 })?;
     Ok(())
 }
+
+/// Hears messages: of each its stream, its function, 1 where a reply is wanted, and its text, or `?` for none.
+#[derive(Drop)]
+struct Hearing {
+    heard: Vec<u8>,
+}
+
+impl Receiver for Hearing {
+    type Kept = ();
+
+    ghost Given = { λ kept hearing given. Unit {0} };
+
+    fn take(&mut self, head: Head, text: Option<&[u8]>) -> Result<(), AllocError> {
+        let wait = u8::from(head.wait);
+        self.heard
+            .extend_from_slice(&[head.stream, head.function, wait])?;
+        self.heard.extend_from_slice(text.unwrap_or(b"?"))?;
+        Ok(())
+    }
+}
+
+/// What is heard of the messages of a text.
+fn heard_of(alloc: Global, text: &[u8], depth: u8) -> Result<Vec<u8>, TextFault> {
+    let mut hearing = Hearing {
+        heard: Vec::new(alloc),
+    };
+    spell_all(alloc, text, depth.min(100), &mut hearing)?;
+    Ok(hearing.heard)
+}
+
+/// A text, and what is heard of its messages.
+const HEARD: &[(&str, &[u8])] = &[
+    (" \n", b""),
+    ("S1F1 W . S2F3 .", b"\x01\x01\x01\x02\x03\x00"),
+    (
+        "S6F11 W <L [2] <A \"AB\"> <U1 1 255>> .",
+        b"\x06\x0b\x01\x01\x02\x41\x02AB\xa5\x02\x01\xff",
+    ),
+    (
+        "S0F0 <L <A \"A\" 0x0A \"\" 0x22> <B> <BOOLEAN F T>> .",
+        b"\x00\x00\x00\x01\x03\x41\x03A\n\"\x21\x00\x25\x02\x00\x01",
+    ),
+    (
+        "S0F0 <L <J 0xff> <C2 0x00 0x41> <I1 -128> <I2 -1>> .",
+        b"\x00\x00\x00\x01\x04\x45\x01\xff\x49\x02\x00A\x65\x01\x80\x69\x02\xff\xff",
+    ),
+    (
+        "S0F0 <L <I4 2147483647> <I8 -2> <U2 258> <U4 1>> .",
+        b"\x00\x00\x00\x01\x04\x71\x04\x7f\xff\xff\xff\x61\x08\xff\xff\xff\xff\xff\xff\xff\xfe\xa9\x02\x01\x02\xb1\x04\0\0\0\x01",
+    ),
+    (
+        "S0F0 <L <U8 1> <F4 0x3F800000> <F8 0x400921FB54442D18>> .",
+        b"\x00\x00\x00\x01\x03\xa1\x08\0\0\0\0\0\0\0\x01\x91\x04\x3f\x80\x00\x00\x81\x08\x40\x09\x21\xfb\x54\x44\x2d\x18",
+    ),
+];
+
+fn assert_heard(rt: &impl Abort, heard: &[u8], want: &[u8], text: &str) {
+    assert!(rt; heard == want, "{text}");
+}
+
+fn judge_heard(rt: &impl Abort, alloc: Global, text: &str, want: &[u8]) -> Result<(), TextFault> {
+    let heard = heard_of(alloc, text.as_bytes(), 32)?;
+    assert_heard(rt, &heard, want, text);
+    Ok(())
+}
+
+#[test]
+fn onto_octets(rt: HostRuntime) -> Result<(), Fail> {
+    for (text, want) in HEARD {
+        judge_heard(&rt, rt.alloc(), text, want)?;
+    }
+    Ok(())
+}
+
+/// A text of so many octets between quotes, whose item has this header.
+fn judge_long(
+    rt: &impl Abort,
+    alloc: Global,
+    count: usize,
+    header: &[u8],
+) -> Result<(), TextFault> {
+    let mut text = Vec::from_slice(alloc, b"S1F1 <A \"")?;
+    text.extend_from_slice(&vec![in alloc; b'z'; count]?)?;
+    text.extend_from_slice(b"\"> .")?;
+    let heard = heard_of(alloc, &text, 0)?;
+    let end = heard.len().min(3 + header.len());
+    assert_heard(rt, &heard[3.min(end)..end], header, "long");
+    assert_length(rt, heard.len(), 3 + header.len() + count);
+    Ok(())
+}
+
+fn assert_length(rt: &impl Abort, length: usize, want: usize) {
+    assert_eq!(rt; length, want);
+}
+
+#[test]
+fn long_headers(rt: HostRuntime) -> Result<(), Fail> {
+    let alloc = rt.alloc();
+    judge_long(&rt, alloc, 255, b"\x41\xff")?;
+    judge_long(&rt, alloc, 256, b"\x42\x01\x00")?;
+    judge_long(&rt, alloc, 65536, b"\x43\x01\x00\x00")?;
+    Ok(())
+}

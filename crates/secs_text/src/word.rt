@@ -100,7 +100,7 @@ pub fn truth_of(word: &[u8]) -> Option<bool>
 }
 
 /// The octet that two hexadecimal digits spell.
-fn octet_of_digits(high: u8, low: u8) -> Option<u8>
+pub fn octet_of_digits(high: u8, low: u8) -> Option<u8>
     ensures { result ≡ octet_of_digits high low }
 {
     Some(16 * hex_digit(high)? + hex_digit(low)?)

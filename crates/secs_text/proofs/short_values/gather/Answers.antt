@@ -7,8 +7,9 @@ use Rattle.secs_text.proofs.short_values.gather.Goals as goal
 
 pub loop-word-init : goal.loop-word-init
 loop-word-init c = record {
-  gathered = none_gathered c.args.format (count_seen c.args.count) (left c.args.tokens.now) c.args.out.now.items c.requires.no_list;
-  no_longer = search rules;
+  gathered = c.in_ok-gather_octets.ensures.gathered (count_seen c.args.count) (left c.args.tokens.now) c.args.out.now.items
+      (none_gathered c.args.format (count_seen c.args.count) (left c.args.tokens.now) c.args.out.now.items c.requires.no_list);
+  no_longer = c.gather_octets.ensures.no_longer;
 }
 
 pub loop-word-preserved-else-not-branch : goal.loop-word-preserved-else-not-branch

@@ -6,8 +6,8 @@ use Rattle.secs_text.proofs.short_values.gather.Given as goal
 
 abbrev pub invariant-loop-word : goal.invariant-loop-word
 invariant-loop-word l = record {
-  gathered : Gathered l.format (count_seen l.count) (left l.initial.tokens) (left l.tokens) l.initial.out.items l.out.items;
-  no_longer : octets_left l.tokens ≤ octets_left l.initial.tokens;
+  gathered : Gathered l.format (count_seen l.count) (left l.fn.tokens) (left l.tokens) l.fn.out.items l.out.items;
+  no_longer : octets_left l.tokens ≤ octets_left l.fn.tokens;
 }
 
 abbrev pub decreases-loop-word : goal.decreases-loop-word
