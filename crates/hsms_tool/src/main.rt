@@ -6,6 +6,7 @@ ghost use Rattle.hsms_options.specs.Options.{IsTaskWithinLimits};
 
 mod calls;
 mod desks;
+mod prompt;
 mod script;
 mod serving;
 mod socket;
@@ -15,6 +16,7 @@ use hsms_ends::{Link, ServeFault, Served, Step};
 use hsms_frame::{Reader, Writer};
 use hsms_options::{Request, Service, Task, ToolFault, exit_status, no_request, parse};
 use hsms_tasks::perform;
+use prompt::{Giver, Output, Prompt};
 use script::read_script;
 use serving::{serve_to, told};
 use socket::connected;
@@ -47,24 +49,45 @@ fn run<R: AllocGlobal + Clock + Env + Input + Net + Print>(rt: &R) -> Result<boo
     }
 }
 
-// Does a task with standard input and standard output. What was written before a fault is put out before the fault is
-// answered; where that fails, the answer is that a write failed.
+// Does a task with standard input and standard output. What was written is put out before a read that may wait, and
+// before a fault is answered; where that fails, the answer is that a write failed.
 fn run_task<R: Input + Print>(alloc: Global, rt: &R, task: Task) -> Result<bool, ToolFault>
     requires { IsTaskWithinLimits task }
 {
-    let input = BufReader::with_capacity(alloc, BUFFER, rt.reader());
-    let output = BufWriter::with_capacity(alloc, BUFFER, io::writer(rt));
-    let (Ok(input), Ok(output)) = (input, output) else {
+    let Ok(output) = BufWriter::with_capacity(alloc, BUFFER, io::writer(rt)) else {
         return Err(ToolFault::Memory);
     };
-    let mut sink = Writer::new(output);
-    let answer = perform(alloc, task, &mut Reader::new(input), &mut sink);
-    let has_failed = matches!(&answer, Err(ToolFault::Device(word)) if *word == "Write");
-    if is_put_out(sink, has_failed) {
+    let output = Output::new(output);
+    let answer = perform_with(alloc, rt, task, &output);
+    if output.is_put_out() {
         answer
     } else {
         Err(ToolFault::Device("Write"))
     }
+}
+
+// Does a task with standard input and this output, which is put out before each read.
+fn perform_with<R: Input + Print, W: Write + Drop>(
+    alloc: Global,
+    rt: &R,
+    task: Task,
+    output: &Output<W>,
+) -> Result<bool, ToolFault>
+    requires { IsTaskWithinLimits task }
+{
+    let prompt = Prompt {
+        input: rt.reader(),
+        giver: Giver { output },
+    };
+    let Ok(input) = BufReader::with_capacity(alloc, BUFFER, prompt) else {
+        return Err(ToolFault::Memory);
+    };
+    perform(
+        alloc,
+        task,
+        &mut Reader::new(input),
+        &mut Writer::new(Giver { output }),
+    )
 }
 
 // Puts out what is held back where no write has failed, and says whether all is out. What a failed write has left is let
