@@ -16,12 +16,12 @@ use hsms_ends::{Link, ServeFault, Served, Step};
 use hsms_frame::{Reader, Writer};
 use hsms_options::{Request, Service, Task, ToolFault, exit_status, no_request, parse};
 use hsms_tasks::perform;
-use prompt::{Giver, Output, Prompt};
+use prompt::{Output, Prompt};
 use script::read_script;
 use serving::{serve_to, told};
 use socket::connected;
 use std::alloc::Global;
-use std::io::{BufReader, BufWriter, ErrorKind, LineWriter, Printer, Write};
+use std::io::{BufReader, BufWriter, ErrorKind, LineWriter, Printer, Read, Write};
 use std::net::Net;
 use std::process::ExitCode;
 use std::rt::Env;
@@ -44,21 +44,30 @@ fn run<R: AllocGlobal + Clock + Env + Input + Net + Print>(rt: &R) -> Result<boo
     let alloc = rt.alloc();
     let words = words(alloc, rt)?;
     match parse(alloc, words.as_slice())? {
-        Request::Task(task) => run_task(alloc, rt, task),
+        Request::Task(task) => run_task(alloc, task, rt.reader(), io::writer(rt)),
         Request::Serve(service) => run_service(alloc, rt, &service),
     }
 }
 
-// Does a task with standard input and standard output. What was written is put out before a read that may wait, and
-// before a fault is answered; where that fails, the answer is that a write failed.
-fn run_task<R: Input + Print>(alloc: Global, rt: &R, task: Task) -> Result<bool, ToolFault>
+// Does a task with an input and an output. What was written is put out before a read that may wait, and before a fault
+// is answered; where that fails, the answer is that a write failed.
+fn run_task<I: Read + Drop, O: Write + Drop>(
+    alloc: Global,
+    task: Task,
+    input: I,
+    output: O,
+) -> Result<bool, ToolFault>
     requires { IsTaskWithinLimits task }
 {
-    let Ok(output) = BufWriter::with_capacity(alloc, BUFFER, io::writer(rt)) else {
+    let Ok(output) = BufWriter::with_capacity(alloc, BUFFER, output) else {
         return Err(ToolFault::Memory);
     };
-    let output = Output::new(output);
-    let answer = perform_with(alloc, rt, task, &output);
+    let output = Output::new(alloc, output)?;
+    let prompt = Prompt {
+        input,
+        output: output.again()?,
+    };
+    let answer = perform_between(alloc, task, prompt, output.again()?);
     if output.is_put_out() {
         answer
     } else {
@@ -66,28 +75,24 @@ fn run_task<R: Input + Print>(alloc: Global, rt: &R, task: Task) -> Result<bool,
     }
 }
 
-// Does a task with standard input and this output, which is put out before each read.
-fn perform_with<R: Input + Print, W: Write + Drop>(
+// Does a task with an input, which is read in blocks, and an output.
+fn perform_between<I: Read + Drop, O: Write + Drop>(
     alloc: Global,
-    rt: &R,
     task: Task,
-    output: &Output<W>,
+    input: I,
+    output: O,
 ) -> Result<bool, ToolFault>
     requires { IsTaskWithinLimits task }
 {
-    let prompt = Prompt {
-        input: rt.reader(),
-        giver: Giver { output },
-    };
-    let Ok(input) = BufReader::with_capacity(alloc, BUFFER, prompt) else {
-        return Err(ToolFault::Memory);
-    };
-    perform(
-        alloc,
-        task,
-        &mut Reader::new(input),
-        &mut Writer::new(Giver { output }),
-    )
+    match BufReader::with_capacity(alloc, BUFFER, input) {
+        Ok(input) => perform(
+            alloc,
+            task,
+            &mut Reader::new(input),
+            &mut Writer::new(output),
+        ),
+        Err(_) => Err(ToolFault::Memory),
+    }
 }
 
 // Puts out what is held back where no write has failed, and says whether all is out. What a failed write has left is let

@@ -1,14 +1,18 @@
 //! The output of a task, which is put out before each read that may wait.
 
+ghost use Rattle.std.specs.Prelude.{◌≤◌, length, IfOk};
+
+use std::alloc::{AllocError, Global};
 use std::cell::RefCell;
 use std::io::{Error, ErrorKind, Read, Write};
+use std::rc::Rc;
 use std::{io, mem};
 
 /// An output that holds octets back until there are many, or until they are put out. After a failed write nothing is
 /// written to it any more.
 #[derive(Drop)]
 pub struct Output<W: Write + Drop> {
-    held: RefCell<Held<W>>,
+    held: Rc<RefCell<Held<W>>>,
 }
 
 #[derive(Drop)]
@@ -17,32 +21,10 @@ struct Held<W: Write + Drop> {
     has_failed: bool,
 }
 
-impl<W: Write + Drop> Output<W> {
-    /// An output that hasn't failed.
-    pub fn new(output: W) -> Output<W> {
-        let held = Held {
-            output,
-            has_failed: false,
-        };
-        Output {
-            held: RefCell::new(held),
-        }
-    }
-
-    /// Puts out what is held back, and says whether all is out. What a failed write has left is let go, since a drop of
-    /// the output would try it once more.
-    pub fn is_put_out(self) -> bool {
-        let mut held = self.held.into_inner();
-        if held.flush().is_ok() {
-            return true;
-        }
-        mem::forget(held);
-        false
-    }
-}
-
 impl<W: Write + Drop> Held<W> {
-    fn write(&mut self, from: &[u8]) -> io::Result<usize> {
+    fn write(&mut self, from: &[u8]) -> io::Result<usize>
+        ensures { IfOk result (λ count. count ≤ length from.now) }
+    {
         if self.has_failed {
             return Err(Error::from(ErrorKind::BrokenPipe));
         }
@@ -61,22 +43,46 @@ impl<W: Write + Drop> Held<W> {
     }
 }
 
-/// Gives octets to an output.
-#[derive(Drop)]
-pub struct Giver<'a, W: Write + Drop> {
-    pub output: &'a Output<W>,
+impl<W: Write + Drop> Output<W> {
+    /// An output that hasn't failed.
+    pub fn new(alloc: Global, output: W) -> Result<Output<W>, AllocError> {
+        let held = Held {
+            output,
+            has_failed: false,
+        };
+        match Rc::new(alloc, RefCell::new(held)) {
+            Ok(held) => Ok(Output { held }),
+            Err(_) => Err(AllocError),
+        }
+    }
+
+    /// The same output.
+    pub fn again(&self) -> Result<Output<W>, AllocError> {
+        let held = self.held.clone()?;
+        Ok(Output { held })
+    }
+
+    /// Puts out what is held back, and says whether all is out. What a failed write has left is let go, since a drop of
+    /// the output would try it once more.
+    pub fn is_put_out(mut self) -> bool {
+        if self.flush().is_ok() {
+            return true;
+        }
+        mem::forget(self);
+        false
+    }
 }
 
-impl<'a, W: Write + Drop> Write for Giver<'a, W> {
+impl<W: Write + Drop> Write for Output<W> {
     fn write(&mut self, from: &[u8]) -> io::Result<usize> {
-        match self.output.held.try_borrow_mut() {
+        match self.held.try_borrow_mut() {
             Ok(mut held) => held.write(from),
             Err(_) => Err(Error::from(ErrorKind::ResourceBusy)),
         }
     }
 
     fn flush(&mut self) -> io::Result<()> {
-        match self.output.held.try_borrow_mut() {
+        match self.held.try_borrow_mut() {
             Ok(mut held) => held.flush(),
             Err(_) => Err(Error::from(ErrorKind::ResourceBusy)),
         }
@@ -85,14 +91,14 @@ impl<'a, W: Write + Drop> Write for Giver<'a, W> {
 
 /// Reads an input, and puts an output out before each read. It ends where the output has failed.
 #[derive(Drop)]
-pub struct Prompt<'a, R: Read + Drop, W: Write + Drop> {
-    pub input: R,
-    pub giver: Giver<'a, W>,
+pub struct Prompt<I: Read + Drop, O: Write + Drop> {
+    pub input: I,
+    pub output: O,
 }
 
-impl<'a, R: Read + Drop, W: Write + Drop> Read for Prompt<'a, R, W> {
+impl<I: Read + Drop, O: Write + Drop> Read for Prompt<I, O> {
     fn read(&mut self, into: &mut [u8]) -> io::Result<usize> {
-        match self.giver.flush() {
+        match self.output.flush() {
             Ok(()) => self.input.read(into),
             Err(_) => Ok(0),
         }
