@@ -109,6 +109,7 @@ fn show_next<R: Source, W: Sink>(
 }
 
 /// Writes all octets.
+#[inline(always)]
 pub fn put<W: Sink>(sink: &mut W, octets: &[u8]) -> Result<(), ToolFault>
     ensures ok { OnOk result (Grows (W.state sink.old).written (W.state sink.new).written octets.now) }
     ensures err { OnErr result (GrowsByFront (W.state sink.old).written (W.state sink.new).written octets.now) }

@@ -22,6 +22,7 @@ struct Held<W: Write + Drop> {
 }
 
 impl<W: Write + Drop> Held<W> {
+    #[inline(always)]
     fn write(&mut self, from: &[u8]) -> io::Result<usize>
         ensures { IfOk result (λ count. count ≤ length from.now) }
     {
@@ -74,6 +75,7 @@ impl<W: Write + Drop> Output<W> {
 }
 
 impl<W: Write + Drop> Write for Output<W> {
+    #[inline(always)]
     fn write(&mut self, from: &[u8]) -> io::Result<usize> {
         match self.held.try_borrow_mut() {
             Ok(mut held) => held.write(from),
