@@ -5,6 +5,7 @@ messages that come in pieces, each of which is there before the next is written.
 It runs what `rt ci` has built. The last line is `N passed, M failed`.
 """
 import os
+import select
 import subprocess
 import sys
 import time
@@ -64,6 +65,17 @@ def shown_in_pieces(pieces):
         return show.communicate(None, SOON)[0]
 
 
+def shown_while_open(octets, length):
+    """What is shown of these octets, so many octets of it, while the pipe is open."""
+    with started("show") as show:
+        given(show, octets)
+        shown = b""
+        while len(shown) < length and select.select([show.stdout], [], [], SOON)[0]:
+            shown += os.read(show.stdout.fileno(), length)
+        show.kill()
+        return shown
+
+
 def started(command="audit"):
     return subprocess.Popen([PROGRAM, command], stdin=subprocess.PIPE, stdout=subprocess.PIPE, stderr=subprocess.STDOUT)
 
@@ -100,6 +112,7 @@ def main():
     answers = [(told_while_open(octets), wanted) for octets, wanted in FAILING]
     answers += [(told_at_the_end(front, rest), wanted) for front, rest, wanted in PASSING]
     answers += [(shown_in_pieces(pieces), wanted) for pieces, wanted in SHOWN]
+    answers += [(shown_while_open(MESSAGES + rest, len(LINES)), LINES) for rest in (b"", MESSAGES[:17])]
     differing = [(told, wanted) for told, wanted in answers if told != wanted]
     for told, wanted in differing:
         print(f"wanted {wanted!r}, told {told!r}")

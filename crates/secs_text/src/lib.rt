@@ -2,7 +2,8 @@
 //! `S6F11 W <L [2] <A [2] "AB"> <U1 [2] 1 255>> .`
 //!
 //! [`print`] gives the one printed form of a message, [`read`] and [`read_all`] read every text that is
-//! the notation of messages, and tell any other text's fault with its place.
+//! the notation of messages, and tell any other text's fault with its place. With no message made,
+//! [`print_text`] prints one from the octets of its text, and [`spell_all`] reads messages onto octets.
 //!
 //! A text is read as one message or as several, and a message is printed:
 //!
