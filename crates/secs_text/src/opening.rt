@@ -17,6 +17,7 @@ use crate::word::number;
 use secs_item::Format;
 
 /// Reads the type name after the `<` that stood at `opening`. Lists may be nested `depth` deep.
+#[inline(always)]
 pub fn type_name(tokens: &mut Tokens, opening: usize, depth: u8) -> Result<Format, TextFault>
     ensures reads { (rules : Rules) (b : Before) → length b.lists + depth ≡ rules.depth
         → Reads result (walk rules (type_wanted b opening) (left tokens.old))
@@ -36,6 +37,7 @@ pub fn type_name(tokens: &mut Tokens, opening: usize, depth: u8) -> Result<Forma
 }
 
 /// Reads the number of a count and the `]`, after the `[`.
+#[inline(always)]
 pub fn count_after(tokens: &mut Tokens, opening: usize) -> Result<Count, TextFault>
     ensures reads { (rules : Rules) (b : Before) (v : Value)
         → Reads result (walk rules (count_wanted b v opening) (left tokens.old))
@@ -61,6 +63,7 @@ pub fn count_after(tokens: &mut Tokens, opening: usize) -> Result<Count, TextFau
 }
 
 /// Reads the count, if one is written.
+#[inline(always)]
 pub fn optional_count(tokens: &mut Tokens) -> Result<Option<Count>, TextFault>
     ensures reads { (rules : Rules) (b : Before) (v : Value)
         → Reads result (walk rules (after_type b v) (left tokens.old))
