@@ -74,22 +74,6 @@ text_of text = if length text == 0 then [] else codes " ! " ++ encode_lower text
 abbrev pub control_line : Kind → Frame → List ℕ
 control_line kind f = name_of kind ++ address_of f.header ++ detail_of kind f.header ++ text_of f.text ++ 10 ∷ []
 
--- the line of a message that isn't shown in notation
-abbrev pub plain_of : Kind → Frame → List ℕ
-plain_of Primary f = unreadable_line f
-plain_of Reply f = unreadable_line f
-plain_of SelectReq f = control_line SelectReq f
-plain_of SelectRsp f = control_line SelectRsp f
-plain_of LinktestReq f = control_line LinktestReq f
-plain_of LinktestRsp f = control_line LinktestRsp f
-plain_of Reject f = control_line Reject f
-plain_of Separate f = control_line Separate f
-plain_of OtherSType f = control_line OtherSType f
-plain_of OtherPType f = control_line OtherPType f
-
-abbrev pub plain_line : Frame → List ℕ
-plain_line f = plain_of (kind_of f.header) f
-
 -- ---- all messages
 
 abbrev pub LineOfKind : Kind → ℕ → Frame → List ℕ → Type 0
