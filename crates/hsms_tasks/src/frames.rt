@@ -13,7 +13,7 @@ use hsms_options::{ToolFault, refused};
 use secs_text::{Head, Receiver};
 use std::alloc::{AllocError, Global};
 
-/// The octets before the text of a frame.
+// The octets before the text of a frame.
 fn front(length: u32, header: Header) -> [u8; 14]
     ensures { result ≡ to_be_bytes w32 length ++ header_octets header }
 {
@@ -22,7 +22,7 @@ fn front(length: u32, header: Header) -> [u8; 14]
     [l0, l1, l2, l3, h0, h1, h2, h3, h4, h5, h6, h7, h8, h9]
 }
 
-/// Adds the octets of a frame.
+// Adds the octets of a frame.
 fn push_octets(octets: &mut Vec<u8>, header: Header, text: &[u8]) -> Result<(), AllocError>
     requires { 10 + length text.now < 2 ^ 32 }
     ensures { OnOk result (octets.new.items ≡ octets.old.items ++ frame_octets (record { header = header; text = text.now })) }
@@ -33,7 +33,7 @@ fn push_octets(octets: &mut Vec<u8>, header: Header, text: &[u8]) -> Result<(), 
     Ok(())
 }
 
-/// Adds the octets of a frame as a line of hexadecimal.
+// Adds the octets of a frame as a line of hexadecimal.
 fn push_line(
     alloc: Global,
     output: &mut Vec<u8>,
@@ -51,7 +51,7 @@ fn push_line(
     Ok(())
 }
 
-/// Adds the octets of a frame, or their line.
+// Adds the octets of a frame, or their line.
 fn push_frame(
     alloc: Global,
     output: &mut Vec<u8>,
