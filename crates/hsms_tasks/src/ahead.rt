@@ -89,9 +89,11 @@ fn drop_front(octets: &mut Vec<u8>, count: usize)
     requires { count ≤ vec_len octets.old }
     ensures { octets.new.items ≡ drop count octets.old.items }
 {
-    let rest = octets.len() - count;
-    octets.copy_within(count.., 0);
-    octets.truncate(rest);
+    if count > 0 {
+        let rest = octets.len() - count;
+        octets.copy_within(count.., 0);
+        octets.truncate(rest);
+    }
 }
 
 // Reads octets, and holds them behind the others.
