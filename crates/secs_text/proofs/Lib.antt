@@ -24,5 +24,6 @@ pub mod RawItems
 pub mod RawMessages
 pub mod Gathering
 pub mod OctetWords
+pub mod AsPrinted
 pub mod Lists
 pub mod Handing

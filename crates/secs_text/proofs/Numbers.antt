@@ -12,7 +12,7 @@ use Rattle.std.specs.Int.{IsInRange}
 use Rattle.secs_text.specs.Octets.{is_digit}
 use Rattle.secs_text.specs.Words.{is_numeral, number_below}
 
-both : (a b : Bool) → a && b ≡ true → (a ≡ true) × (b ≡ true)
+pub both : (a b : Bool) → a && b ≡ true → (a ≡ true) × (b ≡ true)
 both true true e = (refl, refl)
 both true false e = cc
 both false b e = cc
@@ -22,11 +22,11 @@ all_at [] i all lt = absurd (omega arith)
 all_at (c ∷ w) zero all lt = (both _ _ all).0
 all_at (c ∷ w) (suc i) all lt = all_at w i (both (is_digit c) _ all).1 (omega arith)
 
-numeral_digits : (w : List ℕ) → is_numeral w ≡ true → list_all is_digit w ≡ true
+pub numeral_digits : (w : List ℕ) → is_numeral w ≡ true → list_all is_digit w ≡ true
 numeral_digits [] e = cc
 numeral_digits (c ∷ w) e = (both _ _ e).0
 
-digit_is : (c : ℕ) → is_digit c ≡ true → digit_value c ≡ c - 48
+pub digit_is : (c : ℕ) → is_digit c ≡ true → digit_value c ≡ c - 48
 digit_is c e =
     let parts = both _ _ e in
     let range : IsInRange 48 57 c = (leb-true 48 c parts.0, leb-true c 57 parts.1) in

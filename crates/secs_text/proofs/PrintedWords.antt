@@ -8,17 +8,13 @@ use Rattle.std.specs.Str.Parse.{AllDigits, digits_value}
 use Rattle.std.proofs.lemmas.Fmt.{decimal_is_IsNumeral, decimal_digit, first_decimal}
 use Rattle.std.proofs.lemmas.Str.Parse.{digit_from_value}
 use Rattle.std.proofs.lemmas.Bool.{false_from_ne_true, leb-true, le-leb, eq-eqb, eqb-true, ltb-true, ltb-false}
+use Rattle.secs_text.specs.AsPrinted.{IsWord}
 use Rattle.secs_text.specs.Octets.{is_digit, is_letter, is_of_word}
 use Rattle.secs_text.specs.Words.{is_numeral, number_below, signed_below, negative_of, hex_digit, octet_from, octet_of_digits, octet_then, hex_octets, octets_of, only, octet_of, sized, float_of, truth_of}
 use Rattle.secs_text.specs.Body.{Spelling, hex_octet, truth_letter, signed_number, unsigned_number, hex_float, Spelled, spelled}
 use Rattle.secs_text.specs.Held.{IsOctets, Fits}
 use Rattle.secs_text.specs.Printed.{two_digits, hexadecimal, truth_word, written}
 use Rattle.secs_text.proofs.Numbers.{just, take_all}
-
--- one octet or more, each of which may stand in a word
-pub record IsWord (w : List ℕ) : Type 0 where
-  pub some : 0 < length w
-  pub all : list_all is_of_word w ≡ true
 
 pub and_true : (a b : Bool) → a ≡ true → b ≡ true → a && b ≡ true
 and_true true b e f = f
@@ -48,7 +44,7 @@ no_digit c high = and_false (nat_le 48 c) (nat_le c 57) (false_from_ne_true (nat
 letter_is : (c : ℕ) → 65 ≤ c → c ≤ 90 → is_letter c ≡ true
 letter_is c low high = ap (λ b. b || (nat_le 97 c && nat_le c 122)) (and_true _ _ (le-leb 65 c low) (le-leb c 90 high))
 
-of_word_digit : (c : ℕ) → is_digit c ≡ true → is_of_word c ≡ true
+pub of_word_digit : (c : ℕ) → is_digit c ≡ true → is_of_word c ≡ true
 of_word_digit c e = or_true (is_digit c) (is_letter c) (c == 45) e
 
 of_word_letter : (c : ℕ) → is_letter c ≡ true → is_of_word c ≡ true
@@ -62,7 +58,7 @@ split_digit : (c : ℕ) (cs : List ℕ) (b : Bool) → is_digit c ≡ b → (lis
 split_digit c cs true is more e = and_true _ _ (of_word_digit c is) (more e)
 split_digit c cs false is more e = cc
 
-all_of_word : (ds : List ℕ) → list_all is_digit ds ≡ true → list_all is_of_word ds ≡ true
+pub all_of_word : (ds : List ℕ) → list_all is_digit ds ≡ true → list_all is_of_word ds ≡ true
 all_of_word [] e = refl
 all_of_word (c ∷ cs) e = split_digit c cs (is_digit c) refl (all_of_word cs) e
 

@@ -3,11 +3,11 @@ use Rattle.std.proofs.Common.{◌≡◌, ℕ, suc, ◌+◌, ◌≤◌, Bool, tru
 use Rattle.std.specs.Prelude.{◌==◌, slice_index}
 use Rattle.std.specs.List.{list_all, prefix_len}
 use Rattle.std.proofs.lemmas.Bool.{eqb-true}
+use Rattle.secs_text.specs.AsPrinted.{IsWord, EndsWord}
 use Rattle.secs_text.specs.Octets.{is_white, is_of_word, is_quotable}
 use Rattle.secs_text.specs.Token.{Token, word, quoted, less, greater, bracket, bracket_end, stop, end, Front, whole, front, quoted_front, with_front, tokens_after, tokens_from}
 use Rattle.secs_text.proofs.Completeness.{token_of}
 use Rattle.secs_text.proofs.TokenLists.{skipped}
-use Rattle.secs_text.proofs.PrintedWords.{IsWord}
 
 -- the octets have these tokens, from wherever they stand
 pub record HasKinds (octets : List ℕ) (ts : List Token) : Type 0 where
@@ -84,22 +84,25 @@ front_word c octets is =
     let point = not_that 0x2E c refl is in
     rw (space, quote, opening, closing, counting, counted, point, is) refl
 
--- no word goes on here
-abbrev pub EndsWord : List ℕ → Type 0
-EndsWord rest = prefix_len is_of_word rest ≡ 0
-
 first_of_word : (c : ℕ) (cs : List ℕ) (b : Bool) → is_of_word c ≡ b → b && list_all is_of_word cs ≡ true → (is_of_word c ≡ true) × (list_all is_of_word cs ≡ true)
 first_of_word c cs true is e = (is, e)
 first_of_word c cs false is e = cc
 
-pub word_kinds : (w rest : List ℕ) (ts : List Token) → IsWord w → EndsWord rest → HasKinds rest ts → HasKinds (w ++ rest) (word w ∷ ts)
-word_kinds [] rest ts is ends h = absurd (let some = is.some in omega arith)
-word_kinds (c ∷ cs) rest ts is ends h =
+-- a word, and the tokens after it
+pub word_here : (at : ℕ) (w rest : List ℕ) → IsWord w → EndsWord rest → tokens_from at (w ++ rest) ≡ record { at = at; token = word w } ∷ tokens_from (at + length w) rest
+word_here at [] rest is ends = absurd (let some = is.some in omega arith)
+word_here at (c ∷ cs) rest is ends =
     let parts = first_of_word c cs (is_of_word c) refl is.all in
     let n = prefix_front is_of_word cs rest parts.1 ends in
     let octets = cs ++ rest in
     let fronted : front c octets ≡ whole (word (c ∷ cs)) (length cs) = front_word c octets parts.0 ∙ ap (λ k. whole (word (c ∷ take k octets)) k) n ∙ ap (λ o. whole (word (c ∷ o)) (length cs)) (take_front cs rest) in
-    whole_kinds c (length cs) octets rest (word (c ∷ cs)) ts fronted (length_front cs rest) (drop_front cs rest) h
+    let place : at + 1 + length cs ≡ at + suc (length cs) = omega arith in
+    front_step at c octets
+    ∙ ap (λ f. with_front at f (λ more. tokens_after more (at + 1) octets)) fronted
+    ∙ ap (λ ts. record { at = at; token = word (c ∷ cs) } ∷ ts) (skipped (length cs) (at + 1) octets (length_front cs rest) ∙ ap (λ o. tokens_from (at + 1 + length cs) o) (drop_front cs rest) ∙ ap (λ k. tokens_from k rest) place)
+
+pub word_kinds : (w rest : List ℕ) (ts : List Token) → IsWord w → EndsWord rest → HasKinds rest ts → HasKinds (w ++ rest) (word w ∷ ts)
+word_kinds w rest ts is ends h = record { kinds = λ at. ap (λ o. map token_of o) (word_here at w rest is ends) ∙ ap (λ o. word w ∷ o) (h.kinds (at + length w)) }
 
 at_front : (q rest : List ℕ) (c : ℕ) → slice_index (q ++ c ∷ rest) (length q) ≡ c
 at_front [] rest c = refl

@@ -4,6 +4,7 @@ pub mod Seen
 pub mod Left
 pub mod Words
 pub mod OctetWord
+pub mod AsPrinted
 pub mod TypeName
 pub mod Content
 pub mod Body

@@ -10,7 +10,7 @@ use Rattle.secs_item.specs.Item.{Value, values, Values, format_of_values, count_
 use Rattle.secs_item.specs.Short.{octet_alone, octet_of_truth, octets_of_signed, short, short_body}
 use Rattle.secs_text.specs.Body.{nothing_of}
 use Rattle.secs_text.specs.Content.{Content}
-use Rattle.secs_text.specs.Places.{Rules, Before, Count, Place, walk, start, finished, in_item, closed, reading}
+use Rattle.secs_text.specs.Places.{Rules, Before, Count, Place, Step, walk, start, after_head, finished, in_item, closed, reading}
 use Rattle.std.proofs.Common.{Bor}
 use Rattle.secs_text.specs.declared.raw_message.Head.{Head}
 use Rattle.secs_text.specs.Fault.{any_messages}
@@ -122,15 +122,24 @@ IsSpelled item text = text_of item ≡ option_map (λ t. t.now) text
 abbrev pub headed_by : Head → Option Value → Content
 headed_by head item = record { stream = head.stream; function = head.function; wait = head.wait; item = item }
 
--- a message, to which these tokens lead up to those
-pub record Spelt (depth : ℕ) (head : Head) (fits : Bool) (before after : List Placed) (old new : List ℕ) : Type 0 where
+-- a message with this stream and function, as far as they tell it
+abbrev pub named_by : ℕ → ℕ → Content
+named_by stream function = record { stream = stream; function = function; wait = false; item = None }
+
+-- where a stream and a function lead, or their lack, after these messages
+abbrev pub named : ℕ → List Content → Option (ℕ × ℕ) → List Placed → Step
+named depth ms (Some name) after = walk (any_messages depth) (after_head ms (named_by name.0 name.1)) after
+named depth ms None after = Ok (finished ms)
+
+-- a message, to which these tokens lead up to those, from a place
+pub record Spelt (depth : ℕ) (from : List Content → Place) (head : Head) (fits : Bool) (before after : List Placed) (old new : List ℕ) : Type 0 where
   pub item : Option Value
-  pub leads : (ms : List Content) → walk (any_messages depth) (start ms) before ≡ walk (any_messages depth) (start (ms ++ headed_by head item ∷ [])) after
+  pub leads : (ms : List Content) → walk (any_messages depth) (from ms) before ≡ walk (any_messages depth) (start (ms ++ headed_by head item ∷ [])) after
   pub lays : Lays fits old new (text_of item)
 
-abbrev pub MessageRead : ℕ → Result (Head × Bool) TextFault → List Placed → List Placed → List ℕ → List ℕ → Type 0
-MessageRead depth (Ok m) before after old new = Spelt depth m.0 m.1 before after old new
-MessageRead depth (Err fault) before after old new = (ms : List Content) → Fails fault (walk (any_messages depth) (start ms) before)
+abbrev pub MessageRead : ℕ → (List Content → Place) → Result (Head × Bool) TextFault → List Placed → List Placed → List ℕ → List ℕ → Type 0
+MessageRead depth from (Ok m) before after old new = Spelt depth from m.0 m.1 before after old new
+MessageRead depth from (Err fault) before after old new = (ms : List Content) → Fails fault (walk (any_messages depth) (from ms) before)
 
 -- Messages, to which these tokens lead up to those, were given behind what was given before. What was given is told by
 -- a predicate that also speaks of something that stays.

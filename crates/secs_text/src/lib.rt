@@ -15,6 +15,7 @@
 //! ```
 #![tactic(auto)]
 
+mod as_printed;
 mod block;
 mod count;
 mod fault;

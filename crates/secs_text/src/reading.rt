@@ -13,6 +13,7 @@ ghost use Rattle.std.specs.Result.{IsErrAnd};
 ghost use Rattle.secs_text.specs.Reads.{Reads};
 ghost use Rattle.secs_text.specs.View.{content, contents};
 
+use crate::as_printed::next_wait;
 use crate::fault::TextFault;
 use crate::items::item;
 use crate::message::Message;
@@ -47,6 +48,9 @@ pub fn optional_wait<'a>(tokens: &mut Tokens<'a>) -> (bool, Placed<'a>)
         ≡ walk rules (after_wait ms (record m { wait = result.0 })) (then_tokens (placed result.1) (left tokens.new)) }
     ensures no_longer { octets_left tokens.new ≤ octets_left tokens.old }
 {
+    if next_wait(tokens) {
+        return (true, tokens.next());
+    }
     let next = tokens.next();
     match next.token {
         Token::Word([b'W']) => (true, tokens.next()),

@@ -1,14 +1,16 @@
 //! Items from their notation onto octets, with no item made.
 
-ghost use Rattle.std.specs.Prelude.{◌≡◌, ◌≤◌, ◌+◌, [], false, length};
+ghost use Rattle.std.specs.Prelude.{◌≡◌, ◌≤◌, ◌<◌, ◌+◌, [], false, length, IfOk};
 ghost use Rattle.secs_item.specs.Format.{is_list};
 ghost use Rattle.secs_item.specs.Item.{list, no_elements};
 ghost use Rattle.secs_text.specs.Body.{nothing_of};
 ghost use Rattle.secs_text.specs.Left.{left, octets_left};
-ghost use Rattle.secs_text.specs.Places.{Rules, Before, type_wanted, in_item};
-ghost use Rattle.secs_text.specs.Reads.{count_seen};
+ghost use Rattle.secs_text.specs.Places.{Rules, Before, walk, type_wanted, in_item};
+ghost use Rattle.secs_text.specs.Reads.{Reads, count_seen};
+ghost use Rattle.secs_item.specs.declared.format.Format.TheVariants as format;
 ghost use Rattle.secs_text.specs.Spellings.{ItemRead, Deep, Anywhere};
 
+use crate::as_printed::next_opening;
 use crate::count::Count;
 use crate::fault::TextFault;
 use crate::opening::{check_count, optional_count, type_name};
@@ -73,6 +75,31 @@ fn elements(
     Ok(seal(out, start, Format::List, number)?)
 }
 
+/// Reads the type name of an item whose `<` stood at `opening`, and its count, if one is written. Lists may be nested
+/// `depth` deep.
+#[inline(always)]
+fn format_and_count(
+    tokens: &mut Tokens,
+    opening: usize,
+    depth: u8,
+) -> Result<(Format, Option<Count>), TextFault>
+    ensures reads { (rules : Rules) (b : Before) → length b.lists + depth ≡ rules.depth
+        → Reads result (walk rules (type_wanted b opening) (left tokens.old))
+        (λ o. walk rules (in_item b (record { count = count_seen o.1; so_far = nothing_of o.0 })) (left tokens.new)) }
+    ensures list { IfOk result (λ o. o.0 ≡ format.List → 0 < depth) }
+    ensures no_longer { octets_left tokens.new ≤ octets_left tokens.old }
+{
+    if let Some((format, count)) = next_opening(tokens) {
+        return match format {
+            Format::List if depth == 0 => Err(TextFault::Deep { at: opening }),
+            _ => Ok((format, Some(count))),
+        };
+    }
+    let format = type_name(tokens, opening, depth)?;
+    let count = optional_count(tokens)?;
+    Ok((format, count))
+}
+
 /// Reads the item whose `<` stood at `opening`, and adds its octets. Lists may be nested `depth` deep. Whether the item
 /// has octets: each body and each list is within three length octets. Where it has none, those added don't count.
 #[cycle(short_item)]
@@ -86,8 +113,7 @@ pub fn item(
         (left tokens.old) (left tokens.new) out.old.items out.new.items }
     ensures no_longer { octets_left tokens.new ≤ octets_left tokens.old }
 {
-    let format = type_name(tokens, opening, depth)?;
-    let count = optional_count(tokens)?;
+    let (format, count) = format_and_count(tokens, opening, depth)?;
     match format {
         Format::List => elements(out, tokens, count, depth - 1),
         Format::Binary

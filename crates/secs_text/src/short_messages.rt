@@ -1,21 +1,23 @@
 //! Messages from their notation onto octets, with no message made.
 
-ghost use Rattle.std.specs.Prelude.{◌≡◌, ◌≤◌, ◌<◌, ◌++◌, ◌⊎◌, [], ◌∷◌, List, false, IfOk, IfErr, OnOk, MatchResult, Option};
+ghost use Rattle.std.specs.Prelude.{◌≡◌, ◌≤◌, ◌<◌, ℕ, ◌++◌, ◌⊎◌, [], ◌∷◌, List, false, IfOk, IfErr, OnOk, IfSome, OnSome, MatchResult, Option};
 ghost use Rattle.std.specs.Result.{IsErrAnd};
 ghost use Rattle.secs_item.specs.Item.{Value};
 ghost use Rattle.secs_text.specs.Content.{Content, AllWithin};
 ghost use Rattle.secs_text.specs.Fault.{any_messages, NotesFault};
 ghost use Rattle.secs_text.specs.Left.{left, octets_left};
 ghost use Rattle.secs_text.specs.Notation.{Notations};
-ghost use Rattle.secs_text.specs.Seen.{placed, seen, is_last, then_tokens};
-ghost use Rattle.secs_text.specs.Spellings.{AllGiven, MessageRead, IsSpelled, headed_by};
+ghost use Rattle.secs_text.specs.Places.{walk, start, after_head};
+ghost use Rattle.secs_text.specs.Reads.{Reads};
+ghost use Rattle.secs_text.specs.Spellings.{AllGiven, MessageRead, IsSpelled, headed_by, named, named_by};
 ghost use Rattle.secs_text.specs.declared.fault.TextFault.{TextFault};
 
+use crate::as_printed::next_head;
 use crate::fault::TextFault;
 use crate::raw_message::Head;
 use crate::reading::{head, optional_wait};
 use crate::short_items::item;
-use crate::token::{Placed, Token};
+use crate::token::Token;
 use crate::tokens::Tokens;
 use std::alloc::{AllocError, Global};
 
@@ -40,21 +42,39 @@ pub trait Receiver {
             → Given kept self.old given → Given kept self.new (given ++ headed_by head item ∷ [])) };
 }
 
-/// Reads a message whose first token was taken, and adds its text. Lists may be nested `depth` deep. Its head, and
-/// whether its item has octets.
+/// Reads the stream and function of the next message, if there is one.
+#[inline(always)]
+fn next_name(tokens: &mut Tokens) -> Result<Option<(u8, u8)>, TextFault>
+    ensures reads { (depth : ℕ) (ms : List Content)
+        → Reads result (walk (any_messages depth) (start ms) (left tokens.old)) (λ name. named depth ms name (left tokens.new)) }
+    ensures in_range { IfOk result (λ name. IfSome name (λ n. n.0 < 128)) }
+    ensures shorter { IfOk result (λ name. OnSome name (octets_left tokens.new < octets_left tokens.old)) }
+{
+    if let Some(name) = next_head(tokens) {
+        return Ok(Some(name));
+    }
+    let next = tokens.next();
+    if let Token::End = next.token {
+        return Ok(None);
+    }
+    let name = head(next)?;
+    Ok(Some(name))
+}
+
+/// Reads a message whose stream and function were read, and adds its text. Lists may be nested `depth` deep. Its head,
+/// and whether its item has octets.
 fn message(
     out: &mut Vec<u8>,
     tokens: &mut Tokens,
-    first: Placed,
+    stream: u8,
+    function: u8,
     depth: u8,
 ) -> Result<(Head, bool), TextFault>
-    requires not_end { first.token ≡ Token.End → ⊥ }
-    ensures reads { MessageRead depth result (then_tokens (placed first.entry) (left tokens.old)) (left tokens.new) out.old.items out.new.items }
-    ensures in_range { IfOk result (λ m. m.0.stream < 128) }
-    ensures started { OnOk result (is_last (seen first.entry.token) ≡ false) }
+    ensures reads { MessageRead depth (λ ms. after_head ms (named_by stream function)) result
+        (left tokens.old) (left tokens.new) out.old.items out.new.items }
+    ensures in_range { IfOk result (λ m. m.0.stream ≡ stream) }
     ensures no_longer { octets_left tokens.new ≤ octets_left tokens.old }
 {
-    let (stream, function) = head(first)?;
     let (wait, next) = optional_wait(tokens);
     let head = Head {
         stream,
@@ -85,12 +105,11 @@ fn spell_several<R: Receiver>(
     let mut tokens = Tokens::new(text);
     let mut spelling = Vec::new(alloc);
     loop {
-        let next = tokens.next();
-        if let Token::End = next.token {
+        let Some((stream, function)) = next_name(&mut tokens)? else {
             return Ok(());
-        }
+        };
         spelling.clear();
-        let (head, fits) = message(&mut spelling, &mut tokens, next, depth)?;
+        let (head, fits) = message(&mut spelling, &mut tokens, stream, function, depth)?;
         let octets = spelling.as_slice();
         receiver.take(head, if fits { Some(octets) } else { None })?;
     }

@@ -1,9 +1,8 @@
 use Rattle.std.proofs.Common.{◌≡◌, ◌∙◌, ◌++◌, ◌∷◌, [], ap, sym, subst, append_assoc, List, refl}
 use Rattle.std.specs.Prelude.{Some, option_map}
 use Rattle.secs_text.specs.Content.{Content}
-use Rattle.secs_text.specs.Fault.{any_messages}
-use Rattle.secs_text.specs.Places.{walk, start}
-use Rattle.secs_text.specs.Spellings.{laid, headed_by}
+use Rattle.secs_text.specs.Left.{left}
+use Rattle.secs_text.specs.Spellings.{laid, headed_by, named}
 use Rattle.secs_text.proofs.Handing.{is_spelled}
 use Rattle.secs_text.proofs.short_messages.spell_several.Goals as goal
 use Rattle.secs_text.proofs.short_messages.spell_several.Goals.{then-fits, else-fits}
@@ -19,7 +18,7 @@ loop-spelling-preserved g c =
     ] in
     record {
       messages = before.messages ++ this ∷ [];
-      leads = before.leads ∙ ap (λ ps. walk (any_messages c.args.depth) (start before.messages) ps) c.next-next.ensures.tokens ∙ m.leads before.messages;
+      leads = before.leads ∙ c.in_ok-stream.ensures.reads c.args.depth before.messages ∙ ap (λ n. named c.args.depth before.messages n (left c.next_name.new.tokens)) c.in-Some.is ∙ m.leads before.messages;
       given = λ kept earlier old. let P : List Content → Type 0 = λ ms. g.R.Receiver.Given kept c.take.new.self ms in subst P (append_assoc earlier before.messages (this ∷ []))
           (c.in_ok-take.ensures kept m.item (earlier ++ before.messages) (is_spelled m.item c.in_ok-head.fits c.clear.new.self.items c.message.new.out.items c.clear.ensures.items m.lays ∙ given_text) (before.given kept earlier old));
     }

@@ -1,0 +1,168 @@
+//! Tokens that stand as a message is printed, several at once.
+
+ghost use Rattle.std.specs.Prelude.{◌≡◌, ◌≤◌, ◌<◌, ◌+◌, ◌∷◌, [], length, true, false, Some, IfSome, IfNone, OnSome};
+ghost use Rattle.secs_text.specs.AsPrinted.{IsOpening, IsWait, IsHead, OpensWith, IsSmall, IsLettered, IsHeaded};
+ghost use Rattle.secs_text.specs.Left.{left, octets_left};
+ghost use Rattle.secs_text.specs.Octets.{is_of_word};
+ghost use Rattle.secs_text.specs.TypeName.{format_named};
+
+use crate::count::Count;
+use crate::octet::{is_digit, is_of_word};
+use crate::tokens::Tokens;
+use secs_item::Format;
+
+/// The format that one letter names.
+#[inline(always)]
+#[tactic(auto, unfolding(crate::specs::TypeName::format_named))]
+fn format_of_letter(letter: u8) -> Option<Format>
+    ensures named { IfSome result (λ f. format_named (letter ∷ []) ≡ Some f) }
+    ensures word { OnSome result (is_of_word letter ≡ true) }
+{
+    match letter {
+        b'L' => Some(Format::List),
+        b'B' => Some(Format::Binary),
+        b'A' => Some(Format::Ascii),
+        b'J' => Some(Format::Jis8),
+        _ => None,
+    }
+}
+
+/// The format that a letter and a digit name.
+#[inline(always)]
+#[tactic(auto, unfolding(crate::specs::TypeName::format_named))]
+fn format_of_pair(letter: u8, size: u8) -> Option<Format>
+    ensures named { IfSome result (λ f. format_named (letter ∷ size ∷ []) ≡ Some f) }
+    ensures word { OnSome result ((is_of_word letter ≡ true) × (is_of_word size ≡ true)) }
+{
+    match (letter, size) {
+        (b'C', b'2') => Some(Format::Char2),
+        (b'I', b'1') => Some(Format::I1),
+        (b'I', b'2') => Some(Format::I2),
+        (b'I', b'4') => Some(Format::I4),
+        (b'I', b'8') => Some(Format::I8),
+        (b'U', b'1') => Some(Format::U1),
+        (b'U', b'2') => Some(Format::U2),
+        (b'U', b'4') => Some(Format::U4),
+        (b'U', b'8') => Some(Format::U8),
+        (b'F', b'4') => Some(Format::F4),
+        (b'F', b'8') => Some(Format::F8),
+        _ => None,
+    }
+}
+
+/// A type name of one or two octets at the front, how many it has, and the digit of the count behind it.
+#[inline(always)]
+fn opening_front(octets: &[u8]) -> Option<(Format, usize, u8)>
+    ensures opens { IfSome result (λ o. OpensWith o.0 o.1 o.2 octets.now) }
+    ensures within { IfSome result (λ o. o.1 + 4 ≤ length octets.now) }
+{
+    match octets {
+        [letter, b' ', b'[', digit, b']', ..] if is_digit(*digit) => {
+            Some((format_of_letter(*letter)?, 1, *digit))
+        }
+        [letter, size, b' ', b'[', digit, b']', ..] if is_digit(*digit) => {
+            Some((format_of_pair(*letter, *size)?, 2, *digit))
+        }
+        _ => None,
+    }
+}
+
+/// Takes a type name and the count behind it, if the name has one or two octets, the count one digit, and both stand as
+/// they are printed.
+#[inline(always)]
+pub fn next_opening(tokens: &mut Tokens) -> Option<(Format, Count)>
+    ensures taken { IfSome result (λ o. IsOpening o.0 o.1 (left tokens.old) (left tokens.new)) }
+    ensures no_longer { octets_left tokens.new ≤ octets_left tokens.old }
+    ensures none { IfNone result (tokens.new ≡ tokens.old) }
+{
+    let (_, rest) = tokens.text.split_at(tokens.place);
+    let (format, size, digit) = opening_front(rest)?;
+    let at = tokens.place + size + 1;
+    tokens.place += size + 4;
+    let number = u64::from(digit - b'0');
+    Some((format, Count { at, number }))
+}
+
+/// Takes a `W` that stands behind one space.
+#[inline(always)]
+pub fn next_wait(tokens: &mut Tokens) -> bool
+    ensures taken { result ≡ true → IsWait (left tokens.old) (left tokens.new) }
+    ensures no_longer { octets_left tokens.new ≤ octets_left tokens.old }
+    ensures none { result ≡ false → tokens.new ≡ tokens.old }
+{
+    let (_, rest) = tokens.text.split_at(tokens.place);
+    match rest {
+        [b' ', b'W', after, ..] => {
+            if is_of_word(*after) {
+                return false;
+            }
+            tokens.place += 2;
+            true
+        }
+        _ => false,
+    }
+}
+
+/// The number that one or two digits at the front spell, and how many they are. No digit is behind them.
+#[inline(always)]
+fn small_number(octets: &[u8]) -> Option<(u8, usize)>
+    ensures small { IfSome result (λ n. IsSmall n.0 n.1 octets.now) }
+    ensures within { IfSome result (λ n. n.1 < length octets.now) }
+{
+    match octets {
+        [ones, after, ..] if is_digit(*ones) && !is_digit(*after) => Some((*ones - b'0', 1)),
+        [tens, ones, after, ..]
+            if is_digit(*tens) && *tens != b'0' && is_digit(*ones) && !is_digit(*after) => {
+            Some((10 * (*tens - b'0') + (*ones - b'0'), 2))
+        }
+        _ => None,
+    }
+}
+
+/// The number that one or two digits spell behind a letter at the front, and how many octets it has with the letter.
+#[inline(always)]
+fn lettered_number(letter: u8, octets: &[u8]) -> Option<(u8, usize)>
+    ensures lettered { IfSome result (λ n. IsLettered letter n.0 n.1 octets.now) }
+    ensures within { IfSome result (λ n. n.1 < length octets.now) }
+{
+    match octets {
+        [first, rest @ ..] => {
+            if *first != letter {
+                return None;
+            }
+            let (number, size) = small_number(rest)?;
+            Some((number, size + 1))
+        }
+        [] => None,
+    }
+}
+
+/// The stream and function that a head at the front names, each with one or two digits, and how many octets it has.
+#[inline(always)]
+fn head_front(octets: &[u8]) -> Option<(u8, u8, usize)>
+    ensures headed { IfSome result (λ h. IsHeaded h.0 h.1 h.2 octets.now) }
+    ensures stream { IfSome result (λ h. h.0 < 128) }
+    ensures within { IfSome result (λ h. (0 < h.2) × (h.2 ≤ length octets.now)) }
+{
+    let (stream, first) = lettered_number(b'S', octets)?;
+    let (_, rest) = octets.split_at(first);
+    let (function, second) = lettered_number(b'F', rest)?;
+    if is_of_word(rest[second]) {
+        return None;
+    }
+    Some((stream, function, first + second))
+}
+
+/// Takes the head of a message, if its stream and function have one or two digits each.
+#[inline(always)]
+pub fn next_head(tokens: &mut Tokens) -> Option<(u8, u8)>
+    ensures taken { IfSome result (λ h. IsHead h.0 h.1 (left tokens.old) (left tokens.new)) }
+    ensures stream { IfSome result (λ h. h.0 < 128) }
+    ensures shorter { OnSome result (octets_left tokens.new < octets_left tokens.old) }
+    ensures none { IfNone result (tokens.new ≡ tokens.old) }
+{
+    let (at, rest) = tokens.past_white();
+    let (stream, function, size) = head_front(rest)?;
+    tokens.place = at + size;
+    Some((stream, function))
+}
