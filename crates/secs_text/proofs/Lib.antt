@@ -2,6 +2,7 @@ pub mod TokenLists
 pub mod Views
 pub mod Texts
 pub mod Numbers
+pub mod HeadWords
 pub mod Hexadecimal
 pub mod Walks
 pub mod Completeness

@@ -1,13 +1,16 @@
 -- Numbers that words spell.
-use Rattle.std.proofs.Common.{◌≡◌, ℕ, zero, suc, ◌+◌, ◌-◌, ◌*◌, ◌<◌, ◌≤◌, Bool, true, false, ◌&&◌, List, [], ◌∷◌, length, take, get_or, refl, sym, ap, ◌∙◌, arith, if◌then◌else◌}
-use Rattle.std.specs.Prelude.{Some, None, nat_lt}
-use Rattle.std.specs.List.{list_all}
-use Rattle.std.specs.Str.Parse.{digits_value}
+use Rattle.std.proofs.Common.{◌≡◌, ℕ, zero, suc, ◌+◌, ◌-◌, ◌*◌, ◌%◌, ◌^◌, ◌<◌, ◌≤◌, Bool, true, false, ◌&&◌, List, [], ◌∷◌, length, take, get_or, refl, sym, ap, ◌∙◌, arith, if◌then◌else◌}
+use Rattle.std.specs.Prelude.{Some, None, nat_lt, nat_le, cond, ◌==◌}
+use Rattle.std.specs.List.{list_all, prefix_len}
+use Rattle.std.proofs.lemmas.List.Folds.{list_all_more, list_all_at}
+use Rattle.std.proofs.lemmas.List.Sums.{prefix_len_stops}
+use Rattle.std.proofs.Math.Nat.{pow-le-pow_right}
+use Rattle.std.specs.Str.Parse.{digits_value, AllDigits}
 use Rattle.std.specs.Char.{digit_value}
-use Rattle.std.proofs.lemmas.Int.Digits.{digits_value_more}
+use Rattle.std.proofs.lemmas.Int.Digits.{digits_value_more, digits_value-lt}
 use Rattle.std.proofs.lemmas.Str.Parse.{digits_value-take-le}
 use Rattle.std.proofs.lemmas.Str.{digit_value_digit}
-use Rattle.std.proofs.lemmas.Bool.{leb-true, le-ltb, lt-ltb}
+use Rattle.std.proofs.lemmas.Bool.{false_from_ne_true, eqb-true, leb-true, le-ltb, lt-ltb}
 use Rattle.std.specs.Int.{IsInRange}
 use Rattle.secs_text.specs.Octets.{is_digit}
 use Rattle.secs_text.specs.Words.{is_numeral, number_below}
@@ -33,8 +36,33 @@ digit_is c e =
     omega (arith, digit_value_digit c range)
 
 -- one more digit
-pub value_more : (w : List ℕ) (i : ℕ) → is_numeral w ≡ true → i < length w → digits_value 10 (take (i + 1) w) ≡ digits_value 10 (take i w) * 10 + (get_or w i 0 - 48)
-value_more w i numeral lt = digits_value_more 10 w i lt ∙ ap (λ d. digits_value 10 (take i w) * 10 + d) (digit_is (get_or w i 0) (all_at w i (numeral_digits w numeral) lt))
+pub value_more : (w : List ℕ) (i : ℕ) → is_digit (get_or w i 0) ≡ true → i < length w → digits_value 10 (take (i + 1) w) ≡ digits_value 10 (take i w) * 10 + (get_or w i 0 - 48)
+value_more w i digit lt = digits_value_more 10 w i lt ∙ ap (λ d. digits_value 10 (take i w) * 10 + d) (digit_is (get_or w i 0) digit)
+
+pub numeral_more : (w : List ℕ) (i : ℕ) → is_numeral w ≡ true → i < length w → digits_value 10 (take (i + 1) w) ≡ digits_value 10 (take i w) * 10 + (get_or w i 0 - 48)
+numeral_more w i numeral lt = value_more w i (all_at w i (numeral_digits w numeral) lt) lt
+
+pub all_more : (w : List ℕ) (i : ℕ) → list_all is_digit (take i w) ≡ true → is_digit (get_or w i 0) ≡ true → i < length w → list_all is_digit (take (i + 1) w) ≡ true
+all_more w i all digit lt = list_all_more is_digit w i 0 lt ∙ rw (all, digit) refl
+
+-- where the digits at the front end
+pub digits_end : (w : List ℕ) (i : ℕ) → list_all is_digit (take i w) ≡ true → i < length w → is_digit (get_or w i 0) ≡ false → i ≡ prefix_len is_digit w
+digits_end [] i all lt other = absurd (omega arith)
+digits_end (c ∷ w) zero all lt other = rw other refl
+digits_end (c ∷ w) (suc i) all lt other =
+    let parts = both (is_digit c) _ all in
+    let rest = digits_end w i parts.1 (omega arith) other in
+    rw parts.0 (omega (arith, rest))
+
+pub digits_alone : (w : List ℕ) → list_all is_digit w ≡ true → length w ≡ prefix_len is_digit w
+digits_alone [] all = refl
+digits_alone (c ∷ w) all =
+    let parts = both (is_digit c) _ all in
+    let rest = digits_alone w parts.1 in
+    rw parts.0 (omega (arith, rest))
+
+pub modulo_more : (number before after digit : ℕ) → number ≡ before % 2 ^ 64 → after ≡ before * 10 + digit → (number * 10 % 2 ^ 64 + digit) % 2 ^ 64 ≡ after % 2 ^ 64
+modulo_more number before after digit is more = omega arith
 
 nothing_unless : (b : Bool) (n : ℕ) → (if b && false then Some n else None) ≡ None
 nothing_unless true n = refl
@@ -61,3 +89,68 @@ just limit w k n numeral done is lt =
     let small : digits_value 10 w < limit = omega arith in
     let e : nat_lt (digits_value 10 w) limit ≡ true = lt-ltb (digits_value 10 w) limit small in
     rw (numeral, e) (ap (λ k. Some k) (sym all))
+
+-- digits at the front are digits
+first_digits : (c n : ℕ) (w : List ℕ) (b : Bool) → is_digit c ≡ b → list_all is_digit (take n w) ≡ true → list_all is_digit (take (cond b (1 + n) 0) (c ∷ w)) ≡ true
+first_digits c n w true is all = let e : 1 + n ≡ suc n = omega arith in rw (e, is) all
+first_digits c n w false is all = refl
+
+pub digits_before : (w : List ℕ) → list_all is_digit (take (prefix_len is_digit w) w) ≡ true
+digits_before [] = refl
+digits_before (c ∷ w) = first_digits c (prefix_len is_digit w) w (is_digit c) refl (digits_before w)
+
+pub digits_front : (w front : List ℕ) (n : ℕ) → n ≡ prefix_len is_digit w → front ≡ take n w → list_all is_digit front ≡ true
+digits_front w front n is e = ap (λ o. list_all is_digit o) (e ∙ ap (λ k. take k w) is) ∙ digits_before w
+
+pub all_digits : (w : List ℕ) → prefix_len is_digit w ≡ length w → list_all is_digit w ≡ true
+all_digits w e = ap (λ o. list_all is_digit o) (sym (take_all w (prefix_len is_digit w) (omega arith))) ∙ digits_before w
+
+-- what is no numeral
+pub no_octets : (w : List ℕ) → length w < 1 → is_numeral w ≡ false
+no_octets [] lt = refl
+no_octets (c ∷ w) lt = absurd (omega arith)
+
+pub other_octet : (w : List ℕ) → prefix_len is_digit w < length w → is_numeral w ≡ false
+other_octet [] lt = refl
+other_octet (c ∷ w) lt =
+    let e : list_all is_digit (c ∷ w) ≡ false = list_all_at is_digit (c ∷ w) (prefix_len is_digit (c ∷ w)) 0 lt (prefix_len_stops is_digit (c ∷ w) 0 lt) in
+    rw e refl
+
+and_false : (b : Bool) → b && false ≡ false
+and_false true = refl
+and_false false = refl
+
+pub not_empty : (c : ℕ) (w : List ℕ) → (length (c ∷ w) == 0) ≡ false
+not_empty c w = false_from_ne_true (length (c ∷ w) == 0) (λ e. let none = eqb-true (length (c ∷ w)) 0 e in absurd (omega arith))
+
+pub leading_zero : (w : List ℕ) → get_or w 0 0 ≡ 48 → 1 < length w → is_numeral w ≡ false
+leading_zero [] e lt = refl
+leading_zero (c ∷ []) e lt = absurd (omega arith)
+leading_zero (c ∷ d ∷ w) e lt =
+    let same : c ≡ 48 = e in
+    rw (same, not_empty d w) (and_false (list_all is_digit (48 ∷ d ∷ w)))
+
+pub no_number : (limit : ℕ) (w : List ℕ) → is_numeral w ≡ false → number_below limit w ≡ None
+unfolding number_below
+no_number limit w e = rw e refl
+
+-- so few digits that they spell a number below 2^64
+digits_are : (w : List ℕ) → list_all is_digit w ≡ true → AllDigits 10 w
+digits_are [] all = tt
+digits_are (c ∷ w) all =
+    let parts = both (is_digit c) _ all in
+    let value = digit_is c parts.0 in
+    let most = leb-true c 57 (both (nat_le 48 c) _ parts.0).1 in
+    (omega (arith, value, most), digits_are w parts.1)
+
+few_digits : (w : List ℕ) → list_all is_digit w ≡ true → length w ≤ 19 → digits_value 10 w < 2 ^ 64
+few_digits w all few =
+    let below = digits_value-lt 10 w (digits_are w all) in
+    let most : 10 ^ length w ≤ 10000000000000000000 = pow-le-pow_right (omega arith) few in
+    omega (arith, below, most)
+
+pub few_just : (w : List ℕ) (n : ℕ) → list_all is_digit w ≡ true → is_numeral w ≡ true → length w ≤ 19 → n ≡ digits_value 10 w % 2 ^ 64 → Some n ≡ number_below (2 ^ 64) w
+few_just w n all numeral few is =
+    let below = few_digits w all few in
+    let same : n ≡ digits_value 10 w = omega (arith, below, is) in
+    sym (just (2 ^ 64) w (length w) n numeral (omega arith) (same ∙ ap (λ o. digits_value 10 o) (sym (take_all w (length w) (omega arith)))) (omega (arith, below, same)))

@@ -1,32 +1,43 @@
 //! What words spell.
 
-ghost use Rattle.std.specs.Prelude.{◌≡◌, ◌≤◌, ◌<◌, ◌^◌, ◌*◌, length, option_and_then, IfSome};
+ghost use Rattle.std.specs.Prelude.{◌≡◌, ◌≤◌, ◌<◌, ◌^◌, ◌*◌, ◌%◌, ◌==◌, ◌&&◌, if◌then◌else◌, not, true, length, take, option_and_then, IfSome};
+ghost use Rattle.std.specs.List.{prefix_len, list_all};
+ghost use Rattle.std.specs.Str.Parse.{digits_value};
+ghost use Rattle.secs_text.specs.Octets.{is_digit};
 ghost use Rattle.std.specs.Int.Signed.{mag};
-ghost use Rattle.secs_text.specs.Words.{is_numeral, number_below, signed_below, hex_digit, octet_of_digits, hex_octets, sized, octet_of, float_of, truth_of, head_of_parts, head_word};
+ghost use Rattle.secs_text.specs.Words.{is_numeral, number_below, signed_below, hex_digit, octet_of_digits, hex_octets, sized, octet_of, float_of, truth_of, head_of_parts, head_word, bad_head, no_head};
 ghost use Rattle.secs_text.specs.SeenWord.{head_seen, IsStream};
 
-use crate::octet::{all_digits, digits_length};
+use crate::octet::{all_digits, is_digit};
 
-/// Whether the word is `0`, or a digit 1 to 9 and any digits.
-fn is_numeral(word: &[u8]) -> bool
-    ensures { result ≡ is_numeral word.now }
+/// The digits at the front of octets: how many they are, and the number that they spell, modulo 2^64.
+#[inline(always)]
+fn leading_number(octets: &[u8]) -> (usize, u64)
+    ensures length { result.0 ≡ prefix_len is_digit octets.now }
+    ensures within { result.0 ≤ length octets.now }
+    ensures number { result.1 ≡ digits_value 10 (take result.0 octets.now) % 2 ^ 64 }
 {
-    match word {
-        [] => false,
-        [first, rest @ ..] => all_digits(word) && (*first != b'0' || rest.is_empty()),
+    let mut number: u64 = 0;
+    for i in 0..octets.len() {
+        let octet = octets[i];
+        if !is_digit(octet) {
+            return (i, number);
+        }
+        number = number
+            .wrapping_mul(10)
+            .wrapping_add(u64::from(octet - b'0'));
     }
+    (octets.len(), number)
 }
 
-/// The number that a word spells, if it is below 2^64.
-#[tactic(auto, unfolding(crate::specs::Words::number_below))]
-pub fn number(word: &[u8]) -> Option<u64>
-    ensures { result ≡ number_below (2 ^ 64) word.now }
+/// The number that a numeral of any length spells, if it is below 2^64.
+#[inline(never)]
+fn long_number(numeral: &[u8]) -> Option<u64>
+    requires { is_numeral numeral.now ≡ true }
+    ensures { result ≡ number_below (2 ^ 64) numeral.now }
 {
-    if !is_numeral(word) {
-        return None;
-    }
     let mut number: u64 = 0;
-    for digit in word {
+    for digit in numeral {
         number = number
             .checked_mul(10)?
             .checked_add(u64::from(*digit - b'0'))?;
@@ -34,7 +45,51 @@ pub fn number(word: &[u8]) -> Option<u64>
     Some(number)
 }
 
+/// The number that digits spell, if they are a numeral and it is below 2^64. `number` is what they spell, modulo 2^64.
+#[inline(always)]
+fn number_of_digits(digits: &[u8], number: u64) -> Option<u64>
+    requires all { list_all is_digit digits.now ≡ true }
+    requires number { number ≡ digits_value 10 digits.now % 2 ^ 64 }
+    ensures { result ≡ number_below (2 ^ 64) digits.now }
+{
+    let [first, rest @ ..] = digits else {
+        return None;
+    };
+    if *first == b'0' && !rest.is_empty() {
+        return None;
+    }
+    if digits.len() > 19 {
+        return long_number(digits);
+    }
+    Some(number)
+}
+
+/// The number that digits spell, if they are a numeral and it is below the limit. `number` is what they spell, modulo
+/// 2^64.
+#[inline(always)]
+#[tactic(auto, unfolding(crate::specs::Words::number_below))]
+fn digits_below(limit: u64, digits: &[u8], number: u64) -> Option<u64>
+    requires all { list_all is_digit digits.now ≡ true }
+    requires number { number ≡ digits_value 10 digits.now % 2 ^ 64 }
+    ensures value { result ≡ number_below limit digits.now }
+    ensures below { IfSome result (λ n. n < limit) }
+{
+    number_of_digits(digits, number).filter(|n| *n < limit)
+}
+
+/// The number that a word spells, if it is below 2^64.
+pub fn number(word: &[u8]) -> Option<u64>
+    ensures { result ≡ number_below (2 ^ 64) word.now }
+{
+    let (digits, number) = leading_number(word);
+    if digits != word.len() {
+        return None;
+    }
+    number_of_digits(word, number)
+}
+
 /// The number that a word spells, if it is below the limit.
+#[inline(always)]
 #[tactic(auto, unfolding(crate::specs::Words::number_below))]
 pub fn number_below(limit: u64, word: &[u8]) -> Option<u64>
     ensures value { result ≡ number_below limit word.now }
@@ -150,30 +205,47 @@ pub enum HeadWord {
     NoHead,
 }
 
-/// The stream whose digits stand before this, and the function.
-fn head_of_parts(stream: &[u8], rest: &[u8]) -> HeadWord
+/// What a word is whose stream and function, as they are written, aren't both right.
+#[inline(never)]
+fn wrong_head(stream: &[u8], function: &[u8]) -> HeadWord
+    ensures value { head_seen result
+        ≡ (if not (length stream.now == 0) && not (length function.now == 0) && list_all is_digit function.now then bad_head else no_head) }
+    ensures in_range { IsStream result }
+{
+    if stream.is_empty() || function.is_empty() || !all_digits(function) {
+        HeadWord::NoHead
+    } else {
+        HeadWord::BadHead
+    }
+}
+
+/// The stream whose digits stand before this, and the function. `number` is what those digits spell, modulo 2^64.
+#[inline(always)]
+fn head_of_parts(stream: &[u8], number: u64, rest: &[u8]) -> HeadWord
+    requires all { list_all is_digit stream.now ≡ true }
+    requires number { number ≡ digits_value 10 stream.now % 2 ^ 64 }
     ensures value { head_seen result ≡ head_of_parts stream.now rest.now }
     ensures in_range { IsStream result }
 {
     match rest {
         [] => HeadWord::NoHead,
         [letter, function @ ..] => {
-            if *letter != b'F'
-                || stream.is_empty()
-                || function.is_empty()
-                || !all_digits(function)
-            {
+            if *letter != b'F' {
                 return HeadWord::NoHead;
             }
-            match (number_below(128, stream), number_below(256, function)) {
-                (Some(stream), Some(function)) => HeadWord::Head(stream as u8, function as u8),
-                _ => HeadWord::BadHead,
-            }
+            let Some(stream_number) = digits_below(128, stream, number) else {
+                return wrong_head(stream, function);
+            };
+            let Some(function_number) = number_below(256, function) else {
+                return wrong_head(stream, function);
+            };
+            HeadWord::Head(stream_number as u8, function_number as u8)
         }
     }
 }
 
 /// The stream and function that a word names.
+#[inline(always)]
 #[tactic(auto, unfolding(crate::specs::Words::head_word))]
 pub fn head_of(word: &[u8]) -> HeadWord
     ensures value { head_seen result ≡ head_word word.now }
@@ -185,8 +257,9 @@ pub fn head_of(word: &[u8]) -> HeadWord
             if *letter != b'S' {
                 return HeadWord::NoHead;
             }
-            let (stream, rest) = rest.split_at(digits_length(rest));
-            head_of_parts(stream, rest)
+            let (digits, number) = leading_number(rest);
+            let (stream, rest) = rest.split_at(digits);
+            head_of_parts(stream, number, rest)
         }
     }
 }
