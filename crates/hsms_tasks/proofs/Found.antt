@@ -14,18 +14,13 @@ use Rattle.hsms_frame.specs.Framing.{FrontAs}
 use Rattle.hsms_options.specs.declared.fault.ToolFault.{ToolFault}
 use Rattle.hsms_options.specs.declared.fault.ToolFault.TheVariants.{Refused, Device, Memory}
 use Rattle.hsms_tasks.specs.Ahead.{EndsAs, FindsNext, IsStopped, IsUnread, ReadsMore, TellsFound, is_open, of_reading}
-use Rattle.hsms_tasks.specs.Show.{IsRead, LeavesPart, Tells}
+use Rattle.hsms_tasks.specs.Show.{LeavesPart, Tells}
 
 pub if_ok_map : {T E : Type 0} (r : Result T E) (P Q : T → Type 0) → ((x : T) → P x → Q x) → IfOk r P → IfOk r Q
 if_ok_map (Ok x) P Q f h = f x h
 if_ok_map (Err e) P Q f h = tt
 
 -- ---- reading more
-
-pub unread : (input : List ℕ) (fault : ToolFault) (left : Option (List ℕ)) → IsRead fault → left ≡ Some input → IsUnread input fault left
-unread input (Refused words) left word is = absurd word
-unread input (Device given) left word is = is
-unread input Memory left word is = absurd word
 
 -- octets were read behind the others
 pub more_read : (ahead buffer now input : List ℕ) (n : ℕ) → now ≡ ahead ++ take n buffer → take n buffer ≡ take n input → ahead ++ input ≡ now ++ drop n input

@@ -7,4 +7,5 @@ pub mod Found
 pub mod Framed
 pub mod Givens
 pub mod Runs
+pub mod Tails
 pub mod Wholes

@@ -1,6 +1,7 @@
 //! Octets that are read ahead of the messages that are shown.
 
-ghost use Rattle.std.specs.Prelude.{◌≡◌, ◌≤◌, ◌<◌, Ok, true, false, codes, drop, length, vec_len, if◌then◌else◌, IfOk, IfErr};
+ghost use Rattle.std.specs.Prelude.{◌≡◌, ◌≤◌, ◌<◌, ◌+◌, ◌-◌, Ok, true, false, codes, drop, take, length, vec_len, nat_lt, if◌then◌else◌, IfOk, IfErr, OnOk};
+ghost use Rattle.std.specs.List.{slice_range};
 ghost use Rattle.hsms_frame.specs.Count.{next_count};
 ghost use Rattle.hsms_frame.specs.Device.{WhereTold, IsAtEnd};
 ghost use Rattle.hsms_tasks.specs.Ahead.{ReadsMore, IsUnread};
@@ -18,19 +19,20 @@ const SIZE: usize = 65536;
 /// Octets that were read and belong to no message that was shown. Contracts see them as a list.
 #[derive(Drop)]
 pub struct Ahead {
-    room: Vec<u8>,
     octets: Vec<u8>,
     place: usize,
+    end: usize,
 }
 
 impl Model for Ahead {
-    ghost use Rattle.std.specs.Prelude.{◌≡◌, ◌≤◌, List, ℕ, drop, vec_len};
+    ghost use Rattle.std.specs.Prelude.{◌≡◌, ◌≤◌, List, ℕ, vec_len};
+    ghost use Rattle.std.specs.List.{slice_range};
 
     ghost Value = { List ℕ };
 
-    ghost view = { λ a. drop a.place a.octets.items };
+    ghost view = { λ a. slice_range a.octets.items a.place a.end };
 
-    ghost invariant = { λ a. (vec_len a.room ≡ 65536) × (a.place ≤ vec_len a.octets) };
+    ghost invariant = { λ a. (a.place ≤ a.end) × (a.end ≤ vec_len a.octets) };
 }
 
 impl Ahead {
@@ -40,11 +42,11 @@ impl Ahead {
     pub fn new(alloc: Global) -> Result<Ahead, AllocError>
         ensures { IfOk result (λ ahead. ahead ≡ []) }
     {
-        let room = vec![in alloc; 0u8; SIZE]?;
+        let octets = vec![in alloc; 0u8; 2 * SIZE]?;
         Ok(Ahead {
-            room,
-            octets: Vec::new(alloc),
+            octets,
             place: 0,
+            end: 0,
         })
     }
 
@@ -53,7 +55,7 @@ impl Ahead {
     pub fn as_slice(&self) -> &[u8]
         ensures { result.now ≡ self.now }
     {
-        &self.octets[self.place..]
+        &self.octets[self.place..self.end]
     }
 
     /// Takes octets away from the front.
@@ -78,47 +80,62 @@ impl Ahead {
         ensures word { IfErr result (HasWord (codes "Read")) }
         ensures reads { CountsFailure (codes "Read") result (R.state source.old).failures (R.state source.new).failures }
     {
-        drop_front(&mut self.octets, self.place);
+        self.end = settle(&mut self.octets, self.place, self.end);
         self.place = 0;
-        read_behind(&mut self.octets, &mut self.room, source)
+        make_room(&mut self.octets, self.end)?;
+        let count = read_behind(&mut self.octets, self.end, source)?;
+        self.end += count;
+        Ok(count > 0)
     }
 }
 
-// Takes octets away from the front.
-fn drop_front(octets: &mut Vec<u8>, count: usize)
-    requires { count ≤ vec_len octets.old }
-    ensures { octets.new.items ≡ drop count octets.old.items }
+// Moves a part to the front, and says where it ends there.
+fn settle(octets: &mut [u8], place: usize, end: usize) -> usize
+    requires { (place ≤ end) × (end ≤ length octets.old) }
+    ensures length { length octets.new ≡ length octets.old }
+    ensures within { result ≤ length octets.new }
+    ensures front { take result octets.new ≡ slice_range octets.old place end }
 {
-    if count > 0 {
-        let rest = octets.len() - count;
-        octets.copy_within(count.., 0);
-        octets.truncate(rest);
+    if place > 0 {
+        octets.copy_within(place..end, 0);
     }
+    end - place
 }
 
-// Reads octets, and holds them behind the others.
+// Makes room for what is read at a time.
+fn make_room(octets: &mut Vec<u8>, end: usize) -> Result<(), AllocError>
+    requires { end ≤ vec_len octets.old }
+    ensures front { take end octets.new.items ≡ take end octets.old.items }
+    ensures longer { vec_len octets.old ≤ vec_len octets.new }
+    ensures room { OnOk result (end + 65536 ≤ vec_len octets.new) }
+{
+    if octets.len() - end < SIZE {
+        octets.resize(end + SIZE, 0)?;
+    }
+    Ok(())
+}
+
+// Reads octets to behind the others, and says how many: none only at the end of the input.
 fn read_behind<R: Source>(
     octets: &mut Vec<u8>,
-    room: &mut Vec<u8>,
+    end: usize,
     source: &mut R,
-) -> Result<bool, ToolFault>
-    requires { vec_len room.old ≡ 65536 }
-    ensures room { vec_len room.new ≡ 65536 }
-    ensures ok { IfOk result (λ is_more. WhereTold (R.state source.old).left
-        (λ input. ReadsMore octets.old.items input octets.new.items (R.state source.new).left)) }
-    ensures more { result ≡ Ok true → vec_len octets.old < vec_len octets.new }
-    ensures none { result ≡ Ok false → (octets.new.items ≡ octets.old.items) × IsAtEnd (R.state source.old).left }
-    ensures end { IfOk result (λ is_more. (R.state source.new).ends
-        ≡ (if is_more then (R.state source.old).ends else next_count (R.state source.old).ends)) }
+) -> Result<usize, ToolFault>
+    requires { end + 65536 ≤ vec_len octets.old }
+    ensures ok { IfOk result (λ count. WhereTold (R.state source.old).left
+        (λ input. ReadsMore (take end octets.old.items) input (take (end + count) octets.new.items) (R.state source.new).left)) }
+    ensures within { IfOk result (λ count. end + count ≤ vec_len octets.new) }
+    ensures none { result ≡ Ok 0 → IsAtEnd (R.state source.old).left }
+    ensures front { take end octets.new.items ≡ take end octets.old.items }
+    ensures longer { vec_len octets.old ≤ vec_len octets.new }
+    ensures end { IfOk result (λ count. (R.state source.new).ends
+        ≡ (if nat_lt 0 count then (R.state source.old).ends else next_count (R.state source.old).ends)) }
     ensures err { IfErr result (λ fault. WhereTold (R.state source.old).left
         (λ input. IsUnread input fault (R.state source.new).left)) }
     ensures word { IfErr result (HasWord (codes "Read")) }
     ensures reads { CountsFailure (codes "Read") result (R.state source.old).failures (R.state source.new).failures }
 {
-    let count = pull(source, room)?;
-    if count == 0 {
-        return Ok(false);
-    }
-    octets.extend_from_slice(&room[..count])?;
-    Ok(true)
+    let tail = &mut octets[end..];
+    let count = pull(source, tail)?;
+    Ok(count)
 }

@@ -1,6 +1,6 @@
 //! Octets in hexadecimal, as they stand in a line.
 
-ghost use Rattle.std.specs.Prelude.{◌≡◌, [], ◌∷◌};
+ghost use Rattle.std.specs.Prelude.{◌≡◌, ◌++◌, [], ◌∷◌};
 ghost use Rattle.hex.specs.Hex.{encode_lower};
 ghost use Rattle.hsms_tasks.specs.Line.{address_of};
 
@@ -54,4 +54,13 @@ pub fn address(header: Header) -> [u8; 14]
     let [i, j] = digits(n2);
     let [k, l] = digits(n3);
     [b' ', a, b, c, d, b' ', e, f, g, h, i, j, k, l]
+}
+
+/// Session ID and system bytes, each after a space, and the end of a line.
+#[inline(always)]
+pub fn address_and_end(header: Header) -> [u8; 15]
+    ensures { result ≡ address_of header ++ 10 ∷ [] }
+{
+    let [a, b, c, d, e, f, g, h, i, j, k, l, m, n] = address(header);
+    [a, b, c, d, e, f, g, h, i, j, k, l, m, n, b'\n']
 }

@@ -4,6 +4,7 @@ ghost use Rattle.std.specs.Prelude.{◌≡◌, ◌≤◌, ◌++◌, [], ◌∷�
 ghost use Rattle.hsms_tasks.specs.Given.{Adds};
 ghost use Rattle.hsms_tasks.specs.Line.{LineOf, address_of, text_of};
 
+use crate::digits::address_and_end;
 use crate::notation::give_data;
 use crate::parts::{give_front, give_number, give_text};
 use hsms_frame::{Header, Kind, kind};
@@ -31,12 +32,18 @@ pub fn give_line<O: Output>(out: &mut O, block: &mut Block, header: Header, text
     }
 }
 
-// Of a message that is told by its name, session ID and system bytes.
+// Of a message that is told by its name, session ID and system bytes. Where it has no text, the last of these and the
+// line's end are given together.
 #[inline(always)]
 fn give_bare<O: Output>(out: &mut O, name: &[u8], header: Header, text: &[u8])
     ensures { Adds (O.Given out.old) (O.Given out.new)
         (name.now ++ address_of header ++ [] ++ text_of text.now ++ 10 ∷ []) }
 {
+    if text.is_empty() {
+        out.give(name);
+        out.give(&address_and_end(header));
+        return;
+    }
     give_front(out, name, header);
     give_text(out, text);
     out.give(b"\n");

@@ -1,33 +1,18 @@
-use Rattle.std.proofs.Common.{◌++◌, ◌∙◌, ℕ, ap, drop, sym, take}
-use Rattle.std.proofs.lemmas.Result.{err_from_is_err_and}
-use Rattle.std.proofs.lemmas.List.{take-append-drop}
-use Rattle.hsms_tasks.proofs.Found.{more_read, unread}
-use Rattle.hsms_tasks.proofs.Wholes.{rewritten}
+use Rattle.std.proofs.Common.{◌≤◌, ◌+◌, ◌++◌, ◌∙◌, ℕ, List, length, take, drop, ap, arith}
+use Rattle.std.proofs.lemmas.List.{length-take-le}
+use Rattle.hsms_tasks.proofs.Found.{more_read}
+use Rattle.hsms_tasks.proofs.Tails.{front_of_written}
 use Rattle.hsms_tasks.proofs.ahead.read_behind.Goals as goal
-
-pub returns-in_err-count-clause-err : goal.returns-in_err-count-clause-err
-returns-in_err-count-clause-err g c =
-    let p = err_from_is_err_and c.from_residual.result c.from_residual.ensures.1 in
-    rw (p.1, p.2) (λ input told. unread input _ _ c.in_err-count.ensures.word (c.in_err-count.ensures.none_lost input told))
-
-pub returns-then-count-eq0-clause-ok : goal.returns-then-count-eq0-clause-ok
-returns-then-count-eq0-clause-ok g c = λ input told.
-    let t = c.in_ok-count.ensures.octets input told in
-    (drop c.in_ok-count.count input, t.2, ap (λ (n : ℕ). c.args.octets.now.items ++ drop n input) (sym c.if-count-eq0.true))
-
-pub returns-in_err-extend_from_slice-clause-err : goal.returns-in_err-extend_from_slice-clause-err
-returns-in_err-extend_from_slice-clause-err g c =
-    let p = err_from_is_err_and c.from_residual-in_err-extend_from_slice.result c.from_residual-in_err-extend_from_slice.ensures.1 in
-    rw (p.1, p.2) (λ input told.
-    let t = c.in_ok-count.ensures.octets input told in
-    let n = c.in_ok-count.count in
-    (take n input, drop n input, sym (take-append-drop n input), t.2))
 
 pub returns-clause-ok : goal.returns-clause-ok
 returns-clause-ok g c = λ input told.
     let t = c.in_ok-count.ensures.octets input told in
     let n = c.in_ok-count.count in
-    let before = c.args.octets.now.items in
-    let now = c.in_ok-extend_from_slice.ensures.items ∙ ap (λ xs. before ++ take n xs) c.deref.ensures.value
-    ∙ ap (λ xs. before ++ xs) (ap (take n) (rewritten c.args.room.now.len c.pull.new.into c.args.room.now.items (c.in_ok-count.ensures.len ∙ c.deref_mut.ensures.len))) in
-    (drop n input, t.2, more_read before c.pull.new.into c.extend_from_slice.new.self.items input n now t.1)
+    let end = c.args.end in
+    let whole = c.deref_mut.result.now in
+    let part = c.pull.new.into in
+    let fits : end ≤ length whole = omega (arith, c.requires, c.deref_mut.ensures.len) in
+    let short : end + n ≤ c.args.octets.now.len = omega (arith, fits, c.deref_mut.ensures.len, c.in_ok-count.ensures.bound, c.in_ok-count.ensures.len) in
+    let now = front_of_written (take end whole) part _ _ end n c.args.octets.now.len (length-take-le end whole fits) c.in_ok-count.ensures.bound short
+    ∙ ap (λ (xs : List ℕ). take end xs ++ take n part) c.deref_mut.ensures.value in
+    (drop n input, t.2, more_read (take end c.args.octets.now.items) part _ input n now t.1)
