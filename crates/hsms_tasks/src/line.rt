@@ -42,8 +42,17 @@ fn give_bare<O: Output>(out: &mut O, name: &[u8], header: Header, text: &[u8])
     if text.is_empty() {
         out.give(name);
         out.give(&address_and_end(header));
-        return;
+    } else {
+        give_bare_and_text(out, name, header, text);
     }
+}
+
+// Of such a message with a text.
+#[inline(never)]
+fn give_bare_and_text<O: Output>(out: &mut O, name: &[u8], header: Header, text: &[u8])
+    ensures { Adds (O.Given out.old) (O.Given out.new)
+        (name.now ++ address_of header ++ [] ++ text_of text.now ++ 10 ∷ []) }
+{
     give_front(out, name, header);
     give_text(out, text);
     out.give(b"\n");
