@@ -13,7 +13,7 @@ use hsms_options::ToolFault;
 use std::alloc::{AllocError, Global};
 use std::marker::Model;
 
-// How many octets are read at a time, at most.
+// How many octets are asked for at a time, at least.
 const SIZE: usize = 65536;
 
 /// Octets that were read and belong to no message that was shown. Contracts see them as a list.

@@ -29,9 +29,13 @@ impl<W: Write + Drop> Held<W> {
         if self.has_failed {
             return Err(Error::from(ErrorKind::BrokenPipe));
         }
-        let written = self.output.write(from);
-        self.has_failed = written.is_err();
-        written
+        match self.output.write(from) {
+            Ok(count) => Ok(count),
+            Err(fault) => {
+                self.has_failed = true;
+                Err(fault)
+            }
+        }
     }
 
     fn flush(&mut self) -> io::Result<()> {

@@ -103,7 +103,7 @@ opening_here at digit w rest is d =
 one_digit : (digit : ℕ) → is_digit digit ≡ true → (is_numeral (digit ∷ []) ≡ true) × (digits_value 10 (digit ∷ []) ≡ digit - 48)
 one_digit digit d =
     let numeral : is_numeral (digit ∷ []) ≡ true = and_true _ _ (and_true _ _ d refl) (or_last (not (digit == 0x30))) in
-    (numeral, value_more (digit ∷ []) 0 numeral (omega arith) ∙ alone (digit - 48))
+    (numeral, value_more (digit ∷ []) 0 d (omega arith) ∙ alone (digit - 48))
   where
     alone : (n : ℕ) → 0 + n ≡ n
     alone n = omega arith
@@ -208,7 +208,7 @@ small_of_two o le first some second high high_too last =
     let tens = get_or o 0 0 in
     let ones = get_or o 1 0 in
     let numeral : is_numeral (tens ∷ ones ∷ []) ≡ true = and_true _ _ (and_true _ _ first (and_true _ _ second refl)) (ap (λ b. not b || false) some) in
-    let more = value_more (tens ∷ ones ∷ []) 1 numeral (omega arith) in
+    let more = value_more (tens ∷ ones ∷ []) 1 second (omega arith) in
     let one = (one_digit tens first).1 in
     record {
       digits = tens ∷ ones ∷ [];
