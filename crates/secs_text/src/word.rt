@@ -221,7 +221,8 @@ pub enum HeadWord {
 #[inline(never)]
 fn wrong_head(stream: &[u8], function: &[u8]) -> HeadWord
     ensures value { head_seen result
-        ≡ (if not (length stream.now == 0) && not (length function.now == 0) && list_all is_digit function.now then bad_head else no_head) }
+        ≡ (if not (length stream.now == 0) && not (length function.now == 0) && list_all is_digit function.now
+        then bad_head else no_head) }
     ensures in_range { IsStream result }
 {
     if stream.is_empty() || function.is_empty() || !all_digits(function) {
