@@ -23,7 +23,8 @@ use Rattle.secs_text.specs.Token as math
 use Rattle.secs_text.specs.Token.{Placed, front, whole, with_front, tokens_after, tokens_from}
 use Rattle.secs_text.specs.TypeName.{format_named}
 use Rattle.secs_text.specs.Words.{is_numeral, number_below, head, head_word, head_of_parts}
-use Rattle.secs_text.proofs.Numbers.{just, take_all, value_more, both, numeral_digits}
+use Rattle.secs_text.proofs.Fronts.{both}
+use Rattle.secs_text.proofs.Numbers.{just, take_all, value_more, numeral_digits}
 use Rattle.secs_text.proofs.PrintedWords.{and_true, of_word_digit, all_of_word}
 use Rattle.secs_text.proofs.Tokenized.{word_here, prefix_front, take_front, drop_front}
 

@@ -1,9 +1,11 @@
 pub mod TokenLists
 pub mod Views
 pub mod Texts
+pub mod Fronts
 pub mod Numbers
 pub mod HeadWords
 pub mod Hexadecimal
+pub mod HexDigits
 pub mod Walks
 pub mod Completeness
 pub mod ItemLeads

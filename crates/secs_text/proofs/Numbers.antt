@@ -2,7 +2,7 @@
 use Rattle.std.proofs.Common.{◌≡◌, ℕ, zero, suc, ◌+◌, ◌-◌, ◌*◌, ◌%◌, ◌^◌, ◌<◌, ◌≤◌, Bool, true, false, ◌&&◌, List, [], ◌∷◌, length, take, get_or, refl, sym, ap, ◌∙◌, arith, if◌then◌else◌}
 use Rattle.std.specs.Prelude.{Some, None, nat_lt, nat_le, cond, ◌==◌}
 use Rattle.std.specs.List.{list_all, prefix_len}
-use Rattle.std.proofs.lemmas.List.Folds.{list_all_more, list_all_at}
+use Rattle.std.proofs.lemmas.List.Folds.{list_all_at}
 use Rattle.std.proofs.lemmas.List.Sums.{prefix_len_stops}
 use Rattle.std.proofs.Math.Nat.{pow-le-pow_right}
 use Rattle.std.specs.Str.Parse.{digits_value, AllDigits}
@@ -14,11 +14,7 @@ use Rattle.std.proofs.lemmas.Bool.{false_from_ne_true, eqb-true, leb-true, le-lt
 use Rattle.std.specs.Int.{IsInRange}
 use Rattle.secs_text.specs.Octets.{is_digit}
 use Rattle.secs_text.specs.Words.{is_numeral, number_below}
-
-pub both : (a b : Bool) → a && b ≡ true → (a ≡ true) × (b ≡ true)
-both true true e = (refl, refl)
-both true false e = cc
-both false b e = cc
+use Rattle.secs_text.proofs.Fronts.{both}
 
 all_at : (w : List ℕ) (i : ℕ) → list_all is_digit w ≡ true → i < length w → is_digit (get_or w i 0) ≡ true
 all_at [] i all lt = absurd (omega arith)
@@ -29,7 +25,7 @@ pub numeral_digits : (w : List ℕ) → is_numeral w ≡ true → list_all is_di
 numeral_digits [] e = cc
 numeral_digits (c ∷ w) e = (both _ _ e).0
 
-pub digit_is : (c : ℕ) → is_digit c ≡ true → digit_value c ≡ c - 48
+digit_is : (c : ℕ) → is_digit c ≡ true → digit_value c ≡ c - 48
 digit_is c e =
     let parts = both _ _ e in
     let range : IsInRange 48 57 c = (leb-true 48 c parts.0, leb-true c 57 parts.1) in
@@ -41,25 +37,6 @@ value_more w i digit lt = digits_value_more 10 w i lt ∙ ap (λ d. digits_value
 
 pub numeral_more : (w : List ℕ) (i : ℕ) → is_numeral w ≡ true → i < length w → digits_value 10 (take (i + 1) w) ≡ digits_value 10 (take i w) * 10 + (get_or w i 0 - 48)
 numeral_more w i numeral lt = value_more w i (all_at w i (numeral_digits w numeral) lt) lt
-
-pub all_more : (w : List ℕ) (i : ℕ) → list_all is_digit (take i w) ≡ true → is_digit (get_or w i 0) ≡ true → i < length w → list_all is_digit (take (i + 1) w) ≡ true
-all_more w i all digit lt = list_all_more is_digit w i 0 lt ∙ rw (all, digit) refl
-
--- where the digits at the front end
-pub digits_end : (w : List ℕ) (i : ℕ) → list_all is_digit (take i w) ≡ true → i < length w → is_digit (get_or w i 0) ≡ false → i ≡ prefix_len is_digit w
-digits_end [] i all lt other = absurd (omega arith)
-digits_end (c ∷ w) zero all lt other = rw other refl
-digits_end (c ∷ w) (suc i) all lt other =
-    let parts = both (is_digit c) _ all in
-    let rest = digits_end w i parts.1 (omega arith) other in
-    rw parts.0 (omega (arith, rest))
-
-pub digits_alone : (w : List ℕ) → list_all is_digit w ≡ true → length w ≡ prefix_len is_digit w
-digits_alone [] all = refl
-digits_alone (c ∷ w) all =
-    let parts = both (is_digit c) _ all in
-    let rest = digits_alone w parts.1 in
-    rw parts.0 (omega (arith, rest))
 
 pub modulo_more : (number before after digit : ℕ) → number ≡ before % 2 ^ 64 → after ≡ before * 10 + digit → (number * 10 % 2 ^ 64 + digit) % 2 ^ 64 ≡ after % 2 ^ 64
 modulo_more number before after digit is more = omega arith

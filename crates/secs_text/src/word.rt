@@ -5,13 +5,14 @@ ghost use Rattle.std.specs.List.{prefix_len, list_all};
 ghost use Rattle.std.specs.Str.Parse.{digits_value};
 ghost use Rattle.secs_text.specs.Octets.{is_digit};
 ghost use Rattle.std.specs.Int.Signed.{mag};
-ghost use Rattle.secs_text.specs.Words.{is_numeral, number_below, signed_below, hex_digit, octet_of_digits, hex_octets, sized, octet_of, float_of, truth_of, head_of_parts, head_word, bad_head, no_head};
+ghost use Rattle.secs_text.specs.Words.{is_numeral, number_below, signed_below, octet_of_digits, hex_octets, sized, octet_of, float_of, truth_of, head_of_parts, head_word, bad_head, no_head};
 ghost use Rattle.secs_text.specs.SeenWord.{head_seen, IsStream};
 
 use crate::octet::{all_digits, is_digit};
 
 /// The digits at the front of octets: how many they are, and the number that they spell, modulo 2^64.
 #[inline(always)]
+#[tactic(auto, using(crate::proofs::Fronts::front_ends, crate::proofs::Fronts::front_is_whole))]
 fn leading_number(octets: &[u8]) -> (usize, u64)
     ensures length { result.0 ≡ prefix_len is_digit octets.now }
     ensures within { result.0 ≤ length octets.now }
@@ -119,16 +120,34 @@ pub fn signed_below(half: u64, word: &[u8]) -> Option<i64>
     }
 }
 
-fn hex_digit(octet: u8) -> Option<u8>
-    ensures value { result ≡ hex_digit octet }
-    ensures below { IfSome result (λ n. n < 16) }
+// What each octet is as a hexadecimal digit, and 256 for what is none: two of which one is 256 make more than 255.
+static HEX_DIGITS: [u16; 256] = [
+    256, 256, 256, 256, 256, 256, 256, 256, 256, 256, 256, 256, 256, 256, 256, 256, 256, 256, 256,
+    256, 256, 256, 256, 256, 256, 256, 256, 256, 256, 256, 256, 256, 256, 256, 256, 256, 256, 256,
+    256, 256, 256, 256, 256, 256, 256, 256, 256, 256, 0, 1, 2, 3, 4, 5, 6, 7, 8, 9, 256, 256, 256,
+    256, 256, 256, 256, 10, 11, 12, 13, 14, 15, 256, 256, 256, 256, 256, 256, 256, 256, 256, 256,
+    256, 256, 256, 256, 256, 256, 256, 256, 256, 256, 256, 256, 256, 256, 256, 256, 10, 11, 12, 13,
+    14, 15, 256, 256, 256, 256, 256, 256, 256, 256, 256, 256, 256, 256, 256, 256, 256, 256, 256,
+    256, 256, 256, 256, 256, 256, 256, 256, 256, 256, 256, 256, 256, 256, 256, 256, 256, 256, 256,
+    256, 256, 256, 256, 256, 256, 256, 256, 256, 256, 256, 256, 256, 256, 256, 256, 256, 256, 256,
+    256, 256, 256, 256, 256, 256, 256, 256, 256, 256, 256, 256, 256, 256, 256, 256, 256, 256, 256,
+    256, 256, 256, 256, 256, 256, 256, 256, 256, 256, 256, 256, 256, 256, 256, 256, 256, 256, 256,
+    256, 256, 256, 256, 256, 256, 256, 256, 256, 256, 256, 256, 256, 256, 256, 256, 256, 256, 256,
+    256, 256, 256, 256, 256, 256, 256, 256, 256, 256, 256, 256, 256, 256, 256, 256, 256, 256, 256,
+    256, 256, 256, 256, 256, 256, 256, 256, 256, 256, 256, 256, 256, 256, 256, 256, 256, 256, 256,
+    256, 256, 256,
+];
+
+/// The octet that two hexadecimal digits spell.
+#[inline(always)]
+pub fn octet_of_digits(high: u8, low: u8) -> Option<u8>
+    ensures { result ≡ octet_of_digits high low }
 {
-    match octet {
-        b'0'..=b'9' => Some(octet - b'0'),
-        b'A'..=b'F' => Some(octet - 0x37),
-        b'a'..=b'f' => Some(octet - 0x57),
-        _ => None,
+    let number = 16 * HEX_DIGITS[high as usize] + HEX_DIGITS[low as usize];
+    if number > 255 {
+        return None;
     }
+    Some(number as u8)
 }
 
 /// The one octet that a word spells.
@@ -137,7 +156,7 @@ pub fn octet_of(word: &[u8]) -> Option<u8>
     ensures { result ≡ octet_of word.now }
 {
     match word {
-        [b'0', b'x', high, low] => Some(16 * hex_digit(*high)? + hex_digit(*low)?),
+        [b'0', b'x', high, low] => octet_of_digits(*high, *low),
         _ => None,
     }
 }
@@ -152,13 +171,6 @@ pub fn truth_of(word: &[u8]) -> Option<bool>
         [b'F'] => Some(false),
         _ => None,
     }
-}
-
-/// The octet that two hexadecimal digits spell.
-pub fn octet_of_digits(high: u8, low: u8) -> Option<u8>
-    ensures { result ≡ octet_of_digits high low }
-{
-    Some(16 * hex_digit(high)? + hex_digit(low)?)
 }
 
 /// The octets that digits spell, two digits for each.
@@ -209,7 +221,8 @@ pub enum HeadWord {
 #[inline(never)]
 fn wrong_head(stream: &[u8], function: &[u8]) -> HeadWord
     ensures value { head_seen result
-        ≡ (if not (length stream.now == 0) && not (length function.now == 0) && list_all is_digit function.now then bad_head else no_head) }
+        ≡ (if not (length stream.now == 0) && not (length function.now == 0) && list_all is_digit function.now
+        then bad_head else no_head) }
     ensures in_range { IsStream result }
 {
     if stream.is_empty() || function.is_empty() || !all_digits(function) {
