@@ -9,11 +9,7 @@ use Rattle.secs_text.specs.Token as math
 use Rattle.secs_text.specs.Token.{tokens_from, tokens_after}
 use Rattle.secs_text.specs.Words.{octet_of, octets_of, octet_of_digits, octet_from, hex_digit}
 use Rattle.secs_text.specs.OctetWord.{IsOctetWord}
-
-both : (a b : Bool) → a && b ≡ true → (a ≡ true) × (b ≡ true)
-both true true e = (refl, refl)
-both true false e = cc
-both false b e = cc
+use Rattle.secs_text.proofs.Fronts.{both}
 
 -- a digit may stand in a word
 letter_of : (c first last : ℕ) → 0x41 ≤ first → last ≤ 0x5A → nat_le first c && nat_le c last ≡ true → nat_le 0x41 c && nat_le c 0x5A ≡ true
