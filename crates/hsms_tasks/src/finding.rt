@@ -1,9 +1,10 @@
 //! The next message of an input that is read ahead.
 
-ghost use Rattle.std.specs.Prelude.{◌≡◌, ◌++◌, ℕ, codes, is_some, if◌then◌else◌, IfOk, IfErr, IfSome};
+ghost use Rattle.std.specs.Prelude.{◌≡◌, ◌≤◌, ◌++◌, ℕ, codes, drop, is_some, length, take, if◌then◌else◌, IfOk, IfErr, IfSome};
 ghost use Rattle.hsms_frame.specs.Count.{next_count};
 ghost use Rattle.hsms_frame.specs.Device.{WhereTold};
 ghost use Rattle.hsms_frame.specs.Framing.{IsFrontOf};
+ghost use Rattle.hsms_frame.specs.Header.{IsHeader, header_octets};
 ghost use Rattle.hsms_tasks.specs.Ahead.{FindsNext, TellsFound, EndsAs, is_open, of_reading};
 ghost use Rattle.hsms_tasks.specs.Show.{CountsFailure, HasWord, Tells};
 
@@ -33,6 +34,19 @@ pub fn next_message<R: Source>(
         Some(message) => Ok(Some(message)),
         None => read_message(alloc, source, ahead, max),
     }
+}
+
+/// The header of a message at the front of octets.
+#[inline(always)]
+pub fn header_at_front(octets: &[u8]) -> Header
+    requires { 14 ≤ length octets.now }
+    ensures { (header : Header) → IsHeader header → header_octets header ≡ take 10 (drop 4 octets.now) → result ≡ header }
+{
+    let (_, behind) = octets.split_at(4);
+    let Some((header, _)) = behind.split_first_chunk::<10>() else {
+        unreachable!()
+    };
+    Header::of(*header)
 }
 
 // The message at the front of octets, if it is there whole.

@@ -4,7 +4,7 @@ ghost use Rattle.std.specs.Prelude.{◌≡◌, ◌≤◌, ◌++◌, [], ◌∷�
 ghost use Rattle.hsms_tasks.specs.Given.{Adds};
 ghost use Rattle.hsms_tasks.specs.Line.{LineOf, address_of, text_of};
 
-use crate::digits::address_and_end;
+use crate::digits::{address, address_and_end};
 use crate::notation::give_data;
 use crate::parts::{give_front, give_number, give_text};
 use hsms_frame::{Header, Kind, kind};
@@ -43,17 +43,18 @@ fn give_bare<O: Output>(out: &mut O, name: &[u8], header: Header, text: &[u8])
         out.give(name);
         out.give(&address_and_end(header));
     } else {
-        give_bare_and_text(out, name, header, text);
+        give_bare_and_text(out, name, &address(header), text);
     }
 }
 
-// Of such a message with a text.
+// Of such a message with a text, whose session ID and system bytes are told by these octets.
 #[inline(never)]
-fn give_bare_and_text<O: Output>(out: &mut O, name: &[u8], header: Header, text: &[u8])
+fn give_bare_and_text<O: Output>(out: &mut O, name: &[u8], address: &[u8], text: &[u8])
     ensures { Adds (O.Given out.old) (O.Given out.new)
-        (name.now ++ address_of header ++ [] ++ text_of text.now ++ 10 ∷ []) }
+        (name.now ++ address.now ++ [] ++ text_of text.now ++ 10 ∷ []) }
 {
-    give_front(out, name, header);
+    out.give(name);
+    out.give(address);
     give_text(out, text);
     out.give(b"\n");
 }

@@ -7,7 +7,7 @@ ghost use Rattle.hsms_tasks.specs.Ahead.{left_after};
 ghost use Rattle.hsms_tasks.specs.Show.{Shows, ShowsNext, IsEnded, CountsFailure, IsOfInput, IsReadOrWrite, IsReadWriteOrEndless, IsWrite};
 
 use crate::ahead::Ahead;
-use crate::finding::next_message;
+use crate::finding::{header_at_front, next_message};
 use crate::held::Line;
 use hsms_frame::{Sink, Source, give_all};
 use hsms_options::ToolFault;
@@ -98,10 +98,13 @@ fn show_next<R: Source, W: Sink>(
     ensures reads { CountsFailure (codes "Read") result (R.state source.old).failures (R.state source.new).failures }
     ensures writes { CountsFailure (codes "Write") result (W.state sink.old).failures (W.state sink.new).failures }
 {
-    let Some((header, size)) = next_message(alloc, source, ahead, max)? else {
+    let Some((_found, size)) = next_message(alloc, source, ahead, max)? else {
         return Ok(false);
     };
-    let text = &ahead.as_slice()[14..14 + size];
+    let message = ahead.as_slice();
+    // Read once more, since a header that is handed on with a size goes through memory.
+    let header = header_at_front(message);
+    let text = &message[14..14 + size];
     let octets = line.show(block, header, text, depth)?;
     put(sink, octets)?;
     ahead.pass(14 + size);

@@ -29,11 +29,12 @@ impl<W: Write + Drop> Held<W> {
         if self.has_failed {
             return Err(Error::from(ErrorKind::BrokenPipe));
         }
-        match self.output.write(from) {
+        let written = self.output.write(from);
+        match written {
             Ok(count) => Ok(count),
-            Err(fault) => {
+            Err(_) => {
                 self.has_failed = true;
-                Err(fault)
+                written
             }
         }
     }
