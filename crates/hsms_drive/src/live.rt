@@ -91,22 +91,22 @@ fn tell_and_add<D: Desk>(
     told: &mut Told,
     input: &Input,
 ) -> Result<(), anyhow::Error> {
-    match tell(alloc, end, input) {
+    match tell(end, input) {
         Ok(entries) => told.accept(&lines_of(alloc, &entries)?),
         Err(fault) => told.refuse(alloc, &fault),
     }
 }
 
 /// Tells an end one input.
-fn tell<D: Desk>(alloc: Global, end: &mut End<D>, input: &Input) -> Result<Vec<Entry>, EndFault> {
+fn tell<D: Desk>(end: &mut End<D>, input: &Input) -> Result<Vec<Entry>, EndFault> {
     match input {
-        Input::Start(now) => end.start(alloc, *now),
-        Input::Tick(now) => end.tick(alloc, *now),
-        Input::Bytes(octets) => end.bytes(alloc, octets),
-        Input::Send(message) => end.send(alloc, message),
-        Input::Linktest => end.linktest(alloc),
-        Input::Separate => end.separate(alloc),
-        Input::Lost => end.lost(alloc),
+        Input::Start(now) => end.start(*now),
+        Input::Tick(now) => end.tick(*now),
+        Input::Bytes(octets) => end.bytes(octets),
+        Input::Send(message) => end.send(message),
+        Input::Linktest => end.linktest(),
+        Input::Separate => end.separate(),
+        Input::Lost => end.lost(),
     }
 }
 

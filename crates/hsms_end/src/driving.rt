@@ -51,7 +51,7 @@ pub fn drive<D: Desk + Drop>(
     let mut end = End::new(alloc, settings, desk, first_system);
     let mut entries = Vec::new(alloc);
     for input in inputs {
-        match tell(&mut end, alloc, input) {
+        match tell(&mut end, input) {
             Ok(mut new) => entries.append(&mut new)?,
             Err(fault) => {
                 if fault == EndFault::Memory {
@@ -65,18 +65,18 @@ pub fn drive<D: Desk + Drop>(
 }
 
 /// Tells an end one input.
-fn tell<D: Desk>(end: &mut End<D>, alloc: Global, input: &Input) -> Result<Vec<Entry>, EndFault>
+fn tell<D: Desk>(end: &mut End<D>, input: &Input) -> Result<Vec<Entry>, EndFault>
     ensures { MatchResult result
         (λ entries. Accepts D.answers end.old (told input.now) entries.items end.new)
         (λ fault. Refuses end.old (told input.now) fault end.new) }
 {
     match input {
-        Input::Start(now) => end.start(alloc, *now),
-        Input::Tick(now) => end.tick(alloc, *now),
-        Input::Bytes(octets) => end.bytes(alloc, octets),
-        Input::Send(message) => end.send(alloc, message),
-        Input::Linktest => end.linktest(alloc),
-        Input::Separate => end.separate(alloc),
-        Input::Lost => end.lost(alloc),
+        Input::Start(now) => end.start(*now),
+        Input::Tick(now) => end.tick(*now),
+        Input::Bytes(octets) => end.bytes(octets),
+        Input::Send(message) => end.send(message),
+        Input::Linktest => end.linktest(),
+        Input::Separate => end.separate(),
+        Input::Lost => end.lost(),
     }
 }

@@ -16,6 +16,7 @@ use std::marker::Model;
 /// was refused, and from then on each call but the readers answers `Spent`.
 #[derive(Drop)]
 pub struct End<D> {
+    alloc: Global,
     desk: D,
     state: State,
     spent: bool,
@@ -44,12 +45,13 @@ impl<D: Desk> End<D> {
     ghost use Rattle.hsms_end.specs.Turn.{start, tick, bytes, send, linktest, separate, lost};
 
     /// An end that was told nothing yet. Its own system bytes are counted from the first number on (SEMI E37, section
-    /// 8, message format). Takes no memory.
+    /// 8, message format). Takes no memory; the calls take theirs from this allocator.
     #[tactic(auto, unfolding(hsms_machine::specs::Entry::connection_of))]
     pub fn new(alloc: Global, settings: Settings, desk: D, first_system: u32) -> End<D>
         ensures { result ≡ record { desk = desk; known = untold settings first_system } }
     {
         End {
+            alloc,
             desk,
             state: State {
                 settings,
@@ -96,7 +98,7 @@ impl<D: Desk> End<D> {
 
     /// The connection came up at this moment, in milliseconds. An active end asks for a session by Select.req (SEMI
     /// E37, section 7, select procedure). Faults: `Spent`; `NotUp`, where it was up before; `Memory`.
-    pub fn start(&mut self, alloc: Global, now: u64) -> Result<Vec<Entry>, EndFault>
+    pub fn start(&mut self, now: u64) -> Result<Vec<Entry>, EndFault>
         ensures { MatchResult result
             (λ entries. Accepts D.answers self.old (start now) entries.items self.new)
             (λ fault. Refuses self.old (start now) fault self.new) }
@@ -108,6 +110,7 @@ impl<D: Desk> End<D> {
             return Err(EndFault::NotUp);
         }
         self.spent = true;
+        let alloc = self.alloc;
         let mut entries = Vec::new(alloc);
         match self.state.start(alloc, &mut entries, now) {
             Ok(()) => {
@@ -121,7 +124,7 @@ impl<D: Desk> End<D> {
     /// Time has gone on to this moment, in milliseconds, if it isn't past it. Each own primary that is overdue by T3 is
     /// logged. Where T6, T7 or T8 has run out the connection is cut; else equipment tells of each expiry by S9F9 (SEMI
     /// E37, section 10, parameters; SEMI E5, section 8, transactions). Faults: `Spent`, `NotUp`, `Memory`.
-    pub fn tick(&mut self, alloc: Global, now: u64) -> Result<Vec<Entry>, EndFault>
+    pub fn tick(&mut self, now: u64) -> Result<Vec<Entry>, EndFault>
         ensures { MatchResult result
             (λ entries. Accepts D.answers self.old (tick now) entries.items self.new)
             (λ fault. Refuses self.old (tick now) fault self.new) }
@@ -133,6 +136,7 @@ impl<D: Desk> End<D> {
             return Err(EndFault::NotUp);
         }
         self.spent = true;
+        let alloc = self.alloc;
         let mut entries = Vec::new(alloc);
         match self.state.tick(alloc, &mut entries, now) {
             Ok(()) => {
@@ -145,7 +149,7 @@ impl<D: Desk> End<D> {
 
     /// Sends a primary (SEMI E37, section 7, data procedure) with own system bytes. Faults: each of [`EndFault`], in
     /// its order, but `TooDeep` before `TooLong`. `Memory` may come in place of `TooLong`.
-    pub fn send(&mut self, alloc: Global, message: &Message) -> Result<Vec<Entry>, EndFault>
+    pub fn send(&mut self, message: &Message) -> Result<Vec<Entry>, EndFault>
         ensures { MatchResult result
             (λ entries. Accepts D.answers self.old (send (content message.now)) entries.items self.new)
             (λ fault. Refuses self.old (send (content message.now)) fault self.new) }
@@ -159,6 +163,7 @@ impl<D: Desk> End<D> {
         if let Some(fault) = self.state.hindrance(message) {
             return Err(fault);
         }
+        let alloc = self.alloc;
         match self.state.fitting_text(alloc, message.item()) {
             Ok(Some(text)) => {
                 self.spent = true;
@@ -180,7 +185,7 @@ impl<D: Desk> End<D> {
     }
 
     /// The connection was lost. Faults: `Spent`, `NotUp`, `Memory`.
-    pub fn lost(&mut self, alloc: Global) -> Result<Vec<Entry>, EndFault>
+    pub fn lost(&mut self) -> Result<Vec<Entry>, EndFault>
         ensures { MatchResult result
             (λ entries. Accepts D.answers self.old lost entries.items self.new)
             (λ fault. Refuses self.old lost fault self.new) }
@@ -192,7 +197,7 @@ impl<D: Desk> End<D> {
             return Err(EndFault::NotUp);
         }
         self.spent = true;
-        let mut entries = Vec::new(alloc);
+        let mut entries = Vec::new(self.alloc);
         match self.state.lose(&mut entries) {
             Ok(()) => {
                 self.spent = false;
@@ -204,7 +209,7 @@ impl<D: Desk> End<D> {
 
     /// Ends the session by Separate.req (SEMI E37, section 7, separate procedure), and the connection. Faults: `Spent`,
     /// `NotUp`, `Memory`.
-    pub fn separate(&mut self, alloc: Global) -> Result<Vec<Entry>, EndFault>
+    pub fn separate(&mut self) -> Result<Vec<Entry>, EndFault>
         ensures { MatchResult result
             (λ entries. Accepts D.answers self.old separate entries.items self.new)
             (λ fault. Refuses self.old separate fault self.new) }
@@ -216,6 +221,7 @@ impl<D: Desk> End<D> {
             return Err(EndFault::NotUp);
         }
         self.spent = true;
+        let alloc = self.alloc;
         let mut entries = Vec::new(alloc);
         match self.state.separate(alloc, &mut entries) {
             Ok(()) => {
@@ -228,7 +234,7 @@ impl<D: Desk> End<D> {
 
     /// Asks by Linktest.req (SEMI E37, section 7, linktest procedure) whether the other end is still there. Faults:
     /// `Spent`, `NotUp`, `Full`, `Memory`.
-    pub fn linktest(&mut self, alloc: Global) -> Result<Vec<Entry>, EndFault>
+    pub fn linktest(&mut self) -> Result<Vec<Entry>, EndFault>
         ensures { MatchResult result
             (λ entries. Accepts D.answers self.old linktest entries.items self.new)
             (λ fault. Refuses self.old linktest fault self.new) }
@@ -243,6 +249,7 @@ impl<D: Desk> End<D> {
             return Err(EndFault::Full);
         }
         self.spent = true;
+        let alloc = self.alloc;
         let mut entries = Vec::new(alloc);
         match self.state.test_link(alloc, &mut entries) {
             Ok(()) => {
@@ -256,7 +263,7 @@ impl<D: Desk> End<D> {
     /// Octets came, any number of them. Each message that they complete is logged, as taken where it breaks no rule and
     /// else as discarded, and answered at once. Where they spell no message the connection is cut. The others stay
     /// pending. Faults: `Spent`, `NotUp`, `Memory`.
-    pub fn bytes(&mut self, alloc: Global, octets: &[u8]) -> Result<Vec<Entry>, EndFault>
+    pub fn bytes(&mut self, octets: &[u8]) -> Result<Vec<Entry>, EndFault>
         ensures { MatchResult result
             (λ entries. Accepts D.answers self.old (bytes octets.now) entries.items self.new)
             (λ fault. Refuses self.old (bytes octets.now) fault self.new) }
@@ -268,6 +275,7 @@ impl<D: Desk> End<D> {
             return Err(EndFault::NotUp);
         }
         self.spent = true;
+        let alloc = self.alloc;
         let mut entries = Vec::new(alloc);
         match self.state.hear(alloc, &self.desk, &mut entries, octets) {
             Ok(()) => {

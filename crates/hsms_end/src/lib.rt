@@ -11,11 +11,11 @@
 //!
 //! ```
 //! let mut end = End::new(alloc, settings, HostDesk, 1);
-//! let entries = end.start(alloc, 0)?;      // up, and a Select.req where it connected
-//! let entries = end.bytes(alloc, octets)?; // what was taken or discarded, and what was sent for it
-//! let entries = end.tick(alloc, 6000)?;    // what has expired
-//! let entries = end.send(alloc, &message)?;
-//! let entries = end.separate(alloc)?;      // a Separate.req, and down
+//! let entries = end.start(0)?;      // up, and a Select.req where it connected
+//! let entries = end.bytes(octets)?; // what was taken or discarded, and what was sent for it
+//! let entries = end.tick(6000)?;    // what has expired
+//! let entries = end.send(&message)?;
+//! let entries = end.separate()?;    // a Separate.req, and down
 //! ```
 //!
 //! What stands as sent in the entries is to be put out in that order, and what came later is to be told later.

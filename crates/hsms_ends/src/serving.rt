@@ -139,7 +139,7 @@ fn begin<L: Link, W: Sink, D: Desk>(
         (L.told link.old) (L.told link.new) (moment_heard now) count.old count.new }
 {
     let now = link.now();
-    let answer = end.start(alloc, now);
+    let answer = end.start(now);
     match answer {
         Ok(entries) => deliver(link, log, &entries, count),
         Err(_) => Err(Stop::Memory),
@@ -164,7 +164,7 @@ fn close<W: Sink, D: Desk>(alloc: Global, log: &mut W, end: &mut End<D>) -> Serv
     if has_gone(end) {
         return ServeFault::Link;
     }
-    let answer = end.lost(alloc);
+    let answer = end.lost();
     match answer {
         Ok(entries) => {
             entries_are_in_range(&entries);

@@ -80,7 +80,7 @@ fn tick<L: Link, W: Sink, D: Desk>(
         (L.told link.old) (L.told link.new) (moment_heard now) count.old count.new }
 {
     let now = link.now();
-    let answer = end.tick(alloc, now);
+    let answer = end.tick(now);
     match answer {
         Ok(entries) => deliver(link, log, &entries, count),
         Err(_) => Err(Stop::Memory),
@@ -100,7 +100,7 @@ fn hand_octets<L: Link, W: Sink, D: Desk>(
     ensures { Handed D.answers result end.old (bytes octets.now) end.new (W.state log.old) (W.state log.new)
         (L.told link.old) (L.told link.new) nothing_heard count.old count.new }
 {
-    let answer = end.bytes(alloc, octets);
+    let answer = end.bytes(octets);
     match answer {
         Ok(entries) => deliver(link, log, &entries, count),
         Err(_) => Err(Stop::Memory),
@@ -119,7 +119,7 @@ fn hand_lost<L: Link, W: Sink, D: Desk>(
     ensures { Handed D.answers result end.old lost end.new (W.state log.old) (W.state log.new)
         (L.told link.old) (L.told link.new) nothing_heard count.old count.new }
 {
-    let answer = end.lost(alloc);
+    let answer = end.lost();
     match answer {
         Ok(entries) => deliver(link, log, &entries, count),
         Err(_) => Err(Stop::Memory),
@@ -133,9 +133,9 @@ fn tell<D: Desk>(end: &mut End<D>, alloc: Global, step: &Step) -> Result<Vec<Ent
         (λ fault. Refuses end.old (input_of step.now) fault end.new) }
 {
     match step {
-        Step::Send(message) => end.send(alloc, message),
-        Step::Linktest => end.linktest(alloc),
-        Step::Separate => end.separate(alloc),
+        Step::Send(message) => end.send(message),
+        Step::Linktest => end.linktest(),
+        Step::Separate => end.separate(),
     }
 }
 
