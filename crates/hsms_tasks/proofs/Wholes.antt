@@ -3,7 +3,7 @@ use Rattle.std.proofs.Common.{◌≡◌, ◌≤◌, ◌<◌, ◌+◌, ◌++◌, 
 use Rattle.std.specs.Prelude.{Option}
 use Rattle.std.proofs.lemmas.List.{append-nil, append_assoc, length-append, take-append-drop, take_at}
 use Rattle.std.proofs.lemmas.Bool.Decides.{nat_tests}
-use Rattle.hsms_frame.specs.Device.{WhereTold, Takes, IsAtEnd, ends_after}
+use Rattle.hsms_frame.specs.Device.{WhereTold, Takes, IsAtEnd, Stays, ends_after}
 use Rattle.hsms_options.specs.declared.fault.ToolFault.{ToolFault}
 use Rattle.hsms_options.specs.declared.fault.ToolFault.TheVariants.{Refused, Device, Memory}
 use Rattle.hsms_tasks.specs.Encode.{IsWholeInput, IsPartOfInput}
@@ -40,7 +40,7 @@ reads_whole initial left octets limit so_far end within input told =
     (same, subst P same within)
 
 pub reads_past : (initial left : Option (List ℕ)) (octets : List ℕ) (limit : ℕ) (fault : ToolFault) → ReadSoFar initial left octets → limit < length octets
-    → IsRefusedAs (codes "Input") fault → WhereTold initial (λ input. IsPartOfInput limit input fault)
+    → IsRefusedAs (codes "Input") fault → WhereTold initial (λ input. IsPartOfInput limit input fault left)
 reads_past initial left octets limit (Refused words) so_far past told_as input told =
     let a = so_far input told in
     let size : length input ≡ length octets + length a.0 = ap length a.1 ∙ length-append octets a.0 in
@@ -48,10 +48,14 @@ reads_past initial left octets limit (Refused words) so_far past told_as input t
 reads_past initial left octets limit (Device word) so_far past told_as input told = absurd told_as
 reads_past initial left octets limit Memory so_far past told_as input told = tt
 
-pub fails_to_read : (limit : ℕ) (fault : ToolFault) → IsRead fault → (input : List ℕ) → IsPartOfInput limit input fault
-fails_to_read limit (Refused words) is input = absurd is
-fails_to_read limit (Device word) is input = is
-fails_to_read limit Memory is input = tt
+-- a read failed, and took nothing
+pub fails_to_read : (initial mid left : Option (List ℕ)) (octets : List ℕ) (limit : ℕ) (fault : ToolFault) → ReadSoFar initial mid octets
+    → length octets ≤ limit → Stays mid left → IsRead fault → WhereTold initial (λ input. IsPartOfInput limit input fault left)
+fails_to_read initial mid left octets limit (Refused words) so_far within stays is input told = absurd is
+fails_to_read initial mid left octets limit (Device word) so_far within stays is input told =
+    let a = so_far input told in
+    (is, (octets, a.0, within, a.1, stays a.0 a.2))
+fails_to_read initial mid left octets limit Memory so_far within stays is input told = tt
 
 -- a vector whose whole slice was written
 pub rewritten : (len : ℕ) (part old : List ℕ) → length part ≡ len → take len (part ++ drop (length part) old) ≡ part

@@ -12,7 +12,8 @@ use std::alloc::Global;
 
 const BLOCK: usize = 65536;
 
-/// The octets of an input, which is refused under the word `Input` where it has more than `limit` of them.
+/// The octets of an input, which is refused under the word `Input` where it has more than `limit` of them. A
+/// failed read is told only where at most `limit` octets were taken before it.
 pub fn read_whole<R: Source>(
     alloc: Global,
     source: &mut R,
@@ -20,7 +21,7 @@ pub fn read_whole<R: Source>(
 ) -> Result<Vec<u8>, ToolFault>
     ensures ok { IfOk result (λ octets. WhereTold (R.state source.old).left (IsWholeInput limit octets.items)) }
     ensures err { IfErr result (λ fault. WhereTold (R.state source.old).left
-        (λ input. IsPartOfInput limit input fault)) }
+        (λ input. IsPartOfInput limit input fault (R.state source.new).left)) }
     ensures word { IfErr result (HasWord (codes "Read")) }
     ensures end { OnOk result ((R.state source.new).ends ≡ next_count (R.state source.old).ends) }
     ensures reads { CountsFailure (codes "Read") result (R.state source.old).failures (R.state source.new).failures }

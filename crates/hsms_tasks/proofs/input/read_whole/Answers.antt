@@ -6,7 +6,8 @@ use Rattle.hsms_tasks.proofs.input.read_whole.Goals as goal
 pub returns-in_err-count-clause-err : goal.returns-in_err-count-clause-err
 returns-in_err-count-clause-err g c =
     let p = err_from_is_err_and c.from_residual-in_err-count.result c.from_residual-in_err-count.ensures.1 in
-    rw (p.1, p.2) (λ input told. fails_to_read _ _ c.in_err-count.ensures.word input)
+    rw (p.1, p.2) (fails_to_read _ _ _ _ _ _ c.loop-source.invariant.0
+    (omega (arith, c.len.ensures, c.loop-source-test.true, c.loop-source.octets.ok)) c.in_err-count.ensures.none_lost c.in_err-count.ensures.word)
 
 pub returns-then-count-eq0-clause-ok : goal.returns-then-count-eq0-clause-ok
 returns-then-count-eq0-clause-ok g c =
