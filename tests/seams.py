@@ -145,8 +145,12 @@ def a_send_is_given_up_after_t8():
 
 
 def state_of(run):
-    with open(f"/proc/{run.pid}/stat") as file:
-        return file.read().rsplit(") ", 1)[1].split()[0]
+    """`T` where it is stopped, `Z` where it has ended."""
+    try:
+        with open(f"/proc/{run.pid}/stat") as file:
+            return file.read().rsplit(") ", 1)[1].split()[0]
+    except FileNotFoundError:
+        return "Z"
 
 
 def stop_and_continue(run):
@@ -156,6 +160,8 @@ def stop_and_continue(run):
     while state_of(run) not in "TZ" and time.monotonic() < end:
         time.sleep(0.001)
     run.send_signal(signal.SIGCONT)
+    if run.poll() is not None:
+        raise AssertionError("it has ended")
 
 
 def a_wait_goes_on_after_a_signal():
@@ -171,17 +177,69 @@ def a_wait_goes_on_after_a_signal():
 
 
 def a_blocked_send_ends_at_a_signal():
-    """Long before T8, which is a minute."""
+    """Long before T8, which is a minute. A first signal may end a send that has moved a part."""
     never = NeverReading(60_000)
     end = time.monotonic() + SOON
     line = None
     while line is None and time.monotonic() < end:
         _, _, line = never.blocked(A_WHILE)
         if line is None:
-            stop_and_continue(never.serving.run)
+            never.serving.run.send_signal(signal.SIGSTOP)
+            time.sleep(A_WHILE)
+            never.serving.run.send_signal(signal.SIGCONT)
     if line is None:
         raise AssertionError("it isn't given up")
     never.is_given_up()
+
+
+# What the peer says, one after the other, and what the end sends of each: a header, and a text for itself.
+SAID = [SELECT, data(1, 1, 2, wait=True), control(5, 3)]
+IDENTITY = data(1, 2, 2, bytes.fromhex("010241014d410131"))
+SENT = [[SELECTED], [IDENTITY[:14], IDENTITY[14:]], [control(6, 3)]]
+
+
+def broken_off(library, **refused):
+    """What comes of a session of which a call is refused: what the peer got, the answer of the end, and its log."""
+    env = {"LD_PRELOAD": library, **{name: str(value) for name, value in refused.items()}}
+    serving, peer = equipment("--mdln", "M", "--softrev", "1", env=env)
+    got = b""
+    try:
+        for said, sent in zip(SAID, SENT):
+            peer.send(said)
+            for piece in sent:
+                got += peer.exactly(len(piece))
+        peer.send(control(9, 4))
+        got += peer.rest()
+    except (AssertionError, BrokenPipeError, ConnectionResetError):
+        pass
+    status, log, told = serving.ended()
+    passes(log)
+    return got, (status, told), events(log)
+
+
+def an_interrupted_receive_is_made_again(library):
+    """A wait that a signal ended early has heard nothing. Each goes on in the next turn."""
+    whole = b"".join(piece for sent in SENT for piece in sent)
+    for refused in range(1, 1 + len(SAID) + 1):
+        got, told, log = broken_off(library, REFUSE_RECV=refused, INTERRUPTED=1)
+        same((got, told, log[-2:]), (whole, (0, ""), ["< ffff0000000900000004", "down"]))
+
+
+def a_failed_receive_ends_it(library):
+    for refused in range(1, 1 + len(SAID) + 1):
+        got, told, log = broken_off(library, REFUSE_RECV=refused)
+        before = b"".join(piece for sent in SENT[:refused - 1] for piece in sent)
+        same((got, told, len(log), log[-1]), (before, NO_LINK, 2 * refused, "down"))
+
+
+def a_failed_send_ends_it(library):
+    """Also one that a signal interrupted: nothing is sent after it."""
+    pieces = [(piece, at) for at, sent in enumerate(SENT, start=1) for piece in sent]
+    for refused, (_, message) in enumerate(pieces, start=1):
+        before = b"".join(piece for piece, _ in pieces[:refused - 1])
+        for how in ({}, {"INTERRUPTED": 1}):
+            got, told, log = broken_off(library, REFUSE_SEND=refused, **how)
+            same((got, told, len(log), log[-1]), (before, NO_LINK, 2 + 2 * message, "down"))
 
 
 # ---- other clients
@@ -245,6 +303,7 @@ def shows_where_nobody_reads(**how):
         show.wait(SOON)
     except subprocess.TimeoutExpired:
         show.kill()
+        show.wait()
     told = (show.returncode, show.stderr.read())
     show.communicate()
     return told
@@ -317,7 +376,8 @@ def logged_times_are_true():
     latest = min((one.after - logged, one.system) for one, logged in bounds)
     earliest = max((one.before - logged - 1, one.system) for one, logged in bounds)
     if earliest > latest:
-        raise AssertionError(f"by Linktest {earliest[1]} it began {earliest[0] - latest[0]} ms later than by {latest[1]}")
+        apart = earliest[0] - latest[0]
+        raise AssertionError(f"by Linktest {earliest[1]} it began {apart} ms later than by {latest[1]}")
 
 
 # ---- small messages
@@ -385,6 +445,7 @@ def an_idle_end_does_nothing():
     before = [spent(run) for run in runs]
     time.sleep(1)
     for run, (seconds, waits) in zip(runs, before):
+        same(run.poll(), None)
         now_seconds, now_waits = spent(run)
         within(0, now_seconds - seconds, 0.2)
         within(0, now_waits - waits, 50)
@@ -482,7 +543,7 @@ def served_with_a_failed_write(library, failing):
 
 
 def nothing_is_written_after_a_failed_write(library):
-    """The log holds what the writes before it wrote: each one that fails leaves more than one before it, none at first."""
+    """The log holds what the writes before it wrote: nothing where the first one fails, and then each time more."""
     logs = []
     for failing in range(1, 40):
         told, log = served_with_a_failed_write(library, failing)
@@ -609,7 +670,13 @@ TESTS = [
     the_script_builds_anew,
     the_script_runs_nothing_that_was_not_built,
 ]
-TESTS_WITH_LIBRARY = [a_wait_is_never_of_nothing, nothing_is_written_after_a_failed_write]
+TESTS_WITH_LIBRARY = [
+    an_interrupted_receive_is_made_again,
+    a_failed_receive_ends_it,
+    a_failed_send_ends_it,
+    a_wait_is_never_of_nothing,
+    nothing_is_written_after_a_failed_write,
+]
 
 
 def is_passed(test, *words):
