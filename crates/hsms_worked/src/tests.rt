@@ -4,8 +4,10 @@ mod answers;
 mod connection;
 mod corners;
 mod desks;
+mod edges;
 mod failing;
 mod limits;
+mod order;
 mod own;
 mod party;
 mod refused;
@@ -16,6 +18,7 @@ mod walks;
 
 use answers::ANSWERS;
 use corners::CORNERS;
+use edges::EDGES;
 use hsms_ends::{Answer, Desk, Driven, End, EndFault, EquipmentDesk, HostDesk, Input, drive};
 use hsms_frame::{Store, encode_frame};
 use hsms_log::{Line, read_line, write_entry};
@@ -269,6 +272,10 @@ fn corner_cases() -> &'static [Case] {
     CORNERS
 }
 
+fn edge_cases() -> &'static [Case] {
+    EDGES
+}
+
 #[test]
 fn what_follows_messages(rt: HostRuntime) -> Result<(), Fail> {
     judge_all(&rt, rt.alloc(), answer_cases())
@@ -282,6 +289,11 @@ fn own_messages_and_timers(rt: HostRuntime) -> Result<(), Fail> {
 #[test]
 fn corners_of_an_end(rt: HostRuntime) -> Result<(), Fail> {
     judge_all(&rt, rt.alloc(), corner_cases())
+}
+
+#[test]
+fn edges_of_an_end(rt: HostRuntime) -> Result<(), Fail> {
+    judge_all(&rt, rt.alloc(), edge_cases())
 }
 
 /// The list of a case.
@@ -342,4 +354,9 @@ fn sessions_as_lists(rt: HostRuntime) -> Result<(), Fail> {
     judge_all_driven(&rt, rt.alloc(), answer_cases())?;
     judge_all_driven(&rt, rt.alloc(), own_cases())?;
     judge_all_driven(&rt, rt.alloc(), corner_cases())
+}
+
+#[test]
+fn edges_as_lists(rt: HostRuntime) -> Result<(), Fail> {
+    judge_all_driven(&rt, rt.alloc(), edge_cases())
 }

@@ -12,7 +12,7 @@ pub const SESSIONS: &[Case] = &[
             (1000, Sent(S1F1_W, 2, &[])),
             (
                 46000,
-                Taken(S1F2, 2, &[1, 2, 0x41, 2, 0x41, 0x42, 0x41, 1, 0x42]),
+                Taken(S1F2, 2, &[1, 2, 0x41, 1, 0x41, 0x41, 1, 0x42]),
             ),
         ],
         broken: None,
@@ -25,7 +25,7 @@ pub const SESSIONS: &[Case] = &[
             (1000, Sent(S1F1_W, 2, &[])),
             (
                 46001,
-                Taken(S1F2, 2, &[1, 2, 0x41, 2, 0x41, 0x42, 0x41, 1, 0x42]),
+                Taken(S1F2, 2, &[1, 2, 0x41, 1, 0x41, 0x41, 1, 0x42]),
             ),
         ],
         broken: Some(Rule::T3Overdue),

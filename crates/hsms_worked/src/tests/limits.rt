@@ -7,11 +7,12 @@ use super::{
 };
 use secs_item::Item;
 
-/// Equipment that was selected, with MAX 256 and first system bytes 1.
+/// Equipment that was selected at 10, with MAX 256 and first system bytes 1.
 fn selected(alloc: Global) -> Result<End<EquipmentDesk>, Fail> {
     let given = settings(Role::Equipment, Side::Passive, 256).ok_or("the settings")?;
     let mut end = end_of(alloc, given, equipment(alloc)?, 1);
-    tell_well(alloc, &mut end, Start(10))?;
+    tell_well(alloc, &mut end, Start(0))?;
+    tell_well(alloc, &mut end, Tick(10))?;
     tell_well(alloc, &mut end, Comes("ffff0000000100000001"))?;
     Ok(end)
 }
@@ -169,6 +170,18 @@ const ANSWERED_BY_STREAM: Case = Case {
             Ok("0 < 0000810d000000000007\n0 > 0000010e000000000007\n"),
         ),
         (
+            Comes("000081fb000000000007"),
+            Ok("0 < 000081fb000000000007\n0 > 000001fc000000000007\n"),
+        ),
+        (
+            Comes("000081fd000000000007"),
+            Ok("0 < 000081fd000000000007\n0 > 000001fe000000000007\n"),
+        ),
+        (
+            Comes("000001fe000000000007"),
+            Ok("0 ! 000001fe000000000007\n"),
+        ),
+        (
             Comes("000081ff000000000007"),
             Ok("0 < 000081ff000000000007\n0 > 00000100000000000007\n"),
         ),
@@ -262,13 +275,39 @@ fn assert_due<D: Desk>(
     Ok(())
 }
 
-#[test]
-fn when_an_end_is_due(rt: HostRuntime) -> Result<(), Fail> {
-    let alloc = rt.alloc();
-    let given = settings(Role::Host, Side::Active, 256).ok_or("the settings")?;
+/// Equipment that starts so late that T7 ends past the greatest moment, and T8 before it.
+const DUE_LATE: &[(Told, Option<u64>)] = &[
+    (Start(u64::MAX - 9999), None),
+    (Octets(b"\0"), Some(u64::MAX - 4999)),
+    (Lost, None),
+];
+
+/// T8 ends at the greatest moment, and past it.
+const DUE_LAST: &[(Told, Option<u64>)] = &[
+    (Start(u64::MAX - 5000), None),
+    (Octets(b"\0"), Some(u64::MAX)),
+    (Tick(u64::MAX - 4999), Some(u64::MAX)),
+    (Octets(b"\0"), None),
+];
+
+fn judge_due(
+    rt: &impl Abort,
+    alloc: Global,
+    role: Role,
+    side: Side,
+    rows: &[(Told, Option<u64>)],
+) -> Result<(), Fail> {
+    let given = settings(role, side, 256).ok_or("the settings")?;
     let mut end = end_of(alloc, given, HostDesk, 1);
-    for (told, due) in DUE {
-        assert_due(&rt, alloc, &mut end, *told, *due)?;
+    for (told, due) in rows {
+        assert_due(rt, alloc, &mut end, *told, *due)?;
     }
     Ok(())
+}
+
+#[test]
+fn when_an_end_is_due(rt: HostRuntime) -> Result<(), Fail> {
+    judge_due(&rt, rt.alloc(), Role::Host, Side::Active, DUE)?;
+    judge_due(&rt, rt.alloc(), Role::Equipment, Side::Passive, DUE_LATE)?;
+    judge_due(&rt, rt.alloc(), Role::Equipment, Side::Passive, DUE_LAST)
 }

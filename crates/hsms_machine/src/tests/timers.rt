@@ -1,0 +1,188 @@
+//! Timers of a host: T3, T6 and T7 to the millisecond.
+
+use super::Happening::{Cut, Discarded, Down, Sent, T3, Taken, Up};
+use super::{CONNECTED, Case, LINKTEST_REQ, LINKTEST_RSP, S1F1, S1F1_W, SELECTED, SEPARATE};
+use crate::{Cause, Rule};
+
+pub const TIMERS: &[Case] = &[
+    Case {
+        name: "a Linktest.req at T6",
+        after: SELECTED,
+        entries: &[(5, Sent(LINKTEST_REQ, 3, &[])), (6005, Down)],
+        broken: None,
+        waiting: 0,
+    },
+    Case {
+        name: "a Linktest.req past T6",
+        after: SELECTED,
+        entries: &[
+            (5, Sent(LINKTEST_REQ, 3, &[])),
+            (6006, Taken(LINKTEST_RSP, 3, &[])),
+        ],
+        broken: Some(Rule::LinkOverdue),
+        waiting: 0,
+    },
+    Case {
+        name: "its answer at T6",
+        after: SELECTED,
+        entries: &[
+            (5, Sent(LINKTEST_REQ, 3, &[])),
+            (6005, Taken(LINKTEST_RSP, 3, &[])),
+            (99999, Down),
+        ],
+        broken: None,
+        waiting: 0,
+    },
+    Case {
+        name: "T6 logged at once",
+        after: SELECTED,
+        entries: &[(5, Sent(LINKTEST_REQ, 3, &[])), (6005, Cut(Cause::T6))],
+        broken: None,
+        waiting: 0,
+    },
+    Case {
+        name: "T6 logged too early",
+        after: SELECTED,
+        entries: &[(5, Sent(LINKTEST_REQ, 3, &[])), (6004, Cut(Cause::T6))],
+        broken: Some(Rule::NotDue),
+        waiting: 0,
+    },
+    Case {
+        name: "T6 of data",
+        after: SELECTED,
+        entries: &[(5, Sent(S1F1_W, 2, &[])), (6006, Cut(Cause::T6))],
+        broken: Some(Rule::NotDue),
+        waiting: 1,
+    },
+    Case {
+        name: "T6 of what the peer asked",
+        after: SELECTED,
+        entries: &[(5, Taken(LINKTEST_REQ, 3, &[])), (6006, Cut(Cause::T6))],
+        broken: Some(Rule::NotDue),
+        waiting: 0,
+    },
+    Case {
+        name: "T6 of Select.req",
+        after: CONNECTED,
+        entries: &[(6001, Down)],
+        broken: Some(Rule::LinkOverdue),
+        waiting: 0,
+    },
+    Case {
+        name: "T6 of Select.req at once",
+        after: CONNECTED,
+        entries: &[(6000, Cut(Cause::T6))],
+        broken: None,
+        waiting: 0,
+    },
+    Case {
+        name: "an expiry while T6 is overdue",
+        after: SELECTED,
+        entries: &[
+            (5, Sent(S1F1_W, 2, &[])),
+            (5, Sent(LINKTEST_REQ, 3, &[])),
+            (45006, T3(2)),
+            (45006, Cut(Cause::T6)),
+        ],
+        broken: None,
+        waiting: 0,
+    },
+    Case {
+        name: "T7 while selected",
+        after: SELECTED,
+        entries: &[(10005, Cut(Cause::T7))],
+        broken: Some(Rule::NotDue),
+        waiting: 0,
+    },
+    Case {
+        name: "T7 at its end",
+        after: &[],
+        entries: &[(0, Up), (10000, Down)],
+        broken: None,
+        waiting: 0,
+    },
+    Case {
+        name: "T7 after a refused selection",
+        after: &[],
+        entries: &[
+            (0, Up),
+            (9, Taken(LINKTEST_REQ, 1, &[])),
+            (10001, Cut(Cause::T8)),
+        ],
+        broken: Some(Rule::LinkOverdue),
+        waiting: 0,
+    },
+    Case {
+        name: "T7 counts from up",
+        after: &[],
+        entries: &[(7, Up), (10006, Cut(Cause::T7))],
+        broken: Some(Rule::NotDue),
+        waiting: 0,
+    },
+    Case {
+        name: "T8 at any time",
+        after: SELECTED,
+        entries: &[(5, Cut(Cause::T8)), (99999, Down)],
+        broken: None,
+        waiting: 0,
+    },
+    Case {
+        name: "a primary without W waits for nothing",
+        after: SELECTED,
+        entries: &[(5, Sent(S1F1, 2, &[])), (99999, Down)],
+        broken: None,
+        waiting: 0,
+    },
+    Case {
+        name: "what the peer asked isn't overdue",
+        after: SELECTED,
+        entries: &[(5, Taken(S1F1_W, 7, &[])), (99999, Down)],
+        broken: None,
+        waiting: 0,
+    },
+    Case {
+        name: "an expiry of what the peer asked",
+        after: SELECTED,
+        entries: &[(5, Taken(S1F1_W, 7, &[])), (99999, T3(7))],
+        broken: Some(Rule::NotDue),
+        waiting: 0,
+    },
+    Case {
+        name: "an expiry of a Linktest.req",
+        after: SELECTED,
+        entries: &[(5, Sent(LINKTEST_REQ, 3, &[])), (5000, T3(3))],
+        broken: Some(Rule::NotDue),
+        waiting: 0,
+    },
+    Case {
+        name: "an expiry of another primary",
+        after: SELECTED,
+        entries: &[(5, Sent(S1F1_W, 2, &[])), (45005, T3(3))],
+        broken: Some(Rule::NotDue),
+        waiting: 1,
+    },
+    Case {
+        name: "nothing is overdue after a cut",
+        after: SELECTED,
+        entries: &[
+            (5, Sent(S1F1_W, 2, &[])),
+            (5, Sent(LINKTEST_REQ, 3, &[])),
+            (6, Cut(Cause::T8)),
+            (99999, Down),
+        ],
+        broken: None,
+        waiting: 1,
+    },
+    Case {
+        name: "nothing is overdue after Separate.req",
+        after: SELECTED,
+        entries: &[
+            (5, Sent(S1F1_W, 2, &[])),
+            (5, Sent(LINKTEST_REQ, 3, &[])),
+            (6, Taken(SEPARATE, 2, &[])),
+            (99999, Discarded(LINKTEST_REQ, 3, &[])),
+        ],
+        broken: None,
+        waiting: 1,
+    },
+];
