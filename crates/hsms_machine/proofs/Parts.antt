@@ -12,7 +12,7 @@ use Rattle.hsms_machine.specs.declared.rule.Rule.{Rule}
 use Rattle.hsms_machine.specs.declared.view.View.{View}
 use Rattle.hsms_machine.specs.Settings.{Parameters}
 use Rattle.hsms_machine.specs.Entry.{frame_entry}
-use Rattle.hsms_machine.specs.Act.{act_of, text_of, frame_act, event_of, entry_of}
+use Rattle.hsms_machine.specs.Act.{act_of, text_of, frame_act, event_of, entry_of, HasParts}
 use Rattle.hsms_machine.specs.Transaction.{opens}
 use Rattle.hsms_machine.specs.Session.{Facts}
 use Rattle.hsms_machine.specs.Rule.{Breaks, IsFirst, all_rules, order_rules, timer_rules}
@@ -31,6 +31,9 @@ both_at time Down = refl
 -- an entry is its two parts
 pub both : (entry : Entry) (act : Act) (text : List ℕ) → act ≡ act_of entry.event → text ≡ text_of entry.event → entry_of entry.time act text ≡ entry
 both entry act text act_is text_is = ap (λ a. entry_of entry.time a text) act_is ∙ ap (entry_of entry.time (act_of entry.event)) text_is ∙ both_at entry.time entry.event
+
+pub of_parts : (entry : Entry) (time : ℕ) (act : Act) (text : List ℕ) → HasParts entry time act text → entry_of time act text ≡ entry
+of_parts entry time act text parts = ap (λ t. entry_of t act text) parts.time_is ∙ both entry act text parts.act_is parts.text_is
 
 frame_at : (time : ℕ) (mark : Mark) (header : Header) (text : List ℕ) → entry_of time (frame_act mark header) text ≡ frame_entry time mark header text
 frame_at time MarkSent header text = refl

@@ -1,5 +1,5 @@
 -- An event in two parts: the text of its frame, and all else. Private functions alone speak of this.
-use Rattle.std.specs.Prelude.{ℕ, List, []}
+use Rattle.std.specs.Prelude.{◌≡◌, ℕ, List, []}
 use Rattle.hsms_frame.specs.declared.header.Header.{Header}
 use Rattle.hsms_frame.specs.declared.frame.Frame.{Frame}
 use Rattle.hsms_machine.specs.declared.entry.Entry.{Entry}
@@ -50,3 +50,9 @@ event_of ActDown text = Down
 -- the entry of both parts
 abbrev pub entry_of : ℕ → Act → List ℕ → Entry
 entry_of time act text = record { time = time; event = event_of act text }
+
+-- the entry has this time, this event but for its text, and this text
+pub record HasParts (entry : Entry) (time : ℕ) (act : Act) (text : List ℕ) : Type 0 where
+  pub time_is : time ≡ entry.time
+  pub act_is : act ≡ act_of entry.event
+  pub text_is : text ≡ text_of entry.event

@@ -1,6 +1,6 @@
 use Rattle.std.proofs.Common.{◌≡◌, ◌≤◌, ◌+◌, ◌*◌}
 use Rattle.hsms_log.specs.Auditing.{RisesBy, HasRead}
-use Rattle.hsms_log.proofs.auditing.audit_within.Given as goal
+use Rattle.hsms_log.proofs.auditing.audit_blocks.Given as goal
 
 -- the reader stands after what was read, and each read was counted
 abbrev pub invariant-loop : goal.invariant-loop

@@ -6,7 +6,7 @@ use Rattle.hsms_frame.specs.Count.{next_count}
 use Rattle.hsms_log.specs.Auditing.{HasEnded}
 use Rattle.hsms_log.proofs.Uniqueness.{RunLaws}
 use Rattle.hsms_log.proofs.Audits.{reads_more, stops, ends, fails, ends_same, ends_found, uses_failing}
-use Rattle.hsms_log.proofs.auditing.audit_within.Goals as goal
+use Rattle.hsms_log.proofs.auditing.audit_blocks.Goals as goal
 
 pub returns-in_err-count-clause-answer : goal.returns-in_err-count-clause-answer
 returns-in_err-count-clause-answer g c =
