@@ -5,8 +5,6 @@ use Rattle.hsms_frame.specs.declared.frame.Frame.{Frame}
 use Rattle.hsms_machine.specs.declared.entry.Entry.{Entry}
 use Rattle.hsms_machine.specs.declared.entry.Event.{Event}
 use Rattle.hsms_machine.specs.declared.entry.Event.TheVariants.{Up, Sent, Taken, Discarded, T3, Cut, Down}
-use Rattle.hsms_machine.specs.declared.entry.Mark.{Mark}
-use Rattle.hsms_machine.specs.declared.entry.Mark.TheVariants.{Sent as MarkSent, Taken as MarkTaken, Discarded as MarkDiscarded}
 use Rattle.hsms_machine.specs.declared.act.Act.{Act}
 use Rattle.hsms_machine.specs.declared.act.Act.TheVariants.{Up as ActUp, Sent as ActSent, Taken as ActTaken, Discarded as ActDiscarded, T3 as ActT3, Cut as ActCut, Down as ActDown}
 
@@ -26,12 +24,6 @@ text_of (Sent frame) = frame.text
 text_of (Taken frame) = frame.text
 text_of (Discarded frame) = frame.text
 text_of _ = []
-
--- a frame of this header
-abbrev pub frame_act : Mark → Header → Act
-frame_act MarkSent header = ActSent header
-frame_act MarkTaken header = ActTaken header
-frame_act MarkDiscarded header = ActDiscarded header
 
 -- the frame of a header and a text
 abbrev pub frame_of : Header → List ℕ → Frame

@@ -41,35 +41,43 @@ returns-in_err-take_in-clause-err_lawful c = λ entry parts.
     let none : is_none c.first_broken-broken.result ≡ true = search rules in
     on_err (IsBrokenAfter c.args.self.now entry None) c.from_residual.result
     (subst (λ (x : Entry). IsBrokenAfter c.args.self.now x None) (of_parts entry _ _ _ parts)
-    (told_for_each c.self.inside.view c.args.self.now c.self.view_is (entry_of c.args.time c.args.act.now c.args.text.now) None
-    (lawful_none c.self.inside.view (entry_of c.args.time c.args.act.now c.args.text.now) c.first_broken-broken.result none c.first_broken-broken.ensures)))
+    (told_for_each c.self.inside.view c.args.self.now c.self.view_is
+    (entry_of c.args.time c.args.act.now c.args.text.now) None
+    (lawful_none c.self.inside.view (entry_of c.args.time c.args.act.now c.args.text.now)
+    c.first_broken-broken.result none c.first_broken-broken.ensures)))
 
 pub returns-in_ok-take_in-clause-answer : goal.returns-in_ok-take_in-clause-answer
 returns-in_ok-take_in-clause-answer c = λ entry parts.
     subst (λ (x : Entry). IsBrokenAfter c.args.self.now x c.first_broken-broken.result) (of_parts entry _ _ _ parts)
-    (told_for_each c.self.inside.view c.args.self.now c.self.view_is (entry_of c.args.time c.args.act.now c.args.text.now) c.first_broken-broken.result c.first_broken-broken.ensures)
+    (told_for_each c.self.inside.view c.args.self.now c.self.view_is
+    (entry_of c.args.time c.args.act.now c.args.text.now) c.first_broken-broken.result c.first_broken-broken.ensures)
 
 pub returns-in_ok-take_in-clause-told : goal.returns-in_ok-take_in-clause-told
 returns-in_ok-take_in-clause-told c = λ entry parts.
     subst (λ (x : Entry). IsBrokenAt c.args.self.now x c.first_broken-broken.result) (of_parts entry _ _ _ parts)
-    (told_by c.self.inside.view c.args.self.now c.self.view_is (entry_of c.args.time c.args.act.now c.args.text.now) c.first_broken-broken.result c.first_broken-broken.ensures)
+    (told_by c.self.inside.view c.args.self.now c.self.view_is
+    (entry_of c.args.time c.args.act.now c.args.text.now) c.first_broken-broken.result c.first_broken-broken.ensures)
 
 pub returns-else-is_none-clause-answer : goal.returns-else-is_none-clause-answer
 returns-else-is_none-clause-answer c = λ entry parts.
     subst (λ (x : Entry). IsBrokenAfter c.args.self.now x c.first_broken-broken.result) (of_parts entry _ _ _ parts)
-    (told_for_each c.self.inside.view c.args.self.now c.self.view_is (entry_of c.args.time c.args.act.now c.args.text.now) c.first_broken-broken.result c.first_broken-broken.ensures)
+    (told_for_each c.self.inside.view c.args.self.now c.self.view_is
+    (entry_of c.args.time c.args.act.now c.args.text.now) c.first_broken-broken.result c.first_broken-broken.ensures)
 
 pub returns-else-is_none-clause-told : goal.returns-else-is_none-clause-told
 returns-else-is_none-clause-told c = λ entry parts.
     subst (λ (x : Entry). IsBrokenAt c.args.self.now x c.first_broken-broken.result) (of_parts entry _ _ _ parts)
-    (told_by c.self.inside.view c.args.self.now c.self.view_is (entry_of c.args.time c.args.act.now c.args.text.now) c.first_broken-broken.result c.first_broken-broken.ensures)
+    (told_by c.self.inside.view c.args.self.now c.self.view_is
+    (entry_of c.args.time c.args.act.now c.args.text.now) c.first_broken-broken.result c.first_broken-broken.ensures)
 
 pub returns-in_ok-take_in-clause-lawful : goal.returns-in_ok-take_in-clause-lawful
 returns-in_ok-take_in-clause-lawful c = λ entry parts e.
     let none : is_none c.first_broken-broken.result ≡ true = search rules in
     subst (λ (x : Entry). LeadsTo c.args.self.now x c.take_in.new.self) (of_parts entry _ _ _ parts)
-    (after_for_each c.self.inside.view c.args.self.now c.take_in.new.self c.self.view_is (entry_of c.args.time c.args.act.now c.args.text.now)
-    (lawful_none c.self.inside.view (entry_of c.args.time c.args.act.now c.args.text.now) c.first_broken-broken.result none c.first_broken-broken.ensures) (c.in_ok-take_in.ensures.ok ∙ after_at c.self.inside.view c.args.time c.args.act.now c.args.text.now))
+    (after_for_each c.self.inside.view c.args.self.now c.take_in.new.self c.self.view_is
+    (entry_of c.args.time c.args.act.now c.args.text.now)
+    (lawful_none c.self.inside.view (entry_of c.args.time c.args.act.now c.args.text.now)
+    c.first_broken-broken.result none c.first_broken-broken.ensures) (c.in_ok-take_in.ensures.ok ∙ after_at c.self.inside.view c.args.time c.args.act.now c.args.text.now))
 
 pub returns-in_ok-take_in-clause-next : goal.returns-in_ok-take_in-clause-next
 returns-in_ok-take_in-clause-next c = λ entry parts e.
