@@ -1,13 +1,15 @@
 -- What the calls of an end answer.
-use Rattle.std.proofs.Common.{◌≡◌, ℕ, ◌<◌, ◌≤◌, Bool, true, false, List, [], Some, None, refl, sym, subst, ◌∙◌, inl, inr, arith}
+use Rattle.std.proofs.Common.{◌≡◌, ℕ, ◌<◌, ◌≤◌, Bool, true, false, List, [], ◌∷◌, Some, None, refl, sym, subst, ◌∙◌, inl, inr, arith}
 use Rattle.secs_text.specs.Content.{Content}
 use Rattle.hsms_machine.specs.declared.entry.Entry.{Entry}
+use Rattle.hsms_machine.specs.declared.entry.Event.TheVariants.{Down}
 use Rattle.hsms_machine.specs.declared.view.View.{View}
 use Rattle.hsms_machine.specs.View.{own_open_of}
 use Rattle.hsms_end.specs.declared.state.State.{State}
 use Rattle.hsms_end.specs.declared.fault.EndFault.TheVariants.{Spent, NotUp, Full}
 use Rattle.hsms_end.specs.Answer.{Answered}
-use Rattle.hsms_end.specs.Act.{Act, Acts}
+use Rattle.hsms_end.specs.Frame.{linktest_req, separate_req}
+use Rattle.hsms_end.specs.Act.{Act, Acts, logs, asks}
 use Rattle.hsms_end.specs.Turn.{is_up, opening_of, Told, Turn, start, linktest, separate, lost}
 use Rattle.hsms_end.specs.Fault.{Meets, is_before}
 use Rattle.hsms_end.specs.Doing.{Does}
@@ -97,3 +99,17 @@ start_meets spent end now s u =
 pub started : {D : Type 0} (answers : D → Content → Answered) (desk : D) (end end' : State) (spent : Bool) (at : EndOf D) (now : ℕ) (first entries : List Entry) → spent ≡ false → inside_of desk end spent ≡ at → first ≡ [] → is_before end.tracker.phase ≡ true → Does (record end { moment = now }) first (opening_of end.settings.link) end' entries → Accepts answers at (start now) entries (inside_of desk end' false)
 started answers desk end end' spent at now first entries fresh is empty before h =
     accepted answers desk end (record end { moment = now }) end' spent at (start now) (opening_of end.settings.link) first entries fresh is empty (start_meets spent end now fresh before) refl (λ es k h. h) h
+
+-- ---- lost, separate and linktest
+
+pub lost_accepted : {D : Type 0} (answers : D → Content → Answered) (desk : D) (end end' : State) (spent : Bool) (at : EndOf D) (first entries : List Entry) → spent ≡ false → inside_of desk end spent ≡ at → first ≡ [] → is_up end.tracker.phase ≡ true → Does end first (logs Down ∷ []) end' entries → Accepts answers at lost entries (inside_of desk end' false)
+lost_accepted answers desk end end' spent at first entries fresh is empty up h =
+    accepted answers desk end end end' spent at lost (logs Down ∷ []) first entries fresh is empty (lost_meets spent end fresh up) refl (λ es k d. d) h
+
+pub separate_accepted : {D : Type 0} (answers : D → Content → Answered) (desk : D) (end end' : State) (spent : Bool) (at : EndOf D) (first entries : List Entry) → spent ≡ false → inside_of desk end spent ≡ at → first ≡ [] → is_up end.tracker.phase ≡ true → Does end first (asks separate_req ∷ logs Down ∷ []) end' entries → Accepts answers at separate entries (inside_of desk end' false)
+separate_accepted answers desk end end' spent at first entries fresh is empty up h =
+    accepted answers desk end end end' spent at separate (asks separate_req ∷ logs Down ∷ []) first entries fresh is empty (separate_meets spent end fresh up) refl (λ es k d. d) h
+
+pub linktest_accepted : {D : Type 0} (answers : D → Content → Answered) (desk : D) (end end' : State) (spent : Bool) (at : EndOf D) (first entries : List Entry) → spent ≡ false → inside_of desk end spent ≡ at → first ≡ [] → is_up end.tracker.phase ≡ true → own_open_of end.tracker < 64 → Does end first (asks linktest_req ∷ []) end' entries → Accepts answers at linktest entries (inside_of desk end' false)
+linktest_accepted answers desk end end' spent at first entries fresh is empty up room h =
+    accepted answers desk end end end' spent at linktest (asks linktest_req ∷ []) first entries fresh is empty (linktest_meets spent end fresh up room) refl (λ es k d. d) h

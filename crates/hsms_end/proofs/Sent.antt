@@ -1,5 +1,5 @@
 -- What the call `send` answers.
-use Rattle.std.proofs.Common.{◌≡◌, ℕ, ◌≤◌, ◌%◌, ◌==◌, Bool, true, false, ◌&&◌, not, nat_le, List, [], ◌∷◌, Option, Some, None, IsTrue, refl, sym, ap, ◌∙◌, inl, inr, ◌⊎◌, arith}
+use Rattle.std.proofs.Common.{◌≡◌, ℕ, ◌≤◌, ◌%◌, ◌==◌, Bool, true, false, ◌&&◌, not, nat_le, List, [], ◌∷◌, Option, Some, None, IsTrue, refl, sym, ap, subst, ◌∙◌, inl, inr, ◌⊎◌, arith}
 use Rattle.std.proofs.lemmas.Bool.Decides.{nat_tests}
 use Rattle.secs_text.specs.Content.{Content}
 use Rattle.hsms_machine.specs.View.{own_open_of}
@@ -14,6 +14,7 @@ use Rattle.hsms_end.specs.Known.{EndOf}
 use Rattle.hsms_end.specs.Inside.{known_of}
 use Rattle.hsms_end.specs.End.{Refuses}
 use Rattle.hsms_end.specs.Sending.{hindrance_by, hindrance_of}
+use Rattle.hsms_end.proofs.Calls.{inside_of}
 
 -- the test tells whether the fact holds
 record Tells (test : Bool) (Fact : Type 0) : Type 0 where
@@ -135,3 +136,9 @@ refuses at end' input Full n meets same = (meets, same)
 refuses at end' input TooLong n meets same = (meets, same)
 refuses at end' input TooDeep n meets same = (meets, same)
 refuses at end' input Memory n meets same = absurd (n refl)
+
+-- what hinders a message is answered
+pub send_refused : {D : Type 0} (desk : D) (end : State) (spent : Bool) (at : EndOf D) (message : Content) (fault : EndFault) → spent ≡ false → inside_of desk end spent ≡ at → is_up end.tracker.phase ≡ true → hindrance_of end message ≡ Some fault → Refuses at (send message) fault at
+send_refused {D} desk end spent at message fault fresh is up e =
+    refuses at at (send message) fault (not_memory end message fault e)
+    (subst (λ (k : EndOf D). Meets k.known (send message) (Some fault)) is (hindered spent end message fresh up fault e)) refl

@@ -98,6 +98,7 @@ impl<D: Desk> End<D> {
 
     /// The connection came up at this moment, in milliseconds. An active end asks for a session by Select.req (SEMI
     /// E37, section 7, select procedure). Faults: `Spent`; `NotUp`, where it was up before; `Memory`.
+    #[tactic(auto, using(crate::proofs::Calls::started), unfolding(crate::specs::Fault::Meets))]
     pub fn start(&mut self, now: u64) -> Result<Vec<Entry>, EndFault>
         ensures { MatchResult result
             (λ entries. Accepts D.answers self.old (start now) entries.items self.new)
@@ -124,6 +125,7 @@ impl<D: Desk> End<D> {
     /// Time has gone on to this moment, in milliseconds, if it isn't past it. Each own primary that is overdue by T3 is
     /// logged. Where T6, T7 or T8 has run out the connection is cut; else equipment tells of each expiry by S9F9 (SEMI
     /// E37, section 10, parameters; SEMI E5, section 8, transactions). Faults: `Spent`, `NotUp`, `Memory`.
+    #[tactic(auto, using(crate::proofs::Ticked::ticked), unfolding(crate::specs::Fault::Meets))]
     pub fn tick(&mut self, now: u64) -> Result<Vec<Entry>, EndFault>
         ensures { MatchResult result
             (λ entries. Accepts D.answers self.old (tick now) entries.items self.new)
@@ -149,6 +151,7 @@ impl<D: Desk> End<D> {
 
     /// Sends a primary (SEMI E37, section 7, data procedure) with own system bytes. Faults: each of [`EndFault`], in
     /// its order, but `TooDeep` before `TooLong`. `Memory` may come in place of `TooLong`.
+    #[tactic(auto, using(crate::proofs::Sent::send_refused), unfolding(crate::specs::Fault::Meets))]
     pub fn send(&mut self, message: &Message) -> Result<Vec<Entry>, EndFault>
         ensures { MatchResult result
             (λ entries. Accepts D.answers self.old (send (content message.now)) entries.items self.new)
@@ -185,6 +188,7 @@ impl<D: Desk> End<D> {
     }
 
     /// The connection was lost. Faults: `Spent`, `NotUp`, `Memory`.
+    #[tactic(auto, using(crate::proofs::Calls::lost_accepted), unfolding(crate::specs::Fault::Meets))]
     pub fn lost(&mut self) -> Result<Vec<Entry>, EndFault>
         ensures { MatchResult result
             (λ entries. Accepts D.answers self.old lost entries.items self.new)
@@ -209,6 +213,7 @@ impl<D: Desk> End<D> {
 
     /// Ends the session by Separate.req (SEMI E37, section 7, separate procedure), and the connection. Faults: `Spent`,
     /// `NotUp`, `Memory`.
+    #[tactic(auto, using(crate::proofs::Calls::separate_accepted), unfolding(crate::specs::Fault::Meets))]
     pub fn separate(&mut self) -> Result<Vec<Entry>, EndFault>
         ensures { MatchResult result
             (λ entries. Accepts D.answers self.old separate entries.items self.new)
@@ -234,6 +239,7 @@ impl<D: Desk> End<D> {
 
     /// Asks by Linktest.req (SEMI E37, section 7, linktest procedure) whether the other end is still there. Faults:
     /// `Spent`, `NotUp`, `Full`, `Memory`.
+    #[tactic(auto, using(crate::proofs::Calls::linktest_accepted), unfolding(crate::specs::Fault::Meets))]
     pub fn linktest(&mut self) -> Result<Vec<Entry>, EndFault>
         ensures { MatchResult result
             (λ entries. Accepts D.answers self.old linktest entries.items self.new)
@@ -263,6 +269,7 @@ impl<D: Desk> End<D> {
     /// Octets came, any number of them. Each message that they complete is logged, as taken where it breaks no rule and
     /// else as discarded, and answered at once. Where they spell no message the connection is cut. The others stay
     /// pending. Faults: `Spent`, `NotUp`, `Memory`.
+    #[tactic(auto, using(crate::proofs::Hearing::bytes_accepted), unfolding(crate::specs::Fault::Meets))]
     pub fn bytes(&mut self, octets: &[u8]) -> Result<Vec<Entry>, EndFault>
         ensures { MatchResult result
             (λ entries. Accepts D.answers self.old (bytes octets.now) entries.items self.new)

@@ -1,31 +1,15 @@
 use Rattle.std.proofs.Common.{◌≡◌, [], ◌∷◌, Some, None, refl, sym, ap, subst, ◌∙◌, ◌⊎◌}
 use Rattle.std.specs.Prelude.{option_map}
 use Rattle.secs_text.specs.View.{content}
-use Rattle.hsms_end.specs.declared.fault.EndFault.TheVariants.{Spent, NotUp, TooLong}
+use Rattle.hsms_end.specs.declared.fault.EndFault.TheVariants.{TooLong}
 use Rattle.hsms_end.specs.Act.{asks}
 use Rattle.hsms_end.specs.Frame.{fitting_text, message_frame}
 use Rattle.hsms_end.specs.Turn.{send}
 use Rattle.hsms_end.specs.Fault.{Meets}
 use Rattle.hsms_end.specs.Known.{EndOf}
-use Rattle.hsms_end.proofs.Calls.{meets_spent, accepted}
-use Rattle.hsms_end.proofs.Sent.{send_not_up, hindered, not_memory, refuses, send_meets, send_too_long, send_memory}
+use Rattle.hsms_end.proofs.Calls.{accepted}
+use Rattle.hsms_end.proofs.Sent.{send_meets, send_too_long, send_memory}
 use Rattle.hsms_end.proofs.end.End.send.Goals as goal
-
-pub returns-then-self : goal.returns-then-self
-returns-then-self g c =
-    (subst (λ (k : EndOf g.row.D.Denot). Meets k.known (send (content c.args.message.now)) (Some Spent)) c.self.view_is (meets_spent c.self.inside.spent c.self.inside.state (send (content c.args.message.now)) c.if-self.true), refl)
-
-pub returns-then-not-is_up : goal.returns-then-not-is_up
-returns-then-not-is_up g c =
-    (subst (λ (k : EndOf g.row.D.Denot). Meets k.known (send (content c.args.message.now)) (Some NotUp)) c.self.view_is (send_not_up c.self.inside.spent c.self.inside.state (content c.args.message.now) c.if-self.false (sym c.is_up.ensures ∙ c.if-not-is_up.true)), refl)
-
-pub returns-in-Some : goal.returns-in-Some
-returns-in-Some g c =
-    refuses c.args.self.now c.args.self.now (send (content c.args.message.now)) c.in-Some.fault
-    (not_memory c.self.inside.state (content c.args.message.now) c.in-Some.fault (sym c.in-Some.ensures))
-    (subst (λ (k : EndOf g.row.D.Denot). Meets k.known (send (content c.args.message.now)) (Some c.in-Some.fault)) c.self.view_is
-    (hindered c.self.inside.spent c.self.inside.state (content c.args.message.now) c.if-self.false (sym c.is_up.ensures ∙ c.if-not-is_up.false) c.in-Some.fault (sym c.in-Some.ensures)))
-    refl
 
 pub returns-in-Ok : goal.returns-in-Ok
 returns-in-Ok g c =
