@@ -135,6 +135,10 @@ EncodesAll device max depth hex system input (Err Memory) left old new = Stays o
 abbrev pub IsWholeInput : ℕ → List ℕ → List ℕ → Type 0
 IsWholeInput limit octets input = (octets ≡ input) × (length input ≤ limit)
 
+-- these octets are the input, or, where they are past the limit, its front
+abbrev pub IsReadPast : ℕ → List ℕ → List ℕ → Type 0
+IsReadPast limit octets input = (length octets ≤ limit → octets ≡ input) × (limit < length octets → limit < length input)
+
 -- why an input was not read whole: it is longer than the limit; a read failed, and the limit was not passed before; or
 -- memory is wanting
 abbrev pub IsPartOfInput : ℕ → List ℕ → ToolFault → Option (List ℕ) → Type 0

@@ -1,7 +1,7 @@
-use Rattle.std.proofs.Common.{◌<◌, ◌++◌, ◌∙◌, ℕ, Vec, Global, length, arith, ap, take}
+use Rattle.std.proofs.Common.{◌<◌, ◌++◌, ◌∙◌, length, arith, ap, take}
 use Rattle.std.proofs.lemmas.Result.{err_from_is_err_and}
-use Rattle.hsms_tasks.proofs.Wholes.{reads_more, reads_whole, reads_past, fails_to_read, not_at_end, refuses, rewritten, word_of_read, word_of_refusal}
-use Rattle.hsms_tasks.proofs.input.read_whole.Goals as goal
+use Rattle.hsms_tasks.proofs.Wholes.{reads_more, reads_whole, reads_past, fails_to_read, not_at_end, rewritten, word_of_read}
+use Rattle.hsms_tasks.proofs.input.read_past.Goals as goal
 
 pub returns-in_err-count-clause-err : goal.returns-in_err-count-clause-err
 returns-in_err-count-clause-err g c =
@@ -15,6 +15,10 @@ returns-then-count-eq0-clause-ok g c =
     reads_whole _ _ _ _ c.loop-source.invariant.0 (c.in_ok-count.ensures.end c.if-count-eq0.true room)
     (omega (arith, c.len.ensures, c.loop-source-test.true, c.loop-source.octets.ok))
 
+pub returns-clause-ok : goal.returns-clause-ok
+returns-clause-ok g c =
+    reads_past _ _ _ _ c.loop-source.invariant.0 (omega (arith, c.len.ensures, c.loop-source-test.false, c.loop-source.octets.ok))
+
 pub loop-source-preserved : goal.loop-source-preserved
 loop-source-preserved g c = (
   reads_more _ _ _ _ _ _ _ c.loop-source.invariant.0 c.in_ok-count.ensures.octets
@@ -25,17 +29,7 @@ loop-source-preserved g c = (
   c.in_ok-count.ensures.reads ∙ c.loop-source.invariant.3,
 )
 
-pub returns-clause-err : goal.returns-clause-err
-returns-clause-err g c =
-    reads_past _ _ _ _ _ c.loop-source.invariant.0 (omega (arith, c.len.ensures, c.loop-source-test.false, c.loop-source.octets.ok)) c.refused.ensures
-
-pub returns-clause-reads : goal.returns-clause-reads
-returns-clause-reads g c = refuses (Vec ℕ Global) _ _ _ _ _ c.refused.ensures c.loop-source.invariant.3
-
 pub returns-in_err-count-clause-word : goal.returns-in_err-count-clause-word
 returns-in_err-count-clause-word g c =
     let p = err_from_is_err_and c.from_residual-in_err-count.result c.from_residual-in_err-count.ensures.1 in
     rw (p.1, p.2) (word_of_read _ c.in_err-count.ensures.word)
-
-pub returns-clause-word : goal.returns-clause-word
-returns-clause-word g c = word_of_refusal _ _ _ c.refused.ensures

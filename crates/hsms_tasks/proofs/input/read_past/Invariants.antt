@@ -1,6 +1,6 @@
 use Rattle.std.proofs.Common.{◌≡◌, ◌+◌, ◌-◌, vec_len}
 use Rattle.hsms_tasks.proofs.Wholes.{ReadSoFar}
-use Rattle.hsms_tasks.proofs.input.read_whole.Given as goal
+use Rattle.hsms_tasks.proofs.input.read_past.Given as goal
 
 -- what was read so far is the front of the input, and its end wasn't found
 abbrev pub invariant-loop-source : goal.invariant-loop-source
