@@ -5,8 +5,10 @@ mod closing;
 mod connections;
 mod depths;
 mod discards;
+mod forms;
 mod limits;
 mod orders;
+mod other_ends;
 mod rules;
 mod sessions;
 mod timers;
@@ -50,7 +52,9 @@ use Happening::{Cut, Discarded, Down, Sent, T3, Taken, Up};
 use closing::CLOSING;
 use connections::{ALONE, CONNECTIONS};
 use discards::DISCARDS;
+use forms::FORMS;
 use orders::ORDERS;
+use other_ends::{CONNECTS, LISTENS};
 use rules::BROKEN;
 use sessions::SESSIONS;
 use timers::TIMERS;
@@ -102,17 +106,11 @@ fn entry(alloc: Global, time: u64, happening: Happening) -> Result<Entry, AllocE
 }
 
 fn settings(max: u32) -> Option<Settings> {
-    Settings::new(
-        Role::Host,
-        Side::Active,
-        0,
-        45000,
-        6000,
-        10000,
-        5000,
-        max,
-        32,
-    )
+    settings_of(Role::Host, Side::Active, max)
+}
+
+fn settings_of(role: Role, link: Side, max: u32) -> Option<Settings> {
+    Settings::new(role, link, 0, 45000, 6000, 10000, 5000, max, 32)
 }
 
 /// What the readers tell.
@@ -276,6 +274,20 @@ fn what_is_discarded_has_a_cause(rt: HostRuntime) -> Result<(), Fail> {
 #[test]
 fn timers_to_the_millisecond(rt: HostRuntime) -> Result<(), Fail> {
     judge_host(&rt, rt.alloc(), TIMERS)
+}
+
+#[test]
+fn what_messages_look_like(rt: HostRuntime) -> Result<(), Fail> {
+    judge_host(&rt, rt.alloc(), FORMS)
+}
+
+#[test]
+fn which_end_may_send_what(rt: HostRuntime) -> Result<(), Fail> {
+    let listens = settings_of(Role::Host, Side::Passive, 256).ok_or("the settings")?;
+    judge_all(&rt, rt.alloc(), listens, LISTENS)?;
+    let connects = settings_of(Role::Equipment, Side::Active, 256).ok_or("the settings")?;
+    judge_all(&rt, rt.alloc(), connects, CONNECTS)?;
+    Ok(())
 }
 
 #[test]
@@ -499,17 +511,7 @@ fn judge_refused(rt: &impl Abort, alloc: Global, tracker: &mut Tracker) -> Resul
 /// An equipment that listens is selected, and tells the host of the two primaries that expired.
 #[test]
 fn an_equipment_that_listens(rt: HostRuntime) -> Result<(), Fail> {
-    let settings = Settings::new(
-        Role::Equipment,
-        Side::Passive,
-        0,
-        45000,
-        6000,
-        10000,
-        5000,
-        1_048_576,
-        32,
-    );
+    let settings = settings_of(Role::Equipment, Side::Passive, 1_048_576);
     let mut tracker = Tracker::new(rt.alloc(), settings.ok_or("the settings")?);
     judge_expired(&rt, rt.alloc(), &mut tracker)?;
     judge_refused(&rt, rt.alloc(), &mut tracker)?;

@@ -366,4 +366,44 @@ pub const CASES: &[Case] = &[
             waiting: 0,
         }),
     },
+    Case {
+        name: "a line that fails behind lines that carry nothing",
+        after: FIRST,
+        lines: "# x\n\n0 up\n#\n0 up\n",
+        verdict: Verdict::Fail {
+            line: 6,
+            why: Why::Broken(Rule::NotUp),
+        },
+    },
+    Case {
+        name: "an unreadable line before one that breaks a rule",
+        after: FIRST,
+        lines: "0 up\nx\n0 up\n",
+        verdict: Verdict::Fail {
+            line: 3,
+            why: Why::Unreadable,
+        },
+    },
+    Case {
+        name: "a line that breaks a rule before an unreadable one",
+        after: FIRST,
+        lines: "0 up\n0 up\nx\n",
+        verdict: Verdict::Fail {
+            line: 3,
+            why: Why::Broken(Rule::NotUp),
+        },
+    },
+    Case {
+        name: "a cut is no expiry of a primary",
+        after: SELECTED,
+        lines: "1000 > 00008101000000000002\n1000 > ffff0000000500000003\n7001 cut t6\n7001 down\n",
+        verdict: Verdict::Pass(Summary {
+            entries: 7,
+            sent: 3,
+            taken: 1,
+            discarded: 0,
+            expired: 0,
+            waiting: 1,
+        }),
+    },
 ];

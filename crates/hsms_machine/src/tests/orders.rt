@@ -68,6 +68,37 @@ pub const ORDERS: &[Case] = &[
         waiting: 0,
     },
     Case {
+        name: "a cut after Separate.req",
+        after: SELECTED,
+        entries: &[(6, Sent(SEPARATE, 2, &[])), (6, Cut(Cause::Length))],
+        broken: Some(Rule::Ended),
+        waiting: 0,
+    },
+    Case {
+        name: "a cut by T8 after a cut",
+        after: SELECTED,
+        entries: &[(6, Cut(Cause::Length)), (6, Cut(Cause::T8))],
+        broken: Some(Rule::Ended),
+        waiting: 0,
+    },
+    Case {
+        name: "a cut by T7 after Separate.req",
+        after: CONNECTED,
+        entries: &[(6, Sent(SEPARATE, 2, &[])), (10000, Cut(Cause::T7))],
+        broken: Some(Rule::Ended),
+        waiting: 0,
+    },
+    Case {
+        name: "Linktest.req after Separate.req was taken",
+        after: SELECTED,
+        entries: &[
+            (6, Taken(SEPARATE, 2, &[])),
+            (6, Taken(LINKTEST_REQ, 3, &[])),
+        ],
+        broken: Some(Rule::Ended),
+        waiting: 0,
+    },
+    Case {
         name: "Ended before PType",
         after: SELECTED,
         entries: &[

@@ -198,7 +198,7 @@ fn item_of(alloc: Global, lists: usize, octets: usize) -> Result<Item, AllocErro
 
 fn input_of(alloc: Global, met: &Met) -> Result<Input, AllocError> {
     let item = item_of(alloc, met.lists, met.octets)?;
-    Ok(Input::Send(Message::new(met.stream, met.function, met.wait, Some(item))))
+    Ok(Input::Send(Message::new(met.stream.min(127), met.function, met.wait, Some(item))))
 }
 
 /// The fault of a call. Want of memory is handed up.
