@@ -15,7 +15,6 @@ use crate::step::Step;
 use hsms_end::{Desk, End, EndFault};
 use hsms_frame::Sink;
 use hsms_machine::{Entry, Phase};
-use std::alloc::Global;
 
 // The octets that one wait takes at most.
 const ROOM: usize = 4096;
@@ -69,7 +68,6 @@ pub fn deliver<L: Link, W: Sink>(
 
 /// Asks the clock, and tells the end the moment.
 fn tick<L: Link, W: Sink, D: Desk>(
-    alloc: Global,
     link: &mut L,
     log: &mut W,
     end: &mut End<D>,
@@ -89,7 +87,6 @@ fn tick<L: Link, W: Sink, D: Desk>(
 
 /// Tells the end the octets that came.
 fn hand_octets<L: Link, W: Sink, D: Desk>(
-    alloc: Global,
     link: &mut L,
     log: &mut W,
     end: &mut End<D>,
@@ -109,7 +106,6 @@ fn hand_octets<L: Link, W: Sink, D: Desk>(
 
 /// Tells the end that the connection was lost.
 fn hand_lost<L: Link, W: Sink, D: Desk>(
-    alloc: Global,
     link: &mut L,
     log: &mut W,
     end: &mut End<D>,
@@ -127,7 +123,7 @@ fn hand_lost<L: Link, W: Sink, D: Desk>(
 }
 
 /// Tells the end a step.
-fn tell<D: Desk>(end: &mut End<D>, alloc: Global, step: &Step) -> Result<Vec<Entry>, EndFault>
+fn tell<D: Desk>(end: &mut End<D>, step: &Step) -> Result<Vec<Entry>, EndFault>
     ensures { MatchResult result
         (λ entries. Accepts D.answers end.old (input_of step.now) entries.items end.new)
         (λ fault. Refuses end.old (input_of step.now) fault end.new) }
@@ -141,7 +137,6 @@ fn tell<D: Desk>(end: &mut End<D>, alloc: Global, step: &Step) -> Result<Vec<Ent
 
 /// Takes the next step of the script.
 fn take_step<L: Link, W: Sink, D: Desk>(
-    alloc: Global,
     link: &mut L,
     log: &mut W,
     end: &mut End<D>,
@@ -158,7 +153,7 @@ fn take_step<L: Link, W: Sink, D: Desk>(
         progress.old.entries progress.new.entries progress.old.refused progress.new.refused }
 {
     let place = progress.place;
-    let answer = tell(end, alloc, &script[place]);
+    let answer = tell(end, &script[place]);
     match answer {
         Ok(entries) => {
             progress.place += 1;
@@ -178,7 +173,6 @@ fn take_step<L: Link, W: Sink, D: Desk>(
 
 /// Hears octets: the tick, and, unless it ended the connection, the octets.
 fn hear_octets<L: Link, W: Sink, D: Desk>(
-    alloc: Global,
     link: &mut L,
     log: &mut W,
     end: &mut End<D>,
@@ -189,12 +183,12 @@ fn hear_octets<L: Link, W: Sink, D: Desk>(
     ensures { Followed D.answers result end.old (bytes octets.now) end.new (W.state log.old) (W.state log.new)
         (L.told link.old) (L.told link.new) count.old count.new }
 {
-    match tick(alloc, link, log, end, count) {
+    match tick(link, log, end, count) {
         Ok(()) => {
             if has_gone(end) {
                 Ok(())
             } else {
-                hand_octets(alloc, link, log, end, octets, count)
+                hand_octets(link, log, end, octets, count)
             }
         }
         Err(stop) => Err(stop),
@@ -203,7 +197,6 @@ fn hear_octets<L: Link, W: Sink, D: Desk>(
 
 /// Hears that the peer closed: the tick, and, unless it ended the connection, that it was lost.
 fn hear_closed<L: Link, W: Sink, D: Desk>(
-    alloc: Global,
     link: &mut L,
     log: &mut W,
     end: &mut End<D>,
@@ -213,12 +206,12 @@ fn hear_closed<L: Link, W: Sink, D: Desk>(
     ensures { Followed D.answers result end.old lost end.new (W.state log.old) (W.state log.new)
         (L.told link.old) (L.told link.new) count.old count.new }
 {
-    match tick(alloc, link, log, end, count) {
+    match tick(link, log, end, count) {
         Ok(()) => {
             if has_gone(end) {
                 Ok(())
             } else {
-                hand_lost(alloc, link, log, end, count)
+                hand_lost(link, log, end, count)
             }
         }
         Err(stop) => Err(stop),
@@ -227,7 +220,6 @@ fn hear_closed<L: Link, W: Sink, D: Desk>(
 
 /// One wait, with what follows it, where no step is due.
 fn wait_once<L: Link, W: Sink, D: Desk>(
-    alloc: Global,
     link: &mut L,
     log: &mut W,
     end: &mut End<D>,
@@ -241,14 +233,13 @@ fn wait_once<L: Link, W: Sink, D: Desk>(
     let mut into = [0u8; ROOM];
     let until = until(end);
     match link.wait(until, &mut into) {
-        Ok(got) => heed(alloc, link, log, end, got, &into, count),
+        Ok(got) => heed(link, log, end, got, &into, count),
         Err(_) => Err(Stop::Link),
     }
 }
 
 /// What follows an answer of `wait`.
 fn heed<L: Link, W: Sink, D: Desk>(
-    alloc: Global,
     link: &mut L,
     log: &mut W,
     end: &mut End<D>,
@@ -263,8 +254,8 @@ fn heed<L: Link, W: Sink, D: Desk>(
 {
     match got {
         Got::Quiet => Ok(()),
-        Got::Octets(length) => hear_octets(alloc, link, log, end, &into[..length], count),
-        Got::Closed => hear_closed(alloc, link, log, end, count),
+        Got::Octets(length) => hear_octets(link, log, end, &into[..length], count),
+        Got::Closed => hear_closed(link, log, end, count),
     }
 }
 
@@ -278,7 +269,6 @@ fn until<D: Desk>(end: &End<D>) -> Option<u64> {
 
 /// One turn of an end that isn't down.
 fn turn<L: Link, W: Sink, D: Desk>(
-    alloc: Global,
     link: &mut L,
     log: &mut W,
     end: &mut End<D>,
@@ -292,15 +282,14 @@ fn turn<L: Link, W: Sink, D: Desk>(
         (W.state log.old) (W.state log.new) (L.told link.old) (L.told link.new)
         progress.old.entries progress.new.entries progress.old.refused progress.new.refused }
 {
-    match tick(alloc, link, log, end, &mut progress.entries) {
-        Ok(()) => continue_turn(alloc, link, log, end, script, progress),
+    match tick(link, log, end, &mut progress.entries) {
+        Ok(()) => continue_turn(link, log, end, script, progress),
         Err(stop) => Err(stop),
     }
 }
 
 /// What follows the first tick of a turn.
 fn continue_turn<L: Link, W: Sink, D: Desk>(
-    alloc: Global,
     link: &mut L,
     log: &mut W,
     end: &mut End<D>,
@@ -317,9 +306,9 @@ fn continue_turn<L: Link, W: Sink, D: Desk>(
         return Ok(());
     }
     if step_is_due(end, script, progress.place) {
-        take_step(alloc, link, log, end, script, progress)
+        take_step(link, log, end, script, progress)
     } else {
-        wait_once(alloc, link, log, end, &mut progress.entries)
+        wait_once(link, log, end, &mut progress.entries)
     }
 }
 
@@ -333,7 +322,6 @@ fn step_is_due<D: Desk>(end: &End<D>, script: &[Step], place: usize) -> bool
 
 /// At most so many turns, while the connection isn't down.
 pub fn take_turns<L: Link, W: Sink, D: Desk>(
-    alloc: Global,
     link: &mut L,
     log: &mut W,
     end: &mut End<D>,
@@ -349,7 +337,7 @@ pub fn take_turns<L: Link, W: Sink, D: Desk>(
 {
     let mut done = 0;
     while done < turns && !has_gone(end) {
-        match turn(alloc, link, log, end, script, progress) {
+        match turn(link, log, end, script, progress) {
             Ok(()) => done += 1,
             Err(stop) => return Err(stop),
         }

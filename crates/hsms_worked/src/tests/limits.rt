@@ -35,13 +35,12 @@ fn sent(entries: &[Entry]) -> Option<(usize, u32)> {
 
 /// What comes of sending S1F1 with an item.
 fn send_item(
-    alloc: Global,
     wait: bool,
     item: Option<Item>,
     end: &mut End<EquipmentDesk>,
 ) -> Result<Option<(usize, u32)>, EndFault> {
     let input = Input::Send(Message::new(1, 1, wait, item));
-    let entries = tell(alloc, end, &input)?;
+    let entries = tell(end, &input)?;
     Ok(sent(&entries))
 }
 
@@ -70,12 +69,11 @@ fn fault_of(answer: Result<Option<(usize, u32)>, EndFault>) -> Result<Option<End
 /// An item is refused with a fault.
 fn assert_refused(
     rt: &impl Abort,
-    alloc: Global,
     end: &mut End<EquipmentDesk>,
     item: Item,
     want: EndFault,
 ) -> Result<(), Fail> {
-    let answer = send_item(alloc, false, Some(item), end);
+    let answer = send_item(false, Some(item), end);
     assert_fault(rt, fault_of(answer)?, Some(want), "refused");
     Ok(())
 }
@@ -83,22 +81,21 @@ fn assert_refused(
 /// A message with an item is sent in so many octets, with these system bytes.
 fn assert_sent(
     rt: &impl Abort,
-    alloc: Global,
     end: &mut End<EquipmentDesk>,
     wait: bool,
     item: Option<Item>,
     want: (usize, u32),
 ) -> Result<(), Fail> {
-    let answer = send_item(alloc, wait, item, end)?;
+    let answer = send_item(wait, item, end)?;
     assert_eq!(rt; answer, Some(want));
     Ok(())
 }
 
 /// No transaction is open for another primary that awaits a reply, nor for a Linktest.req.
-fn assert_full(rt: &impl Abort, alloc: Global, end: &mut End<EquipmentDesk>) {
-    let full = send_item(alloc, true, None, end);
+fn assert_full(rt: &impl Abort, end: &mut End<EquipmentDesk>) {
+    let full = send_item(true, None, end);
     assert_fault(rt, full.err(), Some(EndFault::Full), "a primary");
-    let full = tell(alloc, end, &Input::Linktest);
+    let full = tell(end, &Input::Linktest);
     assert_fault(rt, full.err(), Some(EndFault::Full), "a linktest");
 }
 
@@ -108,10 +105,10 @@ fn judge_greatest(
     alloc: Global,
     end: &mut End<EquipmentDesk>,
 ) -> Result<(), Fail> {
-    assert_refused(rt, alloc, end, zeros(alloc, 245)?, EndFault::TooLong)?;
-    assert_refused(rt, alloc, end, nested(alloc, 33)?, EndFault::TooDeep)?;
-    assert_sent(rt, alloc, end, false, Some(zeros(alloc, 244)?), (256, 1))?;
-    assert_sent(rt, alloc, end, false, Some(nested(alloc, 32)?), (74, 2))
+    assert_refused(rt, end, zeros(alloc, 245)?, EndFault::TooLong)?;
+    assert_refused(rt, end, nested(alloc, 33)?, EndFault::TooDeep)?;
+    assert_sent(rt, end, false, Some(zeros(alloc, 244)?), (256, 1))?;
+    assert_sent(rt, end, false, Some(nested(alloc, 32)?), (74, 2))
 }
 
 #[test]
@@ -121,12 +118,12 @@ fn the_greatest_items(rt: HostRuntime) -> Result<(), Fail> {
 }
 
 /// 64 transactions are open at most.
-fn judge_open(rt: &impl Abort, alloc: Global, end: &mut End<EquipmentDesk>) -> Result<(), Fail> {
+fn judge_open(rt: &impl Abort, end: &mut End<EquipmentDesk>) -> Result<(), Fail> {
     for system in 1..=64u32 {
-        assert_sent(rt, alloc, end, true, None, (10, system))?;
+        assert_sent(rt, end, true, None, (10, system))?;
     }
-    assert_full(rt, alloc, end);
-    assert_sent(rt, alloc, end, false, None, (10, 65))?;
+    assert_full(rt, end);
+    assert_sent(rt, end, false, None, (10, 65))?;
     assert_eq!(rt; end.own_open(), 64);
     Ok(())
 }
@@ -134,7 +131,7 @@ fn judge_open(rt: &impl Abort, alloc: Global, end: &mut End<EquipmentDesk>) -> R
 #[test]
 fn the_most_own_transactions(rt: HostRuntime) -> Result<(), Fail> {
     let mut end = selected(rt.alloc())?;
-    judge_open(&rt, rt.alloc(), &mut end)
+    judge_open(&rt, &mut end)
 }
 
 /// Answers by the stream: 1 with no item, 2 with nothing, any other one with want of memory.
