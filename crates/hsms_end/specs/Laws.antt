@@ -75,8 +75,8 @@ abbrev pub FirstFreeIsOne : Type 0
 FirstFreeIsOne =
     (view : View) (next one other : ℕ) → IsFirstFree view next one → IsFirstFree view next other → one ≡ other
 
--- An own message takes the first free number from the next one on. The next one is then one more, wrapping after ffffffff
--- to 0: it follows the number that was taken, also where others were passed over.
+-- An own message takes the first free number from the next one on. The next one is then one more, wrapping after
+-- ffffffff to 0: it follows the number that was taken, also where others were passed over.
 abbrev pub NextNumberFollowsTheTakenOne : Type 0
 NextNumberFollowsTheTakenOne =
     (end : Known) (frame : ℕ → Frame) (acts : List Act) (entries : List Entry) (end' : Known)

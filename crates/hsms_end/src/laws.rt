@@ -35,8 +35,8 @@ pub fn free_number_is_among_the_next_65()
     ensures one { FirstFreeIsOne }
 {}
 
-/// The number from which own ones are tried next is one past the one that was taken, also where numbers before that were
-/// in use and passed over.
+/// The number from which own ones are tried next is one past the one that was taken, also where numbers before that
+/// were in use and passed over.
 pub fn next_number_follows_the_taken_one()
     ensures { NextNumberFollowsTheTakenOne }
 {}

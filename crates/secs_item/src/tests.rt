@@ -299,6 +299,70 @@ fn no_growth_for_a_text_with_more_behind_it(rt: HostRuntime) {
     assert_fault(&rt, decode_text(rt.alloc(), octets, DEPTH).err(), trailing);
 }
 
+/// An item of each type, its type and how many values it has.
+const FORMATS: &[(&[u8], (&str, usize))] = &[
+    (b"\x01\x01\x01\0", ("L", 1)),
+    (b"\x21\x01\0", ("B", 1)),
+    (b"\x25\x01\0", ("BOOLEAN", 1)),
+    (b"\x41\x01\0", ("A", 1)),
+    (b"\x45\x01\0", ("J", 1)),
+    (b"\x49\x01\0", ("C2", 1)),
+    (b"\x61\x08\0\0\0\0\0\0\0\0", ("I8", 1)),
+    (b"\x65\x01\0", ("I1", 1)),
+    (b"\x69\x02\0\0", ("I2", 1)),
+    (b"\x71\x04\0\0\0\0", ("I4", 1)),
+    (b"\x81\x08\0\0\0\0\0\0\0\0", ("F8", 1)),
+    (b"\x91\x04\0\0\0\0", ("F4", 1)),
+    (b"\xa1\x08\0\0\0\0\0\0\0\0", ("U8", 1)),
+    (b"\xa5\x01\0", ("U1", 1)),
+    (b"\xa9\x02\0\0", ("U2", 1)),
+    (b"\xb1\x04\0\0\0\0", ("U4", 1)),
+];
+
+fn kind_of(item: &Item) -> (&'static str, usize) {
+    match item {
+        Item::List(elements) => ("L", elements.len()),
+        Item::Binary(values) => ("B", values.len()),
+        Item::Boolean(values) => ("BOOLEAN", values.len()),
+        Item::Ascii(values) => ("A", values.len()),
+        Item::Jis8(values) => ("J", values.len()),
+        Item::Char2(values) => ("C2", values.len()),
+        Item::I1(values) => ("I1", values.len()),
+        Item::I2(values) => ("I2", values.len()),
+        Item::I4(values) => ("I4", values.len()),
+        Item::I8(values) => ("I8", values.len()),
+        Item::U1(values) => ("U1", values.len()),
+        Item::U2(values) => ("U2", values.len()),
+        Item::U4(values) => ("U4", values.len()),
+        Item::U8(values) => ("U8", values.len()),
+        Item::F4(values) => ("F4", values.len()),
+        Item::F8(values) => ("F8", values.len()),
+    }
+}
+
+fn assert_kind(rt: &impl Abort, item: &Item, want: (&str, usize)) {
+    assert_eq!(rt; kind_of(item), want);
+}
+
+fn judge_kind(
+    rt: &impl Abort,
+    alloc: Global,
+    octets: &[u8],
+    want: (&str, usize),
+) -> Result<(), ItemFault> {
+    let (item, _) = decode_front(alloc, octets, DEPTH)?;
+    assert_kind(rt, &item, want);
+    Ok(())
+}
+
+#[test]
+fn each_type(rt: HostRuntime) -> Result<(), Fail> {
+    for (octets, want) in FORMATS {
+        judge_kind(&rt, rt.alloc(), octets, *want)?;
+    }
+    Ok(())
+}
+
 #[test]
 fn every_two_octets(rt: HostRuntime) {
     let mut counts = [0u32; 6];
