@@ -448,7 +448,7 @@ def an_idle_end_does_nothing():
         same(run.poll(), None)
         now_seconds, now_waits = spent(run)
         within(0, now_seconds - seconds, 0.2)
-        within(0, now_waits - waits, 50)
+        within(0, now_waits - waits, 20)
     for peer in (new_peer, begun_peer, idle_peer):
         peer.close()
 
