@@ -13,7 +13,7 @@ use crate::link::Link;
 use crate::output::{Stop, log_all};
 use crate::range::entries_are_in_range;
 use crate::step::Step;
-use crate::turns::{Progress, deliver, has_gone, take_turns};
+use crate::turns::{Progress, deliver, has_gone, now, take_turns};
 use hsms_end::{Desk, End};
 use hsms_frame::Sink;
 use hsms_log::write_settings;
@@ -135,7 +135,7 @@ fn begin<L: Link, W: Sink, D: Desk>(
     ensures { (now : ℕ) × Handed D.answers result end.old (start now) end.new (W.state log.old) (W.state log.new)
         (L.told link.old) (L.told link.new) (moment_heard now) count.old count.new }
 {
-    let now = link.now();
+    let now = now(link);
     let answer = end.start(now);
     match answer {
         Ok(entries) => deliver(link, log, &entries, count),

@@ -3,7 +3,7 @@
 ghost use Rattle.std.specs.Prelude.{◌≡◌, ◌<◌, ℕ, List, drop, length, true, MatchResult};
 ghost use Rattle.hsms_end.specs.Turn.{tick as ticks, bytes, lost};
 ghost use Rattle.hsms_end.specs.End.{Accepts, Refuses};
-ghost use Rattle.hsms_ends.specs.Link.{IsGot, moment_heard, nothing_heard};
+ghost use Rattle.hsms_ends.specs.Link.{Asks, IsGot, moment_heard, nothing_heard};
 ghost use Rattle.hsms_ends.specs.PutOut.{AllFitLengthField};
 ghost use Rattle.hsms_ends.specs.Turning.{HasNotGone, MustWait, has_gone as is_down, is_idle as is_free, is_step_due as step_due, input_of};
 ghost use Rattle.hsms_ends.specs.Outcome.{IsReady, Yields, Handed, Followed, Heeded, Continued, TurnTaken, TurnsTaken};
@@ -66,6 +66,13 @@ pub fn deliver<L: Link, W: Sink>(
     put_out(link, log, entries)
 }
 
+/// Asks the clock: the link's moment.
+pub fn now<L: Link>(link: &mut L) -> u64
+    ensures { Asks (L.told link.old) (L.told link.new) result }
+{
+    link.now()
+}
+
 /// Asks the clock, and tells the end the moment.
 fn tick<L: Link, W: Sink, D: Desk>(
     link: &mut L,
@@ -77,7 +84,7 @@ fn tick<L: Link, W: Sink, D: Desk>(
     ensures { (now : ℕ) × Handed D.answers result end.old (ticks now) end.new (W.state log.old) (W.state log.new)
         (L.told link.old) (L.told link.new) (moment_heard now) count.old count.new }
 {
-    let now = link.now();
+    let now = now(link);
     let answer = end.tick(now);
     match answer {
         Ok(entries) => deliver(link, log, &entries, count),

@@ -28,7 +28,7 @@ returns-in-Ok g c =
         takes = takes_by g.D.Desk.answers c.deliver.result c.args.end.now (ticks now) c.in-Ok.entries.items c.tick-answer.new.self c.in-Ok.ensures;
         leads = leads_itself c.deliver.result c.tick-answer.new.self;
         yields = yields_along c.deliver.result log log' (told c.args.link.now) (told c.deliver.new.link) c.args.count.now c.deliver.new.count _ _ (moment_heard now) c.deref.ensures.value
-            (yields_asked c.deliver.result log log' (told c.args.link.now) (told c.now-now.new.self) (told c.deliver.new.link) c.args.count.now c.deliver.new.count now _ c.now-now.ensures c.deliver.ensures);
+            (yields_asked c.deliver.result log log' (told c.args.link.now) (told c.now-now.new.link) (told c.deliver.new.link) c.args.count.now c.deliver.new.count now _ c.now-now.ensures c.deliver.ensures);
       },
     )
 
@@ -42,6 +42,6 @@ returns-in-Err g c =
         end' = c.args.end.now;
         takes = inr (refl, refl);
         leads = tt;
-        yields = yields_asked_alone log (told c.args.link.now) (told c.now-now.new.self) c.args.count.now c.now-now.result c.now-now.ensures;
+        yields = yields_asked_alone log (told c.args.link.now) (told c.now-now.new.link) c.args.count.now c.now-now.result c.now-now.ensures;
       },
     )
