@@ -4,7 +4,6 @@ ghost use Rattle.std.specs.Prelude.{◌≡◌, ℕ};
 ghost use Rattle.hsms_end.specs.Known.{untold};
 ghost use Rattle.hsms_end.specs.Turn.{start};
 ghost use Rattle.hsms_ends.specs.Link.{moment_heard};
-ghost use Rattle.hsms_ends.specs.PutOut.{log_lines};
 ghost use Rattle.hsms_ends.specs.Serving.{Serves};
 ghost use Rattle.hsms_ends.specs.Outcome.{IsReady, Handed, Ran, ServesEnd, ClosedLink, RestClosed, StoppedAs};
 
@@ -173,7 +172,7 @@ fn close<W: Sink, D: Desk>(log: &mut W, end: &mut End<D>) -> ServeFault
 
 /// Logs the entries of `lost`.
 fn close_rest<W: Sink>(log: &mut W, entries: &[Entry]) -> ServeFault
-    ensures { RestClosed result (W.state log.old) (W.state log.new) (log_lines entries.now) }
+    ensures { RestClosed result (W.state log.old) (W.state log.new) entries.now }
 {
     match log_all(log, entries) {
         Ok(()) => ServeFault::Link,

@@ -59,7 +59,7 @@ pub fn deliver<L: Link, W: Sink>(
 ) -> Result<(), Stop>
     requires { AllFitLengthField entries.now }
     ensures { Yields result (W.state log.old) (W.state log.new) (L.told link.old) (L.told link.new)
-        count.old count.new entries.now nothing_heard }
+        count.old count.new entries.now entries.now nothing_heard }
 {
     entries_are_in_range(entries);
     *count = count.saturating_add(entries.len() as u64);
