@@ -1,0 +1,5 @@
+pub mod Number
+pub mod Front
+pub mod Segment
+pub mod File
+pub mod Laws

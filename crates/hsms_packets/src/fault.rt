@@ -1,0 +1,41 @@
+//! Why octets are no capture.
+
+ghost use Rattle.std.specs.Prelude.{◌≡◌};
+ghost use Rattle.hsms_packets.specs.declared.fault.CaptureFault.TheVariants.{Memory};
+
+use std::alloc::AllocFailed;
+use thiserror::Error;
+
+/// Why octets are no capture that is read.
+#[derive(Clone, Copy, Debug, PartialEq, Eq, Error)]
+pub enum CaptureFault {
+    /// The first octets are those of no capture that is read.
+    #[error("Unknown")]
+    Unknown,
+    /// A record or block claims more octets than any has, or fewer than its own fields.
+    #[error("Length")]
+    Length,
+    /// A block's second length isn't its first.
+    #[error("Trailer")]
+    Trailer,
+    /// A section's byte order is neither.
+    #[error("Order")]
+    Order,
+    /// A packet names an interface that no block of its section describes.
+    #[error("Interface")]
+    Interface,
+    /// An interface's resolution is finer than 2^-63 or 10^-19 seconds.
+    #[error("Resolution")]
+    Resolution,
+    /// There is no memory.
+    #[error("Memory")]
+    Memory,
+}
+
+impl<T: Drop> From<AllocFailed<T>> for CaptureFault {
+    ghost from_gives = { λ _ f. f ≡ Memory };
+
+    fn from(_: AllocFailed<T>) -> CaptureFault {
+        CaptureFault::Memory
+    }
+}
