@@ -43,7 +43,12 @@ impl Model for Reader {
 
     ghost Value = { State };
 
-    ghost view = { λ r. record { format = r.format; interfaces = r.interfaces.items; packets = r.packets; place = r.place } };
+    ghost view = { λ r. record {
+      format = r.format;
+      interfaces = r.interfaces.items;
+      packets = r.packets;
+      place = r.place;
+    } };
 
     ghost invariant = { λ r. HasParts r.format };
 }
