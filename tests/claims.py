@@ -19,7 +19,7 @@ sys.dont_write_bytecode = True
 from command import DRIVER, PROGRAM, Answer, answer_of, refuser
 from second_reading.lists import Answering, Listed
 from second_reading.session import Settings
-from second_reading.talks import Told
+from second_reading.talks import Maker, Told
 from worked import ENTRIES, message, octets, refused
 
 # How much more an input may take than one that claims nothing, in octets.
@@ -63,7 +63,7 @@ def list_with(piece):
     """The list of an end that is selected, to which these octets come then."""
     settings = Settings("equipment", "passive", 0, 45000, 6000, 10000, 5000, GREATEST, 100)
     told = [Told("start", 0), Told("hear", message("ffff0000000100000001")), Told("hear", piece)]
-    return Listed(settings, b"", 1, told)
+    return Listed(Maker(settings, b"", 1), told)
 
 
 def at_end(piece, beside):
