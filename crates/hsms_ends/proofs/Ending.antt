@@ -4,7 +4,6 @@ use Rattle.std.specs.Prelude.{Option, Result, All}
 use Rattle.std.proofs.lemmas.List.{append-nil}
 use Rattle.std.proofs.lemmas.List.Elements.{All-append}
 use Rattle.secs_text.specs.Content.{Content}
-use Rattle.hsms_frame.specs.Count.{next_count}
 use Rattle.hsms_frame.specs.Device.{SinkState}
 use Rattle.hsms_machine.specs.declared.entry.Entry.{Entry}
 use Rattle.hsms_machine.specs.Step.{is_gone}

@@ -1,6 +1,6 @@
 -- Turns in a row.
-use Rattle.std.proofs.Common.{◌≡◌, ◌+◌, ◌++◌, ℕ, List, [], ◌∷◌, length, true, false, refl, sym, ap, ◌∙◌, subst, arith, append_assoc, zero-add, add_assoc, length-append, ◌<◌, drop, get_or, add-one, drop-cons}
-use Rattle.std.specs.Prelude.{Bool, ◌||◌}
+use Rattle.std.proofs.Common.{◌≡◌, ◌+◌, ◌++◌, ℕ, List, [], ◌∷◌, length, Some, None, false, refl, sym, ap, ◌∙◌, subst, arith, append_assoc, zero-add, add_assoc, length-append, ◌<◌, drop, get_or, add-one, drop-cons}
+use Rattle.std.specs.Prelude.{Bool, Option}
 use Rattle.std.proofs.lemmas.List.{append-nil}
 use Rattle.secs_text.specs.Content.{Content}
 use Rattle.hsms_machine.specs.declared.entry.Entry.{Entry}
@@ -8,26 +8,38 @@ use Rattle.hsms_end.specs.Answer.{Answered}
 use Rattle.hsms_end.specs.Known.{EndOf}
 use Rattle.hsms_ends.specs.declared.step.Step.{Step}
 use Rattle.hsms_ends.specs.declared.step.Step.TheVariants.{Separate}
-use Rattle.hsms_ends.specs.Link.{Heard, both, nothing_heard}
+use Rattle.hsms_ends.specs.Link.{Heard, later, both, nothing_heard}
 use Rattle.hsms_ends.specs.Turning.{is_idle, is_step_due, Turn, IsTurn, AreTurns, entries_turn, entries_turns, heard_turn, heard_turns, refused_turn, refused_turns}
 use Rattle.hsms_ends.proofs.Hearing.{both_nothing}
 
-or_assoc : (a b c : Bool) → ((a || b) || c) ≡ (a || (b || c))
-or_assoc true b c = refl
-or_assoc false b c = refl
+later_assoc : (a b c : Option Bool) → later (later a b) c ≡ later a (later b c)
+later_assoc a b None = refl
+later_assoc a b (Some closed) = refl
+
+none_later : (a : Option Bool) → later None a ≡ a
+none_later None = refl
+none_later (Some closed) = refl
 
 pub both_assoc : (a b c : Heard) → both (both a b) c ≡ both a (both b c)
 both_assoc a b c =
-    let m : List ℕ → List ℕ → ℕ → Bool → Heard = λ x y w d. record { moments = x; given = y; waits = w; closed = d } in
-    ap (λ x. m x ((a.given ++ b.given) ++ c.given) ((a.waits + b.waits) + c.waits) ((a.closed || b.closed) || c.closed)) (append_assoc a.moments b.moments c.moments)
-    ∙ ap (λ y. m (a.moments ++ (b.moments ++ c.moments)) y ((a.waits + b.waits) + c.waits) ((a.closed || b.closed) || c.closed)) (append_assoc a.given b.given c.given)
-    ∙ ap (λ w. m (a.moments ++ (b.moments ++ c.moments)) (a.given ++ (b.given ++ c.given)) w ((a.closed || b.closed) || c.closed)) (add_assoc a.waits b.waits c.waits)
-    ∙ ap (λ d. m (a.moments ++ (b.moments ++ c.moments)) (a.given ++ (b.given ++ c.given)) (a.waits + (b.waits + c.waits)) d) (or_assoc a.closed b.closed c.closed)
+    let m : List ℕ → List ℕ → ℕ → ℕ → Option Bool → Heard = λ x y w n d. record { moments = x; given = y; waits = w; closes = n; closed = d } in
+    let moments = a.moments ++ (b.moments ++ c.moments) in
+    let given = a.given ++ (b.given ++ c.given) in
+    let waits = (a.waits + b.waits) + c.waits in
+    let closes = (a.closes + b.closes) + c.closes in
+    let closed = later (later a.closed b.closed) c.closed in
+    ap (λ x. m x ((a.given ++ b.given) ++ c.given) waits closes closed) (append_assoc a.moments b.moments c.moments)
+    ∙ ap (λ y. m moments y waits closes closed) (append_assoc a.given b.given c.given)
+    ∙ ap (λ w. m moments given w closes closed) (add_assoc a.waits b.waits c.waits)
+    ∙ ap (λ n. m moments given (a.waits + (b.waits + c.waits)) n closed) (add_assoc a.closes b.closes c.closes)
+    ∙ ap (λ d. m moments given (a.waits + (b.waits + c.waits)) (a.closes + (b.closes + c.closes)) d) (later_assoc a.closed b.closed c.closed)
 
 pub nothing_both : (a : Heard) → both nothing_heard a ≡ a
 nothing_both a =
-    let m : ℕ → Heard = λ w. record { moments = a.moments; given = a.given; waits = w; closed = a.closed } in
-    ap m (zero-add a.waits)
+    let m : ℕ → ℕ → Option Bool → Heard = λ w n d. record { moments = a.moments; given = a.given; waits = w; closes = n; closed = d } in
+    ap (λ w. m w (0 + a.closes) (later None a.closed)) (zero-add a.waits)
+    ∙ ap (λ n. m a.waits n (later None a.closed)) (zero-add a.closes)
+    ∙ ap (λ d. m a.waits a.closes d) (none_later a.closed)
 
 pub heard_snoc : (turns : List Turn) (turn : Turn) → heard_turns (turns ++ turn ∷ []) ≡ both (heard_turns turns) (heard_turn turn)
 heard_snoc [] turn = both_nothing (heard_turn turn) ∙ sym (nothing_both (heard_turn turn))

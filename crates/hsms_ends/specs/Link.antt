@@ -1,5 +1,5 @@
 -- What a link tells of its calls.
-use Rattle.std.specs.Prelude.{◌≡◌, ◌<◌, ◌≤◌, ◌+◌, ◌^◌, ◌++◌, ℕ, Bool, true, false, ◌||◌, List, [], ◌∷◌, length, take, Option, Some, Result, Ok, Err}
+use Rattle.std.specs.Prelude.{◌≡◌, ◌<◌, ◌≤◌, ◌+◌, ◌^◌, ◌++◌, ℕ, Bool, true, false, List, [], ◌∷◌, length, take, Option, Some, None, Result, Ok, Err}
 use Rattle.hsms_frame.specs.Count.{next_count}
 use Rattle.hsms_frame.specs.Device.{WhereTold, Grows, Stays}
 use Rattle.hsms_ends.specs.declared.link.Got.{Got}
@@ -7,23 +7,35 @@ use Rattle.hsms_ends.specs.declared.link.Got.TheVariants.{Octets, Quiet, Closed}
 use Rattle.hsms_ends.specs.declared.fault.LinkFault.{LinkFault}
 
 -- what a link tells: the moments that `now` answered, the octets that `wait` gave and those that `send` took, each in
--- order and where the link tells them; how many waits it answered; whether it answered one by Closed; how often it
--- failed
+-- order and where the link tells them; how many waits it answered, and how many of them by Closed; whether the last one
+-- was answered so; how often it failed
 pub record Told : Type 0 where
   pub moments : Option (List ℕ)
   pub given : Option (List ℕ)
   pub taken : Option (List ℕ)
   pub waits : ℕ
+  pub closes : ℕ
   pub closed : Bool
   pub failures : ℕ
 
 -- what is heard of a link in a stretch of calls: the moments, the octets that it gave, how many waits it answered, and
--- whether it answered one by Closed
+-- how many of them by Closed; and, where it answered one, whether the last was answered so
 pub record Heard : Type 0 where
   pub moments : List ℕ
   pub given : List ℕ
   pub waits : ℕ
-  pub closed : Bool
+  pub closes : ℕ
+  pub closed : Option Bool
+
+-- whether the last answer was Closed, after a stretch of calls
+abbrev pub closed_after : Bool → Option Bool → Bool
+closed_after before None = before
+closed_after before (Some closed) = closed
+
+-- whether the last answer in two stretches was Closed, where there is one
+abbrev pub later : Option Bool → Option Bool → Option Bool
+later a None = a
+later a (Some closed) = Some closed
 
 -- these moments were answered since, where the link tells them now: it has told those before them too. A link may stop
 -- telling moments, so this doesn't begin with those before.
@@ -39,22 +51,23 @@ pub record Hears (old new : Told) (heard : Heard) : Type 0 where
   pub moments : Recalls old.moments new.moments heard.moments
   pub given : Grows old.given new.given heard.given
   pub waits : RisesBy old.waits new.waits heard.waits
-  pub closed : new.closed ≡ (old.closed || heard.closed)
+  pub closes : RisesBy old.closes new.closes heard.closes
+  pub closed : new.closed ≡ closed_after old.closed heard.closed
 
 abbrev pub nothing_heard : Heard
-nothing_heard = record { moments = []; given = []; waits = 0; closed = false }
+nothing_heard = record { moments = []; given = []; waits = 0; closes = 0; closed = None }
 
 abbrev pub moment_heard : ℕ → Heard
-moment_heard now = record { moments = now ∷ []; given = []; waits = 0; closed = false }
+moment_heard now = record { moments = now ∷ []; given = []; waits = 0; closes = 0; closed = None }
 
 abbrev pub octets_heard : List ℕ → Heard
-octets_heard octets = record { moments = []; given = octets; waits = 1; closed = false }
+octets_heard octets = record { moments = []; given = octets; waits = 1; closes = 0; closed = Some false }
 
 abbrev pub quiet_heard : Heard
-quiet_heard = record { moments = []; given = []; waits = 1; closed = false }
+quiet_heard = record { moments = []; given = []; waits = 1; closes = 0; closed = Some false }
 
 abbrev pub closed_heard : Heard
-closed_heard = record { moments = []; given = []; waits = 1; closed = true }
+closed_heard = record { moments = []; given = []; waits = 1; closes = 1; closed = Some true }
 
 -- what is heard in one stretch and then in another
 abbrev pub both : Heard → Heard → Heard
@@ -62,7 +75,8 @@ both a b = record {
   moments = a.moments ++ b.moments;
   given = a.given ++ b.given;
   waits = a.waits + b.waits;
-  closed = a.closed || b.closed;
+  closes = a.closes + b.closes;
+  closed = later a.closed b.closed;
 }
 
 -- what `now` leaves, where it answers this moment

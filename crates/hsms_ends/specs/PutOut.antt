@@ -124,8 +124,8 @@ Delivered (Err Link) old new octets = TakesPart old new octets
 Delivered (Err Log) old new octets = TakesAll old new octets ⊎ TakesPart old new octets
 Delivered (Err Memory) old new octets = TakesAll old new octets
 
--- The entries were put out, as far as the answer says, and this was heard of the link. The lines of `whole` are whole in
--- the log, and only what these entries sent was taken by the link.
+-- The entries were put out, as far as the answer says, and this was heard of the link. Those of `whole` have whole lines
+-- in the log, and only what these sent was taken by the link.
 pub record PutsOut (result : Result (Unit {0}) Stop) (log log' : SinkState) (link link' : Told) (entries : List Entry) (heard : Heard) : Type 0 where
   pub whole : List Entry
   pub rest : List Entry

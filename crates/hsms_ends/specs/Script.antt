@@ -1,15 +1,17 @@
 -- What contracts see of the link in memory.
 use Rattle.std.specs.Prelude.{◌≡◌, ◌-◌, ◌^◌, ◌++◌, zero, suc, ℕ, Bool, true, false, List, [], ◌∷◌, Option, Some, None, length, take, drop, map, get_or, min, nat_lt, option_map, if◌then◌else◌}
 use Rattle.std.specs.List.{flat_map}
+use Rattle.hsms_frame.specs.Count.{next_count}
 use Rattle.hsms_ends.specs.declared.link.Got.{Got}
 use Rattle.hsms_ends.specs.declared.link.Got.TheVariants.{Octets, Quiet, Closed}
 use Rattle.hsms_ends.specs.Link.{Told}
 
 -- the peer of such a link: the octets that it gave; the waits that are left, the first of them without what was given
--- of it, where None is a wait in which nothing comes; whether it was heard to have closed the connection
+-- of it, where None is a wait in which nothing comes; how many waits it answered by Closed, and whether the last one so
 pub record PeerState : Type 0 where
   pub given : List ℕ
   pub left : List (Option (List ℕ))
+  pub closes : ℕ
   pub closed : Bool
 
 -- the octets of a wait in which some come
@@ -60,10 +62,16 @@ is_closed (Octets n) = false
 is_closed Quiet = false
 is_closed Closed = true
 
+-- how many answers were Closed, after this one
+abbrev pub closes_after : Got → ℕ → ℕ
+closes_after (Octets n) closes = closes
+closes_after Quiet closes = closes
+closes_after Closed closes = next_count closes
+
 -- a link in memory: the moments of its clock, and how often that was asked; what its peer says; the octets that it
 -- took, and the room behind them; how many octets a call moves at most; how often it was called to wait or to send, and
--- after how many such calls each fails; how many waits it answered, and whether one by Closed; how often it failed;
--- until when it was asked to wait at last
+-- after how many such calls each fails; how many waits it answered, how many of them by Closed, and whether the last one
+-- so; how often it failed; until when it was asked to wait at last
 pub record ScriptState : Type 0 where
   pub moments : List ℕ
   pub asked : ℕ
@@ -75,6 +83,7 @@ pub record ScriptState : Type 0 where
   pub fuse : ℕ
   pub calls : ℕ
   pub waits : ℕ
+  pub closes : ℕ
   pub closed : Bool
   pub failures : ℕ
   pub until : Option ℕ
@@ -96,6 +105,7 @@ told_of s = record {
   given = Some s.given;
   taken = Some s.taken;
   waits = s.waits;
+  closes = s.closes;
   closed = s.closed;
   failures = s.failures;
 }

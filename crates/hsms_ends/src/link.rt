@@ -19,8 +19,8 @@ pub enum Got {
 /// A connection to a peer, and a clock. A wait that fails gives no octets, and a send that fails takes none.
 pub trait Link {
     /// The moments that were answered, the octets that were given and those that were taken, where it tells them; how
-    /// many waits it answered, whether one by `Closed`, and how often it failed. Each count stays at its greatest
-    /// value.
+    /// many waits it answered, how many of them by `Closed`, and whether the last one so; how often it failed. Each
+    /// count stays at its greatest value.
     ghost told: { Self → Told };
 
     /// The moment now, in milliseconds from any beginning.

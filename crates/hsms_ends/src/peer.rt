@@ -13,7 +13,9 @@ pub struct Peer {
     /// The wait that is answered next, and how many of its octets were given.
     place: usize,
     within: usize,
-    has_closed: bool,
+    /// How many waits were answered by `Closed`, and whether the last one was.
+    closes: u64,
+    is_closed: bool,
 }
 
 impl Model for Peer {
@@ -25,7 +27,8 @@ impl Model for Peer {
     ghost view = { λ p. record {
       given = given_of (λ v. v.items) p.waits.items p.place p.within;
       left = left_of (λ v. v.items) p.waits.items p.place p.within;
-      closed = p.has_closed;
+      closes = p.closes;
+      closed = p.is_closed;
     } };
 
     ghost invariant = { λ p. (p.place ≤ vec_len p.waits)
@@ -33,20 +36,26 @@ impl Model for Peer {
 }
 
 impl Peer {
-    ghost use Rattle.std.specs.Prelude.{◌≡◌, ◌<◌, ◌++◌, ◌||◌, [], length, map, option_map, false};
+    ghost use Rattle.std.specs.Prelude.{◌≡◌, ◌<◌, ◌++◌, [], length, map, option_map, false};
     ghost use Rattle.hsms_ends.specs.Link.{IsGot};
-    ghost use Rattle.hsms_ends.specs.Script.{Answers, pass_over, got_octets, is_closed};
+    ghost use Rattle.hsms_ends.specs.Script.{Answers, pass_over, got_octets, closes_after, is_closed as answers_closed};
 
     /// A peer that has said nothing yet.
     pub fn new(waits: Vec<Option<Vec<u8>>>) -> Peer
         ensures { result
-            ≡ record { given = []; left = map (option_map (λ v. v.items)) waits.items; closed = false } }
+            ≡ record {
+              given = [];
+              left = map (option_map (λ v. v.items)) waits.items;
+              closes = 0;
+              closed = false;
+            } }
     {
         Peer {
             waits,
             place: 0,
             within: 0,
-            has_closed: false,
+            closes: 0,
+            is_closed: false,
         }
     }
 
@@ -56,14 +65,17 @@ impl Peer {
         requires piece { 0 < piece }
         ensures got { IsGot into.new result }
         ensures given { self.new.given ≡ self.old.given ++ got_octets into.new result }
-        ensures closed { self.new.closed ≡ (self.old.closed || is_closed result) }
+        ensures closes { self.new.closes ≡ closes_after result self.old.closes }
+        ensures closed { self.new.closed ≡ answers_closed result }
         ensures answers { Answers (pass_over self.old.left) piece into.new result self.new.left }
     {
         let (place, within) = next_wait(&self.waits, self.place, self.within);
         self.place = place;
         self.within = within;
+        self.is_closed = false;
         if place == self.waits.len() {
-            self.has_closed = true;
+            self.is_closed = true;
+            self.closes = self.closes.saturating_add(1);
             return Got::Closed;
         }
         match give(&self.waits, place, within, into, piece) {

@@ -45,6 +45,7 @@ impl Model for Scripted {
       fuse = s.fuse;
       calls = s.calls;
       waits = s.waits;
+      closes = s.peer.closes;
       closed = s.peer.closed;
       failures = s.failures;
       until = s.until;
@@ -77,6 +78,7 @@ impl Scripted {
           fuse = fuse;
           calls = 0;
           waits = 0;
+          closes = 0;
           closed = false;
           failures = 0;
           until = None;

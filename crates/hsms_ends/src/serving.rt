@@ -39,11 +39,12 @@ pub struct Served {
 /// **The log is the text of a run of the session machine, so that `audit` passes it** (`Serves`;
 /// `laws::served_log_passes`). In it:
 ///
-/// - *the log*: what was written since the call, of a sink that tells it; after the answer `Log` a part of such a text
-///   from its front.
+/// - *the log*: what was written since the call, of a sink that tells it; after the answer `Log` whole lines and a part
+///   of the next one, whose entry the end gave in its last call.
 /// - *of a run*: the entries that the end gave for its inputs (`Accepts` of `hsms_end`), in the order of the turns
 ///   (`IsStory`); moments, octets and the answers of waits are those of the link.
-/// - The link took the octets of the sent messages, in order: all, or where a device failed a part from their front.
+/// - The link took the octets of the sent messages whose lines are whole in the log, in order: all, or where it failed a
+///   part from their front. As this holds wherever the log fails, the link is at no moment ahead of the log.
 /// - `Ok` and `Link` are answered only where the last entry is `down`, `Turns` only where it isn't and so many turns were
 ///   taken.
 ///

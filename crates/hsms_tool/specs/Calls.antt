@@ -9,6 +9,7 @@ told_of calls = record {
   given = None;
   taken = None;
   waits = calls.waits;
+  closes = calls.closes;
   closed = calls.is_closed;
   failures = calls.failures;
 }

@@ -6,11 +6,12 @@ ghost use Rattle.hsms_tool.specs.Calls.{told_of};
 
 use hsms_ends::{Got, LinkFault};
 
-/// How many waits were answered, whether one by `Closed`, and how often the link failed. The counts stay at their
-/// greatest value.
+/// How many waits were answered, how many of them by `Closed`, and whether the last one so; how often the link failed.
+/// The counts stay at their greatest value.
 #[derive(Clone, Copy, Debug)]
 pub struct Calls {
     pub waits: u64,
+    pub closes: u64,
     pub is_closed: bool,
     pub failures: u64,
 }
@@ -18,10 +19,11 @@ pub struct Calls {
 impl Calls {
     /// None so far.
     pub fn new() -> Calls
-        ensures { result ≡ record { waits = 0; is_closed = false; failures = 0 } }
+        ensures { result ≡ record { waits = 0; closes = 0; is_closed = false; failures = 0 } }
     {
         Calls {
             waits: 0,
+            closes: 0,
             is_closed: false,
             failures: 0,
         }
@@ -33,10 +35,12 @@ impl Calls {
         ensures { Waits (told_of self.old) (told_of self.new) into.now result }
     {
         self.waits = self.waits.saturating_add(1);
+        self.is_closed = false;
         match got {
             Got::Octets(count) => Ok(Got::Octets(count)),
             Got::Quiet => Ok(Got::Quiet),
             Got::Closed => {
+                self.closes = self.closes.saturating_add(1);
                 self.is_closed = true;
                 Ok(Got::Closed)
             }
