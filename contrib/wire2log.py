@@ -17,10 +17,12 @@ import os
 import socket
 import struct
 import sys
-from collections import namedtuple
+from collections import deque, namedtuple
 
 MODULUS = 1 << 32  # of TCP's sequence numbers
-FIN, SYN, RST, ACK = 1, 2, 4, 16
+FARTHEST = 1 << 26  # octets; what is farther from the octets that are there is another connection's
+LOOKAHEAD = 4096  # packets of a connection, within which missing octets may still come
+FIN, SYN, RST, PSH, ACK = 1, 2, 4, 8, 16
 KINDS = {1: "select.req", 2: "select.rsp", 5: "linktest.req", 6: "linktest.rsp", 7: "reject", 9: "separate"}
 
 # Byte order and parts of a second, by the first octets of a pcap file.
@@ -30,6 +32,12 @@ PCAP = {
 }
 PCAPNG = b"\n\r\r\n"
 SECTION, INTERFACE, PACKET, SIMPLE, ENHANCED = 0x0A0D0D0A, 1, 2, 3, 6
+
+# Octets of a value, by the format codes of items.
+SIZES = {
+    0o10: 1, 0o11: 1, 0o20: 1, 0o21: 1, 0o22: 1, 0o30: 8, 0o31: 1, 0o32: 2, 0o34: 4, 0o40: 8, 0o44: 4, 0o50: 8,
+    0o51: 1, 0o52: 2, 0o54: 4,
+}
 
 IPV4, IPV6 = 0x0800, 0x86DD
 VLAN = {0x8100, 0x88A8, 0x9100}
@@ -192,6 +200,8 @@ def segment_of(packet):
     except (IndexError, ValueError, struct.error):
         raise LeftOut("cut off within its headers")
     header = (words >> 4) * 4
+    if len(octets) < length:
+        raise LeftOut("that isn't whole in the capture")
     return Segment(
         packet.number, packet.nanoseconds, f"{source}:{source_port}", f"{target}:{target_port}",
         (sequence + 1) % MODULUS if flags & SYN else sequence, acknowledged, flags, octets[header:], length - header,
@@ -261,35 +271,68 @@ def segments(path, connections):
         warn(f"packet {numbers[0]} {why} is left out" + (f", and {len(numbers) - 1} more" if numbers[1:] else ""))
 
 
+class Arrival:
+    """A packet of the connection that is judged. `place` and `acknowledged` are places of the two directions."""
+
+    def __init__(self, segment, index, clock, place, acknowledged):
+        self.number, self.nanoseconds, self.index, self.clock = segment.number, segment.nanoseconds, index, clock
+        self.place, self.acknowledged = place, acknowledged
+        self.flags, self.data = segment.flags, segment.data
+        self.waits = False
+
+    def is_keep_alive(self, acknowledged):
+        """Whether it repeats one octet to ask for an answer: such an octet may be made up."""
+        return len(self.data) == 1 and not self.flags & PSH and self.place < acknowledged
+
+
 class Way:
-    """One direction of a connection: its octets in order. Places are sequence numbers that are counted on past 2^32."""
+    """One direction of a connection: its octets in order. The SYN has place 0, the first octet behind it place 1."""
 
-    def __init__(self, first=None):
-        self.next, self.octets = first, bytearray()
-        self.early = []  # segments that came before their turn, the first one in front
-        self.reach = 0  # the place behind all octets that are known to have been sent
+    def __init__(self, first):
+        self.first = first  # the sequence number of place 1
+        self.end = 1  # the place behind what is there without a gap
         self.fin = None
-        self.skipped = 0
-        self.last = None  # when an octet came last
+        self.octets, self.kept = bytearray(), 1  # from the place `kept` on
+        self.cut = 1  # the place of the next message
+        self.acknowledged = 0  # the greatest place that was acknowledged
+        self.early = []  # packets behind a gap, the first place in front
+        self.brought = deque()  # each packet that brought octets, with the place behind them
+        self.told, self.last = 1, None  # up to which place octets were told, and when
+        self.has_begun = False
 
-    def take(self, segment):
-        away = (segment.sequence - self.next) % MODULUS
-        place = self.next + (away if away < MODULUS // 2 else away - MODULUS)
-        self.reach = max(self.reach, place + segment.length)
-        if segment.flags & FIN:
-            self.fin = place + segment.length
-        heapq.heappush(self.early, (place, segment.data))
-        while self.early and self.early[0][0] <= self.next:
-            place, data = heapq.heappop(self.early)
-            fresh = data[self.next - place:]
-            self.octets += fresh
-            self.next += len(fresh)
+    def place(self, sequence):
+        """The place of a sequence number, nearest to the end; None where it is another connection's."""
+        away = (sequence - self.first + 1 - self.end + MODULUS // 2) % MODULUS - MODULUS // 2
+        return self.end + away if abs(away) <= FARTHEST else None
 
-    def has_gap(self):
-        return self.next is not None and self.reach > self.next
+    def reach(self):
+        """The place behind all that is there without a gap, a FIN among it."""
+        return self.end + (self.fin == self.end)
 
-    def has_ended(self):
-        return self.fin is not None and self.next >= self.fin
+    def bring(self, arrival):
+        """Takes in what a packet has. Of two copies the first one counts; answers whether a later one differs."""
+        if self.fin == self.end or arrival.is_keep_alive(self.acknowledged):
+            return False
+        begin = max(arrival.place, self.kept, self.acknowledged)
+        again = arrival.data[begin - arrival.place:self.end - arrival.place] if begin < self.end else b""
+        differs = again != self.octets[begin - self.kept:begin - self.kept + len(again)]
+        fresh = arrival.data[self.end - arrival.place:]
+        self.octets += fresh
+        self.end += len(fresh)
+        if fresh:
+            self.brought.append((self.end, arrival))
+        if arrival.flags & FIN and arrival.place + len(arrival.data) == self.end:
+            self.fin = self.end
+        return differs
+
+    def forget(self):
+        """Lets go of the octets that are cut into messages and can't be compared any more."""
+        behind = min(self.cut, max(self.acknowledged, self.end - FARTHEST))
+        if behind > self.kept:
+            del self.octets[:behind - self.kept]
+            self.kept = behind
+        while self.brought and self.brought[0][0] < self.cut:
+            self.brought.popleft()
 
 
 # Messages.
@@ -304,6 +347,9 @@ class Frame:
         self.stream, self.wants_reply = self.byte2 & 127, self.byte2 > 127
         self.opens = self.ptype == 0 and self.stype in (1, 5) or self.is_data and self.byte3 % 2 and self.wants_reply
         self.answers = self.ptype == 0 and self.stype in (2, 6) or self.is_data and self.byte3 % 2 == 0
+
+    def is_select_rsp(self):
+        return self.ptype == 0 and self.stype == 2
 
     def is_answered_by(self, other):
         if self.system != other.system or other.ptype:
@@ -329,23 +375,39 @@ def begins_message(octets, greatest=33554432):
     return octets[9] in (0, 7) or octets[9] in KINDS and octets[4:6] == b"\xff\xff"
 
 
-class Log:
-    """Writes lines, and holds them back while octets of the connection are missing."""
+def is_text(octets, depth):
+    """Whether a message's text is empty, or one item within the depth."""
+    place, to_come = 0, [1] if octets else []
+    while to_come:
+        if not to_come[-1]:
+            to_come.pop()
+            continue
+        to_come[-1] -= 1
+        code, count = (octets[place] >> 2, octets[place] & 3) if place < len(octets) else (None, 0)
+        place += 1 + count
+        if not count or place > len(octets):
+            return False
+        length = int.from_bytes(octets[place - count:place], "big")
+        if code == 0 and len(to_come) <= depth:
+            to_come.append(length)
+        elif code in SIZES and length % SIZES[code] == 0 and place + length <= len(octets):
+            place += length
+        else:
+            return False
+    return place == len(octets)
 
-    def __init__(self):
-        self.held, self.gap = [], None
+
+class Log:
+    """Writes lines, the settings in front of the first one."""
+
+    def __init__(self, settings):
+        self.settings = settings
 
     def put(self, line):
-        self.held.append(line)
-
-    def packet_ends(self, number, has_gap):
-        """Tells what was missing once a packet was taken in."""
-        if has_gap:
-            self.gap = self.gap or number
-            return
-        self.gap = None
-        sys.stdout.writelines(line + "\n" for line in self.held)
-        self.held.clear()
+        if self.settings:
+            print(self.settings)
+        self.settings = None
+        print(line)
 
 
 class Session:
@@ -355,15 +417,22 @@ class Session:
         self.options, self.log = options, log
         self.data, self.control, self.expired, self.asked = {}, {}, {}, set()
         self.is_selected = self.is_over = False
+        self.separated = None  # whether the end that logs sent the Separate, once there is one
 
-    def begin(self, packet):
-        if self.options.joined is None:
-            self.log.put(f"# packet {packet}: SYN and ACK\n0 up")
-            return
-        request, response = "><" if self.options.link == "active" else "<>"
-        self.log.put("# assumed: the connection was up and selected before the capture\n0 up")
-        self.log.put(f"0 {request} ffff00000001ffffffff\n0 {response} ffff00000002ffffffff")
-        self.is_selected = True
+    def begin(self, packet, why):
+        self.log.put(f"# packet {packet}: {why}\n0 up")
+
+    def begin_joined(self, is_selected, request=None):
+        """The capture begins within the session: what stood before it is supposed."""
+        ask, answer = "><" if self.options.link == "active" else "<>"
+        before = "up and selected" if is_selected else "up"
+        self.log.put(f"# assumed: the connection was {before} before the capture\n0 up")
+        if is_selected:
+            self.log.put(f"0 {ask} ffff00000001ffffffff\n0 {answer} ffff00000002ffffffff")
+        elif request is not None:
+            self.log.put(f"# assumed: the Select.req that is answered\n0 {ask} ffff00000001{request}")
+            self.asked.add((ask == ">", request))
+        self.is_selected = is_selected
 
     def end(self, now, packet, why):
         self.expire(now)
@@ -383,8 +452,7 @@ class Session:
 
     def sent(self, now, packet, frame):
         self.expire(now)
-        if self.is_unasked(frame, True):
-            self.leave_out(packet, frame)
+        if self.is_left_out(now, packet, frame, True):
             return
         if frame.opens:
             open_ones = self.data if frame.is_data else self.control
@@ -395,8 +463,7 @@ class Session:
 
     def received(self, now, packet, frame):
         self.expire(now)
-        if self.is_unasked(frame, False):
-            self.leave_out(packet, frame)
+        if self.is_left_out(now, packet, frame, False):
             return
         mark, note = "<", ""
         if self.options.assume and self.is_over:
@@ -413,13 +480,24 @@ class Session:
         if frame.ptype == 0:
             self.is_selected |= frame.stype == 2 and frame.byte3 == 0
             self.is_over |= frame.stype == 9
+            if frame.stype == 9 and self.separated is None:
+                self.separated = was_sent
 
-    def is_unasked(self, frame, was_sent):
+    def is_left_out(self, now, packet, frame, was_sent):
+        """Whether a frame can't be judged: a comment says why."""
+        why = None
+        if self.is_unasked(now, frame, was_sent):
+            why = "what it answers isn't in the capture"
+        elif self.separated is not None and self.separated != was_sent and not (self.options.assume and not was_sent):
+            why = "it crossed a Separate, and may not have been read"
+        if why:
+            self.log.put(f"# packet {packet}: {frame}, left out: {why}")
+        return why is not None
+
+    def is_unasked(self, now, frame, was_sent):
         """Whether a frame answers one that came before a capture which begins within the session."""
-        return self.options.joined is not None and frame.answers and (not was_sent, frame.system) not in self.asked
-
-    def leave_out(self, packet, frame):
-        self.log.put(f"# packet {packet}: {frame}, left out: what it answers isn't in the capture")
+        is_early = self.options.joined is not None and now <= self.options.t3
+        return is_early and frame.answers and (not was_sent, frame.system) not in self.asked
 
     def closes(self, frame):
         """Whether a received frame answers an open one, which is closed."""
@@ -437,101 +515,262 @@ class Ended(Exception):
     """Why the log ends before the connection."""
 
 
-class Reader:
-    """Takes in the segments of one connection, and has its session write the log of one end."""
+class Beginnings:
+    """Where each direction of a connection begins, of which the capture lacks the SYN."""
 
-    def __init__(self, options, connection):
-        self.options, self.log = options, Log()
-        self.session = Session(options, self.log)
+    def __init__(self, options):
+        self.options, self.pieces, self.sizes, self.idle = options, {}, {}, {}
+
+    def see(self, segment):
+        if segment.flags & ACK:
+            self.idle.setdefault(segment.target, segment.acknowledged)
+        first = self.idle.setdefault(segment.source, segment.sequence)
+        size = self.sizes[segment.source] = self.sizes.get(segment.source, 0) + len(segment.data)
+        if segment.data and size <= FARTHEST:
+            away = (segment.sequence - first + MODULUS // 2) % MODULUS - MODULUS // 2
+            self.pieces.setdefault(segment.source, []).append((away, segment.data))
+
+    def of(self, end):
+        """The sequence number of the first octet of a direction."""
+        run, begin, behind = bytearray(), 0, 0
+        for away, data in [*sorted(self.pieces.get(end, [])), (MODULUS, b"")]:
+            if away > begin + len(run):
+                found = self.message_in(run)
+                if found is not None:
+                    return (self.idle[end] + begin + found) % MODULUS
+                run, begin = bytearray(), away
+            run += data[max(0, begin + len(run) - away):] if run else data
+            behind = max(behind, away + len(data)) if data else behind
+        return (self.idle.get(end, 0) + behind) % MODULUS
+
+    def message_in(self, run):
+        """The first place from which on whole messages are read: one, and the next two as far as they are there."""
+        for place in range(len(run) - 13):
+            size = self.size_at(run, place)
+            following = place + (size or 0)
+            for _ in range(2):
+                if not size:
+                    break
+                if len(run) - following < 14:
+                    return place
+                size = self.size_at(run, following, is_first=False)
+                following += size or 0
+            if size:
+                return place
+        return None
+
+    def size_at(self, run, place, is_first=True):
+        """The octets of the message at a place, where it can be one of this session and is there whole."""
+        length = int.from_bytes(run[place:place + 4], "big")
+        if not 10 <= length <= self.options.max or run[place + 8]:
+            return None
+        session, stype = int.from_bytes(run[place + 4:place + 6], "big"), run[place + 9]
+        is_there = place + 4 + length <= len(run)
+        if stype == 0:
+            fits = session == self.options.device
+            if fits and is_there:
+                fits = is_text(run[place + 14:place + 4 + length], self.options.depth)
+        else:
+            fits = stype in KINDS and length == 10 and (stype == 7 or session == 0xFFFF)
+        return 4 + length if fits and (is_there or not is_first) else None
+
+
+Doubt = namedtuple("Doubt", "index why is_settled")
+
+# The octets of a direction are there up to a place, since they were brought, or since they were acknowledged.
+Delivery = namedtuple("Delivery", "arrival way upto is_told_by_ack")
+
+
+class Reader:
+    """Takes in the packets of one connection, and has its session write the log of one end.
+
+    The turn of a packet is the packet itself, or, where its place is behind a gap, the one that fills the gap. At its
+    turn it first acknowledges and then brings octets. A message happens at the first turn that brings its last octet
+    or acknowledges it. What was acknowledged and is never captured, or lies behind a gap that is never filled, is a
+    loss: nothing is told of what happens at the packet that shows it, or later.
+    """
+
+    def __init__(self, options, connection, log):
+        self.options, self.log, self.session = options, log, Session(options, log)
         self.active, self.passive = connection.active, connection.passive
-        self.ways, self.zero, self.now = {}, None, 0
-        self.is_down, self.after_down, self.backwards = False, 0, 0
+        self.ways = {end: Way(first) for end, first in connection.begins.items()}
+        self.begin = 0 if options.joined is None else None  # the packet from which on both directions are there
+        self.index, self.clock, self.zero, self.now = 0, 0, None, 0
+        self.queue, self.doubts, self.undecided = deque(), deque(), []
+        self.is_up, self.is_down, self.is_decided = options.joined is not None, False, False
+        self.after_down = self.backwards = self.strange = 0
 
     def take(self, segment):
-        if self.is_down:
-            self.after_down += bool(segment.length)
+        self.index += 1
+        way, other = self.ways[segment.source], self.ways[segment.target]
+        place = way.place(segment.sequence)
+        acknowledged = other.place(segment.acknowledged) if segment.flags & ACK else 0
+        if place is None or acknowledged is None:
+            self.strange += 1
             return
-        self.look_for_beginning(segment)
-        if self.zero is None:
-            return
-        self.tell_time(segment)
-        way = self.ways[segment.source]
-        if way.next is None:
-            self.look_for_message(way, segment)
-        if way.next is not None and not segment.flags & RST:
-            before = way.next
-            way.take(segment)
-            self.messages(way, segment, way.next > before)
-        if way.has_ended() or segment.flags & RST:
-            self.session.end(self.now, segment.number, f"{'RST' if segment.flags & RST else 'FIN'} of the "
-                             f"{'end that logs' if self.is_own(segment.source) else 'peer'}")
-            self.is_down = True
-        self.log.packet_ends(segment.number, any(way.has_gap() for way in self.ways.values()))
-
-    def is_own(self, end):
-        return (end == self.active) == (self.options.link == "active")
-
-    def look_for_beginning(self, segment):
-        if self.zero is not None:
-            return
-        if self.options.joined is not None:
-            self.ways = {self.active: Way(), self.passive: Way()}
-        elif segment.flags & SYN and segment.flags & ACK:
-            self.ways = {self.active: Way(segment.acknowledged), self.passive: Way(segment.sequence)}
+        self.look_for_beginning(way, other, place, len(segment.data), acknowledged)
+        self.backwards += segment.nanoseconds // 10**6 < self.clock // 10**6
+        self.clock = max(self.clock, segment.nanoseconds)
+        arrival = Arrival(segment, self.index, self.clock, place, acknowledged)
+        self.doubt(arrival, "octets before it or in it aren't in the capture", lambda: other.reach() >= acknowledged)
+        if place > way.end:
+            arrival.waits = bool(arrival.data) or bool(arrival.flags & (FIN | RST))
+            self.doubt(arrival, "octets before it aren't in the capture", lambda: not arrival.waits)
+            heapq.heappush(way.early, (place, self.index, arrival))
         else:
-            return
-        self.zero = segment.nanoseconds
-        self.session.begin(segment.number)
+            self.turns(way, other, arrival)
+        self.put_out()
 
-    def tell_time(self, segment):
-        now = (segment.nanoseconds - self.zero) // 10**6
-        self.backwards += now < self.now
-        self.now = max(self.now, now)
+    def look_for_beginning(self, way, other, place, length, acknowledged):
+        """In a capture that begins within the session both directions have to be there first."""
+        way.has_begun |= place <= 1 <= place + length
+        other.has_begun |= acknowledged >= 1
+        if self.begin is None and way.has_begun and other.has_begun:
+            self.begin = self.index
 
-    def look_for_message(self, way, segment):
-        """In a capture that begins within the session: the first segment that looks like the front of a message."""
-        if begins_message(segment.data, self.options.max):
-            way.next = segment.sequence
-            skipped = f", {way.skipped} octets before it are left out" if way.skipped else ""
-            self.log.put(f"# packet {segment.number}: assumed: a message of {segment.source} begins here{skipped}")
+    def doubt(self, arrival, why, is_settled):
+        if not is_settled():
+            self.doubts.append(Doubt(arrival.index, f"packet {arrival.number}: {why}", is_settled))
+
+    def turns(self, way, other, arrival):
+        """The turn of a packet, and then of those that waited for it."""
+        self.turn(way, other, arrival, arrival)
+        while way.early and way.early[0][0] <= way.end:
+            self.turn(way, other, heapq.heappop(way.early)[2], arrival)
+
+    def turn(self, way, other, arrival, at):
+        arrival.waits = False
+        if arrival.acknowledged > other.acknowledged:
+            other.acknowledged = arrival.acknowledged
+            self.queue.append(Delivery(at, other, arrival.acknowledged, True))
+        if way.bring(arrival):
+            self.doubt(at, f"packet {arrival.number} has other octets than those that came first", lambda: False)
+        self.queue.append(Delivery(at, way, way.reach(), False))
+        if arrival.flags & RST:
+            self.queue.append(Delivery(at, way, None, bool(arrival.flags & ACK)))
+
+    def put_out(self):
+        """Tells what is sure. What is missing may still come within the next packets."""
+        while self.doubts and self.doubts[0].is_settled():
+            self.doubts.popleft()
+        while self.queue and not (self.doubts and self.doubts[0].index <= self.queue[0].arrival.index):
+            self.deliver(self.queue.popleft())
+        if self.doubts and self.index - self.doubts[0].index > LOOKAHEAD:
+            raise Ended(self.doubts[0].why)
+
+    def deliver(self, delivery):
+        arrival, way, upto, is_told_by_ack = delivery
+        if self.begin is None or arrival.index < self.begin:
+            for _ in self.messages(way, arrival, upto or way.told):
+                pass
+        elif self.is_down:
+            self.after_down += upto is not None and min(upto, way.end) > way.told
+        elif upto is None:
+            self.end(arrival, way, "RST", is_told_by_ack)
         else:
-            way.skipped += segment.length
+            if self.zero is None and self.options.joined is not None:
+                self.zero = arrival.clock
+            if is_told_by_ack and upto >= 1 and way is self.ways[self.passive]:
+                self.rise(arrival, "ACK of the SYN and ACK")
+            self.tell(arrival, way, upto)
+        way.told = max(way.told, upto or 0)
 
-    def messages(self, way, segment, has_grown):
-        """Logs the messages that are there whole."""
-        is_own, is_begun = self.is_own(segment.source), way.last is not None
-        if has_grown:
-            if is_begun and not is_own and self.now - way.last > self.options.t8:
-                waited = f"{self.now - way.last} ms between octets of a message"
-                self.log.put(f"# packet {segment.number}: {waited}, past T8")
-            way.last = self.now
-        place = 0
-        while len(way.octets) - place >= 4:
+    def tell(self, arrival, way, upto):
+        """Octets of a direction up to a place are there at a packet."""
+        self.watch(arrival, way, upto)
+        for last, octets in self.messages(way, arrival, upto):
+            self.rise(arrival, "the first message")
+            is_late = last.index > arrival.index
+            self.tell_time(min(last.nanoseconds, arrival.nanoseconds) if is_late else arrival.clock)
+            self.log_message(last.number if is_late else arrival.number, Frame(octets), self.is_own(way))
+        if way.fin is not None and upto > way.fin:
+            self.end(arrival, way, "FIN", True)
+
+    def rise(self, arrival, why):
+        if not self.is_up:
+            self.is_up = True
+            if self.options.joined is None:
+                self.zero = arrival.clock
+                self.session.begin(arrival.number, why)
+
+    def tell_time(self, nanoseconds):
+        self.now = max(self.now, (nanoseconds - self.zero) // 10**6)
+
+    def watch(self, arrival, way, upto):
+        """Tells where octets of a received message come later than T8."""
+        if min(upto, way.end) <= way.told or self.zero is None:
+            return
+        now = (arrival.clock - self.zero) // 10**6
+        if way.told > way.cut and way.last is not None and not self.is_own(way) and now - way.last > self.options.t8:
+            self.log.put(f"# packet {arrival.number}: {now - way.last} ms between octets of a message, past T8")
+        way.last = now
+
+    def messages(self, way, arrival, upto):
+        """Cuts off the messages that are there whole: each with the packet that brought its last octet."""
+        upto = min(upto, way.end)
+        while upto - way.cut >= 4:
+            place = way.cut - way.kept
             length = int.from_bytes(way.octets[place:place + 4], "big")
-            if not 10 <= length <= self.options.max:
-                raise Ended(f"packet {segment.number}: a message of {segment.source} has the length {length}")
-            if len(way.octets) - place < 4 + length:
+            if length < 10 or length > self.options.max and upto - way.cut >= 14:
+                whose = "the end that logs" if self.is_own(way) else "the peer"
+                raise Ended(f"packet {arrival.number}: a message of {whose} has the length {length}")
+            if upto - way.cut < 4 + length:
                 break
-            frame = Frame(bytes(way.octets[place + 4:place + 4 + length]))
-            (self.session.sent if is_own else self.session.received)(self.now, segment.number, frame)
-            place += 4 + length
-        del way.octets[:place]
-        if not way.octets:
-            way.last = None
+            way.cut += 4 + length
+            last = next(bringer for behind, bringer in way.brought if behind >= way.cut)
+            yield last, bytes(way.octets[place + 4:place + 4 + length])
+        way.forget()
+
+    def log_message(self, number, frame, was_sent):
+        """Logs a message; in a capture that begins within the session once it is known what stood before."""
+        self.undecided.append((self.now, number, frame, was_sent))
+        if self.options.joined is None or self.is_decided:
+            self.log_undecided()
+        elif frame.is_data or frame.is_select_rsp():
+            self.decide(frame)
+
+    def decide(self, frame=None):
+        """What stood before the capture: the session was selected, unless this message shows that it wasn't."""
+        is_selected = frame is None or frame.is_data or frame.byte3 == 1
+        asked = any(other.stype == 1 and other.system == frame.system for _, _, other, _ in self.undecided if frame)
+        self.session.begin_joined(is_selected, None if is_selected or asked else frame.system)
+        self.is_decided = True
+        self.log_undecided()
+
+    def log_undecided(self):
+        for now, number, frame, was_sent in self.undecided:
+            (self.session.sent if was_sent else self.session.received)(now, number, frame)
+        self.undecided.clear()
+
+    def end(self, arrival, way, what, is_timed):
+        """The connection ends by a FIN or RST. One before the connection is up ends nothing."""
+        if not self.is_up:
+            return
+        if self.options.joined is not None and not self.is_decided:
+            self.decide()
+        if is_timed:
+            self.tell_time(arrival.clock)
+        self.session.end(self.now, arrival.number, f"{what} of the {'end that logs' if self.is_own(way) else 'peer'}")
+        self.is_down = True
+
+    def is_own(self, way):
+        return (way is self.ways[self.active]) == (self.options.link == "active")
 
     def finish(self):
         """Tells what the capture lacks."""
+        if self.doubts:
+            raise Ended(self.doubts[0].why)
+        if self.undecided:
+            self.decide()
         for end, way in self.ways.items():
-            if way.next is None and way.skipped:
-                warn(f"no message of {end} was found in {way.skipped} octets")
-            if way.octets and not self.log.gap:
+            if way.end > way.cut and not self.is_down:
                 warn(f"the connection or the capture ends within a message of {end}")
         if self.after_down:
             warn(f"{self.after_down} packets with octets after the first FIN or RST are left out")
+        if self.strange:
+            warn(f"{self.strange} packets are those of another connection of the same ports, and are left out")
         if self.backwards:
             warn(f"{self.backwards} packets are earlier than those before them, whose time they got")
-        if self.log.gap:
-            raise Ended(f"packet {self.log.gap}: octets before it or in it aren't in the capture")
 
 
 # The command line.
@@ -580,6 +819,8 @@ def chosen(given, found):
     else:
         raise Refused(f"the capture has no connection {given.connection}: the last one is {len(found) - 1}")
     if given.joined is None and not connection.came_up:
+        if connection.active:
+            raise Refused(f"connection {connection.number} never came up, or its SYN and ACK isn't in the capture")
         raise Refused(f"the capture lacks the beginning of connection {connection.number}: see --joined")
     if given.joined is not None:
         if connection.came_up:
@@ -592,26 +833,48 @@ def chosen(given, found):
     return connection
 
 
+def begins_of(given, wanted):
+    """Each end of a connection, with the sequence number of its first octet."""
+    if given.joined is None:
+        return {wanted.active: wanted.first, wanted.passive: wanted.firsts[wanted.passive]}
+    beginnings = Beginnings(given)
+    for segment in segments_of(given, wanted):
+        beginnings.see(segment)
+    return {end: beginnings.of(end) for end in (wanted.active, wanted.passive)}
+
+
+def segments_of(given, wanted):
+    for segment, connection in segments(given.capture, Connections()):
+        if connection.number == wanted.number:
+            yield segment
+
+
 def write_log(given, wanted):
-    print("hsms-log 1", given.role, given.link, given.device, given.t3, given.t6, given.t7, given.t8, given.max,
-          given.depth)
-    reader = Reader(given, wanted)
+    wanted.begins = begins_of(given, wanted)
+    log = Log(f"hsms-log 1 {given.role} {given.link} {given.device} {given.t3} {given.t6} {given.t7} {given.t8} "
+              f"{given.max} {given.depth}")
+    reader = Reader(given, wanted, log)
     try:
-        for segment, connection in segments(given.capture, Connections()):
-            if connection.number == wanted.number:
-                reader.take(segment)
+        for segment in segments_of(given, wanted):
+            reader.take(segment)
         reader.finish()
     except Ended as why:
-        reader.log.packet_ends(0, bool(reader.log.gap))
-        print(f"# {why}; the log ends here")
+        if reader.undecided:
+            reader.decide()
+        if log.settings is None:
+            log.put(f"# {why}; the log ends here")
         warn(f"{why}; the log ends before it")
-        return 1
+        return 1 if log.settings is None else 2
+    if log.settings is not None:
+        raise Refused("the connection never came up")
     return 0
 
 
 def main():
     given = options()
     try:
+        if not os.path.isfile(given.capture):
+            raise Refused(f"{given.capture} is no file: the capture is read twice, so it can't come through a pipe")
         connections = Connections()
         for _ in segments(given.capture, connections):
             pass

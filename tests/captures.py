@@ -3,13 +3,16 @@
 
 Random sessions go over the wire in pieces that are cut anywhere, come again, overlap or change places, in files of each
 form that is read. Each log has to hold the frames in the order and at the milliseconds of their last octets, and has to
-pass `hsms audit`. Then come captures of what goes wrong, each with its log, verdict or refusal.
+pass `hsms audit`. Then sessions of which packets weren't captured, or are captured in another order: each log has to
+hold the frames up to a loss, pass, and say that something is missing exactly where it is. Then come captures of what
+goes wrong, each with its log, verdict or refusal, and the smallest capture of each rule of the wire, in captures/.
 
 `captures.py` runs what `rt ci` has built. Its last line is `N passed, M failed`. `captures.py --example FILE` writes
 the capture that the documents show.
 """
 import os
 import random
+import re
 import struct
 import subprocess
 import sys
@@ -23,6 +26,7 @@ FIN, SYN, RST, PUSH, ACK = 1, 2, 4, 8, 16
 BEGIN = 1_700_000_000_000_000  # microseconds
 ACTIVE, PASSIVE = 0, 1
 RANDOM = 60
+LOSSY = 150
 
 SELECT = [(ACTIVE, "ffff0000000100000001"), (PASSIVE, "ffff0000000200000001")]
 LINKS = {"ethernet": 1, "vlan": 1, "cooked": 113, "cooked2": 276, "raw": 101, "loopback": 0}
@@ -97,14 +101,16 @@ class Talk:
         if shakes_hands:
             self.segment(ACTIVE, 0, SYN)
             self.next[ACTIVE] += 1
-            self.when = self.zero = when + 300
-            self.segment(PASSIVE, 0, SYN | ACK, acknowledged=self.next[ACTIVE])
+            self.when = when + 300
+            self.segment(PASSIVE, 0, SYN | ACK)
             self.next[PASSIVE] += 1
-            self.when += 200
+            self.when = self.zero = when + 500
             self.segment(ACTIVE, 0, ACK)
 
     def segment(self, way, place, flags, data=b"", **more):
-        self.capture.segment(self.when, way, self.next[way] + place, flags, data, **more)
+        """A segment of one end, which acknowledges what the other one has said."""
+        acknowledged = self.next[1 - way] if flags & ACK else 0
+        self.capture.segment(self.when, way, self.next[way] + place, flags, data, acknowledged, **more)
 
     def at(self, milliseconds):
         self.when = self.zero + milliseconds * 1000
@@ -183,8 +189,46 @@ def random_case(seed):
                 done += 1
         talk.next[way] += len(stream)
     talk.when += 2000
-    talk.segment(rng.randrange(2), 0, RST)
+    talk.segment(rng.randrange(2), 0, RST | ACK)
     return capture, [*lines, f"{talk.milliseconds()} down"]
+
+
+def lossy_case(seed):
+    """A capture that lacks packets or has them in another order, the frames of its session, and what is captured."""
+    rng = random.Random(seed)
+    segments, frames, next_places = [], random_frames(rng), [1001, 2001]
+    for way, frame in frames:
+        data = message(frame)
+        cuts = sorted({0, len(data), *(rng.randrange(len(data)) for _ in range(rng.randrange(3)))})
+        for begin, end in zip(cuts, cuts[1:]):
+            segments.append((way, next_places[way] + begin, PUSH | ACK, data[begin:end], next_places[1 - way]))
+        next_places[way] += len(data)
+        if rng.random() < 0.5:
+            segments.append((1 - way, next_places[1 - way], ACK, b"", next_places[way]))
+    segments.append((ACTIVE, next_places[ACTIVE], FIN | ACK, b"", next_places[PASSIVE]))
+    lost = {rng.randrange(len(segments)) for _ in range(rng.choice([0, 0, 1, 1, 2]))}
+    captured = [segment for place, segment in enumerate(segments) if place not in lost]
+    for place in range(len(captured) - 1):
+        if rng.random() < 0.15:
+            captured[place], captured[place + 1] = captured[place + 1], captured[place]
+    capture = Capture(rng.choice(FORMS), rng.choice(list(LINKS)))
+    talk = Talk(capture)
+    for way, place, flags, data, acknowledged in captured:
+        talk.when += rng.randrange(1, 1000)
+        capture.segment(talk.when, way, place, flags, data, acknowledged)
+    is_told = any(segments[place][3] for place in lost) and is_seen(captured, segments, lost)
+    return capture, [f"{'><'[way]} {frame}" for way, frame in frames], is_told
+
+
+def is_seen(captured, segments, lost):
+    """Whether the capture shows that octets are missing: acknowledged, or in front of others."""
+    for place in lost:
+        way, begin, _, data, _ = segments[place]
+        for other, start, flags, octets, acknowledged in captured:
+            is_behind = other == way and start > begin and (octets or flags & FIN)
+            if data and (other != way and acknowledged > begin or is_behind):
+                return True
+    return False
 
 
 # What goes wrong. Each gives a capture; the cases below say what is made of it.
@@ -215,7 +259,7 @@ def joined():
     talk.say(10, PASSIVE, "00000102000000000007")
     talk.say(20, ACTIVE, "00008101000000000008")
     talk.say(30, PASSIVE, "00000102000000000008")
-    talk.end(40, PASSIVE, RST)
+    talk.end(40, PASSIVE, RST | ACK)
     return talk.capture
 
 
@@ -389,15 +433,15 @@ CASES = [
      "pass entries=4 sent=1 taken=2 discarded=0 expired=0 waiting=0", 1, None),
     (cut_short, HOST, ["0 up", *SELECTED], "pass entries=3 sent=1 taken=1 discarded=0 expired=0 waiting=0", 1, None),
     (wrong_length, HOST, ["0 up", *SELECTED], "pass entries=3 sent=1 taken=1 discarded=0 expired=0 waiting=0", 1, None),
-    (after_separate, HOST, None, "fail line=11 rule=Ended", 0, ""),
-    (after_separate, EQUIPMENT, None, "fail line=11 rule=Ended", 0, ""),
+    (after_separate, HOST, None, "pass entries=5 sent=2 taken=1 discarded=0 expired=0 waiting=0", 0, ""),
+    (after_separate, EQUIPMENT, None, "pass entries=5 sent=1 taken=2 discarded=0 expired=0 waiting=0", 0, ""),
     (after_separate, [*HOST, "--assume"], None,
      "pass entries=6 sent=2 taken=1 discarded=1 expired=0 waiting=0", 0, ""),
     (never_selected, EQUIPMENT, ["0 up", "10020 down"], "fail line=5 rule=LinkOverdue", 0, ""),
     (never_selected, [*EQUIPMENT, "--assume"], ["0 up", "10020 cut t7", "10020 down"],
      "pass entries=3 sent=0 taken=0 discarded=0 expired=0 waiting=0", 0, ""),
     (slow_message, HOST,
-     ["# packet 2: SYN and ACK", "0 up", "# packet 4: select.req 00000001", "1 > ffff0000000100000001",
+     ["# packet 3: ACK of the SYN and ACK", "0 up", "# packet 4: select.req 00000001", "1 > ffff0000000100000001",
       "# packet 6: 6000 ms between octets of a message, past T8",
       "# packet 6: select.rsp 00000001", "6002 < ffff0000000200000001"], None, 0, ""),
     (slow_message, [*HOST, "--t8", "6000"],
@@ -426,9 +470,38 @@ CASES = [
 ]
 
 
+# The smallest capture of each rule of the wire, by its file: the verdicts on the active host and the passive equipment,
+# without their summary's tail; the status; the packet at which something is missing.
+SMALLEST = {
+    "refused": (None, 2, None),
+    "up-late": ("entries=3 sent=1 taken=1", 0, None),
+    "syn-ack-again": ("entries=3 sent=1 taken=1", 0, None),
+    "half-open": (None, 2, None),
+    "rst-behind-gap": ("entries=4 sent=2 taken=1", 1, 9),
+    "rst-without-ack": ("entries=5 sent=1 taken=2", 0, None),
+    "separate-crossed": ("entries=4 sent=2 taken=1", 0, None),
+    "separate-again": ("entries=4 sent=2 taken=1", 0, None),
+    "keep-alive-fills": ("entries=4 sent=2 taken=1", 1, 9),
+    "span-and-loss": ("entries=3 sent=1 taken=1", 1, 8),
+    "own-order": ("entries=5 sent=2 taken=2", 0, None),
+    "stale-ack": ("entries=3 sent=1 taken=1", 0, None),
+    "gap-at-end": ("entries=3 sent=1 taken=1", 1, 7),
+    "joined-status-1": ("entries=7 sent=3 taken=3", 0, None),
+    "joined-linktest": ("entries=5 sent=2 taken=2", 0, None),
+    "joined-one-way": ("entries=4 sent=2 taken=1", 1, 2),
+    "joined-two-pieces": ("entries=6 sent=3 taken=2", 0, None),
+    "joined-false-front": ("entries=5 sent=1 taken=3", 0, None),
+    "clock": ("entries=5 sent=2 taken=2", 0, None),
+}
+
+
 def made(path, capture, words):
     with open(path, "wb") as file:
         file.write(capture.octets)
+    return asked(path, words)
+
+
+def asked(path, words):
     return subprocess.run([sys.executable, SCRIPT, path, *words], capture_output=True, text=True, timeout=60)
 
 
@@ -455,6 +528,41 @@ def random_answers(path):
             yield f"random session {seed} {words}", told, [[SETTINGS.format(*words)], wanted, "pass", 0, ""]
 
 
+def lossy_answers(path):
+    for seed in range(LOSSY):
+        capture, frames, is_told = lossy_case(seed)
+        for words in (HOST, EQUIPMENT):
+            ended = made(path, capture, words)
+            lines = [line.split(" ", 1)[1] for line in entries(ended.stdout)]
+            found = [line for line in lines if line not in ("up", "down")]
+            wanted = (frames if words is HOST else flipped(frames))[:len(found)]
+            told = [found, verdict(ended.stdout)[:4], ended.returncode]
+            yield f"lossy session {seed} {words}", told, [wanted, "pass", int(is_told)]
+
+
+def smallest_answers(_):
+    for name, (counts, status, missing) in SMALLEST.items():
+        joined = ["--joined", "5000"] if name.startswith("joined") else []
+        for words in (HOST, EQUIPMENT):
+            ended = asked(f"{TOP}/tests/captures/{name}.pcap", [*words, *joined])
+            place = re.search(r"packet (\d+): ", ended.stderr if missing else "")
+            told = [verdict(ended.stdout).split(" discarded")[0] if ended.stdout else None, ended.returncode,
+                    int(place.group(1)) if place else None]
+            swapped = counts and re.sub(r"sent=(\d) taken=(\d)", r"sent=\2 taken=\1", counts)
+            wanted = counts if words is HOST else swapped
+            yield f"{name} {words}", told, [wanted and "pass " + wanted, status, missing]
+
+
+def refused_answers(path):
+    """A capture through a pipe isn't read."""
+    with open(path, "wb") as file:
+        file.write(late_reply().octets)
+    command = f"cat {path} | {sys.executable} {SCRIPT} /dev/stdin host active"
+    ended = subprocess.run(command, shell=True, capture_output=True, text=True, timeout=60)
+    wanted = "wire2log: /dev/stdin is no file: the capture is read twice, so it can't come through a pipe\n"
+    yield "a pipe", [ended.stdout, ended.stderr, ended.returncode], ["", wanted, 2]
+
+
 def worked_answers(path):
     for capture, words, lines, judged, status, errors in CASES:
         ended = made(path, capture(), words)
@@ -476,7 +584,7 @@ def main():
         return 0
     passed = failed = 0
     with tempfile.TemporaryDirectory(prefix="hsms-captures-") as room:
-        for answers in (random_answers, worked_answers):
+        for answers in (random_answers, lossy_answers, worked_answers, smallest_answers, refused_answers):
             for name, told, wanted in answers(f"{room}/capture"):
                 passed, failed = passed + (told == wanted), failed + (told != wanted)
                 if told != wanted:

@@ -61,14 +61,19 @@ def control(stype, system, byte3=0):
 class Serving:
     """A running `hsms serve`."""
 
-    def __init__(self, role, link, port, *options, script=None, address=HERE, stdout=subprocess.PIPE):
+    # All that were started.
+    started = []
+
+    def __init__(self, role, link, port, *options, script=None, address=HERE, stdout=subprocess.PIPE, env=None):
         words = [PROGRAM, "serve", "--role", role, "--link", link, "--address", address, "--port", str(port), *options]
         self.run = subprocess.Popen(
             words + ([] if script is None else ["--send"]),
             stdin=subprocess.DEVNULL if script is None else subprocess.PIPE,
             stdout=stdout,
             stderr=subprocess.PIPE,
+            env=env,
         )
+        Serving.started.append(self.run)
         self.read = b""
         if script is not None:
             try:
@@ -105,6 +110,15 @@ class Serving:
     def killed(self, number):
         self.run.send_signal(number)
         return self.ended()
+
+    @staticmethod
+    def stop_all():
+        """Ends what still runs of all that were started."""
+        for run in Serving.started:
+            if run.poll() is None:
+                run.kill()
+                run.wait()
+        Serving.started.clear()
 
 
 class Peer:

@@ -6,10 +6,10 @@ Use: tests/refusals.py [CRATE..]. With names of crates only what these have is r
 This is done to each test of each crate but the long ones, to ends that are told damaged lists, and to the command, on
 worked inputs and on examples. A test has to end with want of memory where an allocation was refused, since it hands
 that up; or to pass, where it looks at the answer itself and at what stands after it. Where no allocation was refused,
-it has to pass. An end has to answer as ever up to the call that tells want of memory, and from then on that it is
-spent. The command has to answer with status 3 and `hsms: Memory`, and what it wrote then has to be nothing, or of
-`show` whole lines of what it writes with ample memory; as ever, where no allocation was refused, and there as the
-worked inputs say.
+it has to pass. A test of answers that need no memory may ask for none, but for what it makes beforehand. An end has to
+answer as ever up to the call that tells want of memory, and from then on that it is spent. The command has to answer
+with status 3 and `hsms: Memory`, and what it wrote then has to be nothing, or of `show` whole lines of what it writes
+with ample memory; as ever, where no allocation was refused, and there as the worked inputs say.
 
 No program may take memory but by the calls that are refused, nor call the system past the C library. It runs what
 `rt ci` has built. The last line is `N passed, M failed`.
@@ -64,6 +64,10 @@ LONG = {"walks_of_two_ends"}
 JUDGE = ("hsms_machine tests::",)
 TRY_AGAIN = ("hsms_frame tests::framing::",)
 
+# Tests of calls that ask for no memory, and how often those do that make something for them beforehand.
+WITHOUT_GROWTH = "no_growth"
+MADE_BEFOREHAND = {"no_growth_for_what_is_too_large": 5}
+
 # A test with a desk that refuses memory itself, at last, and wants to be told so.
 REFUSES = ("hsms_worked tests::limits::a_desk_of_its_own",)
 
@@ -108,6 +112,8 @@ class Check:
     given: bytes
     is_well: Callable
     is_from_input: bool = False
+    # How many allocations it may ask for.
+    most: int = 100_000
 
 
 class Refuser:
@@ -129,14 +135,14 @@ class Refuser:
 
     def each(self, check):
         """Says what was wrong with the first run that wasn't well, if any, and how many were refused."""
-        for count in range(1, 100_000):
+        for count in range(1, check.most + 2):
             ended, was_refused = self.run(check, count)
             if not check.is_well(ended, was_refused):
                 told = (ended.stdout[-300:] + ended.stderr[-300:]).decode(errors="replace")
                 return f"allocation {count} refused: status {ended.returncode}, {told!r}", count
             if not was_refused:
                 return None, count - 1
-        return "it never ended", count
+        return f"it asked for more than {check.most} allocations", count
 
 
 def passes(ended, was_refused):
@@ -152,6 +158,11 @@ def passes_or_tells(ended, was_refused):
     return passes(ended, was_refused) or tells(ended, was_refused)
 
 
+def most_of_test(name):
+    """How many allocations a test may ask for."""
+    return MADE_BEFOREHAND.get(name, 0) if name.startswith(WITHOUT_GROWTH) else Check.most
+
+
 def judge_of_test(name):
     """What a run of a test has to do."""
     if name.startswith(JUDGE) or name.split("::")[-1].startswith("refused"):
@@ -164,8 +175,10 @@ def tests(wanted):
     for crate, program in built(wanted, OF_TESTS):
         listed = subprocess.run([program, "--list"], capture_output=True, text=True).stdout.splitlines()
         for name in (line[: -len(": test")] for line in listed if line.endswith(": test")):
-            if name.split("::")[-1] not in LONG:
-                yield Check(f"{crate} {name}", [program, name], b"", judge_of_test(f"{crate} {name}"))
+            short = name.split("::")[-1]
+            if short not in LONG:
+                judge, most = judge_of_test(f"{crate} {name}"), most_of_test(short)
+                yield Check(f"{crate} {name}", [program, name], b"", judge, most=most)
 
 
 def examples():

@@ -1,15 +1,20 @@
-// Stands before calls of the C library that take memory, read and write, by LD_PRELOAD.
+// Stands before calls of the C library that take memory, read, write, receive, send and ask the clock, by LD_PRELOAD.
 //
-// REFUSE_MEMORY, REFUSE_READ and REFUSE_WRITE each count calls from 1, and the call that they name is refused. With
-// FROM_INPUT set, calls that take memory are counted from the first read of standard input on. Where it comes to a
-// refusal, the file that REFUSED names is made. With ONE_OCTET set, each read and each write moves one octet.
-// In the file that HELD names stand two numbers of 64 bits: how many octets are held, and the most that were.
+// REFUSE_MEMORY, REFUSE_READ, REFUSE_WRITE, REFUSE_RECV and REFUSE_SEND each count calls from 1, and the call that they
+// name is refused; with INTERRUPTED set, the last two as if a signal had come. With FROM_INPUT set, calls that take
+// memory are counted from the first read of standard input on. Where it comes to a refusal, the file that REFUSED names
+// is made. With ONE_OCTET set, each read and each write moves one octet. With CLOCK_STEP set, each look at the clock is
+// so many nanoseconds later than the one before. In the file that HELD names stand two numbers of 64 bits: how many
+// octets are held, and the most that were.
 #include <errno.h>
 #include <fcntl.h>
 #include <malloc.h>
 #include <stdint.h>
 #include <stdlib.h>
 #include <sys/mman.h>
+#include <sys/socket.h>
+#include <sys/syscall.h>
+#include <time.h>
 #include <unistd.h>
 
 extern void *__libc_malloc(size_t size);
@@ -20,8 +25,8 @@ extern void __libc_free(void *block);
 extern ssize_t __read(int file, void *into, size_t count);
 extern ssize_t __write(int file, const void *from, size_t count);
 
-static long memory_left, reads_left, writes_left;
-static int from_input, one_octet;
+static long memory_left, reads_left, writes_left, receives_left, sends_left, clock_step;
+static int from_input, one_octet, socket_error;
 static int64_t none[2], *held = none;
 
 static long number(const char *name) {
@@ -33,6 +38,10 @@ __attribute__((constructor)) static void begin(void) {
   memory_left = number("REFUSE_MEMORY");
   reads_left = number("REFUSE_READ");
   writes_left = number("REFUSE_WRITE");
+  receives_left = number("REFUSE_RECV");
+  sends_left = number("REFUSE_SEND");
+  socket_error = number("INTERRUPTED") ? EINTR : ECONNRESET;
+  clock_step = number("CLOCK_STEP");
   from_input = number("FROM_INPUT") != 0;
   one_octet = number("ONE_OCTET") != 0;
   const char *name = getenv("HELD");
@@ -100,4 +109,21 @@ ssize_t read(int file, void *into, size_t count) {
 ssize_t write(int file, const void *from, size_t count) {
   if (file == STDOUT_FILENO && is_refused(&writes_left, EIO)) return -1;
   return __write(file, from, one_octet && count > 1 ? 1 : count);
+}
+
+ssize_t recv(int file, void *into, size_t count, int flags) {
+  return is_refused(&receives_left, socket_error) ? -1 : recvfrom(file, into, count, flags, NULL, NULL);
+}
+
+ssize_t send(int file, const void *from, size_t count, int flags) {
+  return is_refused(&sends_left, socket_error) ? -1 : sendto(file, from, count, flags, NULL, 0);
+}
+
+int clock_gettime(clockid_t clock, struct timespec *into) {
+  static int64_t now;
+  if (clock_step == 0) return syscall(SYS_clock_gettime, clock, into);
+  now += clock_step;
+  into->tv_sec = now / 1000000000;
+  into->tv_nsec = now % 1000000000;
+  return 0;
 }

@@ -20,16 +20,21 @@ sys.dont_write_bytecode = True
 
 from command import LONGEST_SHOWN, Answer, answer_of
 from second_reading import ends, inputs, messages, session, talks, walks
-from second_reading.cases import SEVERAL, Case, audit_case, encode_case, show_case
+from second_reading.cases import CAPITALS, DEEP, SEVERAL, TOO_DEEP, Case, audit_case, encode_case, show_case
 from second_reading.inputs import Chance
 
 WORKERS = 2
 
 VERDICTS = ["pass", "unreadable", *session.RULES]
 
-# What the inputs have to reach, by command: each verdict of an audit also where several connections had come up.
+# What the inputs have to reach, by command: each verdict of an audit also where several connections had come up, and
+# each rule of frames by one that was thrown away.
 TO_REACH = {
-    "audit": [what + several for what in VERDICTS for several in ("", f", {SEVERAL}")],
+    "audit": [
+        *[what + several for what in VERDICTS for several in ("", f", {SEVERAL}")],
+        *[f"! {rule}" for rule, _ in session.RULES_OF_FRAMES],
+        *[DEEP, TOO_DEEP, CAPITALS],
+    ],
     "show": [
         *["no fault", "TooShort", "TooLong", "CutOff"],
         *["primary", "reply", *messages.CONTROL_KINDS.values(), "other-stype", "other-ptype"],

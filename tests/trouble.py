@@ -33,6 +33,7 @@ TOP = os.path.dirname(os.path.dirname(os.path.abspath(__file__)))
 PROGRAM = ASKED.program or f"{TOP}/crates/hsms_tool/out/hsms_tool"
 sys.argv = [sys.argv[0], PROGRAM]
 sys.path.insert(0, os.path.dirname(os.path.abspath(__file__)))
+sys.dont_write_bytecode = True
 
 from loopback import Listening, Peer, SELECT, SELECTED, Serving, control, data, equipment, events, free_port, passes, same
 

@@ -138,6 +138,20 @@ def passes(entries, sent, taken, discarded=0, expired=0, waiting=0) -> str:
     return f"pass {counts}"
 
 
+SECOND_SELECT = "6 > ffff0000000100000002\n"
+
+
+def log_of_depth(depth: int, lists: int) -> str:
+    """A log whose settings allow lists of this depth, and data of so many, each within the one before."""
+    return LOG.replace(" 32\n", f" {depth}\n", 1) + f"6 > 00000101000000000002{'0101' * (lists - 1)}0100\n"
+
+
+# Depths that the settings allow, how deep the lists of data are, and the verdict.
+DEPTHS = [
+    *[(depth, depth, passes(4, 2, 1)) for depth in (90, 91, 95, 100)],
+    *[(depth, depth + 1, "fail line=5 rule=Text") for depth in (90, 91, 95, 100)],
+]
+
 # Logs, and their verdicts.
 LOGS = [
     (LOG + REPLY, passes(5, 2, 2)),
@@ -161,6 +175,13 @@ LOGS = [
     (FIRST + "18446744073709551615 up\n18446744073709551615 > ffff0000000100000001\n", passes(2, 1, 0)),
     (FIRST + "18446744073709551616 up\n", "fail line=2 unreadable"),
     (LOG + PRIMARY + "2000 ! 00008102000000000002\n46500 down\n", "fail line=7 rule=T3Overdue"),
+    (LOG + "1000 > 000081010000abcdef09\n46000 t3 ABCDEF09\n", passes(5, 2, 1, expired=1)),
+    (LOG + "1000 > 000081010000ABCDEF09\n46000 t3 aBcDeF09\n", passes(5, 2, 1, expired=1)),
+    (LOG + "1000 > 000081010000abcdef09\n46000 t3 ABCDEF0A\n", "fail line=6 rule=NotDue"),
+    (LOG + SECOND_SELECT + "7 < ffff0000000200000002\n", "fail line=6 rule=SelectStatus"),
+    (LOG + SECOND_SELECT + "7 ! ffff0000000200000002\n", passes(5, 2, 1, discarded=1)),
+    (LOG + SECOND_SELECT + "7 ! ffff0001000200000002\n", "fail line=6 rule=NoCause"),
+    *[(log_of_depth(depth, lists), verdict) for depth, lists, verdict in DEPTHS],
     (SMALL + ENTRIES + "#" + "." * 575 + "\n", passes(3, 1, 1)),
     (SMALL + ENTRIES + "#" + "." * 575 + "\r\n", passes(3, 1, 1)),
     (SMALL + ENTRIES + "#" + "." * 576 + "\n", "fail line=5 unreadable"),

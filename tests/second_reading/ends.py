@@ -63,6 +63,11 @@ def host_desk() -> Desk:
     return desk_with(list_of(), "quiet")
 
 
+def obliging_desk() -> Desk:
+    """A desk that answers each primary by a reply without an item."""
+    return lambda message: Answer("reply")
+
+
 # Frames that an end sends.
 
 

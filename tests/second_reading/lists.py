@@ -6,11 +6,11 @@ in another order. Nothing here judges: what a list comes to, the two readings sa
 from dataclasses import dataclass, replace
 from typing import List, Set
 
-from second_reading import damage, notation
+from second_reading import crowds, damage, notation
+from second_reading.crowds import faults_of
 from second_reading.ends import End, Refused, first_line, line_of
 from second_reading.inputs import Chance
-from second_reading.session import Settings
-from second_reading.talks import REVISION, Party, Told, name_of, new_end, parties_of
+from second_reading.talks import REVISION, Maker, Told, parties_of
 
 WORDS = {"hear": "bytes"}
 GREATEST_MOMENT = (1 << 64) - 1
@@ -20,15 +20,18 @@ GREATEST_MOMENT = (1 << 64) - 1
 class Listed:
     """An end, and what it is told."""
 
-    settings: Settings
-    model: bytes
-    first_system: int
+    maker: Maker
     told: List[Told]
 
     def text(self) -> str:
         """The lines of it."""
-        desk = f"desk {self.first_system} {digits(self.model)} {digits(REVISION)}"
-        return "\n".join([first_line(self.settings), desk, *map(line_of_told, self.told), "end\n"])
+        return "\n".join([first_line(self.maker.settings), self.desk(), *map(line_of_told, self.told), "end\n"])
+
+    def desk(self) -> str:
+        maker = self.maker
+        if maker.is_obliging:
+            return f"obliging {maker.first_system}"
+        return f"desk {maker.first_system} {digits(maker.model)} {digits(REVISION)}"
 
 
 def digits(octets: bytes) -> str:
@@ -45,10 +48,6 @@ def line_of_told(told: Told) -> str:
 
 
 # Damages.
-
-
-def of_party(party: Party) -> Listed:
-    return Listed(party.settings, party.model, party.first_system, party.told)
 
 
 def place_of(chance: Chance, told: List[Told], *calls: str) -> int:
@@ -125,14 +124,16 @@ DAMAGES = [
 
 
 def damaged(seed: str, number: int) -> Listed:
-    """The list of a number from 0 on."""
+    """The list of a number from 0 on: some as they are made, the others damaged."""
     chance = Chance(f"{seed} driven {number}")
+    if chance.happens(0.03):
+        return Listed(*crowds.crowd(chance))
     party = chance.choice(parties_of(chance, 20, 20, 60, 100, 200))
     told = party.told
     for _ in range(chance.one(0, 1, 1, 2, 3, 8)):
         if told:
             told = chance.choice(DAMAGES)(chance, told)
-    return replace(of_party(party), told=told)
+    return Listed(party.maker, told)
 
 
 # What is answered.
@@ -142,18 +143,20 @@ class Answering:
     """An end of the second reading that is told a list, the lines that each call answers, and what it did."""
 
     def __init__(self, listed: Listed):
-        self.end = new_end(listed.settings, listed.model, listed.first_system)
+        self.maker = listed.maker
+        self.end = self.maker.new_end()
         self.reached: Set[str] = set()
         self.calls = [self.lines_of(told) for told in listed.told]
 
     def lines_of(self, told: Told) -> List[str]:
         call = getattr(End, told.call)
+        later = faults_of(self.end, told)[1:]
         try:
             entries = call(self.end) if told.given is None else call(self.end, told.given)
         except Refused as refused:
-            self.reached.add(str(refused))
+            self.reached |= {str(refused), *(f"{told.call}: {refused} before {fault}" for fault in later)}
             return [f"refused {refused}"]
-        self.reached |= {name_of(entry) for entry in entries}
+        self.reached |= self.maker.names_of(entries)
         return [line_of(entry) for entry in entries]
 
     def text(self) -> str:

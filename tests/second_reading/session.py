@@ -403,10 +403,26 @@ def summary(settings: Settings, entries: List[Entry]) -> str:
     )
 
 
-def audit(log: bytes) -> str:
-    """The verdict on a log: the first line that is unreadable or breaks a rule after those before it, or a pass."""
+@dataclass(frozen=True)
+class Audited:
+    """The verdict on a log, and what was read of it.
+
+    That is the settings, where the first line spells some; the number of the last line; the entries before a line that
+    fails, or all; and the entry of a line that breaks a rule.
+    """
+
+    verdict: str
+    settings: Optional[Settings]
+    line: int
+    entries: List[Entry]
+    failing: Optional[Entry] = None
+
+
+def audit(log: bytes) -> Audited:
+    """Finds the first line that is unreadable or breaks a rule after those before it, or passes the log."""
     lines = lines_of(log)
     entries: List[Entry] = []
+    settings = None
     line = 1
     try:
         settings = settings_of(lines[0] if lines else b"")
@@ -416,8 +432,8 @@ def audit(log: bytes) -> str:
                 continue
             rule = broken_rule(Before(settings, entries), entry)
             if rule is not None:
-                return f"fail line={line} rule={rule}"
+                return Audited(f"fail line={line} rule={rule}", settings, line, entries, entry)
             entries.append(entry)
     except Unreadable:
-        return f"fail line={line} unreadable"
-    return summary(settings, entries)
+        return Audited(f"fail line={line} unreadable", settings, line, entries)
+    return Audited(summary(settings, entries), settings, line, entries)

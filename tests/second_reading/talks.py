@@ -5,14 +5,17 @@ The ends are those of `ends`. Nothing here judges: whether their logs pass, the 
 from dataclasses import dataclass
 from typing import Any, List, Set, Tuple
 
-from second_reading.ends import End, Refused, equipment_desk, host_desk
+from second_reading.ends import End, Refused, equipment_desk, host_desk, obliging_desk
 from second_reading.inputs import Chance, Draft, random_item, random_text
 from second_reading.messages import Frame
 from second_reading.notation import Message
 from second_reading.session import DISCARDED, SENT, TAKEN, Before, Entry, Settings, rule_of_frame
 
 LIMITS = (256, 256, 300, 1_048_576)
-NAMES_OF_DATA = [(1, 1), (1, 13), (2, 25), (2, 17), (9, 1), (9, 3), (64, 7), (127, 255), (1, 2), (0, 0)]
+NAMES_OF_DATA = [
+    *[(1, 1), (1, 13), (2, 25), (2, 17), (9, 1), (9, 3), (64, 7), (1, 2), (0, 0)],
+    *[(5, 251), (6, 253), (127, 255)],
+]
 REVISION = b"1"
 NAMES_OF_CONTROL = {"select.rsp": "Select.rsp", "reject": "Reject"}
 
@@ -21,6 +24,7 @@ TO_REACH = [
     *["Select.req", "Select.rsp 0", "Select.rsp 1", "Linktest.req", "Linktest.rsp", "Separate.req", "primary", "reply"],
     *["Reject 1", "Reject 2", "Reject 3", "Reject 4"],
     *["S9F1", "S9F3", "S9F5", "S9F7", "S9F9", "S9F11", "SxF0"],
+    *["SxF252", "SxF254", "SxF0 in place of a reply"],
     *["! PType", "! SType", "! ControlText", "! Session", "! Direction", "! NotSelected", "! WBit", "! Text"],
     "! NoTransaction",
     *["t3", "cut t6", "cut t7", "cut t8", "cut length", "down"],
@@ -36,10 +40,27 @@ class Told:
     given: Any = None
 
 
-def new_end(settings: Settings, model: bytes, first_system: int) -> End:
-    """An end that was told nothing yet."""
-    desk = host_desk() if settings.role == "host" else equipment_desk(model, REVISION)
-    return End(settings, desk, first_system)
+@dataclass(frozen=True)
+class Maker:
+    """What an end is made of. The desk of equipment tells the model; the obliging one may stand in place of any."""
+
+    settings: Settings
+    model: bytes
+    first_system: int
+    is_obliging: bool = False
+
+    def new_end(self) -> End:
+        """An end that was told nothing yet."""
+        desk = host_desk() if self.settings.role == "host" else equipment_desk(self.model, REVISION)
+        return End(self.settings, obliging_desk() if self.is_obliging else desk, self.first_system)
+
+    def names_of(self, entries: List[Entry]) -> Set[str]:
+        """What entries of its end are, as the list of what is to be reached has it."""
+        names = {name_of(entry) for entry in entries}
+        if self.is_obliging:
+            replies = [entry.frame for entry in entries if entry.event == SENT and entry.frame.kind == "reply"]
+            names |= {f"SxF{frame.function}" if frame.function else "SxF0 in place of a reply" for frame in replies}
+        return names
 
 
 class Party:
@@ -48,11 +69,11 @@ class Party:
     def __init__(self, chance: Chance, role: str, link: str):
         timers = (chance.one(20, 60, 3600), chance.one(60, 200, 1000), chance.one(100, 1000), chance.one(50, 200, 1000))
         device = chance.one(0, 0, 0, 0, 0, 1)
-        limits = (chance.choice(LIMITS), chance.one(1, 2, 4, 32))
+        limits = (chance.choice(LIMITS), chance.one(1, 2, 4, 32, chance.randrange(91, 101)))
         self.settings = Settings(role, link, device, *timers, *limits, chance.one(1, 1, 2))
-        self.model = bytes(chance.one(0, 1, 6, 240))
-        self.first_system = chance.one(0, 1, 5, (1 << 32) - 2)
-        self.end = new_end(self.settings, self.model, self.first_system)
+        model, first_system = bytes(chance.one(0, 1, 6, 240)), chance.one(0, 1, 5, (1 << 32) - 2)
+        self.maker = Maker(self.settings, model, first_system, chance.happens(0.2))
+        self.end = self.maker.new_end()
         self.line = b""
         self.reached: Set[str] = set()
         self.told: List[Told] = []
@@ -65,8 +86,8 @@ class Party:
         except Refused as refused:
             self.reached.add(str(refused))
             return
+        self.reached |= self.maker.names_of(entries)
         for entry in entries:
-            self.reached.add(name_of(entry))
             if entry.event == SENT:
                 self.line += len(entry.frame.octets).to_bytes(4, "big") + entry.frame.octets
 
@@ -186,13 +207,13 @@ class Talk:
 
     def text(self, settings: Settings) -> bytes:
         text = random_text(self.chance, settings.depth, settings.max)
-        return text if len(text) <= 200 else b""
+        return text if len(text) <= 204 else b""
 
     def message(self, settings: Settings) -> Message:
         """A message to be sent, which may be refused."""
         chance = self.chance
         stream = chance.one(1, 1, 2, 2, 5, 6, 9, 127)
-        function = {1: chance.one(1, 13), 2: chance.one(25, 25, 17)}.get(stream, chance.one(1, 11, 255))
+        function = {1: chance.one(1, 13), 2: chance.one(25, 25, 17)}.get(stream, chance.one(1, 11, 251, 253, 255))
         function += chance.one(*[0] * 9, 1) if function < 255 else 0
         item = None if chance.happens(0.4) else random_item(chance, chance.one(1, 2, 3, settings.depth + 1))
         return Message(stream, function, stream != 9 and chance.happens(0.7), item)

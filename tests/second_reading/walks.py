@@ -9,8 +9,13 @@ from second_reading.inputs import Chance, Draft, any_spelling, disturbed, of_len
 
 GREATEST_TIME = (1 << 64) - 1
 SENT, TAKEN, DISCARDED = ">", "<", "!"
-SYSTEMS = (1, 2, 3, 4, 0xFFFFFFFF)
+SYSTEMS = (1, 2, 3, 0xABCDEF, 0xFFFFFFFF)
 CAUSES = ("t6", "t7", "t8", "length")
+
+
+def nested_lists(depth: int) -> bytes:
+    """An empty list within others, so many in all."""
+    return b"\x01\x01" * (depth - 1) + b"\x01\x00"
 
 
 @dataclass(frozen=True)
@@ -37,7 +42,7 @@ class Walk:
         self.t6 = chance.one(1, 2, 5, 20, 3_600_000)
         self.t7 = chance.one(1, 3, 30, 3_600_000)
         self.max = chance.one(256, 256, 257, 300, 1_048_576, 33_554_432)
-        self.depth = chance.one(1, 2, 3, 32, 100)
+        self.depth = chance.one(1, 2, 3, 32, 100, chance.randrange(91, 101))
         self.version = chance.one(1, 2, 2)
         self.time = chance.one(0, 0, 5, chance.randrange(100_000), GREATEST_TIME - chance.randrange(100))
         self.earlier: List[Request] = []
@@ -55,6 +60,13 @@ class Walk:
     def write(self, words: str):
         self.lines.append(f"{self.time} {words}")
 
+    def digits(self, octets: bytes) -> str:
+        """Octets in hexadecimal digits, sometimes in capital ones."""
+        return self.chance.choice([octets.hex()] * 9 + [octets.hex().upper()])
+
+    def expiry_of(self, system: int) -> str:
+        return f"t3 {self.chance.one(f'{system:08x}', f'{system:08X}')}"
+
     def other(self, direction: str) -> str:
         return TAKEN if direction == SENT else SENT
 
@@ -64,7 +76,7 @@ class Walk:
 
     def move(self, direction: str, draft: Draft):
         """A frame is sent or taken."""
-        self.write(f"{direction} {draft.octets().hex()}")
+        self.write(f"{direction} {self.digits(draft.octets())}")
         self.requests = [request for request in self.requests if not self.concludes(direction, draft, request)]
         if draft.opens:
             self.requests.append(Request(direction, draft, self.time))
@@ -92,6 +104,8 @@ class Walk:
     def text(self) -> bytes:
         if self.chance.happens(0.6):
             return b""
+        if self.chance.happens(0.1):
+            return nested_lists(self.depth)
         return any_spelling(self.chance, random_item(self.chance, min(self.depth, 2)))
 
     def select(self) -> Tuple[str, Draft]:
@@ -170,7 +184,7 @@ class Walk:
         self.time = min(max(self.time, time), GREATEST_TIME)
 
     def expire(self, request: Request):
-        self.write(f"t3 {request.draft.system:08x}")
+        self.write(self.expiry_of(request.draft.system))
         self.requests.remove(request)
 
     # The walk.
@@ -196,20 +210,41 @@ class Walk:
         """A frame is thrown away, mostly for a cause, and nothing comes of it."""
         bare = Draft(byte3=self.chance.one(0, 1), stype=self.chance.one(2, 6, 7, 9), system=self.any_system())
         draft = bare if self.chance.happens(0.3) else self.next_frame()[1]
-        if self.chance.happens(0.5 if self.is_over else 0.95):
+        if not self.is_over and self.chance.happens(0.2):
+            draft = self.with_rare_cause()
+        elif self.chance.happens(0.5 if self.is_over else 0.95):
             draft = self.with_cause(draft)
-        self.write(f"{DISCARDED} {draft.octets().hex()}")
+        self.write(f"{DISCARDED} {self.digits(draft.octets())}")
 
     def with_cause(self, draft: Draft) -> Draft:
         """A frame changed so that it may not be taken."""
-        kind = self.chance.randrange(5)
+        kind = self.chance.randrange(6)
         if kind == 0:
             return replace(draft, ptype=self.chance.one(1, 255))
         if kind == 1:
             return replace(draft, stype=self.chance.one(3, 4, 8, 255))
         if kind == 2 and draft.stype != 7:
             return replace(draft, session=self.device ^ 0x100)
+        if kind == 3:
+            return replace(draft, text=nested_lists(self.depth + 1))
         return replace(draft, text=draft.text + b"\x00")
+
+    def with_rare_cause(self) -> Draft:
+        """A frame that one bit, or what came before, keeps from being taken."""
+        if not self.is_selected:
+            return Draft(self.device, self.chance.one(1, 0x81), 1, system=self.any_system())
+        taken = [request.draft for request in self.requests if request.direction == TAKEN]
+        if taken and self.chance.happens(0.4):
+            return self.chance.choice(taken)
+        if self.link == "active" and self.chance.happens(0.6):
+            return self.second_answer()
+        return Draft(self.device, 0x80 | self.chance.one(1, 9), self.chance.one(0, 2), system=self.any_system())
+
+    def second_answer(self) -> Draft:
+        """The Select.rsp, to one more Select.req that is sent, that would select the session once more."""
+        direction, asked = self.select()
+        self.move(direction, asked)
+        return Draft(stype=2, system=asked.system)
 
     def end(self):
         """The session is over, mostly, and then the connection goes down, mostly."""
@@ -261,7 +296,7 @@ class Walk:
             self.go_to(request.time + self.chance.one(self.t3, self.t3 + 1, self.t6, self.t6 + 1))
             self.any_entry()
         elif kind == 1:
-            self.write(f"t3 {request.draft.system:08x}")
+            self.write(self.expiry_of(request.draft.system))
         elif kind == 2:
             self.move(request.direction, request.draft)
         else:
@@ -338,7 +373,7 @@ class Walk:
         self.open_one()
         timers = [(self.began + self.t7, "cut t7")]
         for request in self.requests:
-            expiry = f"t3 {request.draft.system:08x}" if request.draft.stype == 0 else "cut t6"
+            expiry = self.expiry_of(request.draft.system) if request.draft.stype == 0 else "cut t6"
             due = request.time + (self.t3 if request.draft.stype == 0 else self.t6)
             timers += [(due, expiry)] * (5 if request.direction == SENT else 1)
         due, expiry = self.chance.choice(timers)
@@ -356,7 +391,7 @@ class Walk:
     def any_entry(self):
         kind = self.chance.random()
         if kind < 0.15:
-            self.write(f"t3 {self.any_system():08x}")
+            self.write(self.expiry_of(self.any_system()))
         elif kind < 0.3:
             self.write(f"cut {self.chance.one(*CAUSES)}")
         elif kind < 0.45:

@@ -12,6 +12,8 @@ use std::alloc::Global;
 pub struct List {
     pub settings: Option<Settings>,
     pub first_system: u32,
+    /// Whether the desk is the obliging one, and not that of the role.
+    pub is_obliging: bool,
     pub model: Vec<u8>,
     pub revision: Vec<u8>,
     pub inputs: Vec<Input>,
@@ -23,6 +25,7 @@ impl List {
         List {
             settings: None,
             first_system: 0,
+            is_obliging: false,
             model: Vec::new(alloc),
             revision: Vec::new(alloc),
             inputs: Vec::new(alloc),
@@ -36,6 +39,9 @@ impl List {
             self.settings = read_settings(line.as_bytes());
         } else if word == "desk" {
             self.add_desk(alloc, rest)?;
+        } else if word == "obliging" {
+            self.first_system = rest.parse::<u32>()?;
+            self.is_obliging = true;
         } else {
             self.inputs.push(input_of(alloc, word, rest)?)?;
         }

@@ -1,6 +1,7 @@
 //! What comes of a list.
 
 use crate::list::List;
+use crate::obliging::ObligingDesk;
 use anyhow::anyhow;
 use hsms_end::{Desk, End, EndFault, EquipmentDesk, HostDesk, Input, drive};
 use hsms_frame::Store;
@@ -11,18 +12,29 @@ use std::alloc::Global;
 /// Tells an end its list, call by call, and then `drive`. Answers the lines of both.
 pub fn live(alloc: Global, list: &List) -> Result<Vec<u8>, anyhow::Error> {
     let settings = list.settings.ok_or_else(|| anyhow!("no settings"))?;
+    if list.is_obliging {
+        return live_with(alloc, settings, list, ObligingDesk, ObligingDesk);
+    }
     match settings.role() {
-        Role::Host => {
-            let told = tell_all(alloc, settings, HostDesk, list)?;
-            let driven = drive_all(alloc, settings, HostDesk, list)?;
-            with_end(told, &driven)
-        }
+        Role::Host => live_with(alloc, settings, list, HostDesk, HostDesk),
         Role::Equipment => {
-            let told = tell_all(alloc, settings, desk_of(alloc, list)?, list)?;
-            let driven = drive_all(alloc, settings, desk_of(alloc, list)?, list)?;
-            with_end(told, &driven)
+            let desk = desk_of(alloc, list)?;
+            live_with(alloc, settings, list, desk, desk_of(alloc, list)?)
         }
     }
+}
+
+/// Tells an end its list, and then `drive`, each with a desk.
+fn live_with<D: Desk + Drop>(
+    alloc: Global,
+    settings: Settings,
+    list: &List,
+    desk: D,
+    desk_of_drive: D,
+) -> Result<Vec<u8>, anyhow::Error> {
+    let told = tell_all(alloc, settings, desk, list)?;
+    let driven = drive_all(alloc, settings, desk_of_drive, list)?;
+    with_end(told, &driven)
 }
 
 fn desk_of(alloc: Global, list: &List) -> Result<EquipmentDesk, anyhow::Error> {

@@ -1,8 +1,9 @@
 //! Tells ends what happens, as lists have it, and writes what they answer, for `tests/driven.py`.
 //!
 //! A list is lines of standard input: the settings, as the first line of a log has them; `desk NUMBER MODEL REVISION`,
-//! the first system bytes and what the desk of equipment tells of itself; then what the end is told, by `start N`,
-//! `tick N`, `bytes OCTETS`, `send NOTATION`, `linktest`, `separate` and `lost`; and `end`. Octets, and texts of the desk,
+//! the first system bytes and what the desk of equipment tells of itself, or `obliging NUMBER`, the first system bytes
+//! of an end whose desk answers each primary by a reply without an item; then what the end is told, by `start N`, `tick
+//! N`, `bytes OCTETS`, `send NOTATION`, `linktest`, `separate` and `lost`; and `end`. Octets, and texts of the desk,
 //! are hexadecimal, and `-` where there are none.
 //!
 //! Of each list it writes the lines of the entries that each call answers, or `refused FAULT`, then `pending OCTETS`,
@@ -11,6 +12,7 @@
 
 mod list;
 mod live;
+mod obliging;
 
 use list::List;
 use live::live;

@@ -1,5 +1,5 @@
 -- What an end does is determined.
-use Rattle.std.proofs.Common.{◌≡◌, ℕ, List, [], ◌∷◌, Option, sym, ap, subst, ◌∙◌, inl, inr}
+use Rattle.std.proofs.Common.{◌≡◌, ℕ, refl, List, [], ◌∷◌, Option, sym, ap, subst, ◌∙◌, inl, inr}
 use Rattle.hsms_machine.specs.declared.entry.Entry.{Entry}
 use Rattle.hsms_machine.specs.declared.entry.Event.TheVariants.{Sent}
 use Rattle.hsms_end.specs.declared.fault.EndFault.{EndFault}
@@ -7,6 +7,7 @@ use Rattle.hsms_end.specs.Known.{Known}
 use Rattle.hsms_end.specs.Act.{Act, logs, asks, Acts, entry_now, with_event, with_number}
 use Rattle.hsms_end.specs.Turn.{Told}
 use Rattle.hsms_end.specs.Fault.{Hinders, faults, IsFirstFault, Meets}
+use Rattle.hsms_end.specs.Laws.{NextNumberFollowsTheTakenOne}
 use Rattle.hsms_end.proofs.Numbers.{first_free_is_one}
 
 first_fault_is_one : (Applies : EndFault → Type 0) (list : List EndFault) (one other : Option EndFault) → IsFirstFault Applies list one → IsFirstFault Applies list other → one ≡ other
@@ -32,3 +33,7 @@ acts_have_one_outcome end (asks frame ∷ acts) one other end' end'' h k =
       h.3 ∙ ap (λ es. entry_now end (Sent (frame h.0)) ∷ es) rest.0 ∙ ap (λ n. entry_now end (Sent (frame n)) ∷ k.1) same ∙ sym k.3,
       rest.1,
     )
+
+pub next_number_follows_the_taken_one : NextNumberFollowsTheTakenOne
+next_number_follows_the_taken_one = λ end frame acts entries end' h.
+    (h.0, h.1, with_number end (frame h.0) h.0, h.2, h.3, refl, h.4)

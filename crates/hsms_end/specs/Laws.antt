@@ -1,9 +1,10 @@
 -- The laws of the ends (this project's own), over the definitions alone.
-use Rattle.std.specs.Prelude.{◌≡◌, ◌<◌, ◌≤◌, ℕ, false, List, [], ◌∷◌, ◌++◌, map, max, Option, Some}
+use Rattle.std.specs.Prelude.{◌≡◌, ◌<◌, ◌≤◌, ◌+◌, ◌^◌, ◌%◌, ℕ, false, List, [], ◌∷◌, ◌++◌, map, max, Option, Some}
 use Rattle.std.specs.List.{list_any}
 use Rattle.secs_text.specs.Content.{Content}
+use Rattle.hsms_frame.specs.declared.frame.Frame.{Frame}
 use Rattle.hsms_machine.specs.declared.entry.Entry.{Entry}
-use Rattle.hsms_machine.specs.declared.entry.Event.TheVariants.{T3, Cut, Down}
+use Rattle.hsms_machine.specs.declared.entry.Event.TheVariants.{Sent, T3, Cut, Down}
 use Rattle.hsms_machine.specs.declared.entry.Cause.{Cause}
 use Rattle.hsms_machine.specs.declared.open.Transaction.{Transaction}
 use Rattle.hsms_machine.specs.declared.view.View.{View}
@@ -14,7 +15,7 @@ use Rattle.hsms_end.specs.Answer.{Answered}
 use Rattle.hsms_end.specs.Known.{Known}
 use Rattle.hsms_end.specs.Number.{number_on, IsFree, IsFirstFree}
 use Rattle.hsms_end.specs.Turn.{Told, Turn, tick, expired_at, overdue_cause}
-use Rattle.hsms_end.specs.Act.{Act, Acts}
+use Rattle.hsms_end.specs.Act.{Act, asks, Acts}
 use Rattle.hsms_end.specs.Fault.{Meets}
 use Rattle.hsms_end.specs.Drive.{Drives, octets_of, octets_told, octets_received}
 
@@ -73,6 +74,18 @@ FreeNumberIsAmongTheNext65 =
 abbrev pub FirstFreeIsOne : Type 0
 FirstFreeIsOne =
     (view : View) (next one other : ℕ) → IsFirstFree view next one → IsFirstFree view next other → one ≡ other
+
+-- An own message takes the first free number from the next one on. The next one is then one more, wrapping after
+-- ffffffff to 0: it follows the number that was taken, also where others were passed over.
+abbrev pub NextNumberFollowsTheTakenOne : Type 0
+NextNumberFollowsTheTakenOne =
+    (end : Known) (frame : ℕ → Frame) (acts : List Act) (entries : List Entry) (end' : Known)
+    → Acts end (asks frame ∷ acts) entries end'
+    → (number : ℕ) × (later : List Entry) × (behind : Known)
+    × IsFirstFree end.view end.next number
+    × (entries ≡ record { time = end.moment; event = Sent (frame number) } ∷ later)
+    × (behind.next ≡ (number + 1) % 2 ^ 32)
+    × Acts behind acts later end'
 
 -- ---- tick
 

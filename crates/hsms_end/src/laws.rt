@@ -1,6 +1,6 @@
 //! Laws over the definitions of an end. Each is the contract of a function that does nothing.
 
-ghost use Rattle.hsms_end.specs.Laws.{TurnKeepsOctets, DriveKeepsOctets, OneFaultIsMet, ActsHaveOneOutcome, TurnHasOneOutcome, DriveHasOneOutcome, FreeNumberIsAmongTheNext65, FirstFreeIsOne, AllExpiriesAreLoggedBeforeAnyS9F9, OverdueLinkTimerLeavesS9F9Out};
+ghost use Rattle.hsms_end.specs.Laws.{TurnKeepsOctets, DriveKeepsOctets, OneFaultIsMet, ActsHaveOneOutcome, TurnHasOneOutcome, DriveHasOneOutcome, FreeNumberIsAmongTheNext65, FirstFreeIsOne, NextNumberFollowsTheTakenOne, AllExpiriesAreLoggedBeforeAnyS9F9, OverdueLinkTimerLeavesS9F9Out};
 
 use hsms_frame::laws::one_answer_to_pending;
 use secs_item::laws::one_answer_of_text;
@@ -33,6 +33,12 @@ pub fn each_turn_has_one_outcome()
 pub fn free_number_is_among_the_next_65()
     ensures some { FreeNumberIsAmongTheNext65 }
     ensures one { FirstFreeIsOne }
+{}
+
+/// The number from which own ones are tried next is one past the one that was taken, also where numbers before that
+/// were in use and passed over.
+pub fn next_number_follows_the_taken_one()
+    ensures { NextNumberFollowsTheTakenOne }
 {}
 
 /// When time goes on, all expiries of own data are logged before any S9F9 that tells of them.

@@ -5,7 +5,7 @@ use Rattle.std.proofs.lemmas.List.{append-nil}
 use Rattle.std.proofs.lemmas.List.Elements.{All-append}
 use Rattle.secs_text.specs.Content.{Content}
 use Rattle.hsms_frame.specs.Count.{next_count}
-use Rattle.hsms_frame.specs.Device.{SinkState, Grows, GrowsByFront}
+use Rattle.hsms_frame.specs.Device.{SinkState}
 use Rattle.hsms_machine.specs.declared.entry.Entry.{Entry}
 use Rattle.hsms_machine.specs.Step.{is_gone}
 use Rattle.hsms_log.specs.Spelling.{IsEntry}
@@ -20,42 +20,56 @@ use Rattle.hsms_ends.specs.declared.serving.Served.{Served}
 use Rattle.hsms_ends.specs.declared.fault.ServeFault.{ServeFault}
 use Rattle.hsms_ends.specs.declared.fault.ServeFault.TheVariants as serve
 use Rattle.hsms_ends.specs.Link.{Told, Heard, Hears}
-use Rattle.hsms_ends.specs.PutOut.{GrowsByPart, LogGrows, LogFails, sent_octets, log_lines}
+use Rattle.hsms_ends.specs.PutOut.{GrowsByPart, LogGrows, IsEnding, sent_octets, log_lines}
 use Rattle.hsms_ends.specs.Turning.{has_gone}
-use Rattle.hsms_ends.specs.Serving.{Story, Unopened, Unstarted, Started, IsStory, IsLost, IsStarted, has_lost, lost_entries, entries_of, heard_of, turns_begun, LogHolds, MayHaveFailed}
-use Rattle.hsms_ends.specs.Outcome.{Ran, ClosedAs, ClosedLink, RestClosed, StoppedAs, AnswersEnd, ServesEnd}
-use Rattle.hsms_ends.proofs.Hearing.{grows_then, front_of_second}
-use Rattle.hsms_ends.proofs.Puttings.{lines-append, sent-append, part_of_first}
+use Rattle.hsms_ends.specs.Serving.{Story, Unopened, Unstarted, Started, IsStory, IsLost, IsStarted, has_lost, lost_entries, last_lost, last_call, entries_of, heard_of, turns_begun, MayHaveFailed}
+use Rattle.hsms_ends.specs.Outcome.{Ran, ClosedAs, ClosedLink, RestClosed, StoppedAs, AnswersEnd, HoldsLines, ServesEnd}
+use Rattle.hsms_ends.proofs.Puttings.{lines-append, sent-append, part_of_first, log_then, stops_then, grows_along, whole_is}
+use Rattle.hsms_ends.proofs.Yielding.{ending_none}
 use Rattle.hsms_ends.proofs.Downs.{gone_after}
 
-pub closed_by : {D : Type 0} (fault : ServeFault) (end : EndOf D) (entries : List Entry) (log log' : SinkState) → RestClosed fault log log' (log_lines entries) → has_gone end ≡ true → ClosedAs fault end (Some entries) log log'
+pub closed_by : {D : Type 0} (fault : ServeFault) (end : EndOf D) (entries : List Entry) (log log' : SinkState) → RestClosed fault log log' entries → has_gone end ≡ true → ClosedAs fault end (Some entries) log log'
 closed_by serve.Link end entries log log' h gone = (gone, h)
 closed_by serve.Log end entries log log' h gone = h
 closed_by serve.Turns end entries log log' h gone = h
 closed_by serve.Memory end entries log log' h gone = absurd h
 
-log_then : (log mid log' : SinkState) (a b : List ℕ) → LogGrows log mid a → LogGrows mid log' b → LogGrows log log' (a ++ b)
-log_then log mid log' a b h k = (grows_then log.written mid.written log'.written a b h.0 k.0, k.1 ∙ h.1)
+pub holds_then : (result : Result Served ServeFault) (log mid log' : SinkState) (head lines : List ℕ) (rest : List Entry) → LogGrows log mid head → HoldsLines result mid log' lines rest → HoldsLines result log log' (head ++ lines) rest
+holds_then (Ok _) log mid log' head lines rest h k = (k.0, log_then log mid log' head lines h k.1)
+holds_then (Err serve.Turns) log mid log' head lines rest h k = (k.0, log_then log mid log' head lines h k.1)
+holds_then (Err serve.Link) log mid log' head lines rest h k = (k.0, log_then log mid log' head lines h k.1)
+holds_then (Err serve.Log) log mid log' head lines rest h k = stops_then log mid log' head lines rest h k
+holds_then (Err serve.Memory) log mid log' head lines rest h k = (k.0, log_then log mid log' head lines h k.1)
 
-fails_then : (log mid log' : SinkState) (a b : List ℕ) → LogGrows log mid a → LogFails mid log' b → LogFails log log' (a ++ b)
-fails_then log mid log' a b h k = (front_of_second log.written mid.written log'.written a b h.0 k.0, k.1 ∙ ap next_count h.1)
+-- what of `lost` is in the log, and that it's the last call where something isn't
+pub record LossLogged (fault : ServeFault) (log log' : SinkState) (loss : Option (List Entry)) (before : List Entry) : Type 0 where
+  pub whole : List Entry
+  pub rest : List Entry
+  pub parted : lost_entries loss ≡ whole ++ rest
+  pub ends : IsEnding rest (last_lost loss before)
+  pub holds : HoldsLines (Err fault) log log' (log_lines whole) rest
 
-pub holds_then : (result : Result Served ServeFault) (log mid log' : SinkState) (head text : List ℕ) → LogGrows log mid head → LogHolds result mid log' text → LogHolds result log log' (head ++ text)
-holds_then (Ok _) log mid log' head text h k = log_then log mid log' head text h k
-holds_then (Err serve.Turns) log mid log' head text h k = log_then log mid log' head text h k
-holds_then (Err serve.Link) log mid log' head text h k = log_then log mid log' head text h k
-holds_then (Err serve.Log) log mid log' head text h k = fails_then log mid log' head text h k
-holds_then (Err serve.Memory) log mid log' head text h k = log_then log mid log' head text h k
+all_lost : (log log' : SinkState) (loss : Option (List Entry)) (before : List Entry) → LogGrows log log' (log_lines (lost_entries loss)) → LossLogged serve.Link log log' loss before
+all_lost log log' loss before h = record {
+  whole = lost_entries loss;
+  rest = [];
+  parted = sym (append-nil (lost_entries loss));
+  ends = (last_lost loss before, sym (append-nil (last_lost loss before)));
+  holds = (refl, h);
+}
 
-link_logs : {D : Type 0} (fault : ServeFault) (log mid log' : SinkState) (end : EndOf D) (loss : Option (List Entry)) (a all : List ℕ) → a ++ log_lines (lost_entries loss) ≡ all
-    → LogGrows log mid a → ClosedAs fault end loss mid log' → LogHolds (Err fault) log log' all
-link_logs serve.Link log mid log' end loss a all is grows h =
-    let P : List ℕ → Type 0 = λ l. LogGrows log log' l in subst P is (log_then log mid log' a (log_lines (lost_entries loss)) grows h.1)
-link_logs serve.Log log mid log' end loss a all is grows h =
-    let P : List ℕ → Type 0 = λ l. LogFails log log' l in subst P is (fails_then log mid log' a (log_lines (lost_entries loss)) grows h)
-link_logs serve.Turns log mid log' end loss a all is grows h = absurd h
-link_logs serve.Memory log mid log' end loss a all is grows h =
-    let P : List ℕ → Type 0 = λ l. LogGrows log log' l in subst P is (log_then log mid log' a (log_lines (lost_entries loss)) grows h)
+ending_lost : (loss : Option (List Entry)) (before whole rest : List Entry) → lost_entries loss ≡ whole ++ rest → IsEnding rest (last_lost loss before)
+ending_lost None before whole rest h = ending_none before rest (whole, h)
+ending_lost (Some entries) before whole rest h = (whole, h)
+
+loss_logged : {D : Type 0} (fault : ServeFault) (end : EndOf D) (loss : Option (List Entry)) (before : List Entry) (log log' : SinkState) → ClosedAs fault end loss log log' → LossLogged fault log log' loss before
+loss_logged serve.Link end loss before log log' h = all_lost log log' loss before h.1
+loss_logged serve.Log end loss before log log' h =
+    record { whole = h.whole; rest = h.rest; parted = h.parted; ends = ending_lost loss before h.whole h.rest h.parted; holds = h.stops }
+loss_logged serve.Turns end loss before log log' h = absurd h
+loss_logged serve.Memory end loss before log log' h =
+    let all = all_lost log log' loss before h in
+    record { whole = all.whole; rest = all.rest; parted = all.parted; ends = all.ends; holds = all.holds }
 
 no_lost : (story : Story) → has_lost story ≡ false → {P : Type 0} → has_lost story ≡ true → P
 no_lost story none {P} h = absurd (let e : true ≡ false = sym h ∙ none in cc)
@@ -79,6 +93,7 @@ pub record Extended {D : Type 0} (answers : D → Content → Answered) (new : E
   pub entries : entries_of story ++ lost_entries loss ≡ entries_of longer
   pub heard : heard_of story ≡ heard_of longer
   pub begun : turns_begun longer ≡ turns_begun story
+  pub last : last_call longer ≡ last_lost loss (last_call story)
   pub started : IsStarted longer
 
 module _ {D : Type 0} (answers : D → Content → Answered) where
@@ -96,6 +111,10 @@ module _ {D : Type 0} (answers : D → Content → Answered) where
     bound = r.bound;
     answer = (r.whole refl, ap (λ (e : EndOf D). has_gone e) (sym r.leads) ∙ gone, entries ∙ r.counted, refused ∙ r.refusals);
     in_range = r.in_range;
+    whole = r.puts.whole;
+    rest = r.puts.rest;
+    parted = r.puts.parted;
+    rest_is_last = r.ends;
     log_holds = r.puts.logged;
     hears = r.puts.hears;
     failed = false;
@@ -117,6 +136,10 @@ module _ {D : Type 0} (answers : D → Content → Answered) where
         bound = r.bound;
         answer = (r.whole refl, r.enough refl here, here);
         in_range = r.in_range;
+        whole = r.puts.whole;
+        rest = r.puts.rest;
+        parted = r.puts.parted;
+        rest_is_last = r.ends;
         log_holds = r.puts.logged;
         hears = r.puts.hears;
         failed = false;
@@ -136,6 +159,7 @@ module _ {D : Type 0} (answers : D → Content → Answered) where
     entries = simp (append_assoc, append-nil);
     heard = refl;
     begun = refl;
+    last = refl;
     started = tt;
   }
 
@@ -147,11 +171,17 @@ module _ {D : Type 0} (answers : D → Content → Answered) where
       let x = extend new r.end' h.end' script r.story h.loss r.not_lost r.started r.is_story (subst P r.leads h.is_lost) in
       let a = entries_of r.story in
       let b = lost_entries h.loss in
-      let part : GrowsByPart link.taken link'.taken (sent_octets a ++ sent_octets b) = part_of_first link.taken link'.taken (sent_octets a) (sent_octets b) r.puts.sent.0 in
+      let whole = whole_is a r.puts.whole r.puts.rest r.puts.parted r.puts.logged.0 in
+      let logged : LogGrows log mid (log_lines a) = grows_along log mid (log_lines r.puts.whole) (log_lines a) (ap log_lines whole) r.puts.logged.1 in
+      let late = loss_logged fault h.end' h.loss (last_call r.story) mid log' h.closed in
+      let T : List Entry → Type 0 = λ l. GrowsByPart link.taken link'.taken (sent_octets l) in
+      let part : GrowsByPart link.taken link'.taken (sent_octets a ++ sent_octets late.whole) =
+      part_of_first link.taken link'.taken (sent_octets a) (sent_octets late.whole) (subst T whole r.puts.sent.0) in
       let S : List ℕ → Type 0 = λ l. GrowsByPart link.taken link'.taken l in
       let H : Heard → Type 0 = λ l. Hears link link' l in
       let R : List Entry → Type 0 = λ l. All IsEntry l in
-      let lines : log_lines a ++ log_lines b ≡ log_lines (entries_of x.longer) = sym (lines-append a b) ∙ ap log_lines x.entries in
+      let E : List Entry → Type 0 = λ l. IsEnding late.rest l in
+      let G : List ℕ → Type 0 = λ l. HoldsLines (Err fault) log log' l late.rest in
       record {
         story = x.longer;
         last = h.end';
@@ -159,10 +189,14 @@ module _ {D : Type 0} (answers : D → Content → Answered) where
         bound = let B : ℕ → Type 0 = λ k. k ≤ limit in subst B (sym x.begun) r.bound;
         answer = link_answers fault limit x.longer h.end' h.loss mid log' x.started h.closed;
         in_range = subst R x.entries (All-append IsEntry a b r.in_range h.in_range);
-        log_holds = link_logs fault log mid log' h.end' h.loss (log_lines a) (log_lines (entries_of x.longer)) lines r.puts.logged h.closed;
+        whole = a ++ late.whole;
+        rest = late.rest;
+        parted = sym x.entries ∙ ap (λ l. a ++ l) late.parted ∙ sym (append_assoc a late.whole late.rest);
+        rest_is_last = subst E (sym x.last) late.ends;
+        log_holds = subst G (sym (lines-append a late.whole)) (holds_then (Err fault) log mid log' (log_lines a) (log_lines late.whole) late.rest logged late.holds);
         hears = subst H x.heard r.puts.hears;
         failed = true;
-        took = subst S (sym (sent-append a b) ∙ ap sent_octets x.entries) part;
+        took = subst S (sym (sent-append a late.whole)) part;
         failures = r.puts.sent.1;
         failed_is = link_failed fault h.end' h.loss mid log' h.closed;
         lost_is = λ _. refl;
@@ -182,6 +216,10 @@ module _ {D : Type 0} (answers : D → Content → Answered) where
         bound = r.bound;
         answer = tt;
         in_range = r.in_range;
+        whole = r.puts.whole;
+        rest = r.puts.rest;
+        parted = r.puts.parted;
+        rest_is_last = r.ends;
         log_holds = r.puts.logged;
         hears = r.puts.hears;
         failed = false;
@@ -193,34 +231,42 @@ module _ {D : Type 0} (answers : D → Content → Answered) where
   ended Log fault limit new end script log mid log' link link' n m r h =
       let F : ServeFault → Type 0 = λ f. ServesEnd answers new script limit (Err f) log log' link link' in
       let L : SinkState → Type 0 = λ l. ServesEnd answers new script limit (Err serve.Log) log l link link' in
-      subst F (sym h.0) (subst L (sym h.1) (elim r.puts.sent.1 [
-        | inl same ↦ record {
+      subst F (sym h.0) (subst L (sym h.1) (elim r.puts.sent [
+        | inl all ↦ record {
           story = r.story;
           last = r.end';
           is_story = r.is_story;
           bound = r.bound;
           answer = tt;
           in_range = r.in_range;
+          whole = r.puts.whole;
+          rest = r.puts.rest;
+          parted = r.puts.parted;
+          rest_is_last = r.ends;
           log_holds = r.puts.logged;
           hears = r.puts.hears;
           failed = false;
-          took = r.puts.sent.0;
-          failures = same;
+          took = all.0;
+          failures = all.1;
           failed_is = tt;
           lost_is = no_lost r.story r.not_lost;
         }
-        | inr more ↦ record {
+        | inr part ↦ record {
           story = r.story;
           last = r.end';
           is_story = r.is_story;
           bound = r.bound;
           answer = tt;
           in_range = r.in_range;
+          whole = r.puts.whole;
+          rest = r.puts.rest;
+          parted = r.puts.parted;
+          rest_is_last = r.ends;
           log_holds = r.puts.logged;
           hears = r.puts.hears;
           failed = true;
-          took = r.puts.sent.0;
-          failures = more;
+          took = part.0;
+          failures = part.1;
           failed_is = tt;
           lost_is = no_lost r.story r.not_lost;
         }

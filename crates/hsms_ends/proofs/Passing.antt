@@ -32,16 +32,16 @@ use Rattle.hsms_ends.specs.declared.serving.Served.{Served}
 use Rattle.hsms_ends.specs.declared.fault.ServeFault.{ServeFault}
 use Rattle.hsms_ends.specs.declared.fault.ServeFault.TheVariants as serve
 use Rattle.hsms_ends.specs.Link.{Told}
-use Rattle.hsms_ends.specs.PutOut.{LogGrows, LogFails, log_lines}
+use Rattle.hsms_ends.specs.PutOut.{LogGrows, LogFails, LogStops, log_lines}
 use Rattle.hsms_ends.specs.Turning.{has_gone}
-use Rattle.hsms_ends.specs.Serving.{Story, Unopened, IsStory, entries_of, ends_down, Answers, LogHolds, is_log_fault, Serves}
-use Rattle.hsms_ends.specs.Outcome.{AnswersEnd, ServesEnd}
+use Rattle.hsms_ends.specs.Serving.{Story, Unopened, Unstarted, Started, IsStory, entries_of, ends_down, Answers, LogStopsIn, LogHolds, is_log_fault, Serves}
+use Rattle.hsms_ends.specs.Outcome.{AnswersEnd, HoldsLines, ServesEnd}
 use Rattle.hsms_ends.specs.Laws.{ServedLogPasses}
 use Rattle.hsms_ends.proofs.Along.{along_story}
 use Rattle.hsms_ends.proofs.Downs.{gone_of_view}
 use Rattle.hsms_ends.proofs.Ending.{holds_then}
 use Rattle.hsms_ends.proofs.Hearing.{grows_none, hears_nothing}
-use Rattle.hsms_ends.proofs.Puttings.{part_of_all}
+use Rattle.hsms_ends.proofs.Puttings.{whole_is}
 use Rattle.hsms_ends.proofs.Readiness.{IsSized, run_sized}
 use Rattle.hsms_ends.proofs.Sizes.{IsDiscardSized, turn_kept}
 
@@ -139,6 +139,24 @@ module _ {D : Type 0} (answers : D → Content → Answered) where
   answers_by limit (Err serve.Log) story last same h = tt
   answers_by limit (Err serve.Memory) story last same h = tt
 
+  nothing_stops : (log log' : SinkState) (lines : List ℕ) (whole rest : List Entry) → [] ≡ whole ++ rest → LogStops log log' lines rest → ⊥
+  nothing_stops log log' lines whole [] parted h = h
+  nothing_stops log log' lines whole (entry ∷ rest) parted h =
+      absurd (let e : 0 ≡ length whole + length (entry ∷ rest) = ap length parted ∙ length-append whole (entry ∷ rest) in omega (arith, e))
+
+  stops_by : (story : Story) (log log' : SinkState) (s : Parameters) (whole rest : List Entry) → entries_of story ≡ whole ++ rest → LogStops log log' (written_log s whole) rest → LogStopsIn story log log' s whole rest
+  stops_by Unopened log log' s whole rest parted h = absurd (nothing_stops log log' (written_log s whole) whole rest parted h)
+  stops_by (Unstarted now) log log' s whole rest parted h = nothing_stops log log' (written_log s whole) whole rest parted h
+  stops_by (Started now started turns cut loss) log log' s whole rest parted h = h
+
+  held_by : (result : Result Served ServeFault) (story : Story) (log log' : SinkState) (s : Parameters) (whole rest : List Entry) → entries_of story ≡ whole ++ rest → HoldsLines result log log' (written_log s whole) rest
+      → LogHolds result story log log' s whole rest
+  held_by (Ok served) story log log' s whole rest parted h = h
+  held_by (Err serve.Turns) story log log' s whole rest parted h = h
+  held_by (Err serve.Link) story log log' s whole rest parted h = h
+  held_by (Err serve.Log) story log log' s whole rest parted h = stops_by story log log' s whole rest parted h
+  held_by (Err serve.Memory) story log log' s whole rest parted h = h
+
   -- the settings' line was written
   pub opened : (desk : D) (s : Parameters) (first_system : ℕ) (script : List Step) (limit : ℕ) (result : Result Served ServeFault) (log mid log' : SinkState) (link link' : Told)
       → IsWithinLimits s → LogGrows log mid (settings_line s ++ 10 ∷ [])
@@ -146,7 +164,9 @@ module _ {D : Type 0} (answers : D → Content → Answered) where
       → Serves answers (record { desk = desk; known = untold s first_system }) script limit result log log' link link'
   opened desk s first_system script limit result log mid log' link link' within grows r =
       let there = reached desk s first_system script r.story r.last r.is_story in
-      let H : List ℕ → Type 0 = λ l. LogHolds result log log' l in
+      let H : List ℕ → Type 0 = λ l. HoldsLines result log log' l r.rest in
+      let held : HoldsLines result log log' (written_log s r.whole) r.rest =
+      subst H (append_assoc (settings_line s) (10 ∷ []) (log_lines r.whole)) (holds_then result log mid log' (settings_line s ++ 10 ∷ []) (log_lines r.whole) r.rest grows r.log_holds) in
       record {
         story = r.story;
         last = r.last;
@@ -154,8 +174,11 @@ module _ {D : Type 0} (answers : D → Content → Answered) where
         bound = r.bound;
         run = there.seen.run;
         text = text_of_run s (entries_of r.story) within there.seen.run there.sized r.in_range;
-        log_holds = subst H (append_assoc (settings_line s) (10 ∷ []) (log_lines (entries_of r.story)))
-            (holds_then result log mid log' (settings_line s ++ 10 ∷ []) (log_lines (entries_of r.story)) grows r.log_holds);
+        whole = r.whole;
+        rest = r.rest;
+        parted = r.parted;
+        rest_is_last = r.rest_is_last;
+        log_holds = held_by result r.story log log' s r.whole r.rest r.parted held;
         answer = answers_by limit result r.story r.last (gone_of_view s (entries_of r.story) r.last.known.view there.seen) r.answer;
         hears = r.hears;
         failed = r.failed;
@@ -176,11 +199,15 @@ module _ {D : Type 0} (answers : D → Content → Answered) where
     bound = omega arith;
     run = empty_run s;
     text = text_of_run s [] within (empty_run s) (All-nil (λ (entry : Entry). IsDiscardSized s.max entry.event)) (All-nil IsEntry);
+    whole = [];
+    rest = [];
+    parted = refl;
+    rest_is_last = ([], refl);
     log_holds = fails;
     answer = tt;
     hears = hears_nothing link;
     failed = false;
-    took = part_of_all link.taken link.taken [] (grows_none link.taken);
+    took = grows_none link.taken;
     failures = refl;
     failed_is = tt;
     lost_is = λ h. absurd (let e : false ≡ true = h in cc);
@@ -188,19 +215,24 @@ module _ {D : Type 0} (answers : D → Content → Answered) where
 
   -- ---- the audit passes it
 
-  grown : (result : Result Served ServeFault) (log log' : SinkState) (text : List ℕ) → is_log_fault result ≡ false → LogHolds result log log' text → LogGrows log log' text
-  grown (Ok served) log log' text fine h = h
-  grown (Err serve.Turns) log log' text fine h = h
-  grown (Err serve.Link) log log' text fine h = h
-  grown (Err serve.Log) log log' text fine h = absurd (let e : true ≡ false = fine in cc)
-  grown (Err serve.Memory) log log' text fine h = h
+  -- the text of all entries was logged
+  grown : (result : Result Served ServeFault) (story : Story) (log log' : SinkState) (s : Parameters) (whole rest : List Entry) → is_log_fault result ≡ false → LogHolds result story log log' s whole rest
+      → (rest ≡ []) × LogGrows log log' (written_log s whole)
+  grown (Ok served) story log log' s whole rest fine h = h
+  grown (Err serve.Turns) story log log' s whole rest fine h = h
+  grown (Err serve.Link) story log log' s whole rest fine h = h
+  grown (Err serve.Log) story log log' s whole rest fine h = absurd (let e : true ≡ false = fine in cc)
+  grown (Err serve.Memory) story log log' s whole rest fine h = h
 
   pub served_passes : ServedLogPasses answers
   served_passes new script limit result log log' link link' r fine empty =
       let s = new.known.settings in
       let entries = entries_of r.story in
-      let text = written_log s entries in (
+      let text = written_log s entries in
+      let all = grown result r.story log log' s r.whole r.rest fine r.log_holds in
+      let P : List Entry → Type 0 = λ l. LogGrows log log' (written_log s l) in
+      let logged = subst P (whole_is entries r.whole r.rest r.parted all.0) all.1 in (
         text,
-        (grown result log log' text fine r.log_holds).0 [] empty,
+        logged.0 [] empty,
         (s, entries, record { spelled = r.text; run = r.run }, refl),
       )

@@ -13,16 +13,22 @@ use Rattle.hsms_ends.specs.declared.step.Step.{Step}
 use Rattle.hsms_ends.specs.declared.output.Stop.{Stop}
 use Rattle.hsms_ends.specs.declared.output.Stop.TheVariants.{Link, Log, Memory}
 use Rattle.hsms_ends.specs.Link.{Told, both, moment_heard}
-use Rattle.hsms_ends.specs.Turning.{Turn, AreTurns, entries_turns, heard_turns}
-use Rattle.hsms_ends.specs.Serving.{count_after, entries_cut, heard_cut, Unstarted, Started, IsCutTurn, entries_of, heard_of, refused_of}
+use Rattle.hsms_ends.specs.Turning.{Turn, AreTurns, entries_turns, last_turns, heard_turns}
+use Rattle.hsms_ends.specs.Serving.{count_after, entries_cut, last_cut, last_call, heard_cut, Unstarted, Started, IsCutTurn, entries_of, heard_of, refused_of}
+use Rattle.hsms_ends.specs.PutOut.{IsEnding}
 use Rattle.hsms_ends.specs.Outcome.{is_cut, Counts, Handed, IsCut, TurnsTaken, StartedBy, Ran}
-use Rattle.hsms_ends.proofs.Yielding.{counts_none, yields_then, yields_along}
+use Rattle.hsms_ends.proofs.Yielding.{ending_none, counts_none, yields_then, yields_along, yields_last, yields_left}
 
 started_by : (r : Result (Unit {0}) Stop) (now : ℕ) (entries : List Entry) (turns : List Turn) (cut : Option Turn) → StartedBy r (Started now entries turns cut None)
 started_by (Ok _) now entries turns cut = tt
 started_by (Err Link) now entries turns cut = tt
 started_by (Err Log) now entries turns cut = tt
 started_by (Err Memory) now entries turns cut = tt
+
+-- where no turn was cut short, the call before is the last
+ending_cut : (cut : Option Turn) (before more : List Entry) → IsEnding more (last_cut cut []) → IsEnding more (last_cut cut before)
+ending_cut None before more h = ending_none before more h
+ending_cut (Some turn) before more h = h
 
 stored : (a b k : ℕ) → a ≡ 0 → Counts a b k → b ≡ count_after 0 k
 stored a b k none h =
@@ -48,9 +54,10 @@ module _ {D : Type 0} (answers : D → Content → Answered) where
       let P : EndOf D → Type 0 = λ e. AreTurns answers e (drop i script) t.turns t.mid t.left in
       let Q : List Step → Type 0 = λ l. AreTurns answers h.end' l t.turns t.mid t.left in
       let story = Started now h.entries t.turns t.cut None in
-      let all = yields_then r log between log' link midway link' n m n' h.entries (entries_turns t.turns ++ entries_cut t.cut) (moment_heard now) (both (heard_turns t.turns) (heard_cut t.cut)) h.yields t.yields in
+      let all = yields_then r log between log' link midway link' n m n' h.entries (entries_turns t.turns ++ entries_cut t.cut) h.entries (last_cut t.cut []) (moment_heard now) (both (heard_turns t.turns) (heard_cut t.cut)) h.yields t.yields in
       let same : h.entries ++ (entries_turns t.turns ++ entries_cut t.cut) ≡ entries_of story = ap (λ l. h.entries ++ (entries_turns t.turns ++ l)) (sym (append-nil (entries_cut t.cut))) in
-      let told = yields_along r log log' link link' n n' (h.entries ++ (entries_turns t.turns ++ entries_cut t.cut)) (entries_of story) (heard_of story) same all in
+      let told = yields_last r log log' link link' n n' (entries_of story) (last_cut t.cut []) (last_call story) (heard_of story) (ending_cut t.cut (last_turns t.turns h.entries))
+      (yields_along r log log' link link' n n' (h.entries ++ (entries_turns t.turns ++ entries_cut t.cut)) (entries_of story) (last_cut t.cut []) (heard_of story) same all) in
       record {
         story = story;
         end' = t.end';
@@ -62,6 +69,7 @@ module _ {D : Type 0} (answers : D → Content → Answered) where
         started = started_by r now h.entries t.turns t.cut;
         leads = t.leads;
         puts = told.puts;
+        ends = told.ends;
         in_range = told.in_range;
         counted = stored n n' (length (entries_of story)) none told.counted;
         refusals = stored refused refused' (refused_of story) none_refused t.refusals;
@@ -73,7 +81,7 @@ module _ {D : Type 0} (answers : D → Content → Answered) where
   ran_started stop now limit new begun script log log' link link' n n' refused none none_refused h turns =
       let story = Started now h.entries [] None None in
       let same : h.entries ≡ entries_of story = sym (append-nil h.entries) in
-      let told = yields_along (Err stop) log log' link link' n n' h.entries (entries_of story) (heard_of story) same h.yields in
+      let told = yields_along (Err stop) log log' link link' n n' h.entries (entries_of story) h.entries (heard_of story) same h.yields in
       record {
         story = story;
         end' = h.end';
@@ -85,6 +93,7 @@ module _ {D : Type 0} (answers : D → Content → Answered) where
         started = started_by (Err stop) now h.entries [] None;
         leads = h.leads;
         puts = told.puts;
+        ends = told.ends;
         in_range = told.in_range;
         counted = stored n n' (length (entries_of story)) none told.counted;
         refusals = stored refused refused 0 none_refused (counts_none refused);
@@ -99,7 +108,7 @@ module _ {D : Type 0} (answers : D → Content → Answered) where
       elim h.takes [
         | inl turns ↦ ran_started Memory now limit new begun script log log' link link' n n' refused none none_refused h turns
         | inr left ↦
-            let told = yields_along (Err Memory) log log' link link' n n' h.entries [] (moment_heard now) left.0 h.yields in
+            let told = yields_left log log' link link' n n' h.entries (moment_heard now) left.0 h.yields in
             record {
               story = Unstarted now;
               end' = new;
@@ -111,6 +120,7 @@ module _ {D : Type 0} (answers : D → Content → Answered) where
               started = tt;
               leads = tt;
               puts = told.puts;
+              ends = told.ends;
               in_range = told.in_range;
               counted = stored n n' 0 none told.counted;
               refusals = stored refused refused 0 none_refused (counts_none refused);

@@ -19,13 +19,14 @@ use Rattle.hsms_ends.specs.declared.link.Got.TheVariants as got
 use Rattle.hsms_ends.specs.declared.output.Stop.{Stop}
 use Rattle.hsms_ends.specs.declared.output.Stop.TheVariants.{Link, Log, Memory}
 use Rattle.hsms_ends.specs.Link.{Told, Heard, Hears, both, nothing_heard, moment_heard, octets_heard, quiet_heard, closed_heard, got_heard}
-use Rattle.hsms_ends.specs.Turning.{Refused, Ticked, Done, Nothing, Stepped, Declined, Quiet, Octets, Closed, Turn, Untaken, Ticks, HasNotGone, has_gone, is_step_due, MustWait, Heeds, Continues, IsTurn, AreTurns, entries_after, entries_rest, entries_turn, entries_turns, moment_after, heard_rest, heard_turn, heard_turns, refused_turn, refused_turns, input_of}
+use Rattle.hsms_ends.specs.Turning.{Refused, Ticked, Done, Rest, Nothing, Stepped, Declined, Quiet, Octets, Closed, Turn, Untaken, Ticks, HasNotGone, has_gone, is_step_due, MustWait, Heeds, Continues, IsTurn, AreTurns, entries_after, entries_rest, entries_turn, entries_turns, last_after, last_rest, last_turn, moment_after, heard_rest, heard_turn, heard_turns, refused_turn, refused_turns, input_of}
 use Rattle.hsms_ends.specs.Serving.{entries_cut, heard_cut, refused_cut}
+use Rattle.hsms_ends.specs.PutOut.{IsEnding}
 use Rattle.hsms_ends.specs.Outcome.{is_cut, Leads, Takes, Counts, Yields, Handed, Followed, Heeded, Continued, TurnTaken, TurnsSoFar, TurnsTaken}
-use Rattle.hsms_ends.proofs.Hearing.{both_nothing, grows_none, grows_stays}
-use Rattle.hsms_ends.proofs.Puttings.{part_of_all}
+use Rattle.hsms_ends.proofs.Hearing.{both_nothing}
+use Rattle.hsms_ends.proofs.Puttings.{puts_fault}
 use Rattle.hsms_ends.proofs.TurnLists.{heard_snoc, entries_snoc, refused_snoc, turns_snoc, length_snoc}
-use Rattle.hsms_ends.proofs.Yielding.{counts_none, counts_then, yields_then, yields_along, yields_heard, yields_memory, yields_nothing}
+use Rattle.hsms_ends.proofs.Yielding.{ending_none, counts_none, counts_then, yields_then, yields_along, yields_last, yields_left, yields_before, yields_whole, yields_heard, yields_memory, yields_nothing}
 use Rattle.std.proofs.lemmas.List.Elements.{All-nil}
 use Rattle.hsms_log.specs.Spelling.{IsEntry}
 
@@ -46,6 +47,15 @@ refused_by end new input fault.Nine other h = h
 refused_by end new input fault.Full other h = h
 refused_by end new input fault.TooLong other h = h
 refused_by end new input fault.TooDeep other h = h
+
+-- where nothing followed a tick, its entries are those of the last call
+ending_rest : (rest : Rest) (before more : List Entry) → IsEnding more (last_rest rest []) → IsEnding more (last_rest rest before)
+ending_rest Nothing before more h = ending_none before more h
+ending_rest (Stepped entries) before more h = h
+ending_rest Declined before more h = h
+ending_rest Quiet before more h = h
+ending_rest (Octets octets after) before more h = h
+ending_rest (Closed after) before more h = h
 
 module _ {D : Type 0} (answers : D → Content → Answered) where
   pub takes_by : (r : Result (Unit {0}) Stop) (end : EndOf D) (input : Input) (entries : List Entry) (end' : EndOf D) → Accepts answers end input entries end' → Takes answers r end input entries end'
@@ -82,7 +92,7 @@ module _ {D : Type 0} (answers : D → Content → Answered) where
           end' = end;
           heeds = (refl, refl);
           leads = tt;
-          yields = yields_along (Err Memory) log log' link link' n n' h.entries [] (moment_heard now) left.0 h.yields;
+          yields = yields_left log log' link link' n n' h.entries (moment_heard now) left.0 h.yields;
         }
       ]
 
@@ -99,7 +109,7 @@ module _ {D : Type 0} (answers : D → Content → Answered) where
         end' = k.end';
         heeds = (h.end', h.takes, subst P h.leads up, subst Q h.leads turns);
         leads = k.leads;
-        yields = yields_then r log between log' link midway link' n m n' h.entries k.entries (moment_heard now) nothing_heard h.yields k.yields;
+        yields = yields_then r log between log' link midway link' n m n' h.entries k.entries h.entries k.entries (moment_heard now) nothing_heard h.yields k.yields;
       }
 
   pub followed : (r : Result (Unit {0}) Stop) (now : ℕ) (end : EndOf D) (input : Input) (mid new : EndOf D) (log between log' : SinkState) (link midway link' : Told) (n m n' : ℕ)
@@ -116,14 +126,14 @@ module _ {D : Type 0} (answers : D → Content → Answered) where
       elim k.takes [
         | inl turns ↦ followed_by (Err Memory) now end input mid new log between log' link midway link' n m n' h up k turns
         | inr left ↦
-            let all = yields_then (Err Memory) log between log' link midway link' n m n' h.entries k.entries (moment_heard now) nothing_heard h.yields k.yields in
-            let none : h.entries ++ k.entries ≡ h.entries = ap (λ l. h.entries ++ l) left.0 ∙ append-nil h.entries in
+            let all = yields_then (Err Memory) log between log' link midway link' n m n' h.entries [] h.entries [] (moment_heard now) nothing_heard h.yields (yields_left between log' midway link' m n' k.entries nothing_heard left.0 k.yields) in
             record {
               after = Ticked now h.entries;
               end' = h.end';
               heeds = (h.takes, inl refl);
               leads = tt;
-              yields = yields_along (Err Memory) log log' link link' n n' (h.entries ++ k.entries) h.entries (moment_heard now) none all;
+              yields = yields_before (Err Memory) log log' link link' n n' h.entries h.entries (moment_heard now)
+                  (yields_along (Err Memory) log log' link link' n n' (h.entries ++ []) h.entries [] (moment_heard now) (append-nil h.entries) all);
             }
       ]
 
@@ -147,7 +157,7 @@ module _ {D : Type 0} (answers : D → Content → Answered) where
     end' = end;
     continues = (inl refl, refl, refl);
     leads = tt;
-    yields = yields_memory log log link link n n [] nothing_heard (yields_nothing log link n);
+    yields = yields_memory log log link link n n [] [] nothing_heard (yields_nothing log link n);
     refusals = counts_none refused;
   }
 
@@ -155,17 +165,15 @@ module _ {D : Type 0} (answers : D → Content → Answered) where
   pub continued_fault : (end : EndOf D) (script : List Step) (log : SinkState) (link link' : Told) (n refused : ℕ)
       → Hears link link' nothing_heard → Stays link.taken link'.taken → link'.failures ≡ next_count link.failures
       → Continued answers (Err Link) end end script script log log link link' n n refused refused
+  unfolding puts_fault
   continued_fault end script log link link' n refused hears stays failed = record {
     rest = Nothing;
     end' = end;
     continues = (inl refl, refl, refl);
     leads = refl;
     yields = record {
-      puts = record {
-        logged = (grows_none log.written, refl);
-        sent = (part_of_all link.taken link'.taken [] (grows_stays link.taken link'.taken link'.taken [] stays (grows_none link'.taken)), failed);
-        hears = hears;
-      };
+      puts = puts_fault log link link' hears stays failed;
+      ends = ([], refl);
       counted = counts_none n;
       in_range = All-nil IsEntry;
     };
@@ -182,7 +190,7 @@ module _ {D : Type 0} (answers : D → Content → Answered) where
     end' = h.end';
     continues = (must, h.heeds);
     leads = h.leads;
-    yields = yields_then r log log log' link mid link' n n n' [] (entries_after h.after) (octets_heard (take k into)) (moment_heard (moment_after h.after))
+    yields = yields_then r log log log' link mid link' n n n' [] (entries_after h.after) [] (last_after h.after) (octets_heard (take k into)) (moment_heard (moment_after h.after))
         (yields_heard log link mid n (octets_heard (take k into)) hears stays same) h.yields;
     refusals = counts_none refused;
   }
@@ -191,7 +199,7 @@ module _ {D : Type 0} (answers : D → Content → Answered) where
     end' = end;
     continues = (must, refl);
     leads = h.1;
-    yields = yields_then r log log log' link mid link' n n n' [] [] quiet_heard nothing_heard (yields_heard log link mid n quiet_heard hears stays same) h.0;
+    yields = yields_then r log log log' link mid link' n n n' [] [] [] [] quiet_heard nothing_heard (yields_heard log link mid n quiet_heard hears stays same) h.0;
     refusals = counts_none refused;
   }
   continued_got r into got.Closed end end_new script log log' link mid link' n n' refused hears stays same h must = record {
@@ -199,7 +207,7 @@ module _ {D : Type 0} (answers : D → Content → Answered) where
     end' = h.end';
     continues = (must, h.heeds);
     leads = h.leads;
-    yields = yields_then r log log log' link mid link' n n n' [] (entries_after h.after) closed_heard (moment_heard (moment_after h.after))
+    yields = yields_then r log log log' link mid link' n n n' [] (entries_after h.after) [] (last_after h.after) closed_heard (moment_heard (moment_after h.after))
         (yields_heard log link mid n closed_heard hears stays same) h.yields;
     refusals = counts_none refused;
   }
@@ -216,7 +224,8 @@ module _ {D : Type 0} (answers : D → Content → Answered) where
         end' = k.end';
         is_turn = (up, (h.end', h.takes, subst P h.leads k.continues));
         leads = k.leads;
-        yields = yields_then r log between log' link midway link' n m n' h.entries (entries_rest k.rest) (moment_heard now) (heard_rest k.rest) h.yields k.yields;
+        yields = yields_last r log log' link link' n n' (h.entries ++ entries_rest k.rest) (last_rest k.rest []) (last_rest k.rest h.entries) (both (moment_heard now) (heard_rest k.rest)) (ending_rest k.rest h.entries)
+            (yields_then r log between log' link midway link' n m n' h.entries (entries_rest k.rest) h.entries (last_rest k.rest []) (moment_heard now) (heard_rest k.rest) h.yields k.yields);
         refusals = k.refusals;
       }
 
@@ -229,7 +238,7 @@ module _ {D : Type 0} (answers : D → Content → Answered) where
     end' = h.end';
     is_turn = (up, (h.end', turns, (inl refl, refl, refl)));
     leads = h.leads;
-    yields = yields_along (Err stop) log log' link link' n n' h.entries (h.entries ++ []) (moment_heard now) (sym (append-nil h.entries)) h.yields;
+    yields = yields_along (Err stop) log log' link link' n n' h.entries (h.entries ++ []) h.entries (moment_heard now) (sym (append-nil h.entries)) h.yields;
     refusals = counts_none refused;
   }
 
@@ -246,7 +255,7 @@ module _ {D : Type 0} (answers : D → Content → Answered) where
           end' = end;
           is_turn = (up, refl, refl, refl);
           leads = tt;
-          yields = yields_along (Err Memory) log log' link link' n n' h.entries [] (moment_heard now) left.0 h.yields;
+          yields = yields_left log log' link link' n n' h.entries (moment_heard now) left.0 h.yields;
           refusals = counts_none refused;
         }
       ]
@@ -254,7 +263,7 @@ module _ {D : Type 0} (answers : D → Content → Answered) where
   -- a step was taken
   pub stepped : (r : Result (Unit {0}) Stop) (end new : EndOf D) (xs : List Step) (i : ℕ) (step : Step) (log log' : SinkState) (link link' : Told) (n n' refused : ℕ) (entries : List Entry)
       → HasNotGone end → is_step_due end (drop i xs) ≡ true → drop i xs ≡ step ∷ drop (i + 1) xs → Accepts answers end (input_of step) entries new
-      → Yields r log log' link link' n n' entries nothing_heard
+      → Yields r log log' link link' n n' entries entries nothing_heard
       → Continued answers r end new (drop i xs) (drop (i + 1) xs) log log' link link' n n' refused refused
   stepped r end new xs i step log log' link link' n n' refused entries up due next turns yields = record {
     rest = Stepped entries;
@@ -294,15 +303,16 @@ module _ {D : Type 0} (answers : D → Content → Answered) where
       → TurnsSoFar answers end new script script' log log' link link' n n' refused refused' (done + 1)
   one_more end mid new script left script' log between log' link midway link' n m n' refused between_refused refused' done s t =
       let P : EndOf D → Type 0 = λ e. IsTurn answers false mid left t.turn e script' in
-      let all = yields_then (Ok tt) log between log' link midway link' n m n' (entries_turns s.turns) (entries_turn t.turn) (heard_turns s.turns) (heard_turn t.turn) s.yields t.yields in
-      let H : Heard → Type 0 = λ h. Yields (Ok tt) log log' link link' n n' (entries_turns (s.turns ++ t.turn ∷ [])) h in
+      let all = yields_whole log log' link link' n n' (entries_turns s.turns ++ entries_turn t.turn) (last_turn t.turn) [] (both (heard_turns s.turns) (heard_turn t.turn))
+      (yields_then (Ok tt) log between log' link midway link' n m n' (entries_turns s.turns) (entries_turn t.turn) [] (last_turn t.turn) (heard_turns s.turns) (heard_turn t.turn) s.yields t.yields) in
+      let H : Heard → Type 0 = λ h. Yields (Ok tt) log log' link link' n n' (entries_turns (s.turns ++ t.turn ∷ [])) [] h in
       let R : ℕ → Type 0 = λ k. Counts refused refused' k in
       record {
         turns = s.turns ++ t.turn ∷ [];
         are_turns = turns_snoc answers end mid new script left script' s.turns t.turn s.are_turns (subst P (sym t.leads) t.is_turn);
         long = length_snoc s.turns t.turn ∙ ap (λ k. k + 1) s.long;
         yields = subst H (sym (heard_snoc s.turns t.turn))
-            (yields_along (Ok tt) log log' link link' n n' (entries_turns s.turns ++ entries_turn t.turn) (entries_turns (s.turns ++ t.turn ∷ []))
+            (yields_along (Ok tt) log log' link link' n n' (entries_turns s.turns ++ entries_turn t.turn) (entries_turns (s.turns ++ t.turn ∷ [])) []
             (both (heard_turns s.turns) (heard_turn t.turn)) (sym (entries_snoc s.turns t.turn)) all);
         refusals = subst R (sym (refused_snoc s.turns t.turn)) (counts_then refused between_refused refused' (refused_turns s.turns) (refused_turn t.turn) s.refusals t.refusals);
       }
@@ -312,7 +322,7 @@ module _ {D : Type 0} (answers : D → Content → Answered) where
       → TurnsSoFar answers end new script script' log log' link link' n n' refused refused' done → done ≤ limit → (has_gone new ≡ false → done ≡ limit)
       → TurnsTaken answers (Ok tt) limit end new script script' log log' link link' n n' refused refused'
   taken_whole limit end new script script' log log' link link' n n' refused refused' done s within enough =
-      let H : Heard → Type 0 = λ h. Yields (Ok tt) log log' link link' n n' (entries_turns s.turns ++ []) h in
+      let H : Heard → Type 0 = λ h. Yields (Ok tt) log log' link link' n n' (entries_turns s.turns ++ []) [] h in
       let R : ℕ → Type 0 = λ k. Counts refused refused' k in
       record {
         turns = s.turns;
@@ -326,7 +336,7 @@ module _ {D : Type 0} (answers : D → Content → Answered) where
         enough = λ _ up. s.long ∙ enough up;
         leads = refl;
         yields = subst H (sym (both_nothing (heard_turns s.turns)))
-            (yields_along (Ok tt) log log' link link' n n' (entries_turns s.turns) (entries_turns s.turns ++ []) (heard_turns s.turns) (sym (append-nil (entries_turns s.turns))) s.yields);
+            (yields_along (Ok tt) log log' link link' n n' (entries_turns s.turns) (entries_turns s.turns ++ []) [] (heard_turns s.turns) (sym (append-nil (entries_turns s.turns))) s.yields);
         refusals = let e : refused_turns s.turns ≡ refused_turns s.turns + 0 = omega arith in subst R e s.refusals;
       }
 
@@ -346,6 +356,6 @@ module _ {D : Type 0} (answers : D → Content → Answered) where
     bound = omega (arith, s.long, below);
     enough = λ cut. absurd (cc);
     leads = t.leads;
-    yields = yields_then (Err stop) log between log' link midway link' n m n' (entries_turns s.turns) (entries_turn t.turn) (heard_turns s.turns) (heard_turn t.turn) s.yields t.yields;
+    yields = yields_then (Err stop) log between log' link midway link' n m n' (entries_turns s.turns) (entries_turn t.turn) [] (last_turn t.turn) (heard_turns s.turns) (heard_turn t.turn) s.yields t.yields;
     refusals = counts_then refused between_refused refused' (refused_turns s.turns) (refused_turn t.turn) s.refusals t.refusals;
   }

@@ -19,9 +19,9 @@ use Rattle.hsms_ends.specs.declared.serving.Served.{Served}
 use Rattle.hsms_ends.specs.declared.fault.ServeFault.{ServeFault}
 use Rattle.hsms_ends.specs.declared.fault.ServeFault.TheVariants as serve
 use Rattle.hsms_ends.specs.Link.{Told, Heard, both, Hears, nothing_heard, moment_heard}
-use Rattle.hsms_ends.specs.PutOut.{PutsOut, LogGrows, LogFails, log_lines, sent_octets}
-use Rattle.hsms_ends.specs.Turning.{After, Rest, Turn, has_gone, Heeds, Continues, IsTurn, AreTurns, entries_after, entries_rest, entries_turn, entries_turns, moment_after, heard_rest, heard_turn, heard_turns, refused_rest, refused_turn, refused_turns}
-use Rattle.hsms_ends.specs.Serving.{Story, IsStory, IsLost, IsWhole, IsStarted, has_lost, entries_of, heard_of, refused_of, turns_begun, whole_turns, entries_cut, heard_cut, refused_cut, begun_cut, lost_entries, count_after, LogHolds, MayHaveFailed, LinkTook, is_log_fault, failures_after}
+use Rattle.hsms_ends.specs.PutOut.{PutsOut, LogGrows, LogStops, LogFailsIn, IsEnding, log_lines, sent_octets}
+use Rattle.hsms_ends.specs.Turning.{After, Rest, Turn, has_gone, Heeds, Continues, IsTurn, AreTurns, entries_after, entries_rest, entries_turn, entries_turns, last_after, last_rest, last_turn, moment_after, heard_rest, heard_turn, heard_turns, refused_rest, refused_turn, refused_turns}
+use Rattle.hsms_ends.specs.Serving.{Story, IsStory, IsLost, IsWhole, IsStarted, has_lost, entries_of, heard_of, refused_of, turns_begun, whole_turns, entries_cut, heard_cut, refused_cut, begun_cut, lost_entries, last_cut, last_call, count_after, MayHaveFailed, LinkTook, failures_after}
 
 -- some log is a run that has the end's view, and the settings are within their limits
 pub record IsReady {D : Type 0} (end : EndOf D) : Type 0 where
@@ -52,9 +52,11 @@ Takes answers (Err Memory) end input entries end' = Accepts answers end input en
 abbrev pub Counts : ℕ → ℕ → ℕ → Type 0
 Counts count count' more = count < 2 ^ 64 → count' ≡ count_after count more
 
--- what came of entries: they were put out, this was heard of the link, and they were counted
-pub record Yields (result : Result (Unit {0}) Stop) (log log' : SinkState) (link link' : Told) (count count' : ℕ) (entries : List Entry) (heard : Heard) : Type 0 where
+-- what came of entries: they were put out, this was heard of the link, and they were counted; what was left by the log's
+-- fault was given by the last call
+pub record Yields (result : Result (Unit {0}) Stop) (log log' : SinkState) (link link' : Told) (count count' : ℕ) (entries last : List Entry) (heard : Heard) : Type 0 where
   pub puts : PutsOut result log log' link link' entries heard
+  pub ends : IsEnding puts.rest last
   pub counted : Counts count count' (length entries)
   pub in_range : All IsEntry entries
 
@@ -64,7 +66,7 @@ pub record Handed {D : Type 0} (answers : D → Content → Answered) (result : 
   pub end' : EndOf D
   pub takes : Takes answers result end input entries end'
   pub leads : Leads result end' end_new
-  pub yields : Yields result log log' link link' count count' entries heard
+  pub yields : Yields result log log' link link' count count' entries entries heard
 
 -- the end was told of an answer of `wait`, which calls for this input
 pub record Followed {D : Type 0} (answers : D → Content → Answered) (result : Result (Unit {0}) Stop) (end : EndOf D) (input : Input) (end_new : EndOf D) (log log' : SinkState) (link link' : Told) (count count' : ℕ) : Type 0 where
@@ -72,14 +74,14 @@ pub record Followed {D : Type 0} (answers : D → Content → Answered) (result 
   pub end' : EndOf D
   pub heeds : Heeds answers (is_cut result) end input after end'
   pub leads : Leads result end' end_new
-  pub yields : Yields result log log' link link' count count' (entries_after after) (moment_heard (moment_after after))
+  pub yields : Yields result log log' link link' count count' (entries_after after) (last_after after) (moment_heard (moment_after after))
 
 -- an answer of `wait` was heeded
 abbrev pub Heeded : {D : Type 0} → (D → Content → Answered) → Result (Unit {0}) Stop → List ℕ → Got → EndOf D → EndOf D → SinkState → SinkState → Told → Told → ℕ → ℕ → Type 0
 Heeded answers result into (Octets n) end end_new log log' link link' count count' =
     Followed answers result end (bytes (take n into)) end_new log log' link link' count count'
 Heeded answers result into Quiet end end_new log log' link link' count count' =
-    Yields result log log' link link' count count' [] nothing_heard × Leads result end end_new
+    Yields result log log' link link' count count' [] [] nothing_heard × Leads result end end_new
 Heeded answers result into Closed end end_new log log' link link' count count' =
     Followed answers result end lost end_new log log' link link' count count'
 
@@ -89,7 +91,7 @@ pub record Continued {D : Type 0} (answers : D → Content → Answered) (result
   pub end' : EndOf D
   pub continues : Continues answers (is_cut result) end script rest end' script'
   pub leads : Leads result end' end_new
-  pub yields : Yields result log log' link link' count count' (entries_rest rest) (heard_rest rest)
+  pub yields : Yields result log log' link link' count count' (entries_rest rest) (last_rest rest []) (heard_rest rest)
   pub refusals : Counts refused refused' (refused_rest rest)
 
 -- a turn came to pass
@@ -98,7 +100,7 @@ pub record TurnTaken {D : Type 0} (answers : D → Content → Answered) (result
   pub end' : EndOf D
   pub is_turn : IsTurn answers (is_cut result) end script turn end' script'
   pub leads : Leads result end' end_new
-  pub yields : Yields result log log' link link' count count' (entries_turn turn) (heard_turn turn)
+  pub yields : Yields result log log' link link' count count' (entries_turn turn) (last_turn turn) (heard_turn turn)
   pub refusals : Counts refused refused' (refused_turn turn)
 
 -- whole turns came to pass so far
@@ -106,7 +108,7 @@ pub record TurnsSoFar {D : Type 0} (answers : D → Content → Answered) (end n
   pub turns : List Turn
   pub are_turns : AreTurns answers end script turns now_end script'
   pub long : length turns ≡ done
-  pub yields : Yields (Ok tt) log log' link link' count count' (entries_turns turns) (heard_turns turns)
+  pub yields : Yields (Ok tt) log log' link link' count count' (entries_turns turns) [] (heard_turns turns)
   pub refusals : Counts refused refused' (refused_turns turns)
 
 abbrev pub IsCut : {D : Type 0} → (D → Content → Answered) → Result (Unit {0}) Stop → EndOf D → List Step → Option Turn → EndOf D → List Step → Type 0
@@ -126,7 +128,7 @@ pub record TurnsTaken {D : Type 0} (answers : D → Content → Answered) (resul
   pub bound : length turns + begun_cut cut ≤ limit
   pub enough : is_cut result ≡ false → has_gone end' ≡ false → length turns ≡ limit
   pub leads : Leads result end' end_new
-  pub yields : Yields result log log' link link' count count' (entries_turns turns ++ entries_cut cut) (both (heard_turns turns) (heard_cut cut))
+  pub yields : Yields result log log' link link' count count' (entries_turns turns ++ entries_cut cut) (last_cut cut []) (both (heard_turns turns) (heard_cut cut))
   pub refusals : Counts refused refused' (refused_turns turns + refused_cut cut)
 
 abbrev pub StartedBy : Result (Unit {0}) Stop → Story → Type 0
@@ -147,6 +149,7 @@ pub record Ran {D : Type 0} (answers : D → Content → Answered) (result : Res
   pub started : StartedBy result story
   pub leads : Leads result end' end_new
   pub puts : PutsOut result log log' link link' (entries_of story) (heard_of story)
+  pub ends : IsEnding puts.rest (last_call story)
   pub in_range : All IsEntry (entries_of story)
   pub counted : count ≡ count_after 0 (length (entries_of story))
   pub refusals : refused ≡ count_after 0 (refused_of story)
@@ -154,7 +157,7 @@ pub record Ran {D : Type 0} (answers : D → Content → Answered) (result : Res
 -- how an end that the link's fault left was closed: `lost` was told where the connection was up
 abbrev pub ClosedAs : {D : Type 0} → ServeFault → EndOf D → Option (List Entry) → SinkState → SinkState → Type 0
 ClosedAs serve.Link end' loss log log' = (has_gone end' ≡ true) × LogGrows log log' (log_lines (lost_entries loss))
-ClosedAs serve.Log end' loss log log' = LogFails log log' (log_lines (lost_entries loss))
+ClosedAs serve.Log end' loss log log' = LogFailsIn log log' (lost_entries loss)
 ClosedAs serve.Turns end' loss log log' = ⊥
 ClosedAs serve.Memory end' loss log log' = LogGrows log log' (log_lines (lost_entries loss))
 
@@ -166,11 +169,11 @@ pub record ClosedLink {D : Type 0} (answers : D → Content → Answered) (fault
   pub in_range : All IsEntry (lost_entries loss)
 
 -- the entries of `lost` were logged, or the log failed
-abbrev pub RestClosed : ServeFault → SinkState → SinkState → List ℕ → Type 0
-RestClosed serve.Link log log' octets = LogGrows log log' octets
-RestClosed serve.Log log log' octets = LogFails log log' octets
-RestClosed serve.Turns log log' octets = ⊥
-RestClosed serve.Memory log log' octets = ⊥
+abbrev pub RestClosed : ServeFault → SinkState → SinkState → List Entry → Type 0
+RestClosed serve.Link log log' entries = LogGrows log log' (log_lines entries)
+RestClosed serve.Log log log' entries = LogFailsIn log log' entries
+RestClosed serve.Turns log log' entries = ⊥
+RestClosed serve.Memory log log' entries = ⊥
 
 -- what is answered after a fault
 abbrev pub StoppedAs : {D : Type 0} → (D → Content → Answered) → Stop → ServeFault → EndOf D → SinkState → SinkState → Type 0
@@ -189,6 +192,14 @@ AnswersEnd limit (Err serve.Link) story end = IsStarted story × (has_gone end �
 AnswersEnd limit (Err serve.Log) story end = Unit {0}
 AnswersEnd limit (Err serve.Memory) story end = Unit {0}
 
+-- what is in the log: these lines, and no entry is left; or, where the log failed, a part of the next entry's line too
+abbrev pub HoldsLines : Result Served ServeFault → SinkState → SinkState → List ℕ → List Entry → Type 0
+HoldsLines (Ok _) old new lines rest = (rest ≡ []) × LogGrows old new lines
+HoldsLines (Err serve.Turns) old new lines rest = (rest ≡ []) × LogGrows old new lines
+HoldsLines (Err serve.Link) old new lines rest = (rest ≡ []) × LogGrows old new lines
+HoldsLines (Err serve.Log) old new lines rest = LogStops old new lines rest
+HoldsLines (Err serve.Memory) old new lines rest = (rest ≡ []) × LogGrows old new lines
+
 -- a new end was served: what `serve` leaves, but for the settings' line
 pub record ServesEnd {D : Type 0} (answers : D → Content → Answered) (new : EndOf D) (script : List Step) (limit : ℕ) (result : Result Served ServeFault) (log log' : SinkState) (link link' : Told) : Type 0 where
   pub story : Story
@@ -197,10 +208,14 @@ pub record ServesEnd {D : Type 0} (answers : D → Content → Answered) (new : 
   pub bound : turns_begun story ≤ limit
   pub answer : AnswersEnd limit result story last
   pub in_range : All IsEntry (entries_of story)
-  pub log_holds : LogHolds result log log' (log_lines (entries_of story))
+  pub whole : List Entry
+  pub rest : List Entry
+  pub parted : entries_of story ≡ whole ++ rest
+  pub rest_is_last : IsEnding rest (last_call story)
+  pub log_holds : HoldsLines result log log' (log_lines whole) rest
   pub hears : Hears link link' (heard_of story)
   pub failed : Bool
-  pub took : LinkTook (failed || is_log_fault result) link link' (sent_octets (entries_of story))
+  pub took : LinkTook failed link link' (sent_octets whole)
   pub failures : link'.failures ≡ failures_after failed link.failures
   pub failed_is : MayHaveFailed result failed
   pub lost_is : has_lost story ≡ true → failed ≡ true

@@ -66,10 +66,28 @@ LogGrows old new octets = Grows old.written new.written octets × (new.failures 
 abbrev pub LogFails : SinkState → SinkState → List ℕ → Type 0
 LogFails old new octets = GrowsByFront old.written new.written octets × (new.failures ≡ next_count old.failures)
 
--- all octets were logged, or the log failed and some from their front were
-abbrev pub LogsAll : Result (Unit {0}) LogFault → SinkState → SinkState → List ℕ → Type 0
-LogsAll (Ok _) old new octets = LogGrows old new octets
-LogsAll (Err _) old new octets = LogFails old new octets
+-- these octets were added, and then some from the front of a line, and not all of it
+abbrev pub GrowsInto : Option (List ℕ) → Option (List ℕ) → List ℕ → List ℕ → Type 0
+GrowsInto old new added line =
+    WhereTold old (λ octets. (n : ℕ) × (n < length line) × (new ≡ Some (octets ++ (added ++ take n line))))
+
+-- the log failed in the line of the first of these entries: it holds what came before, and a part of that line
+abbrev pub LogStops : SinkState → SinkState → List ℕ → List Entry → Type 0
+LogStops old new before [] = ⊥
+LogStops old new before (entry ∷ rest) =
+    GrowsInto old.written new.written before (entry_line entry ++ 10 ∷ []) × (new.failures ≡ next_count old.failures)
+
+-- the log failed in the line of one of these entries: the lines of those before it are whole
+pub record LogFailsIn (old new : SinkState) (entries : List Entry) : Type 0 where
+  pub whole : List Entry
+  pub rest : List Entry
+  pub parted : entries ≡ whole ++ rest
+  pub stops : LogStops old new (log_lines whole) rest
+
+-- the lines of all entries were logged, or the log failed in one of them
+abbrev pub LogsAll : Result (Unit {0}) LogFault → SinkState → SinkState → List Entry → Type 0
+LogsAll (Ok _) old new entries = LogGrows old new (log_lines entries)
+LogsAll (Err _) old new entries = LogFailsIn old new entries
 
 -- what became of one entry, as the answer of a call
 abbrev pub stop_of : Put → Result (Unit {0}) Stop
@@ -78,29 +96,44 @@ stop_of NoLink = Err Link
 stop_of NoLog = Err Log
 
 -- after the link failed the rest was logged, or the log failed too
-abbrev pub RestLogged : Result (Unit {0}) Stop → SinkState → SinkState → List ℕ → Type 0
-RestLogged (Ok _) old new octets = ⊥
-RestLogged (Err Link) old new octets = LogGrows old new octets
-RestLogged (Err Log) old new octets = LogFails old new octets
-RestLogged (Err Memory) old new octets = ⊥
+abbrev pub RestLogged : Result (Unit {0}) Stop → SinkState → SinkState → List Entry → Type 0
+RestLogged (Ok _) old new entries = ⊥
+RestLogged (Err Link) old new entries = LogGrows old new (log_lines entries)
+RestLogged (Err Log) old new entries = LogFailsIn old new entries
+RestLogged (Err Memory) old new entries = ⊥
 
--- what is in the log: all lines, unless the log failed
-abbrev pub Logged : Result (Unit {0}) Stop → SinkState → SinkState → List ℕ → Type 0
-Logged (Ok _) old new octets = LogGrows old new octets
-Logged (Err Link) old new octets = LogGrows old new octets
-Logged (Err Log) old new octets = LogFails old new octets
-Logged (Err Memory) old new octets = LogGrows old new octets
+-- what is in the log: these lines, and no entry is left; or, where the log failed, a part of the next entry's line too
+abbrev pub Logged : Result (Unit {0}) Stop → SinkState → SinkState → List ℕ → List Entry → Type 0
+Logged (Ok _) old new lines rest = (rest ≡ []) × LogGrows old new lines
+Logged (Err Link) old new lines rest = (rest ≡ []) × LogGrows old new lines
+Logged (Err Log) old new lines rest = LogStops old new lines rest
+Logged (Err Memory) old new lines rest = (rest ≡ []) × LogGrows old new lines
 
--- what the link took: all that was sent, unless the link or the log failed
+-- the link took all octets, and didn't fail
+abbrev pub TakesAll : Told → Told → List ℕ → Type 0
+TakesAll old new octets = Grows old.taken new.taken octets × (new.failures ≡ old.failures)
+
+-- the link failed, and took a part of the octets from their front
+abbrev pub TakesPart : Told → Told → List ℕ → Type 0
+TakesPart old new octets = GrowsByPart old.taken new.taken octets × (new.failures ≡ next_count old.failures)
+
+-- what the link took: all that was sent, unless it failed
 abbrev pub Delivered : Result (Unit {0}) Stop → Told → Told → List ℕ → Type 0
-Delivered (Ok _) old new octets = Grows old.taken new.taken octets × (new.failures ≡ old.failures)
-Delivered (Err Link) old new octets = GrowsByPart old.taken new.taken octets × (new.failures ≡ next_count old.failures)
-Delivered (Err Log) old new octets =
-    GrowsByPart old.taken new.taken octets × ((new.failures ≡ old.failures) ⊎ (new.failures ≡ next_count old.failures))
-Delivered (Err Memory) old new octets = Grows old.taken new.taken octets × (new.failures ≡ old.failures)
+Delivered (Ok _) old new octets = TakesAll old new octets
+Delivered (Err Link) old new octets = TakesPart old new octets
+Delivered (Err Log) old new octets = TakesAll old new octets ⊎ TakesPart old new octets
+Delivered (Err Memory) old new octets = TakesAll old new octets
 
--- the entries were put out, as far as the answer says, and this was heard of the link
+-- The entries were put out, as far as the answer says, and this was heard of the link. The lines of `whole` are whole in
+-- the log, and only what these entries sent was taken by the link.
 pub record PutsOut (result : Result (Unit {0}) Stop) (log log' : SinkState) (link link' : Told) (entries : List Entry) (heard : Heard) : Type 0 where
-  pub logged : Logged result log log' (log_lines entries)
-  pub sent : Delivered result link link' (sent_octets entries)
+  pub whole : List Entry
+  pub rest : List Entry
+  pub parted : entries ≡ whole ++ rest
+  pub logged : Logged result log log' (log_lines whole) rest
+  pub sent : Delivered result link link' (sent_octets whole)
   pub hears : Hears link link' heard
+
+-- the entries end by these
+abbrev pub IsEnding : List Entry → List Entry → Type 0
+IsEnding rest entries = (front : List Entry) × (entries ≡ front ++ rest)

@@ -6,6 +6,8 @@ use Rattle.hsms_frame.specs.Device.{SinkState, Grows}
 use Rattle.hsms_machine.specs.declared.entry.Entry.{Entry}
 use Rattle.hsms_machine.specs.Entry.{entry_at, is_down}
 use Rattle.hsms_machine.specs.Run.{IsRun}
+use Rattle.hsms_machine.specs.Settings.{Parameters}
+use Rattle.hsms_log.specs.Spelling.{settings_line}
 use Rattle.hsms_log.specs.Log.{LogText, written_log}
 use Rattle.hsms_end.specs.Answer.{Answered}
 use Rattle.hsms_end.specs.Known.{EndOf}
@@ -16,8 +18,8 @@ use Rattle.hsms_ends.specs.declared.serving.Served.{Served}
 use Rattle.hsms_ends.specs.declared.fault.ServeFault.{ServeFault}
 use Rattle.hsms_ends.specs.declared.fault.ServeFault.TheVariants as serve
 use Rattle.hsms_ends.specs.Link.{Told, Heard, both, Hears, nothing_heard, moment_heard}
-use Rattle.hsms_ends.specs.PutOut.{GrowsByPart, LogGrows, LogFails, sent_octets}
-use Rattle.hsms_ends.specs.Turning.{Turn, HasNotGone, IsTurn, AreTurns, entries_turn, entries_turns, heard_turn, heard_turns, refused_turn, refused_turns}
+use Rattle.hsms_ends.specs.PutOut.{GrowsByPart, LogGrows, LogFails, LogStops, IsEnding, sent_octets}
+use Rattle.hsms_ends.specs.Turning.{Turn, HasNotGone, IsTurn, AreTurns, entries_turn, entries_turns, last_turn, last_turns, heard_turn, heard_turns, refused_turn, refused_turns}
 
 -- What became of a connection: the settings line was refused; or `start` was, at this moment, for want of memory; or the
 -- end was started at a moment, which gave these entries, whole turns followed, then maybe one that a fault cut short,
@@ -62,6 +64,20 @@ entries_of Unopened = []
 entries_of (Unstarted now) = []
 entries_of (Started now started turns cut loss) =
     started ++ (entries_turns turns ++ (entries_cut cut ++ lost_entries loss))
+
+abbrev pub last_cut : Option Turn → List Entry → List Entry
+last_cut None before = before
+last_cut (Some turn) before = last_turn turn
+
+abbrev pub last_lost : Option (List Entry) → List Entry → List Entry
+last_lost None before = before
+last_lost (Some entries) before = entries
+
+-- what the last call of the end gave, by which the entries end
+abbrev pub last_call : Story → List Entry
+last_call Unopened = []
+last_call (Unstarted now) = []
+last_call (Started now started turns cut loss) = last_lost loss (last_cut cut (last_turns turns started))
 
 abbrev pub heard_cut : Option Turn → Heard
 heard_cut None = nothing_heard
@@ -137,13 +153,19 @@ Answers limit (Err serve.Link) story = IsStarted story × (ends_down (entries_of
 Answers limit (Err serve.Log) story = Unit {0}
 Answers limit (Err serve.Memory) story = Unit {0}
 
--- what the log holds: all of a text, or after the log's fault a part of it from the front
-abbrev pub LogHolds : Result Served ServeFault → SinkState → SinkState → List ℕ → Type 0
-LogHolds (Ok _) old new text = LogGrows old new text
-LogHolds (Err serve.Turns) old new text = LogGrows old new text
-LogHolds (Err serve.Link) old new text = LogGrows old new text
-LogHolds (Err serve.Log) old new text = LogFails old new text
-LogHolds (Err serve.Memory) old new text = LogGrows old new text
+-- the log failed: in the settings' line, or in that of the first entry of the rest, with those of `whole` before it
+abbrev pub LogStopsIn : Story → SinkState → SinkState → Parameters → List Entry → List Entry → Type 0
+LogStopsIn Unopened old new s whole rest = LogFails old new (settings_line s ++ 10 ∷ [])
+LogStopsIn (Unstarted now) old new s whole rest = ⊥
+LogStopsIn (Started now started turns cut loss) old new s whole rest = LogStops old new (written_log s whole) rest
+
+-- what the log holds: the text of all entries, or after the log's fault a part of it from its front
+abbrev pub LogHolds : Result Served ServeFault → Story → SinkState → SinkState → Parameters → List Entry → List Entry → Type 0
+LogHolds (Ok _) story old new s whole rest = (rest ≡ []) × LogGrows old new (written_log s whole)
+LogHolds (Err serve.Turns) story old new s whole rest = (rest ≡ []) × LogGrows old new (written_log s whole)
+LogHolds (Err serve.Link) story old new s whole rest = (rest ≡ []) × LogGrows old new (written_log s whole)
+LogHolds (Err serve.Log) story old new s whole rest = LogStopsIn story old new s whole rest
+LogHolds (Err serve.Memory) story old new s whole rest = (rest ≡ []) × LogGrows old new (written_log s whole)
 
 -- whether the link failed, by the answer
 abbrev pub MayHaveFailed : Result Served ServeFault → Bool → Type 0
@@ -160,7 +182,7 @@ is_log_fault (Err serve.Link) = false
 is_log_fault (Err serve.Log) = true
 is_log_fault (Err serve.Memory) = false
 
--- what the link took of the octets of the sent messages: all, or where a device failed a part from their front
+-- what the link took of the octets of sent messages: all, or where it failed a part from their front
 abbrev pub LinkTook : Bool → Told → Told → List ℕ → Type 0
 LinkTook true old new octets = GrowsByPart old.taken new.taken octets
 LinkTook false old new octets = Grows old.taken new.taken octets
@@ -179,14 +201,20 @@ pub record Serves {D : Type 0} (answers : D → Content → Answered) (new : End
   -- the new entries are a run of the session machine, and what is written of them is a text of that log
   pub run : IsRun new.known.settings (entries_of story)
   pub text : LogText (written_log new.known.settings (entries_of story)) new.known.settings (entries_of story)
-  -- that text was logged, or after the log's fault a part from its front
-  pub log_holds : LogHolds result log log' (written_log new.known.settings (entries_of story))
+  -- The lines of all entries are whole in the log. After the log's fault those of `whole` alone are; it failed in the
+  -- next one, and the rest was given by the story's last call.
+  pub whole : List Entry
+  pub rest : List Entry
+  pub parted : entries_of story ≡ whole ++ rest
+  pub rest_is_last : IsEnding rest (last_call story)
+  pub log_holds : LogHolds result story log log' new.known.settings whole rest
   pub answer : Answers limit result story
   -- the moments, the octets and the answers of `wait` in the story are those that the link gave
   pub hears : Hears link link' (heard_of story)
-  -- the link took the octets of the sent messages, in order: a part from their front alone where a device failed
+  -- of the messages that these lines say were sent the link took the octets, in order, and nothing else: a part from
+  -- their front alone where it failed
   pub failed : Bool
-  pub took : LinkTook (failed || is_log_fault result) link link' (sent_octets (entries_of story))
+  pub took : LinkTook failed link link' (sent_octets whole)
   pub failures : link'.failures ≡ failures_after failed link.failures
   pub failed_is : MayHaveFailed result failed
   -- the end is told by `serve` that the connection was lost only after the link failed

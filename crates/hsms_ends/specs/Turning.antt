@@ -134,6 +134,30 @@ abbrev pub entries_turns : List Turn → List Entry
 entries_turns [] = []
 entries_turns (turn ∷ turns) = entries_turn turn ++ entries_turns turns
 
+-- ---- what the last call of the end gave: nothing where the end refused it, or where a wait that gave nothing came later
+
+abbrev pub last_after : After → List Entry
+last_after (Refused now) = []
+last_after (Ticked now ticked) = ticked
+last_after (Done now ticked entries) = entries
+
+-- these were given before
+abbrev pub last_rest : Rest → List Entry → List Entry
+last_rest Nothing before = before
+last_rest (Stepped entries) before = entries
+last_rest Declined before = []
+last_rest Quiet before = []
+last_rest (Octets octets after) before = last_after after
+last_rest (Closed after) before = last_after after
+
+abbrev pub last_turn : Turn → List Entry
+last_turn (Untaken now) = []
+last_turn (Ticks now ticked rest) = last_rest rest ticked
+
+abbrev pub last_turns : List Turn → List Entry → List Entry
+last_turns [] before = before
+last_turns (turn ∷ turns) before = last_turns turns (last_turn turn)
+
 -- ---- what was heard of the link
 
 abbrev pub moment_after : After → ℕ

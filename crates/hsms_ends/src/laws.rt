@@ -5,7 +5,8 @@ ghost use Rattle.hsms_ends.specs.Laws.{ServedLogPasses};
 use hsms_end::Desk;
 pub use hsms_end::laws::{
     all_expiries_are_logged_before_any_s9f9, each_act_has_one_outcome, each_turn_has_one_outcome,
-    free_number_is_among_the_next_65, octets_are_kept, overdue_link_timer_leaves_s9f9_out,
+    free_number_is_among_the_next_65, next_number_follows_the_taken_one, octets_are_kept,
+    overdue_link_timer_leaves_s9f9_out,
 };
 
 /// The log of a served connection passes the audit, unless a write failed: the verdict on it, which `hsms_log` gives

@@ -2,7 +2,7 @@
 
 ghost use Rattle.std.specs.Prelude.{◌∷◌, []};
 ghost use Rattle.hsms_ends.specs.Link.{nothing_heard};
-ghost use Rattle.hsms_ends.specs.PutOut.{FitsLengthField, AllFitLengthField, SendsAll, PutsOut, LogsAll, RestLogged, log_lines, sent_of, stop_of};
+ghost use Rattle.hsms_ends.specs.PutOut.{FitsLengthField, AllFitLengthField, SendsAll, PutsOut, LogsAll, RestLogged, sent_of, stop_of};
 
 use crate::fault::LinkFault;
 use crate::link::Link;
@@ -51,6 +51,7 @@ enum Put {
     NoLog,
 }
 
+#[tactic(auto, using(crate::proofs::Puttings::puts_whole, crate::proofs::Puttings::puts_no_link, crate::proofs::Puttings::puts_no_log))]
 fn put_entry<L: Link, W: Sink>(link: &mut L, log: &mut W, entry: &Entry) -> Put
     requires { FitsLengthField entry.now.event }
     ensures { PutsOut (stop_of result) (W.state log.old) (W.state log.new) (L.told link.old) (L.told link.new)
@@ -83,7 +84,7 @@ fn send_event<L: Link>(link: &mut L, event: &Event) -> Result<(), LinkFault>
 
 /// Logs the rest of a call's entries after the link failed, and says why serving stops.
 fn log_rest<W: Sink>(log: &mut W, entries: &[Entry]) -> Result<(), Stop>
-    ensures { RestLogged result (W.state log.old) (W.state log.new) (log_lines entries.now) }
+    ensures { RestLogged result (W.state log.old) (W.state log.new) entries.now }
 {
     match log_all(log, entries) {
         Ok(()) => Err(Stop::Link),
@@ -93,7 +94,7 @@ fn log_rest<W: Sink>(log: &mut W, entries: &[Entry]) -> Result<(), Stop>
 
 /// Writes the lines of entries to the log alone.
 pub fn log_all<W: Sink>(log: &mut W, entries: &[Entry]) -> Result<(), LogFault>
-    ensures { LogsAll result (W.state log.old) (W.state log.new) (log_lines entries.now) }
+    ensures { LogsAll result (W.state log.old) (W.state log.new) entries.now }
 {
     let mut place = 0;
     while place < entries.len() {

@@ -4,7 +4,6 @@ ghost use Rattle.std.specs.Prelude.{◌≡◌, ℕ};
 ghost use Rattle.hsms_end.specs.Known.{untold};
 ghost use Rattle.hsms_end.specs.Turn.{start};
 ghost use Rattle.hsms_ends.specs.Link.{moment_heard};
-ghost use Rattle.hsms_ends.specs.PutOut.{log_lines};
 ghost use Rattle.hsms_ends.specs.Serving.{Serves};
 ghost use Rattle.hsms_ends.specs.Outcome.{IsReady, Handed, Ran, ServesEnd, ClosedLink, RestClosed, StoppedAs};
 
@@ -66,7 +65,7 @@ pub fn serve<L: Link, W: Sink, D: Desk + Drop>(
     match write_settings(log, &settings) {
         Ok(()) => {
             let mut end = End::new(alloc, settings, desk, first_system);
-            serve_end(alloc, link, log, &mut end, script, turns)
+            serve_end(link, log, &mut end, script, turns)
         }
         Err(_) => Err(ServeFault::Log),
     }
@@ -74,7 +73,6 @@ pub fn serve<L: Link, W: Sink, D: Desk + Drop>(
 
 /// Serves a new end.
 fn serve_end<L: Link, W: Sink, D: Desk>(
-    alloc: Global,
     link: &mut L,
     log: &mut W,
     end: &mut End<D>,
@@ -90,7 +88,7 @@ fn serve_end<L: Link, W: Sink, D: Desk>(
         entries: 0,
         refused: 0,
     };
-    match run(alloc, link, log, end, script, &mut progress, turns) {
+    match run(link, log, end, script, &mut progress, turns) {
         Ok(()) => {
             if has_gone(end) {
                 Ok(Served {
@@ -101,13 +99,12 @@ fn serve_end<L: Link, W: Sink, D: Desk>(
                 Err(ServeFault::Turns)
             }
         }
-        Err(stop) => Err(stopped(alloc, log, end, stop)),
+        Err(stop) => Err(stopped(log, end, stop)),
     }
 }
 
 /// Starts the end, and takes turns.
 fn run<L: Link, W: Sink, D: Desk>(
-    alloc: Global,
     link: &mut L,
     log: &mut W,
     end: &mut End<D>,
@@ -120,15 +117,14 @@ fn run<L: Link, W: Sink, D: Desk>(
     ensures { Ran D.answers result turns end.old end.new script.now (W.state log.old) (W.state log.new)
         (L.told link.old) (L.told link.new) progress.new.entries progress.new.refused }
 {
-    match begin(alloc, link, log, end, &mut progress.entries) {
-        Ok(()) => take_turns(alloc, link, log, end, script, progress, turns),
+    match begin(link, log, end, &mut progress.entries) {
+        Ok(()) => take_turns(link, log, end, script, progress, turns),
         Err(stop) => Err(stop),
     }
 }
 
 /// Asks the clock, and starts the end.
 fn begin<L: Link, W: Sink, D: Desk>(
-    alloc: Global,
     link: &mut L,
     log: &mut W,
     end: &mut End<D>,
@@ -147,18 +143,18 @@ fn begin<L: Link, W: Sink, D: Desk>(
 }
 
 /// Says what is answered after a fault. After the link's the end is closed.
-fn stopped<W: Sink, D: Desk>(alloc: Global, log: &mut W, end: &mut End<D>, stop: Stop) -> ServeFault
+fn stopped<W: Sink, D: Desk>(log: &mut W, end: &mut End<D>, stop: Stop) -> ServeFault
     ensures { StoppedAs D.answers stop result end.old (W.state log.old) (W.state log.new) }
 {
     match stop {
-        Stop::Link => close(alloc, log, end),
+        Stop::Link => close(log, end),
         Stop::Log => ServeFault::Log,
         Stop::Memory => ServeFault::Memory,
     }
 }
 
 /// Closes an end after the link's fault, and says what is answered: the later fault, where there is one.
-fn close<W: Sink, D: Desk>(alloc: Global, log: &mut W, end: &mut End<D>) -> ServeFault
+fn close<W: Sink, D: Desk>(log: &mut W, end: &mut End<D>) -> ServeFault
     ensures { ClosedLink D.answers result end.old (W.state log.old) (W.state log.new) }
 {
     if has_gone(end) {
@@ -176,7 +172,7 @@ fn close<W: Sink, D: Desk>(alloc: Global, log: &mut W, end: &mut End<D>) -> Serv
 
 /// Logs the entries of `lost`.
 fn close_rest<W: Sink>(log: &mut W, entries: &[Entry]) -> ServeFault
-    ensures { RestClosed result (W.state log.old) (W.state log.new) (log_lines entries.now) }
+    ensures { RestClosed result (W.state log.old) (W.state log.new) entries.now }
 {
     match log_all(log, entries) {
         Ok(()) => ServeFault::Link,

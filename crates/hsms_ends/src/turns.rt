@@ -15,7 +15,6 @@ use crate::step::Step;
 use hsms_end::{Desk, End, EndFault};
 use hsms_frame::Sink;
 use hsms_machine::{Entry, Phase};
-use std::alloc::Global;
 
 // The octets that one wait takes at most.
 const ROOM: usize = 4096;
@@ -60,7 +59,7 @@ pub fn deliver<L: Link, W: Sink>(
 ) -> Result<(), Stop>
     requires { AllFitLengthField entries.now }
     ensures { Yields result (W.state log.old) (W.state log.new) (L.told link.old) (L.told link.new)
-        count.old count.new entries.now nothing_heard }
+        count.old count.new entries.now entries.now nothing_heard }
 {
     entries_are_in_range(entries);
     *count = count.saturating_add(entries.len() as u64);
@@ -76,7 +75,6 @@ pub fn now<L: Link>(link: &mut L) -> u64
 
 /// Asks the clock, and tells the end the moment.
 fn tick<L: Link, W: Sink, D: Desk>(
-    alloc: Global,
     link: &mut L,
     log: &mut W,
     end: &mut End<D>,
@@ -96,7 +94,6 @@ fn tick<L: Link, W: Sink, D: Desk>(
 
 /// Tells the end the octets that came.
 fn hand_octets<L: Link, W: Sink, D: Desk>(
-    alloc: Global,
     link: &mut L,
     log: &mut W,
     end: &mut End<D>,
@@ -116,7 +113,6 @@ fn hand_octets<L: Link, W: Sink, D: Desk>(
 
 /// Tells the end that the connection was lost.
 fn hand_lost<L: Link, W: Sink, D: Desk>(
-    alloc: Global,
     link: &mut L,
     log: &mut W,
     end: &mut End<D>,
@@ -134,7 +130,7 @@ fn hand_lost<L: Link, W: Sink, D: Desk>(
 }
 
 /// Tells the end a step.
-fn tell<D: Desk>(end: &mut End<D>, alloc: Global, step: &Step) -> Result<Vec<Entry>, EndFault>
+fn tell<D: Desk>(end: &mut End<D>, step: &Step) -> Result<Vec<Entry>, EndFault>
     ensures { MatchResult result
         (λ entries. Accepts D.answers end.old (input_of step.now) entries.items end.new)
         (λ fault. Refuses end.old (input_of step.now) fault end.new) }
@@ -148,7 +144,6 @@ fn tell<D: Desk>(end: &mut End<D>, alloc: Global, step: &Step) -> Result<Vec<Ent
 
 /// Takes the next step of the script.
 fn take_step<L: Link, W: Sink, D: Desk>(
-    alloc: Global,
     link: &mut L,
     log: &mut W,
     end: &mut End<D>,
@@ -165,7 +160,7 @@ fn take_step<L: Link, W: Sink, D: Desk>(
         progress.old.entries progress.new.entries progress.old.refused progress.new.refused }
 {
     let place = progress.place;
-    let answer = tell(end, alloc, &script[place]);
+    let answer = tell(end, &script[place]);
     match answer {
         Ok(entries) => {
             progress.place += 1;
@@ -185,7 +180,6 @@ fn take_step<L: Link, W: Sink, D: Desk>(
 
 /// Hears octets: the tick, and, unless it ended the connection, the octets.
 fn hear_octets<L: Link, W: Sink, D: Desk>(
-    alloc: Global,
     link: &mut L,
     log: &mut W,
     end: &mut End<D>,
@@ -196,12 +190,12 @@ fn hear_octets<L: Link, W: Sink, D: Desk>(
     ensures { Followed D.answers result end.old (bytes octets.now) end.new (W.state log.old) (W.state log.new)
         (L.told link.old) (L.told link.new) count.old count.new }
 {
-    match tick(alloc, link, log, end, count) {
+    match tick(link, log, end, count) {
         Ok(()) => {
             if has_gone(end) {
                 Ok(())
             } else {
-                hand_octets(alloc, link, log, end, octets, count)
+                hand_octets(link, log, end, octets, count)
             }
         }
         Err(stop) => Err(stop),
@@ -210,7 +204,6 @@ fn hear_octets<L: Link, W: Sink, D: Desk>(
 
 /// Hears that the peer closed: the tick, and, unless it ended the connection, that it was lost.
 fn hear_closed<L: Link, W: Sink, D: Desk>(
-    alloc: Global,
     link: &mut L,
     log: &mut W,
     end: &mut End<D>,
@@ -220,12 +213,12 @@ fn hear_closed<L: Link, W: Sink, D: Desk>(
     ensures { Followed D.answers result end.old lost end.new (W.state log.old) (W.state log.new)
         (L.told link.old) (L.told link.new) count.old count.new }
 {
-    match tick(alloc, link, log, end, count) {
+    match tick(link, log, end, count) {
         Ok(()) => {
             if has_gone(end) {
                 Ok(())
             } else {
-                hand_lost(alloc, link, log, end, count)
+                hand_lost(link, log, end, count)
             }
         }
         Err(stop) => Err(stop),
@@ -234,7 +227,6 @@ fn hear_closed<L: Link, W: Sink, D: Desk>(
 
 /// One wait, with what follows it, where no step is due.
 fn wait_once<L: Link, W: Sink, D: Desk>(
-    alloc: Global,
     link: &mut L,
     log: &mut W,
     end: &mut End<D>,
@@ -248,14 +240,13 @@ fn wait_once<L: Link, W: Sink, D: Desk>(
     let mut into = [0u8; ROOM];
     let until = until(end);
     match link.wait(until, &mut into) {
-        Ok(got) => heed(alloc, link, log, end, got, &into, count),
+        Ok(got) => heed(link, log, end, got, &into, count),
         Err(_) => Err(Stop::Link),
     }
 }
 
 /// What follows an answer of `wait`.
 fn heed<L: Link, W: Sink, D: Desk>(
-    alloc: Global,
     link: &mut L,
     log: &mut W,
     end: &mut End<D>,
@@ -270,8 +261,8 @@ fn heed<L: Link, W: Sink, D: Desk>(
 {
     match got {
         Got::Quiet => Ok(()),
-        Got::Octets(length) => hear_octets(alloc, link, log, end, &into[..length], count),
-        Got::Closed => hear_closed(alloc, link, log, end, count),
+        Got::Octets(length) => hear_octets(link, log, end, &into[..length], count),
+        Got::Closed => hear_closed(link, log, end, count),
     }
 }
 
@@ -285,7 +276,6 @@ fn until<D: Desk>(end: &End<D>) -> Option<u64> {
 
 /// One turn of an end that isn't down.
 fn turn<L: Link, W: Sink, D: Desk>(
-    alloc: Global,
     link: &mut L,
     log: &mut W,
     end: &mut End<D>,
@@ -299,15 +289,14 @@ fn turn<L: Link, W: Sink, D: Desk>(
         (W.state log.old) (W.state log.new) (L.told link.old) (L.told link.new)
         progress.old.entries progress.new.entries progress.old.refused progress.new.refused }
 {
-    match tick(alloc, link, log, end, &mut progress.entries) {
-        Ok(()) => continue_turn(alloc, link, log, end, script, progress),
+    match tick(link, log, end, &mut progress.entries) {
+        Ok(()) => continue_turn(link, log, end, script, progress),
         Err(stop) => Err(stop),
     }
 }
 
 /// What follows the first tick of a turn.
 fn continue_turn<L: Link, W: Sink, D: Desk>(
-    alloc: Global,
     link: &mut L,
     log: &mut W,
     end: &mut End<D>,
@@ -324,9 +313,9 @@ fn continue_turn<L: Link, W: Sink, D: Desk>(
         return Ok(());
     }
     if step_is_due(end, script, progress.place) {
-        take_step(alloc, link, log, end, script, progress)
+        take_step(link, log, end, script, progress)
     } else {
-        wait_once(alloc, link, log, end, &mut progress.entries)
+        wait_once(link, log, end, &mut progress.entries)
     }
 }
 
@@ -340,7 +329,6 @@ fn step_is_due<D: Desk>(end: &End<D>, script: &[Step], place: usize) -> bool
 
 /// At most so many turns, while the connection isn't down.
 pub fn take_turns<L: Link, W: Sink, D: Desk>(
-    alloc: Global,
     link: &mut L,
     log: &mut W,
     end: &mut End<D>,
@@ -356,7 +344,7 @@ pub fn take_turns<L: Link, W: Sink, D: Desk>(
 {
     let mut done = 0;
     while done < turns && !has_gone(end) {
-        match turn(alloc, link, log, end, script, progress) {
+        match turn(link, log, end, script, progress) {
             Ok(()) => done += 1,
             Err(stop) => return Err(stop),
         }

@@ -72,6 +72,7 @@ impl Framer {
     /// Faults, each of which leaves the pending octets as they are: `TooShort`, once four octets are there, where they
     /// count fewer than ten; `TooLong`, once fourteen are there, where the first four count more than the limit;
     /// `Memory`, only where a whole message is there that has a text.
+    #[tactic(auto, using(crate::proofs::Determined::one_framed))]
     pub fn next(&mut self) -> Result<Option<Frame>, FrameFault>
         // The answer is one to the pending octets.
         ensures answer { FramesAs self.old.max self.old.pending result self.new.pending }

@@ -42,6 +42,8 @@ fn read_message<R: Source>(
     max: u32,
 ) -> Result<Option<Frame>, ReadFault>
     ensures answer { WhereTold (R.state source.old).left (λ input. ReadsAs max input result (R.state source.new).left) }
+    ensures only { WhereTold (R.state source.old).left (λ input. (answer : _) (left : _) → ReadsAs max input answer left
+        → IsRefusal answer ⊎ IsRefusal result ⊎ (result ≡ answer)) }
     ensures counts { CountsWhole result (R.state source.old) (R.state source.new) }
 {
     let Some(length) = read_length(source)? else {

@@ -75,6 +75,7 @@ fn reads_one_message(rt: HostRuntime) -> Result<(), Fail> {
 
 fn assert_front(rt: &impl Abort) {
     assert!(rt; matches!(front(&DATA, 256), Ok(Some((_, 2)))));
+    assert!(rt; matches!(front(&DATA, 12), Ok(Some((_, 2)))));
     assert!(rt; matches!(front(&DATA[..15], 256), Ok(None)));
     assert!(rt;
         matches!(

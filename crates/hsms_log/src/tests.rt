@@ -4,7 +4,7 @@ mod connections;
 ghost use Rattle.std.specs.Prelude.{◌<◌};
 
 use super::*;
-use cases::{CASES, Case, ENTRIES, FIRST_LINES, REPLY, SELECTED, WRITTEN};
+use cases::{CASES, Case, ENTRIES, FIRST_LINES, NO_LINES, REPLY, SELECTED, WRITTEN};
 use connections::{TEXTS, Text};
 use hsms_frame::{Feed, Store};
 use hsms_machine::{Entry, Rule, Settings};
@@ -126,9 +126,32 @@ const PASSES: Verdict = Verdict::Pass(Summary {
     waiting: 0,
 });
 
+const SENT: Verdict = Verdict::Pass(Summary {
+    entries: 4,
+    sent: 2,
+    taken: 1,
+    discarded: 0,
+    expired: 0,
+    waiting: 0,
+});
+
+const DISCARDED: Verdict = Verdict::Pass(Summary {
+    entries: 4,
+    sent: 1,
+    taken: 1,
+    discarded: 1,
+    expired: 0,
+    waiting: 0,
+});
+
 const TOO_LONG: Verdict = Verdict::Fail {
     line: 5,
     why: Why::Broken(Rule::TooLong),
+};
+
+const NO_CAUSE: Verdict = Verdict::Fail {
+    line: 5,
+    why: Why::Broken(Rule::NoCause),
 };
 
 const UNREADABLE: Verdict = Verdict::Fail {
@@ -146,6 +169,16 @@ const FILLED: &[Filled] = &[
     ("#", b'.', 576, "\n", UNREADABLE),
     ("#", b'.', 576, "", UNREADABLE),
     ("5 > ", b'0', 572, "\n", TOO_LONG),
+    ("5 > 0000010100000000000221f5", b'0', 490, "\n", TOO_LONG),
+    ("5 > 0000010100000000000221f4", b'0', 488, "\n", SENT),
+    ("5 < 0000010100000000000221f5", b'0', 490, "\n", TOO_LONG),
+    ("5 < 00008101010000000002", b'0', 494, "\n", TOO_LONG),
+    ("5 < ffff0000000300000002", b'0', 494, "\n", TOO_LONG),
+    ("5 < ffff0000000500000002", b'0', 494, "\n", TOO_LONG),
+    ("5 < 00018101000000000002", b'0', 494, "\n", TOO_LONG),
+    ("5 < 00008901000000000002", b'0', 494, "\n", TOO_LONG),
+    ("5 ! 0000010100000000000221f4", b'0', 488, "\n", NO_CAUSE),
+    ("5 ! 0000010100000000000221f5", b'0', 490, "\n", DISCARDED),
     ("5 > ", b'0', 574, "\n", UNREADABLE),
 ];
 
@@ -187,6 +220,58 @@ fn judge_filled(rt: &impl Abort, alloc: Global, row: Filled) -> Result<(), Fail>
 fn keeps_to_the_limits_of_lines(rt: HostRuntime) -> Result<(), Fail> {
     for row in FILLED {
         judge_filled(&rt, rt.alloc(), *row)?;
+    }
+    Ok(())
+}
+
+/// What stands before a line, how long it is so far and what ends it, and what is told of it before its end is read.
+type Open = (
+    &'static [&'static str],
+    u32,
+    &'static str,
+    Result<Verdict, AuditFault>,
+);
+
+const OPEN: &[Open] = &[
+    (&[], 256, "", Err(AuditFault::Endless)),
+    (&[], 256, "\r", Err(AuditFault::Endless)),
+    (&[], 257, "", Ok(UNREADABLE_FIRST)),
+    (&[], 256, "\r#", Ok(UNREADABLE_FIRST)),
+    (&[], 257, "\r", Ok(UNREADABLE_FIRST)),
+    (&[SMALL, ENTRIES], 576, "", Err(AuditFault::Endless)),
+    (&[SMALL, ENTRIES], 576, "\r", Err(AuditFault::Endless)),
+    (&[SMALL, ENTRIES], 577, "", Ok(UNREADABLE)),
+    (&[SMALL, ENTRIES], 576, "\r\r", Ok(UNREADABLE)),
+];
+
+const UNREADABLE_FIRST: Verdict = Verdict::Fail {
+    line: 1,
+    why: Why::Unreadable,
+};
+
+fn begun(alloc: Global, row: Open) -> Result<Vec<u8>, AllocError> {
+    let (before, count, end, _) = row;
+    let mut text = joined(alloc, before)?;
+    for _ in 0..count {
+        text.push(b'#')?;
+    }
+    text.extend_from_slice(end.as_bytes())?;
+    Ok(text)
+}
+
+/// All reads are used, and none found the end.
+fn judge_open(rt: &impl Abort, alloc: Global, row: Open) -> Result<(), Fail> {
+    let mut feed = Feed::new(begun(alloc, row)?, 4096, u64::MAX);
+    let answer = told(audit_within(alloc, &mut feed, 1))?;
+    let (_, _, _, want) = row;
+    assert_answer(rt, answer, want, "a line that may go on");
+    Ok(())
+}
+
+#[test]
+fn judges_a_line_that_is_too_long_already(rt: HostRuntime) -> Result<(), Fail> {
+    for row in OPEN {
+        judge_open(&rt, rt.alloc(), *row)?;
     }
     Ok(())
 }
@@ -266,8 +351,19 @@ fn assert_nothing(rt: &impl Abort, alloc: Global, line: &[u8]) {
     assert!(rt; matches!(read_line(alloc, line, 256), Ok(Line::Nothing)));
 }
 
-fn assert_unreadable(rt: &impl Abort, alloc: Global, line: &[u8]) {
-    assert!(rt; matches!(read_line(alloc, line, 256), Err(LineFault::Unreadable)));
+fn assert_unreadable(rt: &impl Abort, fault: Option<LineFault>, line: &str) {
+    assert!(rt; matches!(fault, Some(LineFault::Unreadable)), "{line}");
+}
+
+/// A line that is unreadable. Want of memory is handed up.
+fn judge_unreadable(rt: &impl Abort, alloc: Global, line: &str) -> Result<(), Fail> {
+    match read_line(alloc, line.as_bytes(), 256) {
+        Err(LineFault::Memory) => Err(LineFault::Memory.into()),
+        answer => {
+            assert_unreadable(rt, answer.err(), line);
+            Ok(())
+        }
+    }
 }
 
 #[test]
@@ -277,6 +373,13 @@ fn writes_what_it_reads(rt: HostRuntime) -> Result<(), Fail> {
         judge_line(&rt, alloc, line)?;
     }
     assert_nothing(&rt, alloc, b"# comment");
-    assert_unreadable(&rt, alloc, b"18446744073709551616 up");
     judge_first_lines(&rt, alloc)
+}
+
+#[test]
+fn reads_no_other_lines(rt: HostRuntime) -> Result<(), Fail> {
+    for line in NO_LINES {
+        judge_unreadable(&rt, rt.alloc(), line)?;
+    }
+    Ok(())
 }

@@ -1,18 +1,14 @@
 -- An entry in two parts, and what asks for the text of neither.
 use Rattle.std.proofs.Common.{◌≡◌, ℕ, Bool, true, false, List, [], Option, None, inl, inr, refl, ap, ◌∙◌}
-use Rattle.hsms_frame.specs.declared.header.Header.{Header}
 use Rattle.hsms_machine.specs.declared.entry.Entry.{Entry}
 use Rattle.hsms_machine.specs.declared.entry.Event.{Event}
 use Rattle.hsms_machine.specs.declared.entry.Event.TheVariants.{Up, Sent, Taken, Discarded, T3, Cut, Down}
-use Rattle.hsms_machine.specs.declared.entry.Mark.{Mark}
-use Rattle.hsms_machine.specs.declared.entry.Mark.TheVariants.{Sent as MarkSent, Taken as MarkTaken, Discarded as MarkDiscarded}
 use Rattle.hsms_machine.specs.declared.act.Act.{Act}
 use Rattle.hsms_machine.specs.declared.act.Act.TheVariants.{Up as ActUp, Sent as ActSent, Taken as ActTaken, Discarded as ActDiscarded, T3 as ActT3, Cut as ActCut, Down as ActDown}
 use Rattle.hsms_machine.specs.declared.rule.Rule.{Rule}
 use Rattle.hsms_machine.specs.declared.view.View.{View}
 use Rattle.hsms_machine.specs.Settings.{Parameters}
-use Rattle.hsms_machine.specs.Entry.{frame_entry}
-use Rattle.hsms_machine.specs.Act.{act_of, text_of, frame_act, event_of, entry_of}
+use Rattle.hsms_machine.specs.Act.{act_of, text_of, event_of, entry_of, HasParts}
 use Rattle.hsms_machine.specs.Transaction.{opens}
 use Rattle.hsms_machine.specs.Session.{Facts}
 use Rattle.hsms_machine.specs.Rule.{Breaks, IsFirst, all_rules, order_rules, timer_rules}
@@ -32,13 +28,10 @@ both_at time Down = refl
 pub both : (entry : Entry) (act : Act) (text : List ℕ) → act ≡ act_of entry.event → text ≡ text_of entry.event → entry_of entry.time act text ≡ entry
 both entry act text act_is text_is = ap (λ a. entry_of entry.time a text) act_is ∙ ap (entry_of entry.time (act_of entry.event)) text_is ∙ both_at entry.time entry.event
 
-frame_at : (time : ℕ) (mark : Mark) (header : Header) (text : List ℕ) → entry_of time (frame_act mark header) text ≡ frame_entry time mark header text
-frame_at time MarkSent header text = refl
-frame_at time MarkTaken header text = refl
-frame_at time MarkDiscarded header text = refl
-
-pub both_of_frame : (time : ℕ) (mark : Mark) (header : Header) (text : List ℕ) (act : Act) → act ≡ frame_act mark header → entry_of time act text ≡ frame_entry time mark header text
-both_of_frame time mark header text act act_is = ap (λ a. entry_of time a text) act_is ∙ frame_at time mark header text
+pub of_parts : (entry : Entry) (time : ℕ) (act : Act) (text : List ℕ) → HasParts entry time act text
+    → entry_of time act text ≡ entry
+of_parts entry time act text parts =
+    ap (λ t. entry_of t act text) parts.time_is ∙ both entry act text parts.act_is parts.text_is
 
 module _ (facts : Facts) (settings : Parameters) (time : ℕ) where
   -- the rules of order and of timers ask for no text

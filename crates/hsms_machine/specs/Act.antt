@@ -1,12 +1,10 @@
 -- An event in two parts: the text of its frame, and all else. Private functions alone speak of this.
-use Rattle.std.specs.Prelude.{ℕ, List, []}
+use Rattle.std.specs.Prelude.{◌≡◌, ℕ, List, []}
 use Rattle.hsms_frame.specs.declared.header.Header.{Header}
 use Rattle.hsms_frame.specs.declared.frame.Frame.{Frame}
 use Rattle.hsms_machine.specs.declared.entry.Entry.{Entry}
 use Rattle.hsms_machine.specs.declared.entry.Event.{Event}
 use Rattle.hsms_machine.specs.declared.entry.Event.TheVariants.{Up, Sent, Taken, Discarded, T3, Cut, Down}
-use Rattle.hsms_machine.specs.declared.entry.Mark.{Mark}
-use Rattle.hsms_machine.specs.declared.entry.Mark.TheVariants.{Sent as MarkSent, Taken as MarkTaken, Discarded as MarkDiscarded}
 use Rattle.hsms_machine.specs.declared.act.Act.{Act}
 use Rattle.hsms_machine.specs.declared.act.Act.TheVariants.{Up as ActUp, Sent as ActSent, Taken as ActTaken, Discarded as ActDiscarded, T3 as ActT3, Cut as ActCut, Down as ActDown}
 
@@ -27,12 +25,6 @@ text_of (Taken frame) = frame.text
 text_of (Discarded frame) = frame.text
 text_of _ = []
 
--- a frame of this header
-abbrev pub frame_act : Mark → Header → Act
-frame_act MarkSent header = ActSent header
-frame_act MarkTaken header = ActTaken header
-frame_act MarkDiscarded header = ActDiscarded header
-
 -- the frame of a header and a text
 abbrev pub frame_of : Header → List ℕ → Frame
 frame_of header text = record { header = header; text = text }
@@ -50,3 +42,9 @@ event_of ActDown text = Down
 -- the entry of both parts
 abbrev pub entry_of : ℕ → Act → List ℕ → Entry
 entry_of time act text = record { time = time; event = event_of act text }
+
+-- the entry has this time, this event but for its text, and this text
+pub record HasParts (entry : Entry) (time : ℕ) (act : Act) (text : List ℕ) : Type 0 where
+  pub time_is : time ≡ entry.time
+  pub act_is : act ≡ act_of entry.event
+  pub text_is : text ≡ text_of entry.event

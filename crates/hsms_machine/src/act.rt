@@ -18,8 +18,9 @@ pub enum Act {
 }
 
 impl Act {
-    ghost use Rattle.std.specs.Prelude.{◌≡◌};
-    ghost use Rattle.hsms_machine.specs.Act.{act_of, frame_act, text_of as text_of_event};
+    ghost use Rattle.std.specs.Prelude.{◌≡◌, List, ℕ};
+    ghost use Rattle.hsms_machine.specs.Entry.{frame_event};
+    ghost use Rattle.hsms_machine.specs.Act.{act_of, frame_of, text_of as text_of_event};
 
     /// The event without its text.
     pub fn of(event: &Event) -> Act
@@ -38,7 +39,8 @@ impl Act {
 
     /// That a frame of this header was sent, taken or discarded.
     pub fn of_frame(mark: Mark, header: Header) -> Act
-        ensures { result ≡ frame_act mark header }
+        ensures act { (text : List ℕ) → result ≡ act_of (frame_event mark (frame_of header text)) }
+        ensures text { (text : List ℕ) → text ≡ text_of_event (frame_event mark (frame_of header text)) }
     {
         let message = Message::of(header);
         match mark {

@@ -1,10 +1,17 @@
 //! Worked sessions, as lists of entries. A header is written as its first six octets and its system
 //! bytes.
 
+mod closing;
 mod connections;
+mod depths;
+mod discards;
+mod forms;
 mod limits;
+mod orders;
+mod other_ends;
 mod rules;
 mod sessions;
+mod timers;
 
 use crate::{Cause, Entry, Event, Mark, Phase, Role, Rule, Settings, Side, Tracker};
 use hsms_frame::{Frame, Header, Text};
@@ -19,7 +26,11 @@ const SELECT_RSP: u64 = 0xffff_0000_0002;
 
 const LINKTEST_REQ: u64 = 0xffff_0000_0005;
 
+const LINKTEST_RSP: u64 = 0xffff_0000_0006;
+
 const SEPARATE: u64 = 0xffff_0000_0009;
+
+const S1F1: u64 = 0x0000_0101_0000;
 
 const S1F1_W: u64 = 0x0000_8101_0000;
 
@@ -38,9 +49,15 @@ enum Happening {
 }
 
 use Happening::{Cut, Discarded, Down, Sent, T3, Taken, Up};
+use closing::CLOSING;
 use connections::{ALONE, CONNECTIONS};
+use discards::DISCARDS;
+use forms::FORMS;
+use orders::ORDERS;
+use other_ends::{CONNECTS, LISTENS};
 use rules::BROKEN;
 use sessions::SESSIONS;
+use timers::TIMERS;
 
 /// A session, the rule that its last entry breaks, and how many sent primaries are then open.
 struct Case {
@@ -89,17 +106,11 @@ fn entry(alloc: Global, time: u64, happening: Happening) -> Result<Entry, AllocE
 }
 
 fn settings(max: u32) -> Option<Settings> {
-    Settings::new(
-        Role::Host,
-        Side::Active,
-        0,
-        45000,
-        6000,
-        10000,
-        5000,
-        max,
-        32,
-    )
+    settings_of(Role::Host, Side::Active, max)
+}
+
+fn settings_of(role: Role, link: Side, max: u32) -> Option<Settings> {
+    Settings::new(role, link, 0, 45000, 6000, 10000, 5000, max, 32)
 }
 
 /// What the readers tell.
@@ -233,18 +244,55 @@ fn judge_all(
     Ok(())
 }
 
-#[test]
-fn worked_sessions(rt: HostRuntime) -> Result<(), Fail> {
+/// Each session of a host that connects.
+fn judge_host(rt: &impl Abort, alloc: Global, cases: &[Case]) -> Result<(), Fail> {
     let one = settings(1_048_576).ok_or("the settings")?;
-    judge_all(&rt, rt.alloc(), one, SESSIONS)?;
+    judge_all(rt, alloc, one, cases)?;
     Ok(())
 }
 
 #[test]
+fn worked_sessions(rt: HostRuntime) -> Result<(), Fail> {
+    judge_host(&rt, rt.alloc(), SESSIONS)
+}
+
+#[test]
 fn each_rule_is_broken(rt: HostRuntime) -> Result<(), Fail> {
-    let one = settings(1_048_576).ok_or("the settings")?;
-    judge_all(&rt, rt.alloc(), one, BROKEN)?;
+    judge_host(&rt, rt.alloc(), BROKEN)
+}
+
+#[test]
+fn the_first_broken_rule_is_told(rt: HostRuntime) -> Result<(), Fail> {
+    judge_host(&rt, rt.alloc(), ORDERS)
+}
+
+#[test]
+fn what_is_discarded_has_a_cause(rt: HostRuntime) -> Result<(), Fail> {
+    judge_host(&rt, rt.alloc(), DISCARDS)
+}
+
+#[test]
+fn timers_to_the_millisecond(rt: HostRuntime) -> Result<(), Fail> {
+    judge_host(&rt, rt.alloc(), TIMERS)
+}
+
+#[test]
+fn what_messages_look_like(rt: HostRuntime) -> Result<(), Fail> {
+    judge_host(&rt, rt.alloc(), FORMS)
+}
+
+#[test]
+fn which_end_may_send_what(rt: HostRuntime) -> Result<(), Fail> {
+    let listens = settings_of(Role::Host, Side::Passive, 256).ok_or("the settings")?;
+    judge_all(&rt, rt.alloc(), listens, LISTENS)?;
+    let connects = settings_of(Role::Equipment, Side::Active, 256).ok_or("the settings")?;
+    judge_all(&rt, rt.alloc(), connects, CONNECTS)?;
     Ok(())
+}
+
+#[test]
+fn what_answers_what(rt: HostRuntime) -> Result<(), Fail> {
+    judge_host(&rt, rt.alloc(), CLOSING)
 }
 
 #[test]
@@ -264,42 +312,54 @@ fn zeros(alloc: Global, count: u8) -> Result<Vec<u8>, AllocError> {
     Ok(text)
 }
 
-/// A primary with such an item. Where memory was refused, a second try meets no refusal.
-fn sent_zeros(alloc: Global, count: u8) -> Result<Entry, AllocError> {
+/// S1F1 with such an item. Where memory was refused, a second try meets no refusal.
+fn zeros_of(alloc: Global, mark: Mark, count: u8) -> Result<Entry, AllocError> {
     let text = match zeros(alloc, count) {
         Ok(text) => text,
         Err(_) => zeros(alloc, count)?,
     };
-    let sent = Frame {
-        header: header(S1F1_W, 2),
+    let frame = Frame {
+        header: header(S1F1, 2),
         text: Text::new(text),
     };
-    Ok(Entry {
-        time: 6,
-        event: Event::Sent(sent),
-    })
+    let event = match mark {
+        Mark::Sent => Event::Sent(frame),
+        Mark::Taken => Event::Taken(frame),
+        Mark::Discarded => Event::Discarded(frame),
+    };
+    Ok(Entry { time: 5, event })
 }
 
 fn judge_zeros(
     rt: &impl Abort,
     alloc: Global,
     tracker: &mut Tracker,
-    count: u8,
-    want: Option<Rule>,
+    row: (Mark, u8, Option<Rule>),
 ) -> Result<(), AllocError> {
+    let (mark, count, want) = row;
     judge_entries(rt, alloc, tracker, SELECTED, None, "selected")?;
-    let sent = sent_zeros(alloc, count)?;
-    let broken = step(rt, tracker, &sent)?;
+    let entry = zeros_of(alloc, mark, count)?;
+    let broken = step(rt, tracker, &entry)?;
     assert_broken(rt, broken, want, "the size");
     Ok(())
 }
 
+/// With 245 octets in its item a frame has 257, of which 256 are allowed.
+const SIZES: &[(Mark, u8, Option<Rule>)] = &[
+    (Mark::Sent, 244, None),
+    (Mark::Sent, 245, Some(Rule::TooLong)),
+    (Mark::Taken, 244, None),
+    (Mark::Taken, 245, Some(Rule::TooLong)),
+    (Mark::Discarded, 244, Some(Rule::NoCause)),
+    (Mark::Discarded, 245, None),
+];
+
 #[test]
 fn a_frame_of_the_greatest_size(rt: HostRuntime) -> Result<(), Fail> {
     let small = settings(256).ok_or("the settings")?;
-    for (count, want) in [(244, None), (245, Some(Rule::TooLong))] {
+    for row in SIZES {
         let mut tracker = Tracker::new(rt.alloc(), small);
-        judge_zeros(&rt, rt.alloc(), &mut tracker, count, want)?;
+        judge_zeros(&rt, rt.alloc(), &mut tracker, *row)?;
     }
     Ok(())
 }
@@ -327,6 +387,31 @@ const READ: &[(u64, Happening, Told)] = &[
     (3000, Down, (Phase::Gone, 1, 2, None)),
 ];
 
+/// T7 ends at the greatest time, one past it, and before a Linktest.req does by T6.
+const LATE: &[&[(u64, Happening, Told)]] = &[
+    &[(
+        u64::MAX - 10000,
+        Up,
+        (Phase::NotSelected, 0, 0, Some(u64::MAX)),
+    )],
+    &[
+        (u64::MAX - 9999, Up, (Phase::NotSelected, 0, 0, None)),
+        (
+            u64::MAX - 9999,
+            Sent(SELECT_REQ, 1, &[]),
+            (Phase::NotSelected, 0, 1, Some(u64::MAX - 3999)),
+        ),
+    ],
+    &[
+        (7, Up, (Phase::NotSelected, 0, 0, Some(10007))),
+        (
+            5000,
+            Sent(LINKTEST_REQ, 1, &[]),
+            (Phase::NotSelected, 0, 1, Some(10007)),
+        ),
+    ],
+];
+
 fn judge_read(
     rt: &impl Abort,
     alloc: Global,
@@ -340,12 +425,31 @@ fn judge_read(
     Ok(())
 }
 
+fn judge_rows(
+    rt: &impl Abort,
+    alloc: Global,
+    tracker: &mut Tracker,
+    rows: &[(u64, Happening, Told)],
+) -> Result<(), AllocError> {
+    assert_told(rt, tracker, (Phase::Before, 0, 0, None), 0);
+    for row in rows {
+        judge_read(rt, alloc, tracker, *row)?;
+    }
+    Ok(())
+}
+
 #[test]
 fn the_readers_of_a_tracker(rt: HostRuntime) -> Result<(), Fail> {
     let mut tracker = Tracker::new(rt.alloc(), settings(256).ok_or("the settings")?);
-    assert_told(&rt, &tracker, (Phase::Before, 0, 0, None), 0);
-    for row in READ {
-        judge_read(&rt, rt.alloc(), &mut tracker, *row)?;
+    judge_rows(&rt, rt.alloc(), &mut tracker, READ)?;
+    Ok(())
+}
+
+#[test]
+fn when_a_tracker_is_due_late(rt: HostRuntime) -> Result<(), Fail> {
+    for rows in LATE {
+        let mut tracker = Tracker::new(rt.alloc(), settings(256).ok_or("the settings")?);
+        judge_rows(&rt, rt.alloc(), &mut tracker, rows)?;
     }
     Ok(())
 }
@@ -407,17 +511,7 @@ fn judge_refused(rt: &impl Abort, alloc: Global, tracker: &mut Tracker) -> Resul
 /// An equipment that listens is selected, and tells the host of the two primaries that expired.
 #[test]
 fn an_equipment_that_listens(rt: HostRuntime) -> Result<(), Fail> {
-    let settings = Settings::new(
-        Role::Equipment,
-        Side::Passive,
-        0,
-        45000,
-        6000,
-        10000,
-        5000,
-        1_048_576,
-        32,
-    );
+    let settings = settings_of(Role::Equipment, Side::Passive, 1_048_576);
     let mut tracker = Tracker::new(rt.alloc(), settings.ok_or("the settings")?);
     judge_expired(&rt, rt.alloc(), &mut tracker)?;
     judge_refused(&rt, rt.alloc(), &mut tracker)?;

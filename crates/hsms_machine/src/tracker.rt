@@ -35,7 +35,8 @@ impl Tracker {
     ghost use Rattle.std.specs.Prelude.{◌≡◌, [], Some, None, IsTrue, IfOk, OnErr};
     ghost use Rattle.hsms_machine.specs.declared.rule.Rule.{Rule};
     ghost use Rattle.hsms_machine.specs.Entry.{frame_entry};
-    ghost use Rattle.hsms_machine.specs.Act.{event_of, entry_of};
+    ghost use Rattle.hsms_machine.specs.declared.entry.Entry.{Entry};
+    ghost use Rattle.hsms_machine.specs.Act.{HasParts};
     ghost use Rattle.hsms_machine.specs.Transaction.{opens};
     ghost use Rattle.hsms_machine.specs.View.{HasView, IsBrokenAfter, LeadsTo, IfLawful, waiting_of, own_open_of, next_due_of, in_use_of, oldest_of};
     ghost use Rattle.hsms_machine.specs.Step.{IsBrokenAt, IsInOrder, view_after};
@@ -100,14 +101,20 @@ impl Tracker {
 
     // The first rule that the entry of these parts breaks, or none, and then it is taken in.
     fn judge(&mut self, time: u64, act: &Act, text: &[u8]) -> Result<Option<Rule>, AllocError>
-        ensures answer { IfOk result (λ answer. IsBrokenAfter self.old (entry_of time act.now text.now) answer) }
-        ensures told { IfOk result (λ answer. IsBrokenAt self.old (entry_of time act.now text.now) answer) }
-        ensures lawful { IfLawful result (LeadsTo self.old (entry_of time act.now text.now) self.new) }
-        ensures next { IfLawful result (self.new ≡ view_after self.old (entry_of time act.now text.now)) }
+        ensures answer { (entry : Entry) → HasParts entry time act.now text.now
+            → IfOk result (λ answer. IsBrokenAfter self.old entry answer) }
+        ensures told { (entry : Entry) → HasParts entry time act.now text.now
+            → IfOk result (λ answer. IsBrokenAt self.old entry answer) }
+        ensures lawful { (entry : Entry) → HasParts entry time act.now text.now
+            → IfLawful result (LeadsTo self.old entry self.new) }
+        ensures next { (entry : Entry) → HasParts entry time act.now text.now
+            → IfLawful result (self.new ≡ view_after self.old entry) }
         ensures broken { IfOk result (λ answer. (rule : Rule) → answer ≡ Some rule → self.new ≡ self.old) }
         ensures err { OnErr result (self.new ≡ self.old) }
-        ensures err_lawful { OnErr result (IsBrokenAfter self.old (entry_of time act.now text.now) None) }
-        ensures err_opens { OnErr result (IsTrue (opens (event_of act.now text.now))) }
+        ensures err_lawful { (entry : Entry) → HasParts entry time act.now text.now
+            → OnErr result (IsBrokenAfter self.old entry None) }
+        ensures err_opens { (entry : Entry) → HasParts entry time act.now text.now
+            → OnErr result (IsTrue (opens entry.event)) }
     {
         let broken = self.view.first_broken(time, act, text);
         if broken.is_none() {

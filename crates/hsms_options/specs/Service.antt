@@ -89,10 +89,11 @@ HasTimes rows t3 t6 t7 t8 =
     (number_in t3_number rows ≡ Some t3) × (number_in t6_number rows ≡ Some t6) × (number_in t7_number rows ≡ Some t7)
     × (number_in t8_number rows ≡ Some t8)
 
--- the matches have these settings
+-- the matches have these settings, of a log of one connection
 abbrev pub HasSettings : List Row → Parameters → Type 0
 HasSettings rows s =
-    (first_of (codes "role") rows ≡ Some (role_word s.role)) × (first_of (codes "link") rows ≡ Some (side_word s.link))
+    (s.version ≡ 1)
+    × (first_of (codes "role") rows ≡ Some (role_word s.role)) × (first_of (codes "link") rows ≡ Some (side_word s.link))
     × (number_in device_number rows ≡ Some s.device) × HasTimes rows s.t3 s.t6 s.t7 s.t8
     × (number_in max_number rows ≡ Some s.max) × (number_in depth_number rows ≡ Some s.depth)
 

@@ -38,7 +38,7 @@ const AUDIT_HELP: &str =
     Text           its text is no item, or is nested too deep\n  \
     SystemInUse    its system bytes are those of an open transaction\n  \
     NoTransaction  it answers nothing that is open\n  \
-    SelectStatus   this isn't the answer to this Select.req\n  \
+    SelectStatus   a Select.rsp with status 0 while the session is selected\n  \
     NoCause        nothing is wrong with a frame that was thrown away\n\n\
     A log of version 2 may hold several connections: an `up` directly after a `down` begins the next one.\n\n\
     Example: hsms audit < session.log\n\n\

@@ -17,12 +17,12 @@ shows_well max depth input (Err (Refused words)) left old new shows = shows
 shows_well max depth input (Err (Device word)) left old new shows = shows
 shows_well max depth input (Err Memory) left old new shows = shows
 
-encodes_well : (device max depth : ℕ) (hex : Bool) (system : ℕ) (input : List ℕ) (r : Result (Unit {0}) ToolFault) (old new : Option (List ℕ))
-    → EncodesAll device max depth hex system input r old new → EncodesAll device max depth hex system input (well r) old new
-encodes_well device max depth hex system input (Ok _) old new encodes = encodes
-encodes_well device max depth hex system input (Err (Refused words)) old new encodes = encodes
-encodes_well device max depth hex system input (Err (Device word)) old new encodes = encodes
-encodes_well device max depth hex system input (Err Memory) old new encodes = encodes
+encodes_well : (device max depth : ℕ) (hex : Bool) (system : ℕ) (input : List ℕ) (r : Result (Unit {0}) ToolFault) (left old new : Option (List ℕ))
+    → EncodesAll device max depth hex system input r left old new → EncodesAll device max depth hex system input (well r) left old new
+encodes_well device max depth hex system input (Ok _) left old new encodes = encodes
+encodes_well device max depth hex system input (Err (Refused words)) left old new encodes = encodes
+encodes_well device max depth hex system input (Err (Device word)) left old new encodes = encodes
+encodes_well device max depth hex system input (Err Memory) left old new encodes = encodes
 
 is_done : (r : Result (Unit {0}) ToolFault) (old new : SourceState) → OnOk r (new.ends ≡ next_count old.ends) → IsDone (well r) old new
 is_done (Ok _) old new end = (refl, end)
@@ -37,10 +37,10 @@ shows_all max depth r old new before after end shows =
 
 -- messages were encoded
 pub encodes_all : (device max depth : ℕ) (hex : Bool) (system : ℕ) (r : Result (Unit {0}) ToolFault) (old new : SourceState) (before after : Option (List ℕ))
-    → OnOk r (new.ends ≡ next_count old.ends) → WhereTold old.left (λ input. EncodesAll device max depth hex system input r before after)
-    → IsDone (well r) old new × WhereTold old.left (λ input. EncodesAll device max depth hex system input (well r) before after)
+    → OnOk r (new.ends ≡ next_count old.ends) → WhereTold old.left (λ input. EncodesAll device max depth hex system input r new.left before after)
+    → IsDone (well r) old new × WhereTold old.left (λ input. EncodesAll device max depth hex system input (well r) new.left before after)
 encodes_all device max depth hex system r old new before after end encodes =
-    (is_done r old new end, (λ input told. encodes_well device max depth hex system input r before after (encodes input told)))
+    (is_done r old new end, (λ input told. encodes_well device max depth hex system input r new.left before after (encodes input told)))
 
 -- a text was printed
 pub prints : (text octets : List ℕ) (r : Result (Unit {0}) ToolFault) (old new : Option (List ℕ)) → octets ≡ text → OnOk r (Grows old new octets)

@@ -13,7 +13,7 @@ use Rattle.secs_text.specs.Fault.{NotesFault}
 use Rattle.secs_text.specs.declared.fault.TextFault.{TextFault}
 use Rattle.secs_text.specs.declared.fault.TextFault.TheVariants as text
 use Rattle.hsms_tasks.specs.declared.refusal.Refusal.{Refusal}
-use Rattle.hsms_tasks.specs.Encode.{EncodesAll, IsWholeInput, SpellsMessages, input_limit, Encodes, FrameOf, FirstWithoutFrame, Frames, HasRefused, IsNotEncoded, IsToldText, next_system, output_of, system_after}
+use Rattle.hsms_tasks.specs.Encode.{EncodesAll, IsPartOfInput, IsWholeInput, SpellsMessages, input_limit, Encodes, FrameOf, FirstWithoutFrame, Frames, HasRefused, IsNotEncoded, IsToldText, next_system, output_of, system_after}
 
 next_system-suc : (system n : ℕ) → next_system (system_after system n) ≡ system_after system (suc n)
 next_system-suc system zero = refl
@@ -46,31 +46,38 @@ spells depth octets input ms whole noted =
     let P : List ℕ → Type 0 = λ text. Notations ms text in
     (whole.1, subst P whole.0 noted.0, noted.1)
 
-pub stops_writing : (device max depth : ℕ) (hex : Bool) (system : ℕ) (octets input output : List ℕ) (ms : List Content) (fault : ToolFault) (old written : Option (List ℕ))
+pub stops_writing : (device max depth : ℕ) (hex : Bool) (system : ℕ) (octets input output : List ℕ) (ms : List Content) (fault : ToolFault) (left old written : Option (List ℕ))
     → IsWholeInput input_limit octets input → Notations ms octets × AllWithin depth ms → Encodes device max hex system ms output → IsWrite fault
-    → GrowsByFront old written output → EncodesAll {T = Unit {0}} device max depth hex system input (Err fault) old written
-stops_writing device max depth hex system octets input output ms (Refused words) old written whole noted encoded word grows = absurd word
-stops_writing device max depth hex system octets input output ms (Device given) old written whole noted encoded word grows =
+    → GrowsByFront old written output → EncodesAll {T = Unit {0}} device max depth hex system input (Err fault) left old written
+stops_writing device max depth hex system octets input output ms (Refused words) left old written whole noted encoded word grows = absurd word
+stops_writing device max depth hex system octets input output ms (Device given) left old written whole noted encoded word grows =
     inr (word, ms, output, spells depth octets input ms whole noted, encoded, grows)
-stops_writing device max depth hex system octets input output ms Memory old written whole noted encoded word grows = absurd word
+stops_writing device max depth hex system octets input output ms Memory left old written whole noted encoded word grows = absurd word
 
-pub writes_all : (device max depth : ℕ) (hex : Bool) (system : ℕ) (octets input output : List ℕ) (ms : List Content) (old written : Option (List ℕ))
+pub writes_all : (device max depth : ℕ) (hex : Bool) (system : ℕ) (octets input output : List ℕ) (ms : List Content) (left old written : Option (List ℕ))
     → IsWholeInput input_limit octets input → Notations ms octets × AllWithin depth ms → Encodes device max hex system ms output
-    → Grows old written output → EncodesAll {T = Unit {0}} device max depth hex system input (Ok tt) old written
-writes_all device max depth hex system octets input output ms old written whole noted encoded grows =
+    → Grows old written output → EncodesAll {T = Unit {0}} device max depth hex system input (Ok tt) left old written
+writes_all device max depth hex system octets input output ms left old written whole noted encoded grows =
     (ms, output, spells depth octets input ms whole noted, encoded, grows)
 
+-- an input that was not read whole
+pub stops_reading : (device max depth : ℕ) (hex : Bool) (system : ℕ) (input : List ℕ) (fault : ToolFault) (left old : Option (List ℕ))
+    → IsPartOfInput input_limit input fault left → EncodesAll {T = Unit {0}} device max depth hex system input (Err fault) left old old
+stops_reading device max depth hex system input (Refused words) left old part = (inl part, (λ octets told. told))
+stops_reading device max depth hex system input (Device word) left old part = inl (part.0, part.1, (λ octets told. told))
+stops_reading device max depth hex system input Memory left old part = λ octets told. told
+
 -- an input that was not encoded
-pub stops_encoding : (device max depth : ℕ) (hex : Bool) (system : ℕ) (octets input : List ℕ) (fault : ToolFault) (old written : Option (List ℕ))
+pub stops_encoding : (device max depth : ℕ) (hex : Bool) (system : ℕ) (octets input : List ℕ) (fault : ToolFault) (left old written : Option (List ℕ))
     → IsWholeInput input_limit octets input → IsNotEncoded device max depth hex system octets fault → Stays old written
-    → EncodesAll {T = Unit {0}} device max depth hex system input (Err fault) old written
-stops_encoding device max depth hex system octets input (Refused words) old written whole (inl (f, faulty, told)) stays =
+    → EncodesAll {T = Unit {0}} device max depth hex system input (Err fault) left old written
+stops_encoding device max depth hex system octets input (Refused words) left old written whole (inl (f, faulty, told)) stays =
     let P : List ℕ → Type 0 = λ text. NotesFault text depth f in
     (inr (inl (f, whole.1, subst P whole.0 faulty, told)), stays)
-stops_encoding device max depth hex system octets input (Refused words) old written whole (inr (ms, noted, within, first)) stays =
+stops_encoding device max depth hex system octets input (Refused words) left old written whole (inr (ms, noted, within, first)) stays =
     (inr (inr (ms, spells depth octets input ms whole (noted, within), first)), stays)
-stops_encoding device max depth hex system octets input (Device word) old written whole why stays = absurd why
-stops_encoding device max depth hex system octets input Memory old written whole why stays = stays
+stops_encoding device max depth hex system octets input (Device word) left old written whole why stays = absurd why
+stops_encoding device max depth hex system octets input Memory left old written whole why stays = stays
 
 -- ---- frames that were gathered
 

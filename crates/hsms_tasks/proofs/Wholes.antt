@@ -1,12 +1,12 @@
 -- An input that is read piece by piece.
-use Rattle.std.proofs.Common.{◌≡◌, ◌≤◌, ◌<◌, ◌+◌, ◌++◌, ℕ, List, [], length, take, drop, Some, Ok, Err, refl, sym, ◌∙◌, ap, subst, codes, arith}
+use Rattle.std.proofs.Common.{◌≡◌, ◌≤◌, ◌<◌, ◌+◌, ◌++◌, ℕ, List, [], length, take, drop, Some, Ok, Err, refl, sym, ◌∙◌, ap, codes, arith}
 use Rattle.std.specs.Prelude.{Option}
 use Rattle.std.proofs.lemmas.List.{append-nil, append_assoc, length-append, take-append-drop, take_at}
 use Rattle.std.proofs.lemmas.Bool.Decides.{nat_tests}
-use Rattle.hsms_frame.specs.Device.{WhereTold, Takes, IsAtEnd, ends_after}
+use Rattle.hsms_frame.specs.Device.{WhereTold, Takes, IsAtEnd, Stays, ends_after}
 use Rattle.hsms_options.specs.declared.fault.ToolFault.{ToolFault}
 use Rattle.hsms_options.specs.declared.fault.ToolFault.TheVariants.{Refused, Device, Memory}
-use Rattle.hsms_tasks.specs.Encode.{IsWholeInput, IsPartOfInput}
+use Rattle.hsms_tasks.specs.Encode.{IsReadPast, IsPartOfInput}
 use Rattle.hsms_tasks.specs.Show.{CountsFailure, HasWord, IsRead}
 use Rattle.hsms_options.specs.Status.{IsRefusedAs}
 
@@ -30,28 +30,38 @@ reads_more initial mid left octets buffer new n so_far takes added input told =
       t.2,
     )
 
+-- the end was found, within the limit
 pub reads_whole : (initial left : Option (List ℕ)) (octets : List ℕ) (limit : ℕ) → ReadSoFar initial left octets → IsAtEnd left → length octets ≤ limit
-    → WhereTold initial (IsWholeInput limit octets)
+    → WhereTold initial (IsReadPast limit octets)
 reads_whole initial left octets limit so_far end within input told =
     let a = so_far input told in
     let none : a.0 ≡ [] = end a.0 a.2 in
     let same : octets ≡ input = sym (a.1 ∙ ap (λ xs. octets ++ xs) none ∙ append-nil octets) in
-    let P : List ℕ → Type 0 = λ xs. length xs ≤ limit in
-    (same, subst P same within)
+    ((λ fits. same), (λ past. absurd (omega (arith, past, within))))
 
-pub reads_past : (initial left : Option (List ℕ)) (octets : List ℕ) (limit : ℕ) (fault : ToolFault) → ReadSoFar initial left octets → limit < length octets
-    → IsRefusedAs (codes "Input") fault → WhereTold initial (λ input. IsPartOfInput limit input fault)
-reads_past initial left octets limit (Refused words) so_far past told_as input told =
+-- the limit was passed
+pub reads_past : (initial left : Option (List ℕ)) (octets : List ℕ) (limit : ℕ) → ReadSoFar initial left octets → limit < length octets
+    → WhereTold initial (IsReadPast limit octets)
+reads_past initial left octets limit so_far past input told =
     let a = so_far input told in
     let size : length input ≡ length octets + length a.0 = ap length a.1 ∙ length-append octets a.0 in
-    (omega arith, told_as)
-reads_past initial left octets limit (Device word) so_far past told_as input told = absurd told_as
-reads_past initial left octets limit Memory so_far past told_as input told = tt
+    ((λ fits. absurd (omega (arith, past, fits))), (λ longer. omega (arith, size, past)))
 
-pub fails_to_read : (limit : ℕ) (fault : ToolFault) → IsRead fault → (input : List ℕ) → IsPartOfInput limit input fault
-fails_to_read limit (Refused words) is input = absurd is
-fails_to_read limit (Device word) is input = is
-fails_to_read limit Memory is input = tt
+-- what was read past the limit is refused
+pub refused : (limit : ℕ) (input octets : List ℕ) (fault : ToolFault) (left : Option (List ℕ)) → IsReadPast limit octets input
+    → limit < length octets → IsRefusedAs (codes "Input") fault → IsPartOfInput limit input fault left
+refused limit input octets (Refused words) left read past told_as = (read.1 past, told_as)
+refused limit input octets (Device word) left read past told_as = absurd told_as
+refused limit input octets Memory left read past told_as = tt
+
+-- a read failed, and took nothing
+pub fails_to_read : (initial mid left : Option (List ℕ)) (octets : List ℕ) (limit : ℕ) (fault : ToolFault) → ReadSoFar initial mid octets
+    → length octets ≤ limit → Stays mid left → IsRead fault → WhereTold initial (λ input. IsPartOfInput limit input fault left)
+fails_to_read initial mid left octets limit (Refused words) so_far within stays is input told = absurd is
+fails_to_read initial mid left octets limit (Device word) so_far within stays is input told =
+    let a = so_far input told in
+    (is, (octets, a.0, within, a.1, stays a.0 a.2))
+fails_to_read initial mid left octets limit Memory so_far within stays is input told = tt
 
 -- a vector whose whole slice was written
 pub rewritten : (len : ℕ) (part old : List ℕ) → length part ≡ len → take len (part ++ drop (length part) old) ≡ part
@@ -62,16 +72,16 @@ pub not_at_end : (room n ends new : ℕ) → (n ≡ 0 → ⊥) → new ≡ ends_
 not_at_end room n ends new some step = grind (arith, nat_tests, step, some)
 
 -- a refusal is no failure of a device
-pub refuses : (T : Type 0) (words word : List ℕ) (fault : ToolFault) (old new : ℕ) → IsRefusedAs words fault → new ≡ old
+pub counted : (T : Type 0) (words word : List ℕ) (fault : ToolFault) (old new : ℕ) → IsRefusedAs words fault → new ≡ old
     → CountsFailure {T = T} word (Err fault) old new
-refuses T words word (Refused given) old new told_as same = same
-refuses T words word (Device given) old new told_as same = absurd told_as
-refuses T words word Memory old new told_as same = same
+counted T words word (Refused given) old new told_as same = same
+counted T words word (Device given) old new told_as same = absurd told_as
+counted T words word Memory old new told_as same = same
 
-pub word_of_refusal : (words word : List ℕ) (fault : ToolFault) → IsRefusedAs words fault → HasWord word fault
-word_of_refusal words word (Refused given) told_as = tt
-word_of_refusal words word (Device given) told_as = absurd told_as
-word_of_refusal words word Memory told_as = tt
+pub worded : (words word : List ℕ) (fault : ToolFault) → IsRefusedAs words fault → HasWord word fault
+worded words word (Refused given) told_as = tt
+worded words word (Device given) told_as = absurd told_as
+worded words word Memory told_as = tt
 
 pub word_of_read : (fault : ToolFault) → IsRead fault → HasWord (codes "Read") fault
 word_of_read (Refused given) is = absurd is

@@ -33,7 +33,7 @@ Performs asked.Audit result old new before after =
     × WhereTold old.left (λ input. AuditsTo input result new.left (HasEnded old.ends new.ends) before.written after.written)
 Performs (asked.Encode device system max depth hex) result old new before after =
     IsDone result old new
-    × WhereTold old.left (λ input. EncodesAll device max depth hex system input result before.written after.written)
+    × WhereTold old.left (λ input. EncodesAll device max depth hex system input result new.left before.written after.written)
 
 -- all is well where it is done
 abbrev pub well : Result (Unit {0}) ToolFault → Result Bool ToolFault

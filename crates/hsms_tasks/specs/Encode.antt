@@ -111,19 +111,23 @@ IsRefusedInput device max depth hex system input words =
     ⊎ ((fault : TextFault) × (length input ≤ input_limit) × NotesFault input depth fault × (words ≡ text_fault_text fault))
     ⊎ ((ms : List Content) × SpellsMessages depth input ms × FirstWithoutFrame device max hex system ms words)
 
--- the answers to an input, each with what was written before and is now
+-- at most so many octets of an input were taken, and the others are left
+abbrev pub TakesAtMost : ℕ → List ℕ → Option (List ℕ) → Type 0
+TakesAtMost limit input left = (taken rest : List ℕ) × (length taken ≤ limit) × (input ≡ taken ++ rest) × (left ≡ Some rest)
+
+-- the answers to an input, each with what is left of it, and with what was written before and is now
 abbrev pub EncodesAll : {T : Type 0} → ℕ → ℕ → ℕ → Bool → ℕ → List ℕ → Result T ToolFault → Option (List ℕ) → Option (List ℕ)
-    → Type 0
-EncodesAll device max depth hex system input (Ok _) old new =
+    → Option (List ℕ) → Type 0
+EncodesAll device max depth hex system input (Ok _) left old new =
     (ms : List Content) × (output : List ℕ) × SpellsMessages depth input ms × Encodes device max hex system ms output
     × Grows old new output
-EncodesAll device max depth hex system input (Err (Refused words)) old new =
+EncodesAll device max depth hex system input (Err (Refused words)) left old new =
     IsRefusedInput device max depth hex system input (string_bytes words) × Stays old new
-EncodesAll device max depth hex system input (Err (Device word)) old new =
-    ((word.now ≡ codes "Read") × Stays old new)
+EncodesAll device max depth hex system input (Err (Device word)) left old new =
+    ((word.now ≡ codes "Read") × TakesAtMost input_limit input left × Stays old new)
     ⊎ ((word.now ≡ codes "Write") × (ms : List Content) × (output : List ℕ) × SpellsMessages depth input ms
     × Encodes device max hex system ms output × GrowsByFront old new output)
-EncodesAll device max depth hex system input (Err Memory) old new = Stays old new
+EncodesAll device max depth hex system input (Err Memory) left old new = Stays old new
 
 -- ---- the steps
 
@@ -131,11 +135,16 @@ EncodesAll device max depth hex system input (Err Memory) old new = Stays old ne
 abbrev pub IsWholeInput : ℕ → List ℕ → List ℕ → Type 0
 IsWholeInput limit octets input = (octets ≡ input) × (length input ≤ limit)
 
--- why an input was not read whole: it is longer than the limit, a read failed, or memory is wanting
-abbrev pub IsPartOfInput : ℕ → List ℕ → ToolFault → Type 0
-IsPartOfInput limit input (Refused words) = (limit < length input) × (string_bytes words ≡ codes "Input")
-IsPartOfInput limit input (Device word) = word.now ≡ codes "Read"
-IsPartOfInput limit input Memory = Unit {0}
+-- these octets are the input, or, where they are past the limit, its front
+abbrev pub IsReadPast : ℕ → List ℕ → List ℕ → Type 0
+IsReadPast limit octets input = (length octets ≤ limit → octets ≡ input) × (limit < length octets → limit < length input)
+
+-- why an input was not read whole: it is longer than the limit; a read failed, and the limit was not passed before; or
+-- memory is wanting
+abbrev pub IsPartOfInput : ℕ → List ℕ → ToolFault → Option (List ℕ) → Type 0
+IsPartOfInput limit input (Refused words) left = (limit < length input) × (string_bytes words ≡ codes "Input")
+IsPartOfInput limit input (Device word) left = (word.now ≡ codes "Read") × TakesAtMost limit input left
+IsPartOfInput limit input Memory left = Unit {0}
 
 -- why a text was not read as messages
 abbrev pub IsNotRead : ℕ → List ℕ → ToolFault → Type 0

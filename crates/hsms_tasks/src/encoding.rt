@@ -30,8 +30,8 @@ pub const INPUT_LIMIT: usize = 67_108_864;
 /// - `Refused`: the input has more than 67,108,864 octets (`Input`), or isn't messages within the depth (`Syntax`,
 ///   `Number`, `Count`, `Deep`), or a message of it has no frame (`TooLarge`, `TooLong`). The first refusal is told,
 ///   and nothing is written.
-/// - `Device`: `Read` or `Write`, where a device failed in this call. After a failed write a part of the frames may be
-///   written.
+/// - `Device`: `Read` or `Write`, where a device failed in this call. A failed read is told only where at most 67,108,864
+///   octets were taken before it. After a failed write a part of the frames may be written.
 /// - `Memory`. Nothing is written.
 pub fn encode_all<R: Source, W: Sink>(
     alloc: Global,
@@ -45,7 +45,7 @@ pub fn encode_all<R: Source, W: Sink>(
 ) -> Result<(), ToolFault>
     requires { depth ≤ 100 }
     ensures frames { WhereTold (R.state source.old).left (λ input. EncodesAll device max depth hex system input result
-        (W.state sink.old).written (W.state sink.new).written) }
+        (R.state source.new).left (W.state sink.old).written (W.state sink.new).written) }
     // Where the source doesn't tell its octets, its end was found once all the same.
     ensures end { OnOk result ((R.state source.new).ends ≡ next_count (R.state source.old).ends) }
     ensures word { IfErr result IsReadOrWrite }

@@ -1,9 +1,9 @@
 //! The whole of an input.
 
-ghost use Rattle.std.specs.Prelude.{◌≡◌, ◌≤◌, ◌<◌, length, IfOk, OnOk, IfErr, OnErr, Ok, codes};
+ghost use Rattle.std.specs.Prelude.{◌≡◌, ◌≤◌, ◌<◌, length, vec_len, IfOk, OnOk, IfErr, OnErr, Ok, codes};
 ghost use Rattle.hsms_frame.specs.Count.{next_count};
 ghost use Rattle.hsms_frame.specs.Device.{WhereTold, Takes, IsAtEnd, Stays, ends_after};
-ghost use Rattle.hsms_tasks.specs.Encode.{IsWholeInput, IsPartOfInput};
+ghost use Rattle.hsms_tasks.specs.Encode.{IsWholeInput, IsReadPast, IsPartOfInput};
 ghost use Rattle.hsms_tasks.specs.Show.{CountsFailure, HasWord, IsRead};
 
 use hsms_frame::Source;
@@ -12,7 +12,9 @@ use std::alloc::Global;
 
 const BLOCK: usize = 65536;
 
-/// The octets of an input, which is refused under the word `Input` where it has more than `limit` of them.
+/// The octets of an input, which is refused under the word `Input` where it has more than `limit` of them. A failed
+/// read is told only where at most `limit` octets were taken before it.
+#[tactic(auto, using(crate::proofs::Wholes::refused, crate::proofs::Wholes::counted, crate::proofs::Wholes::worded))]
 pub fn read_whole<R: Source>(
     alloc: Global,
     source: &mut R,
@@ -20,9 +22,26 @@ pub fn read_whole<R: Source>(
 ) -> Result<Vec<u8>, ToolFault>
     ensures ok { IfOk result (λ octets. WhereTold (R.state source.old).left (IsWholeInput limit octets.items)) }
     ensures err { IfErr result (λ fault. WhereTold (R.state source.old).left
-        (λ input. IsPartOfInput limit input fault)) }
+        (λ input. IsPartOfInput limit input fault (R.state source.new).left)) }
     ensures word { IfErr result (HasWord (codes "Read")) }
     ensures end { OnOk result ((R.state source.new).ends ≡ next_count (R.state source.old).ends) }
+    ensures reads { CountsFailure (codes "Read") result (R.state source.old).failures (R.state source.new).failures }
+{
+    let octets = read_past(alloc, source, limit)?;
+    if octets.len() > limit {
+        return Err(refused(alloc, "Input"));
+    }
+    Ok(octets)
+}
+
+// The octets of an input up to its end, or up to some past the limit.
+fn read_past<R: Source>(alloc: Global, source: &mut R, limit: usize) -> Result<Vec<u8>, ToolFault>
+    ensures ok { IfOk result (λ octets. WhereTold (R.state source.old).left (IsReadPast limit octets.items)) }
+    ensures err { IfErr result (λ fault. WhereTold (R.state source.old).left
+        (λ input. IsPartOfInput limit input fault (R.state source.new).left)) }
+    ensures word { IfErr result (HasWord (codes "Read")) }
+    ensures end { IfOk result
+        (λ octets. vec_len octets ≤ limit → (R.state source.new).ends ≡ next_count (R.state source.old).ends) }
     ensures reads { CountsFailure (codes "Read") result (R.state source.old).failures (R.state source.new).failures }
 {
     let mut octets = Vec::new(alloc);
@@ -34,7 +53,7 @@ pub fn read_whole<R: Source>(
         }
         octets.extend_from_slice(&block[..count])?;
     }
-    Err(refused(alloc, "Input"))
+    Ok(octets)
 }
 
 /// Reads some octets to the front of a slice with room, and says how many: none only at the end of the input.

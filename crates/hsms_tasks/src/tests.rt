@@ -1,5 +1,6 @@
 mod auditing;
 mod connections;
+mod devices;
 mod encoding;
 
 ghost use Rattle.std.specs.Prelude.{◌<◌};
@@ -28,17 +29,11 @@ impl Run {
     }
 }
 
-fn shown(
-    alloc: Global,
-    octets: &[u8],
-    piece: usize,
-    pulls: u64,
-    gives: u64,
-) -> Result<Run, AllocError>
+fn shown(alloc: Global, octets: &[u8], piece: usize) -> Result<Run, AllocError>
     requires { 0 < piece }
 {
-    let mut source = Feed::new(Vec::from_slice(alloc, octets)?, piece, pulls);
-    let mut sink = Store::new(vec![in alloc; 0u8; 256]?, piece, gives);
+    let mut source = Feed::new(Vec::from_slice(alloc, octets)?, piece, u64::MAX);
+    let mut sink = Store::new(vec![in alloc; 0u8; 256]?, piece, u64::MAX);
     let result = show(alloc, &mut source, &mut sink, 1048576, 32);
     let written = Vec::from_slice(alloc, sink.written())?;
     Ok(Run { result, written })
@@ -63,18 +58,6 @@ fn assert_refused(rt: &impl Abort, run: &Run, want: &str, written: &[u8]) {
         "{want}"
     );
     assert_octets(rt, run.written.as_slice(), written, want);
-}
-
-// A device failed.
-fn assert_device(rt: &impl Abort, run: &Run, want: &str) {
-    assert!(rt;
-        matches!(&run.result, Err(ToolFault::Device(word)) if *word == want),
-        "{want}"
-    );
-}
-
-fn assert_count(rt: &impl Abort, run: &Run, count: u64) {
-    assert_eq!(rt; run.written.len() as u64, count);
 }
 
 // Messages, and their lines.
@@ -123,7 +106,7 @@ fn judge_kind(
 ) -> Result<(), Fail>
     requires { 0 < piece }
 {
-    let run = shown(alloc, octets, piece, u64::MAX, u64::MAX)?.or_want_of_memory()?;
+    let run = shown(alloc, octets, piece)?.or_want_of_memory()?;
     assert_done(rt, &run, line.as_bytes(), line);
     Ok(())
 }
@@ -149,7 +132,7 @@ fn judge_refused(
 ) -> Result<(), Fail>
     requires { 0 < piece }
 {
-    let run = shown(alloc, octets, piece, u64::MAX, u64::MAX)?.or_want_of_memory()?;
+    let run = shown(alloc, octets, piece)?.or_want_of_memory()?;
     assert_refused(rt, &run, words, lines.as_bytes());
     Ok(())
 }
@@ -170,32 +153,13 @@ fn refuses_what_is_no_message(rt: HostRuntime) -> Result<(), Fail> {
     )
 }
 
-// After so many calls the source fails, and in a second run the sink.
-fn judge_devices(rt: &impl Abort, alloc: Global, calls: u64) -> Result<(), Fail> {
-    let run = shown(alloc, &SELECT, 1, calls, u64::MAX)?.or_want_of_memory()?;
-    assert_device(rt, &run, "Read");
-    let run = shown(alloc, &SELECT, 1, u64::MAX, calls)?.or_want_of_memory()?;
-    assert_device(rt, &run, "Write");
-    assert_count(rt, &run, calls);
-    Ok(())
-}
-
-// The messages before a fault are shown, whichever device is at fault.
-#[test]
-fn tells_which_device_failed(rt: HostRuntime) -> Result<(), Fail> {
-    for calls in 0..14 {
-        judge_devices(&rt, rt.alloc(), calls)?;
-    }
-    Ok(())
-}
-
 // Where its own input is refused, this test has nothing to say.
 #[test]
 fn refused_lines(rt: HostRuntime) -> Result<(), Fail> {
     let octets = b"\x00\x00\x00\x0a\xff\xff\x00\x00\x00\x01\x00\x00\x00\x01\
         \x00\x00\x00\x0c\x00\x00\x81\x0d\x00\x00\x00\x00\x00\x01\x01\x00\x00\x00\x00\x09";
     let lines = b"select.req ffff 00000001\ndata 0000 00000001 S1F13 W <L [0]> .\n".as_slice();
-    let Ok(run) = shown(rt.alloc(), octets, 4096, u64::MAX, u64::MAX) else {
+    let Ok(run) = shown(rt.alloc(), octets, 4096) else {
         return Ok(());
     };
     match &run.result {

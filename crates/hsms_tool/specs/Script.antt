@@ -1,5 +1,5 @@
 -- What `hsms serve --send` reads of an input.
-use Rattle.std.specs.Prelude.{◌≡◌, ◌<◌, ◌≤◌, ◌⊎◌, ◌++◌, ℕ, List, [], ◌∷◌, map, length, codes, string_bytes}
+use Rattle.std.specs.Prelude.{◌≡◌, ◌<◌, ◌≤◌, ◌⊎◌, ◌++◌, ℕ, List, [], ◌∷◌, Option, map, length, codes, string_bytes}
 use Rattle.secs_text.specs.declared.fault.TextFault.{TextFault}
 use Rattle.secs_text.specs.declared.message.Message.{Message}
 use Rattle.secs_text.specs.Fault.{NotesFault}
@@ -8,7 +8,7 @@ use Rattle.hsms_ends.specs.declared.step.Step.{Step}
 use Rattle.hsms_ends.specs.declared.step.Step.TheVariants.{Send, Separate}
 use Rattle.hsms_options.specs.declared.fault.ToolFault.{ToolFault}
 use Rattle.hsms_options.specs.declared.fault.ToolFault.TheVariants.{Refused, Device, Memory}
-use Rattle.hsms_tasks.specs.Encode.{SpellsMessages, input_limit, text_fault_text}
+use Rattle.hsms_tasks.specs.Encode.{SpellsMessages, TakesAtMost, input_limit, text_fault_text}
 
 -- each message is sent, and then the session is separated
 abbrev pub sends : List Message → List Step
@@ -24,8 +24,8 @@ IsRefusedScript depth input words =
     ((input_limit < length input) × (words ≡ codes "Input"))
     ⊎ ((fault : TextFault) × (length input ≤ input_limit) × NotesFault input depth fault × (words ≡ text_fault_text fault))
 
--- why no script was read
-abbrev pub IsNoScript : ℕ → ToolFault → List ℕ → Type 0
-IsNoScript depth (Refused words) input = IsRefusedScript depth input (string_bytes words)
-IsNoScript depth (Device word) input = word.now ≡ codes "Read"
-IsNoScript depth Memory input = Unit {0}
+-- why no script was read, with what is left of the input
+abbrev pub IsNoScript : ℕ → List ℕ → ToolFault → Option (List ℕ) → Type 0
+IsNoScript depth input (Refused words) left = IsRefusedScript depth input (string_bytes words)
+IsNoScript depth input (Device word) left = (word.now ≡ codes "Read") × TakesAtMost input_limit input left
+IsNoScript depth input Memory left = Unit {0}

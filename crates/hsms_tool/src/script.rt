@@ -18,7 +18,7 @@ use std::alloc::{AllocError, Global};
 ///
 /// - `Refused`: the input has more than 67,108,864 octets (`Input`), or isn't messages within the depth (`Syntax`,
 ///   `Number`, `Count`, `Deep`).
-/// - `Device`: `Read`, where a read failed in this call.
+/// - `Device`: `Read`, where a read failed in this call, and at most 67,108,864 octets were taken before it.
 /// - `Memory`.
 pub fn read_script<R: Source>(
     alloc: Global,
@@ -27,7 +27,8 @@ pub fn read_script<R: Source>(
 ) -> Result<Vec<Step>, ToolFault>
     requires { depth ≤ 100 }
     ensures ok { IfOk result (λ steps. WhereTold (R.state source.old).left (IsScript depth steps.items)) }
-    ensures err { IfErr result (λ fault. WhereTold (R.state source.old).left (IsNoScript depth fault)) }
+    ensures err { IfErr result (λ fault. WhereTold (R.state source.old).left
+        (λ input. IsNoScript depth input fault (R.state source.new).left)) }
     ensures word { IfErr result (HasWord (codes "Read")) }
     ensures end { OnOk result ((R.state source.new).ends ≡ next_count (R.state source.old).ends) }
     ensures reads { CountsFailure (codes "Read") result (R.state source.old).failures (R.state source.new).failures }

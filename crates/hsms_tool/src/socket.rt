@@ -93,7 +93,8 @@ impl<'a, C: Clock, S: Read + Write + OpenStream + Drop> Link for SocketLink<'a, 
     }
 }
 
-// Whether a read that failed so may be made once more: nothing came in time.
+// Whether a read that failed so has read nothing, and another one may follow: its time is over, or a signal ended it
+// early.
 fn is_quiet(kind: ErrorKind) -> bool {
     matches!(
         kind,

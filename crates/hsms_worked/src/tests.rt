@@ -4,8 +4,10 @@ mod answers;
 mod connection;
 mod corners;
 mod desks;
+mod edges;
 mod failing;
 mod limits;
+mod order;
 mod own;
 mod party;
 mod refused;
@@ -16,6 +18,7 @@ mod walks;
 
 use answers::ANSWERS;
 use corners::CORNERS;
+use edges::EDGES;
 use hsms_ends::{Answer, Desk, Driven, End, EndFault, EquipmentDesk, HostDesk, Input, drive};
 use hsms_frame::{Store, encode_frame};
 use hsms_log::{Line, read_line, write_entry};
@@ -126,7 +129,7 @@ fn input_of(alloc: Global, told: Told) -> Result<Input, Fail> {
 }
 
 /// Tells an end one input.
-fn tell<D: Desk>(alloc: Global, end: &mut End<D>, input: &Input) -> Result<Vec<Entry>, EndFault> {
+fn tell<D: Desk>(end: &mut End<D>, input: &Input) -> Result<Vec<Entry>, EndFault> {
     match input {
         Input::Start(now) => end.start(*now),
         Input::Tick(now) => end.tick(*now),
@@ -150,28 +153,28 @@ fn assert_fault(rt: &impl Abort, fault: Option<EndFault>, want: Option<EndFault>
 }
 
 /// An end that is spent refuses an input.
-fn assert_refused<D: Desk>(rt: &impl Abort, alloc: Global, end: &mut End<D>, input: &Input) {
-    let answer = tell(alloc, end, input);
+fn assert_refused<D: Desk>(rt: &impl Abort, end: &mut End<D>, input: &Input) {
+    let answer = tell(end, input);
     assert_fault(rt, answer.err(), Some(EndFault::Spent), "spent");
 }
 
 /// Tells an end something that it doesn't refuse.
 fn tell_well<D: Desk>(alloc: Global, end: &mut End<D>, told: Told) -> Result<(), Fail> {
     let input = input_of(alloc, told)?;
-    tell(alloc, end, &input)?;
+    tell(end, &input)?;
     Ok(())
 }
 
 /// Each call of an end that is spent is refused. Where an allocation is refused, a test ends with that error.
 fn assert_spent<D: Desk>(rt: &impl Abort, alloc: Global, end: &mut End<D>) {
     let message = Message::new(1, 1, true, None);
-    assert_refused(rt, alloc, end, &Input::Start(0));
-    assert_refused(rt, alloc, end, &Input::Tick(0));
-    assert_refused(rt, alloc, end, &Input::Bytes(Vec::new(alloc)));
-    assert_refused(rt, alloc, end, &Input::Send(message));
-    assert_refused(rt, alloc, end, &Input::Linktest);
-    assert_refused(rt, alloc, end, &Input::Separate);
-    assert_refused(rt, alloc, end, &Input::Lost);
+    assert_refused(rt, end, &Input::Start(0));
+    assert_refused(rt, end, &Input::Tick(0));
+    assert_refused(rt, end, &Input::Bytes(Vec::new(alloc)));
+    assert_refused(rt, end, &Input::Send(message));
+    assert_refused(rt, end, &Input::Linktest);
+    assert_refused(rt, end, &Input::Separate);
+    assert_refused(rt, end, &Input::Lost);
 }
 
 /// These are the lines of entries.
@@ -216,7 +219,7 @@ fn judge<D: Desk>(
 ) -> Result<(), Fail> {
     for (told, want) in case.told {
         let input = input_of(alloc, *told)?;
-        let answer = tell(alloc, end, &input);
+        let answer = tell(end, &input);
         if matches!(answer, Err(EndFault::Memory)) {
             assert_spent(rt, alloc, end);
             if *want != Err(EndFault::Memory) {
@@ -269,6 +272,10 @@ fn corner_cases() -> &'static [Case] {
     CORNERS
 }
 
+fn edge_cases() -> &'static [Case] {
+    EDGES
+}
+
 #[test]
 fn what_follows_messages(rt: HostRuntime) -> Result<(), Fail> {
     judge_all(&rt, rt.alloc(), answer_cases())
@@ -282,6 +289,11 @@ fn own_messages_and_timers(rt: HostRuntime) -> Result<(), Fail> {
 #[test]
 fn corners_of_an_end(rt: HostRuntime) -> Result<(), Fail> {
     judge_all(&rt, rt.alloc(), corner_cases())
+}
+
+#[test]
+fn edges_of_an_end(rt: HostRuntime) -> Result<(), Fail> {
+    judge_all(&rt, rt.alloc(), edge_cases())
 }
 
 /// The list of a case.
@@ -342,4 +354,9 @@ fn sessions_as_lists(rt: HostRuntime) -> Result<(), Fail> {
     judge_all_driven(&rt, rt.alloc(), answer_cases())?;
     judge_all_driven(&rt, rt.alloc(), own_cases())?;
     judge_all_driven(&rt, rt.alloc(), corner_cases())
+}
+
+#[test]
+fn edges_as_lists(rt: HostRuntime) -> Result<(), Fail> {
+    judge_all_driven(&rt, rt.alloc(), edge_cases())
 }

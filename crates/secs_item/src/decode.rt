@@ -1,12 +1,12 @@
 //! Items from octets.
 
-ghost use Rattle.std.specs.Prelude.{◌≡◌, ◌≤◌, ◌<◌, ◌%◌, ◌⊎◌, ℕ, false, length, drop, IfOk, IfErr, MatchResult, IsOk, Option, None, Ok, [], option_map};
+ghost use Rattle.std.specs.Prelude.{◌≡◌, ◌≤◌, ◌<◌, ◌%◌, ◌⊎◌, ℕ, false, length, drop, IfOk, IfErr, MatchResult, IsOk, Option, Some, None, Ok, [], option_map};
 ghost use Rattle.secs_item.specs.Fault.{Faults, TextFaults, IsTold, fault_at};
 ghost use Rattle.secs_item.specs.Format.{is_list, value_size};
 ghost use Rattle.secs_item.specs.Header.{Reason};
 ghost use Rattle.secs_item.specs.Measure.{EndsAt};
 ghost use Rattle.secs_item.specs.Reading.{each, octet, values_of, item_at, elements_by};
-ghost use Rattle.secs_item.specs.Spelling.{IsAtFront, IsTextOf};
+ghost use Rattle.secs_item.specs.Spelling.{IsAtFront, IsText, IsTextOf};
 ghost use Rattle.secs_item.specs.Item.{Value as ItemValue, values, view, views};
 
 use crate::fault::ItemFault;
@@ -125,6 +125,27 @@ fn build_elements(
     Ok((elements, end))
 }
 
+/// The item at the front, which has been measured, and how many octets spell it.
+fn build_front(alloc: Global, octets: &[u8], depth: u8) -> Result<(Item, usize), AllocError>
+    requires measured { (v : ItemValue) × (n : ℕ) × IsAtFront depth octets.now v n }
+    ensures ok { IfOk result (λ x. IsAtFront depth octets.now (view x.0) x.1) }
+    ensures only { (v : ItemValue) (n : ℕ) → IsAtFront depth octets.now v n → IfOk result (λ x. (view x.0 ≡ v) × (x.1 ≡ n)) }
+{
+    let (item, end) = build_item(alloc, octets, 0, depth)?;
+    Ok((item, end))
+}
+
+/// The item of a text, which has been measured, and isn't empty.
+fn build_text(alloc: Global, octets: &[u8], depth: u8) -> Result<Item, AllocError>
+    requires some { 0 < length octets.now }
+    requires measured { IsText depth octets.now }
+    ensures ok { IfOk result (λ item. IsTextOf depth octets.now (Some (view item))) }
+    ensures only { (text : Option ItemValue) → IsTextOf depth octets.now text → IfOk result (λ item. Some (view item) ≡ text) }
+{
+    let (item, _) = build_item(alloc, octets, 0, depth)?;
+    Ok(item)
+}
+
 /// The item at the front, whose lists are nested at most `depth` deep, and how many octets spell it. What follows isn't
 /// looked at. The depth is at most 100. The item is measured first, so every fault but `Memory` is told before memory
 /// is asked for.
@@ -138,7 +159,7 @@ pub fn decode_front(alloc: Global, octets: &[u8], depth: u8) -> Result<(Item, us
         → result ≡ Err (fault_at at reason) }
 {
     measure_front(octets, depth)?;
-    Ok(build_item(alloc, octets, 0, depth)?)
+    Ok(build_front(alloc, octets, depth)?)
 }
 
 /// The item of a message's text, or None where the text is empty. A text is one item, whose lists are nested at most
@@ -158,6 +179,5 @@ pub fn decode_text(alloc: Global, octets: &[u8], depth: u8) -> Result<Option<Ite
     if octets.is_empty() {
         return Ok(None);
     }
-    let (item, _) = build_item(alloc, octets, 0, depth)?;
-    Ok(Some(item))
+    Ok(Some(build_text(alloc, octets, depth)?))
 }

@@ -149,6 +149,7 @@ fn push_item(octets: &mut Vec<u8>, item: &Item) -> Result<(), AllocError>
 
 /// The item's shortest octets: the fewest length octets everywhere, and 01 for true. `TooLarge` is told before memory
 /// is asked for.
+#[tactic(auto, using(crate::proofs::Uniqueness::short_spells))]
 pub fn encode(alloc: Global, item: &Item) -> Result<Vec<u8>, ItemFault>
     ensures ok { IfOk result (λ octets. short (view item.now) ≡ Some octets.items) }
     ensures spells { IfOk result (λ octets. Spells (view item.now) octets.items) }

@@ -207,23 +207,26 @@ fn texts(rt: HostRuntime) -> Result<(), Fail> {
     judge_empty(&rt, rt.alloc())?;
     assert_measured_text(&rt, measure_text(b"", DEPTH), Ok(()));
     assert_measured_text(&rt, measure_text(LISTS, 2), Ok(()));
-    let octets = b"\x01\x01\x01\x00\x00\x00";
-    let trailing = ItemFault::Trailing { at: 4 };
-    assert_measured_text(&rt, measure_text(octets, DEPTH), Err(trailing));
-    assert_fault(&rt, decode_text(rt.alloc(), octets, DEPTH).err(), trailing);
     Ok(())
 }
 
-/// The front of the octets has this fault.
+/// The octets have this fault, read as an item at their front and as a text, which is told from their measure alone.
 fn expect_fault(rt: &impl Abort, alloc: Global, octets: &[u8], depth: u8, fault: ItemFault)
     requires { depth ≤ 100 }
 {
     assert_measured(rt, measure_front(octets, depth), Err(fault));
     assert_fault(rt, decode_front(alloc, octets, depth).err(), fault);
+    if !octets.is_empty() {
+        assert_measured_text(rt, measure_text(octets, depth), Err(fault));
+        assert_fault(rt, decode_text(alloc, octets, depth).err(), fault);
+    }
 }
 
+// The tests whose names begin with `no_growth` ask for no memory, but for what they make beforehand. That is seen from
+// outside, where each allocation is refused in turn.
+
 #[test]
-fn faults(rt: HostRuntime) {
+fn no_growth_for_a_fault(rt: HostRuntime) {
     let truncated = ItemFault::Truncated { at: 0 };
     let ragged = ItemFault::Ragged { at: 0 };
     for (octets, fault) in [
@@ -252,7 +255,7 @@ fn faults(rt: HostRuntime) {
 }
 
 #[test]
-fn cut_off(rt: HostRuntime) {
+fn no_growth_for_a_cut(rt: HostRuntime) {
     let whole = b"\x01\x02\x41\x02\x41\x42\xa5\x02\x01\xff";
     for (length, at) in [
         (0, 0),
@@ -274,7 +277,7 @@ fn cut_off(rt: HostRuntime) {
 }
 
 #[test]
-fn lists_that_claim_too_much(rt: HostRuntime) {
+fn no_growth_for_lists_that_claim_too_much(rt: HostRuntime) {
     let octets = [[0x03, 0xff, 0xff, 0xff]; 101];
     let octets = octets.as_flattened();
     expect_fault(&rt, rt.alloc(), octets, 100, ItemFault::Deep { at: 400 });
@@ -286,6 +289,78 @@ fn lists_that_claim_too_much(rt: HostRuntime) {
         100,
         ItemFault::Truncated { at: 400 },
     );
+}
+
+#[test]
+fn no_growth_for_a_text_with_more_behind_it(rt: HostRuntime) {
+    let octets = b"\x01\x01\x01\x00\x00\x00";
+    let trailing = ItemFault::Trailing { at: 4 };
+    assert_measured_text(&rt, measure_text(octets, DEPTH), Err(trailing));
+    assert_fault(&rt, decode_text(rt.alloc(), octets, DEPTH).err(), trailing);
+}
+
+/// An item of each type, its type and how many values it has.
+const FORMATS: &[(&[u8], (&str, usize))] = &[
+    (b"\x01\x01\x01\0", ("L", 1)),
+    (b"\x21\x01\0", ("B", 1)),
+    (b"\x25\x01\0", ("BOOLEAN", 1)),
+    (b"\x41\x01\0", ("A", 1)),
+    (b"\x45\x01\0", ("J", 1)),
+    (b"\x49\x01\0", ("C2", 1)),
+    (b"\x61\x08\0\0\0\0\0\0\0\0", ("I8", 1)),
+    (b"\x65\x01\0", ("I1", 1)),
+    (b"\x69\x02\0\0", ("I2", 1)),
+    (b"\x71\x04\0\0\0\0", ("I4", 1)),
+    (b"\x81\x08\0\0\0\0\0\0\0\0", ("F8", 1)),
+    (b"\x91\x04\0\0\0\0", ("F4", 1)),
+    (b"\xa1\x08\0\0\0\0\0\0\0\0", ("U8", 1)),
+    (b"\xa5\x01\0", ("U1", 1)),
+    (b"\xa9\x02\0\0", ("U2", 1)),
+    (b"\xb1\x04\0\0\0\0", ("U4", 1)),
+];
+
+fn kind_of(item: &Item) -> (&'static str, usize) {
+    match item {
+        Item::List(elements) => ("L", elements.len()),
+        Item::Binary(values) => ("B", values.len()),
+        Item::Boolean(values) => ("BOOLEAN", values.len()),
+        Item::Ascii(values) => ("A", values.len()),
+        Item::Jis8(values) => ("J", values.len()),
+        Item::Char2(values) => ("C2", values.len()),
+        Item::I1(values) => ("I1", values.len()),
+        Item::I2(values) => ("I2", values.len()),
+        Item::I4(values) => ("I4", values.len()),
+        Item::I8(values) => ("I8", values.len()),
+        Item::U1(values) => ("U1", values.len()),
+        Item::U2(values) => ("U2", values.len()),
+        Item::U4(values) => ("U4", values.len()),
+        Item::U8(values) => ("U8", values.len()),
+        Item::F4(values) => ("F4", values.len()),
+        Item::F8(values) => ("F8", values.len()),
+    }
+}
+
+fn assert_kind(rt: &impl Abort, item: &Item, want: (&str, usize)) {
+    assert_eq!(rt; kind_of(item), want);
+}
+
+fn judge_kind(
+    rt: &impl Abort,
+    alloc: Global,
+    octets: &[u8],
+    want: (&str, usize),
+) -> Result<(), ItemFault> {
+    let (item, _) = decode_front(alloc, octets, DEPTH)?;
+    assert_kind(rt, &item, want);
+    Ok(())
+}
+
+#[test]
+fn each_type(rt: HostRuntime) -> Result<(), Fail> {
+    for (octets, want) in FORMATS {
+        judge_kind(&rt, rt.alloc(), octets, *want)?;
+    }
+    Ok(())
 }
 
 #[test]
@@ -315,10 +390,31 @@ fn greatest_length(rt: HostRuntime) -> Result<(), Fail> {
     let octets = encode(rt.alloc(), &Item::Ascii(text))?;
     assert_eq!(rt; octets.len(), 4 + 0xff_ffff);
     assert!(rt; octets.as_slice().starts_with(b"\x43\xff\xff\xff"));
-    let text = vec![in rt.alloc(); 0u8; 0x100_0000]?;
-    assert_eq!(rt;
-        encode(rt.alloc(), &Item::Ascii(text)).err(),
-        Some(ItemFault::TooLarge)
-    );
+    Ok(())
+}
+
+fn expect_too_large(rt: &impl Abort, alloc: Global, item: &Item) {
+    assert_fault(rt, encode(alloc, item).err(), ItemFault::TooLarge);
+}
+
+fn judge_too_large(rt: &impl Abort, alloc: Global, item: Item) {
+    expect_too_large(rt, alloc, &item);
+}
+
+/// An item that is too large stands behind one that isn't.
+fn judge_too_large_within(rt: &impl Abort, alloc: Global) -> Result<(), AllocError> {
+    let small = Item::Ascii(b"AB".to_vec(alloc)?);
+    let large = Item::Jis8(vec![in alloc; 0u8; 0x100_0000]?);
+    judge_too_large(rt, alloc, Item::List(vec![in alloc; small, large]?));
+    Ok(())
+}
+
+// Five allocations are its own.
+#[test]
+fn no_growth_for_what_is_too_large(rt: HostRuntime) -> Result<(), Fail> {
+    let alloc = rt.alloc();
+    judge_too_large(&rt, alloc, Item::Ascii(vec![in alloc; 0u8; 0x100_0000]?));
+    judge_too_large(&rt, alloc, Item::U8(vec![in alloc; 0u64; 0x20_0000]?));
+    judge_too_large_within(&rt, alloc)?;
     Ok(())
 }

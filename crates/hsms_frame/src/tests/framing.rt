@@ -88,7 +88,7 @@ fn assert_given(
 }
 
 // Messages of each kind, with and without a text.
-const MESSAGES: [&[u8]; 14] = [
+const MESSAGES: &[&[u8]] = &[
     b"\0\0\0\n\xff\xff\0\0\0\x01\0\0\0\x01",
     b"\0\0\0\x0c\0\0\x81\x0d\0\0\0\0\0\x01\x01\0",
     b"\0\0\0\x0b\0\0\x81\x01\0\0\0\0\0\x02@",
@@ -105,12 +105,69 @@ const MESSAGES: [&[u8]; 14] = [
     b"\0\0\0\n\xff\xff\0\0\0\t\0\0\0\x03",
 ];
 
-#[test]
-fn gives_each_message_from_any_two_pieces(rt: HostRuntime) -> Result<(), Fail> {
-    for octets in MESSAGES {
-        gives_back_from_any_two_pieces(&rt, rt.alloc(), octets)?;
+// What else the worked sessions have: control messages.
+const CONTROL: &[&[u8]] = &[
+    b"\0\0\0\n\xff\xff\0\0\0\x01\0\0\0\x06",
+    b"\0\0\0\n\xff\xff\0\x01\0\x02\0\0\0\x06",
+    b"\0\0\0\n\xff\xff\0\0\0\x05\0\0\0\0",
+    b"\0\0\0\n\xff\xff\0\0\0\x05\0\0\0\x02",
+    b"\0\0\0\n\xff\xff\0\0\0\x05\0\0\0\x04",
+    b"\0\0\0\n\xff\xff\0\0\0\x06\0\0\0\x02",
+    b"\0\0\0\n\xff\xff\0\0\0\x06\0\0\0\t",
+    b"\0\0\0\n\xff\xff\0\0\0\t\0\0\0\x02",
+    b"\0\0\0\n\0\0\x01\x02\0\x07\0\0\0\x02",
+    b"\0\0\0\n\xff\xff\x03\x01\0\x07\0\0\0\x05",
+    b"\0\0\0\n\xff\xff\x06\x03\0\x07\0\0\0\t",
+];
+
+// S1F255 and its abort, S9F9 of two primaries, S9F11, other primaries, replies and aborts.
+const DATA_MESSAGES: &[&[u8]] = &[
+    b"\0\0\0\n\0\0\x81\xff\0\0\0\0\0\x02",
+    b"\0\0\0\n\0\0\x01\0\0\0\0\0\0\x02",
+    b"\0\0\0\n\0\0\x81\x01\0\0\xff\xff\xff\xfe",
+    b"\0\0\0\n\0\0\x81\x01\0\0\xff\xff\xff\xff",
+    b"\0\0\0\x16\0\0\t\t\0\0\0\0\0\0!\n\0\0\x81\x01\0\0\xff\xff\xff\xfe",
+    b"\0\0\0\x16\0\0\t\t\0\0\0\0\0\x01!\n\0\0\x81\x01\0\0\xff\xff\xff\xff",
+    b"\0\0\0\x16\0\0\t\x0b\0\0\0\0\0\x01!\n\0\0\x81\x01\0\0\0\0\0\x05",
+    b"\0\0\0\x12\0\0\x01\x02\0\0\0\0\0\x02\x01\x02A\x01AA\x01B",
+    b"\0\0\0\n\0\0\x01\x02\0\0\0\0\0\x02",
+    b"\0\0\0\n\0\0\x01\x02\0\0\0\0\0\x07",
+    b"\0\0\0\n\0\0\x01\x02\0\0\0\0\0\0",
+    b"\0\0\0\n\0\0\x81\x01\0\0\0\0\0\x03",
+    b"\0\0\0\x0c\0\0\x81\x0d\0\0\0\0\0\x07\x01\0",
+    b"\0\0\0\n\0\0\x81\x01\x01\0\0\0\0\x02",
+    b"\0\0\0\n\0\x01\x81\x01\0\0\0\0\0\x02",
+    b"\0\0\0\x0b\0\0\x81\x01\0\0\0\0\0\x03@",
+    b"\0\0\0\x0e\0\0\x82\x19\0\0\0\0\0\x04A\x02AB",
+    b"\0\0\0\x0e\0\0\x02\x1a\0\0\0\0\0\t!\x02\x01\x02",
+    b"\0\0\0\n\0\0\x02\0\0\0\0\0\0\x04",
+    b"\0\0\0\n\0\0\x87\x03\0\0\0\0\0\x08",
+    b"\0\0\0\n\0\0\x07\0\0\0\0\0\0\x08",
+    b"\0\0\0\x16\0\0\t\x01\0\0\0\0\0\x01!\n\0\x01\x81\x01\0\0\0\0\0\x02",
+    b"\0\0\0\x16\0\0\t\x07\0\0\0\0\0\x02!\n\0\0\x81\x01\0\0\0\0\0\x03",
+    b"\0\0\0\x16\0\0\t\x07\0\0\0\0\0\x03!\n\0\0\x82\x19\0\0\0\0\0\x04",
+];
+
+fn gives_each_back(rt: &impl Abort, alloc: Global, messages: &[&[u8]]) -> Result<(), Fail> {
+    for octets in messages {
+        gives_back_from_any_two_pieces(rt, alloc, octets)?;
     }
     Ok(())
+}
+
+#[test]
+fn gives_each_message_from_any_two_pieces(rt: HostRuntime) -> Result<(), Fail> {
+    gives_each_back(&rt, rt.alloc(), MESSAGES)
+}
+
+#[test]
+fn gives_each_control_message_from_any_two_pieces(rt: HostRuntime) -> Result<(), Fail> {
+    gives_each_back(&rt, rt.alloc(), CONTROL)
+}
+
+#[test]
+fn gives_each_data_message_from_any_two_pieces(rt: HostRuntime) -> Result<(), Fail> {
+    gives_each_back(&rt, rt.alloc(), DATA_MESSAGES)
 }
 
 fn gives_back_from_any_two_pieces(

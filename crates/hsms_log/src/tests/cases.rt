@@ -37,6 +37,45 @@ pub const WRITTEN: &[&str] = &[
     "18446744073709551615 up",
 ];
 
+/// What is no line of an entry, nor a comment.
+pub const NO_LINES: &[&str] = &[
+    "18446744073709551616 up",
+    " ",
+    " # comment",
+    "up",
+    " 0 up",
+    "0 up ",
+    "0  up",
+    "0\tup",
+    "0 Up",
+    "00 up",
+    "-0 up",
+    "+0 up",
+    "0x0 up",
+    "0 up up",
+    "0 >",
+    "0 > ",
+    "0 >ffff0000000100000001",
+    "0 > ffff00000001000000",
+    "0 > ffff000000010000000",
+    "0 > ffff000000010000000g",
+    "0 > ffff00000001000000010",
+    "0 > ffff0000 000100000001",
+    "0 ? ffff0000000100000001",
+    "0 t3",
+    "0 t3 2",
+    "0 t3 0000002",
+    "0 t3 000000002",
+    "0 t3 0000000g",
+    "0 T3 00000002",
+    "0 cut",
+    "0 cut t3",
+    "0 cut t5",
+    "0 cut T6",
+    "0 cut lengths",
+    "0 downs",
+];
+
 pub const FIRST_LINES: &[&str] = &[
     "hsms-log 1 host active 0 45000 6000 10000 5000 1048576 32",
     "hsms-log 1 host passive 1 1 1 1 1 256 1",
@@ -293,6 +332,19 @@ pub const CASES: &[Case] = &[
         }),
     },
     Case {
+        name: "capital digits of an expiry",
+        after: SELECTED,
+        lines: "1000 > 0000810100000000000a\n46000 t3 0000000A\n46001 down\n",
+        verdict: Verdict::Pass(Summary {
+            entries: 6,
+            sent: 2,
+            taken: 1,
+            discarded: 0,
+            expired: 1,
+            waiting: 0,
+        }),
+    },
+    Case {
         name: "a zero before a number",
         after: FIRST,
         lines: "00 up\n",
@@ -312,6 +364,46 @@ pub const CASES: &[Case] = &[
             discarded: 0,
             expired: 0,
             waiting: 0,
+        }),
+    },
+    Case {
+        name: "a line that fails behind lines that carry nothing",
+        after: FIRST,
+        lines: "# x\n\n0 up\n#\n0 up\n",
+        verdict: Verdict::Fail {
+            line: 6,
+            why: Why::Broken(Rule::NotUp),
+        },
+    },
+    Case {
+        name: "an unreadable line before one that breaks a rule",
+        after: FIRST,
+        lines: "0 up\nx\n0 up\n",
+        verdict: Verdict::Fail {
+            line: 3,
+            why: Why::Unreadable,
+        },
+    },
+    Case {
+        name: "a line that breaks a rule before an unreadable one",
+        after: FIRST,
+        lines: "0 up\n0 up\nx\n",
+        verdict: Verdict::Fail {
+            line: 3,
+            why: Why::Broken(Rule::NotUp),
+        },
+    },
+    Case {
+        name: "a cut is no expiry of a primary",
+        after: SELECTED,
+        lines: "1000 > 00008101000000000002\n1000 > ffff0000000500000003\n7001 cut t6\n7001 down\n",
+        verdict: Verdict::Pass(Summary {
+            entries: 7,
+            sent: 3,
+            taken: 1,
+            discarded: 0,
+            expired: 0,
+            waiting: 1,
         }),
     },
 ];

@@ -7,14 +7,14 @@ use std::alloc::{AllocError, Global};
 use std::process::Abort;
 use std::test::Fail;
 
-const LOG: &[u8] = b"hsms-log 1 host active 0 45000 6000 10000 5000 1048576 32\n\
+pub const LOG: &[u8] = b"hsms-log 1 host active 0 45000 6000 10000 5000 1048576 32\n\
     0 up\n\
     0 > ffff0000000100000001\n\
     5 < ffff0000000200000001\n\
     1000 > 00008101000000000002\n\
     46000 < 000001020000000000020102410141410142\n";
 
-const PASS: &[u8] = b"pass entries=5 sent=2 taken=2 discarded=0 expired=0 waiting=0\n";
+pub const PASS: &[u8] = b"pass entries=5 sent=2 taken=2 discarded=0 expired=0 waiting=0\n";
 
 #[derive(Drop)]
 struct Run {
@@ -31,9 +31,9 @@ impl Run {
     }
 }
 
-fn audited(alloc: Global, log: &[u8], pulls: u64, gives: u64) -> Result<Run, AllocError> {
-    let mut source = Feed::new(Vec::from_slice(alloc, log)?, 100, pulls);
-    let mut sink = Store::new(vec![in alloc; 0u8; 128]?, 11, gives);
+fn audited(alloc: Global, log: &[u8]) -> Result<Run, AllocError> {
+    let mut source = Feed::new(Vec::from_slice(alloc, log)?, 100, u64::MAX);
+    let mut sink = Store::new(vec![in alloc; 0u8; 128]?, 11, u64::MAX);
     let result = audit_to(alloc, &mut source, &mut sink);
     let written = Vec::from_slice(alloc, sink.written())?;
     Ok(Run { result, written })
@@ -52,7 +52,7 @@ fn judge_log(
     passes: bool,
     line: &[u8],
 ) -> Result<(), Fail> {
-    let run = audited(alloc, log, u64::MAX, u64::MAX)?.or_want_of_memory()?;
+    let run = audited(alloc, log)?.or_want_of_memory()?;
     assert_verdict(rt, &run, passes, line);
     Ok(())
 }
@@ -65,24 +65,6 @@ fn tells_the_verdict(rt: HostRuntime) -> Result<(), Fail> {
     late.extend_from_slice(b"3 down")?;
     judge_log(&rt, alloc, &late, false, b"fail line=7 rule=Backwards\n")?;
     judge_log(&rt, alloc, &[], false, b"fail line=1 unreadable\n")
-}
-
-// A device failed once so much was written.
-fn assert_device(rt: &impl Abort, run: &Run, want: &str, written: u64) {
-    assert!(rt;
-        matches!(&run.result, Err(ToolFault::Device(word)) if *word == want),
-        "{want}"
-    );
-    assert_eq!(rt; run.written.len() as u64, written);
-}
-
-// After so many calls the source fails, and in a second run the sink.
-fn judge_devices(rt: &impl Abort, alloc: Global, calls: u64) -> Result<(), Fail> {
-    let run = audited(alloc, LOG, calls, u64::MAX)?.or_want_of_memory()?;
-    assert_device(rt, &run, "Read", 0);
-    let run = audited(alloc, LOG, u64::MAX, calls)?.or_want_of_memory()?;
-    assert_device(rt, &run, "Write", calls.saturating_mul(11));
-    Ok(())
 }
 
 fn judge_row(rt: &impl Abort, alloc: Global, row: Row) -> Result<(), Fail> {
@@ -102,18 +84,10 @@ fn tells_the_verdict_on_two_connections(rt: HostRuntime) -> Result<(), Fail> {
     Ok(())
 }
 
-#[test]
-fn tells_which_device_failed(rt: HostRuntime) -> Result<(), Fail> {
-    for calls in 0..3 {
-        judge_devices(&rt, rt.alloc(), calls)?;
-    }
-    Ok(())
-}
-
 // Where its own input is refused, this test has nothing to say.
 #[test]
 fn refused_verdicts(rt: HostRuntime) -> Result<(), Fail> {
-    let Ok(run) = audited(rt.alloc(), LOG, u64::MAX, u64::MAX) else {
+    let Ok(run) = audited(rt.alloc(), LOG) else {
         return Ok(());
     };
     match &run.result {

@@ -1,4 +1,4 @@
-use super::{Run, assert_count, assert_device, assert_done, assert_octets, assert_refused};
+use super::{Run, assert_done, assert_octets, assert_refused};
 use crate::encoding::encode_all;
 use hsms_frame::{Feed, Store};
 use hsms_options::ToolFault;
@@ -11,15 +11,9 @@ const NOTATION: &str = "S6F11 W <L <A \"AB\"> <U1 1 255>> .";
 const FRAME: &str = "000000140000860b000000000001010241024142a50201ff\n";
 
 // What is written of a text as lines of hexadecimal, with `max` 256 and depth 32.
-fn encoded(
-    alloc: Global,
-    text: &str,
-    system: u32,
-    pulls: u64,
-    gives: u64,
-) -> Result<Run, AllocError> {
-    let mut source = Feed::new(Vec::from_slice(alloc, text.as_bytes())?, 7, pulls);
-    let mut sink = Store::new(vec![in alloc; 0u8; 256]?, 11, gives);
+fn encoded(alloc: Global, text: &str, system: u32) -> Result<Run, AllocError> {
+    let mut source = Feed::new(Vec::from_slice(alloc, text.as_bytes())?, 7, u64::MAX);
+    let mut sink = Store::new(vec![in alloc; 0u8; 256]?, 11, u64::MAX);
     let result = encode_all(alloc, &mut source, &mut sink, 0, system, 256, 32, true);
     let written = Vec::from_slice(alloc, sink.written())?;
     Ok(Run { result, written })
@@ -44,7 +38,7 @@ fn judge_encoded(
     system: u32,
     lines: &str,
 ) -> Result<(), Fail> {
-    let run = encoded(alloc, text, system, u64::MAX, u64::MAX)?.or_want_of_memory()?;
+    let run = encoded(alloc, text, system)?.or_want_of_memory()?;
     assert_done(rt, &run, lines.as_bytes(), text);
     Ok(())
 }
@@ -59,7 +53,7 @@ fn encodes_messages(rt: HostRuntime) -> Result<(), Fail> {
 
 // A text is refused under these words, and nothing is written.
 fn judge_refused(rt: &impl Abort, alloc: Global, text: &str, words: &str) -> Result<(), Fail> {
-    let run = encoded(alloc, text, 1, u64::MAX, u64::MAX)?.or_want_of_memory()?;
+    let run = encoded(alloc, text, 1)?.or_want_of_memory()?;
     assert_refused(rt, &run, words, b"");
     Ok(())
 }
@@ -84,29 +78,10 @@ fn writes_nothing_before_all_are_encoded(rt: HostRuntime) -> Result<(), Fail> {
     judge_refused(&rt, alloc, text.as_str(), "TooLong length=257")
 }
 
-// After so many calls the source fails, and in a second run the sink.
-fn judge_devices(rt: &impl Abort, alloc: Global, calls: u64) -> Result<(), Fail> {
-    let run = encoded(alloc, NOTATION, 1, calls, u64::MAX)?.or_want_of_memory()?;
-    assert_device(rt, &run, "Read");
-    assert_count(rt, &run, 0);
-    let run = encoded(alloc, NOTATION, 1, u64::MAX, calls)?.or_want_of_memory()?;
-    assert_device(rt, &run, "Write");
-    assert_count(rt, &run, calls.saturating_mul(11));
-    Ok(())
-}
-
-#[test]
-fn tells_which_device_failed(rt: HostRuntime) -> Result<(), Fail> {
-    for calls in 0..4 {
-        judge_devices(&rt, rt.alloc(), calls)?;
-    }
-    Ok(())
-}
-
 // Where its own input is refused, this test has nothing to say.
 #[test]
 fn refused_frames(rt: HostRuntime) -> Result<(), Fail> {
-    let Ok(run) = encoded(rt.alloc(), NOTATION, 1, u64::MAX, u64::MAX) else {
+    let Ok(run) = encoded(rt.alloc(), NOTATION, 1) else {
         return Ok(());
     };
     match &run.result {

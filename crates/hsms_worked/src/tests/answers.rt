@@ -132,8 +132,11 @@ pub const ANSWERS: &[Case] = &[
         first_system: 1,
         told: &[
             CONNECTED,
-            SELECT,
             (Tick(10), Ok("")),
+            (
+                Comes("ffff0000000100000001"),
+                Ok("10 < ffff0000000100000001\n10 > ffff0000000200000001\n"),
+            ),
             (
                 Octets(b"\0\0\x01\x01\0\0\x81\x01\0\0\0\0\0\x05"),
                 Ok("10 > 0000090b000000000001210a00008101000000000005\n10 cut length\n10 down\n"),
@@ -149,8 +152,11 @@ pub const ANSWERS: &[Case] = &[
         first_system: 1,
         told: &[
             CONNECTED,
-            SELECT,
             (Tick(10), Ok("")),
+            (
+                Comes("ffff0000000100000001"),
+                Ok("10 < ffff0000000100000001\n10 > ffff0000000200000001\n"),
+            ),
             (Octets(b"\0\0\0\x09"), Ok("10 cut length\n10 down\n")),
         ],
         pending: b"\0\0\0\x09",

@@ -7,11 +7,12 @@ use super::{
 };
 use secs_item::Item;
 
-/// Equipment that was selected, with MAX 256 and first system bytes 1.
+/// Equipment that was selected at 10, with MAX 256 and first system bytes 1.
 fn selected(alloc: Global) -> Result<End<EquipmentDesk>, Fail> {
     let given = settings(Role::Equipment, Side::Passive, 256).ok_or("the settings")?;
     let mut end = end_of(alloc, given, equipment(alloc)?, 1);
-    tell_well(alloc, &mut end, Start(10))?;
+    tell_well(alloc, &mut end, Start(0))?;
+    tell_well(alloc, &mut end, Tick(10))?;
     tell_well(alloc, &mut end, Comes("ffff0000000100000001"))?;
     Ok(end)
 }
@@ -34,13 +35,12 @@ fn sent(entries: &[Entry]) -> Option<(usize, u32)> {
 
 /// What comes of sending S1F1 with an item.
 fn send_item(
-    alloc: Global,
     wait: bool,
     item: Option<Item>,
     end: &mut End<EquipmentDesk>,
 ) -> Result<Option<(usize, u32)>, EndFault> {
     let input = Input::Send(Message::new(1, 1, wait, item));
-    let entries = tell(alloc, end, &input)?;
+    let entries = tell(end, &input)?;
     Ok(sent(&entries))
 }
 
@@ -69,12 +69,11 @@ fn fault_of(answer: Result<Option<(usize, u32)>, EndFault>) -> Result<Option<End
 /// An item is refused with a fault.
 fn assert_refused(
     rt: &impl Abort,
-    alloc: Global,
     end: &mut End<EquipmentDesk>,
     item: Item,
     want: EndFault,
 ) -> Result<(), Fail> {
-    let answer = send_item(alloc, false, Some(item), end);
+    let answer = send_item(false, Some(item), end);
     assert_fault(rt, fault_of(answer)?, Some(want), "refused");
     Ok(())
 }
@@ -82,22 +81,21 @@ fn assert_refused(
 /// A message with an item is sent in so many octets, with these system bytes.
 fn assert_sent(
     rt: &impl Abort,
-    alloc: Global,
     end: &mut End<EquipmentDesk>,
     wait: bool,
     item: Option<Item>,
     want: (usize, u32),
 ) -> Result<(), Fail> {
-    let answer = send_item(alloc, wait, item, end)?;
+    let answer = send_item(wait, item, end)?;
     assert_eq!(rt; answer, Some(want));
     Ok(())
 }
 
 /// No transaction is open for another primary that awaits a reply, nor for a Linktest.req.
-fn assert_full(rt: &impl Abort, alloc: Global, end: &mut End<EquipmentDesk>) {
-    let full = send_item(alloc, true, None, end);
+fn assert_full(rt: &impl Abort, end: &mut End<EquipmentDesk>) {
+    let full = send_item(true, None, end);
     assert_fault(rt, full.err(), Some(EndFault::Full), "a primary");
-    let full = tell(alloc, end, &Input::Linktest);
+    let full = tell(end, &Input::Linktest);
     assert_fault(rt, full.err(), Some(EndFault::Full), "a linktest");
 }
 
@@ -107,10 +105,10 @@ fn judge_greatest(
     alloc: Global,
     end: &mut End<EquipmentDesk>,
 ) -> Result<(), Fail> {
-    assert_refused(rt, alloc, end, zeros(alloc, 245)?, EndFault::TooLong)?;
-    assert_refused(rt, alloc, end, nested(alloc, 33)?, EndFault::TooDeep)?;
-    assert_sent(rt, alloc, end, false, Some(zeros(alloc, 244)?), (256, 1))?;
-    assert_sent(rt, alloc, end, false, Some(nested(alloc, 32)?), (74, 2))
+    assert_refused(rt, end, zeros(alloc, 245)?, EndFault::TooLong)?;
+    assert_refused(rt, end, nested(alloc, 33)?, EndFault::TooDeep)?;
+    assert_sent(rt, end, false, Some(zeros(alloc, 244)?), (256, 1))?;
+    assert_sent(rt, end, false, Some(nested(alloc, 32)?), (74, 2))
 }
 
 #[test]
@@ -120,12 +118,12 @@ fn the_greatest_items(rt: HostRuntime) -> Result<(), Fail> {
 }
 
 /// 64 transactions are open at most.
-fn judge_open(rt: &impl Abort, alloc: Global, end: &mut End<EquipmentDesk>) -> Result<(), Fail> {
+fn judge_open(rt: &impl Abort, end: &mut End<EquipmentDesk>) -> Result<(), Fail> {
     for system in 1..=64u32 {
-        assert_sent(rt, alloc, end, true, None, (10, system))?;
+        assert_sent(rt, end, true, None, (10, system))?;
     }
-    assert_full(rt, alloc, end);
-    assert_sent(rt, alloc, end, false, None, (10, 65))?;
+    assert_full(rt, end);
+    assert_sent(rt, end, false, None, (10, 65))?;
     assert_eq!(rt; end.own_open(), 64);
     Ok(())
 }
@@ -133,7 +131,7 @@ fn judge_open(rt: &impl Abort, alloc: Global, end: &mut End<EquipmentDesk>) -> R
 #[test]
 fn the_most_own_transactions(rt: HostRuntime) -> Result<(), Fail> {
     let mut end = selected(rt.alloc())?;
-    judge_open(&rt, rt.alloc(), &mut end)
+    judge_open(&rt, &mut end)
 }
 
 /// Answers by the stream: 1 with no item, 2 with nothing, any other one with want of memory.
@@ -167,6 +165,18 @@ const ANSWERED_BY_STREAM: Case = Case {
         (
             Comes("0000810d000000000007"),
             Ok("0 < 0000810d000000000007\n0 > 0000010e000000000007\n"),
+        ),
+        (
+            Comes("000081fb000000000007"),
+            Ok("0 < 000081fb000000000007\n0 > 000001fc000000000007\n"),
+        ),
+        (
+            Comes("000081fd000000000007"),
+            Ok("0 < 000081fd000000000007\n0 > 000001fe000000000007\n"),
+        ),
+        (
+            Comes("000001fe000000000007"),
+            Ok("0 ! 000001fe000000000007\n"),
         ),
         (
             Comes("000081ff000000000007"),
@@ -262,13 +272,39 @@ fn assert_due<D: Desk>(
     Ok(())
 }
 
-#[test]
-fn when_an_end_is_due(rt: HostRuntime) -> Result<(), Fail> {
-    let alloc = rt.alloc();
-    let given = settings(Role::Host, Side::Active, 256).ok_or("the settings")?;
+/// Equipment that starts so late that T7 ends past the greatest moment, and T8 before it.
+const DUE_LATE: &[(Told, Option<u64>)] = &[
+    (Start(u64::MAX - 9999), None),
+    (Octets(b"\0"), Some(u64::MAX - 4999)),
+    (Lost, None),
+];
+
+/// T8 ends at the greatest moment, and past it.
+const DUE_LAST: &[(Told, Option<u64>)] = &[
+    (Start(u64::MAX - 5000), None),
+    (Octets(b"\0"), Some(u64::MAX)),
+    (Tick(u64::MAX - 4999), Some(u64::MAX)),
+    (Octets(b"\0"), None),
+];
+
+fn judge_due(
+    rt: &impl Abort,
+    alloc: Global,
+    role: Role,
+    side: Side,
+    rows: &[(Told, Option<u64>)],
+) -> Result<(), Fail> {
+    let given = settings(role, side, 256).ok_or("the settings")?;
     let mut end = end_of(alloc, given, HostDesk, 1);
-    for (told, due) in DUE {
-        assert_due(&rt, alloc, &mut end, *told, *due)?;
+    for (told, due) in rows {
+        assert_due(rt, alloc, &mut end, *told, *due)?;
     }
     Ok(())
+}
+
+#[test]
+fn when_an_end_is_due(rt: HostRuntime) -> Result<(), Fail> {
+    judge_due(&rt, rt.alloc(), Role::Host, Side::Active, DUE)?;
+    judge_due(&rt, rt.alloc(), Role::Equipment, Side::Passive, DUE_LATE)?;
+    judge_due(&rt, rt.alloc(), Role::Equipment, Side::Passive, DUE_LAST)
 }

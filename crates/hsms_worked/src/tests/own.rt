@@ -1,7 +1,8 @@
 //! Own messages and timers.
 
 use super::{
-    CONNECTED, CONNECTING, Case, Comes, Linktest, Lost, Octets, SELECTED, Send, Separate, Tick,
+    CONNECTED, CONNECTING, Case, Comes, Linktest, Lost, Octets, SELECT, SELECTED, Send, Separate,
+    Tick,
 };
 use hsms_ends::EndFault;
 use hsms_machine::{Role, Side};
@@ -62,7 +63,6 @@ pub const OWN: &[Case] = &[
             (Tick(1000), Ok("")),
             (Send("S1F1 W ."), Ok("1000 > 000081010000fffffffe\n")),
             (Send("S1F1 W ."), Ok("1000 > 000081010000ffffffff\n")),
-            (Tick(46000), Ok("")),
             (
                 Tick(46001),
                 Ok(
@@ -92,6 +92,26 @@ pub const OWN: &[Case] = &[
             (
                 Tick(46001),
                 Ok("46001 t3 fffffffe\n46001 t3 ffffffff\n46001 cut t6\n46001 down\n"),
+            ),
+        ],
+        pending: b"",
+    },
+    Case {
+        name: "one of two primaries of equipment expires",
+        role: Role::Equipment,
+        side: Side::Passive,
+        max: 1_048_576,
+        first_system: 1,
+        told: &[
+            CONNECTED,
+            SELECT,
+            (Send("S1F1 W ."), Ok("0 > 00008101000000000001\n")),
+            (Tick(1), Ok("")),
+            (Send("S1F1 W ."), Ok("1 > 00008101000000000002\n")),
+            (Tick(45000), Ok("")),
+            (
+                Tick(45001),
+                Ok("45001 t3 00000001\n45001 > 00000909000000000003210a00008101000000000001\n"),
             ),
         ],
         pending: b"",

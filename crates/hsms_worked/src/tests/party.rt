@@ -44,7 +44,7 @@ impl<D: Desk + Drop> Party<D> {
 
     /// Tells the end one input. A refused one leads to nothing.
     pub fn tell(&mut self, alloc: Global, input: &Input) -> Result<(), Fail> {
-        match tell(alloc, &mut self.end, input) {
+        match tell(&mut self.end, input) {
             Ok(entries) => self.note(alloc, &entries),
             Err(EndFault::Memory) => Err(EndFault::Memory.into()),
             Err(_) => Ok(()),

@@ -7,7 +7,7 @@ use Rattle.hsms_ends.specs.PutOut.{AllFitLengthField}
 use Rattle.hsms_ends.specs.Link.{moment_heard}
 use Rattle.hsms_ends.proofs.Readiness.{fits}
 use Rattle.hsms_ends.proofs.Turning.{takes_by, leads_itself}
-use Rattle.hsms_ends.proofs.Yielding.{yields_along, yields_asked, yields_asked_alone}
+use Rattle.hsms_ends.proofs.Yielding.{yields_as, yields_asked, yields_asked_alone}
 use Rattle.hsms_ends.proofs.serving.begin.Goals as goal
 
 pub deliver-requires : goal.deliver-requires
@@ -27,8 +27,8 @@ returns-in-Ok g c =
         end' = c.start-answer.new.self;
         takes = takes_by g.D.Desk.answers c.deliver.result c.args.end.now (start now) c.in-Ok.entries.items c.start-answer.new.self c.in-Ok.ensures;
         leads = leads_itself c.deliver.result c.start-answer.new.self;
-        yields = yields_along c.deliver.result log log' (told c.args.link.now) (told c.deliver.new.link) c.args.count.now c.deliver.new.count _ _ (moment_heard now) c.deref.ensures.value
-            (yields_asked c.deliver.result log log' (told c.args.link.now) (told c.now-now.new.link) (told c.deliver.new.link) c.args.count.now c.deliver.new.count now _ c.now-now.ensures c.deliver.ensures);
+        yields = yields_as c.deliver.result log log' (told c.args.link.now) (told c.deliver.new.link) c.args.count.now c.deliver.new.count _ _ (moment_heard now) c.deref.ensures.value
+            (yields_asked c.deliver.result log log' (told c.args.link.now) (told c.now-now.new.link) (told c.deliver.new.link) c.args.count.now c.deliver.new.count now _ _ c.now-now.ensures c.deliver.ensures);
       },
     )
 

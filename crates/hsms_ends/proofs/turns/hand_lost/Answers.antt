@@ -7,7 +7,7 @@ use Rattle.hsms_ends.specs.PutOut.{AllFitLengthField}
 use Rattle.hsms_ends.specs.Link.{nothing_heard}
 use Rattle.hsms_ends.proofs.Readiness.{fits}
 use Rattle.hsms_ends.proofs.Turning.{takes_by, leads_itself}
-use Rattle.hsms_ends.proofs.Yielding.{yields_along, yields_memory, yields_nothing}
+use Rattle.hsms_ends.proofs.Yielding.{yields_as, yields_memory, yields_nothing}
 use Rattle.hsms_ends.proofs.turns.hand_lost.Goals as goal
 
 pub deliver-requires : goal.deliver-requires
@@ -25,7 +25,7 @@ returns-in-Ok g c =
       end' = c.lost-answer.new.self;
       takes = takes_by g.D.Desk.answers c.deliver.result c.args.end.now lost c.in-Ok.entries.items c.lost-answer.new.self c.in-Ok.ensures;
       leads = leads_itself c.deliver.result c.lost-answer.new.self;
-      yields = yields_along c.deliver.result log log' (told c.args.link.now) (told c.deliver.new.link) c.args.count.now c.deliver.new.count _ _ nothing_heard c.deref.ensures.value c.deliver.ensures;
+      yields = yields_as c.deliver.result log log' (told c.args.link.now) (told c.deliver.new.link) c.args.count.now c.deliver.new.count _ _ nothing_heard c.deref.ensures.value c.deliver.ensures;
     }
 
 pub returns-in-Err : goal.returns-in-Err
@@ -37,5 +37,5 @@ returns-in-Err g c =
       end' = c.args.end.now;
       takes = inr (refl, refl);
       leads = tt;
-      yields = yields_memory log log (told c.args.link.now) (told c.args.link.now) c.args.count.now c.args.count.now [] nothing_heard (yields_nothing log (told c.args.link.now) c.args.count.now);
+      yields = yields_memory log log (told c.args.link.now) (told c.args.link.now) c.args.count.now c.args.count.now [] [] nothing_heard (yields_nothing log (told c.args.link.now) c.args.count.now);
     }

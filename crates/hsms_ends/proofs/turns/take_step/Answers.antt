@@ -7,7 +7,7 @@ use Rattle.hsms_ends.specs.Turning.{input_of}
 use Rattle.hsms_ends.proofs.Readiness.{fits}
 use Rattle.hsms_ends.proofs.TurnLists.{drop_next}
 use Rattle.hsms_ends.proofs.Turning.{continued_memory, declined, refused_by, stepped}
-use Rattle.hsms_ends.proofs.Yielding.{yields_along}
+use Rattle.hsms_ends.proofs.Yielding.{yields_as}
 use Rattle.hsms_ends.proofs.turns.take_step.Goals as goal
 
 pub deliver-requires : goal.deliver-requires
@@ -24,7 +24,7 @@ returns-in-Ok g c =
     let before = c.args.progress.now in
     stepped g.D.Desk.answers c.deliver.result c.args.end.now c.tell-answer.new.end script before.place c.index-script-place.result log log' (told c.args.link.now) (told c.deliver.new.link) before.entries c.deliver.new.count before.refused c.in-Ok.entries.items
     c.requires.up c.requires.due (drop_next script before.place c.index-script-place.result c.requires.within ∙ ap (λ s. s ∷ drop (before.place + 1) script) (sym c.index-script-place.is)) c.in-Ok.ensures
-    (yields_along c.deliver.result log log' (told c.args.link.now) (told c.deliver.new.link) before.entries c.deliver.new.count _ _ nothing_heard c.deref.ensures.value c.deliver.ensures)
+    (yields_as c.deliver.result log log' (told c.args.link.now) (told c.deliver.new.link) before.entries c.deliver.new.count _ _ nothing_heard c.deref.ensures.value c.deliver.ensures)
 
 pub returns-then-eq : goal.returns-then-eq
 returns-then-eq g c =

@@ -3,6 +3,7 @@ use Rattle.std.proofs.lemmas.Result.{err_from_is_err_and}
 use Rattle.std.proofs.lemmas.List.{length-drop}
 use Rattle.hsms_frame.specs.Frame.{IsOctets}
 use Rattle.hsms_frame.proofs.Spelled.{behind}
+use Rattle.hsms_frame.proofs.Determined.{one_answer_told}
 use Rattle.hsms_frame.proofs.Exits.{behind-drop, cut_at_length, cut_at_header, cut_at_text, too_short, too_long, read_whole}
 use Rattle.hsms_frame.proofs.read.read_message.Goals as goal
 
@@ -50,3 +51,24 @@ returns-clause-answer g c = λ input told.
     let b = c.in_ok-read_all.ensures.answer (drop 4 input) a.3 in
     read_whole _ input _ _ _ _ (omega (arith, a.0, b.0, length-drop 4 input)) a.1 (omega arith) (omega arith) (omega arith) a.2
     (c.of-header.ensures.spelled ∙ b.1) c.of-header.ensures.fits (c.in_ok-text.ensures.answer (behind input) b.3)
+
+pub returns-in_err-length-clause-only : goal.returns-in_err-length-clause-only
+returns-in_err-length-clause-only g c = one_answer_told _ _ _ _ (returns-in_err-length-clause-answer g c)
+
+pub returns-in_default-clause-only : goal.returns-in_default-clause-only
+returns-in_default-clause-only g c = one_answer_told _ _ _ _ (returns-in_default-clause-answer g c)
+
+pub returns-then-length-clause-only : goal.returns-then-length-clause-only
+returns-then-length-clause-only g c = one_answer_told _ _ _ _ (returns-then-length-clause-answer g c)
+
+pub returns-in_err-read_all-clause-only : goal.returns-in_err-read_all-clause-only
+returns-in_err-read_all-clause-only g c = one_answer_told _ _ _ _ (returns-in_err-read_all-clause-answer g c)
+
+pub returns-then-length-max-clause-only : goal.returns-then-length-max-clause-only
+returns-then-length-max-clause-only g c = one_answer_told _ _ _ _ (returns-then-length-max-clause-answer g c)
+
+pub returns-in_err-text-clause-only : goal.returns-in_err-text-clause-only
+returns-in_err-text-clause-only g c = one_answer_told _ _ _ _ (returns-in_err-text-clause-answer g c)
+
+pub returns-clause-only : goal.returns-clause-only
+returns-clause-only g c = one_answer_told _ _ _ _ (returns-clause-answer g c)

@@ -1,37 +1,13 @@
-use Rattle.std.proofs.Common.{None, IsTrue, IfOk, OnErr, ◌≡◌, subst}
-use Rattle.hsms_machine.specs.declared.entry.Entry.{Entry}
-use Rattle.hsms_machine.specs.Transaction.{opens}
-use Rattle.hsms_machine.specs.View.{IsBrokenAfter, LeadsTo}
-use Rattle.hsms_machine.specs.Step.{IsBrokenAt, view_after}
-use Rattle.hsms_machine.proofs.Parts.{both_of_frame}
+use Rattle.std.proofs.Common.{refl}
+use Rattle.hsms_machine.specs.Entry.{frame_entry}
 use Rattle.hsms_machine.proofs.tracker.Tracker.step_frame.Goals as goal
-
-pub returns-clause-answer : goal.returns-clause-answer
-returns-clause-answer c =
-    subst (λ (x : Entry). IfOk c.judge.result (λ answer. IsBrokenAfter c.args.self.now x answer))
-    (both_of_frame c.args.time c.args.mark c.args.header c.args.text.now c.of_frame-act.result c.of_frame-act.ensures) c.judge.ensures.answer
-
-pub returns-clause-told : goal.returns-clause-told
-returns-clause-told c =
-    subst (λ (x : Entry). IfOk c.judge.result (λ answer. IsBrokenAt c.args.self.now x answer))
-    (both_of_frame c.args.time c.args.mark c.args.header c.args.text.now c.of_frame-act.result c.of_frame-act.ensures) c.judge.ensures.told
-
-pub returns-clause-lawful : goal.returns-clause-lawful
-returns-clause-lawful c =
-    subst (λ (x : Entry). IfOk c.judge.result (λ answer. answer ≡ None → LeadsTo c.args.self.now x c.judge.new.self))
-    (both_of_frame c.args.time c.args.mark c.args.header c.args.text.now c.of_frame-act.result c.of_frame-act.ensures) c.judge.ensures.lawful
 
 pub returns-clause-next : goal.returns-clause-next
 returns-clause-next c =
-    subst (λ (x : Entry). IfOk c.judge.result (λ answer. answer ≡ None → c.judge.new.self ≡ view_after c.args.self.now x))
-    (both_of_frame c.args.time c.args.mark c.args.header c.args.text.now c.of_frame-act.result c.of_frame-act.ensures) c.judge.ensures.next
-
-pub returns-clause-err_lawful : goal.returns-clause-err_lawful
-returns-clause-err_lawful c =
-    subst (λ (x : Entry). OnErr c.judge.result (IsBrokenAfter c.args.self.now x None))
-    (both_of_frame c.args.time c.args.mark c.args.header c.args.text.now c.of_frame-act.result c.of_frame-act.ensures) c.judge.ensures.err_lawful
+    c.judge.ensures.next (frame_entry c.args.time c.args.mark c.args.header c.args.text.now)
+    (record { time_is = refl; act_is = c.of_frame-act.ensures.act c.args.text.now; text_is = c.of_frame-act.ensures.text c.args.text.now })
 
 pub returns-clause-err_opens : goal.returns-clause-err_opens
 returns-clause-err_opens c =
-    subst (λ (x : Entry). OnErr c.judge.result (IsTrue (opens x.event)))
-    (both_of_frame c.args.time c.args.mark c.args.header c.args.text.now c.of_frame-act.result c.of_frame-act.ensures) c.judge.ensures.err_opens
+    c.judge.ensures.err_opens (frame_entry c.args.time c.args.mark c.args.header c.args.text.now)
+    (record { time_is = refl; act_is = c.of_frame-act.ensures.act c.args.text.now; text_is = c.of_frame-act.ensures.text c.args.text.now })

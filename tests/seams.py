@@ -1,0 +1,703 @@
+#!/usr/bin/env python3
+"""Tries what no contract of the command speaks of: its clock, its sockets, signals, its words, its devices, `./hsms`.
+
+A program that does one of these things otherwise is proved all the same. Each test has such a program in mind. Where
+one measures a time, a busy machine makes it longer on both sides of what is compared, or the least of many is taken.
+
+Use: tests/seams.py [PROGRAM]. It runs what `rt ci` has built, or the program that it is given. The last line is
+`N passed, M failed`.
+"""
+import math
+import os
+import random
+import re
+import select
+import shutil
+import signal
+import socket
+import subprocess
+import sys
+import tempfile
+import time
+
+sys.dont_write_bytecode = True
+
+from command import TOP, Answer, answer_of, refuser
+from loopback import (
+    EQUIPMENT_LOG, HERE, PROGRAM, SELECT, SELECTED, SOON, Listening, Peer, Serving, control, data, equipment, events,
+    free_port, passes, same, served,
+)
+
+NO_COMMAND = Answer(2, b"", b"hsms: command line\n")
+NO_WRITE = (3, b"hsms: Write\n")
+NO_LINK = (3, "hsms: Link\n")
+NO_LOG = (3, "hsms: Log\n")
+
+# How long something is watched that goes on, or that doesn't, in seconds.
+A_WHILE = 0.3
+
+
+def within(least, number, greatest):
+    if not least <= number <= greatest:
+        raise AssertionError(f"{number} isn't from {least} to {greatest}")
+
+
+def selected(*options, **others):
+    serving, peer = equipment(*options, **others)
+    peer.send(SELECT)
+    peer.wants(SELECTED)
+    return serving, peer
+
+
+def separated(serving, peer, system):
+    """The peer ends the session; the log, which passes."""
+    peer.send(control(9, system))
+    same(peer.rest(), b"")
+    status, log, told = serving.ended()
+    same((status, told), (0, ""))
+    passes(log)
+    return log
+
+
+# ---- a peer that never reads
+
+
+class Lines:
+    """The lines of a log as they come."""
+
+    def __init__(self, serving):
+        self.file = serving.run.stdout.fileno()
+        self.lines = []
+        self.rest = b""
+
+    def next(self, longest=SOON):
+        """The next line and when it was there, or None where none comes for so long."""
+        end = time.monotonic() + longest
+        while not self.lines:
+            if not select.select([self.file], [], [], max(0, end - time.monotonic()))[0]:
+                return None
+            octets = os.read(self.file, 1 << 20)
+            if not octets:
+                return None
+            now = time.monotonic()
+            *whole, self.rest = (self.rest + octets).split(b"\n")
+            self.lines += [(line.decode(), now) for line in whole]
+        return self.lines.pop(0)
+
+
+class NeverReading:
+    """An equipment with long replies, and a peer that asks for them and never reads one."""
+
+    def __init__(self, t8):
+        self.serving, self.peer = selected("--t8", str(t8), "--mdln", "m" * 60_000)
+        self.peer.stream.setsockopt(socket.SOL_SOCKET, socket.SO_RCVBUF, 4096)
+        self.lines = Lines(self.serving)
+        self.log = []
+        self.system = 1
+        self.ask()
+
+    def ask(self):
+        self.system += 1
+        self.asked = time.monotonic()
+        self.peer.send(data(1, 1, self.system, wait=True))
+
+    def next(self, longest=SOON):
+        """The next line of the log. Where it is that of a reply, the peer asks once more."""
+        self.previous = self.log[-1] if self.log else None
+        line = self.lines.next(longest)
+        if line is not None:
+            self.log.append(line)
+        return line
+
+    def blocked(self, longest):
+        """Asks until no reply goes on: when the last one was asked for and logged, and the line behind it, if any."""
+        asked = logged = self.asked
+        while True:
+            line = self.next(longest)
+            if line is None or line[0].endswith(" down"):
+                return asked, logged, line
+            if " > 00000102" in line[0]:
+                asked, logged = self.asked, line[1]
+                self.ask()
+
+    def is_given_up(self):
+        """The end has logged all, passes, and told that its link failed."""
+        status, _, told = self.serving.ended()
+        same((status, told), NO_LINK)
+        log = "".join(line + "\n" for line, _ in self.log)
+        passes(log)
+        self.peer.close()
+
+
+def a_send_is_given_up_after_t8():
+    """The reply that blocks was asked for before it was sent, and was logged just before it was sent."""
+    t8 = 1
+    never = NeverReading(1000 * t8)
+    asked, logged, line = never.blocked(SOON)
+    if line is None:
+        raise AssertionError("it isn't given up")
+    within(t8 - 0.02, line[1] - asked, math.inf)
+    within(-math.inf, line[1] - logged, 5 * t8)
+    never.is_given_up()
+
+
+# ---- signals
+
+
+def state_of(run):
+    """`T` where it is stopped, `Z` where it has ended."""
+    try:
+        with open(f"/proc/{run.pid}/stat") as file:
+            return file.read().rsplit(") ", 1)[1].split()[0]
+    except FileNotFoundError:
+        return "Z"
+
+
+def stop_and_continue(run):
+    """A signal stops it, and another one lets it go on: a call with a time limit is interrupted by that."""
+    run.send_signal(signal.SIGSTOP)
+    end = time.monotonic() + SOON
+    while state_of(run) not in "TZ" and time.monotonic() < end:
+        time.sleep(0.001)
+    run.send_signal(signal.SIGCONT)
+    if run.poll() is not None:
+        raise AssertionError("it has ended")
+
+
+def a_wait_goes_on_after_a_signal():
+    serving, peer = equipment()
+    same(serving.line_soon("up"), True)
+    for octets in (SELECT[:5], SELECT[5:] + control(5, 2) + control(9, 3)[:3], control(9, 3)[3:]):
+        for _ in range(3):
+            time.sleep(A_WHILE / 10)
+            stop_and_continue(serving.run)
+        peer.send(octets)
+    same(peer.rest(), SELECTED + control(6, 2))
+    served(serving, EQUIPMENT_LOG)
+
+
+def a_blocked_send_ends_at_a_signal():
+    """Long before T8, which is a minute. A first signal may end a send that has moved a part."""
+    never = NeverReading(60_000)
+    end = time.monotonic() + SOON
+    line = None
+    while line is None and time.monotonic() < end:
+        _, _, line = never.blocked(A_WHILE)
+        if line is None:
+            never.serving.run.send_signal(signal.SIGSTOP)
+            time.sleep(A_WHILE)
+            never.serving.run.send_signal(signal.SIGCONT)
+    if line is None:
+        raise AssertionError("it isn't given up")
+    never.is_given_up()
+
+
+# What the peer says, one after the other, and what the end sends of each: a header, and a text for itself.
+SAID = [SELECT, data(1, 1, 2, wait=True), control(5, 3)]
+IDENTITY = data(1, 2, 2, bytes.fromhex("010241014d410131"))
+SENT = [[SELECTED], [IDENTITY[:14], IDENTITY[14:]], [control(6, 3)]]
+
+
+def broken_off(library, **refused):
+    """What comes of a session of which a call is refused: what the peer got, the answer of the end, and its log."""
+    env = {"LD_PRELOAD": library, **{name: str(value) for name, value in refused.items()}}
+    serving, peer = equipment("--mdln", "M", "--softrev", "1", env=env)
+    got = b""
+    try:
+        for said, sent in zip(SAID, SENT):
+            peer.send(said)
+            for piece in sent:
+                got += peer.exactly(len(piece))
+        peer.send(control(9, 4))
+        got += peer.rest()
+    except (AssertionError, BrokenPipeError, ConnectionResetError):
+        pass
+    status, log, told = serving.ended()
+    passes(log)
+    return got, (status, told), events(log)
+
+
+def an_interrupted_receive_is_made_again(library):
+    """A wait that a signal ended early has heard nothing. Each goes on in the next turn."""
+    whole = b"".join(piece for sent in SENT for piece in sent)
+    for refused in range(1, 1 + len(SAID) + 1):
+        got, told, log = broken_off(library, REFUSE_RECV=refused, INTERRUPTED=1)
+        same((got, told, log[-2:]), (whole, (0, ""), ["< ffff0000000900000004", "down"]))
+
+
+def a_failed_receive_ends_it(library):
+    for refused in range(1, 1 + len(SAID) + 1):
+        got, told, log = broken_off(library, REFUSE_RECV=refused)
+        before = b"".join(piece for sent in SENT[:refused - 1] for piece in sent)
+        same((got, told, len(log), log[-1]), (before, NO_LINK, 2 * refused, "down"))
+
+
+def a_failed_send_ends_it(library):
+    """Also one that a signal interrupted: nothing is sent after it."""
+    pieces = [(piece, at) for at, sent in enumerate(SENT, start=1) for piece in sent]
+    for refused, (_, message) in enumerate(pieces, start=1):
+        before = b"".join(piece for piece, _ in pieces[:refused - 1])
+        for how in ({}, {"INTERRUPTED": 1}):
+            got, told, log = broken_off(library, REFUSE_SEND=refused, **how)
+            same((got, told, len(log), log[-1]), (before, NO_LINK, 2 + 2 * message, "down"))
+
+
+# ---- other clients
+
+
+def is_listening(port):
+    with open("/proc/net/tcp") as lines:
+        return any(f":{port:04X} 00000000:0000 0A" in line for line in lines)
+
+
+def a_second_client_is_refused():
+    serving, peer = selected()
+    for _ in range(3):
+        try:
+            socket.create_connection(peer.stream.getpeername(), SOON)
+        except ConnectionRefusedError:
+            continue
+        raise AssertionError("it is connected")
+    peer.send(control(5, 2), control(9, 3))
+    same(peer.rest(), control(6, 2))
+    served(serving, EQUIPMENT_LOG)
+
+
+def of_two_clients_one_is_served():
+    """Both have connected before the end takes the first of them."""
+    port = free_port()
+    serving = Serving("equipment", "passive", port)
+    end = time.monotonic() + SOON
+    while not is_listening(port) and time.monotonic() < end:
+        time.sleep(0.01)
+    serving.run.send_signal(signal.SIGSTOP)
+    first, second = Peer.connected(port), Peer.connected(port)
+    serving.run.send_signal(signal.SIGCONT)
+    first.send(SELECT)
+    first.wants(SELECTED)
+    try:
+        same(second.rest(), b"")
+    except ConnectionResetError:
+        pass
+    first.send(control(5, 2), control(9, 3))
+    same(first.rest(), control(6, 2))
+    served(serving, EQUIPMENT_LOG)
+
+
+# ---- an output that nobody reads
+
+
+def shows_where_nobody_reads(**how):
+    """What `show` ends with by itself, whose input stays open behind a message."""
+    reading, writing = os.pipe()
+    with open("/dev/full", "wb") as full:
+        output = {"pipe": writing, "full": full, "closed": None}[how.pop("to")]
+        show = subprocess.Popen(
+            [PROGRAM, "show"], stdin=subprocess.PIPE, stdout=output, stderr=subprocess.PIPE, **how
+        )
+    os.close(writing)
+    os.close(reading)
+    show.stdin.write(SELECT)
+    show.stdin.flush()
+    try:
+        show.wait(SOON)
+    except subprocess.TimeoutExpired:
+        show.kill()
+        show.wait()
+    told = (show.returncode, show.stderr.read())
+    show.communicate()
+    return told
+
+
+def show_ends_where_nobody_reads():
+    for how in (
+        {"to": "pipe", "preexec_fn": lambda: signal.signal(signal.SIGPIPE, signal.SIG_IGN)},
+        {"to": "pipe", "preexec_fn": lambda: signal.signal(signal.SIGPIPE, signal.SIG_DFL)},
+        {"to": "full"},
+        {"to": "closed", "preexec_fn": lambda: os.close(1)},
+    ):
+        same(shows_where_nobody_reads(**how), NO_WRITE)
+
+
+# ---- words
+
+
+def words_that_are_no_text():
+    for words in (
+        [b"\xff"],
+        [b"show", b"\xff"],
+        [b"\xff", b"show"],
+        [b"show", b"--max", b"\xff"],
+        [b"show", b"--\xff"],
+        [b"encode", b"--hex\xff"],
+        [b"serve", b"--role", b"host", b"--link", b"active", b"--address", b"\xff", b"--port", b"1"],
+    ):
+        same((words, answer_of(words, b"", PROGRAM)), (words, NO_COMMAND))
+
+
+# ---- the clock
+
+# How much a clock may be wrong by, and how long it is looked at, at least and at most, in seconds.
+RATE = 1 / 200
+LEAST_SPAN, LONGEST_SPAN = 2, 15
+
+
+class Asked:
+    """A Linktest, by the peer's clock in milliseconds: it is answered between these two moments."""
+
+    def __init__(self, peer, system):
+        self.system = system
+        self.before = 1000 * time.monotonic()
+        peer.send(control(5, system))
+        peer.wants(control(6, system))
+        self.after = 1000 * time.monotonic()
+
+    @property
+    def length(self):
+        return self.after - self.before
+
+
+def are_close(first, last):
+    """Whether two that were asked bound the time between them closely: a logged time is up to 1 ms too low."""
+    return first.length + last.length + 2 < RATE * (last.before - first.after)
+
+
+def logged_times_are_true():
+    """The clock of the log begins between two moments that each entry tells. If it goes as the peer's, all agree."""
+    serving, peer = selected()
+    asked = [Asked(peer, system) for system in range(2, 32)]
+    begin = min(asked, key=lambda one: one.length)
+    time.sleep(LEAST_SPAN)
+    while not are_close(begin, asked[-1]) and asked[-1].after - begin.before < 1000 * LONGEST_SPAN:
+        asked.append(Asked(peer, asked[-1].system + 1))
+    log = separated(serving, peer, asked[-1].system + 1)
+    times = {line.split(" ")[2]: int(line.split(" ")[0]) for line in log.split("\n") if " < ffff00000005" in line}
+    bounds = [(one, times[f"ffff00000005{one.system:08x}"]) for one in asked]
+    latest = min((one.after - logged, one.system) for one, logged in bounds)
+    earliest = max((one.before - logged - 1, one.system) for one, logged in bounds)
+    if earliest > latest:
+        apart = earliest[0] - latest[0]
+        raise AssertionError(f"by Linktest {earliest[1]} it began {apart} ms later than by {latest[1]}")
+
+
+# ---- small messages
+
+# What takes less isn't held back. An acknowledgement that is put off comes after 40 ms.
+NOT_HELD_BACK = 0.02
+
+
+def least_time(stream, count, ask, tries):
+    """The least time until so many octets come which are written in two pieces, the first of them unacknowledged."""
+    stream.setsockopt(socket.SOL_SOCKET, socket.SO_RCVLOWAT, count)
+    least = math.inf
+    for _ in range(tries):
+        stream.setsockopt(socket.IPPROTO_TCP, socket.TCP_QUICKACK, 0)
+        begin = time.monotonic()
+        ask()
+        select.select([stream], [], [], SOON)
+        least = min(least, time.monotonic() - begin)
+        same(len(stream.recv(count)), count)
+    stream.setsockopt(socket.SOL_SOCKET, socket.SO_RCVLOWAT, 1)
+    return least
+
+
+def between_plain_sockets():
+    """The least time where small pieces are held back."""
+    listening = Listening()
+    with socket.create_connection((HERE, listening.port), SOON) as writing:
+        reading = listening.accepted()
+        least = least_time(reading.stream, 22, lambda: [writing.sendall(bytes(count)) for count in (14, 8)], 5)
+        reading.close()
+    return least
+
+
+def small_messages_are_not_held_back():
+    """A reply is sent in two pieces, its header and its text."""
+    serving, peer = selected("--mdln", "M", "--softrev", "1")
+    reply = data(1, 2, 2, bytes.fromhex("010241014d410131"))
+    within(NOT_HELD_BACK, between_plain_sockets(), math.inf)
+    within(0, least_time(peer.stream, len(reply), lambda: peer.send(data(1, 1, 2, wait=True)), 25), NOT_HELD_BACK)
+    separated(serving, peer, 3)
+
+
+# ---- waits
+
+
+def spent(run):
+    """The processor time of a process in seconds, and how often it has waited."""
+    with open(f"/proc/{run.pid}/stat") as file:
+        user, system = file.read().rsplit(") ", 1)[1].split()[11:13]
+    with open(f"/proc/{run.pid}/status") as file:
+        waits = next(line.split()[1] for line in file if line.startswith("voluntary_ctxt_switches"))
+    return (int(user) + int(system)) / os.sysconf("SC_CLK_TCK"), int(waits)
+
+
+def an_idle_end_does_nothing():
+    """One waits for a client, one for a Select, one for the rest of a message, and one for anything."""
+    lonely = Serving("equipment", "passive", free_port())
+    new, new_peer = equipment()
+    begun, begun_peer = selected()
+    begun_peer.send(SELECT[:5])
+    idle, idle_peer = selected()
+    same(new.line_soon("up"), True)
+    time.sleep(A_WHILE)
+    runs = [each.run for each in (lonely, new, begun, idle)]
+    before = [spent(run) for run in runs]
+    time.sleep(1)
+    for run, (seconds, waits) in zip(runs, before):
+        same(run.poll(), None)
+        now_seconds, now_waits = spent(run)
+        within(0, now_seconds - seconds, 0.2)
+        within(0, now_waits - waits, 20)
+    for peer in (new_peer, begun_peer, idle_peer):
+        peer.close()
+
+
+def a_wait_is_never_of_nothing(library):
+    """Each look at the clock is a millisecond later than the last one, so that some wait begins when it is to end."""
+    for t7 in (5, 6, 7, 8):
+        serving, peer = equipment("--t7", str(t7), env={"LD_PRELOAD": library, "CLOCK_STEP": "1000000"})
+        same(peer.rest(), b"")
+        served(serving, ["up", "cut t7", "down"])
+
+
+# ---- pieces
+
+
+def messages_of(chance, lengths):
+    """Messages to be looped back, of these lengths or one less, each with its answer."""
+    for system, length in enumerate(lengths, start=2):
+        body = length - 17
+        front = b"\x21" if body < 256 else b"\x22"
+        text = front + body.to_bytes(front[0] - 0x20, "big") + bytes(chance.choices(range(256), k=body))
+        yield data(2, 25, system, text, wait=True), data(2, 26, system, text)
+
+
+def pieces_of(chance, octets):
+    while octets:
+        length = chance.choice([1, 2, 3, 13, 14, 100, 4095, 4096, 4097, 10_000])
+        yield octets[:length]
+        octets = octets[length:]
+
+
+def pieces_come_whole():
+    """Around the 4,096 octets that a wait takes at most: messages one by one, and then cut into pieces anyhow."""
+    with tempfile.TemporaryFile() as log:
+        serving, peer = selected(stdout=log)
+        asked = loop_back_pieces(peer)
+        peer.send(control(9, 1))
+        same((peer.rest(), serving.ended()), (b"", (0, None, "")))
+        log.seek(0)
+        told = log.read().decode()
+    passes(told)
+    taken = [event[2:] for event in events(told) if event.startswith("< 0000")]
+    same(taken == 2 * [message[4:].hex() for message in asked], True)
+
+
+def loop_back_pieces(peer):
+    """The messages, each of which was sent twice and answered."""
+    chance = random.Random(20261124)
+    asked = list(messages_of(chance, [20, 4095, 4096, 4097, 8191, 8192, 8193, 12_288, 12_289, 40_000]))
+    for message, answer in asked:
+        peer.send(message)
+        peer.wants(answer)
+    peer.send(*pieces_of(chance, b"".join(message for message, _ in asked)))
+    peer.wants(*(answer for _, answer in asked))
+    return [message for message, _ in asked]
+
+
+def nothing_comes_of_a_quiet_wait():
+    """What follows one is read from its first octet on."""
+    peers = Listening()
+    serving = Serving("host", "active", peers.port, "--t3", "200", script=b"S1F1 W . S1F13 W .")
+    peer = peers.accepted()
+    peer.wants(SELECT)
+    peer.send(SELECTED)
+    peer.wants(data(1, 1, 2, wait=True), data(1, 13, 3, wait=True))
+    peer.send(data(1, 14, 3))
+    peer.wants(control(9, 4))
+    same(peer.rest(), b"")
+    served(
+        serving,
+        [
+            *["up", "> ffff0000000100000001", "< ffff0000000200000001"],
+            *["> 00008101000000000002", "t3 00000002", "> 0000810d000000000003", "< 0000010e000000000003"],
+            *["> ffff0000000900000004", "down"],
+        ],
+    )
+
+
+# ---- a write that fails
+
+
+def served_with_a_failed_write(library, failing):
+    """What comes of a session of which this write to the log fails, once; with each time in the log as 0."""
+    serving, peer = equipment(env={"LD_PRELOAD": library, "REFUSE_WRITE": str(failing)})
+    try:
+        peer.send(SELECT + control(5, 2) + control(9, 3))
+        peer.rest()
+    except (BrokenPipeError, ConnectionResetError):
+        pass
+    status, log, told = serving.ended()
+    return (status, told), re.sub(r"(?m)^\d+", "0", log)
+
+
+def nothing_is_written_after_a_failed_write(library):
+    """The log holds what the writes before it wrote: nothing where the first one fails, and then each time more."""
+    logs = []
+    for failing in range(1, 40):
+        told, log = served_with_a_failed_write(library, failing)
+        logs.append(log)
+        if told == (0, ""):
+            break
+        same(told, NO_LOG)
+    same(events(logs[-1]), EQUIPMENT_LOG)
+    same([logs[-1].startswith(log) for log in logs], [True] * len(logs))
+    same((logs[0], logs), ("", sorted(set(logs), key=len)))
+
+
+# ---- the script `hsms`
+
+STUB = """#!/bin/sh
+echo "$PWD: $*" >> "$CALLS"
+[ -z "$FAILS" ] || exit 1
+mkdir -p out
+printf '#!/bin/sh\\necho "run with $*"\\n' > out/hsms_tool
+chmod +x out/hsms_tool
+"""
+SOURCES = [
+    "crates.txt",
+    "crates/low/src/lib.rt",
+    "crates/low/src/within/more.rt",
+    "crates/low/specs/Lib.antt",
+    "crates/low/proofs/function/Answers.antt",
+    "crates/hsms_tool/src/main.rt",
+]
+NO_SOURCES = ["README.md", "tests/seams.py", "crates/low/must-fail/one.edit", "crates/low/out/kept", "build.log"]
+
+
+class Script:
+    """The script in a repository of its own, where a stub stands for `rt`. Files have the times that they are given."""
+
+    def __init__(self, room):
+        self.room = os.path.realpath(room)
+        self.calls = f"{room}/calls"
+        self.time = 1_000_000_000
+        for name in [*SOURCES, *NO_SOURCES, "bin/rt"]:
+            os.makedirs(os.path.dirname(f"{room}/{name}"), exist_ok=True)
+            with open(f"{room}/{name}", "w") as file:
+                file.write(STUB if name == "bin/rt" else "")
+            self.change(name)
+        os.chmod(f"{room}/bin/rt", 0o755)
+        shutil.copy(f"{TOP}/hsms", f"{room}/hsms")
+
+    def change(self, name):
+        """A file is changed, later than all others."""
+        self.time += 1
+        os.utime(f"{self.room}/{name}", (self.time, self.time))
+
+    def run(self, *words, called="hsms", **env):
+        """What the script answers, and how often it has built the command."""
+        env = {"PATH": f"{self.room}/bin:{os.environ['PATH']}", "CALLS": self.calls, **env}
+        before = self.built()
+        answer = answer_of(words, b"", f"{self.room}/{called}", env=env, cwd="/")
+        count = self.built() - before
+        if count and not env.get("FAILS"):
+            self.change("crates/hsms_tool/out/hsms_tool")
+        return answer, count
+
+    def built(self):
+        if not os.path.exists(self.calls):
+            return 0
+        with open(self.calls) as lines:
+            calls = lines.read().splitlines()
+        same(set(calls), {f"{self.room}/crates/hsms_tool: run -- --help"})
+        return len(calls)
+
+
+RAN = (0, b"run with show --max 256\n")
+
+
+def runs(script, count, **how):
+    """The script runs the command, and builds it before or doesn't."""
+    answer, built = script.run("show", "--max", "256", **how)
+    same((answer.status, answer.output, built), (*RAN, count))
+    same(answer.error.startswith(b"hsms: proving and building") if count else answer.error == b"", True)
+
+
+def the_script_builds_anew():
+    with tempfile.TemporaryDirectory(prefix="hsms-seams-") as room:
+        script = Script(room)
+        runs(script, 1)
+        runs(script, 0)
+        for name in SOURCES:
+            script.change(name)
+            runs(script, 1)
+            runs(script, 0)
+        for name in NO_SOURCES:
+            script.change(name)
+            runs(script, 0)
+        os.symlink("../hsms", f"{room}/bin/hsms")
+        runs(script, 0, called="bin/hsms")
+        script.change(SOURCES[1])
+        runs(script, 1, called="bin/hsms")
+
+
+def the_script_runs_nothing_that_was_not_built():
+    with tempfile.TemporaryDirectory(prefix="hsms-seams-") as room:
+        script = Script(room)
+        for _ in range(2):
+            answer, built = script.run("show", FAILS="1")
+            same((answer.status, answer.output, built), (3, b"", 1))
+            same(b"hsms: it wasn't built" in answer.error, True)
+            runs(script, 1)
+            script.change(SOURCES[2])
+
+
+TESTS = [
+    a_send_is_given_up_after_t8,
+    a_wait_goes_on_after_a_signal,
+    a_blocked_send_ends_at_a_signal,
+    a_second_client_is_refused,
+    of_two_clients_one_is_served,
+    show_ends_where_nobody_reads,
+    words_that_are_no_text,
+    logged_times_are_true,
+    small_messages_are_not_held_back,
+    an_idle_end_does_nothing,
+    pieces_come_whole,
+    nothing_comes_of_a_quiet_wait,
+    the_script_builds_anew,
+    the_script_runs_nothing_that_was_not_built,
+]
+TESTS_WITH_LIBRARY = [
+    an_interrupted_receive_is_made_again,
+    a_failed_receive_ends_it,
+    a_failed_send_ends_it,
+    a_wait_is_never_of_nothing,
+    nothing_is_written_after_a_failed_write,
+]
+
+
+def is_passed(test, *words):
+    try:
+        test(*words)
+        return True
+    except (AssertionError, OSError, subprocess.TimeoutExpired) as error:
+        print(f"{test.__name__}: {error!r}"[:2000])
+        return False
+    finally:
+        Serving.stop_all()
+
+
+def main():
+    with tempfile.TemporaryDirectory(prefix="hsms-seams-") as room:
+        library = refuser(room)
+        passed = [is_passed(test) for test in TESTS]
+        passed += [is_passed(test, library) for test in TESTS_WITH_LIBRARY]
+    print(f"{passed.count(True)} passed, {passed.count(False)} failed")
+    return 0 if all(passed) else 1
+
+
+if __name__ == "__main__":
+    sys.exit(main())
