@@ -194,6 +194,7 @@ fn wander<D: Desk + Drop, E: Desk + Drop>(
 
 /// Two ends start and live. Answers the summaries of their logs.
 fn live<D: Desk + Drop, E: Desk + Drop>(
+    alloc: Global,
     chance: &mut Chance,
     host: &mut Party<D>,
     tool: &mut Party<E>,
@@ -205,7 +206,7 @@ fn live<D: Desk + Drop, E: Desk + Drop>(
 }
 
 /// Two ends live through a list of a thousand things.
-fn walk(seed: u64) -> Result<[Summary; 2], Fail> {
+fn walk(alloc: Global, seed: u64) -> Result<[Summary; 2], Fail> {
     let mut chance = Chance { state: seed };
     let (one, two) = if chance.below(2) == 0 {
         (Side::Active, Side::Passive)
@@ -214,14 +215,14 @@ fn walk(seed: u64) -> Result<[Summary; 2], Fail> {
     };
     let mut host = host_of(alloc, one)?;
     let mut tool = tool_of(alloc, two)?;
-    live(&mut chance, &mut host, &mut tool)
+    live(alloc, &mut chance, &mut host, &mut tool)
 }
 
 #[test]
 fn walks_of_two_ends(rt: HostRuntime) -> Result<(), Fail> {
     let (mut entries, mut discarded, mut expired) = (0u64, 0u64, 0u64);
     for seed in 0..20u64 {
-        for summary in walk(seed)? {
+        for summary in walk(rt.alloc(), seed)? {
             entries = entries.saturating_add(summary.entries);
             discarded = discarded.saturating_add(summary.discarded);
             expired = expired.saturating_add(summary.expired);
