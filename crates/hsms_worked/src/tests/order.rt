@@ -213,12 +213,11 @@ fn fault_of(answer: Result<Vec<Entry>, EndFault>) -> Result<Option<EndFault>, En
 /// An input meets this fault.
 fn assert_met<D: Desk>(
     rt: &impl Abort,
-    alloc: Global,
     end: &mut End<D>,
     input: &Input,
     want: EndFault,
 ) -> Result<(), Fail> {
-    let fault = fault_of(tell(alloc, end, input))?;
+    let fault = fault_of(tell(end, input))?;
     assert_fault(rt, fault, Some(want), "the first fault");
     Ok(())
 }
@@ -230,7 +229,7 @@ fn judge_met<D: Desk>(
     met: &Met,
 ) -> Result<(), Fail> {
     let input = input_of(alloc, met)?;
-    assert_met(rt, alloc, end, &input, met.fault)
+    assert_met(rt, end, &input, met.fault)
 }
 
 /// The messages meet these faults, and a Linktest.req meets this one.
@@ -244,7 +243,7 @@ fn judge_all<D: Desk>(
     for met in messages {
         judge_met(rt, alloc, end, met)?;
     }
-    assert_met(rt, alloc, end, &Input::Linktest, linktest)
+    assert_met(rt, end, &Input::Linktest, linktest)
 }
 
 /// A host opens 64 transactions: a Select.req and 63 Linktest.req.
