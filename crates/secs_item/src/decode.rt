@@ -1,4 +1,4 @@
-//! Items from octets.
+//! Decoding: items from their octets.
 
 ghost use Rattle.std.specs.Prelude.{◌≡◌, ◌≤◌, ◌<◌, ◌%◌, ◌⊎◌, ℕ, false, length, drop, IfOk, IfErr, MatchResult, IsOk, Option, Some, None, Ok, [], option_map};
 ghost use Rattle.secs_item.specs.Fault.{Faults, TextFaults, IsTold, fault_at};
@@ -34,7 +34,7 @@ fn read_values<V: Value + Drop>(alloc: Global, body: &[u8]) -> Result<Vec<V>, Al
     Ok(values)
 }
 
-/// The values of a body whose octets stand for themselves.
+/// The values of a body in which each octet is a value as it stands.
 #[tactic(auto, using(crate::proofs::Bodies::each_octet))]
 fn read_octets(alloc: Global, body: &[u8]) -> Result<Vec<u8>, AllocError>
     ensures { IfOk result (λ v. v.items ≡ each octet 1 body.now) }
@@ -42,8 +42,9 @@ fn read_octets(alloc: Global, body: &[u8]) -> Result<Vec<u8>, AllocError>
     Vec::from_slice(alloc, body)
 }
 
-/// The item of values that has this body.
-fn item_of_values(alloc: Global, format: Format, body: &[u8]) -> Result<Item, AllocError>
+/// The item of values of this format that has this body. Of an item that was encoded, [`body_octets`](crate::body_octets)
+/// gives the body again.
+pub fn item_of_values(alloc: Global, format: Format, body: &[u8]) -> Result<Item, AllocError>
     requires no_list { is_list format ≡ false }
     requires whole { length body.now % value_size format ≡ 0 }
     ensures { IfOk result (λ item. view item ≡ values (values_of format body.now)) }
@@ -68,7 +69,7 @@ fn item_of_values(alloc: Global, format: Format, body: &[u8]) -> Result<Item, Al
     }
 }
 
-/// The item at `place`, which has been measured, and the place after it.
+/// The item at `place`, and the place after it. Both were found by measuring, so the item is there whole.
 #[cycle(build)]
 fn build_item(
     alloc: Global,
@@ -102,7 +103,7 @@ fn build_item(
     }
 }
 
-/// The items from `place` on, which have been measured, and the place after them.
+/// The `count` items from `place` on, which were measured, and the place after them.
 #[cycle(build)]
 fn build_elements(
     alloc: Global,
@@ -125,7 +126,7 @@ fn build_elements(
     Ok((elements, end))
 }
 
-/// The item at the front, which has been measured, and how many octets spell it.
+/// The item at the front, which was measured, and how many octets spell it.
 fn build_front(alloc: Global, octets: &[u8], depth: u8) -> Result<(Item, usize), AllocError>
     requires measured { (v : ItemValue) × (n : ℕ) × IsAtFront depth octets.now v n }
     ensures ok { IfOk result (λ x. IsAtFront depth octets.now (view x.0) x.1) }
@@ -135,7 +136,7 @@ fn build_front(alloc: Global, octets: &[u8], depth: u8) -> Result<(Item, usize),
     Ok((item, end))
 }
 
-/// The item of a text, which has been measured, and isn't empty.
+/// The item of a text that isn't empty and was measured.
 fn build_text(alloc: Global, octets: &[u8], depth: u8) -> Result<Item, AllocError>
     requires some { 0 < length octets.now }
     requires measured { IsText depth octets.now }
@@ -146,9 +147,12 @@ fn build_text(alloc: Global, octets: &[u8], depth: u8) -> Result<Item, AllocErro
     Ok(item)
 }
 
-/// The item at the front, whose lists are nested at most `depth` deep, and how many octets spell it. What follows isn't
-/// looked at. The depth is at most 100. The item is measured first, so every fault but `Memory` is told before memory
-/// is asked for.
+/// The item at the front of octets, and how many octets spell it. Its lists are nested at most `depth` deep, and the
+/// depth is at most 100. Octets behind the item aren't looked at.
+///
+/// # Errors
+///
+/// The first fault, as [`measure_front`] tells it, before any memory is asked for; else `Memory`.
 pub fn decode_front(alloc: Global, octets: &[u8], depth: u8) -> Result<(Item, usize), ItemFault>
     requires { depth ≤ 100 }
     ensures ok { IfOk result (λ x. IsAtFront depth octets.now (view x.0) x.1) }
@@ -162,9 +166,13 @@ pub fn decode_front(alloc: Global, octets: &[u8], depth: u8) -> Result<(Item, us
     Ok(build_front(alloc, octets, depth)?)
 }
 
-/// The item of a message's text, or None where the text is empty. A text is one item, whose lists are nested at most
-/// `depth` deep, and nothing else: octets behind it are `Trailing`. Every fault but `Memory` is told before memory is
-/// asked for. The depth is at most 100.
+/// The item of a message's text, or None where the text is empty. A text is nothing or one item, whose lists are nested
+/// at most `depth` deep, and the depth is at most 100.
+///
+/// # Errors
+///
+/// The first fault, as [`measure_text`] tells it, before any memory is asked for; octets behind the item are
+/// `Trailing`. Else `Memory`.
 pub fn decode_text(alloc: Global, octets: &[u8], depth: u8) -> Result<Option<Item>, ItemFault>
     requires { depth ≤ 100 }
     ensures none { octets.now ≡ [] → result ≡ Ok None }

@@ -1,8 +1,8 @@
-//! Octets from items.
+//! Encoding: octets from items.
 
 ghost use Rattle.std.specs.Prelude.{◌≡◌, ◌<◌, ◌*◌, ◌^◌, ◌++◌, length, OnOk, IfOk, IfErr, IsTrue, IsSome, IsNone, IsErrOf, Some, ◌↔◌, ◌⊎◌};
 ghost use Rattle.std.specs.List.{flat_map, AllByRecursion};
-ghost use Rattle.secs_item.specs.Short.{octet_alone, field_of, short, Appends};
+ghost use Rattle.secs_item.specs.Short.{octet_alone, field_of, short, Appends, IsBodyOf};
 ghost use Rattle.secs_item.specs.Spelling.{header, Spells};
 ghost use Rattle.secs_item.specs.Item.{view, InRange};
 
@@ -16,7 +16,7 @@ use std::alloc::{AllocError, Global};
 /// The greatest number that three length octets hold.
 pub const MAX_LENGTH: usize = 0xff_ffff;
 
-/// Writes a header with the fewest length octets at the end.
+/// Adds an item's header, with no more length octets than the number needs.
 fn push_header(octets: &mut Vec<u8>, format: Format, number: usize) -> Result<(), AllocError>
     requires { number < 256 ^ 3 }
     ensures { OnOk result (octets.new.items ≡ octets.old.items ++ header format (field_of number) number) }
@@ -34,7 +34,7 @@ fn push_header(octets: &mut Vec<u8>, format: Format, number: usize) -> Result<()
     Ok(())
 }
 
-/// Writes the header and the body of values at the end.
+/// Adds the header and the body of an item with these values.
 fn push_values<V: Value + Drop>(
     octets: &mut Vec<u8>,
     format: Format,
@@ -50,7 +50,7 @@ fn push_values<V: Value + Drop>(
     Ok(())
 }
 
-/// Writes the header and a body of octets at the end.
+/// Adds the header and the body of an item whose values are octets as they stand.
 fn push_body(octets: &mut Vec<u8>, format: Format, values: &[u8]) -> Result<(), AllocError>
     requires { 1 * length values.now < 256 ^ 3 }
     ensures { OnOk result (octets.new.items ≡ octets.old.items ++ (header format (field_of (1 * length values.now)) (1 * length values.now) ++ flat_map octet_alone values.now)) }
@@ -60,7 +60,7 @@ fn push_body(octets: &mut Vec<u8>, format: Format, values: &[u8]) -> Result<(), 
     Ok(())
 }
 
-/// Whether the body of these values is within three length octets.
+/// Whether three length octets can count the body of these values.
 fn fits<V: Value>(values: &[V]) -> bool
     requires { 0 < V.SIZE }
     ensures within { IsTrue result ↔ (V.SIZE * length values.now < 256 ^ 3) }
@@ -72,7 +72,7 @@ fn fits<V: Value>(values: &[V]) -> bool
     values.len() <= MAX_LENGTH / V::SIZE
 }
 
-/// Whether these octets are within three length octets.
+/// Whether three length octets can count these octets.
 fn octets_fit(values: &[u8]) -> bool
     ensures within { IsTrue result ↔ (1 * length values.now < 256 ^ 3) }
     ensures in_range { AllByRecursion (λ n. n < 256) values.now }
@@ -81,7 +81,7 @@ fn octets_fit(values: &[u8]) -> bool
     values.len() <= MAX_LENGTH
 }
 
-/// Whether the item has a spelling: each body and each list is within three length octets.
+/// Whether the item has a spelling: three length octets can count each body and each list of it.
 fn has_spelling(item: &Item) -> bool
     ensures within { IsTrue result ↔ IsSome (short (view item.now)) }
     ensures in_range { IsTrue result → InRange (view item.now) }
@@ -116,7 +116,7 @@ fn has_spelling(item: &Item) -> bool
     }
 }
 
-/// Writes the shortest spelling of the item at the end.
+/// Adds the shortest spelling of the item.
 fn push_item(octets: &mut Vec<u8>, item: &Item) -> Result<(), AllocError>
     requires { IsSome (short (view item.now)) }
     ensures { OnOk result (Appends (short (view item.now)) octets.old.items octets.new.items) }
@@ -147,8 +147,11 @@ fn push_item(octets: &mut Vec<u8>, item: &Item) -> Result<(), AllocError>
     }
 }
 
-/// The item's shortest octets: the fewest length octets everywhere, and 01 for true. `TooLarge` is told before memory
-/// is asked for.
+/// The item's shortest octets: the fewest length octets everywhere, and 01 for true.
+///
+/// # Errors
+///
+/// `TooLarge`, before any memory is asked for, where a body or a list is past 16,777,215; else `Memory`.
 #[tactic(auto, using(crate::proofs::Uniqueness::short_spells))]
 pub fn encode(alloc: Global, item: &Item) -> Result<Vec<u8>, ItemFault>
     ensures ok { IfOk result (λ octets. short (view item.now) ≡ Some octets.items) }
@@ -162,4 +165,52 @@ pub fn encode(alloc: Global, item: &Item) -> Result<Vec<u8>, ItemFault>
     let mut octets = Vec::new(alloc);
     push_item(&mut octets, item)?;
     Ok(octets)
+}
+
+/// The octets of the values of an item, one behind another, however many they are: its body, where three length octets
+/// can hold their number. A list has none.
+pub fn body_octets(alloc: Global, item: &Item) -> Result<Vec<u8>, AllocError>
+    ensures { IfOk result (λ octets. IsBodyOf (view item.now) octets.items) }
+{
+    match item {
+        Item::List(_) => Ok(Vec::new(alloc)),
+        Item::Binary(values) => copied(alloc, values),
+        Item::Boolean(values) => joined(alloc, values),
+        Item::Ascii(values) => copied(alloc, values),
+        Item::Jis8(values) => copied(alloc, values),
+        Item::Char2(values) => copied(alloc, values),
+        Item::I1(values) => joined(alloc, values),
+        Item::I2(values) => joined(alloc, values),
+        Item::I4(values) => joined(alloc, values),
+        Item::I8(values) => joined(alloc, values),
+        Item::U1(values) => copied(alloc, values),
+        Item::U2(values) => joined(alloc, values),
+        Item::U4(values) => joined(alloc, values),
+        Item::U8(values) => joined(alloc, values),
+        Item::F4(values) => joined(alloc, values),
+        Item::F8(values) => joined(alloc, values),
+    }
+}
+
+/// The octets of these values, one behind another.
+fn joined<V: Value + Drop>(alloc: Global, values: &[V]) -> Result<Vec<u8>, AllocError>
+    requires { 0 < V.SIZE }
+    ensures octets { IfOk result (λ octets. octets.items ≡ flat_map V.octets_of values.now) }
+    ensures in_range { AllByRecursion V.fits values.now }
+{
+    let _ = fits(values);
+    let mut octets = Vec::new(alloc);
+    for value in values {
+        value.push_octets(&mut octets)?;
+    }
+    Ok(octets)
+}
+
+/// These octets, in memory of their own.
+fn copied(alloc: Global, values: &[u8]) -> Result<Vec<u8>, AllocError>
+    ensures octets { IfOk result (λ octets. octets.items ≡ flat_map octet_alone values.now) }
+    ensures in_range { AllByRecursion (λ n. n < 256) values.now }
+{
+    octets_known(values);
+    Ok(Vec::from_slice(alloc, values)?)
 }

@@ -1,7 +1,7 @@
 //! The table of item formats of SEMI E5: the format code of each, and how many octets one value has.
 
-ghost use Rattle.std.specs.Prelude.{◌≡◌, ◌%◌, ◌↔◌, IsTrue};
-ghost use Rattle.secs_item.specs.Format.{code_of, format_with_code, value_size};
+ghost use Rattle.std.specs.Prelude.{◌≡◌, ◌<◌, ◌%◌, ◌↔◌, IsTrue};
+ghost use Rattle.secs_item.specs.Format.{code_of, format_with_code, is_list, value_size};
 
 /// What an item holds: elements, or values of one kind (SEMI E5, item formats). The number behind a variant is its
 /// format code, in octal.
@@ -68,27 +68,74 @@ impl Format {
         }
     }
 
-    /// The six bits that stand before the number of length octets.
-    pub(crate) fn code(self) -> u8
-        ensures { result ≡ code_of self }
+    /// The table: the format's code, and how many octets one value has. A list counts its elements.
+    #[inline(always)]
+    fn row(self) -> (u8, usize)
+        ensures code { result.0 ≡ code_of self }
+        ensures size { result.1 ≡ value_size self }
+        ensures small { result.0 < 64 }
+        ensures some { 0 < result.1 }
     {
         match self {
-            Format::List => 0o00,
-            Format::Binary => 0o10,
-            Format::Boolean => 0o11,
-            Format::Ascii => 0o20,
-            Format::Jis8 => 0o21,
-            Format::Char2 => 0o22,
-            Format::I8 => 0o30,
-            Format::I1 => 0o31,
-            Format::I2 => 0o32,
-            Format::I4 => 0o34,
-            Format::F8 => 0o40,
-            Format::F4 => 0o44,
-            Format::U8 => 0o50,
-            Format::U1 => 0o51,
-            Format::U2 => 0o52,
-            Format::U4 => 0o54,
+            Format::List => (0o00, 1),
+            Format::Binary => (0o10, 1),
+            Format::Boolean => (0o11, 1),
+            Format::Ascii => (0o20, 1),
+            Format::Jis8 => (0o21, 1),
+            Format::Char2 => (0o22, 1),
+            Format::I8 => (0o30, 8),
+            Format::I1 => (0o31, 1),
+            Format::I2 => (0o32, 2),
+            Format::I4 => (0o34, 4),
+            Format::F8 => (0o40, 8),
+            Format::F4 => (0o44, 4),
+            Format::U8 => (0o50, 8),
+            Format::U1 => (0o51, 1),
+            Format::U2 => (0o52, 2),
+            Format::U4 => (0o54, 4),
+        }
+    }
+
+    /// The format's code: the six bits of a format octet above the number of length octets.
+    #[inline(always)]
+    pub fn code(self) -> u8
+        ensures value { result ≡ code_of self }
+        ensures small { result < 64 }
+    {
+        self.row().0
+    }
+
+    /// How many octets one value has. A list counts its elements.
+    #[inline(always)]
+    pub fn size(self) -> usize
+        ensures value { result ≡ value_size self }
+        ensures some { 0 < result }
+    {
+        self.row().1
+    }
+
+    /// Whether items of this format are lists.
+    #[inline(always)]
+    pub fn is_list(self) -> bool
+        ensures { result ≡ is_list self }
+    {
+        match self {
+            Format::List => true,
+            Format::Binary
+            | Format::Boolean
+            | Format::Ascii
+            | Format::Jis8
+            | Format::Char2
+            | Format::I1
+            | Format::I2
+            | Format::I4
+            | Format::I8
+            | Format::U1
+            | Format::U2
+            | Format::U4
+            | Format::U8
+            | Format::F4
+            | Format::F8 => false,
         }
     }
 

@@ -38,7 +38,7 @@ pub fn read_length(octets: &[u8], field: usize) -> usize
     }
 }
 
-/// Reads the header of a list behind its first octet, which stands at `place` and tells one length octet.
+/// Reads the rest of a list's header, whose first octet stands at `place` and says that one length octet follows.
 #[inline(always)]
 #[tactic(auto, unfolding(crate::specs::Header::header_at, crate::specs::Format::format_with_code))]
 fn short_list(rest: &[u8], place: usize, depth: u8) -> Result<Header, ItemFault>
@@ -62,7 +62,8 @@ fn short_list(rest: &[u8], place: usize, depth: u8) -> Result<Header, ItemFault>
     })
 }
 
-/// Reads the header at `place`, where lists may still be nested `depth` deep. The body of values is there whole.
+/// Reads the header at `place`, where lists may still be nested `depth` deep. The body of an item that isn't a list is
+/// there whole: one that is cut off is a fault.
 ///
 /// # Errors
 ///

@@ -1,8 +1,9 @@
 //! Data items.
 
 ghost use Rattle.std.specs.Prelude.{◌≡◌, ◌↔◌, IfOk, IsTrue, min};
-ghost use Rattle.secs_item.specs.Item.{nest, view, views};
+ghost use Rattle.secs_item.specs.Item.{format_of, nest, view, views};
 
+use crate::format::Format;
 use std::alloc::{AllocError, Global};
 
 /// A data item (SEMI E5): a list of items, or any number of values of one format, none included.
@@ -58,6 +59,30 @@ impl Item {
             Item::U8(values) => Ok(Item::U8(Vec::from_slice(alloc, values)?)),
             Item::F4(values) => Ok(Item::F4(Vec::from_slice(alloc, values)?)),
             Item::F8(values) => Ok(Item::F8(Vec::from_slice(alloc, values)?)),
+        }
+    }
+
+    /// What the item holds.
+    pub fn format(&self) -> Format
+        ensures { result ≡ format_of (view self.now) }
+    {
+        match self {
+            Item::List(_) => Format::List,
+            Item::Binary(_) => Format::Binary,
+            Item::Boolean(_) => Format::Boolean,
+            Item::Ascii(_) => Format::Ascii,
+            Item::Jis8(_) => Format::Jis8,
+            Item::Char2(_) => Format::Char2,
+            Item::I1(_) => Format::I1,
+            Item::I2(_) => Format::I2,
+            Item::I4(_) => Format::I4,
+            Item::I8(_) => Format::I8,
+            Item::U1(_) => Format::U1,
+            Item::U2(_) => Format::U2,
+            Item::U4(_) => Format::U4,
+            Item::U8(_) => Format::U8,
+            Item::F4(_) => Format::F4,
+            Item::F8(_) => Format::F8,
         }
     }
 }

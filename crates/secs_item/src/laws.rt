@@ -3,7 +3,7 @@
 
 ghost use Rattle.secs_item.specs.Laws.{OneSpellingAtFront, ShortSpells, NoneIsShorter, SpelledInRange, ShortIsReadAgain, SomeAnswer, OneItem, OneFault, NotBoth, SomeTextAnswer, OneText, OneTextFault, NotBothOfText};
 
-/// No spelling is a proper front of a spelling, and none spells two values.
+/// No spelling is the beginning of a longer one, and none spells two values.
 pub fn one_spelling_at_front()
     ensures { OneSpellingAtFront }
 {}
@@ -21,7 +21,7 @@ pub fn short_at_front()
     ensures { ShortIsReadAgain }
 {}
 
-/// At the front of octets stands one item, or one fault is found.
+/// Octets have one item at their front, or one fault, and not both.
 pub fn one_answer()
     ensures some { SomeAnswer }
     ensures one_item { OneItem }
@@ -29,7 +29,7 @@ pub fn one_answer()
     ensures not_both { NotBoth }
 {}
 
-/// A text is empty or one item, or it has one fault.
+/// A text is empty or one item, or it has one fault, and not both.
 pub fn one_answer_of_text()
     ensures some { SomeTextAnswer }
     ensures one_text { OneText }

@@ -1,10 +1,10 @@
 //! Data items of SEMI E5 (SECS-II) and their octets: measured, decoded and encoded.
 //!
 //! An item is a list of items, or any number of values of one format. Its octets are a format octet, one to three
-//! length octets and the body. `measure_front` and `measure_text` tell whether octets are an item, and how long it is,
-//! without memory; `decode_front` and `decode_text` give the item, after measuring it; `encode` gives the shortest
-//! octets. What spells an item is said in `specs/Spelling.antt`, what is a fault and where in `specs/Fault.antt`;
-//! `laws` has what holds of both.
+//! length octets and the body. [`measure_front`] and [`measure_text`] tell whether octets are an item, and how long it
+//! is, and take no memory; [`decode_front`] and [`decode_text`] measure, and then make the item; [`encode`] gives its
+//! shortest octets. `specs/Spelling.antt` says what spells an item, and `specs/Fault.antt` what is a fault, and where;
+//! [`laws`] has what follows from both.
 //!
 //! Octets are measured before they are decoded; what was decoded is encoded again, in its shortest octets:
 //!
@@ -28,13 +28,14 @@ mod measure;
 mod part;
 mod value;
 
-pub use decode::{decode_front, decode_text};
-pub use encoding::encode;
+pub use decode::{decode_front, decode_text, item_of_values};
+pub use encoding::{body_octets, encode};
 pub use fault::ItemFault;
 pub use format::Format;
 pub use header::{Header, read_header};
 pub use item::{Item, nesting};
 pub use measure::{measure_front, measure_text};
+pub use value::octets_known;
 
 #[cfg(test)]
 mod tests;

@@ -11,11 +11,11 @@ ghost use Rattle.secs_item.specs.Item.{Value};
 use crate::fault::ItemFault;
 use crate::part::read_part;
 
-/// How deep lists nest at most.
+/// How deep lists may be nested at most.
 const MAX_DEPTH: usize = 100;
 
-/// The place after the `count` elements of a list whose header was read where lists could be nested `depth` deep, and
-/// whose body begins at `place`. For each list that stands open it keeps how many elements are still to come.
+/// The place after the `count` elements of a list. Its body begins at `place`, and where its header stands lists may be
+/// nested `depth` deep. `counts` has, for each list that isn't at its end, how many elements are still to come.
 fn end_of_elements(octets: &[u8], place: usize, count: usize, depth: u8) -> Result<usize, ItemFault>
     requires within { place ≤ length octets.now }
     requires some { 0 < depth }
@@ -44,7 +44,7 @@ fn end_of_elements(octets: &[u8], place: usize, count: usize, depth: u8) -> Resu
     Ok(end)
 }
 
-/// The place after the item at the front. An item of values is told apart before a list's counts are made.
+/// The place after the item at the front. Only where that is a list with elements are counts made.
 fn end_of_item(octets: &[u8], depth: u8) -> Result<usize, ItemFault>
     requires { depth ≤ 100 }
     ensures { result ≡ end_from 0 (item_at depth octets.now) }
@@ -56,8 +56,12 @@ fn end_of_item(octets: &[u8], depth: u8) -> Result<usize, ItemFault>
     Ok(part.end)
 }
 
-/// How many octets spell the item at the front, whose lists are nested at most `depth` deep. What follows isn't looked
-/// at. The depth is at most 100. Takes no memory, and never answers `Trailing`, `TooLarge` or `Memory`.
+/// How many octets spell the item at the front. Its lists are nested at most `depth` deep, and the depth is at most
+/// 100. Octets behind the item aren't looked at. Takes no memory.
+///
+/// # Errors
+///
+/// The first fault of the octets; never `Trailing`, `TooLarge` or `Memory`.
 pub fn measure_front(octets: &[u8], depth: u8) -> Result<usize, ItemFault>
     requires { depth ≤ 100 }
     ensures ok { IfOk result (λ n. (v : Value) × IsAtFront depth octets.now v n) }
@@ -69,8 +73,12 @@ pub fn measure_front(octets: &[u8], depth: u8) -> Result<usize, ItemFault>
     end_of_item(octets, depth)
 }
 
-/// Whether the octets are a message's text: nothing, or one item whose lists are nested at most `depth` deep.
-/// The depth is at most 100. Takes no memory, and never answers `TooLarge` or `Memory`.
+/// Whether the octets are a message's text: nothing, or one item whose lists are nested at most `depth` deep. The depth
+/// is at most 100. Takes no memory.
+///
+/// # Errors
+///
+/// The first fault of the octets; `Trailing` where others stand behind an item. Never `TooLarge` or `Memory`.
 pub fn measure_text(octets: &[u8], depth: u8) -> Result<(), ItemFault>
     requires { depth ≤ 100 }
     ensures ok { OnOk result (IsText depth octets.now) }

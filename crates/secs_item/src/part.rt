@@ -1,4 +1,4 @@
-//! What measuring reads at a time.
+//! One step of measuring: an item of values, or a list's header.
 
 ghost use Rattle.std.specs.Prelude.{◌≡◌, ◌≤◌, ◌/◌, length, drop, IfOk, IfSome};
 ghost use Rattle.secs_item.specs.Format.{format_with_code};
@@ -30,7 +30,7 @@ static MASKS: [u8; 64] = [
     0xff, 0xff, 0xff, 0xff, 0xff, 0xff, 0xff, 0xff, 0xff,
 ];
 
-/// The mask of the format that a header's first octet tells.
+/// The mask of the format that stands in a header's first octet.
 #[inline(always)]
 fn mask_of(first: u8) -> u8
     ensures { result ≡ mask_for (format_with_code (first / 4)) }
@@ -94,7 +94,8 @@ fn part_or_fault(octets: &[u8], place: usize, depth: u8) -> Result<Part, ItemFau
     })
 }
 
-/// Reads the part at `place`. The body of values is there whole. Faults are told apart only once there is one.
+/// Reads the part at `place`; an item of values is there whole. Only where the quick way finds no part is it looked for
+/// which fault there is.
 #[inline(always)]
 pub fn read_part(octets: &[u8], place: usize, depth: u8) -> Result<Part, ItemFault>
     requires { place ≤ length octets.now }

@@ -88,6 +88,24 @@ fn longer_fields_and_other_truths(rt: HostRuntime) -> Result<(), Fail> {
     Ok(())
 }
 
+fn judge_body(rt: &impl Abort, alloc: Global, item: &Item, body: &[u8]) -> Result<(), AllocError> {
+    let octets = body_octets(alloc, item)?;
+    assert_octets(rt, octets.as_slice(), body);
+    Ok(())
+}
+
+#[test]
+fn bodies(rt: HostRuntime) -> Result<(), Fail> {
+    let alloc = rt.alloc();
+    let numbers = Item::U2([1u16, 258].to_vec(alloc)?);
+    judge_body(&rt, alloc, &numbers, b"\x00\x01\x01\x02")?;
+    judge_body(&rt, alloc, &Item::Ascii(b"AB".to_vec(alloc)?), b"AB")?;
+    judge_body(&rt, alloc, &Item::List(Vec::new(alloc)), b"")?;
+    let read = item_of_values(alloc, Format::U2, b"\x00\x01\x01\x02")?;
+    assert_item(&rt, &read, &numbers);
+    Ok(())
+}
+
 fn judge_front(
     rt: &impl Abort,
     alloc: Global,

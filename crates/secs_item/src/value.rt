@@ -1,4 +1,4 @@
-//! The octets of one value of an item. A value of one octet that is read as it stands needs none of this.
+//! Values and their octets, of the formats whose values aren't octets as they stand.
 
 ghost use Rattle.std.specs.Prelude.{◌≡◌, ◌≤◌, ◌++◌, ◌<◌, ◌^◌, ℕ, List, length, OnOk, FitsSigned};
 ghost use Rattle.std.specs.List.{AllByRecursion};
@@ -14,7 +14,7 @@ pub trait Value: Copy {
 
     ghost octets_of: { Self → List ℕ };
 
-    /// Holds of the values of the type.
+    /// What holds of each value of the type.
     ghost fits: { Self → Type 0 };
 
     const SIZE: usize;
@@ -24,11 +24,11 @@ pub trait Value: Copy {
         requires { length octets.now ≡ SIZE }
         ensures { result ≡ value_of octets.now };
 
-    /// Writes the value's octets at the end.
+    /// Adds the value's octets.
     fn push_octets(self, octets: &mut Vec<u8>) -> Result<(), AllocError>
         ensures { OnOk result (octets.new.items ≡ octets.old.items ++ octets_of self) };
 
-    /// A value of the type fits. Nothing is done when it runs.
+    /// Says that the value fits, as each value of the type does. Does nothing when it runs.
     fn known(self)
         ensures { fits self };
 }
@@ -287,7 +287,7 @@ impl<const N: usize> Value for [u8; N] {
     }
 }
 
-/// Octets in memory are below 256. Nothing is done when it runs.
+/// Says that octets in memory are below 256. Does nothing when it runs.
 pub fn octets_known(octets: &[u8])
     ensures { AllByRecursion (λ n. n < 256) octets.now }
 {}

@@ -1,5 +1,5 @@
 -- Putting octets into a block, one word after another.
-use Rattle.std.proofs.Common.{◌≡◌, ℕ, zero, suc, ◌+◌, ◌/◌, ◌%◌, ◌≤◌, ◌<◌, ◌^◌, true, cond, eqb, ltb, lt-ltb, le-ltb, List, [], ◌∷◌, ◌++◌, length, get_or, take, codes, refl, ap, sym, ◌∙◌, arith, append_assoc, append-nil, subst, length-append, length-take-le, take-add, take-take, take_at, drop_at}
+use Rattle.std.proofs.Common.{◌≡◌, ℕ, zero, suc, ◌+◌, ◌*◌, ◌/◌, ◌%◌, ◌≤◌, ◌<◌, ◌^◌, true, cond, eqb, ltb, lt-ltb, le-ltb, List, [], ◌∷◌, ◌++◌, length, get_or, take, drop, codes, refl, ap, sym, ◌∙◌, arith, append_assoc, append-nil, subst, length-append, length-take-le, take-add, take-take, take_at, drop_at}
 use Rattle.std.specs.Fmt.{decimal}
 use Rattle.std.specs.Cmp.Lexicographic.{pointwise}
 use Rattle.std.proofs.lemmas.Bool.{agree_below_at, ltb-true}
@@ -36,13 +36,13 @@ laid_less {a} {b} {xs} {i} {j} n within few p =
 
 -- ---- the tables
 
-pub words_right : (octet : ℕ) → octet < 256 → take 5 (get_or WORDS octet []) ≡ codes " " ++ hexadecimal (octet ∷ [])
+pub words_right : (octet : ℕ) → octet < 256 → take 5 (drop (8 * octet) WORDS) ≡ codes " " ++ hexadecimal (octet ∷ [])
 words_right octet lt =
-    (octets_Decides _ _).0 (agree_below_at (λ k. pointwise eqb (take 5 (get_or WORDS k [])) (codes " " ++ hexadecimal (k ∷ []))) (λ k. true) 256 octet refl lt)
+    (octets_Decides _ _).0 (agree_below_at (λ k. pointwise eqb (take 5 (drop (8 * k) WORDS)) (codes " " ++ hexadecimal (k ∷ []))) (λ k. true) 256 octet refl lt)
 
-pub digits_right : (octet : ℕ) → octet < 256 → take 2 (get_or DIGITS octet []) ≡ two_digits octet
+pub digits_right : (octet : ℕ) → octet < 256 → take 2 (drop (2 * octet) DIGITS) ≡ two_digits octet
 digits_right octet lt =
-    (octets_Decides _ _).0 (agree_below_at (λ k. pointwise eqb (take 2 (get_or DIGITS k [])) (two_digits k)) (λ k. true) 256 octet refl lt)
+    (octets_Decides _ _).0 (agree_below_at (λ k. pointwise eqb (take 2 (drop (2 * k) DIGITS)) (two_digits k)) (λ k. true) 256 octet refl lt)
 
 -- the digits of a number, at most so many
 abbrev by_digits : ℕ → ℕ → List ℕ
@@ -53,18 +53,18 @@ appends : AppendsLastDigit by_digits
 appends = record { one = λ k n lt. rw (lt-ltb n 10 lt) refl; more = λ k n le. rw (le-ltb n 10 le) refl }
 
 abbrev number_at : ℕ → List ℕ
-number_at n = get_or NUMBERS n []
+number_at n = drop (4 * n) NUMBERS
 
-pub numbers_right : (n : ℕ) → n < 256 → take (get_or (get_or NUMBERS n []) 3 0) (get_or NUMBERS n []) ≡ decimal n
+pub numbers_right : (n : ℕ) → n < 256 → take (get_or (drop (4 * n) NUMBERS) 3 0) (drop (4 * n) NUMBERS) ≡ decimal n
 numbers_right n lt =
     (octets_Decides _ _).0 (agree_below_at (λ k. pointwise eqb (take (get_or (number_at k) 3 0) (number_at k)) (by_digits 3 k)) (λ k. true) 256 n refl lt)
     ∙ decimal_from_appends by_digits appends 3 n (omega arith) (length-decimal-le 3 n (omega arith) (omega arith) (omega arith))
 
-pub numbers_short : (n : ℕ) → n < 256 → get_or (get_or NUMBERS n []) 3 0 < 5
+pub numbers_short : (n : ℕ) → n < 256 → get_or (drop (4 * n) NUMBERS) 3 0 < 5
 numbers_short n lt = ltb-true _ 5 (agree_below_at (λ k. ltb (get_or (number_at k) 3 0) 5) (λ k. true) 256 n refl lt)
 
-pub pairs_right : (n : ℕ) → n < 100 → take 2 (get_or PAIRS n []) ≡ two_decimals n
-pairs_right n lt = (octets_Decides _ _).0 (agree_below_at (λ k. pointwise eqb (take 2 (get_or PAIRS k [])) (two_decimals k)) (λ k. true) 100 n refl lt)
+pub pairs_right : (n : ℕ) → n < 100 → take 2 (drop (2 * n) PAIRS) ≡ two_decimals n
+pairs_right n lt = (octets_Decides _ _).0 (agree_below_at (λ k. pointwise eqb (take 2 (drop (2 * k) PAIRS)) (two_decimals k)) (λ k. true) 100 n refl lt)
 
 -- a number by its hundreds
 pub decimal_hundreds : (n : ℕ) → 100 ≤ n → n < 2 ^ 64 → decimal (n / 100) ++ two_decimals (n % 100) ≡ decimal n

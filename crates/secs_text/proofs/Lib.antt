@@ -1,6 +1,5 @@
 pub mod TokenLists
 pub mod Views
-pub mod Texts
 pub mod Fronts
 pub mod Numbers
 pub mod HeadWords
@@ -28,5 +27,8 @@ pub mod RawMessages
 pub mod Gathering
 pub mod OctetWords
 pub mod AsPrinted
+pub mod InRanges
+pub mod Leaves
+pub mod ValuesBack
 pub mod Lists
 pub mod Handing

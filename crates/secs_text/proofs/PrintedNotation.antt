@@ -1,9 +1,10 @@
 -- The printed form of a message is its notation.
-use Rattle.std.proofs.Common.{◌≡◌, ℕ, suc, ◌^◌, ◌<◌, Bool, true, false, inr, List, [], ◌∷◌, ◌++◌, length, take, drop, map, refl, sym, ap, ◌∙◌, subst, append_assoc, append-nil, arith, codes, if◌then◌else◌}
+use Rattle.std.proofs.Common.{◌≡◌, ℕ, zero, suc, ◌^◌, ◌<◌, Bool, true, false, inr, List, [], ◌∷◌, ◌++◌, ◌&&◌, length, take, drop, map, refl, sym, ap, ◌∙◌, subst, append_assoc, append-nil, arith, codes, if◌then◌else◌}
 use Rattle.std.specs.Prelude.{Option, Some, None, MatchOption, ◌==◌}
 use Rattle.std.specs.List.{list_all, AllByRecursion}
 use Rattle.std.specs.Fmt.{decimal}
-use Rattle.std.proofs.lemmas.Bool.{ne_eqb}
+use Rattle.std.specs.Str.{IsAscii}
+use Rattle.std.proofs.lemmas.Bool.{ne_eqb, ltb-true}
 use Rattle.std.proofs.lemmas.List.Folds.{list_all-append}
 use Rattle.secs_item.specs.Item.{Value, list, values, Elements, no_elements, element, format_of, count_of}
 use Rattle.secs_item.specs.declared.format.Format.{Format}
@@ -20,7 +21,7 @@ use Rattle.secs_text.specs.Words.{head, number_below, head_of_numbers, head_of_p
 use Rattle.secs_text.proofs.SoFar.{SoFar}
 use Rattle.secs_text.specs.AsPrinted.{IsWord}
 use Rattle.secs_text.proofs.PrintedWords.{and_true, all_digits, decimal_digits, decimal_word, number_read, octet_word, octet_is_read, written_word, written_read}
-use Rattle.secs_text.proofs.Tokenized.{Prints, end_kinds, word_kinds, prefix_front, take_front, drop_front, prints_none, prints_along, prints_both, prints_word, prints_opening, prints_count, prints_close, prints_space, prints_stop, prints_quoted}
+use Rattle.secs_text.proofs.Tokenized.{Prints, is_low, low_both, low_word, end_kinds, word_kinds, prefix_front, take_front, drop_front, prints_none, prints_along, prints_both, prints_word, prints_opening, prints_count, prints_close, prints_space, prints_stop, prints_quoted}
 
 -- ---- octets of text
 
@@ -247,25 +248,60 @@ head_is_read stream function s f =
     ∙ ap (λ o. head_of_parts o (drop (length ds) (ds ++ rest))) (take_front ds rest)
     ∙ ap (λ o. head_of_parts ds o) (drop_front ds rest) ∙ parts_read stream function s f
 
+abbrev after_head : Content → List ℕ
+after_head m = ((if m.wait then codes " W" else []) ++ printed_optional m.item) ++ codes " ."
+
+record PrintsMessage (m : Content) : Type 0 where
+  item : List Token
+  tokens : OptionalItem m.item item
+  prints : Prints (after_head m) (wait_tokens m.wait ++ item ++ stop ∷ [])
+
+message_prints : (m : Content) → IsHeldMessage m → PrintsMessage m
+message_prints m h =
+    let item = optional_print m.item h.item in
+    record { item = item.ts; tokens = item.tokens; prints = prints_both (prints_both (wait_prints m.wait) item.prints) prints_stop }
+
+printed_parts : (m : Content) → head_text m.stream m.function ++ after_head m ≡ printed m
+printed_parts m =
+    let w = head_text m.stream m.function in
+    let wait = if m.wait then codes " W" else [] in
+    let opt = printed_optional m.item in
+    ap (λ o. w ++ o) (append_assoc wait opt (codes " .")) ∙ sym (append_assoc w wait (opt ++ codes " .")) ∙ sym (append_assoc (w ++ wait) opt (codes " ."))
+    ∙ ap (λ o. (((0x53 ∷ o) ++ wait) ++ opt) ++ codes " .") (sym (append_assoc (decimal m.stream) (0x46 ∷ []) (decimal m.function)))
+
 -- what is printed has its message's tokens
 pub printed_is_notation : (m : Content) → IsHeldMessage m → Notation m (printed m)
 printed_is_notation m h =
     let w = head_text m.stream m.function in
-    let wait = if m.wait then codes " W" else [] in
-    let opt = printed_optional m.item in
-    let item = optional_print m.item h.item in
-    let tail = prints_both (prints_both (wait_prints m.wait) item.prints) prints_stop in
-    let ts = word w ∷ wait_tokens m.wait ++ item.ts ++ stop ∷ [] in
-    let after : List ℕ = (wait ++ opt) ++ codes " ." in
-    let none : after ++ [] ≡ after = append-nil after in
-    let kinds = word_kinds w (after ++ []) _ (head_is_word m.stream m.function h.stream h.function) (tail.starts [] refl) (tail.printed [] (end ∷ []) refl end_kinds) in
-    let whole : w ++ (after ++ []) ≡ printed m =
-    ap (λ o. w ++ o) (none ∙ append_assoc wait opt (codes " .")) ∙ sym (append_assoc w wait (opt ++ codes " .")) ∙ sym (append_assoc (w ++ wait) opt (codes " ."))
-    ∙ ap (λ o. (((0x53 ∷ o) ++ wait) ++ opt) ++ codes " .") (sym (append_assoc (decimal m.stream) (0x46 ∷ []) (decimal m.function))) in (
+    let p = message_prints m h in
+    let ts = word w ∷ wait_tokens m.wait ++ p.item ++ stop ∷ [] in
+    let kinds = word_kinds w (after_head m ++ []) _ (head_is_word m.stream m.function h.stream h.function) (p.prints.starts [] refl) (p.prints.printed [] (end ∷ []) refl end_kinds) in
+    let whole : w ++ (after_head m ++ []) ≡ printed m = ap (λ o. w ++ o) (append-nil (after_head m)) ∙ printed_parts m in (
       ts,
-      record { name = w; named = head_is_read m.stream m.function h.stream h.function; item = item.ts; holds = item.tokens; parts = refl },
+      record { name = w; named = head_is_read m.stream m.function h.stream h.function; item = p.item; holds = p.tokens; parts = refl },
       ap (λ o. map (λ t. t.token) (tokens o)) (sym whole) ∙ kinds.kinds 0,
     )
+
+first_low : (c : ℕ) (b rest : Bool) → b ≡ is_low c → b && rest ≡ true → c < 128
+first_low c true rest is e = ltb-true c 128 (sym is)
+first_low c false rest is e = cc
+
+others_low : (b rest : Bool) → b && rest ≡ true → rest ≡ true
+others_low true rest e = e
+others_low false rest e = cc
+
+low_octets : (octets : List ℕ) → list_all is_low octets ≡ true → IsAscii octets
+low_octets [] all zero = omega arith
+low_octets [] all (suc k) = omega arith
+low_octets (c ∷ cs) all zero = first_low c (is_low c) (list_all is_low cs) refl all
+low_octets (c ∷ cs) all (suc k) = low_octets cs (others_low (is_low c) (list_all is_low cs) all) k
+
+-- what is printed is of ASCII
+pub printed_is_ascii : (m : Content) → IsHeldMessage m → IsAscii (printed m)
+printed_is_ascii m h =
+    let w = head_text m.stream m.function in
+    let parts = low_both w (after_head m) (low_word w (head_is_word m.stream m.function h.stream h.function).all) (message_prints m h).prints.low in
+    low_octets (printed m) (ap (λ o. list_all is_low o) (sym (printed_parts m)) ∙ parts)
 
 pub notation_of : (m : Content) (text : List ℕ) → text ≡ printed m → IsHeldMessage m → Notation m text
 notation_of m text is h = let P : List ℕ → Type 0 = λ o. Notation m o in subst P (sym is) (printed_is_notation m h)

@@ -1,8 +1,10 @@
 -- The tokens of texts that are put together.
 use Rattle.std.proofs.Common.{◌≡◌, ℕ, suc, ◌+◌, ◌≤◌, Bool, true, false, ◌&&◌, List, [], ◌∷◌, ◌++◌, length, take, drop, map, refl, sym, ap, ◌∙◌, subst, append_assoc, arith, codes, cond}
-use Rattle.std.specs.Prelude.{◌==◌, slice_index}
+use Rattle.std.specs.Prelude.{◌==◌, slice_index, nat_lt}
 use Rattle.std.specs.List.{list_all, prefix_len}
 use Rattle.std.proofs.lemmas.Bool.{eqb-true}
+use Rattle.std.proofs.lemmas.Bool.Decides.{nat_tests}
+use Rattle.std.proofs.lemmas.List.Folds.{list_all-append}
 use Rattle.secs_text.specs.AsPrinted.{IsWord, EndsWord}
 use Rattle.secs_text.specs.Octets.{is_white, is_of_word, is_quotable}
 use Rattle.secs_text.specs.Token.{Token, word, quoted, less, greater, bracket, bracket_end, stop, end, Front, whole, front, quoted_front, with_front, tokens_after, tokens_from}
@@ -126,53 +128,88 @@ quoted_kinds q rest ts all h =
     ap (λ k. quoted_front octets k) n ∙ rw closes (ap (λ o. whole (quoted o) (length q + 1)) (take_front q (0x22 ∷ rest))) in
     whole_kinds 0x22 (length q + 1) octets rest (quoted q) ts fronted (quote_within q rest 0x22) (after_quote q rest 0x22) h
 
+-- ---- what is of ASCII
+
+abbrev pub is_low : ℕ → Bool
+is_low c = nat_lt c 128
+
+pub both_true : (a b : Bool) → a ≡ true → b ≡ true → a && b ≡ true
+both_true true b e f = f
+both_true false b e f = cc
+
+split_true : (a b : Bool) → a && b ≡ true → (a ≡ true) × (b ≡ true)
+split_true true b e = (refl, e)
+split_true false b e = cc
+
+all_low : (p : ℕ → Bool) → ((c : ℕ) → p c ≡ true → is_low c ≡ true) → (cs : List ℕ) → list_all p cs ≡ true → list_all is_low cs ≡ true
+all_low p low [] all = refl
+all_low p low (c ∷ cs) all =
+    let parts = split_true (p c) (list_all p cs) all in
+    both_true (is_low c) (list_all is_low cs) (low c parts.0) (all_low p low cs parts.1)
+
+word_low : (c : ℕ) → is_of_word c ≡ true → is_low c ≡ true
+word_low c is = grind (arith, nat_tests)
+
+quotable_low : (c : ℕ) → is_quotable c ≡ true → is_low c ≡ true
+quotable_low c is = grind (arith, nat_tests)
+
+pub low_word : (w : List ℕ) → list_all is_of_word w ≡ true → list_all is_low w ≡ true
+low_word w all = all_low is_of_word word_low w all
+
+pub low_both : (a b : List ℕ) → list_all is_low a ≡ true → list_all is_low b ≡ true → list_all is_low (a ++ b) ≡ true
+low_both a b first second = list_all-append is_low a b ∙ both_true _ _ first second
+
 -- ---- what is put together
 
--- the octets are printed of these tokens, wherever no word goes on behind them
+-- the octets are of ASCII, and printed of these tokens, wherever no word goes on behind them
 pub record Prints (octets : List ℕ) (ps : List Token) : Type 0 where
+  pub low : list_all is_low octets ≡ true
   pub starts : (rest : List ℕ) → EndsWord rest → EndsWord (octets ++ rest)
   pub printed : (rest : List ℕ) (ts : List Token) → EndsWord rest → HasKinds rest ts → HasKinds (octets ++ rest) (ps ++ ts)
 
 pub prints_none : Prints [] []
-prints_none = record { starts = λ rest e. e; printed = λ rest ts e h. h }
+prints_none = record { low = refl; starts = λ rest e. e; printed = λ rest ts e h. h }
 
 pub prints_along : {octets more : List ℕ} {ps : List Token} → octets ≡ more → Prints octets ps → Prints more ps
 prints_along {octets} {more} {ps} e h = let P : List ℕ → Type 0 = λ o. Prints o ps in subst P e h
 
 pub prints_both : {a b : List ℕ} {ps qs : List Token} → Prints a ps → Prints b qs → Prints (a ++ b) (ps ++ qs)
 prints_both {a} {b} {ps} {qs} first second = record {
+  low = low_both a b first.low second.low;
   starts = λ rest e. ap (λ o. prefix_len is_of_word o) (append_assoc a b rest) ∙ first.starts (b ++ rest) (second.starts rest e);
   printed = λ rest ts e h. moved (a ++ (b ++ rest)) ((a ++ b) ++ rest) (ps ++ (qs ++ ts)) ((ps ++ qs) ++ ts) (sym (append_assoc a b rest)) (sym (append_assoc ps qs ts)) (first.printed (b ++ rest) (qs ++ ts) (second.starts rest e) (second.printed rest ts e h));
 }
 
 -- a word after a space
 pub prints_word : (w : List ℕ) → IsWord w → Prints (codes " " ++ w) (word w ∷ [])
-prints_word w is = record { starts = λ rest e. refl; printed = λ rest ts e h. white_kinds (w ++ rest) (word w ∷ ts) (word_kinds w rest ts is e h) }
+prints_word w is = record { low = low_word w is.all; starts = λ rest e. refl; printed = λ rest ts e h. white_kinds (w ++ rest) (word w ∷ ts) (word_kinds w rest ts is e h) }
 
 pub prints_opening : (w : List ℕ) → IsWord w → Prints (codes "<" ++ w) (less ∷ word w ∷ [])
-prints_opening w is = record { starts = λ rest e. refl; printed = λ rest ts e h. whole_kinds 0x3C 0 (w ++ rest) (w ++ rest) less (word w ∷ ts) refl (omega arith) refl (word_kinds w rest ts is e h) }
+prints_opening w is = record { low = low_word w is.all; starts = λ rest e. refl; printed = λ rest ts e h. whole_kinds 0x3C 0 (w ++ rest) (w ++ rest) less (word w ∷ ts) refl (omega arith) refl (word_kinds w rest ts is e h) }
 
 bracket_end_kinds : (rest : List ℕ) (ts : List Token) → HasKinds rest ts → HasKinds (0x5D ∷ rest) (bracket_end ∷ ts)
 bracket_end_kinds rest ts h = whole_kinds 0x5D 0 rest rest bracket_end ts refl (omega arith) refl h
 
 pub prints_count : (w : List ℕ) → IsWord w → Prints (codes " [" ++ (w ++ codes "]")) (bracket ∷ word w ∷ bracket_end ∷ [])
 prints_count w is = record {
+  low = low_both w (codes "]") (low_word w is.all) refl;
   starts = λ rest e. refl;
   printed = λ rest ts e h. moved (0x20 ∷ 0x5B ∷ (w ++ (0x5D ∷ rest))) (0x20 ∷ 0x5B ∷ ((w ++ codes "]") ++ rest)) _ _ (ap (λ o. 0x20 ∷ 0x5B ∷ o) (sym (append_assoc w (codes "]") rest))) refl
       (white_kinds _ _ (whole_kinds 0x5B 0 _ _ bracket (word w ∷ bracket_end ∷ ts) refl (omega arith) refl (word_kinds w (0x5D ∷ rest) (bracket_end ∷ ts) is refl (bracket_end_kinds rest ts h))));
 }
 
 pub prints_close : Prints (codes ">") (greater ∷ [])
-prints_close = record { starts = λ rest e. refl; printed = λ rest ts e h. whole_kinds 0x3E 0 rest rest greater ts refl (omega arith) refl h }
+prints_close = record { low = refl; starts = λ rest e. refl; printed = λ rest ts e h. whole_kinds 0x3E 0 rest rest greater ts refl (omega arith) refl h }
 
 pub prints_space : {octets : List ℕ} {ps : List Token} → Prints octets ps → Prints (codes " " ++ octets) ps
-prints_space {octets} {ps} h = record { starts = λ rest e. refl; printed = λ rest ts e k. white_kinds (octets ++ rest) (ps ++ ts) (h.printed rest ts e k) }
+prints_space {octets} {ps} h = record { low = h.low; starts = λ rest e. refl; printed = λ rest ts e k. white_kinds (octets ++ rest) (ps ++ ts) (h.printed rest ts e k) }
 
 pub prints_stop : Prints (codes " .") (stop ∷ [])
-prints_stop = record { starts = λ rest e. refl; printed = λ rest ts e h. white_kinds (0x2E ∷ rest) (stop ∷ ts) (whole_kinds 0x2E 0 rest rest stop ts refl (omega arith) refl h) }
+prints_stop = record { low = refl; starts = λ rest e. refl; printed = λ rest ts e h. white_kinds (0x2E ∷ rest) (stop ∷ ts) (whole_kinds 0x2E 0 rest rest stop ts refl (omega arith) refl h) }
 
 pub prints_quoted : (q : List ℕ) → list_all is_quotable q ≡ true → Prints (0x20 ∷ 0x22 ∷ (q ++ 0x22 ∷ [])) (quoted q ∷ [])
 prints_quoted q all = record {
+  low = low_both q (0x22 ∷ []) (all_low is_quotable quotable_low q all) refl;
   starts = λ rest e. refl;
   printed = λ rest ts e h. white_kinds _ _ (moved (0x22 ∷ (q ++ 0x22 ∷ rest)) (0x22 ∷ ((q ++ 0x22 ∷ []) ++ rest)) _ _ (ap (λ o. 0x22 ∷ o) (sym (append_assoc q (0x22 ∷ []) rest))) refl (quoted_kinds q rest ts all h));
 }

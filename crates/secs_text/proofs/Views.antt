@@ -13,17 +13,9 @@ count_views [] = refl
 count_views (i ∷ items) = ap suc (count_views items)
 
 -- printing one more element
-printed_push : (items : List Item) (item : Item) → printed_elements (views (items ++ item ∷ [])) ≡ printed_elements (views items) ++ (codes " " ++ printed_item (view item))
+pub printed_push : (items : List Item) (item : Item) → printed_elements (views (items ++ item ∷ [])) ≡ printed_elements (views items) ++ (codes " " ++ printed_item (view item))
 printed_push [] item = ap (λ o. codes " " ++ o) (append-nil (printed_item (view item)))
 printed_push (i ∷ items) item = ap (λ o. codes " " ++ printed_item (view i) ++ o) (printed_push items item) ∙ sym (append_assoc (codes " " ++ printed_item (view i)) (printed_elements (views items)) _)
-
-pub printed_goes_on : (start out space new : List ℕ) (items : List Item) (i : ℕ) (item : Item) → i < length items → item ≡ get_or items i item → out ≡ start ++ printed_elements (views (take i items)) → space ≡ out ++ codes " " → new ≡ space ++ printed_item (view item) → new ≡ start ++ printed_elements (views (take (i + 1) items))
-printed_goes_on start out space new items i item lt is before spaced put =
-    put ∙ ap (λ o. o ++ printed_item (view item)) (spaced ∙ ap (λ o. o ++ codes " ") before)
-    ∙ append_assoc (start ++ printed_elements (views (take i items))) (codes " ") (printed_item (view item))
-    ∙ append_assoc start (printed_elements (views (take i items))) (codes " " ++ printed_item (view item))
-    ∙ ap (λ o. start ++ o) (sym (printed_push (take i items) item))
-    ∙ ap (λ xs. start ++ printed_elements (views xs)) (ap (λ x. take i items ++ x ∷ []) is ∙ sym (take_more items i item lt))
 
 held_push : (items : List Item) (item : Item) → AllHeld (views items) → IsHeld (view item) → AllHeld (views (items ++ item ∷ []))
 held_push [] item all one = (one.0, one.1, tt)

@@ -5,7 +5,7 @@ use Rattle.secs_item.specs.Item.{Value, Values, values}
 use Rattle.secs_text.specs.Content.{Content}
 use Rattle.secs_text.specs.Token.{Placed}
 use Rattle.secs_text.specs.Seen.{seen, then_tokens}
-use Rattle.secs_text.specs.Places.{Rules, Before, Count, start, is_empty, walk, after_type, in_item, with_quoted}
+use Rattle.secs_text.specs.Places.{Rules, Before, Count, start, is_empty, walk, after_type, in_item}
 use Rattle.secs_text.specs.declared.fault.TextFault.TheVariants as fault
 use Rattle.secs_text.specs.declared.token.Token.{Token}
 use Rattle.secs_text.specs.declared.token.Token.TheVariants as token
@@ -21,18 +21,6 @@ no_count rules b v at token.BracketEnd ts not = refl
 no_count rules b v at token.Stop ts not = refl
 no_count rules b v at token.Broken ts not = refl
 no_count rules b v at token.End ts not = refl
-
--- what is neither a word nor the end of the item, where a quoted text may not stand
-pub no_value : (rules : Rules) (b : Before) (count : Option Count) (v : Values) (at : ℕ) (t : Token) (ts : List Placed) → ((text : List ℕ) → with_quoted v text ≡ None) → ((w : Bor (List ℕ)) → t ≡ token.Word w → ⊥) → (t ≡ token.Greater → ⊥) → walk rules (in_item b (record { count = count; so_far = values v })) (then_tokens (record { at = at; token = seen t }) ts) ≡ Err (fault.Syntax at)
-no_value rules b count v at (token.Word w) ts unquoted word greater = absurd (word w refl)
-no_value rules b count v at (token.Quoted q) ts unquoted word greater = rw (unquoted q.now) refl
-no_value rules b count v at token.Less ts unquoted word greater = refl
-no_value rules b count v at token.Greater ts unquoted word greater = absurd (greater refl)
-no_value rules b count v at token.Bracket ts unquoted word greater = refl
-no_value rules b count v at token.BracketEnd ts unquoted word greater = refl
-no_value rules b count v at token.Stop ts unquoted word greater = refl
-no_value rules b count v at token.Broken ts unquoted word greater = refl
-no_value rules b count v at token.End ts unquoted word greater = refl
 
 -- what is neither a value nor the end of octets of text
 pub no_text : (rules : Rules) (b : Before) (count : Option Count) (v : Values) (at : ℕ) (t : Token) (ts : List Placed) → ((q : Bor (List ℕ)) → t ≡ token.Quoted q → ⊥) → ((w : Bor (List ℕ)) → t ≡ token.Word w → ⊥) → (t ≡ token.Greater → ⊥) → walk rules (in_item b (record { count = count; so_far = values v })) (then_tokens (record { at = at; token = seen t }) ts) ≡ Err (fault.Syntax at)

@@ -6,7 +6,7 @@ use Rattle.byteorder.specs.Endian.{big_bytes}
 use Rattle.secs_item.specs.declared.format.Format.{Format}
 use Rattle.secs_item.specs.declared.format.Format.TheVariants as format
 use Rattle.secs_item.specs.Format.{value_size}
-use Rattle.secs_item.specs.Item.{Value, values, Values, format_of_values, count_of_values}
+use Rattle.secs_item.specs.Item.{Value, values, Values, format_of_values, count_of_values, ValuesInRange}
 use Rattle.secs_item.specs.Short.{octet_alone, octet_of_truth, octets_of_signed, short, short_body}
 use Rattle.secs_text.specs.Body.{nothing_of}
 use Rattle.secs_text.specs.Content.{Content}
@@ -69,6 +69,7 @@ pub record Gathered (f : Format) (count : Option Count) (before after : List Pla
   pub form : format_of_values held ≡ f
   pub octets : new ≡ old ++ short_body held
   pub size : length (short_body held) ≡ value_size f * count_of_values held
+  pub in_range : ValuesInRange held
 
 -- more values of a format were gathered
 abbrev pub GathersMore : Format → List Placed → List Placed → List ℕ → List ℕ → Type 0
@@ -82,6 +83,7 @@ pub record Closed (f : Format) (count : Option Count) (before after : List Place
   pub form : format_of_values held ≡ f
   pub octets : new ≡ old ++ short_body held
   pub size : length (short_body held) ≡ value_size f * count_of_values held
+  pub in_range : ValuesInRange held
 
 -- the values of an item are read, or the tokens lead to this fault
 abbrev pub ValuesRead : Format → Option Count → Result (Unit {0}) TextFault → List Placed → List Placed → List ℕ → List ℕ → Type 0

@@ -1,54 +1,15 @@
 //! Tokens that stand as a message is printed, several at once.
 
-ghost use Rattle.std.specs.Prelude.{◌≡◌, ◌≤◌, ◌<◌, ◌+◌, ◌∷◌, [], length, true, false, Some, IfSome, IfNone, OnSome};
+ghost use Rattle.std.specs.Prelude.{◌≡◌, ◌≤◌, ◌<◌, ◌+◌, length, true, false, Some, IfSome, IfNone, OnSome};
 ghost use Rattle.secs_text.specs.AsPrinted.{IsOpening, IsWait, IsHead, OpensWith, IsSmall, IsLettered, IsHeaded};
 ghost use Rattle.secs_text.specs.Left.{left, octets_left};
 ghost use Rattle.secs_text.specs.Octets.{is_of_word};
-ghost use Rattle.secs_text.specs.TypeName.{format_named};
 
 use crate::count::Count;
 use crate::octet::{is_digit, is_of_word};
 use crate::tokens::Tokens;
+use crate::type_name::{format_of_letter, format_of_pair};
 use secs_item::Format;
-
-/// The format that one letter names.
-#[inline(always)]
-#[tactic(auto, unfolding(crate::specs::TypeName::format_named))]
-fn format_of_letter(letter: u8) -> Option<Format>
-    ensures named { IfSome result (λ f. format_named (letter ∷ []) ≡ Some f) }
-    ensures word { OnSome result (is_of_word letter ≡ true) }
-{
-    match letter {
-        b'L' => Some(Format::List),
-        b'B' => Some(Format::Binary),
-        b'A' => Some(Format::Ascii),
-        b'J' => Some(Format::Jis8),
-        _ => None,
-    }
-}
-
-/// The format that a letter and a digit name.
-#[inline(always)]
-#[tactic(auto, unfolding(crate::specs::TypeName::format_named))]
-fn format_of_pair(letter: u8, size: u8) -> Option<Format>
-    ensures named { IfSome result (λ f. format_named (letter ∷ size ∷ []) ≡ Some f) }
-    ensures word { OnSome result ((is_of_word letter ≡ true) × (is_of_word size ≡ true)) }
-{
-    match (letter, size) {
-        (b'C', b'2') => Some(Format::Char2),
-        (b'I', b'1') => Some(Format::I1),
-        (b'I', b'2') => Some(Format::I2),
-        (b'I', b'4') => Some(Format::I4),
-        (b'I', b'8') => Some(Format::I8),
-        (b'U', b'1') => Some(Format::U1),
-        (b'U', b'2') => Some(Format::U2),
-        (b'U', b'4') => Some(Format::U4),
-        (b'U', b'8') => Some(Format::U8),
-        (b'F', b'4') => Some(Format::F4),
-        (b'F', b'8') => Some(Format::F8),
-        _ => None,
-    }
-}
 
 /// A type name of one or two octets at the front, how many it has, and the digit of the count behind it.
 #[inline(always)]

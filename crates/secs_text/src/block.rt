@@ -1,8 +1,9 @@
 //! A block of octets on their way to an output.
 
 ghost use Rattle.std.specs.Prelude.{◌≡◌, ◌≤◌, ◌+◌, ◌++◌, ℕ, List, [], length, take, IfOk};
-ghost use Rattle.secs_text.specs.Laid.{Puts};
+ghost use Rattle.secs_text.specs.Laid.{Lays, Puts};
 
+use crate::laying::lay_slice;
 use std::alloc::{AllocError, Global};
 use std::marker::Model;
 
@@ -58,13 +59,42 @@ impl Block {
         &self.octets[..self.used]
     }
 
+    /// Lays octets behind its own. Where there is no room for them, an output is given its own first.
+    #[inline(always)]
+    pub fn lay<O: Output>(&mut self, out: &mut O, octets: &[u8])
+        ensures { Lays (O.Given out.old) self.old (O.Given out.new) self.new octets.now }
+    {
+        if octets.len() <= SIZE - self.used {
+            self.used = lay_slice(self.octets.as_mut_slice(), self.used, octets);
+        } else {
+            self.give_behind(out, octets);
+        }
+    }
+
+    // Gives an output all octets, and then these.
+    #[cold]
+    #[inline(never)]
+    fn give_behind<O: Output>(&mut self, out: &mut O, octets: &[u8])
+        ensures { Lays (O.Given out.old) self.old (O.Given out.new) self.new octets.now }
+    {
+        self.give_all(out);
+        out.give(octets);
+    }
+
+    /// Lets its octets go.
+    pub fn clear(&mut self)
+        ensures { self.new ≡ [] }
+    {
+        self.used = 0;
+    }
+
     /// Gives an output all octets.
     pub fn give_all<O: Output>(&mut self, out: &mut O)
         ensures given { (given : List ℕ) → O.Given out.old given → O.Given out.new (given ++ self.old) }
         ensures none_left { self.new ≡ [] }
     {
         out.give(&self.octets[..self.used]);
-        self.used = 0;
+        self.clear();
     }
 }
 

@@ -1,72 +1,38 @@
-//! Reading items.
+//! Reading items: each list by its elements, each item of values by its octets.
 
-ghost use Rattle.std.specs.Prelude.{◌≡◌, ◌≤◌, ◌+◌, [], length};
-ghost use Rattle.secs_item.specs.Item.{view, views, list, values, ascii, no_elements};
+ghost use Rattle.std.specs.Prelude.{◌≡◌, ◌≤◌, ◌+◌, false, length};
+ghost use Rattle.secs_item.specs.Format.{is_list};
+ghost use Rattle.secs_item.specs.Item.{view, views, list, no_elements};
+ghost use Rattle.secs_text.specs.Body.{nothing_of};
 ghost use Rattle.secs_text.specs.Left.{left, octets_left};
 ghost use Rattle.secs_text.specs.Places.{Rules, Before, walk, type_wanted, in_item, closed};
 ghost use Rattle.secs_text.specs.Reads.{Reads, count_seen};
 
 use crate::count::Count;
 use crate::fault::TextFault;
-use crate::number_words::{I1, I2, I4, I8, U1, U2, U4, U8};
-use crate::octet_words::{Binary, Boolean, Char2, F4, F8, Jis8};
-use crate::opening::{check_count, optional_count, type_name};
+use crate::opening::{check_count, format_and_count};
+use crate::short_values::gather;
 use crate::token::Token;
 use crate::tokens::Tokens;
-use crate::word::octet_of;
-use crate::words::Words;
-use secs_item::{Format, Item};
+use secs_item::{Format, Item, item_of_values};
 use std::alloc::Global;
 
-/// Reads values, each of one word, up to the `>` of their item.
-fn values<W: Words>(
+/// Reads the values of an item, after its type name and its count.
+fn values(
     alloc: Global,
     tokens: &mut Tokens,
+    format: Format,
     count: Option<Count>,
-) -> Result<Vec<W::Value>, TextFault>
+) -> Result<Item, TextFault>
+    requires no_list { is_list format ≡ false }
     ensures reads { (rules : Rules) (b : Before)
-        → Reads result (walk rules (in_item b (record { count = count_seen count; so_far = values (W.so_far []) })) (left tokens.old))
-        (λ v. walk rules (closed b.lists b (values (W.so_far v.items))) (left tokens.new)) }
+        → Reads result (walk rules (in_item b (record { count = count_seen count; so_far = nothing_of format })) (left tokens.old))
+        (λ i. walk rules (closed b.lists b (view i)) (left tokens.new)) }
     ensures no_longer { octets_left tokens.new ≤ octets_left tokens.old }
 {
-    let mut values = Vec::new(alloc);
-    loop {
-        let next = tokens.next();
-        match next.token {
-            Token::Word(word) => match W::value(word) {
-                Some(value) => values.push(value)?,
-                None => return Err(TextFault::Number { at: next.at }),
-            },
-            Token::Greater => break,
-            _ => return Err(TextFault::Syntax { at: next.at }),
-        }
-    }
-    check_count(count, values.len())?;
-    Ok(values)
-}
-
-/// Reads octets of text up to the `>` of their item.
-fn text(alloc: Global, tokens: &mut Tokens, count: Option<Count>) -> Result<Vec<u8>, TextFault>
-    ensures reads { (rules : Rules) (b : Before)
-        → Reads result (walk rules (in_item b (record { count = count_seen count; so_far = values (ascii []) })) (left tokens.old))
-        (λ v. walk rules (closed b.lists b (values (ascii v.items))) (left tokens.new)) }
-    ensures no_longer { octets_left tokens.new ≤ octets_left tokens.old }
-{
-    let mut octets = Vec::new(alloc);
-    loop {
-        let next = tokens.next();
-        match next.token {
-            Token::Word(word) => match octet_of(word) {
-                Some(octet) => octets.push(octet)?,
-                None => return Err(TextFault::Number { at: next.at }),
-            },
-            Token::Quoted(text) => octets.extend_from_slice(text)?,
-            Token::Greater => break,
-            _ => return Err(TextFault::Syntax { at: next.at }),
-        }
-    }
-    check_count(count, octets.len())?;
-    Ok(octets)
+    let mut body = Vec::new(alloc);
+    gather(&mut body, tokens, format, count)?;
+    Ok(item_of_values(alloc, format, &body)?)
 }
 
 /// Reads items up to the `>` of their list. Lists in them may be nested `depth` deep.
@@ -109,24 +75,23 @@ pub fn item(
         (λ i. walk rules (closed b.lists b (view i)) (left tokens.new)) }
     ensures no_longer { octets_left tokens.new ≤ octets_left tokens.old }
 {
-    let format = type_name(tokens, opening, depth)?;
-    let count = optional_count(tokens)?;
+    let (format, count) = format_and_count(tokens, opening, depth)?;
     match format {
         Format::List => Ok(Item::List(elements(alloc, tokens, count, depth - 1)?)),
-        Format::Ascii => Ok(Item::Ascii(text(alloc, tokens, count)?)),
-        Format::Binary => Ok(Item::Binary(values::<Binary>(alloc, tokens, count)?)),
-        Format::Boolean => Ok(Item::Boolean(values::<Boolean>(alloc, tokens, count)?)),
-        Format::Jis8 => Ok(Item::Jis8(values::<Jis8>(alloc, tokens, count)?)),
-        Format::Char2 => Ok(Item::Char2(values::<Char2>(alloc, tokens, count)?)),
-        Format::I1 => Ok(Item::I1(values::<I1>(alloc, tokens, count)?)),
-        Format::I2 => Ok(Item::I2(values::<I2>(alloc, tokens, count)?)),
-        Format::I4 => Ok(Item::I4(values::<I4>(alloc, tokens, count)?)),
-        Format::I8 => Ok(Item::I8(values::<I8>(alloc, tokens, count)?)),
-        Format::U1 => Ok(Item::U1(values::<U1>(alloc, tokens, count)?)),
-        Format::U2 => Ok(Item::U2(values::<U2>(alloc, tokens, count)?)),
-        Format::U4 => Ok(Item::U4(values::<U4>(alloc, tokens, count)?)),
-        Format::U8 => Ok(Item::U8(values::<U8>(alloc, tokens, count)?)),
-        Format::F4 => Ok(Item::F4(values::<F4>(alloc, tokens, count)?)),
-        Format::F8 => Ok(Item::F8(values::<F8>(alloc, tokens, count)?)),
+        Format::Binary
+        | Format::Boolean
+        | Format::Ascii
+        | Format::Jis8
+        | Format::Char2
+        | Format::I1
+        | Format::I2
+        | Format::I4
+        | Format::I8
+        | Format::U1
+        | Format::U2
+        | Format::U4
+        | Format::U8
+        | Format::F4
+        | Format::F8 => values(alloc, tokens, format, count),
     }
 }

@@ -31,15 +31,16 @@ pub fn lay_slice(block: &mut [u8], at: usize, octets: &[u8]) -> usize
     end
 }
 
-/// Lays the first octets of a word. What stands behind them may change.
+/// Lays the first octets of a word, which stands at the front. What stands behind them may change, up to `N` octets.
 #[inline(always)]
-pub fn lay_word<const N: usize>(block: &mut [u8], at: usize, word: &[u8; N], count: usize) -> usize
+pub fn lay_word<const N: usize>(block: &mut [u8], at: usize, word: &[u8], count: usize) -> usize
     requires room { at + N ≤ length block.old }
     requires there { count ≤ N }
+    requires long { N ≤ length word.now }
     ensures laid { Laid block.old block.new at (take count word.now) result }
     ensures near { result ≤ at + N }
 {
-    Simd::<u8, N>::from_slice(word.as_slice()).copy_to_slice(&mut block[at..]);
+    Simd::<u8, N>::from_slice(word).copy_to_slice(&mut block[at..]);
     at + count
 }
 
@@ -50,7 +51,8 @@ pub fn lay_octet(block: &mut [u8], at: usize, octet: u8) -> usize
     ensures laid { Laid block.old block.new at (codes " " ++ hexadecimal (octet ∷ [])) result }
     ensures near { result ≤ at + 8 }
 {
-    lay_word(block, at, &WORDS[usize::from(octet)], 5)
+    let (_, word) = WORDS.split_at(8 * usize::from(octet));
+    lay_word::<8>(block, at, word, 5)
 }
 
 /// Lays the two digits of an octet in hexadecimal.
@@ -60,7 +62,8 @@ pub fn lay_digits(block: &mut [u8], at: usize, octet: u8) -> usize
     ensures laid { Laid block.old block.new at (two_digits octet) result }
     ensures near { result ≤ at + 2 }
 {
-    lay_word(block, at, &DIGITS[usize::from(octet)], 2)
+    let (_, digits) = DIGITS.split_at(2 * usize::from(octet));
+    lay_word::<2>(block, at, digits, 2)
 }
 
 /// Lays a number below 256.
@@ -70,8 +73,8 @@ pub fn lay_small(block: &mut [u8], at: usize, number: u8) -> usize
     ensures laid { Laid block.old block.new at (decimal number) result }
     ensures near { result ≤ at + 4 }
 {
-    let word = &NUMBERS[usize::from(number)];
-    lay_word(block, at, word, usize::from(word[3]))
+    let (_, word) = NUMBERS.split_at(4 * usize::from(number));
+    lay_word::<4>(block, at, word, usize::from(word[3]))
 }
 
 /// Lays the two digits of a number below 100.
@@ -82,7 +85,8 @@ fn lay_pair(block: &mut [u8], at: usize, number: u64) -> usize
     ensures laid { Laid block.old block.new at (two_decimals number) result }
     ensures near { result ≤ at + 2 }
 {
-    lay_word(block, at, &PAIRS[number as usize], 2)
+    let (_, pair) = PAIRS.split_at(2 * number as usize);
+    lay_word::<2>(block, at, pair, 2)
 }
 
 /// Lays a number below 25,600.

@@ -23,9 +23,7 @@ mod items;
 pub mod laws;
 mod laying;
 mod message;
-mod number_words;
 mod octet;
-mod octet_words;
 mod opening;
 mod printing;
 mod raw_items;
@@ -43,8 +41,6 @@ mod token;
 mod tokens;
 mod type_name;
 mod word;
-mod words;
-mod written;
 
 pub use block::{Block, Output};
 pub use fault::TextFault;

@@ -8,6 +8,7 @@ ghost use Rattle.secs_text.specs.Body.{nothing_of};
 ghost use Rattle.secs_text.specs.Reads.{Reads, count_seen, Checks};
 ghost use Rattle.secs_item.specs.declared.format.Format.TheVariants as format;
 
+use crate::as_printed::next_opening;
 use crate::count::Count;
 use crate::fault::TextFault;
 use crate::token::Token;
@@ -18,7 +19,7 @@ use secs_item::Format;
 
 /// Reads the type name after the `<` that stood at `opening`. Lists may be nested `depth` deep.
 #[inline(always)]
-pub fn type_name(tokens: &mut Tokens, opening: usize, depth: u8) -> Result<Format, TextFault>
+fn type_name(tokens: &mut Tokens, opening: usize, depth: u8) -> Result<Format, TextFault>
     ensures reads { (rules : Rules) (b : Before) → length b.lists + depth ≡ rules.depth
         → Reads result (walk rules (type_wanted b opening) (left tokens.old))
         (λ f. walk rules (after_type b (nothing_of f)) (left tokens.new)) }
@@ -38,7 +39,7 @@ pub fn type_name(tokens: &mut Tokens, opening: usize, depth: u8) -> Result<Forma
 
 /// Reads the number of a count and the `]`, after the `[`.
 #[inline(always)]
-pub fn count_after(tokens: &mut Tokens, opening: usize) -> Result<Count, TextFault>
+fn count_after(tokens: &mut Tokens, opening: usize) -> Result<Count, TextFault>
     ensures reads { (rules : Rules) (b : Before) (v : Value)
         → Reads result (walk rules (count_wanted b v opening) (left tokens.old))
         (λ c. walk rules (in_item b (record { count = count_seen (Some c); so_far = v })) (left tokens.new)) }
@@ -64,7 +65,7 @@ pub fn count_after(tokens: &mut Tokens, opening: usize) -> Result<Count, TextFau
 
 /// Reads the count, if one is written.
 #[inline(always)]
-pub fn optional_count(tokens: &mut Tokens) -> Result<Option<Count>, TextFault>
+fn optional_count(tokens: &mut Tokens) -> Result<Option<Count>, TextFault>
     ensures reads { (rules : Rules) (b : Before) (v : Value)
         → Reads result (walk rules (after_type b v) (left tokens.old))
         (λ c. walk rules (in_item b (record { count = count_seen c; so_far = v })) (left tokens.new)) }
@@ -82,6 +83,31 @@ pub fn optional_count(tokens: &mut Tokens) -> Result<Option<Count>, TextFault>
         }
         _ => Ok(None),
     }
+}
+
+/// Reads the type name of an item whose `<` stood at `opening`, and its count, if one is written. Lists may be nested
+/// `depth` deep.
+#[inline(always)]
+pub fn format_and_count(
+    tokens: &mut Tokens,
+    opening: usize,
+    depth: u8,
+) -> Result<(Format, Option<Count>), TextFault>
+    ensures reads { (rules : Rules) (b : Before) → length b.lists + depth ≡ rules.depth
+        → Reads result (walk rules (type_wanted b opening) (left tokens.old))
+        (λ o. walk rules (in_item b (record { count = count_seen o.1; so_far = nothing_of o.0 })) (left tokens.new)) }
+    ensures list { IfOk result (λ o. o.0 ≡ format.List → 0 < depth) }
+    ensures no_longer { octets_left tokens.new ≤ octets_left tokens.old }
+{
+    if let Some((format, count)) = next_opening(tokens) {
+        return match format {
+            Format::List if depth == 0 => Err(TextFault::Deep { at: opening }),
+            _ => Ok((format, Some(count))),
+        };
+    }
+    let format = type_name(tokens, opening, depth)?;
+    let count = optional_count(tokens)?;
+    Ok((format, count))
 }
 
 /// Tells a count that isn't right.

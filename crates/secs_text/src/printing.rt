@@ -1,238 +1,191 @@
-//! Printing messages.
+//! Printing messages: each list by its elements, each item of values by its octets.
 
-ghost use Rattle.std.specs.Prelude.{◌≡◌, ◌<◌, ◌^◌, ◌++◌, [], true, false, codes, decimal, string_bytes, IfOk, IfErr, OnOk, MatchOption, if◌then◌else◌, option_map};
-ghost use Rattle.secs_text.specs.Printed.{printed_octet, printed_text, printed_values, printed_item, printed_body, printed_elements, printed_optional, printed};
+ghost use Rattle.std.specs.Prelude.{◌≡◌, ◌≤◌, ◌++◌, ℕ, List, true, false, length, codes, string_bytes, IfOk, IfErr, OnOk, MatchOption, option_map};
+ghost use Rattle.std.specs.Str.{IsUtf8};
+ghost use Rattle.secs_item.specs.Format.{is_list};
+ghost use Rattle.secs_item.specs.Item.{view, views, format_of, list};
+ghost use Rattle.secs_text.specs.Held.{IsHeld, IsHeldMessage};
+ghost use Rattle.secs_text.specs.Laid.{Puts};
 ghost use Rattle.secs_text.specs.Notation.{Notation};
-ghost use Rattle.secs_text.specs.Octets.{is_quotable};
+ghost use Rattle.secs_text.specs.Printed.{printed_item, printed_optional, printed};
 ghost use Rattle.secs_text.specs.View.{content};
-ghost use Rattle.secs_text.specs.Body.{body_of};
-ghost use Rattle.secs_text.specs.Held.{IsOctets, BodyIsHeld, InnerIsHeld, AllHeld, IsHeld, IsHeldMessage};
-ghost use Rattle.secs_item.specs.Item.{view, views, format_of, count_of};
-ghost use Rattle.secs_text.specs.TypeName.{type_name};
 ghost use Rattle.secs_text.specs.declared.fault.TextFault.TheVariants.{Memory};
 
+use crate::block::{Block, Output};
 use crate::fault::TextFault;
 use crate::message::Message;
-use crate::number_words::{I1, I2, I4, I8, U1, U2, U4, U8};
-use crate::octet::is_quotable;
-use crate::octet_words::{Binary, Boolean, Char2, F4, F8, Jis8};
-use crate::type_name::type_name;
-use crate::words::Words;
-use crate::written::put_octet;
-use itoa::Buffer;
-use secs_item::{Format, Item};
+use crate::raw_items::{put_end, put_item_of_values, put_opening};
+use crate::raw_message::{Head, put_head, put_stop};
+use secs_item::{Format, Item, body_octets};
 use std::alloc::{AllocError, Global};
 
-/// The room, in octets, that a notation takes at first.
-const SHORT_NOTATION: usize = 256;
-
-/// Puts values, each after a space.
-fn put_words<W: Words>(out: &mut String, values: &[W::Value]) -> Result<(), AllocError>
-    ensures text { OnOk result (string_bytes out.new ≡ string_bytes out.old ++ printed_values (body_of (W.so_far values.now))) }
-    ensures held { OnOk result (BodyIsHeld (body_of (W.so_far values.now))) }
-{
-    for value in values {
-        W::put(out, value)?;
-    }
-    Ok(())
+/// The octets of a notation, unless memory was wanting for them.
+#[derive(Drop)]
+struct Gathered {
+    octets: Vec<u8>,
+    is_whole: bool,
 }
 
-/// Puts an octet that may stand between quotes, where a quote is open or not.
-fn put_quotable(out: &mut String, quoted: bool, octet: u8) -> Result<(), AllocError>
-    requires { is_quotable octet ≡ true }
-    ensures { OnOk result (string_bytes out.new ≡ string_bytes out.old ++ printed_octet quoted octet) }
-{
-    if !quoted {
-        out.push_str(" \"")?;
-    }
-    out.push(char::from(octet))
-}
+impl Output for Gathered {
+    ghost use Rattle.std.specs.Prelude.{◌≡◌, true};
 
-/// Puts an octet that may not stand between quotes, where a quote is open or not.
-fn put_other(out: &mut String, quoted: bool, octet: u8) -> Result<(), AllocError>
-    requires { is_quotable octet ≡ false }
-    ensures { OnOk result (string_bytes out.new ≡ string_bytes out.old ++ printed_octet quoted octet) }
-{
-    if quoted {
-        out.push_str("\"")?;
-    }
-    put_octet(out, octet)
-}
+    ghost Given = { λ g given. g.is_whole ≡ true → g.octets.items ≡ given };
 
-/// Puts an octet of text, where a quote is open or not.
-fn put_text_octet(out: &mut String, quoted: bool, octet: u8) -> Result<(), AllocError>
-    ensures { OnOk result (string_bytes out.new ≡ string_bytes out.old ++ printed_octet quoted octet) }
-{
-    if is_quotable(octet) {
-        put_quotable(out, quoted, octet)
-    } else {
-        put_other(out, quoted, octet)
+    fn give(&mut self, octets: &[u8]) {
+        if self.octets.extend_from_slice(octets).is_err() {
+            self.is_whole = false;
+        }
     }
 }
 
-/// Puts octets of text: runs of printable octets in quotes, every other octet in hexadecimal.
-fn put_text(out: &mut String, octets: &[u8]) -> Result<(), AllocError>
-    ensures held { IsOctets octets.now }
-    ensures text { OnOk result (string_bytes out.new ≡ string_bytes out.old ++ printed_text false octets.now) }
-{
-    let mut quoted = false;
-    for octet in octets {
-        put_text_octet(out, quoted, *octet)?;
-        quoted = is_quotable(*octet);
-    }
-    if quoted {
-        out.push_str("\"")?;
-    }
-    Ok(())
-}
-
-fn put_opening(out: &mut String, format: Format, count: usize) -> Result<(), AllocError>
-    ensures { OnOk result (string_bytes out.new ≡ string_bytes out.old ++ (codes "<" ++ type_name format ++ codes " [" ++ decimal count ++ codes "]")) }
-{
-    let mut buffer = Buffer::new();
-    out.push_str("<")?;
-    out.push_str(type_name(format))?;
-    out.push_str(" [")?;
-    out.push_str(buffer.format(count))?;
-    out.push_str("]")
-}
-
-/// What an item holds.
-fn format_of(item: &Item) -> Format
-    ensures { result ≡ format_of (view item.now) }
-{
-    match item {
-        Item::List(_) => Format::List,
-        Item::Binary(_) => Format::Binary,
-        Item::Boolean(_) => Format::Boolean,
-        Item::Ascii(_) => Format::Ascii,
-        Item::Jis8(_) => Format::Jis8,
-        Item::Char2(_) => Format::Char2,
-        Item::I1(_) => Format::I1,
-        Item::I2(_) => Format::I2,
-        Item::I4(_) => Format::I4,
-        Item::I8(_) => Format::I8,
-        Item::U1(_) => Format::U1,
-        Item::U2(_) => Format::U2,
-        Item::U4(_) => Format::U4,
-        Item::U8(_) => Format::U8,
-        Item::F4(_) => Format::F4,
-        Item::F8(_) => Format::F8,
-    }
-}
-
-/// How many octets, values or elements an item has.
-fn count_of(item: &Item) -> usize
-    ensures value { result ≡ count_of (view item.now) }
-    ensures in_range { result < 2 ^ 64 }
-{
-    match item {
-        Item::List(values) => values.len(),
-        Item::Binary(values) => values.len(),
-        Item::Boolean(values) => values.len(),
-        Item::Ascii(values) => values.len(),
-        Item::Jis8(values) => values.len(),
-        Item::Char2(values) => values.len(),
-        Item::I1(values) => values.len(),
-        Item::I2(values) => values.len(),
-        Item::I4(values) => values.len(),
-        Item::I8(values) => values.len(),
-        Item::U1(values) => values.len(),
-        Item::U2(values) => values.len(),
-        Item::U4(values) => values.len(),
-        Item::U8(values) => values.len(),
-        Item::F4(values) => values.len(),
-        Item::F8(values) => values.len(),
-    }
-}
-
-/// Puts what an item holds.
-#[cycle(put)]
-fn put_body(out: &mut String, item: &Item) -> Result<(), AllocError>
-    ensures text { OnOk result (string_bytes out.new ≡ string_bytes out.old ++ printed_body (view item.now)) }
-    ensures held { OnOk result (InnerIsHeld (view item.now)) }
-{
-    match item {
-        Item::List(items) => put_elements(out, items),
-        Item::Ascii(octets) => put_text(out, octets),
-        Item::Binary(values) => put_words::<Binary>(out, values),
-        Item::Boolean(values) => put_words::<Boolean>(out, values),
-        Item::Jis8(values) => put_words::<Jis8>(out, values),
-        Item::Char2(values) => put_words::<Char2>(out, values),
-        Item::I1(values) => put_words::<I1>(out, values),
-        Item::I2(values) => put_words::<I2>(out, values),
-        Item::I4(values) => put_words::<I4>(out, values),
-        Item::I8(values) => put_words::<I8>(out, values),
-        Item::U1(values) => put_words::<U1>(out, values),
-        Item::U2(values) => put_words::<U2>(out, values),
-        Item::U4(values) => put_words::<U4>(out, values),
-        Item::U8(values) => put_words::<U8>(out, values),
-        Item::F4(values) => put_words::<F4>(out, values),
-        Item::F8(values) => put_words::<F8>(out, values),
-    }
-}
-
-#[cycle(put)]
-fn put_elements(out: &mut String, items: &[Item]) -> Result<(), AllocError>
-    ensures text { OnOk result (string_bytes out.new ≡ string_bytes out.old ++ printed_elements (views items.now)) }
-    ensures held { OnOk result (AllHeld (views items.now)) }
-{
-    for item in items {
-        out.push_str(" ")?;
-        put_item(out, item)?;
-    }
-    Ok(())
-}
-
-#[cycle(put)]
-fn put_item(out: &mut String, item: &Item) -> Result<(), AllocError>
-    ensures text { OnOk result (string_bytes out.new ≡ string_bytes out.old ++ printed_item (view item.now)) }
+/// Puts an item of values, after a space.
+fn put_values_item<O: Output>(
+    alloc: Global,
+    out: &mut O,
+    block: &mut [u8],
+    from: usize,
+    item: &Item,
+) -> Result<usize, AllocError>
+    requires no_list { is_list (format_of (view item.now)) ≡ false }
+    requires size { length block.old ≡ 65536 }
+    requires within { from ≤ 65536 }
+    ensures puts { IfOk result (λ at. Puts (O.Given out.old) block.old from (O.Given out.new) block.new at
+        (codes " " ++ printed_item (view item.now))) }
     ensures held { OnOk result (IsHeld (view item.now)) }
 {
-    put_opening(out, format_of(item), count_of(item))?;
-    put_body(out, item)?;
-    out.push_str(">")
+    let octets = body_octets(alloc, item)?;
+    Ok(put_item_of_values(out, block, from, item.format(), &octets))
 }
 
-fn put_wait(out: &mut String, wait: bool) -> Result<(), AllocError>
-    ensures { OnOk result (string_bytes out.new ≡ string_bytes out.old ++ (if wait then codes " W" else [])) }
+/// Puts an item, after a space.
+#[cycle(put)]
+fn put_tree<O: Output>(
+    alloc: Global,
+    out: &mut O,
+    block: &mut [u8],
+    from: usize,
+    item: &Item,
+) -> Result<usize, AllocError>
+    requires size { length block.old ≡ 65536 }
+    requires within { from ≤ 65536 }
+    ensures puts { IfOk result (λ at. Puts (O.Given out.old) block.old from (O.Given out.new) block.new at
+        (codes " " ++ printed_item (view item.now))) }
+    ensures held { OnOk result (IsHeld (view item.now)) }
 {
-    if wait { out.push_str(" W") } else { Ok(()) }
+    match item {
+        Item::List(elements) => put_list(alloc, out, block, from, elements),
+        Item::Binary(_)
+        | Item::Boolean(_)
+        | Item::Ascii(_)
+        | Item::Jis8(_)
+        | Item::Char2(_)
+        | Item::I1(_)
+        | Item::I2(_)
+        | Item::I4(_)
+        | Item::I8(_)
+        | Item::U1(_)
+        | Item::U2(_)
+        | Item::U4(_)
+        | Item::U8(_)
+        | Item::F4(_)
+        | Item::F8(_) => put_values_item(alloc, out, block, from, item),
+    }
 }
 
-fn put_optional(out: &mut String, item: Option<&Item>) -> Result<(), AllocError>
-    ensures text { OnOk result (string_bytes out.new ≡ string_bytes out.old ++ printed_optional (option_map (λ i. view i.now) item.entry)) }
+/// Puts a list, after a space.
+#[cycle(put)]
+fn put_list<O: Output>(
+    alloc: Global,
+    out: &mut O,
+    block: &mut [u8],
+    from: usize,
+    elements: &[Item],
+) -> Result<usize, AllocError>
+    requires size { length block.old ≡ 65536 }
+    requires within { from ≤ 65536 }
+    ensures puts { IfOk result (λ at. Puts (O.Given out.old) block.old from (O.Given out.new) block.new at
+        (codes " " ++ printed_item (list (views elements.now)))) }
+    ensures held { OnOk result (IsHeld (list (views elements.now))) }
+{
+    let mut at = put_opening(out, block, from, Format::List, elements.len());
+    for element in elements {
+        at = put_tree(alloc, out, block, at, element)?;
+    }
+    Ok(put_end(out, block, at))
+}
+
+/// Puts the item of a message, if there is one.
+fn put_optional<O: Output>(
+    alloc: Global,
+    out: &mut O,
+    block: &mut [u8],
+    from: usize,
+    item: Option<&Item>,
+) -> Result<usize, AllocError>
+    requires size { length block.old ≡ 65536 }
+    requires within { from ≤ 65536 }
+    ensures puts { IfOk result (λ at. Puts (O.Given out.old) block.old from (O.Given out.new) block.new at
+        (printed_optional (option_map (λ i. view i.now) item.entry))) }
     ensures held { OnOk result (MatchOption (option_map (λ i. view i.now) item.entry) (Unit {0}) IsHeld) }
 {
     match item {
-        Some(item) => {
-            out.push_str(" ")?;
-            put_item(out, item)
-        }
-        None => Ok(()),
+        Some(item) => put_tree(alloc, out, block, from, item),
+        None => Ok(from),
     }
 }
 
-fn put_head(out: &mut String, stream: u8, function: u8) -> Result<(), AllocError>
-    ensures { OnOk result (string_bytes out.new ≡ string_bytes out.old ++ codes "S" ++ decimal stream ++ codes "F" ++ decimal function) }
-{
-    let mut buffer = Buffer::new();
-    out.push_str("S")?;
-    out.push_str(buffer.format(stream))?;
-    out.push_str("F")?;
-    out.push_str(buffer.format(function))
-}
-
-/// Puts a message's notation.
-#[tactic(auto, using(std::proofs::Common::append_assoc))]
-fn put_message(out: &mut String, message: &Message) -> Result<(), AllocError>
-    ensures text { OnOk result (string_bytes out.new ≡ string_bytes out.old ++ printed (content message.now)) }
+/// Puts a message.
+fn put_message<O: Output>(
+    alloc: Global,
+    out: &mut O,
+    block: &mut [u8],
+    message: &Message,
+) -> Result<usize, AllocError>
+    requires { length block.old ≡ 65536 }
+    ensures puts { IfOk result (λ at. Puts (O.Given out.old) block.old 0 (O.Given out.new) block.new at
+        (printed (content message.now))) }
     ensures held { OnOk result (IsHeldMessage (content message.now)) }
 {
-    put_head(out, message.stream(), message.function())?;
-    put_wait(out, message.wait())?;
-    put_optional(out, message.item())?;
-    out.push_str(" .")
+    let head = Head {
+        stream: message.stream(),
+        function: message.function(),
+        wait: message.wait(),
+    };
+    let at = put_head(out, block, 0, head);
+    let at = put_optional(alloc, out, block, at, message.item())?;
+    Ok(put_stop(out, block, at))
+}
+
+/// Gives an output a message's notation.
+fn give_message<O: Output>(
+    alloc: Global,
+    out: &mut O,
+    block: &mut [u8],
+    message: &Message,
+) -> Result<(), AllocError>
+    requires { length block.old ≡ 65536 }
+    ensures given { OnOk result ((given : List ℕ) → O.Given out.old given
+        → O.Given out.new (given ++ printed (content message.now))) }
+    ensures held { OnOk result (IsHeldMessage (content message.now)) }
+{
+    let end = put_message(alloc, out, block, message)?;
+    out.give(&block[..end]);
+    Ok(())
+}
+
+/// The notation as text, if it is whole.
+fn text_of(gathered: Gathered) -> Result<String, TextFault>
+    requires { gathered.is_whole ≡ true → IsUtf8 gathered.octets.items }
+    ensures text { IfOk result (λ text. (gathered.is_whole ≡ true) × (string_bytes text ≡ gathered.octets.items)) }
+    ensures memory { IfErr result (λ f. f ≡ Memory) }
+{
+    if !gathered.is_whole {
+        return Err(TextFault::Memory);
+    }
+    let Ok(text) = String::from_utf8(gathered.octets) else {
+        unreachable!()
+    };
+    Ok(text)
 }
 
 /// The printed form of a message, which is its notation: read again, it is that message.
@@ -246,7 +199,11 @@ pub fn print(alloc: Global, message: &Message) -> Result<String, TextFault>
     ensures held { OnOk result (IsHeldMessage (content message.now)) }
     ensures memory { IfErr result (λ f. f ≡ Memory) }
 {
-    let mut out = String::with_capacity(alloc, SHORT_NOTATION)?;
-    put_message(&mut out, message)?;
-    Ok(out)
+    let mut out = Gathered {
+        octets: Vec::new(alloc),
+        is_whole: true,
+    };
+    let mut block = vec![in alloc; 0u8; 65536]?;
+    give_message(alloc, &mut out, &mut block, message)?;
+    text_of(out)
 }

@@ -1,122 +1,22 @@
 //! Items from their octets to an output, with no item made. For each list that stands open it is kept how many elements
 //! are still to come.
 
-ghost use Rattle.std.specs.Prelude.{◌≡◌, ◌≤◌, ◌<◌, ◌+◌, ◌-◌, ◌/◌, ◌++◌, ℕ, Ok, false, true, length, take, drop, IsOk, codes, decimal};
+ghost use Rattle.std.specs.Prelude.{◌≡◌, ◌≤◌, ◌<◌, ◌+◌, ◌-◌, ◌/◌, ◌++◌, ℕ, Ok, false, length, take, drop, IsOk, codes, decimal};
 ghost use Rattle.secs_item.specs.Format.{is_list, value_size};
 ghost use Rattle.secs_item.specs.Item.{Value, Elements};
 ghost use Rattle.secs_item.specs.Reading.{item_at, elements_by, values_of};
 ghost use Rattle.secs_text.specs.Body.{body_of};
 ghost use Rattle.secs_text.specs.Laid.{Laid, Puts, opening_of};
 ghost use Rattle.secs_text.specs.Printed.{printed_elements, printed_item, printed_values};
-ghost use Rattle.secs_text.specs.TypeName.{type_name};
 
 use crate::block::{Output, room};
 use crate::laying::{lay_byte, lay_number, lay_small, lay_word};
 use crate::raw_values::put_values;
+use crate::type_name::opening_word;
 use secs_item::{Format, Header, read_header};
 
 /// How deep lists nest at most.
 const MAX_DEPTH: usize = 100;
-
-/// The words before the count of an item: as many octets as it says.
-#[derive(Clone, Copy)]
-struct Opening {
-    word: &'static [u8; 16],
-    length: usize,
-}
-
-#[inline(always)]
-fn opening_word(format: Format) -> Opening
-    ensures text { take result.length result.word.now ≡ codes " <" ++ type_name format ++ codes " [" }
-    ensures short { result.length ≤ 16 }
-{
-    match format {
-        Format::List => Opening {
-            word: b" <L [           ",
-            length: 5,
-        },
-        Format::Binary => Opening {
-            word: b" <B [           ",
-            length: 5,
-        },
-        Format::Boolean => Opening {
-            word: b" <BOOLEAN [     ",
-            length: 11,
-        },
-        Format::Ascii => Opening {
-            word: b" <A [           ",
-            length: 5,
-        },
-        Format::Jis8 => Opening {
-            word: b" <J [           ",
-            length: 5,
-        },
-        Format::Char2 => Opening {
-            word: b" <C2 [          ",
-            length: 6,
-        },
-        Format::I1 => Opening {
-            word: b" <I1 [          ",
-            length: 6,
-        },
-        Format::I2 => Opening {
-            word: b" <I2 [          ",
-            length: 6,
-        },
-        Format::I4 => Opening {
-            word: b" <I4 [          ",
-            length: 6,
-        },
-        Format::I8 => Opening {
-            word: b" <I8 [          ",
-            length: 6,
-        },
-        Format::U1 => Opening {
-            word: b" <U1 [          ",
-            length: 6,
-        },
-        Format::U2 => Opening {
-            word: b" <U2 [          ",
-            length: 6,
-        },
-        Format::U4 => Opening {
-            word: b" <U4 [          ",
-            length: 6,
-        },
-        Format::U8 => Opening {
-            word: b" <U8 [          ",
-            length: 6,
-        },
-        Format::F4 => Opening {
-            word: b" <F4 [          ",
-            length: 6,
-        },
-        Format::F8 => Opening {
-            word: b" <F8 [          ",
-            length: 6,
-        },
-    }
-}
-
-/// How many elements or values a body of this length has.
-#[inline(always)]
-fn count_of(format: Format, length: usize) -> usize
-    ensures { result ≡ length / value_size format }
-{
-    match format {
-        Format::List
-        | Format::Binary
-        | Format::Boolean
-        | Format::Ascii
-        | Format::Jis8
-        | Format::Char2
-        | Format::I1
-        | Format::U1 => length,
-        Format::I2 | Format::U2 => length / 2,
-        Format::I4 | Format::U4 | Format::F4 => length / 4,
-        Format::I8 | Format::U8 | Format::F8 => length / 8,
-    }
-}
 
 /// Lays a number.
 #[inline(always)]
@@ -140,14 +40,14 @@ fn lay_opening(block: &mut [u8], at: usize, format: Format, count: usize) -> usi
     ensures near { result ≤ at + 64 }
 {
     let opening = opening_word(format);
-    let at = lay_word(block, at, opening.word, opening.length);
+    let at = lay_word::<16>(block, at, opening.word.as_slice(), opening.length);
     let at = lay_count(block, at, count);
     lay_byte(block, at, b']')
 }
 
 /// Puts the opening of an item with a body of this length, after a space.
 #[inline(always)]
-fn put_opening<O: Output>(
+pub fn put_opening<O: Output>(
     out: &mut O,
     block: &mut [u8],
     from: usize,
@@ -160,12 +60,12 @@ fn put_opening<O: Output>(
         (opening_of format (body_length / value_size format)) }
 {
     let at = room(out, block, from);
-    lay_opening(block, at, format, count_of(format, body_length))
+    lay_opening(block, at, format, body_length / format.size())
 }
 
 /// Puts what ends an item.
 #[inline(always)]
-fn put_end<O: Output>(out: &mut O, block: &mut [u8], from: usize) -> usize
+pub fn put_end<O: Output>(out: &mut O, block: &mut [u8], from: usize) -> usize
     requires size { length block.old ≡ 65536 }
     requires within { from ≤ 65536 }
     ensures { Puts (O.Given out.old) block.old from (O.Given out.new) block.new result (codes ">") }
@@ -207,7 +107,7 @@ fn put_values_of<O: Output>(
 
 /// Puts an item of values with this body, after a space. Each format has code of its own.
 #[inline(never)]
-fn put_item_of_values<O: Output>(
+pub fn put_item_of_values<O: Output>(
     out: &mut O,
     block: &mut [u8],
     from: usize,
@@ -238,31 +138,6 @@ fn put_item_of_values<O: Output>(
         Format::U8 => put_values_of(out, block, from, Format::U8, body),
         Format::F4 => put_values_of(out, block, from, Format::F4, body),
         Format::F8 => put_values_of(out, block, from, Format::F8, body),
-    }
-}
-
-/// Whether items of this format are lists.
-#[inline(always)]
-fn is_list(format: Format) -> bool
-    ensures { result ≡ is_list format }
-{
-    match format {
-        Format::List => true,
-        Format::Binary
-        | Format::Boolean
-        | Format::Ascii
-        | Format::Jis8
-        | Format::Char2
-        | Format::I1
-        | Format::I2
-        | Format::I4
-        | Format::I8
-        | Format::U1
-        | Format::U2
-        | Format::U4
-        | Format::U8
-        | Format::F4
-        | Format::F8 => false,
     }
 }
 
@@ -306,7 +181,7 @@ fn put_elements<O: Output>(
         let Ok(header) = read_header(octets, end, depth - lists) else {
             unreachable!()
         };
-        if is_list(header.format) {
+        if header.format.is_list() {
             at = put_opening(out, block, at, Format::List, header.length);
             counts[usize::from(lists)] = header.length;
             end = header.body;
@@ -344,7 +219,7 @@ pub fn put_item<O: Output>(
     let Ok(header) = read_header(octets, 0, depth) else {
         unreachable!()
     };
-    if is_list(header.format) {
+    if header.format.is_list() {
         let at = put_opening(out, block, from, Format::List, header.length);
         return put_elements(out, block, at, octets, header.body, header.length, depth);
     }

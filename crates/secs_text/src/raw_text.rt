@@ -107,7 +107,7 @@ fn lay_run(block: &mut [u8], from: usize, quoted: bool, octets: &[u8; 8]) -> (us
         return lay_octets(block, from, quoted, octets.as_slice());
     }
     let at = lay_quote(block, from, quoted);
-    (lay_word(block, at, octets, 8), true)
+    (lay_word::<8>(block, at, octets.as_slice(), 8), true)
 }
 
 /// Lays octets of text, where a quote is open or not, and tells whether one is open behind them.

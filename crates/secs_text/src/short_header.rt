@@ -17,24 +17,7 @@ fn format_octet(format: Format) -> u8
     ensures value { result ≡ 4 * code_of format }
     ensures small { result < 252 }
 {
-    match format {
-        Format::List => 0,
-        Format::Binary => 0o10 * 4,
-        Format::Boolean => 0o11 * 4,
-        Format::Ascii => 0o20 * 4,
-        Format::Jis8 => 0o21 * 4,
-        Format::Char2 => 0o22 * 4,
-        Format::I8 => 0o30 * 4,
-        Format::I1 => 0o31 * 4,
-        Format::I2 => 0o32 * 4,
-        Format::I4 => 0o34 * 4,
-        Format::F8 => 0o40 * 4,
-        Format::F4 => 0o44 * 4,
-        Format::U8 => 0o50 * 4,
-        Format::U1 => 0o51 * 4,
-        Format::U2 => 0o52 * 4,
-        Format::U4 => 0o54 * 4,
-    }
+    4 * format.code()
 }
 
 /// Writes two octets over two that stand there.

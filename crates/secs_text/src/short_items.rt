@@ -1,19 +1,17 @@
 //! Items from their notation onto octets, with no item made.
 
-ghost use Rattle.std.specs.Prelude.{◌≡◌, ◌≤◌, ◌<◌, ◌+◌, [], false, length, IfOk};
+ghost use Rattle.std.specs.Prelude.{◌≡◌, ◌≤◌, ◌+◌, false};
 ghost use Rattle.secs_item.specs.Format.{is_list};
 ghost use Rattle.secs_item.specs.Item.{list, no_elements};
 ghost use Rattle.secs_text.specs.Body.{nothing_of};
 ghost use Rattle.secs_text.specs.Left.{left, octets_left};
-ghost use Rattle.secs_text.specs.Places.{Rules, Before, walk, type_wanted, in_item};
-ghost use Rattle.secs_text.specs.Reads.{Reads, count_seen};
-ghost use Rattle.secs_item.specs.declared.format.Format.TheVariants as format;
+ghost use Rattle.secs_text.specs.Places.{type_wanted, in_item};
+ghost use Rattle.secs_text.specs.Reads.{count_seen};
 ghost use Rattle.secs_text.specs.Spellings.{ItemRead, Deep, Anywhere};
 
-use crate::as_printed::next_opening;
 use crate::count::Count;
 use crate::fault::TextFault;
-use crate::opening::{check_count, optional_count, type_name};
+use crate::opening::{check_count, format_and_count};
 use crate::short_header::seal;
 use crate::short_values::gather;
 use crate::token::Token;
@@ -73,31 +71,6 @@ fn elements(
         return Ok(false);
     }
     Ok(seal(out, start, Format::List, number)?)
-}
-
-/// Reads the type name of an item whose `<` stood at `opening`, and its count, if one is written. Lists may be nested
-/// `depth` deep.
-#[inline(always)]
-fn format_and_count(
-    tokens: &mut Tokens,
-    opening: usize,
-    depth: u8,
-) -> Result<(Format, Option<Count>), TextFault>
-    ensures reads { (rules : Rules) (b : Before) → length b.lists + depth ≡ rules.depth
-        → Reads result (walk rules (type_wanted b opening) (left tokens.old))
-        (λ o. walk rules (in_item b (record { count = count_seen o.1; so_far = nothing_of o.0 })) (left tokens.new)) }
-    ensures list { IfOk result (λ o. o.0 ≡ format.List → 0 < depth) }
-    ensures no_longer { octets_left tokens.new ≤ octets_left tokens.old }
-{
-    if let Some((format, count)) = next_opening(tokens) {
-        return match format {
-            Format::List if depth == 0 => Err(TextFault::Deep { at: opening }),
-            _ => Ok((format, Some(count))),
-        };
-    }
-    let format = type_name(tokens, opening, depth)?;
-    let count = optional_count(tokens)?;
-    Ok((format, count))
 }
 
 /// Reads the item whose `<` stood at `opening`, and adds its octets. Lists may be nested `depth` deep. Whether the item

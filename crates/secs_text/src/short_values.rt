@@ -2,6 +2,7 @@
 
 ghost use Rattle.std.specs.Prelude.{◌≡◌, ◌≤◌, ◌<◌, ◌+◌, ◌/◌, true, false, length, IfOk, OnOk, option_map};
 ghost use Rattle.std.specs.Int.{w8, w16, w32, w64};
+ghost use Rattle.std.specs.List.{AllByRecursion};
 ghost use Rattle.std.specs.Prelude.{◌^◌};
 ghost use Rattle.byteorder.specs.Endian.{big_bytes};
 ghost use Rattle.secs_item.specs.Format.{is_list, value_size};
@@ -18,7 +19,7 @@ use crate::token::Token;
 use crate::tokens::Tokens;
 use crate::word::{float_of, number, number_below, octet_of, signed_below, truth_of};
 use byteorder::{BigEndian, ByteOrder};
-use secs_item::Format;
+use secs_item::{Format, octets_known};
 use std::alloc::AllocError;
 
 /// Adds the octet that a word spells, if it spells one.
@@ -191,30 +192,12 @@ fn push_value(out: &mut Vec<u8>, format: Format, word: &[u8]) -> Result<bool, Al
     }
 }
 
-/// How many octets a value of this format has.
-fn size_of(format: Format) -> usize
-    ensures size { result ≡ value_size format }
-    ensures some { 0 < result }
-{
-    match format {
-        Format::List
-        | Format::Binary
-        | Format::Boolean
-        | Format::Ascii
-        | Format::Jis8
-        | Format::Char2
-        | Format::I1
-        | Format::U1 => 1,
-        Format::I2 | Format::U2 => 2,
-        Format::I4 | Format::U4 | Format::F4 => 4,
-        Format::I8 | Format::U8 | Format::F8 => 8,
-    }
-}
-
 /// Adds octets of text that stood between quotes, if they may stand in an item of this format.
 fn push_quoted(out: &mut Vec<u8>, format: Format, text: &[u8]) -> Result<bool, AllocError>
     ensures octets { IfOk result (λ is_text. Lays is_text out.old.items out.new.items (quoted_octets format text.now)) }
+    ensures fit { AllByRecursion (λ n. n < 256) text.now }
 {
+    octets_known(text);
     let Format::Ascii = format else {
         return Ok(false);
     };
@@ -289,5 +272,5 @@ pub fn gather(
             _ => return Err(TextFault::Syntax { at: next.at }),
         }
     }
-    check_count(count, (out.len() - start) / size_of(format))
+    check_count(count, (out.len() - start) / format.size())
 }

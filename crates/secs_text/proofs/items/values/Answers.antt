@@ -1,9 +1,20 @@
-use Rattle.std.proofs.Common.{◌∙◌}
+use Rattle.std.proofs.Common.{◌∙◌, ◌%◌, List, ℕ, ap, sym, length}
+use Rattle.secs_item.specs.Format.{value_size}
+use Rattle.secs_item.specs.Item.{values}
+use Rattle.secs_item.specs.Reading.{values_of}
 use Rattle.secs_text.specs.Left.{left}
-use Rattle.secs_text.specs.Reads.{count_seen}
-use Rattle.secs_text.proofs.Walks.{no_value}
+use Rattle.secs_text.specs.Places.{walk, closed}
+use Rattle.secs_text.proofs.ValuesBack.{gathered_whole, gathered_values}
 use Rattle.secs_text.proofs.items.values.Goals as goal
 
-pub returns-in_default-clause-reads : goal.returns-in_default-clause-reads
-returns-in_default-clause-reads g c = λ rules b.
-    c.loop-word.invariant.reads rules b ∙ rw c.next-next.ensures.tokens (no_value rules b (count_seen c.args.count) (g.W.Words.so_far c.loop-word.values.items) c.next-next.result.at c.next-next.result.token (left c.next-next.new.self) (g.met.W.Words.unquoted c.loop-word.values.items) c.in_default.not-Word c.in_default.not-Greater)
+pub item_of_values-requires-clause-whole : goal.item_of_values-requires-clause-whole
+item_of_values-requires-clause-whole c =
+    ap (λ (o : List ℕ). length o % value_size c.args.format) c.deref.ensures.value
+    ∙ gathered_whole c.in_ok-gather.ensures.values c.new-body.ensures.items
+
+pub returns-clause-reads : goal.returns-clause-reads
+returns-clause-reads c = λ rules b.
+    let h = c.in_ok-gather.ensures.values in
+    h.leads rules b
+    ∙ ap (λ v. walk rules (closed b.lists b v) (left c.gather.new.tokens))
+    (sym (c.in_ok-item_of_values.ensures ∙ ap (λ v. values v) (ap (λ (o : List ℕ). values_of c.args.format o) c.deref.ensures.value ∙ gathered_values h c.new-body.ensures.items)))

@@ -1,4 +1,4 @@
-use Rattle.std.proofs.Common.{◌≡◌, ◌+◌, ◌∙◌, length, take, ap, arith, length-take-le, take-take}
+use Rattle.std.proofs.Common.{◌≡◌, ◌+◌, length, take, arith, length-take-le, take-take}
 use Rattle.std.proofs.lemmas.Simd.{take_more_put_chunk, length-put_chunk}
 use Rattle.secs_text.specs.Laid.{Laid}
 use Rattle.secs_text.proofs.Blocks.{laid_less}
@@ -6,11 +6,10 @@ use Rattle.secs_text.proofs.laying.lay_word.Goals as goal
 
 pub returns-clause-laid : goal.returns-clause-laid
 returns-clause-laid g c =
-    let word = c.as_slice.result.now in
-    let long : length word ≡ g.row.N = ap length c.as_slice.ensures ∙ c.told-word in
+    let word = c.args.word.now in
     let front = take g.row.N word in
-    let size : length front ≡ g.row.N = length-take-le g.row.N word (omega (arith, long)) in
-    let kept : take c.args.count front ≡ take c.args.count c.args.word.now = take-take c.args.count g.row.N word c.requires.there ∙ ap (take c.args.count) c.as_slice.ensures in
+    let size : length front ≡ g.row.N = length-take-le g.row.N word c.requires.long in
+    let kept : take c.args.count front ≡ take c.args.count word = take-take c.args.count g.row.N word c.requires.there in
     let whole : Laid c.args.block.now _ c.args.at front (c.args.at + g.row.N) = record {
       octets = take_more_put_chunk c.args.at c.args.block.now front (c.args.at + g.row.N) (omega (arith, size)) c.requires.room;
       moved = omega (arith, size);

@@ -1,10 +1,27 @@
-use Rattle.std.proofs.Common.{◌≡◌, rules, string_bytes}
+use Rattle.std.proofs.Common.{List, ℕ, [], ◌∙◌, string_bytes, subst, sym}
+use Rattle.std.proofs.lemmas.Str.{IsUtf8-from_ascii}
+use Rattle.std.specs.Str.{IsUtf8}
 use Rattle.secs_text.specs.Printed.{printed}
 use Rattle.secs_text.specs.View.{content}
-use Rattle.secs_text.proofs.PrintedNotation.{notation_of}
+use Rattle.secs_text.proofs.Leaves.{if_ok_map, on_ok}
+use Rattle.secs_text.proofs.PrintedNotation.{notation_of, printed_is_ascii}
 use Rattle.secs_text.proofs.printing.print.Goals as goal
+
+pub text_of-requires : goal.text_of-requires
+text_of-requires c = λ whole.
+    let given = c.in_ok-give_message.ensures.given [] (λ e. c.new.ensures.items) in
+    let m = content c.args.message.now in
+    subst (λ (o : List ℕ). IsUtf8 o) (sym (given whole)) (IsUtf8-from_ascii (printed m) (printed_is_ascii m c.in_ok-give_message.ensures.held))
+
+pub returns-clause-text : goal.returns-clause-text
+returns-clause-text c =
+    let given = c.in_ok-give_message.ensures.given [] (λ e. c.new.ensures.items) in
+    if_ok_map c.text_of.result _ _ (λ text is. is.1 ∙ given is.0) c.text_of.ensures.text
 
 pub returns-clause-notation : goal.returns-clause-notation
 returns-clause-notation c =
-    let text : string_bytes c.put_message.new.out ≡ printed (content c.args.message.now) = search rules in
-    notation_of (content c.args.message.now) (string_bytes c.put_message.new.out) text c.in_ok-put_message.ensures.held
+    let given = c.in_ok-give_message.ensures.given [] (λ e. c.new.ensures.items) in
+    if_ok_map c.text_of.result _ _ (λ text is. notation_of (content c.args.message.now) (string_bytes text) (is.1 ∙ given is.0) c.in_ok-give_message.ensures.held) c.text_of.ensures.text
+
+pub returns-clause-held : goal.returns-clause-held
+returns-clause-held c = on_ok c.text_of.result _ c.in_ok-give_message.ensures.held

@@ -3,4 +3,4 @@ use Rattle.secs_text.proofs.Blocks.{puts_laid}
 use Rattle.secs_text.proofs.raw_items.put_opening.Goals as goal
 
 pub returns : goal.returns
-returns g c = puts_laid c.room-at.ensures.puts (rw c.count_of.ensures at c.lay_opening.ensures.laid) (omega (arith, c.lay_opening.ensures.near, c.room-at.ensures.free))
+returns g c = puts_laid c.room-at.ensures.puts (rw c.size.ensures.value at c.lay_opening.ensures.laid) (omega (arith, c.lay_opening.ensures.near, c.room-at.ensures.free))

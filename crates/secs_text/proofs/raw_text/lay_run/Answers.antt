@@ -10,4 +10,4 @@ pub returns-clause-text : goal.returns-clause-text
 returns-clause-text c =
     let octets = c.args.octets.now in
     let all : list_all is_quotable octets ≡ true = sym c.are_quotable.ensures ∙ c.if-not-are_quotable.false in
-    run_laid c.args.quoted octets all (omega (arith, c.told-octets)) c.lay_quote-at.ensures (laid_same octets (take_all 8 octets (omega (arith, c.told-octets))) c.lay_word.ensures.laid)
+    run_laid c.args.quoted octets all (omega (arith, c.told-octets)) c.lay_quote-at.ensures (laid_same octets (take_all 8 octets (omega (arith, c.told-octets))) (rw c.as_slice-2.ensures at c.lay_word.ensures.laid))
