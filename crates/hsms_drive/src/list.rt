@@ -1,4 +1,4 @@
-//! The list that an end is told, and its lines.
+//! Lists of what an end is told, read from lines.
 
 use anyhow::anyhow;
 use hsms_end::Input;

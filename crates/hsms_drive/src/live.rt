@@ -1,4 +1,4 @@
-//! What comes of a list.
+//! Ends that are told a list, and the lines of what they answer.
 
 use crate::list::List;
 use crate::obliging::ObligingDesk;
@@ -9,7 +9,7 @@ use hsms_log::write_entry;
 use hsms_machine::{Entry, Event, Role, Settings};
 use std::alloc::Global;
 
-/// Tells an end its list, call by call, and then `drive`. Answers the lines of both.
+/// Tells one end a list call by call, and another one the same list by `drive`. Gives the lines of what they answer.
 pub fn live(alloc: Global, list: &List) -> Result<Vec<u8>, anyhow::Error> {
     let settings = list.settings.ok_or_else(|| anyhow!("no settings"))?;
     if list.is_obliging {
@@ -24,7 +24,7 @@ pub fn live(alloc: Global, list: &List) -> Result<Vec<u8>, anyhow::Error> {
     }
 }
 
-/// Tells an end its list, and then `drive`, each with a desk.
+/// Tells a list to two ends, the one call by call and the other by `drive`, each with its desk.
 fn live_with<D: Desk + Drop>(
     alloc: Global,
     settings: Settings,
@@ -44,7 +44,7 @@ fn desk_of(alloc: Global, list: &List) -> Result<EquipmentDesk, anyhow::Error> {
     })
 }
 
-/// What was answered: all of it, and the entries and pending octets alone.
+/// The lines of what was answered: all of them, and those of entries and pending octets alone.
 #[derive(Drop)]
 struct Told {
     lines: Vec<u8>,
@@ -168,7 +168,6 @@ fn room_of(entry: &Entry) -> usize {
     match &entry.event {
         Event::Sent(frame) | Event::Taken(frame) | Event::Discarded(frame) => frame
             .text
-            .as_slice()
             .len()
             .saturating_mul(2)
             .saturating_add(50),

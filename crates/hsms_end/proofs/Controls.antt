@@ -3,7 +3,7 @@ use Rattle.std.proofs.Common.{◌≡◌, ℕ, ◌+◌, ◌<◌, ◌==◌, Bool, 
 use Rattle.std.specs.List.{list_any}
 use Rattle.std.proofs.lemmas.Bool.Decides.{nat_tests}
 use Rattle.hsms_frame.specs.declared.header.Header.{Header}
-use Rattle.hsms_frame.specs.declared.frame.Frame.{Frame}
+use Rattle.hsms_frame.specs.Frame.{Frame}
 use Rattle.hsms_frame.specs.declared.kinds.Kind.TheVariants.{SelectReq, SelectRsp, LinktestReq, LinktestRsp, Reject, OtherSType, OtherPType}
 use Rattle.hsms_frame.specs.Header.{kind_of}
 use Rattle.hsms_machine.specs.declared.entry.Event.TheVariants.{Sent}

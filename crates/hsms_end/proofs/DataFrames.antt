@@ -1,7 +1,7 @@
 -- The data that an own end sends breaks no rule of frames.
 use Rattle.std.proofs.Common.{◌≡◌, ◌+◌, ◌≤◌, ◌==◌, Bool, true, false, ◌&&◌, ◌||◌, length, refl, sym, ap, subst, ◌∙◌, arith}
 use Rattle.secs_item.specs.Spelling.{IsText}
-use Rattle.hsms_frame.specs.declared.frame.Frame.{Frame}
+use Rattle.hsms_frame.specs.Frame.{Frame}
 use Rattle.hsms_frame.specs.declared.kinds.Kind.{Kind}
 use Rattle.hsms_frame.specs.declared.kinds.Kind.TheVariants.{Primary, Reply}
 use Rattle.hsms_frame.specs.Header.{kind_of, stream_of, wait_of}

@@ -1,6 +1,6 @@
 -- Own entries break no rule.
 use Rattle.std.proofs.Common.{◌≡◌, ◌≢◌, ℕ, ◌-◌, ◌<◌, ◌≤◌, Bool, true, false, ◌&&◌, nat_lt, List, [], ◌∷◌, ◌++◌, Option, Some, None, refl, sym, ap, subst, ◌∙◌, inl, inr, ◌⊎◌, arith}
-use Rattle.hsms_frame.specs.declared.frame.Frame.{Frame}
+use Rattle.hsms_frame.specs.Frame.{Frame}
 use Rattle.hsms_machine.specs.declared.entry.Event.TheVariants.{Sent, Taken, Discarded, Cut, Down}
 use Rattle.hsms_machine.specs.declared.entry.Cause.TheVariants.{Length}
 use Rattle.hsms_machine.specs.declared.phase.Phase.{Phase}

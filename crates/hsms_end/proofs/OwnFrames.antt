@@ -1,6 +1,6 @@
 -- The frames that an own end sends break no rule of frames.
 use Rattle.std.proofs.Common.{◌≡◌, ℕ, ◌+◌, ◌<◌, Bool, true, false, ◌||◌, refl, sym, ap, ◌∙◌, inl, inr, ◌⊎◌, arith}
-use Rattle.hsms_frame.specs.declared.frame.Frame.{Frame}
+use Rattle.hsms_frame.specs.Frame.{Frame}
 use Rattle.hsms_frame.specs.declared.kinds.Kind.TheVariants.{SelectReq, LinktestReq, Separate, OtherSType, OtherPType}
 use Rattle.hsms_machine.specs.declared.settings.Side.TheVariants.{Active}
 use Rattle.hsms_machine.specs.declared.rule.Rule.{Rule}

@@ -1,6 +1,6 @@
 -- The own requests of a sound end: they are lawful, and leave it sound.
 use Rattle.std.proofs.Common.{◌≡◌, ℕ, ◌+◌, ◌<◌, ◌%◌, ◌^◌, true, false, refl, sym, ap, subst, ◌∙◌, inl, arith, Option, Some, None}
-use Rattle.hsms_frame.specs.declared.frame.Frame.{Frame}
+use Rattle.hsms_frame.specs.Frame.{Frame}
 use Rattle.hsms_machine.specs.declared.entry.Event.TheVariants.{Up, Sent, Taken, Discarded, Cut, Down}
 use Rattle.hsms_machine.specs.declared.entry.Cause.TheVariants.{Length}
 use Rattle.hsms_machine.specs.declared.phase.Phase.{Phase}

@@ -3,7 +3,7 @@ use Rattle.std.proofs.Common.{◌≡◌, ℕ, ◌+◌, ◌<◌, ◌%◌, ◌^◌
 use Rattle.std.specs.List.{AllByRecursion}
 use Rattle.std.specs.Prelude.{slice_index}
 use Rattle.hsms_frame.specs.declared.header.Header.{Header}
-use Rattle.hsms_frame.specs.declared.frame.Frame.{Frame}
+use Rattle.hsms_frame.specs.Frame.{Frame}
 use Rattle.hsms_frame.specs.declared.kinds.Kind.{Kind}
 use Rattle.hsms_frame.specs.declared.kinds.Kind.TheVariants.{Primary, Reply, SelectReq, SelectRsp, LinktestReq, LinktestRsp, Reject, Separate, OtherSType, OtherPType}
 use Rattle.hsms_frame.specs.Header.{header_octets, kind_of}

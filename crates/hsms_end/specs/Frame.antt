@@ -4,7 +4,7 @@ use Rattle.secs_item.specs.Item.{Value, nest}
 use Rattle.secs_item.specs.Short.{short}
 use Rattle.secs_text.specs.Content.{Content}
 use Rattle.hsms_frame.specs.declared.header.Header.{Header}
-use Rattle.hsms_frame.specs.declared.frame.Frame.{Frame}
+use Rattle.hsms_frame.specs.Frame.{Frame}
 use Rattle.hsms_frame.specs.Header.{header_octets, stream_of, wait_of}
 use Rattle.hsms_frame.specs.Build.{data_header_of, control_header_of, reject_header_of}
 use Rattle.hsms_machine.specs.Settings.{Parameters}

@@ -2,7 +2,7 @@
 use Rattle.std.specs.Prelude.{◌≡◌, ◌<◌, ◌≤◌, ◌+◌, ◌^◌, ◌%◌, ℕ, false, List, [], ◌∷◌, ◌++◌, map, max, Option, Some}
 use Rattle.std.specs.List.{list_any}
 use Rattle.secs_text.specs.Content.{Content}
-use Rattle.hsms_frame.specs.declared.frame.Frame.{Frame}
+use Rattle.hsms_frame.specs.Frame.{Frame}
 use Rattle.hsms_machine.specs.declared.entry.Entry.{Entry}
 use Rattle.hsms_machine.specs.declared.entry.Event.TheVariants.{Sent, T3, Cut, Down}
 use Rattle.hsms_machine.specs.declared.entry.Cause.{Cause}

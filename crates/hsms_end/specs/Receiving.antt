@@ -1,7 +1,7 @@
 -- What a part of the call `bytes` has done. Private functions alone speak of this.
 use Rattle.std.specs.Prelude.{◌≡◌, List, ◌++◌}
 use Rattle.secs_text.specs.Content.{Content}
-use Rattle.hsms_frame.specs.declared.frame.Frame.{Frame}
+use Rattle.hsms_frame.specs.Frame.{Frame}
 use Rattle.hsms_machine.specs.declared.entry.Entry.{Entry}
 use Rattle.hsms_end.specs.declared.state.State.{State}
 use Rattle.hsms_end.specs.Known.{Known}

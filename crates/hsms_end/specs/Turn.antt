@@ -6,7 +6,7 @@ use Rattle.secs_item.specs.Item.{Value}
 use Rattle.secs_item.specs.Spelling.{IsTextOf}
 use Rattle.secs_text.specs.Content.{Content}
 use Rattle.hsms_frame.specs.declared.header.Header.{Header}
-use Rattle.hsms_frame.specs.declared.frame.Frame.{Frame}
+use Rattle.hsms_frame.specs.Frame.{Frame}
 use Rattle.hsms_frame.specs.declared.fault.FrameFault.TheVariants.{TooShort, TooLong}
 use Rattle.hsms_frame.specs.declared.kinds.Kind.TheVariants.{Primary}
 use Rattle.hsms_frame.specs.Header.{kind_of}

@@ -7,7 +7,7 @@ ghost use Rattle.std.specs.List.{AllByRecursion};
 
 use crate::answer::Answer;
 use crate::state::{State, bare};
-use hsms_frame::{Frame, Header, Text, data_header, linktest_rsp, reject_of, select_rsp};
+use hsms_frame::{Frame, Header, data_header, linktest_rsp, reject_of, select_rsp};
 use hsms_machine::{Entry, Event, Phase, Role};
 use secs_item::Item;
 use std::alloc::{AllocError, Global};
@@ -60,7 +60,7 @@ impl State {
         let text = header_item(alloc, octets.as_slice())?;
         Ok(Frame {
             header: data_header(self.settings.device(), 9, function, false, number),
-            text: Text::new(text),
+            text,
         })
     }
 
@@ -193,7 +193,7 @@ impl State {
                     false,
                     header.system,
                 ),
-                text: Text::new(text),
+                text,
             }),
             None => Ok(self.abort_frame(alloc, header)),
         }

@@ -1,7 +1,7 @@
 //! What received octets lead to.
 
 ghost use Rattle.std.specs.Prelude.{◌≡◌};
-ghost use Rattle.hsms_frame.specs.declared.frame.Frame.{Frame as FrameValue};
+ghost use Rattle.hsms_frame.specs.Frame.{Frame as FrameValue};
 ghost use Rattle.std.specs.Prelude.{true};
 ghost use Rattle.hsms_machine.specs.declared.entry.Event.TheVariants.{Taken};
 ghost use Rattle.hsms_end.specs.Owing.{is_taken};

@@ -7,7 +7,7 @@ ghost use Rattle.hsms_end.specs.Sending.{IsSpelt};
 
 use crate::fault::EndFault;
 use crate::state::State;
-use hsms_frame::{Frame, HEADER_LENGTH, Text, data_header};
+use hsms_frame::{Frame, HEADER_LENGTH, data_header};
 use hsms_machine::Entry;
 use secs_item::{Item, ItemFault, encode, nesting};
 use secs_text::Message;
@@ -108,7 +108,7 @@ impl State {
                 message.wait(),
                 number,
             ),
-            text: Text::new(text),
+            text,
         }
     }
 }

@@ -3,7 +3,7 @@
 ghost use Rattle.std.specs.Prelude.{◌≡◌};
 ghost use Rattle.hsms_end.specs.Frame.{bare as bare_frame};
 
-use hsms_frame::{Frame, Framer, Header, Text, linktest_req, select_req, separate as separate_req};
+use hsms_frame::{Frame, Framer, Header, linktest_req, select_req, separate as separate_req};
 use hsms_machine::{Entry, Event, Phase, Settings, Side, Tracker};
 use std::alloc::{AllocError, Global};
 
@@ -26,7 +26,7 @@ pub struct State {
 
 impl State {
     ghost use Rattle.std.specs.Prelude.{◌≤◌, ◌<◌, ℕ, true, [], ◌∷◌, OnOk};
-    ghost use Rattle.hsms_frame.specs.declared.frame.Frame.{Frame as FrameValue};
+    ghost use Rattle.hsms_frame.specs.Frame.{Frame as FrameValue};
     ghost use Rattle.hsms_machine.specs.declared.entry.Event.TheVariants.{Sent};
     ghost use Rattle.hsms_machine.specs.View.{own_open_of};
     ghost use Rattle.hsms_end.specs.Act.{logs, asks};
@@ -173,6 +173,6 @@ pub fn bare(alloc: Global, header: Header) -> Frame
 {
     Frame {
         header,
-        text: Text::new(Vec::new(alloc)),
+        text: Vec::new(alloc),
     }
 }

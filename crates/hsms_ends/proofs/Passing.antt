@@ -6,7 +6,7 @@ use Rattle.std.proofs.lemmas.List.Elements.{All-append, All-nil, All-from_get_or
 use Rattle.hex.specs.Hex.{encode_lower, lower_digits}
 use Rattle.hex.proofs.HexLemmas.{length-encode_with}
 use Rattle.secs_text.specs.Content.{Content}
-use Rattle.hsms_frame.specs.declared.frame.Frame.{Frame}
+use Rattle.hsms_frame.specs.Frame.{Frame}
 use Rattle.hsms_frame.specs.Header.{header_octets}
 use Rattle.hsms_frame.specs.Device.{SinkState}
 use Rattle.hsms_machine.specs.declared.entry.Entry.{Entry}

@@ -4,12 +4,11 @@ use Rattle.std.specs.Prelude.{Option, Result}
 use Rattle.std.proofs.lemmas.Bool.{cases_lt}
 use Rattle.std.proofs.lemmas.List.{length-drop, length-take-le, nil_from_length, append_cancel_left}
 use Rattle.hsms_frame.specs.declared.header.Header.{Header}
-use Rattle.hsms_frame.specs.declared.frame.Frame.{Frame}
 use Rattle.hsms_frame.specs.declared.fault.ReadFault.{ReadFault}
 use Rattle.hsms_frame.specs.declared.fault.ReadFault.TheVariants.{TooShort, TooLong, Memory, CutOff, Read}
 use Rattle.hsms_frame.specs.declared.fault.FrameFault.{FrameFault}
 use Rattle.hsms_frame.specs.declared.fault.FrameFault.TheVariants as framing
-use Rattle.hsms_frame.specs.Frame.{frame_octets, IsOctets, IsFaultless, IsProperFront, length_field}
+use Rattle.hsms_frame.specs.Frame.{Frame, frame_octets, IsOctets, IsFaultless, IsProperFront, length_field}
 use Rattle.hsms_frame.specs.Reading.{ReadsAs, IsRefusal}
 use Rattle.hsms_frame.specs.Framing.{FramesAs}
 use Rattle.hsms_frame.proofs.Octets.{IsOctets-take, IsOctets-drop}

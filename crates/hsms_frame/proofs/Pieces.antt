@@ -2,10 +2,9 @@
 use Rattle.std.proofs.Common.{◌≡◌, ◌≤◌, ◌+◌, ◌++◌, ℕ, List, [], ◌∷◌, length, Some, None, Ok, Err, refl, sym, ◌∙◌, ap, subst}
 use Rattle.std.specs.Prelude.{flat_map}
 use Rattle.std.proofs.lemmas.List.{append-nil, append_assoc}
-use Rattle.hsms_frame.specs.declared.frame.Frame.{Frame}
 use Rattle.hsms_frame.specs.declared.fault.FrameFault.{FrameFault}
 use Rattle.hsms_frame.specs.declared.fault.FrameFault.TheVariants.{TooShort, TooLong, Memory}
-use Rattle.hsms_frame.specs.Frame.{frame_octets, IsFrame}
+use Rattle.hsms_frame.specs.Frame.{Frame, frame_octets, IsFrame}
 use Rattle.hsms_frame.specs.Framing.{FramerState, FramesAs}
 use Rattle.hsms_frame.specs.Calls.{Call, Push, Next, Does, DoesAll, octets_of, message_of, IsDrained}
 use Rattle.hsms_frame.proofs.Determined.{same_front}

@@ -4,10 +4,9 @@ use Rattle.std.specs.Prelude.{Option}
 use Rattle.std.proofs.lemmas.List.{length-append, take-append-le, append_assoc}
 use Rattle.std.proofs.Math.Seq.{take-append-add}
 use Rattle.std.specs.Int.{w32, to_be_bytes}
-use Rattle.hsms_frame.specs.declared.frame.Frame.{Frame}
 use Rattle.hsms_frame.specs.Device.{Grows, GrowsByFront}
 use Rattle.hsms_frame.specs.Header.{header_octets}
-use Rattle.hsms_frame.specs.Frame.{frame_octets}
+use Rattle.hsms_frame.specs.Frame.{Frame, frame_octets}
 
 -- both parts were written
 grows_by_both : (old mid new : Option (List ℕ)) (first last : List ℕ) → Grows old mid first → Grows mid new last → Grows old new (first ++ last)
@@ -37,9 +36,11 @@ stops_in_last old mid new first last a b before told =
 abbrev pub IsBeforeText : Frame → List ℕ → Type 0
 IsBeforeText f front = front ≡ to_be_bytes w32 (10 + length f.text) ++ header_octets f.header
 
-pub counted : (f : Frame) (n : ℕ) → n ≡ 10 + length f.text
-    → to_be_bytes w32 n ++ header_octets f.header ≡ to_be_bytes w32 (10 + length f.text) ++ header_octets f.header
-counted f n same = ap (λ k. to_be_bytes w32 k ++ header_octets f.header) same
+pub before_text : (f g : Frame) (n : ℕ) (front : List ℕ) → g ≡ f → n ≡ 10 + length f.text
+    → front ≡ to_be_bytes w32 n ++ header_octets g.header → IsBeforeText f front
+before_text f g n front same size is =
+    is ∙ ap (λ k. to_be_bytes w32 k ++ header_octets g.header) size
+    ∙ ap (λ x. to_be_bytes w32 (10 + length f.text) ++ header_octets x.header) same
 
 -- what was written of a message in the two parts
 pub wrote_all : (f : Frame) (front : List ℕ) (old mid new : Option (List ℕ)) → IsBeforeText f front → Grows old mid front → Grows mid new f.text

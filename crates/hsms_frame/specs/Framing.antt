@@ -1,11 +1,10 @@
 -- Messages from octets that come in pieces.
 use Rattle.std.specs.Prelude.{◌≡◌, ◌≤◌, ◌<◌, ◌+◌, ◌++◌, ℕ, List, length, take, drop, Option, Some, None, Result, Ok, Err}
 use Rattle.hsms_frame.specs.declared.header.Header.{Header}
-use Rattle.hsms_frame.specs.declared.frame.Frame.{Frame}
 use Rattle.hsms_frame.specs.declared.fault.FrameFault.{FrameFault}
 use Rattle.hsms_frame.specs.declared.fault.FrameFault.TheVariants.{TooShort, TooLong, Memory}
 use Rattle.hsms_frame.specs.Header.{header_octets, IsHeader}
-use Rattle.hsms_frame.specs.Frame.{frame_octets, length_field, IsFrame, IsOctets, IsTooShort, IsTooLong, IsFaultless, IsProperFront}
+use Rattle.hsms_frame.specs.Frame.{Frame, frame_octets, length_field, IsFrame, IsOctets, IsTooShort, IsTooLong, IsFaultless, IsProperFront}
 
 -- what a framer is known by: its limit, and the octets that belong to no message that was given
 pub record FramerState : Type 0 where

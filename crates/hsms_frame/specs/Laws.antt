@@ -1,12 +1,11 @@
 -- What holds of messages, whatever the code does.
 use Rattle.std.specs.Prelude.{◌≡◌, ◌≢◌, ◌++◌, ℕ, List, flat_map, Option, Result, Err}
 use Rattle.hsms_frame.specs.declared.header.Header.{Header}
-use Rattle.hsms_frame.specs.declared.frame.Frame.{Frame}
 use Rattle.hsms_frame.specs.declared.fault.ReadFault.{ReadFault}
 use Rattle.hsms_frame.specs.declared.fault.FrameFault.{FrameFault}
 use Rattle.hsms_frame.specs.declared.fault.FrameFault.TheVariants.{Memory}
 use Rattle.hsms_frame.specs.Header.{header_octets, IsHeader}
-use Rattle.hsms_frame.specs.Frame.{frame_octets, IsFrame, IsOctets}
+use Rattle.hsms_frame.specs.Frame.{Frame, frame_octets, IsFrame, IsOctets}
 use Rattle.hsms_frame.specs.Reading.{ReadsAs, IsRefusal}
 use Rattle.hsms_frame.specs.Framing.{FramerState, FramesAs}
 use Rattle.hsms_frame.specs.Calls.{Call, DoesAll, octets_of, message_of, IsDrained}

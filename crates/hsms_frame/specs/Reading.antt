@@ -1,11 +1,10 @@
 -- What a read of one message answers, and what it leaves.
 use Rattle.std.specs.Prelude.{◌≡◌, ◌≢◌, ◌<◌, ◌≤◌, ◌+◌, ◌⊎◌, ◌++◌, ℕ, List, [], length, take, drop, Option, Some, None, Result, Ok, Err}
-use Rattle.hsms_frame.specs.declared.frame.Frame.{Frame}
 use Rattle.hsms_frame.specs.declared.fault.ReadFault.{ReadFault}
 use Rattle.hsms_frame.specs.declared.fault.ReadFault.TheVariants.{TooShort, TooLong, Memory, CutOff, Read}
 use Rattle.hsms_frame.specs.Count.{next_count}
 use Rattle.hsms_frame.specs.Device.{SourceState}
-use Rattle.hsms_frame.specs.Frame.{frame_octets, IsFrame, IsTooShort, IsTooLong, IsFaultless, IsProperFront, IsOctets, length_field}
+use Rattle.hsms_frame.specs.Frame.{Frame, frame_octets, IsFrame, IsTooShort, IsTooLong, IsFaultless, IsProperFront, IsOctets, length_field}
 
 -- of the input a front was taken that begins a message and doesn't reach its end, and in which no fault can be told
 abbrev pub StopsWithin : ℕ → List ℕ → Option (List ℕ) → Type 0

@@ -1,14 +1,13 @@
 -- What is written of a message, and what a refusal says.
 use Rattle.std.specs.Prelude.{◌≡◌, ◌<◌, ◌≤◌, ◌+◌, ◌^◌, ℕ, List, length, Option, Result, Ok, Err}
 use Rattle.hsms_frame.specs.declared.header.Header.{Header}
-use Rattle.hsms_frame.specs.declared.frame.Frame.{Frame}
 use Rattle.hsms_frame.specs.declared.fault.FrameFault.{FrameFault}
 use Rattle.hsms_frame.specs.declared.fault.FrameFault.TheVariants as frame
 use Rattle.hsms_frame.specs.declared.fault.WriteFault.{WriteFault}
 use Rattle.hsms_frame.specs.declared.fault.WriteFault.TheVariants as write
 use Rattle.hsms_frame.specs.Count.{next_count}
 use Rattle.hsms_frame.specs.Device.{Stays, Grows, GrowsByFront}
-use Rattle.hsms_frame.specs.Frame.{frame_octets}
+use Rattle.hsms_frame.specs.Frame.{Frame, frame_octets}
 
 -- header and text are n octets, more than a length field counts
 pub record IsPastLengthField (f : Frame) (n : ℕ) (h : Header) : Type 0 where

@@ -4,7 +4,7 @@ ghost use Rattle.std.specs.Prelude.{◌≡◌, ◌≤◌, ◌<◌, ◌+◌, [], 
 ghost use Rattle.hsms_frame.specs.Framing.{FramesAs, FrontAs, IsPushed, rest_after};
 
 use crate::fault::FrameFault;
-use crate::frame::{Frame, Text};
+use crate::frame::Frame;
 use crate::header::{HEADER_LENGTH, Header};
 use std::alloc::{AllocError, Global};
 use std::marker::Model;
@@ -91,7 +91,7 @@ impl Framer {
         let alloc = *self.octets.allocator();
         let answer = front_frame(alloc, &self.octets[self.place..], self.max);
         if let Ok(Some(frame)) = &answer {
-            self.place += 14 + frame.text.as_slice().len();
+            self.place += 14 + frame.text.len();
         }
         answer
     }
@@ -110,13 +110,13 @@ fn front_frame(alloc: Global, octets: &[u8], max: u32) -> Result<Option<Frame>, 
 }
 
 // The octets as a text. None takes no memory.
-fn text_of(alloc: Global, octets: &[u8]) -> Result<Text, AllocError>
-    ensures ok { IfOk result (λ text. text ≡ octets.now) }
+fn text_of(alloc: Global, octets: &[u8]) -> Result<Vec<u8>, AllocError>
+    ensures ok { IfOk result (λ text. text.items ≡ octets.now) }
     ensures err { OnErr result (0 < length octets.now) }
 {
     let mut text = Vec::with_capacity(alloc, octets.len())?;
     text.extend_from_slice(octets)?;
-    Ok(Text::new(text))
+    Ok(text)
 }
 
 /// The header of the message at the front of octets, and how many octets its text has, which lies behind the first

@@ -9,7 +9,7 @@
 //! there is none; whoever may wait reads one at a time:
 //!
 //! ```
-//! let frame = Frame { header: data_header(0, 1, 13, true, 1), text: Text::new(text) };
+//! let frame = Frame { header: data_header(0, 1, 13, true, 1), text };
 //! write_frame(&mut sink, &frame)?;
 //!
 //! let mut framer = Framer::new(alloc, 1048576);
@@ -45,7 +45,7 @@ pub use build::{
 pub use classify::kind;
 pub use device::{Failed, Sink, Source};
 pub use fault::{FrameFault, ReadFault, WriteFault};
-pub use frame::{Frame, Text};
+pub use frame::Frame;
 pub use framer::{Framer, front};
 pub use header::{CONTROL_SESSION, HEADER_LENGTH, Header};
 pub use kinds::Kind;

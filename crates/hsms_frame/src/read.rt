@@ -6,7 +6,7 @@ ghost use Rattle.hsms_frame.specs.Reading.{CountsPart, CountsWhole, ReadsAs, IsR
 
 use crate::device::Source;
 use crate::fault::ReadFault;
-use crate::frame::{Frame, Text};
+use crate::frame::Frame;
 use crate::header::{HEADER_LENGTH, Header};
 use crate::transfer::fill;
 use std::alloc::Global;
@@ -99,13 +99,13 @@ fn read_all<R: Source>(source: &mut R, into: &mut [u8]) -> Result<(), ReadFault>
 }
 
 // The text of a message.
-fn read_text<R: Source>(alloc: Global, source: &mut R, size: usize) -> Result<Text, ReadFault>
+fn read_text<R: Source>(alloc: Global, source: &mut R, size: usize) -> Result<Vec<u8>, ReadFault>
     ensures answer { WhereTold (R.state source.old).left
-        (λ input. TakesFront (λ text. text) size input result (R.state source.new).left) }
+        (λ input. TakesFront (λ text. text.items) size input result (R.state source.new).left) }
     ensures counts { CountsPart result (R.state source.old) (R.state source.new) }
 {
     let mut octets = Vec::with_capacity(alloc, size)?;
     octets.resize(size, 0)?;
     read_all(source, &mut octets)?;
-    Ok(Text::new(octets))
+    Ok(octets)
 }

@@ -68,7 +68,7 @@ fn reads_one_message(rt: HostRuntime) -> Result<(), Fail> {
     let (frame, left) = read_one(alloc, &octets)?;
     assert_kind(&rt, frame.header, Kind::SelectReq);
     assert!(rt; frame.header.system == 1 && left == 16);
-    assert_octets(&rt, frame.text.as_slice(), b"");
+    assert_octets(&rt, &frame.text, b"");
     assert_no_message(&rt, &read(alloc, &[])?);
     Ok(())
 }
@@ -105,7 +105,7 @@ fn assert_header(rt: &impl Abort, header: Header) {
 fn reads_a_text(rt: HostRuntime) -> Result<(), Fail> {
     let (frame, _) = read_one(rt.alloc(), &DATA)?;
     assert_header(&rt, frame.header);
-    assert_octets(&rt, frame.text.into_vec().as_slice(), &[1, 0]);
+    assert_octets(&rt, &frame.text, &[1, 0]);
     Ok(())
 }
 
@@ -203,7 +203,7 @@ fn refused_text(rt: HostRuntime) -> Result<(), Fail> {
     };
     let mut source = Feed::new(octets, 5, u64::MAX);
     match read_frame(rt.alloc(), &mut source, 256) {
-        Ok(Some(frame)) => assert_octets(&rt, frame.text.as_slice(), &DATA[14..]),
+        Ok(Some(frame)) => assert_octets(&rt, &frame.text, &DATA[14..]),
         Err(ReadFault::Memory) => assert_octets(&rt, source.left(), &DATA[14..]),
         _ => return Err("the message, or want of memory".into()),
     }

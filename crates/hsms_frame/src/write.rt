@@ -30,7 +30,7 @@ pub fn encode_frame(alloc: Global, frame: &Frame) -> Result<Vec<u8>, FrameFault>
         return Err(FrameFault::TooLong { length, header });
     }
     let mut octets = Vec::from_slice(alloc, &front(length as u32, header))?;
-    octets.extend_from_slice(frame.text.as_slice())?;
+    octets.extend_from_slice(&frame.text)?;
     Ok(octets)
 }
 
@@ -48,7 +48,7 @@ pub fn write_frame<W: Sink>(sink: &mut W, frame: &Frame) -> Result<(), WriteFaul
         return Err(WriteFault::TooLong { length, header });
     }
     give_all(sink, &front(length as u32, header))?;
-    give_all(sink, frame.text.as_slice())?;
+    give_all(sink, &frame.text)?;
     Ok(())
 }
 

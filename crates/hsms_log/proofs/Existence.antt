@@ -8,7 +8,7 @@ use Rattle.std.proofs.lemmas.Bool.{cases_eq, cases_lt}
 use Rattle.hex.specs.declared.error.FromHexError.{FromHexError}
 use Rattle.hex.specs.Hex.{decode_of}
 use Rattle.hex.proofs.HexLemmas.{decode_of-ok}
-use Rattle.hsms_frame.specs.declared.frame.Frame.{Frame}
+use Rattle.hsms_frame.specs.Frame.{Frame}
 use Rattle.hsms_frame.proofs.Octets.{IsOctets-take}
 use Rattle.hsms_frame.proofs.Spelled.{header_of, header_octets-header_of, IsHeader-header_of}
 use Rattle.hsms_machine.specs.declared.entry.Entry.{Entry}

@@ -7,7 +7,7 @@ use Rattle.hex.specs.Hex.{encode_lower, encode_with, lower_digits}
 use Rattle.std.specs.List.{flat_map}
 use Rattle.std.proofs.lemmas.Grind.{flat_map-append}
 use Rattle.std.proofs.Math.Seq.{take-append-add, take-suc}
-use Rattle.hsms_frame.specs.declared.frame.Frame.{Frame}
+use Rattle.hsms_frame.specs.Frame.{Frame}
 use Rattle.hsms_frame.specs.Header.{header_octets}
 use Rattle.hsms_log.specs.Spelling.{message_octets}
 use Rattle.hsms_frame.specs.Device.{Grows, GrowsByFront}

@@ -3,8 +3,7 @@ use Rattle.std.proofs.Common.{◌≡◌, ◌<◌, ◌≤◌, ℕ, zero, suc, Lis
 use Rattle.hex.specs.Hex.{encode_lower}
 use Rattle.hex.proofs.HexLemmas.{decode_of-encode_lower}
 use Rattle.hsms_frame.specs.declared.header.Header.{Header}
-use Rattle.hsms_frame.specs.declared.frame.Frame.{Frame}
-use Rattle.hsms_frame.specs.Frame.{IsOctets}
+use Rattle.hsms_frame.specs.Frame.{Frame, IsOctets}
 use Rattle.hsms_frame.specs.Header.{header_octets, IsHeader}
 use Rattle.hsms_frame.proofs.Octets.{IsOctets-append}
 use Rattle.hsms_machine.specs.declared.entry.Entry.{Entry}

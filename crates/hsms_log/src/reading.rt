@@ -1,7 +1,7 @@
 //! What a line that is not the first carries.
 
 ghost use Rattle.std.specs.Prelude.{◌≡◌, ◌≢◌, ◌<◌, ◌≤◌, ◌^◌, ◌++◌, ◌∷◌, ℕ, List, Option, None, Ok, IfOk, IfErr, IfSome, length, vec_len, drop, codes};
-ghost use Rattle.hsms_frame.specs.declared.frame.Frame.{Frame as Message};
+ghost use Rattle.hsms_frame.specs.Frame.{Frame as Message};
 ghost use Rattle.hsms_machine.specs.declared.entry.Event.{Event as Happening};
 ghost use Rattle.hsms_machine.specs.declared.entry.Entry.{Entry as LogEntry};
 ghost use Rattle.hsms_log.specs.Spelling.{Carries, SpellsEntry, SpellsEvent, IsEvent, IsMessage, IsHexOf, message_octets, system_octets};
@@ -12,7 +12,7 @@ ghost use Rattle.hsms_log.specs.FrameLine.{IsSpelled, mark_word};
 use crate::digits::decode;
 use crate::fault::LineFault;
 use crate::number::{after_prefix, number_at};
-use hsms_frame::{Frame, HEADER_LENGTH, Header, Text};
+use hsms_frame::{Frame, HEADER_LENGTH, Header};
 use hsms_machine::{Cause, Entry, Event, Mark};
 use std::alloc::{AllocError, Global};
 
@@ -142,7 +142,7 @@ fn read_message(alloc: Global, digits: &[u8]) -> Result<Frame, LineFault>
     drop_front(&mut octets, HEADER_LENGTH);
     Ok(Frame {
         header,
-        text: Text::new(octets),
+        text: octets,
     })
 }
 

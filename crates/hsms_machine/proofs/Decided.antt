@@ -4,7 +4,7 @@ use Rattle.std.proofs.lemmas.Bool.{cases_lt, cases_order}
 use Rattle.secs_item.specs.Spelling.{IsOctets, IsText}
 use Rattle.secs_item.specs.Laws.{SomeTextAnswer, NotBothOfText}
 use Rattle.hsms_frame.specs.Header.{kind_of}
-use Rattle.hsms_frame.specs.declared.frame.Frame.{Frame}
+use Rattle.hsms_frame.specs.Frame.{Frame}
 use Rattle.hsms_frame.specs.declared.kinds.Kind.{Kind}
 use Rattle.hsms_frame.specs.declared.kinds.Kind.TheVariants.{OtherSType, OtherPType}
 use Rattle.hsms_machine.specs.declared.entry.Entry.{Entry}

@@ -40,6 +40,3 @@ pub use settings::{
     LEAST_TIME, Role, Settings, Side,
 };
 pub use tracker::Tracker;
-
-#[cfg(test)]
-mod tests;

@@ -211,7 +211,7 @@ fn assert_text(
     want: &[u8],
 ) -> Result<(), Fail> {
     let frame = next(rt, alloc, framer)?.ok_or("a message")?;
-    assert_octets(rt, frame.text.as_slice(), want);
+    assert_octets(rt, &frame.text, want);
     Ok(())
 }
 

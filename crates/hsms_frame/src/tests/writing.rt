@@ -1,6 +1,6 @@
 use super::{DATA, SELECT, assert_octets};
 use crate::{
-    Frame, FrameFault, Header, Store, Text, WriteFault, data_header, encode_frame, linktest_req,
+    Frame, FrameFault, Header, Store, WriteFault, data_header, encode_frame, linktest_req,
     linktest_rsp, reject_of, select_req, select_rsp, separate, write_frame,
 };
 use std::alloc::{AllocError, Global};
@@ -58,7 +58,7 @@ fn builds_each_header(rt: HostRuntime) {
 fn data_frame(alloc: Global) -> Result<Frame, AllocError> {
     Ok(Frame {
         header: data_header(0, 1, 13, true, 1),
-        text: Text::new(Vec::from_slice(alloc, &[1, 0])?),
+        text: Vec::from_slice(alloc, &[1, 0])?,
     })
 }
 
@@ -107,7 +107,7 @@ fn refused_octets(rt: HostRuntime) {
     let alloc = rt.alloc();
     let bare = Frame {
         header: select_req(1),
-        text: Text::new(Vec::new(alloc)),
+        text: Vec::new(alloc),
     };
     assert_encoded(&rt, encode_frame(alloc, &bare), &SELECT);
     if let Ok(frame) = data_frame(alloc) {

@@ -2,8 +2,9 @@
 
 use super::{
     Abort, AllocError, Answer, CONNECTED, Case, Comes, Desk, End, EndFault, Entry, EquipmentDesk,
-    Event, Fail, Global, HostDesk, Input, Lost, Message, Octets, Role, SELECT, Send, Settings,
-    Side, Start, Tick, Told, assert_fault, end_of, equipment, judge, settings, tell, tell_well,
+    Event, Fail, Global, HostDesk, Input, Linktest, Lost, Message, Octets, Role, SELECT, Send,
+    Settings, Side, Start, Tick, Told, assert_fault, end_of, equipment, judge, settings, tell,
+    tell_well,
 };
 use secs_item::Item;
 
@@ -25,10 +26,7 @@ fn sent(entries: &[Entry]) -> Option<(usize, u32)> {
                 event: Event::Sent(frame),
                 ..
             },
-        ] => Some((
-            frame.text.as_slice().len().saturating_add(10),
-            frame.header.system,
-        )),
+        ] => Some((frame.text.len().saturating_add(10), frame.header.system)),
         _ => None,
     }
 }
@@ -256,6 +254,11 @@ const DUE: &[(Told, Option<u64>)] = &[
     (Tick(200), Some(5100)),
     (Octets(b"\0\0\x0a\xff\xff\0\0\0\x02\0\0\0\x01"), None),
     (Send("S1F1 W ."), Some(45200)),
+    (Tick(300), Some(45200)),
+    (Send("S1F1 W ."), Some(45200)),
+    (Linktest, Some(6300)),
+    (Tick(400), Some(6300)),
+    (Linktest, Some(6300)),
     (Lost, None),
 ];
 

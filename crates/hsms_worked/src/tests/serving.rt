@@ -167,6 +167,52 @@ const CONNECTIONS: &[Connection] = &[
         ..PASSIVE
     },
     Connection {
+        name: "octets come once T7 is past",
+        moments: &[0, 0, 10001],
+        waits: &[Some(&["ffff0000000100000001"])],
+        turns: 1,
+        answer: Ok(Served {
+            entries: 3,
+            refused: 0,
+        }),
+        until: Some(10001),
+        log: "0 up\n10001 cut t7\n10001 down\n",
+        sent: &[],
+        ..PASSIVE
+    },
+    Connection {
+        name: "the peer closes once T7 is past",
+        moments: &[0, 0, 10001],
+        waits: &[],
+        turns: 1,
+        answer: Ok(Served {
+            entries: 3,
+            refused: 0,
+        }),
+        until: Some(10001),
+        log: "0 up\n10001 cut t7\n10001 down\n",
+        sent: &[],
+        ..PASSIVE
+    },
+    Connection {
+        name: "a reply comes once T3 is past",
+        moments: &[0, 0, 0, 0, 0, 0, 45001],
+        answer: Ok(Served {
+            entries: 8,
+            refused: 1,
+        }),
+        log: "0 up
+0 > ffff0000000100000001
+0 < ffff0000000200000001
+0 > 00008101000000000002
+45001 t3 00000002
+45001 ! 00000102000000000002
+45001 > ffff0000000900000003
+45001 down
+",
+        ..ACTIVE
+    },
+    Connection {
         name: "the link fails at once",
         fuse: 0,
         answer: Err(ServeFault::Link),

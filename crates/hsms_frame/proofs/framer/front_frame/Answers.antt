@@ -13,5 +13,5 @@ returns-in_err-text-clause-answer c =
 pub returns-clause-answer : goal.returns-clause-answer
 returns-clause-answer c =
     let size : 14 + c.in-Some.size - 14 ≡ c.in-Some.size = omega arith in
-    whole_at_front _ _ c.in_ok-text.text _ _ (rw c.in-Some.is at c.in_ok-header.ensures)
+    whole_at_front _ _ c.in_ok-text.text.items _ _ (rw c.in-Some.is at c.in_ok-header.ensures)
     (c.in_ok-text.ensures.ok ∙ ap (λ n. take n (drop 14 c.args.octets.now)) size)

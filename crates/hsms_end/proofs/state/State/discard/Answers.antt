@@ -1,4 +1,5 @@
 use Rattle.std.proofs.Common.{Bool, [], ◌∷◌, ap, sym, subst, ◌∙◌}
+use Rattle.hsms_frame.specs.Frame.{Frame}
 use Rattle.hsms_machine.specs.declared.entry.Event.TheVariants.{Discarded}
 use Rattle.hsms_machine.specs.Settings.{Parameters}
 use Rattle.hsms_end.specs.declared.state.State.{State}
@@ -23,4 +24,5 @@ returns-clause-handled c =
     λ desk. handled_discarded desk c.args.self.now c.answer_discarded.new.self c.args.entries.now.items c.answer_discarded.new.entries.items c.args.frame c.args.rule c.requires.broken
     (subst (λ (b : Bool). Does c.args.self.now c.args.entries.now.items (logs (Discarded c.args.frame) ∷ answers_discarded c.args.self.now.settings b c.args.frame.header c.args.rule) c.answer_discarded.new.self c.answer_discarded.new.entries.items) c.is_selected-selected.ensures
     (does_then c.args.self.now c.log.new.self c.answer_discarded.new.self c.args.entries.now.items c.log.new.entries.items c.answer_discarded.new.entries.items (logs (Discarded c.args.frame) ∷ []) (answers_discarded c.args.self.now.settings c.is_selected-selected.result c.args.frame.header c.args.rule) c.in_ok-log.ensures.does
-    (subst (λ (s : Parameters). Does c.log.new.self c.log.new.entries.items (answers_discarded s c.is_selected-selected.result c.args.frame.header c.args.rule) c.answer_discarded.new.self c.answer_discarded.new.entries.items) (ap (λ (s : State). s.settings) c.in_ok-log.ensures.after) c.in_ok-answer_discarded.ensures.does)))
+    (subst (λ (s : Parameters). Does c.log.new.self c.log.new.entries.items (answers_discarded s c.is_selected-selected.result c.args.frame.header c.args.rule) c.answer_discarded.new.self c.answer_discarded.new.entries.items) (ap (λ (s : State). s.settings) c.in_ok-log.ensures.after)
+    (subst (λ (f : Frame). Does c.log.new.self c.log.new.entries.items (answers_discarded c.log.new.self.settings c.is_selected-selected.result f.header c.args.rule) c.answer_discarded.new.self c.answer_discarded.new.entries.items) c.frame.view_is c.in_ok-answer_discarded.ensures.does))))

@@ -1,5 +1,5 @@
 use Rattle.std.proofs.Common.{[], ◌∷◌, sym, ap, subst, ◌∙◌}
-use Rattle.hsms_frame.specs.declared.frame.Frame.{Frame}
+use Rattle.hsms_frame.specs.Frame.{Frame}
 use Rattle.hsms_machine.specs.declared.entry.Event.TheVariants.{Sent, Down}
 use Rattle.hsms_end.specs.Frame.{bare, separate_req}
 use Rattle.hsms_end.specs.Act.{logs, asks}

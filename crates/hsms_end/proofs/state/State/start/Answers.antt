@@ -1,5 +1,5 @@
 use Rattle.std.proofs.Common.{◌≡◌, [], ◌∷◌, sym, ap, subst, ◌∙◌}
-use Rattle.hsms_frame.specs.declared.frame.Frame.{Frame}
+use Rattle.hsms_frame.specs.Frame.{Frame}
 use Rattle.hsms_machine.specs.declared.entry.Event.TheVariants.{Sent, Up}
 use Rattle.hsms_machine.specs.declared.settings.Side.{Side}
 use Rattle.hsms_machine.specs.declared.settings.Side.TheVariants.{Active}

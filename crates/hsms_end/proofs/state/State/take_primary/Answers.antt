@@ -1,4 +1,5 @@
-use Rattle.std.proofs.Common.{[], ◌∷◌, ap, subst}
+use Rattle.std.proofs.Common.{[], ◌∷◌, ap, sym, subst}
+use Rattle.hsms_frame.specs.Frame.{Frame}
 use Rattle.hsms_frame.specs.declared.kinds.Kind.TheVariants.{Primary}
 use Rattle.hsms_machine.specs.declared.entry.Event.TheVariants.{Taken}
 use Rattle.hsms_machine.specs.Settings.{Parameters}
@@ -7,6 +8,7 @@ use Rattle.hsms_end.specs.Answer.{answered}
 use Rattle.hsms_end.specs.Act.{logs}
 use Rattle.hsms_end.specs.Reaction.{answers_primary}
 use Rattle.hsms_end.specs.Doing.{Does}
+use Rattle.hsms_end.specs.Owing.{IsAsked}
 use Rattle.hsms_end.proofs.Doings.{does_then}
 use Rattle.hsms_end.proofs.Takings.{handled_kind, readable, asked_by_primary}
 use Rattle.hsms_end.proofs.state.State.take_primary.Goals as goal
@@ -15,11 +17,14 @@ pub ask-requires : goal.ask-requires
 ask-requires g c = readable c.args.self.now c.args.frame c.requires.taken c.requires.kind
 
 pub answer_primary-requires : goal.answer_primary-requires
-answer_primary-requires g c = asked_by_primary c.args.self.now c.args.frame c.requires.taken c.log.new.self c.in_ok-log.ensures.after c.requires.kind
+answer_primary-requires g c =
+    subst (λ (f : Frame). IsAsked c.log.new.self f.header) (sym c.frame.view_is)
+    (asked_by_primary c.args.self.now c.args.frame c.requires.taken c.log.new.self c.in_ok-log.ensures.after c.requires.kind)
 
 pub returns-clause-handled : goal.returns-clause-handled
 returns-clause-handled g c =
     handled_kind (g.D.Desk.answers c.args.desk.now) c.args.self.now c.answer_primary.new.self c.args.entries.now.items c.answer_primary.new.entries.items c.args.frame Primary (answered c.in_ok-answer.answer) c.requires.taken.broken c.requires.kind
     (λ e. c.in_ok-answer.ensures)
     (does_then c.args.self.now c.log.new.self c.answer_primary.new.self c.args.entries.now.items c.log.new.entries.items c.answer_primary.new.entries.items (logs (Taken c.args.frame) ∷ []) (answers_primary c.args.self.now.settings c.args.frame.header (answered c.in_ok-answer.answer)) c.in_ok-log.ensures.does
-    (subst (λ (s : Parameters). Does c.log.new.self c.log.new.entries.items (answers_primary s c.args.frame.header (answered c.in_ok-answer.answer)) c.answer_primary.new.self c.answer_primary.new.entries.items) (ap (λ (s : State). s.settings) c.in_ok-log.ensures.after) c.in_ok-answer_primary.ensures.does))
+    (subst (λ (s : Parameters). Does c.log.new.self c.log.new.entries.items (answers_primary s c.args.frame.header (answered c.in_ok-answer.answer)) c.answer_primary.new.self c.answer_primary.new.entries.items) (ap (λ (s : State). s.settings) c.in_ok-log.ensures.after)
+    (subst (λ (f : Frame). Does c.log.new.self c.log.new.entries.items (answers_primary c.log.new.self.settings f.header (answered c.in_ok-answer.answer)) c.answer_primary.new.self c.answer_primary.new.entries.items) c.frame.view_is c.in_ok-answer_primary.ensures.does)))

@@ -2,7 +2,7 @@
 
 use super::Happening::{Cut, Discarded, Down, Sent, T3, Taken, Up};
 use super::{CONNECTED, Case, LINKTEST_REQ, S1F1_W, S1F2, SELECT_REQ, SELECTED};
-use crate::{Cause, Rule};
+use hsms_machine::{Cause, Rule};
 
 pub const SESSIONS: &[Case] = &[
     Case {

@@ -2,7 +2,7 @@
 
 use super::Happening::{Down, Sent, T3, Taken, Up};
 use super::{Case, LINKTEST_REQ, S1F2, SELECT_REQ, SELECT_RSP, SELECTED, SEPARATE};
-use crate::Rule;
+use hsms_machine::Rule;
 
 pub const BROKEN: &[Case] = &[
     Case {

@@ -2,7 +2,7 @@
 
 use super::{
     Abort, AllocError, Entry, Event, Fail, Frame, Global, Role, Rule, S1F1_W, SELECTED, Settings,
-    Side, Text, Tracker, assert_broken, header, judge_entries,
+    Side, Tracker, assert_broken, header, judge_entries,
 };
 
 fn settings(depth: u8) -> Option<Settings> {
@@ -37,7 +37,7 @@ fn taken(alloc: Global, count: u8) -> Result<Entry, AllocError> {
     };
     let frame = Frame {
         header: header(S1F1_W, 2),
-        text: Text::new(text),
+        text,
     };
     Ok(Entry {
         time: 6,

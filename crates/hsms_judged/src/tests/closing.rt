@@ -5,7 +5,7 @@ use super::{
     Case, LINKTEST_REQ, LINKTEST_RSP, S1F1, S1F1_W, S1F2, SELECT_REQ, SELECT_RSP, SELECTED,
     SEPARATE,
 };
-use crate::Rule;
+use hsms_machine::Rule;
 
 pub const CLOSING: &[Case] = &[
     Case {

@@ -2,7 +2,7 @@
 
 use super::Happening::{Cut, Discarded, Down, Sent, T3, Taken, Up};
 use super::{CONNECTED, Case, LINKTEST_REQ, LINKTEST_RSP, S1F1, S1F1_W, SELECTED, SEPARATE};
-use crate::{Cause, Rule};
+use hsms_machine::{Cause, Rule};
 
 pub const TIMERS: &[Case] = &[
     Case {

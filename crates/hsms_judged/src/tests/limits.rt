@@ -1,6 +1,6 @@
 //! The limits of settings, and what settings hold.
 
-use crate::{Role, Settings, Side};
+use hsms_machine::{Role, Settings, Side};
 use std::process::Abort;
 use std::test::Fail;
 

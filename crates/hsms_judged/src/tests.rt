@@ -13,8 +13,8 @@ mod rules;
 mod sessions;
 mod timers;
 
-use crate::{Cause, Entry, Event, Mark, Phase, Role, Rule, Settings, Side, Tracker};
-use hsms_frame::{Frame, Header, Text};
+use hsms_frame::{Frame, Header};
+use hsms_machine::{Cause, Entry, Event, Mark, Phase, Role, Rule, Settings, Side, Tracker};
 use std::alloc::{AllocError, Global};
 use std::process::Abort;
 use std::test::Fail;
@@ -88,7 +88,7 @@ fn header(first: u64, system: u32) -> Header {
 fn frame(alloc: Global, first: u64, system: u32, text: &[u8]) -> Result<Frame, AllocError> {
     Ok(Frame {
         header: header(first, system),
-        text: Text::new(Vec::from_slice(alloc, text)?),
+        text: Vec::from_slice(alloc, text)?,
     })
 }
 
@@ -320,7 +320,7 @@ fn zeros_of(alloc: Global, mark: Mark, count: u8) -> Result<Entry, AllocError> {
     };
     let frame = Frame {
         header: header(S1F1, 2),
-        text: Text::new(text),
+        text,
     };
     let event = match mark {
         Mark::Sent => Event::Sent(frame),

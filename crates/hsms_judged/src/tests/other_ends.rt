@@ -2,7 +2,7 @@
 
 use super::Happening::{Sent, Taken, Up};
 use super::{Case, S1F1_W, SELECT_REQ, SELECT_RSP};
-use crate::Rule;
+use hsms_machine::Rule;
 
 pub const LISTENS: &[Case] = &[
     Case {

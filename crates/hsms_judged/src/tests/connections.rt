@@ -2,7 +2,7 @@
 
 use super::Happening::{Cut, Down, Sent, Taken, Up};
 use super::{Case, Happening, S1F1_W, S1F2, SELECT_REQ, SELECT_RSP, SELECTED};
-use crate::{Cause, Rule};
+use hsms_machine::{Cause, Rule};
 
 /// A connection that goes down while a primary waits for its reply.
 const FIRST: &[(u64, Happening)] = &[

@@ -6,7 +6,7 @@ use super::{
     CONNECTED, Case, LINKTEST_REQ, LINKTEST_RSP, S1F1, S1F1_W, S1F2, SELECT_REQ, SELECT_RSP,
     SELECTED, SEPARATE,
 };
-use crate::{Cause, Rule};
+use hsms_machine::{Cause, Rule};
 
 pub const DISCARDS: &[Case] = &[
     Case {

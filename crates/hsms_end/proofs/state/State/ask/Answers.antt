@@ -1,0 +1,21 @@
+use Rattle.std.proofs.Common.{◌≡◌, ℕ, List, option_map, ap, subst, ◌∙◌}
+use Rattle.secs_item.specs.Item.{view}
+use Rattle.secs_item.specs.Spelling.{IsTextOf}
+use Rattle.secs_text.specs.Content.{Content}
+use Rattle.secs_text.specs.View.{content}
+use Rattle.hsms_frame.specs.Frame.{Frame}
+use Rattle.hsms_end.specs.Answer.{answered}
+use Rattle.hsms_end.specs.Frame.{message_of}
+use Rattle.hsms_end.specs.Owing.{IsAnsweredBy}
+use Rattle.hsms_end.proofs.state.State.ask.Goals as goal
+
+pub returns-in_ok-answer-in-Ok : goal.returns-in_ok-answer-in-Ok
+returns-in_ok-answer-in-Ok g c =
+    let item = option_map view c.in-Ok.item in
+    let text : IsTextOf c.args.self.now.settings.depth c.frame.inside.text.items item =
+    subst (λ (n : ℕ). IsTextOf n c.frame.inside.text.items item) c.depth.ensures.value
+    (subst (λ (octets : List ℕ). IsTextOf c.depth.result octets item) c.as_slice.ensures.value c.in-Ok.ensures.ok) in
+    let message : content c.new-message.result ≡ message_of c.frame.inside.header item =
+    (let e1 = c.new-message.ensures in let e2 = c.stream.ensures in let e3 = c.function.ensures in let e4 = c.wait.ensures in cc) in
+    subst (λ (f : Frame). IsAnsweredBy (g.D.Desk.answers c.args.desk.now) c.args.self.now.settings.depth f (answered c.in_ok-answer-in-Ok.answer)) c.frame.view_is
+    (item, text, c.in_ok-answer-in-Ok.ensures ∙ ap (λ (m : Content). g.D.Desk.answers c.args.desk.now m) message)

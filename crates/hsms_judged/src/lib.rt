@@ -1,0 +1,6 @@
+//! Worked sessions, which a tracker judges: tests of `hsms_machine`, in a crate of their own, since a crate is proved once
+//! more with its tests.
+#![tactic(auto)]
+
+#[cfg(test)]
+mod tests;
