@@ -8,13 +8,14 @@ use std::alloc::{AllocError, Global};
 use std::error::Error;
 use std::fmt;
 
-/// A fault, which is shown as its words for the user.
+/// Why the command ends before its work is done, as it tells the user.
 #[derive(Debug, Drop)]
 pub enum ToolFault {
-    /// The input is refused.
+    /// The command line or the input is refused, in these words.
     Refused(String),
-    /// A device failed, or gives more than the command takes.
+    /// A device failed, or it gives more than the command takes; the word says which.
     Device(&'static str),
+    /// Memory is wanting.
     Memory,
 }
 
@@ -54,7 +55,7 @@ impl From<AllocError> for ToolFault {
     }
 }
 
-/// The refusal of an input under these words, or want of memory for them.
+/// The refusal of an input in these words, or `Memory` where there is none for them.
 pub fn refused(alloc: Global, words: &str) -> ToolFault
     ensures { IsRefusedAs words.now result }
 {
@@ -64,7 +65,7 @@ pub fn refused(alloc: Global, words: &str) -> ToolFault
     }
 }
 
-/// The status with which the command ends on an answer, which is whether all is well.
+/// The status with which the command ends: 0 where all is well, 1 where a log fails its audit, else the fault's.
 pub fn exit_status(answer: &Result<bool, ToolFault>) -> u8
     ensures { result ≡ exit_status_of answer.now }
 {
@@ -74,7 +75,7 @@ pub fn exit_status(answer: &Result<bool, ToolFault>) -> u8
     }
 }
 
-/// The fault of a command line that asks for nothing that the command does.
+/// The refusal of a command line that asks for nothing that the command does.
 pub fn no_request(alloc: Global) -> ToolFault
     ensures { IsRefusedAs (codes "command line") result }
 {

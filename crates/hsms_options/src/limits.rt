@@ -1,4 +1,4 @@
-//! What options are where they are left out, and the limits of those that settings don't limit.
+//! The defaults of options, and the limits of those numbers that the settings of an end don't limit.
 
 /// The device, the session ID of the messages.
 pub const DEFAULT_DEVICE: u32 = 0;

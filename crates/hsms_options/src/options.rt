@@ -1,4 +1,4 @@
-//! The command line, which is judged before anything is read.
+//! What the command line asks for. It is looked at before anything is read.
 
 ghost use Rattle.std.specs.Prelude.{◌≡◌, ◌≢◌, IfOk, IfErr, IfSome, IsErrAnd, Ok, None, codes, map, string_bytes};
 ghost use Rattle.clap.specs.Words.{found_of, kind_of, rows_of, subcommand_rows_of};
@@ -50,7 +50,11 @@ pub enum Task {
     },
 }
 
-/// What the words of the command line ask for, the first of which is the command's name.
+/// What the words of a command line ask for. The first one is the command's name.
+///
+/// # Errors
+///
+/// `Refused` in the words `command line`, where they ask for nothing that the command does; else `Memory`.
 pub fn parse(alloc: Global, words: &[String]) -> Result<Request, ToolFault>
     ensures asks { IfOk result (Spells (map string_bytes words.now)) }
     ensures limits { IfOk result IsWithinLimits }
@@ -141,7 +145,7 @@ fn asked_to_encode(options: &ArgMatches<'_>) -> Option<Task>
     })
 }
 
-// Help or the version is asked for, or the command line is refused.
+// The answer where `clap` doesn't match the words: the text of help or of the version, or a refusal.
 fn explained(alloc: Global, error: &Error) -> Result<Request, ToolFault>
     ensures help { IfOk result (λ request. IsHelp request × CallsForText (kind_of error.now)) }
     ensures limits { IfOk result IsWithinLimits }

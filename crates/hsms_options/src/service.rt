@@ -41,7 +41,7 @@ pub struct Service {
     pub send: bool,
 }
 
-/// What has to be given, or has to be a number: the settings, where the connection is, and the counts.
+/// The options that have to be given, or to be numbers: the settings, where the connection is, and the counts.
 #[derive(Clone, Copy, Debug)]
 struct Terms<'a> {
     settings: Settings,
@@ -60,10 +60,11 @@ struct Times {
     t8: u32,
 }
 
-/// What the options of `hsms serve` ask for, if each has a value that it may have. Faults:
+/// What the options of `hsms serve` ask for.
 ///
-/// - `Refused`: an option has no value that it may have (`command line`).
-/// - `Memory`.
+/// # Errors
+///
+/// `Refused` in the words `command line`, where an option has a value that it may not have; else `Memory`.
 pub fn asked_to_serve(alloc: Global, options: &ArgMatches<'_>) -> Result<Service, ToolFault>
     ensures asks { IfOk result (AsksToServe (rows_of (found_of options.now))) }
     ensures port { IfOk result (λ service. (1 ≤ service.port) × (service.port ≤ 65535)) }

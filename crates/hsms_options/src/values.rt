@@ -48,7 +48,7 @@ pub fn depth_of(options: &ArgMatches<'_>) -> Option<u8>
     Some(depth as u8)
 }
 
-/// The number of an option, if it is from `least` to `greatest`; where the option is left out, it is `left_out`.
+/// The number of an option, if it is from `least` to `greatest`; `left_out` where the option isn't given.
 pub fn number_of(
     options: &ArgMatches<'_>,
     name: &str,

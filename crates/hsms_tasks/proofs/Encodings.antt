@@ -5,7 +5,7 @@ use Rattle.std.specs.Prelude.{Option, Some, None, ◌⊎◌}
 use Rattle.secs_text.specs.Content.{Content, AllWithin}
 use Rattle.secs_text.specs.Notation.{Notations}
 use Rattle.hsms_frame.specs.Device.{Grows, GrowsByFront, Stays}
-use Rattle.hsms_frame.specs.declared.frame.Frame.{Frame}
+use Rattle.hsms_frame.specs.Frame.{Frame}
 use Rattle.hsms_options.specs.declared.fault.ToolFault.{ToolFault}
 use Rattle.hsms_options.specs.declared.fault.ToolFault.TheVariants.{Refused, Device, Memory}
 use Rattle.hsms_tasks.specs.Show.{IsWrite}

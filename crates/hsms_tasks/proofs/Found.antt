@@ -6,10 +6,9 @@ use Rattle.std.proofs.lemmas.List.{append-nil, append_assoc, drop-append-le, len
 use Rattle.hsms_frame.specs.declared.fault.FrameFault.{FrameFault}
 use Rattle.hsms_frame.specs.declared.fault.FrameFault.TheVariants as frame
 use Rattle.hsms_frame.specs.declared.fault.ReadFault.TheVariants.{TooShort, TooLong, CutOff}
-use Rattle.hsms_frame.specs.declared.frame.Frame.{Frame}
 use Rattle.hsms_frame.specs.declared.header.Header.{Header}
 use Rattle.hsms_frame.specs.Device.{WhereTold}
-use Rattle.hsms_frame.specs.Frame.{frame_octets, length_field, IsFaultless, IsProperFront, IsTooLong, IsTooShort}
+use Rattle.hsms_frame.specs.Frame.{Frame, frame_octets, length_field, IsFaultless, IsProperFront, IsTooLong, IsTooShort}
 use Rattle.hsms_frame.specs.Framing.{FrontAs}
 use Rattle.hsms_options.specs.declared.fault.ToolFault.{ToolFault}
 use Rattle.hsms_options.specs.declared.fault.ToolFault.TheVariants.{Refused, Device, Memory}

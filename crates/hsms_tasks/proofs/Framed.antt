@@ -6,7 +6,7 @@ use Rattle.secs_text.specs.Content.{Content}
 use Rattle.secs_text.specs.Spellings.{text_of, headed_by}
 use Rattle.secs_text.specs.declared.raw_message.Head.{Head}
 use Rattle.hsms_frame.specs.Build.{data_header_of}
-use Rattle.hsms_frame.specs.declared.frame.Frame.{Frame}
+use Rattle.hsms_frame.specs.Frame.{Frame}
 use Rattle.hsms_frame.specs.declared.header.Header.{Header}
 use Rattle.hsms_tasks.specs.declared.refusal.Refusal.{Refusal}
 use Rattle.hsms_tasks.specs.declared.refusal.Refusal.TheVariants.{TooLarge, TooLong}

@@ -1,21 +1,24 @@
--- What an output was given, part by part.
+-- What an output and its block were given, part by part.
 use Rattle.std.proofs.Common.{◌≡◌, ℕ, List, [], ◌∷◌, ◌++◌, sym, ap, ◌∙◌, subst, append-nil, append_assoc}
-use Rattle.hsms_frame.specs.declared.frame.Frame.{Frame}
+use Rattle.hsms_frame.specs.Frame.{Frame}
 use Rattle.hsms_frame.specs.declared.kinds.Kind.{Kind}
 use Rattle.hsms_frame.specs.Header.{kind_of}
-use Rattle.hsms_tasks.specs.Given.{Adds}
+use Rattle.secs_text.specs.Laid.{Lays}
 use Rattle.hsms_tasks.specs.Line.{LineOf, LineOfKind}
 
 -- a second text comes behind the first
-pub adds_then : (A B C : List ℕ → Type 0) (xs ys : List ℕ) → Adds A B xs → Adds B C ys → Adds A C (xs ++ ys)
-adds_then A B C xs ys first second = λ given has. subst C (append_assoc given xs ys) (second (given ++ xs) (first given has))
+pub lays_then : (A B C : List ℕ → Type 0) (a b c xs ys : List ℕ) → Lays A a B b xs → Lays B b C c ys → Lays A a C c (xs ++ ys)
+lays_then A B C a b c xs ys first second = λ given has.
+    let p = first given has in
+    let q = second p.0 p.1 in
+    (q.0, q.1, q.2 ∙ ap (λ (o : List ℕ). o ++ ys) p.2 ∙ append_assoc (given ++ a) xs ys)
 
-pub adds_none : (A : List ℕ → Type 0) → Adds A A []
-adds_none A = λ given has. subst A (sym (append-nil given)) has
+pub lays_none : (A : List ℕ → Type 0) (a : List ℕ) → Lays A a A a []
+lays_none A a = λ given has. (given, has, sym (append-nil (given ++ a)))
 
 -- the same text under another name
-pub adds_same : (A B : List ℕ → Type 0) (xs ys : List ℕ) → xs ≡ ys → Adds A B xs → Adds A B ys
-adds_same A B xs ys same adds = subst (λ (o : List ℕ). Adds A B o) same adds
+pub lays_same : (A B : List ℕ → Type 0) (a b xs ys : List ℕ) → xs ≡ ys → Lays A a B b xs → Lays A a B b ys
+lays_same A B a b xs ys same lays = subst (λ (o : List ℕ). Lays A a B b o) same lays
 
 -- ---- lines
 
@@ -28,18 +31,10 @@ pub two_numbers : (front first second text end : List ℕ) → front ++ (32 ∷ 
 two_numbers front first second text end =
     ap (λ (o : List ℕ). o ++ text ++ end) (append_assoc front (32 ∷ first) (32 ∷ second) ∙ ap (λ (o : List ℕ). front ++ o) (sym (append_assoc (32 ∷ first) (32 ∷ []) second)))
 
--- a line in notation: its block held nothing before
-pub readable_is : (given front printed before now end : List ℕ) → before ≡ [] → now ≡ given ++ front ++ 32 ∷ [] ++ before ++ printed
-    → now ++ end ≡ given ++ (front ++ 32 ∷ [] ++ printed ++ end)
-readable_is given front printed before now end none parts =
-    ap (λ (o : List ℕ). o ++ end) (parts ∙ ap (λ (o : List ℕ). given ++ front ++ 32 ∷ [] ++ o ++ printed) none ∙ ap (λ (o : List ℕ). o ++ printed) (append-nil (given ++ front ++ 32 ∷ [])))
-    ∙ ap (λ (o : List ℕ). o ++ printed ++ end) (append_assoc given front (32 ∷ [])) ∙ ap (λ (o : List ℕ). o ++ end) (append_assoc given (front ++ 32 ∷ []) printed)
-    ∙ append_assoc given (front ++ 32 ∷ [] ++ printed) end
-
 -- a line with its text in hexadecimal
-pub unreadable_is : (given front name mark digits end : List ℕ)
-    → given ++ front ++ 32 ∷ [] ++ (name ++ mark ++ digits ++ end) ≡ given ++ (front ++ (32 ∷ name) ++ mark ++ digits ++ end)
-unreadable_is given front name mark digits end =
-    append_assoc (given ++ front) (32 ∷ []) (name ++ mark ++ digits ++ end) ∙ append_assoc given front (32 ∷ (name ++ mark ++ digits ++ end))
-    ∙ ap (λ (o : List ℕ). given ++ o) (sym (append_assoc front ((32 ∷ name) ++ mark ++ digits) end)
-    ∙ ap (λ (o : List ℕ). o ++ end) (sym (append_assoc front ((32 ∷ name) ++ mark) digits) ∙ ap (λ (o : List ℕ). o ++ digits) (sym (append_assoc front (32 ∷ name) mark))))
+pub unreadable_is : (front name mark digits end : List ℕ)
+    → front ++ 32 ∷ [] ++ (name ++ mark ++ digits ++ end) ≡ front ++ (32 ∷ name) ++ mark ++ digits ++ end
+unreadable_is front name mark digits end =
+    append_assoc front (32 ∷ []) (name ++ mark ++ digits ++ end)
+    ∙ sym (append_assoc front ((32 ∷ name) ++ mark ++ digits) end)
+    ∙ ap (λ (o : List ℕ). o ++ end) (sym (append_assoc front ((32 ∷ name) ++ mark) digits) ∙ ap (λ (o : List ℕ). o ++ digits) (sym (append_assoc front (32 ∷ name) mark)))

@@ -1,20 +1,23 @@
 -- Runs of `hsms show`, one message after another.
-use Rattle.std.proofs.Common.{◌≡◌, ◌≢◌, ◌≤◌, ◌+◌, ◌++◌, ℕ, List, [], ◌∷◌, length, take, drop, None, Some, Ok, Err, true, false, Bool, refl, sym, ◌∙◌, ap, subst, inl, inr, arith, get_or, codes}
+use Rattle.std.proofs.Common.{◌≡◌, ◌≢◌, ◌≤◌, ◌<◌, ◌+◌, ◌-◌, ◌++◌, ℕ, suc, List, [], ◌∷◌, length, take, drop, None, Some, Ok, Err, true, false, Bool, refl, sym, ◌∙◌, ap, subst, inl, inr, arith, get_or, codes}
 use Rattle.std.specs.Prelude.{Option, Result, All, IfErr}
-use Rattle.std.proofs.lemmas.List.{append-nil, append_assoc, length-append, length-drop, length-take-le}
+use Rattle.std.proofs.lemmas.List.{append-nil, append_assoc, length-append, length-drop, length-take-le, take-append-le}
 use Rattle.std.proofs.lemmas.Grind.{flat_map-append}
-use Rattle.std.proofs.lemmas.List.Elements.{All-push}
-use Rattle.hsms_frame.specs.declared.frame.Frame.{Frame}
+use Rattle.std.proofs.lemmas.List.Elements.{All-append, All-push}
+use Rattle.std.proofs.lemmas.List.Concat.{flat_map-cons}
+use Rattle.std.proofs.lemmas.Bool.{cases_lt}
+use Rattle.hsms_tasks.proofs.Outlets.{take_behind}
+use Rattle.hsms_tasks.specs.Held.{GrowsHolding}
 use Rattle.hsms_frame.specs.declared.header.Header.{Header}
-use Rattle.hsms_frame.specs.Device.{WhereTold, Stays, Grows, GrowsByFront}
-use Rattle.hsms_frame.specs.Frame.{frame_octets}
+use Rattle.hsms_frame.specs.Device.{WhereTold, Grows, GrowsByFront}
+use Rattle.hsms_frame.specs.Frame.{Frame, frame_octets}
 use Rattle.hsms_frame.specs.Framing.{IsFrontOf}
 use Rattle.hsms_frame.proofs.Fronts.{whole_at_front}
 use Rattle.hsms_options.specs.declared.fault.ToolFault.{ToolFault}
 use Rattle.hsms_options.specs.declared.fault.ToolFault.TheVariants.{Refused, Device, Memory}
-use Rattle.hsms_tasks.specs.Ahead.{IsStopped, behind}
+use Rattle.hsms_tasks.specs.Ahead.{FindsHolding, FindsNext, IsStopped, behind}
 use Rattle.hsms_tasks.specs.Line.{LineOf}
-use Rattle.hsms_tasks.specs.Show.{Begins, IsWithin, octets_of, LeavesPart, LinesOf, GrowsThenByFront, Shows, CountsFailure, ShowsNext, IsEnded, HasWord, IsOfInput, IsWrite}
+use Rattle.hsms_tasks.specs.Show.{Begins, IsWithin, octets_of, LeavesPart, LinesOf, Shows, StopsBy, CountsFailure, ShowsNext, IsEnded, HasWord, IsOfInput, IsWrite}
 
 -- a message that is there whole is the next
 pub begins_with : (max : ℕ) (input ahead rest text : List ℕ) (h : Header) (size : ℕ) → input ≡ ahead ++ rest → IsFrontOf max ahead h size
@@ -29,29 +32,71 @@ begins_with max input ahead rest text h size parts front same =
       (whole.1, whole.2),
     )
 
--- a reading stopped the call, and nothing was written
-pub read_stops : (max depth : ℕ) (input : List ℕ) (fault : ToolFault) (left written : Option (List ℕ))
-    → IsStopped max input fault left → HasWord (codes "Read") fault → ShowsNext max depth input (Err fault) left written written
-read_stops max depth input (Refused words) left written reads word = (reads.0, reads.1, (λ octets told. told))
-read_stops max depth input (Device given) left written reads word = inl (word, reads, (λ octets told. told))
-read_stops max depth input Memory left written reads word = (reads, (λ octets told. told))
+-- a reading or a write stopped the call before a message was found
+pub find_stops : (max depth : ℕ) (input ahead : List ℕ) (fault : ToolFault) (left old : Option (List ℕ)) (held : List ℕ) (new : Option (List ℕ)) (now : List ℕ)
+    → FindsHolding max input (Err fault) ahead left old held new now → ShowsNext max depth input (Err fault) left old held new now
+find_stops max depth input ahead (Refused words) left old held new now (inl (word, reads, grows)) = (reads.0, reads.1, grows)
+find_stops max depth input ahead (Refused words) left old held new now (inr (word, leaves, some, front)) = absurd word
+find_stops max depth input ahead (Device given) left old held new now (inl (word, reads, grows)) = inl (word, reads, grows)
+find_stops max depth input ahead (Device given) left old held new now (inr (word, leaves, some, front)) = inr (inl (word, leaves, some, front))
+find_stops max depth input ahead Memory left old held new now (inl (word, reads, grows)) = (reads, grows)
+find_stops max depth input ahead Memory left old held new now (inr (word, leaves, some, front)) = absurd word
 
 all_left : (after : List ℕ) (left : Option (List ℕ)) → left ≡ Some after → LeavesPart after left
 all_left after left is = ([], after, refl, is)
 
--- memory is wanting for the line
-pub line_stops : (max depth : ℕ) (input : List ℕ) (left written : Option (List ℕ)) → LeavesPart input left
-    → ShowsNext max depth input (Err Memory) left written written
-line_stops max depth input left written leaves = (leaves, (λ octets told. told))
+-- ---- what is held
+
+-- a text is held behind another
+pub holding_then : (old : Option (List ℕ)) (held : List ℕ) (mid : Option (List ℕ)) (then : List ℕ) (new : Option (List ℕ)) (now xs ys : List ℕ)
+    → GrowsHolding old held mid then xs → GrowsHolding mid then new now ys → GrowsHolding old held new now (xs ++ ys)
+holding_then old held mid then new now xs ys (first, one, grows) (second, two, more) = (
+  first ++ second,
+  append_assoc first second now ∙ ap (λ o. first ++ o) two ∙ sym (append_assoc first then ys) ∙ ap (λ o. o ++ ys) one ∙ append_assoc held xs ys,
+  (λ octets told. more (octets ++ first) (grows octets told) ∙ ap Some (append_assoc octets first second)),
+)
+
+-- all that is held was written
+pub holding_out : (old : Option (List ℕ)) (held : List ℕ) (mid : Option (List ℕ)) (then : List ℕ) (new : Option (List ℕ)) (xs : List ℕ)
+    → GrowsHolding old held mid then xs → Grows mid new then → Grows old new (held ++ xs)
+holding_out old held mid then new xs (first, one, grows) more = λ octets told.
+    more (octets ++ first) (grows octets told) ∙ ap Some (append_assoc octets first then ∙ ap (λ o. octets ++ o) one)
+
+-- a write failed within what is held and a text behind it
+pub holding_front : (old : Option (List ℕ)) (held : List ℕ) (mid : Option (List ℕ)) (then : List ℕ) (new : Option (List ℕ)) (xs ys : List ℕ)
+    → GrowsHolding old held mid then xs → GrowsByFront mid new (then ++ ys) → GrowsByFront old new (held ++ xs ++ ys)
+holding_front old held mid then new xs ys (first, one, grows) front = λ octets told.
+    let f = front (octets ++ first) (grows octets told) in
+    let n = f.0 in
+    let whole : first ++ (then ++ ys) ≡ held ++ xs ++ ys = sym (append_assoc first then ys) ∙ ap (λ o. o ++ ys) one in
+    let size : length first + length (then ++ ys) ≡ length (held ++ xs ++ ys) = sym (length-append first (then ++ ys)) ∙ ap length whole in (
+      length first + n,
+      omega (arith, f.1, size),
+      f.2 ∙ ap Some (append_assoc octets first (take n (then ++ ys)) ∙ ap (λ o. octets ++ o) (sym (take_behind first (then ++ ys) n) ∙ ap (take (length first + n)) whole)),
+    )
+
+pub holds_same : (old : Option (List ℕ)) (held : List ℕ) → GrowsHolding old held old held []
+holds_same old held = ([], sym (append-nil held), (λ octets told. told ∙ ap Some (sym (append-nil octets))))
+
+pub holds_none : (old : Option (List ℕ)) (held : List ℕ) (new : Option (List ℕ)) (now : List ℕ) → now ≡ [] → Grows old new held → GrowsHolding old held new now []
+holds_none old held new now none grows = (held, ap (λ o. held ++ o) none, grows)
+
+-- what is found once all that was held is written
+pub finds_with : (max : ℕ) (input : List ℕ) (r : Result (Option (Header × ℕ)) ToolFault) (ahead : List ℕ) (left old : Option (List ℕ)) (held : List ℕ) (new : Option (List ℕ)) (now : List ℕ)
+    → now ≡ [] → Grows old new held → IfErr r (HasWord (codes "Read")) → FindsNext max input r ahead left → FindsHolding max input r ahead left old held new now
+finds_with max input (Ok (Some found)) ahead left old held new now none grows word finds = (finds, holds_none old held new now none grows)
+finds_with max input (Ok None) ahead left old held new now none grows word finds = (finds, grows)
+finds_with max input (Err fault) ahead left old held new now none grows word finds = inl (word, finds, grows)
 
 -- a write stopped the call
-pub write_stops : (max depth : ℕ) (input after line : List ℕ) (f : Frame) (fault : ToolFault) (left old written : Option (List ℕ))
-    → IsWrite fault → Begins max input f after → LeavesPart after left → LineOf depth f line → GrowsByFront old written line
-    → ShowsNext max depth input (Err fault) left old written
-write_stops max depth input after line f (Refused words) left old written word begins leaves shown grows = absurd word
-write_stops max depth input after line f (Device given) left old written word begins leaves shown grows =
-    inr (word, f, after, line, begins, shown, leaves, grows)
-write_stops max depth input after line f Memory left old written word begins leaves shown grows = absurd word
+pub write_stops : (max depth : ℕ) (input after line : List ℕ) (f : Frame) (fault : ToolFault) (left old : Option (List ℕ)) (held : List ℕ) (mid : Option (List ℕ)) (then : List ℕ)
+    (written : Option (List ℕ)) (now : List ℕ) → IsWrite fault → Begins max input f after → LeavesPart after left → LineOf depth f line → GrowsHolding old held mid then []
+    → GrowsByFront mid written (then ++ line) → ShowsNext max depth input (Err fault) left old held written now
+write_stops max depth input after line f (Refused words) left old held mid then written now word begins leaves shown holds front = absurd word
+write_stops max depth input after line f (Device given) left old held mid then written now word begins leaves shown holds front =
+    let P : List ℕ → Type 0 = λ o. GrowsByFront old written (o ++ line) in
+    inr (inr (word, f, after, line, begins, shown, leaves, subst P (append-nil held) (holding_front old held mid then written [] line holds front)))
+write_stops max depth input after line f Memory left old held mid then written now word begins leaves shown holds front = absurd word
 
 -- one message more is there
 pub one_more : (max : ℕ) (input ahead : List ℕ) (m : Header × ℕ) (left : Option (List ℕ)) → (rest : List ℕ) × (left ≡ Some rest) × (input ≡ ahead ++ rest)
@@ -107,20 +152,99 @@ LinesOf-push depth [] lines line f none is =
 LinesOf-push depth (m ∷ ms) lines line f (first, rest, one, others, parts) is =
     (first, rest ++ line, one, LinesOf-push depth ms rest line f others is, ap (λ xs. xs ++ line) parts ∙ append_assoc first rest line)
 
--- ---- what was written
+-- ---- a write that failed within some lines
 
-grows_none : (written : Option (List ℕ)) → Grows written written []
-grows_none written = λ octets told. told ∙ ap Some (sym (append-nil octets))
+-- the line in which a part of them ends
+abbrev Split : ℕ → ℕ → List Frame → List ℕ → ℕ → Type 0
+Split max depth messages lines n =
+    (before : List Frame) × (f : Frame) × (after : List Frame) × (first line : List ℕ) × (k : ℕ) × (messages ≡ before ++ f ∷ after) × LinesOf depth before first
+    × LineOf depth f line × (k < length line) × (take n lines ≡ first ++ take k line) × All (IsWithin max) before × IsWithin max f
 
-grows_on : (old mid new : Option (List ℕ)) (lines line : List ℕ) → Grows old mid lines → Grows mid new line → Grows old new (lines ++ line)
-grows_on old mid new lines line first second = λ octets told.
-    second (octets ++ lines) (first octets told) ∙ ap Some (append_assoc octets lines line)
+split_on : (max depth : ℕ) (m : Frame) (ms : List Frame) (one rest : List ℕ) (j : ℕ) → LineOf depth m one → IsWithin max m → Split max depth ms rest j
+    → Split max depth (m ∷ ms) (one ++ rest) (length one + j)
+split_on max depth m ms one rest j shown fits (before, f, after, first, line, k, parts, lines, last, less, taken, within, fits_too) = (
+  m ∷ before,
+  f,
+  after,
+  one ++ first,
+  line,
+  k,
+  ap (λ o. m ∷ o) parts,
+  (one, first, shown, lines, refl),
+  last,
+  less,
+  take_behind one rest j ∙ ap (λ o. one ++ o) taken ∙ sym (append_assoc one first (take k line)),
+  All-append (IsWithin max) (m ∷ []) before (All-push (IsWithin max) [] m (λ i d below. absurd (omega arith)) fits) within,
+  fits_too,
+)
 
-grows_stay : (old mid new : Option (List ℕ)) (lines : List ℕ) → Grows old mid lines → Stays mid new → Grows old new lines
-grows_stay old mid new lines grows stays = λ octets told. stays (octets ++ lines) (grows octets told)
+split : (max depth : ℕ) (messages : List Frame) (lines : List ℕ) (n : ℕ) → n < length lines → LinesOf depth messages lines → All (IsWithin max) messages
+    → Split max depth messages lines n
+split max depth [] lines n less is within = let none : length lines ≡ 0 = ap length is in absurd (omega (arith, none))
+split max depth (m ∷ ms) lines n less (one, rest, shown, others, parts) within =
+    let fits : IsWithin max m = within 0 m (omega arith) in
+    let behind_it : All (IsWithin max) ms = λ k d below. within (suc k) d (omega (arith, below)) in
+    let size : length lines ≡ length one + length rest = ap length parts ∙ length-append one rest in
+    let P : List ℕ → Type 0 = λ o. Split max depth (m ∷ ms) o n in
+    subst P (sym parts) (elim (cases_lt n (length one)) [
+      | inl lt ↦ ([], m, ms, [], one, n, refl, refl, shown, lt, take-append-le n one rest (omega (arith, lt)), (λ k d below. absurd (omega arith)), fits)
+      | inr ge ↦
+          let j = n - length one in
+          let sum : length one + j ≡ n = omega (arith, ge) in
+          let Q : ℕ → Type 0 = λ k. Split max depth (m ∷ ms) (one ++ rest) k in
+          subst Q sum (split_on max depth m ms one rest j shown fits (split max depth ms rest j (omega (arith, ge, size, less)) others behind_it))
+    ])
 
-grows_front : (old mid new : Option (List ℕ)) (lines line : List ℕ) → Grows old mid lines → GrowsByFront mid new line → GrowsThenByFront old new lines line
-grows_front old mid new lines line grows front = λ octets told. front (octets ++ lines) (grows octets told)
+-- what is behind a message
+leaves_more : (rest more : List ℕ) (left : Option (List ℕ)) → LeavesPart rest left → LeavesPart (more ++ rest) left
+leaves_more rest more left (taken, after, parts, is) = (more ++ taken, after, ap (λ o. more ++ o) parts ∙ sym (append_assoc more taken after), is)
+
+-- the messages whose lines were written, and the one in whose line the write failed
+split_shows : (max depth : ℕ) (input : List ℕ) (messages : List Frame) (lines rest word : List ℕ) (n : ℕ) (left old new : Option (List ℕ)) → word ≡ codes "Write"
+    → input ≡ octets_of messages ++ rest → length messages ≤ 4294967295 → LeavesPart rest left → WhereTold old (λ octets. new ≡ Some (octets ++ take n lines))
+    → Split max depth messages lines n
+    → (before : List Frame) × (first behind : List ℕ) × (input ≡ octets_of before ++ behind) × All (IsWithin max) before × LinesOf depth before first × (length before ≤ 4294967295)
+    × StopsBy max depth (length before) behind first word left old new
+split_shows max depth input messages lines rest word n left old new is reads few leaves grows (before, f, after, first, line, k, parts, shown, last, less, taken, within, fits) =
+    let behind : List ℕ = frame_octets f ++ (octets_of after ++ rest) in
+    let octets : octets_of messages ≡ octets_of before ++ (frame_octets f ++ octets_of after) =
+    ap octets_of parts ∙ flat_map-append frame_octets before (f ∷ after) ∙ ap (λ o. octets_of before ++ o) (flat_map-cons frame_octets f after) in (
+      before,
+      first,
+      behind,
+      reads ∙ ap (λ o. o ++ rest) octets ∙ append_assoc (octets_of before) (frame_octets f ++ octets_of after) rest
+          ∙ ap (λ o. octets_of before ++ o) (append_assoc (frame_octets f) (octets_of after) rest),
+      within,
+      shown,
+      omega (arith, few, ap length parts, length-append before (f ∷ after)),
+      inr (inl (
+        is,
+        f,
+        octets_of after ++ rest,
+        line,
+        (refl, fits),
+        last,
+        leaves_more rest (octets_of after) left leaves,
+        (λ octets told. (k, less, grows octets told ∙ ap Some (ap (λ o. octets ++ o) taken ∙ sym (append_assoc octets first (take k line))))),
+      )),
+    )
+
+abbrev ShownSoFar : ℕ → ℕ → List ℕ → List Frame → List ℕ → List ℕ → Type 0
+ShownSoFar max depth input messages lines rest =
+    (length messages ≤ 4294967295) × All (IsWithin max) messages × LinesOf depth messages lines × (input ≡ octets_of messages ++ rest)
+
+fails_in : (w : Option (List ℕ)) (max depth : ℕ) (input : List ℕ) (messages : List Frame) (lines rest word : List ℕ) (left old new : Option (List ℕ)) → old ≡ w → word ≡ codes "Write"
+    → ShownSoFar max depth input messages lines rest → LeavesPart rest left → 0 < length lines → GrowsByFront old new lines
+    → (before : List Frame) × (first behind : List ℕ) × (input ≡ octets_of before ++ behind) × All (IsWithin max) before × LinesOf depth before first × (length before ≤ 4294967295)
+    × StopsBy max depth (length before) behind first word left old new
+fails_in None max depth input messages lines rest word left old new none is (few, within, shown, reads) leaves some front =
+    split_shows max depth input messages lines rest word 0 left old new is reads few leaves (λ octets told. let no : ◌≡◌ {A = Option (List ℕ)} None (Some octets) = sym none ∙ told in cc)
+    (split max depth messages lines 0 some shown within)
+fails_in (Some m) max depth input messages lines rest word left old new told_so is (few, within, shown, reads) leaves some front =
+    let f = front m told_so in
+    split_shows max depth input messages lines rest word f.0 left old new is reads few leaves
+    (λ octets told. let same : m ≡ octets = (let both : ◌≡◌ {A = Option (List ℕ)} (Some m) (Some octets) = sym told_so ∙ told in cc) in f.2 ∙ ap (λ o. Some (o ++ take f.0 lines)) same)
+    (split max depth messages lines f.0 f.1 shown within)
 
 -- ---- the run
 
@@ -130,27 +254,27 @@ along ahead None P claim input is = cc
 along ahead (Some rest) P claim input is = let same : ahead ++ rest ≡ input = cc in subst P same (claim rest refl)
 
 -- after some messages
-abbrev pub Begun : ℕ → ℕ → List ℕ → ℕ → Option (List ℕ) → Option (List ℕ) → Option (List ℕ) → Type 0
-Begun max depth input count left old new =
+abbrev pub Begun : ℕ → ℕ → List ℕ → ℕ → Option (List ℕ) → Option (List ℕ) → Option (List ℕ) → List ℕ → Type 0
+Begun max depth input count left old new held =
     (messages : List Frame) × (lines rest : List ℕ) × (length messages ≡ count) × All (IsWithin max) messages
-    × LinesOf depth messages lines × (input ≡ octets_of messages ++ rest) × (left ≡ Some rest) × Grows old new lines
+    × LinesOf depth messages lines × (input ≡ octets_of messages ++ rest) × (left ≡ Some rest) × GrowsHolding old [] new held lines
 
 -- the next message, of what is left
-abbrev pub Next : ℕ → ℕ → Option (List ℕ) → Result Bool ToolFault → Option (List ℕ) → Option (List ℕ) → Option (List ℕ) → Type 0
-Next max depth before result left old new = WhereTold before (λ input. ShowsNext max depth input result left old new)
+abbrev pub Next : ℕ → ℕ → Option (List ℕ) → Result Bool ToolFault → Option (List ℕ) → Option (List ℕ) → List ℕ → Option (List ℕ) → List ℕ → Type 0
+Next max depth before result left old held new now = WhereTold before (λ input. ShowsNext max depth input result left old held new now)
 
-pub begins : (max depth : ℕ) (input : List ℕ) (left written : Option (List ℕ)) → left ≡ Some input → Begun max depth input 0 left written written
-begins max depth input left written told =
-    ([], [], input, refl, (λ k d below. absurd (omega arith)), refl, refl, told, grows_none written)
+pub begins : (max depth : ℕ) (input : List ℕ) (left written : Option (List ℕ)) (held : List ℕ) → held ≡ [] → left ≡ Some input → Begun max depth input 0 left written written held
+begins max depth input left written held none told =
+    ([], [], input, refl, (λ k d below. absurd (omega arith)), refl, refl, told, ([], none, (λ octets is. is ∙ ap Some (sym (append-nil octets)))))
 
-pub begins_unread : (max depth : ℕ) (input ahead : List ℕ) (left written : Option (List ℕ)) → ahead ≡ [] → left ≡ Some input
-    → Begun max depth input 0 (behind ahead left) written written
-begins_unread max depth input ahead left written none told =
-    begins max depth input (behind ahead left) written (ap (λ (xs : List ℕ). behind xs left) none ∙ ap (behind []) told)
+pub begins_unread : (max depth : ℕ) (input ahead : List ℕ) (left written : Option (List ℕ)) (held : List ℕ) → held ≡ [] → ahead ≡ [] → left ≡ Some input
+    → Begun max depth input 0 (behind ahead left) written written held
+begins_unread max depth input ahead left written held nothing none told =
+    begins max depth input (behind ahead left) written held nothing (ap (λ (xs : List ℕ). behind xs left) none ∙ ap (behind []) told)
 
-pub goes_on : (max depth : ℕ) (input : List ℕ) (count : ℕ) (before left old mid new : Option (List ℕ)) → Begun max depth input count before old mid
-    → Next max depth before (Ok true) left mid new → Begun max depth input (count + 1) left old new
-goes_on max depth input count before left old mid new (messages, lines, rest, size, within, shown, reads, told, grows) next =
+pub goes_on : (max depth : ℕ) (input : List ℕ) (count : ℕ) (before left old mid : Option (List ℕ)) (held : List ℕ) (new : Option (List ℕ)) (now : List ℕ) → Begun max depth input count before old mid held
+    → Next max depth before (Ok true) left mid held new now → Begun max depth input (count + 1) left old new now
+goes_on max depth input count before left old mid held new now (messages, lines, rest, size, within, shown, reads, told, grows) next =
     let n = next rest told in
     let f : Frame = n.0 in
     let after : List ℕ = n.1 in
@@ -166,57 +290,106 @@ goes_on max depth input count before left old mid new (messages, lines, rest, si
       reads ∙ ap (λ x. octets_of messages ++ x) n.3.0 ∙ sym (append_assoc (octets_of messages) (frame_octets f) after)
           ∙ ap (λ x. x ++ after) (sym octets),
       n.5,
-      grows_on old mid new lines line grows n.6,
+      holding_then old [] mid held new now lines line grows n.6,
     )
 
-pub ends : (max depth : ℕ) (input : List ℕ) (count : ℕ) (before left old mid new : Option (List ℕ)) → count ≤ 4294967295
-    → Begun max depth input count before old mid → Next max depth before (Ok false) left mid new
+pub ends : (max depth : ℕ) (input : List ℕ) (count : ℕ) (before left old mid : Option (List ℕ)) (held : List ℕ) (new : Option (List ℕ)) (now : List ℕ) → count ≤ 4294967295
+    → Begun max depth input count before old mid held → Next max depth before (Ok false) left mid held new now
     → Shows {T = Unit {0}} max depth input (Ok tt) left old new
-ends max depth input count before left old mid new few (messages, lines, rest, size, within, shown, reads, told, grows) next =
+ends max depth input count before left old mid held new now few (messages, lines, rest, size, within, shown, reads, told, grows) next =
     let n = next rest told in
-    (messages, lines, rest, reads, within, shown, omega arith, (n.0, n.1, grows_stay old mid new lines grows n.2))
+    (messages, lines, rest, reads, within, shown, omega arith, (n.0, n.1, holding_out old [] mid held new lines grows n.2))
 
-pub stops : (max depth : ℕ) (input : List ℕ) (count : ℕ) (fault : ToolFault) (before left old mid new : Option (List ℕ)) → count ≤ 4294967295
-    → Begun max depth input count before old mid → Next max depth before (Err fault) left mid new
-    → Shows {T = Unit {0}} max depth input (Err fault) left old new
-stops max depth input count (Refused words) before left old mid new few (messages, lines, rest, size, within, shown, reads, told, grows) next =
-    let n = next rest told in
-    (messages, lines, rest, reads, within, shown, omega arith, (n.0, n.1, grows_stay old mid new lines grows n.2))
-stops max depth input count Memory before left old mid new few (messages, lines, rest, size, within, shown, reads, told, grows) next =
-    let n = next rest told in
-    (messages, lines, rest, reads, within, shown, omega arith, (n.0, grows_stay old mid new lines grows n.1))
-stops max depth input count (Device word) before left old mid new few (messages, lines, rest, size, within, shown, reads, told, grows) next = (
+-- a write failed in the line that is laid
+fails_as : (w : Option (List ℕ)) (max depth : ℕ) (input : List ℕ) (messages : List Frame) (lines rest after line word : List ℕ) (f : Frame) (left old new : Option (List ℕ)) → old ≡ w → word ≡ codes "Write" → length messages < 4294967295
+    → All (IsWithin max) messages → LinesOf depth messages lines → input ≡ octets_of messages ++ rest → Begins max rest f after → LineOf depth f line → LeavesPart after left
+    → GrowsByFront old new (lines ++ line)
+    → (before : List Frame) × (first behind : List ℕ) × (input ≡ octets_of before ++ behind) × All (IsWithin max) before × LinesOf depth before first × (length before ≤ 4294967295)
+    × StopsBy max depth (length before) behind first word left old new
+fails_as None max depth input messages lines rest after line word f left old new none is few within shown reads begun last leaves front = (
   messages,
   lines,
   rest,
   reads,
   within,
   shown,
-  omega arith,
-  elim (next rest told) [
-    | inl n ↦ inl (n.0, n.1, grows_stay old mid new lines grows n.2)
-    | inr n ↦ inr (inl (n.0, n.1, n.2, n.3, n.4, n.5, n.6, grows_front old mid new lines n.3 grows n.7))
-  ],
+  omega (arith, few),
+  inr (inl (
+    is,
+    f,
+    after,
+    line,
+    begun,
+    last,
+    leaves,
+    (λ octets told. let no : ◌≡◌ {A = Option (List ℕ)} None (Some octets) = sym none ∙ told in cc),
+  )),
 )
+fails_as (Some m) max depth input messages lines rest after line word f left old new told is few within shown reads (parts, fits) last leaves front =
+    let octets : octets_of (messages ++ f ∷ []) ≡ octets_of messages ++ frame_octets f =
+    flat_map-append frame_octets messages (f ∷ []) ∙ ap (λ x. octets_of messages ++ x) (append-nil (frame_octets f)) in
+    fails_in (Some m) max depth input (messages ++ f ∷ []) (lines ++ line) after word left old new told is (
+      omega (arith, length-append messages (f ∷ []), few),
+      All-push (IsWithin max) messages f within fits,
+      LinesOf-push depth messages lines line f shown last,
+      reads ∙ ap (λ x. octets_of messages ++ x) parts ∙ sym (append_assoc (octets_of messages) (frame_octets f) after) ∙ ap (λ x. x ++ after) (sym octets),
+    )
+    leaves (let front_at = front m told in omega (arith, front_at.1)) front
+
+-- a write failed within what is held
+put_fails : (max depth : ℕ) (input : List ℕ) (messages : List Frame) (lines rest word : List ℕ) (left old mid : Option (List ℕ)) (held : List ℕ) (new : Option (List ℕ)) → word ≡ codes "Write"
+    → length messages ≤ 4294967295 → All (IsWithin max) messages → LinesOf depth messages lines → input ≡ octets_of messages ++ rest → LeavesPart rest left → 0 < length held
+    → GrowsHolding old [] mid held lines → GrowsByFront mid new held
+    → (before : List Frame) × (first behind : List ℕ) × (input ≡ octets_of before ++ behind) × All (IsWithin max) before × LinesOf depth before first × (length before ≤ 4294967295)
+    × StopsBy max depth (length before) behind first word left old new
+put_fails max depth input messages lines rest word left old mid held new is few within shown reads leaves some grows front =
+    let P : List ℕ → Type 0 = λ o. GrowsByFront mid new o in
+    let Q : List ℕ → Type 0 = λ o. GrowsByFront old new o in
+    let size : length grows.0 + length held ≡ length lines = sym (length-append grows.0 held) ∙ ap length grows.1 in
+    fails_in old max depth input messages lines rest word left old new refl is (few, within, shown, reads) leaves (omega (arith, size, some))
+    (subst Q (append-nil lines) (holding_front old [] mid held new lines [] grows (subst P (sym (append-nil held)) front)))
+
+pub stops : (max depth : ℕ) (input : List ℕ) (count : ℕ) (fault : ToolFault) (before left old mid : Option (List ℕ)) (held : List ℕ) (new : Option (List ℕ)) (now : List ℕ) → count < 4294967295
+    → Begun max depth input count before old mid held → Next max depth before (Err fault) left mid held new now
+    → Shows {T = Unit {0}} max depth input (Err fault) left old new
+stops max depth input count (Refused words) before left old mid held new now few (messages, lines, rest, size, within, shown, reads, told, grows) next =
+    let n = next rest told in
+    (messages, lines, rest, reads, within, shown, omega arith, (n.0, n.1, holding_out old [] mid held new lines grows n.2))
+stops max depth input count Memory before left old mid held new now few (messages, lines, rest, size, within, shown, reads, told, grows) next =
+    let n = next rest told in
+    (messages, lines, rest, reads, within, shown, omega arith, (n.0, holding_out old [] mid held new lines grows n.1))
+stops max depth input count (Device word) before left old mid held new now few (messages, lines, rest, size, within, shown, reads, told, grows) next =
+    elim (next rest told) [
+      | inl n ↦ (messages, lines, rest, reads, within, shown, omega arith, inl (n.0, n.1, holding_out old [] mid held new lines grows n.2))
+      | inr (inl n) ↦ put_fails max depth input messages lines rest word.now left old mid held new n.0 (omega (arith, few, size)) within shown reads n.1 n.2 grows n.3
+      | inr (inr n) ↦
+          fails_as old max depth input messages lines rest n.2 n.3 word.now n.1 left old new refl n.0 (omega (arith, few, size)) within shown reads n.4 n.5 n.6
+          (holding_front old [] mid held new lines n.3 grows n.7)
+    ]
 
 -- memory is wanting before the first message
 pub none_begun : (max depth : ℕ) (input : List ℕ) (left written : Option (List ℕ)) → left ≡ Some input → Shows {T = Unit {0}} max depth input (Err Memory) left written written
 none_begun max depth input left written told =
-    stops max depth input 0 Memory left left written written written (omega arith) (begins max depth input left written told) (λ rest is. (all_left rest left is, λ octets same. same))
+    stops max depth input 0 Memory left left written written [] written [] (omega arith) (begins max depth input left written [] refl told) (λ rest is. (all_left rest left is, (λ octets same. same ∙ ap Some (sym (append-nil octets)))))
+
+-- what was read ahead is taken
+leaves_behind : (ahead rest : List ℕ) (left : Option (List ℕ)) → behind ahead left ≡ Some rest → LeavesPart rest left
+leaves_behind ahead rest None is = cc
+leaves_behind ahead rest (Some others) is = let same : ahead ++ others ≡ rest = cc in (ahead, others, sym same, refl)
 
 -- as many messages as the command shows
-pub stops_full : (max depth : ℕ) (input : List ℕ) (count : ℕ) (r : Result (Unit {0}) ToolFault) (before left old new : Option (List ℕ)) → count ≡ 4294967295
-    → Begun max depth input count before old new → WhereTold before (λ rest. IsEnded max rest r left)
+pub stops_full : (max depth : ℕ) (input : List ℕ) (count : ℕ) (r : Result (Unit {0}) ToolFault) (before left old mid : Option (List ℕ)) (held : List ℕ) (new : Option (List ℕ)) → count ≡ 4294967295
+    → Begun max depth input count before old mid held → Grows mid new held → WhereTold before (λ rest. IsEnded max rest r left)
     → Shows {T = Unit {0}} max depth input r left old new
-stops_full max depth input count (Ok _) before left old new full (messages, lines, rest, size, within, shown, reads, told, grows) end =
+stops_full max depth input count (Ok _) before left old mid held new full (messages, lines, rest, size, within, shown, reads, told, holds) out end =
     let e = end rest told in
-    (messages, lines, rest, reads, within, shown, omega arith, (e.0, e.1, grows))
-stops_full max depth input count (Err (Refused words)) before left old new full (messages, lines, rest, size, within, shown, reads, told, grows) end =
+    (messages, lines, rest, reads, within, shown, omega arith, (e.0, e.1, holding_out old [] mid held new lines holds out))
+stops_full max depth input count (Err (Refused words)) before left old mid held new full (messages, lines, rest, size, within, shown, reads, told, holds) out end =
     let e = end rest told in
-    (messages, lines, rest, reads, within, shown, omega arith, (e.0, e.1, grows))
-stops_full max depth input count (Err Memory) before left old new full (messages, lines, rest, size, within, shown, reads, told, grows) end =
-    (messages, lines, rest, reads, within, shown, omega arith, (end rest told, grows))
-stops_full max depth input count (Err (Device word)) before left old new full (messages, lines, rest, size, within, shown, reads, told, grows) end = (
+    (messages, lines, rest, reads, within, shown, omega arith, (e.0, e.1, holding_out old [] mid held new lines holds out))
+stops_full max depth input count (Err Memory) before left old mid held new full (messages, lines, rest, size, within, shown, reads, told, holds) out end =
+    (messages, lines, rest, reads, within, shown, omega arith, (end rest told, holding_out old [] mid held new lines holds out))
+stops_full max depth input count (Err (Device word)) before left old mid held new full (messages, lines, rest, size, within, shown, reads, told, holds) out end = (
   messages,
   lines,
   rest,
@@ -225,7 +398,16 @@ stops_full max depth input count (Err (Device word)) before left old new full (m
   shown,
   omega arith,
   elim (end rest told) [
-    | inl e ↦ inl (e.0, e.1, grows)
-    | inr e ↦ inr (inr (e.0, omega arith, e.1, e.2, e.3, e.4, grows))
+    | inl e ↦ inl (e.0, e.1, holding_out old [] mid held new lines holds out)
+    | inr e ↦ inr (inr (e.0, omega arith, e.1, e.2, e.3, e.4, holding_out old [] mid held new lines holds out))
   ],
 )
+
+-- a write failed once as many messages are shown
+pub stops_full_unwritten : (max depth : ℕ) (input : List ℕ) (count : ℕ) (fault : ToolFault) (before left old mid : Option (List ℕ)) (held : List ℕ) (new : Option (List ℕ)) (ahead : List ℕ)
+    → count ≡ 4294967295 → before ≡ behind ahead left → Begun max depth input count before old mid held → IsWrite fault → 0 < length held → GrowsByFront mid new held
+    → Shows {T = Unit {0}} max depth input (Err fault) left old new
+stops_full_unwritten max depth input count (Refused words) before left old mid held new ahead full is begun word some front = absurd word
+stops_full_unwritten max depth input count Memory before left old mid held new ahead full is begun word some front = absurd word
+stops_full_unwritten max depth input count (Device word) before left old mid held new ahead full is (messages, lines, rest, size, within, shown, reads, told, grows) write some front =
+    put_fails max depth input messages lines rest word.now left old mid held new write (omega (arith, full, size)) within shown reads (leaves_behind ahead rest left (sym is ∙ told)) some grows front

@@ -8,10 +8,9 @@ use Rattle.secs_text.specs.declared.fault.TextFault.TheVariants as text
 use Rattle.secs_text.specs.Content.{Content, AllWithin}
 use Rattle.secs_text.specs.Notation.{Notations}
 use Rattle.secs_text.specs.Fault.{NotesFault}
-use Rattle.hsms_frame.specs.declared.frame.Frame.{Frame}
 use Rattle.hsms_frame.specs.Build.{data_header_of}
 use Rattle.hsms_frame.specs.Device.{Stays, Grows, GrowsByFront}
-use Rattle.hsms_frame.specs.Frame.{frame_octets}
+use Rattle.hsms_frame.specs.Frame.{Frame, frame_octets}
 use Rattle.hsms_tasks.specs.declared.refusal.Refusal.{Refusal}
 use Rattle.hsms_tasks.specs.declared.refusal.Refusal.TheVariants.{TooLarge, TooLong}
 use Rattle.hsms_options.specs.declared.fault.ToolFault.{ToolFault}

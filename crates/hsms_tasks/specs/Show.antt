@@ -1,16 +1,16 @@
 -- What `hsms show` writes of an input.
 use Rattle.std.specs.Prelude.{◌≡◌, ◌≢◌, ◌<◌, ◌≤◌, ◌+◌, ◌⊎◌, ◌++◌, ℕ, List, [], ◌∷◌, All, length, take, codes, string_bytes, Bool, true, false, Option, Some, Result, Ok, Err}
 use Rattle.std.specs.List.{flat_map}
-use Rattle.hsms_frame.specs.declared.frame.Frame.{Frame}
 use Rattle.hsms_frame.specs.declared.fault.ReadFault.{ReadFault}
 use Rattle.hsms_frame.specs.declared.fault.ReadFault.TheVariants as read
 use Rattle.hsms_frame.specs.Count.{next_count}
-use Rattle.hsms_frame.specs.Device.{WhereTold, Stays, Grows, GrowsByFront}
+use Rattle.hsms_frame.specs.Device.{WhereTold, Grows, GrowsByFront}
 use Rattle.hsms_frame.specs.Fault.{read_fault_text}
-use Rattle.hsms_frame.specs.Frame.{frame_octets, IsFrame}
+use Rattle.hsms_frame.specs.Frame.{Frame, frame_octets, IsFrame}
 use Rattle.hsms_frame.specs.Reading.{ReadsAs, StopsWithin}
 use Rattle.hsms_options.specs.declared.fault.ToolFault.{ToolFault}
 use Rattle.hsms_options.specs.declared.fault.ToolFault.TheVariants.{Refused, Device, Memory}
+use Rattle.hsms_tasks.specs.Held.{GrowsHolding}
 use Rattle.hsms_tasks.specs.Line.{LineOf}
 
 -- a message whose header and text are within the limit
@@ -84,18 +84,20 @@ CountsFailure word (Err Memory) old new = new ≡ old
 CountsFailure word (Err (Device given)) old new =
     ((given.now ≡ word) × (new ≡ next_count old)) ⊎ ((given.now ≢ word) × (new ≡ old))
 
--- one message is read and its line written, or none is left
-abbrev pub ShowsNext : ℕ → ℕ → List ℕ → Result Bool ToolFault → Option (List ℕ) → Option (List ℕ) → Option (List ℕ) → Type 0
-ShowsNext max depth input (Ok true) left old new =
-    (f : Frame) × (after line : List ℕ) × Begins max input f after × LineOf depth f line × (left ≡ Some after) × Grows old new line
-ShowsNext max depth input (Ok false) left old new = (input ≡ []) × (left ≡ Some []) × Stays old new
-ShowsNext max depth input (Err (Refused words)) left old new =
-    IsRefused max input (string_bytes words) × LeavesPart input left × Stays old new
-ShowsNext max depth input (Err Memory) left old new = LeavesPart input left × Stays old new
-ShowsNext max depth input (Err (Device word)) left old new =
-    ((word.now ≡ codes "Read") × StopsWithin max input left × Stays old new)
+-- one message is read and its line held behind what is held, or none is left and what is held was written
+abbrev pub ShowsNext : ℕ → ℕ → List ℕ → Result Bool ToolFault → Option (List ℕ) → Option (List ℕ) → List ℕ → Option (List ℕ) → List ℕ → Type 0
+ShowsNext max depth input (Ok true) left old held new now =
+    (f : Frame) × (after line : List ℕ) × Begins max input f after × LineOf depth f line × (left ≡ Some after)
+    × GrowsHolding old held new now line
+ShowsNext max depth input (Ok false) left old held new now = (input ≡ []) × (left ≡ Some []) × Grows old new held
+ShowsNext max depth input (Err (Refused words)) left old held new now =
+    IsRefused max input (string_bytes words) × LeavesPart input left × Grows old new held
+ShowsNext max depth input (Err Memory) left old held new now = LeavesPart input left × Grows old new held
+ShowsNext max depth input (Err (Device word)) left old held new now =
+    ((word.now ≡ codes "Read") × StopsWithin max input left × Grows old new held)
+    ⊎ ((word.now ≡ codes "Write") × LeavesPart input left × (0 < length held) × GrowsByFront old new held)
     ⊎ ((word.now ≡ codes "Write") × (f : Frame) × (after line : List ℕ) × Begins max input f after × LineOf depth f line
-    × LeavesPart after left × GrowsByFront old new line)
+    × LeavesPart after left × GrowsByFront old new (held ++ line))
 
 -- nothing is left, or why that can't be said: one message more is there, or reading stopped
 abbrev pub IsEnded : ℕ → List ℕ → Result (Unit {0}) ToolFault → Option (List ℕ) → Type 0

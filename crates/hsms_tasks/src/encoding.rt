@@ -11,7 +11,7 @@ ghost use Rattle.hsms_tasks.specs.Show.{CountsFailure, IsReadOrWrite};
 
 use crate::frames::{Frames, Framing};
 use crate::input::read_whole;
-use crate::showing::put;
+use crate::outlet::put;
 use hsms_frame::{Sink, Source};
 use hsms_options::ToolFault;
 use secs_text::{Message, TextFault, read_all, spell_all};

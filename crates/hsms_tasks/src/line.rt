@@ -1,7 +1,7 @@
 //! The line that shows a message.
 
 ghost use Rattle.std.specs.Prelude.{◌≡◌, ◌≤◌, ◌++◌, [], ◌∷◌, List, ℕ, codes, decimal};
-ghost use Rattle.hsms_tasks.specs.Given.{Adds};
+ghost use Rattle.secs_text.specs.Laid.{Lays};
 ghost use Rattle.hsms_tasks.specs.Line.{LineOf, address_of, text_of};
 
 use crate::digits::{address, address_and_end};
@@ -10,76 +10,87 @@ use crate::parts::{give_front, give_number, give_text};
 use hsms_frame::{Header, Kind, kind};
 use secs_text::{Block, Output};
 
-/// Gives an output the line of a message, with its end. A text is readable where its lists are nested at most `depth`
-/// deep. The block holds nothing, before and afterwards.
+/// Lays the line of a message, with its end, behind what a block holds: where there is no room, an output is given that
+/// first. A text is readable where its lists are nested at most `depth` deep.
 pub fn give_line<O: Output>(out: &mut O, block: &mut Block, header: Header, text: &[u8], depth: u8)
-    requires depth { depth ≤ 100 }
-    requires block { block.old ≡ [] }
-    ensures line { (line : List ℕ) × LineOf depth (record { header = header; text = text.now }) line
-        × Adds (O.Given out.old) (O.Given out.new) line }
-    ensures block { block.new ≡ [] }
+    requires { depth ≤ 100 }
+    ensures { (line : List ℕ) × LineOf depth (record { header = header; text = text.now }) line
+        × Lays (O.Given out.old) block.old (O.Given out.new) block.new line }
 {
     match kind(header) {
         Kind::Primary | Kind::Reply => give_data(out, block, header, text, depth),
-        Kind::SelectReq => give_bare(out, b"select.req", header, text),
-        Kind::SelectRsp => give_counted(out, b"select.rsp", header, header.byte3, text),
-        Kind::LinktestReq => give_bare(out, b"linktest.req", header, text),
-        Kind::LinktestRsp => give_bare(out, b"linktest.rsp", header, text),
-        Kind::Reject => give_reject(out, header, text),
-        Kind::Separate => give_bare(out, b"separate", header, text),
-        Kind::OtherSType => give_counted(out, b"other-stype", header, header.stype, text),
-        Kind::OtherPType => give_counted(out, b"other-ptype", header, header.ptype, text),
+        Kind::SelectReq => give_bare(out, block, b"select.req", header, text),
+        Kind::SelectRsp => give_counted(out, block, b"select.rsp", header, header.byte3, text),
+        Kind::LinktestReq => give_bare(out, block, b"linktest.req", header, text),
+        Kind::LinktestRsp => give_bare(out, block, b"linktest.rsp", header, text),
+        Kind::Reject => give_reject(out, block, header, text),
+        Kind::Separate => give_bare(out, block, b"separate", header, text),
+        Kind::OtherSType => give_counted(out, block, b"other-stype", header, header.stype, text),
+        Kind::OtherPType => give_counted(out, block, b"other-ptype", header, header.ptype, text),
     }
 }
 
 // Of a message that is told by its name, session ID and system bytes. Where it has no text, the last of these and the
 // line's end are given together.
 #[inline(always)]
-fn give_bare<O: Output>(out: &mut O, name: &[u8], header: Header, text: &[u8])
-    ensures { Adds (O.Given out.old) (O.Given out.new)
+fn give_bare<O: Output>(out: &mut O, block: &mut Block, name: &[u8], header: Header, text: &[u8])
+    ensures { Lays (O.Given out.old) block.old (O.Given out.new) block.new
         (name.now ++ address_of header ++ [] ++ text_of text.now ++ 10 ∷ []) }
 {
     if text.is_empty() {
-        out.give(name);
-        out.give(&address_and_end(header));
+        block.lay(out, name);
+        block.lay(out, &address_and_end(header));
     } else {
-        give_bare_and_text(out, name, &address(header), text);
+        give_bare_and_text(out, block, name, &address(header), text);
     }
 }
 
 // Of such a message with a text, whose session ID and system bytes are told by these octets.
 #[inline(never)]
-fn give_bare_and_text<O: Output>(out: &mut O, name: &[u8], address: &[u8], text: &[u8])
-    ensures { Adds (O.Given out.old) (O.Given out.new)
+fn give_bare_and_text<O: Output>(
+    out: &mut O,
+    block: &mut Block,
+    name: &[u8],
+    address: &[u8],
+    text: &[u8],
+)
+    ensures { Lays (O.Given out.old) block.old (O.Given out.new) block.new
         (name.now ++ address.now ++ [] ++ text_of text.now ++ 10 ∷ []) }
 {
-    out.give(name);
-    out.give(address);
-    give_text(out, text);
-    out.give(b"\n");
+    block.lay(out, name);
+    block.lay(out, address);
+    give_text(out, block, text);
+    block.lay(out, b"\n");
 }
 
 // Of a message that is told by a number besides.
 #[inline(always)]
-fn give_counted<O: Output>(out: &mut O, name: &[u8], header: Header, number: u8, text: &[u8])
-    ensures { Adds (O.Given out.old) (O.Given out.new)
+fn give_counted<O: Output>(
+    out: &mut O,
+    block: &mut Block,
+    name: &[u8],
+    header: Header,
+    number: u8,
+    text: &[u8],
+)
+    ensures { Lays (O.Given out.old) block.old (O.Given out.new) block.new
         (name.now ++ address_of header ++ (codes " " ++ decimal number) ++ text_of text.now ++ 10 ∷ []) }
 {
-    give_front(out, name, header);
-    give_number(out, number);
-    give_text(out, text);
-    out.give(b"\n");
+    give_front(out, block, name, header);
+    give_number(out, block, number);
+    give_text(out, block, text);
+    block.lay(out, b"\n");
 }
 
 // Of a Reject.req: what was rejected, and why.
-fn give_reject<O: Output>(out: &mut O, header: Header, text: &[u8])
-    ensures { Adds (O.Given out.old) (O.Given out.new)
+fn give_reject<O: Output>(out: &mut O, block: &mut Block, header: Header, text: &[u8])
+    ensures { Lays (O.Given out.old) block.old (O.Given out.new) block.new
         (codes "reject" ++ address_of header ++ (codes " " ++ decimal header.byte2) ++ (codes " " ++ decimal header.byte3)
         ++ text_of text.now ++ 10 ∷ []) }
 {
-    give_front(out, b"reject", header);
-    give_number(out, header.byte2);
-    give_number(out, header.byte3);
-    give_text(out, text);
-    out.give(b"\n");
+    give_front(out, block, b"reject", header);
+    give_number(out, block, header.byte2);
+    give_number(out, block, header.byte3);
+    give_text(out, block, text);
+    block.lay(out, b"\n");
 }

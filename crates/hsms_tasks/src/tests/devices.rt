@@ -45,6 +45,13 @@ const SHOW: Row = Row {
     writes: 1,
 };
 
+// Two messages.
+const TWO: Row = Row {
+    input: b"\x00\x00\x00\x0a\xff\xff\x00\x00\x00\x01\x00\x00\x00\x01\x00\x00\x00\x0a\xff\xff\x00\x00\x00\x01\x00\x00\x00\x01",
+    output: b"select.req ffff 00000001\nselect.req ffff 00000001\n",
+    ..SHOW
+};
+
 const ENCODE: Row = Row {
     work: Work::Encode,
     input: b"S6F11 W <L <A \"AB\"> <U1 1 255>> .",
@@ -68,6 +75,14 @@ const ROWS: &[Row] = &[
         reads: 15,
         writes: 25,
         ..SHOW
+    },
+    TWO,
+    Row {
+        read: 14,
+        write: 25,
+        reads: 3,
+        writes: 2,
+        ..TWO
     },
     ENCODE,
     Row {
@@ -144,11 +159,12 @@ fn assert_calls(rt: &impl Abort, calls: u64, want: u64, name: &str) {
     assert_eq!(rt; calls, want, "{name}");
 }
 
-// How much is written before the read after so many. A message is shown before the next one is looked for.
+// How much is written before the read after so many: the line of each message that was read.
 fn written_before(row: Row, reads: u64) -> u64 {
+    let messages = reads.saturating_mul(row.read as u64) / 14;
     match row.work {
-        Work::Show if reads.saturating_add(1) == row.reads => row.output.len() as u64,
-        _ => 0,
+        Work::Show => messages.saturating_mul(25).min(row.output.len() as u64),
+        Work::Encode | Work::Audit => 0,
     }
 }
 
