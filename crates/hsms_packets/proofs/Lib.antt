@@ -1,3 +1,7 @@
 mod Options
 mod Behind
 mod OneReading
+mod Behaving
+mod Staying
+mod Stepping
+mod Tails

@@ -24,15 +24,15 @@ nothing_there s octets e = ap (λ (l : List ℕ). front_at s l) e ∙ nothing_by
 has_no_size : (f : Front) → front.More ≡ f → 0 < size_of f → ⊥
 has_no_size f e p = let q : 0 < 0 = subst (λ (x : Front). 0 < size_of x) (sym e) p in omega (arith, q)
 
-goes_no_further : (r : Result Front CaptureFault) (f : Front) → r ≡ Ok front.More → r ≡ Ok f → 0 < size_of f → ⊥
+pub goes_no_further : (r : Result Front CaptureFault) (f : Front) → r ≡ Ok front.More → r ≡ Ok f → 0 < size_of f → ⊥
 goes_no_further r f is_more is_front p = has_no_size f (let e : front.More ≡ f = cc in e) p
 
-ends_or_goes_on : (s : State) (octets : List ℕ) (e : Ending) (f : Front) → EndsAs s octets e → front_at s octets ≡ Ok f → 0 < size_of f → ⊥
+pub ends_or_goes_on : (s : State) (octets : List ℕ) (e : Ending) (f : Front) → EndsAs s octets e → front_at s octets ≡ Ok f → 0 < size_of f → ⊥
 ends_or_goes_on s octets complete f h is_front p = goes_no_further (front_at s octets) f (nothing_there s octets h) is_front p
 ends_or_goes_on s octets cut f h is_front p = goes_no_further (front_at s octets) f h.1 is_front p
 ends_or_goes_on s octets (faulty place g) f h is_front p = let is_fault = h.0 in absurd cc
 
-ends_once : (s : State) (octets : List ℕ) (e other : Ending) → EndsAs s octets e → EndsAs s octets other → e ≡ other
+pub ends_once : (s : State) (octets : List ℕ) (e other : Ending) → EndsAs s octets e → EndsAs s octets other → e ≡ other
 ends_once s octets complete complete h k = refl
 ends_once s octets complete cut h k = let p = k.0 in let q : 0 < 0 = subst (λ (l : List ℕ). 0 < length l) h p in absurd (omega (arith, q))
 ends_once s octets complete (faulty place g) h k = let a = nothing_there s octets h in let b = k.0 in absurd cc
@@ -43,7 +43,7 @@ ends_once s octets (faulty place g) complete h k = let a = nothing_there s octet
 ends_once s octets (faulty place g) cut h k = let a = k.1 in let b = h.0 in absurd cc
 ends_once s octets (faulty place g) (faulty there f) h k = let a = h.0 in let b = k.0 in let c = h.1 in let d = k.1 in cc
 
-same_front : (r : Result Front CaptureFault) (f g : Front) → r ≡ Ok f → r ≡ Ok g → f ≡ g
+pub same_front : (r : Result Front CaptureFault) (f g : Front) → r ≡ Ok f → r ≡ Ok g → f ≡ g
 same_front r f g a b = cc
 
 reads_once : (fs gs : List Front) (s : State) (octets : List ℕ) (packets others : List Packet) (e other : Ending) → Reads fs s octets packets e

@@ -75,7 +75,7 @@ told_by s (front.Passed counts size) = if counts then record s { packets = min (
 abbrev pub after : State → Front → State
 after s f = record (told_by s f) { place = min (s.place + size_of f) greatest_count }
 
--- a packet with its number, counted from 1
+-- a packet with its number, counted from 1; the numbers stay at their greatest value
 pub record Packet : Type 0 where
   pub number : ℕ
   pub time : Option ℕ
@@ -86,7 +86,7 @@ pub record Packet : Type 0 where
 abbrev pub packets_in : State → List ℕ → Front → List Packet
 packets_in s octets front.More = []
 packets_in s octets (front.Packet r) =
-    record { number = s.packets + 1; time = r.time; link = r.link; octets = take r.held (drop r.body octets); whole = r.whole } ∷ []
+    record { number = min (s.packets + 1) greatest_count; time = r.time; link = r.link; octets = take r.held (drop r.body octets); whole = r.whole } ∷ []
 packets_in s octets (front.Begun o size) = []
 packets_in s octets (front.Described i size) = []
 packets_in s octets (front.Passed counts size) = []

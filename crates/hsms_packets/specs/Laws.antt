@@ -1,9 +1,26 @@
 -- Laws of capture files.
-use Rattle.std.specs.Prelude.{◌≡◌, ℕ, List}
-use Rattle.hsms_packets.specs.File.{Packet, Ending, ReadsFile}
+use Rattle.std.specs.Prelude.{◌≡◌, ◌++◌, ℕ, List}
+use Rattle.hsms_packets.specs.File.{Packet, Ending, complete, cut, faulty, ReadsFile}
 
 -- the octets of a file are read in one way
 abbrev pub FileHasOneReading : Type 0
 FileHasOneReading =
     (octets : List ℕ) (packets others : List Packet) (ending other : Ending) → ReadsFile octets packets ending
     → ReadsFile octets others other → (packets ≡ others) × (ending ≡ other)
+
+-- each file is read: it has packets, and ends in some way
+abbrev pub EachFileIsRead : Type 0
+EachFileIsRead = (octets : List ℕ) → (packets : List Packet) × (ending : Ending) × ReadsFile octets packets ending
+
+-- What was told of a front of a file stays told, with these packets and this ending of the longer one: the packets come
+-- first in it, and a fault is its fault, at the same place, behind the same packets.
+abbrev pub StaysTold : List Packet → Ending → List Packet → Ending → Type 0
+StaysTold packets complete others other = (rest : List Packet) × (others ≡ packets ++ rest)
+StaysTold packets cut others other = (rest : List Packet) × (others ≡ packets ++ rest)
+StaysTold packets (faulty place f) others other = (others ≡ packets) × (other ≡ faulty place f)
+
+-- more octets behind a file change nothing of what was told
+abbrev pub WhatWasToldStays : Type 0
+WhatWasToldStays =
+    (octets more : List ℕ) (packets others : List Packet) (ending other : Ending) → ReadsFile octets packets ending
+    → ReadsFile (octets ++ more) others other → StaysTold packets ending others other

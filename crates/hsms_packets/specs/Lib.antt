@@ -3,3 +3,4 @@ pub mod Front
 pub mod Segment
 pub mod File
 pub mod Laws
+pub mod Blocks

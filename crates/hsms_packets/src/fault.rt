@@ -2,8 +2,10 @@
 
 ghost use Rattle.std.specs.Prelude.{◌≡◌};
 ghost use Rattle.hsms_packets.specs.declared.fault.CaptureFault.TheVariants.{Memory};
+ghost use Rattle.hsms_packets.specs.declared.fault.FileFault.TheVariants as stop;
 
-use std::alloc::AllocFailed;
+use hsms_frame::Failed;
+use std::alloc::{AllocError, AllocFailed};
 use thiserror::Error;
 
 /// Why octets are no capture that is read.
@@ -37,5 +39,38 @@ impl<T: Drop> From<AllocFailed<T>> for CaptureFault {
 
     fn from(_: AllocFailed<T>) -> CaptureFault {
         CaptureFault::Memory
+    }
+}
+
+/// Why a capture file isn't read on.
+#[derive(Clone, Copy, Debug, PartialEq, Eq, Error)]
+pub enum FileFault {
+    /// What stands at this place of the file is no record or block, or the file is no capture.
+    #[error("{fault} octet={place}")]
+    Capture { place: u64, fault: CaptureFault },
+    /// The file ends within a record or block, or within its header.
+    #[error("CutOff")]
+    CutOff,
+    /// The device failed.
+    #[error("Read")]
+    Read,
+    /// There is no memory.
+    #[error("Memory")]
+    Memory,
+}
+
+impl From<AllocError> for FileFault {
+    ghost from_gives = { λ _ f. f ≡ stop.Memory };
+
+    fn from(_: AllocError) -> FileFault {
+        FileFault::Memory
+    }
+}
+
+impl From<Failed> for FileFault {
+    ghost from_gives = { λ _ f. f ≡ stop.Read };
+
+    fn from(_: Failed) -> FileFault {
+        FileFault::Read
     }
 }

@@ -1,8 +1,19 @@
 //! Laws of capture files. They speak of the definitions alone and do nothing.
 
-ghost use Rattle.hsms_packets.specs.Laws.{FileHasOneReading};
+ghost use Rattle.hsms_packets.specs.Laws.{FileHasOneReading, EachFileIsRead, WhatWasToldStays};
 
 /// The octets of a file are read in one way: these packets, and this ending.
 pub fn file_has_one_reading()
     ensures { FileHasOneReading }
+{}
+
+/// Each file is read: it has packets, and ends in some way.
+pub fn each_file_is_read()
+    ensures { EachFileIsRead }
+{}
+
+/// What was told of a front of a file stays told where more octets come: the packets of a shorter file are the first of
+/// the longer one's, and a fault of the shorter is that of the longer, at the same place, behind the same packets.
+pub fn what_was_told_stays()
+    ensures { WhatWasToldStays }
 {}

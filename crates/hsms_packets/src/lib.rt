@@ -1,31 +1,34 @@
 //! Packets of a network capture, and the TCP segments that they carry.
 //!
-//! A file is read a record (pcap) or block (pcapng) at a time: [`format_of`] tells its format by its first octets, and
-//! a [`Reader`] then says what stands at the front of the octets that come, and goes on behind it. What a packet carries
-//! is told by [`segment_of`], whatever its link layer. The octets stay where they were read, and no call but
-//! [`Reader::pass`] takes memory.
+//! A file is read from a source in blocks, a record (pcap) or block (pcapng) at a time: [`Packets`] tells one after another,
+//! and holds no more of the file than one of them and a block of the source. Where the octets are at hand,
+//! [`format_of`] tells the format by the first of them, and a [`Reader`] then says what stands at the front of those
+//! that come, and goes on behind it. What a packet carries is told by [`segment_of`], whatever its link layer. The octets
+//! stay where they were read.
 //!
 //! ```
-//! let Opening::Opened(format, size) = format_of(octets)? else { .. };
-//! let mut reader = Reader::new(alloc, format, size);
-//! match reader.front(octets)? {
-//!     Front::Packet(record) => segment_of(record.link, octets_of(&record, octets)), // addresses, ports, numbers
-//!     other => ..
+//! let mut packets = Packets::open(alloc, &mut source)?;
+//! match packets.next(&mut source)? {
+//!     Step::Packet(number, record) => segment_of(record.link, octets_of(&record, packets.octets())),
+//!     Step::Passed => .., // what is no packet
+//!     Step::End => ..,
 //! }
-//! let size = reader.pass(front)?; // what comes next stands behind so many octets
 //! ```
 #![tactic(auto)]
 
+mod ahead;
 mod fault;
 mod front;
 pub mod laws;
 mod number;
+mod packets;
 mod reader;
 mod segment;
 
-pub use fault::CaptureFault;
+pub use fault::{CaptureFault, FileFault};
 pub use front::{Front, Interface, Record};
 pub use number::Order;
+pub use packets::{Packets, Step};
 pub use reader::{Format, Opening, Reader, format_of, octets_of};
 pub use segment::{Address, Reason, Segment, Shown, segment_of};
 

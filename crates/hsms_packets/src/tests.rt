@@ -2,6 +2,8 @@
 
 ghost use Rattle.std.specs.Prelude.{◌≤◌, ◌+◌, length, IfOk};
 
+mod blocks;
+
 use super::*;
 use std::alloc::Global;
 use std::process::Abort;

@@ -1,0 +1,158 @@
+-- What is shown of a direction is a front of its stream, and nothing of it stands behind a loss.
+use Rattle.std.proofs.Common.{◌≡◌, ◌<◌, ◌≤◌, ◌⊎◌, inl, inr, min, arith, ℕ, zero, suc, ◌+◌, Bool, true, false, nat_lt, cond, List, [], ◌∷◌, ◌++◌, length, take, drop, map, filter, flat_map, Option, Some, None, refl, sym, ap, subst, ◌∙◌}
+use Rattle.std.proofs.lemmas.Bool.{ltb-true}
+use Rattle.std.proofs.lemmas.List.{append_assoc, take-append-drop}
+use Rattle.hsms_capture.specs.Wire.{End, active, passive, same_end, Cell, Placed, Turn, Delivery, deliveries, is_before, Left, Cut, and_then, cut_by, cut_off, Shown, Both, left_of, with_left, delivered, show, both_streams, shows_of, stream_of, turns, loss, difference, earlier, breaks_off, told_turns, up_to_reset}
+use Rattle.hsms_capture.specs.Laws.{cells_shown, EachShown}
+
+flat : List (List Cell) → List Cell
+flat [] = []
+flat (m ∷ ms) = m ++ flat ms
+
+by_keeps : (o : Option ℕ) (upto : ℕ) (l : Left) (next : ℕ → Cut) → ((n : ℕ) → drop n l.cells ≡ flat (next n).messages ++ (next n).left.cells)
+    → l.cells ≡ flat (cut_by upto l next o).messages ++ (cut_by upto l next o).left.cells
+unfolding flat
+by_keeps None upto l next h = refl
+by_keeps (Some n) upto l next h = by_late (nat_lt upto (l.place + n))
+  where
+    by_late : (late : Bool) → l.cells ≡ flat (cond late (record { messages = []; left = l }) (and_then (take n l.cells) (next n))).messages
+        ++ (cond late (record { messages = []; left = l }) (and_then (take n l.cells) (next n))).left.cells
+    by_late true = refl
+    by_late false = sym (take-append-drop n l.cells) ∙ ap (λ (z : List Cell). take n l.cells ++ z) (h n) ∙ sym (append_assoc (take n l.cells) (flat (next n).messages) (next n).left.cells)
+
+cut_keeps : (k : ℕ) (size : List Cell → Option ℕ) (upto : ℕ) (l : Left) → l.cells ≡ flat (cut_off k size upto l).messages ++ (cut_off k size upto l).left.cells
+unfolding cut_off flat
+cut_keeps zero size upto l = refl
+cut_keeps (suc k) size upto l =
+    by_keeps (size l.cells) upto l (λ n. cut_off k size upto (record { place = l.place + n; cells = drop n l.cells }))
+    (λ n. cut_keeps k size upto (record { place = l.place + n; cells = drop n l.cells }))
+
+shown_same : (o d : End) (at : Placed) (ms : List (List Cell)) (ss : List Shown) → same_end o d ≡ true
+    → cells_shown d (map (λ m. record { of = o; cells = m; at = at }) ms ++ ss) ≡ flat ms ++ cells_shown d ss
+unfolding flat
+shown_same o d at [] ss e = refl
+shown_same o d at (m ∷ ms) ss e = rw e (ap (λ (z : List Cell). m ++ z) (shown_same o d at ms ss e) ∙ sym (append_assoc m (flat ms) (cells_shown d ss)))
+
+shown_other : (o d : End) (at : Placed) (ms : List (List Cell)) (ss : List Shown) → same_end o d ≡ false
+    → cells_shown d (map (λ m. record { of = o; cells = m; at = at }) ms ++ ss) ≡ cells_shown d ss
+shown_other o d at [] ss e = refl
+shown_other o d at (m ∷ ms) ss e = rw e (shown_other o d at ms ss e)
+
+abbrev Keeps : (List Cell → Option ℕ) → List Delivery → End → Both → Type 0
+Keeps size ds d b = (rest : List Cell) × ((left_of b d).cells ≡ cells_shown d (show size b ds) ++ rest)
+
+same_step : (size : List Cell → Option ℕ) (ds : List Delivery) (o : End) (l m : Left) (at : Placed) (ms : List (List Cell)) (ss : List Shown)
+    → l.cells ≡ flat ms ++ m.cells → same_end o o ≡ true → (rest : List Cell) × (m.cells ≡ cells_shown o ss ++ rest)
+    → (rest : List Cell) × (l.cells ≡ cells_shown o (map (λ c. record { of = o; cells = c; at = at }) ms ++ ss) ++ rest)
+same_step size ds o l m at ms ss kept same h = (
+  h.0,
+  kept ∙ ap (λ (z : List Cell). flat ms ++ z) h.1 ∙ sym (append_assoc (flat ms) (cells_shown o ss) h.0)
+      ∙ ap (λ (z : List Cell). z ++ h.0) (sym (shown_same o o at ms ss same)),
+)
+
+other_step : (o d : End) (l : List Cell) (at : Placed) (ms : List (List Cell)) (ss : List Shown) → same_end o d ≡ false
+    → (rest : List Cell) × (l ≡ cells_shown d ss ++ rest) → (rest : List Cell) × (l ≡ cells_shown d (map (λ c. record { of = o; cells = c; at = at }) ms ++ ss) ++ rest)
+other_step o d l at ms ss e h = (h.0, h.1 ∙ ap (λ (z : List Cell). z ++ h.0) (sym (shown_other o d at ms ss e)))
+
+step : (size : List Cell → Option ℕ) (b : Both) (o : End) (upto : ℕ) (at : Placed) (ds : List Delivery) (d : End) → ((b : Both) → Keeps size ds d b)
+    → Keeps size (record { of = o; upto = upto; at = at } ∷ ds) d b
+unfolding show
+step size b active upto at ds active h =
+    let cut = cut_off (length b.active.cells) size upto b.active in
+    same_step size ds active b.active cut.left at cut.messages (show size (with_left b active cut.left) ds) (cut_keeps (length b.active.cells) size upto b.active) refl (h (with_left b active cut.left))
+step size b passive upto at ds passive h =
+    let cut = cut_off (length b.passive.cells) size upto b.passive in
+    same_step size ds passive b.passive cut.left at cut.messages (show size (with_left b passive cut.left) ds) (cut_keeps (length b.passive.cells) size upto b.passive) refl (h (with_left b passive cut.left))
+step size b active upto at ds passive h =
+    let cut = cut_off (length b.active.cells) size upto b.active in
+    other_step active passive b.passive.cells at cut.messages (show size (with_left b active cut.left) ds) refl (h (with_left b active cut.left))
+step size b passive upto at ds active h =
+    let cut = cut_off (length b.passive.cells) size upto b.passive in
+    other_step passive active b.active.cells at cut.messages (show size (with_left b passive cut.left) ds) refl (h (with_left b passive cut.left))
+
+pub show_keeps : (size : List Cell → Option ℕ) (ds : List Delivery) (d : End) (b : Both) → Keeps size ds d b
+unfolding show
+show_keeps size [] d b = ((left_of b d).cells, refl)
+show_keeps size (x ∷ ds) d b = step size b x.of x.upto x.at ds d (show_keeps size ds d)
+
+-- ---- nothing behind a loss
+
+each_map : (P : Placed → Type 0) (o : End) (at : Placed) (ms : List (List Cell)) (ss : List Shown) → P at → EachShown P ss
+    → EachShown P (map (λ m. record { of = o; cells = m; at = at }) ms ++ ss)
+each_map P o at [] ss p h = h
+each_map P o at (m ∷ ms) ss p h = (p, each_map P o at ms ss p h)
+
+EachDelivery : (Placed → Type 0) → List Delivery → Type 0
+EachDelivery P [] = Unit {0}
+EachDelivery P (d ∷ ds) = P d.at × EachDelivery P ds
+
+show_each : (P : Placed → Type 0) (size : List Cell → Option ℕ) (ds : List Delivery) (b : Both) → EachDelivery P ds → EachShown P (show size b ds)
+unfolding show EachDelivery
+show_each P size [] b h = tt
+show_each P size (d ∷ ds) b h =
+    let cut = delivered size b d in
+    each_map P d.of d.at cut.messages (show size (with_left b d.of cut.left) ds) h.0 (show_each P size ds (with_left b d.of cut.left) h.1)
+
+of_turn : (P : Placed → Type 0) (at own : Placed) (a : Option ℕ) (ds : List Delivery) → P at → EachDelivery P ds
+    → EachDelivery P (deliveries (record { at = at; own = record own { acknowledged = a } }) ++ ds)
+unfolding EachDelivery
+of_turn P at own None ds p h = (p, h)
+of_turn P at own (Some n) ds p h = (p, (p, h))
+
+EachTurn : (Placed → Type 0) → List Turn → Type 0
+EachTurn P [] = Unit {0}
+EachTurn P (t ∷ ts) = P t.at × EachTurn P ts
+
+turn_each : (k : ℕ) (ts : List Turn) → EachTurn (λ at. at.packet < k) (filter (is_before (Some k)) ts)
+unfolding EachTurn
+turn_each k [] = tt
+turn_each k (t ∷ ts) = by_test (turn_each k ts) (nat_lt t.at.packet k) refl
+  where
+    by_test : EachTurn (λ at. at.packet < k) (filter (is_before (Some k)) ts) → (b : Bool) → nat_lt t.at.packet k ≡ b
+        → EachTurn (λ at. at.packet < k) (cond b (t ∷ filter (is_before (Some k)) ts) (filter (is_before (Some k)) ts))
+    by_test later true e = (ltb-true t.at.packet k e, later)
+    by_test later false e = later
+
+weaken : (P Q : Placed → Type 0) (ts : List Turn) → ((at : Placed) → P at → Q at) → EachTurn P ts → EachTurn Q ts
+unfolding EachTurn
+weaken P Q [] f h = tt
+weaken P Q (t ∷ ts) f h = (f t.at h.0, weaken P Q ts f h.1)
+
+reset_each : (P : Placed → Type 0) (ts : List Turn) → EachTurn P ts → EachTurn P (up_to_reset ts)
+unfolding EachTurn
+reset_each P [] h = tt
+reset_each P (t ∷ ts) h = by_reset t.own.reset (reset_each P ts h.1)
+  where
+    by_reset : (b : Bool) → EachTurn P (up_to_reset ts) → EachTurn P (cond b (t ∷ []) (t ∷ up_to_reset ts))
+    by_reset true later = (h.0, tt)
+    by_reset false later = (h.0, later)
+
+delivery_each : (P : Placed → Type 0) (ts : List Turn) → EachTurn P ts → EachDelivery P (flat_map deliveries ts)
+unfolding EachTurn EachDelivery
+delivery_each P [] h = tt
+delivery_each P (t ∷ ts) h = of_turn P t.at t.own t.own.acknowledged (flat_map deliveries ts) h.0 (delivery_each P ts h.1)
+
+-- where it breaks off is at the first of both, or before
+breaks_by : (a b : Option ℕ) (k : ℕ) → (a ≡ Some k) ⊎ (b ≡ Some k) → (j : ℕ) × (earlier a b ≡ Some j) × (j ≤ k)
+breaks_by None b k (inl e) = absurd cc
+breaks_by None b k (inr e) = (k, e, omega arith)
+breaks_by (Some j) None k (inl e) = let same : j ≡ k = cc in (j, refl, omega (arith, same))
+breaks_by (Some j) None k (inr e) = absurd cc
+breaks_by (Some j) (Some i) k (inl e) = let same : j ≡ k = cc in (min j i, refl, omega (arith, same))
+breaks_by (Some j) (Some i) k (inr e) = let same : i ≡ k = cc in (min j i, refl, omega (arith, same))
+
+pub none_behind : (size : List Cell → Option ℕ) (ps : List Placed) (k : ℕ) → (loss [] ps ≡ Some k) ⊎ (difference [] ps ≡ Some k)
+    → EachShown (λ at. at.packet < k) (shows_of size ps)
+none_behind size ps k e =
+    let off = breaks_by (loss [] ps) (difference [] ps) k e in
+    let le = off.2 in
+    let near : EachTurn (λ at. at.packet < k) (filter (is_before (Some off.0)) (turns [] ps)) =
+    weaken (λ at. at.packet < off.0) (λ at. at.packet < k) (filter (is_before (Some off.0)) (turns [] ps)) (λ at lt. omega (arith, lt, le)) (turn_each off.0 (turns [] ps)) in
+    let each : EachTurn (λ at. at.packet < k) (filter (is_before (breaks_off ps)) (turns [] ps)) =
+    subst (λ (o : Option ℕ). EachTurn (λ at. at.packet < k) (filter (is_before o) (turns [] ps))) (sym off.1) near in
+    show_each (λ at. at.packet < k) size (flat_map deliveries (told_turns ps)) (both_streams ps)
+    (delivery_each (λ at. at.packet < k) (told_turns ps) (reset_each (λ at. at.packet < k) (filter (is_before (breaks_off ps)) (turns [] ps)) each))
+
+pub kept : (size : List Cell → Option ℕ) (ps : List Placed) (d : End) → (rest : List Cell) × (stream_of ps d ≡ cells_shown d (shows_of size ps) ++ rest)
+kept size ps active = show_keeps size (flat_map deliveries (told_turns ps)) active (both_streams ps)
+kept size ps passive = show_keeps size (flat_map deliveries (told_turns ps)) passive (both_streams ps)

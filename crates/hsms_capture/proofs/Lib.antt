@@ -1,0 +1,5 @@
+mod Absorbed
+mod Ends
+mod Kept
+mod Nearest
+mod SmallCaptures

@@ -1,0 +1,62 @@
+-- Small captures, and what the definitions say of them. Each message has one cell here.
+use Rattle.std.specs.Prelude.{◌≡◌, ℕ, Bool, true, false, List, [], ◌∷◌, map, Option, None, Some}
+use Rattle.hsms_capture.specs.Wire.{End, active, passive, Cell, syn, octet, fin, Seen, places, loss, difference, wire_shows}
+
+abbrev pub one_cell : List Cell → Option ℕ
+one_cell [] = None
+one_cell (c ∷ cs) = Some 1
+
+-- both SYNs have the number 1000
+abbrev pub base : End → ℕ
+base e = 1000
+
+abbrev pub sent : End → ℕ → ℕ → Option ℕ → List Cell → Seen
+sent e packet number ack cells =
+    record { from = e; packet = packet; time = packet; number = number; acknowledged = ack; cells = cells; pushed = true; reset = false }
+
+abbrev pub connected : List Seen → List Seen
+connected more = sent active 1 1000 None (syn ∷ []) ∷ (sent passive 2 1000 (Some 1001) (syn ∷ []) ∷ more)
+
+abbrev pub senders : List Seen → List End
+senders ss = map (λ s. s.of) (wire_shows one_cell base (connected ss))
+
+abbrev pub packets : List Seen → List ℕ
+packets ss = map (λ s. s.at.packet) (wire_shows one_cell base (connected ss))
+
+-- the reply that packet 4 acknowledges is missing, and what packet 5 brings is behind the loss
+abbrev pub lost_reply : List Seen
+lost_reply =
+    sent active 3 1001 (Some 1001) (octet 7 ∷ []) ∷ (sent active 4 1002 (Some 1002) [] ∷ (sent active 5 1002 (Some 1002) (octet 8 ∷ []) ∷ []))
+
+-- the reply is captured before the message that it acknowledges
+abbrev pub early_reply : List Seen
+early_reply = sent passive 3 1001 (Some 1002) (octet 9 ∷ []) ∷ (sent active 4 1001 (Some 1001) (octet 7 ∷ []) ∷ [])
+
+-- the octet of packet 5 stands in a place that was acknowledged
+abbrev pub asked : List Seen
+asked = sent active 3 1001 (Some 1001) (octet 7 ∷ []) ∷ (sent passive 4 1001 (Some 1002) [] ∷ (record (sent active 5 1001 (Some 1001) (octet 0 ∷ [])) { pushed = false } ∷ []))
+
+-- the copy of packet 4 isn't that of packet 3, and nothing acknowledged it
+abbrev pub other_copy : List Seen
+other_copy = sent active 3 1001 (Some 1001) (octet 7 ∷ []) ∷ (sent active 4 1001 (Some 1001) (octet 0 ∷ (octet 1 ∷ [])) ∷ [])
+
+-- one octet is missing before packet 4, and nothing acknowledges it
+abbrev pub gap_at_end : List Seen
+gap_at_end = sent active 3 1001 (Some 1001) (octet 7 ∷ []) ∷ (sent active 4 1003 (Some 1001) (octet 8 ∷ []) ∷ [])
+
+abbrev pub LostReply : Type 0
+LostReply = (loss [] (places base [] (connected lost_reply)) ≡ Some 4) × (packets lost_reply ≡ 1 ∷ (2 ∷ (3 ∷ [])))
+
+abbrev pub EarlyReply : Type 0
+EarlyReply =
+    (loss [] (places base [] (connected early_reply)) ≡ None) × (packets early_reply ≡ 1 ∷ (2 ∷ (3 ∷ (3 ∷ []))))
+    × (senders early_reply ≡ active ∷ (passive ∷ (active ∷ (passive ∷ []))))
+
+abbrev pub Asked : Type 0
+Asked = (difference [] (places base [] (connected asked)) ≡ None) × (packets asked ≡ 1 ∷ (2 ∷ (3 ∷ [])))
+
+abbrev pub OtherCopy : Type 0
+OtherCopy = (difference [] (places base [] (connected other_copy)) ≡ Some 4) × (packets other_copy ≡ 1 ∷ (2 ∷ (3 ∷ [])))
+
+abbrev pub GapAtEnd : Type 0
+GapAtEnd = (loss [] (places base [] (connected gap_at_end)) ≡ Some 4) × (packets gap_at_end ≡ 1 ∷ (2 ∷ (3 ∷ [])))

@@ -1,0 +1,3 @@
+pub mod Wire
+pub mod Laws
+pub mod Examples

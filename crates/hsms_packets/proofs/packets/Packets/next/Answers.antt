@@ -1,0 +1,53 @@
+use Rattle.std.proofs.Common.{◌≡◌, refl, ap, ◌∙◌}
+use Rattle.std.proofs.lemmas.Result.{err_from_is_err_and}
+use Rattle.hsms_packets.specs.declared.fault.FileFault.TheVariants as stop
+use Rattle.hsms_packets.specs.Blocks.{Reading}
+use Rattle.hsms_packets.specs.contracts.packets.Packets.{the_view}
+use Rattle.hsms_packets.proofs.Stepping.{end_step, err_step, pass_step, size_fits, step_is_within}
+use Rattle.hsms_packets.proofs.packets.Packets.next.Goals as goal
+
+pub returns-in_err-front-clause-step : goal.returns-in_err-front-clause-step
+returns-in_err-front-clause-step g c = λ input told.
+    let p = err_from_is_err_and c.from_residual.result c.from_residual.ensures.1 in
+    let s_is = ap (λ (r : Reading). r.state) c.self.view_is in
+    let before_is = c.pass.ensures ∙ ap (λ (r : Reading). r.ahead) c.self.view_is in
+    rw (p.1, p.2) (err_step c.args.self.now (the_view (record { reader = c.self.inside.reader; ahead = c.next_front.new.ahead; last = 0 })) c.self.inside.reader c.pass.new.self
+    c.next_front.new.ahead input c.in_err-front.field-0.0 (g.R.Source.state c.next_front.new.source).left s_is before_is (c.in_err-front.ensures.read input told)
+    c.in_err-front.ensures.found refl refl)
+
+pub returns-in_default-clause-step : goal.returns-in_default-clause-step
+returns-in_default-clause-step g c = λ input told.
+    let read = rw c.in_default.is at c.in_ok-front.ensures.read in
+    let found = rw c.in_default.is at c.in_ok-front.ensures.found in
+    let s_is = ap (λ (r : Reading). r.state) c.self.view_is in
+    let before_is = c.pass.ensures ∙ ap (λ (r : Reading). r.ahead) c.self.view_is in
+    end_step c.args.self.now (the_view (record { reader = c.self.inside.reader; ahead = c.next_front.new.ahead; last = 0 })) c.self.inside.reader c.pass.new.self
+    c.next_front.new.ahead input (g.R.Source.state c.next_front.new.source).left s_is before_is (read input told) found refl refl
+
+pub returns-in_default-pass-clause-step : goal.returns-in_default-pass-clause-step
+returns-in_default-pass-clause-step g c = λ input told.
+    let read = rw c.in-Some.is at c.in_ok-front.ensures.read in
+    let s_is = ap (λ (r : Reading). r.state) c.self.view_is in
+    let before_is = c.pass.ensures ∙ ap (λ (r : Reading). r.ahead) c.self.view_is in
+    err_step c.args.self.now (the_view (record { reader = c.pass-2.new.self; ahead = c.next_front.new.ahead; last = 0 })) c.self.inside.reader c.pass.new.self
+    c.next_front.new.ahead input stop.Memory (g.R.Source.state c.next_front.new.source).left s_is before_is (read input told) tt c.in_default-pass.ensures.err refl
+
+pub invariant_of-self-2 : goal.invariant_of-self-2
+invariant_of-self-2 g c =
+    let found = rw c.in-Some.is at c.in_ok-front.ensures.found in
+    size_fits c.self.inside.reader c.next_front.new.ahead c.in-Some.front c.in-Ok.size found c.in-Ok.ensures.size
+
+pub returns-clause-step : goal.returns-clause-step
+returns-clause-step g c = λ input told.
+    let read = rw c.in-Some.is at c.in_ok-front.ensures.read in
+    let found = rw c.in-Some.is at c.in_ok-front.ensures.found in
+    let s_is = ap (λ (r : Reading). r.state) c.self.view_is in
+    let before_is = c.pass.ensures ∙ ap (λ (r : Reading). r.ahead) c.self.view_is in
+    pass_step c.args.self.now (the_view (record { reader = c.pass-2.new.self; ahead = c.next_front.new.ahead; last = c.in-Ok.size })) c.self.inside.reader c.pass.new.self
+    c.next_front.new.ahead input c.in-Some.front c.packets.result c.in-Ok.size c.told_step.result (g.R.Source.state c.next_front.new.source).left s_is before_is
+    (read input told) found c.in-Ok.ensures.size c.in-Ok.ensures.ok refl refl c.packets.ensures c.told_step.ensures
+
+pub returns-clause-there : goal.returns-clause-there
+returns-clause-there g c =
+    let found = rw c.in-Some.is at c.in_ok-front.ensures.found in
+    step_is_within c.self.inside.reader c.next_front.new.ahead c.in-Some.front c.packets.result c.in-Ok.size c.told_step.result found c.in-Ok.ensures.size c.told_step.ensures

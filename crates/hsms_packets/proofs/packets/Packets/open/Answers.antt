@@ -1,0 +1,26 @@
+use Rattle.std.proofs.Common.{◌≡◌, ℕ, List, Err, refl, subst}
+use Rattle.std.proofs.lemmas.Result.{err_from_is_err_and}
+use Rattle.hsms_packets.specs.declared.reader.Format.{Format}
+use Rattle.hsms_packets.specs.Blocks.{OpensFor, ReadsMore}
+use Rattle.hsms_packets.specs.contracts.packets.Packets.{the_view}
+use Rattle.hsms_packets.proofs.Behaving.{opening_is_there}
+use Rattle.hsms_packets.proofs.Stepping.{not_opened, opened}
+use Rattle.hsms_packets.proofs.packets.Packets.open.Goals as goal
+
+pub returns-in_err-format-clause-opened : goal.returns-in_err-format-clause-opened
+returns-in_err-format-clause-opened g c = λ input told.
+    let p = err_from_is_err_and c.from_residual-in_err-format.result c.from_residual-in_err-format.ensures.1 in
+    let left = (g.R.Source.state c.opening.new.source).left in
+    rw (p.1, p.2) (not_opened input c.opening.new.ahead c.in_err-format.field-0.0 left
+    (subst (λ (l : List ℕ). OpensFor {T = Format × ℕ} (Err c.in_err-format.field-0.0) l input c.opening.new.ahead left) c.in_ok-ahead.ensures (c.in_err-format.ensures.read input told))
+    c.in_err-format.ensures.found)
+
+pub pass-requires : goal.pass-requires
+pass-requires g c = opening_is_there c.opening.new.ahead c.in_ok-format.format c.in_ok-format.size c.in_ok-format.ensures.found
+
+pub returns-clause-opened : goal.returns-clause-opened
+returns-clause-opened g c = λ input told.
+    let left = (g.R.Source.state c.opening.new.source).left in
+    opened (the_view (record { reader = c.new-2.result; ahead = c.pass.new.self; last = 0 })) input c.opening.new.ahead c.in_ok-format.format c.in_ok-format.size left
+    (subst (λ (l : List ℕ). ReadsMore l input c.opening.new.ahead left) c.in_ok-ahead.ensures (c.in_ok-format.ensures.read input told))
+    c.in_ok-format.ensures.found c.new-2.ensures c.pass.ensures

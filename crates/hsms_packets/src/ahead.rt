@@ -1,0 +1,161 @@
+//! Octets of a file that are read ahead of what was passed.
+
+ghost use Rattle.std.specs.Prelude.{◌≡◌, ◌≤◌, ◌<◌, ◌+◌, ◌-◌, Ok, true, false, drop, take, length, vec_len, nat_lt, if◌then◌else◌, IfErr, IfOk, OnOk, OnErr};
+ghost use Rattle.std.specs.List.{slice_range};
+ghost use Rattle.hsms_frame.specs.Count.{next_count};
+ghost use Rattle.hsms_frame.specs.Device.{WhereTold, IsAtEnd, Stays, Takes, ends_after};
+ghost use Rattle.hsms_packets.specs.Blocks.{IsOfDevice, ReadsMore, ends_after_more, failures_after, greatest_ahead};
+
+use crate::fault::FileFault;
+use hsms_frame::Source;
+use std::alloc::{AllocError, Global};
+use std::marker::Model;
+
+// How many octets are asked for at a time, at least.
+const BLOCK: usize = 65536;
+
+/// Octets that were read and not passed. Contracts see them as a list.
+#[derive(Drop)]
+pub struct Ahead {
+    octets: Vec<u8>,
+    place: usize,
+    end: usize,
+}
+
+impl Model for Ahead {
+    ghost use Rattle.std.specs.Prelude.{◌≡◌, ◌≤◌, List, ℕ, vec_len};
+    ghost use Rattle.std.specs.List.{slice_range};
+    ghost use Rattle.hsms_packets.specs.Blocks.{greatest_ahead};
+
+    ghost Value = { List ℕ };
+
+    ghost view = { λ a. slice_range a.octets.items a.place a.end };
+
+    ghost invariant = { λ a. (a.place ≤ a.end) × (a.end ≤ vec_len a.octets) × (vec_len a.octets ≤ greatest_ahead) };
+}
+
+impl Ahead {
+    ghost use Rattle.std.specs.Prelude.{[]};
+
+    /// No octets.
+    pub fn new(alloc: Global) -> Result<Ahead, AllocError>
+        ensures { IfOk result (λ ahead. ahead ≡ []) }
+    {
+        let octets = vec![in alloc; 0u8; 2 * BLOCK]?;
+        Ok(Ahead {
+            octets,
+            place: 0,
+            end: 0,
+        })
+    }
+
+    /// The octets.
+    #[inline(always)]
+    pub fn as_slice(&self) -> &[u8]
+        ensures octets { result.now ≡ self.now }
+        ensures bound { length result.now ≤ greatest_ahead }
+    {
+        &self.octets[self.place..self.end]
+    }
+
+    /// Takes octets away from the front.
+    #[inline(always)]
+    pub fn pass(&mut self, count: usize)
+        requires { count ≤ length self.old }
+        ensures { self.new ≡ drop count self.old }
+    {
+        self.place += count;
+    }
+
+    /// Reads more octets, and says whether there were any: none only at the end of the input. No octet is lost, whatever
+    /// the answer.
+    pub fn read_more<R: Source>(&mut self, source: &mut R) -> Result<bool, FileFault>
+        requires { length self.old < 16777232 }
+        ensures ok { IfOk result (λ is_more. WhereTold (R.state source.old).left
+            (λ input. ReadsMore self.old input self.new (R.state source.new).left)) }
+        ensures more { result ≡ Ok true → length self.old < length self.new }
+        ensures none { result ≡ Ok false → (self.new ≡ self.old) × IsAtEnd (R.state source.old).left }
+        ensures kept { OnErr result (self.new ≡ self.old) }
+        ensures err { OnErr result (Stays (R.state source.old).left (R.state source.new).left) }
+        ensures ends { (R.state source.new).ends ≡ ends_after_more result (R.state source.old).ends }
+        ensures stop { IfErr result IsOfDevice }
+        ensures failures { (R.state source.new).failures ≡ failures_after result (R.state source.old).failures }
+    {
+        self.end = settle(&mut self.octets, self.place, self.end);
+        self.place = 0;
+        make_room(&mut self.octets, self.end)?;
+        let count = read_behind(&mut self.octets, self.end, source)?;
+        self.end += count;
+        Ok(count > 0)
+    }
+}
+
+// Moves a part to the front, and says where it ends there.
+fn settle(octets: &mut [u8], place: usize, end: usize) -> usize
+    requires { (place ≤ end) × (end ≤ length octets.old) }
+    ensures length { length octets.new ≡ length octets.old }
+    ensures end { result ≡ end - place }
+    ensures front { take result octets.new ≡ slice_range octets.old place end }
+{
+    if place > 0 {
+        octets.copy_within(place..end, 0);
+    }
+    end - place
+}
+
+// Makes room for what is read at a time.
+fn make_room(octets: &mut Vec<u8>, end: usize) -> Result<(), AllocError>
+    requires within { end ≤ vec_len octets.old }
+    requires short { end < 16777232 }
+    requires bound { vec_len octets.old ≤ greatest_ahead }
+    ensures front { take end octets.new.items ≡ take end octets.old.items }
+    ensures longer { vec_len octets.old ≤ vec_len octets.new }
+    ensures bound { vec_len octets.new ≤ greatest_ahead }
+    ensures room { OnOk result (end + 65536 ≤ vec_len octets.new) }
+{
+    if octets.len() - end < BLOCK {
+        octets.resize(end + BLOCK, 0)?;
+    }
+    Ok(())
+}
+
+// Reads octets to behind the others, and says how many: none only at the end of the input.
+fn read_behind<R: Source>(
+    octets: &mut Vec<u8>,
+    end: usize,
+    source: &mut R,
+) -> Result<usize, FileFault>
+    requires { end + 65536 ≤ vec_len octets.old }
+    ensures ok { IfOk result (λ count. WhereTold (R.state source.old).left
+        (λ input. ReadsMore (take end octets.old.items) input (take (end + count) octets.new.items) (R.state source.new).left)) }
+    ensures within { IfOk result (λ count. end + count ≤ vec_len octets.new) }
+    ensures none { result ≡ Ok 0 → IsAtEnd (R.state source.old).left }
+    ensures front { take end octets.new.items ≡ take end octets.old.items }
+    ensures length { vec_len octets.new ≡ vec_len octets.old }
+    ensures err { OnErr result (Stays (R.state source.old).left (R.state source.new).left) }
+    ensures ends { IfOk result (λ count. (R.state source.new).ends
+        ≡ (if nat_lt 0 count then (R.state source.old).ends else next_count (R.state source.old).ends)) }
+    ensures ends_stay { OnErr result ((R.state source.new).ends ≡ (R.state source.old).ends) }
+    ensures stop { IfErr result IsOfDevice }
+    ensures failures { (R.state source.new).failures ≡ failures_after result (R.state source.old).failures }
+{
+    let tail = &mut octets[end..];
+    let count = pull(source, tail)?;
+    Ok(count)
+}
+
+// Reads some octets to the front of a slice with room, and says how many: none only at the end of the input.
+fn pull<R: Source>(source: &mut R, into: &mut [u8]) -> Result<usize, FileFault>
+    ensures len { length into.new ≡ length into.old }
+    ensures bound { IfOk result (λ n. n ≤ length into.new) }
+    ensures octets { IfOk result (λ n. Takes (R.state source.old).left (R.state source.new).left n into.new) }
+    ensures end { IfOk result (λ n. n ≡ 0 → 0 < length into.new → IsAtEnd (R.state source.old).left) }
+    ensures ends { IfOk result (λ n. (R.state source.new).ends
+        ≡ ends_after (length into.new) (Ok n) (R.state source.old).ends) }
+    ensures ends_stay { OnErr result ((R.state source.new).ends ≡ (R.state source.old).ends) }
+    ensures none_lost { OnErr result (Stays (R.state source.old).left (R.state source.new).left) }
+    ensures stop { IfErr result IsOfDevice }
+    ensures failures { (R.state source.new).failures ≡ failures_after result (R.state source.old).failures }
+{
+    Ok(source.pull(into)?)
+}
