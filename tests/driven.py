@@ -1,11 +1,12 @@
 #!/usr/bin/env python3
 """Compares the ends with a second reading of them, on damaged lists of what an end is told.
 
-Use: tests/driven.py [--count N] [--seed WORD] [--workers N]. Without words there are 3000 lists, the seed is 1, and two
-workers. The lists depend on the seed alone: what an end was told in a random talk, with octets that are cut, flipped or
-lie, in other pieces, at other moments, in another order. `hsms_drive` tells them to an end call by call, and to `drive`
-as a whole; both have to answer the entries and the pending octets that the second reading has, and the calls the
-refusals too. It runs what `rt ci` has built.
+Use: tests/driven.py [--count N] [--seed WORD] [--workers N]. Without words there are 3000 lists by chance, the seed is
+1, and two workers. These lists depend on the seed alone: what an end was told in a random talk, with octets that are
+cut, flipped or lie, in other pieces, at other moments, in another order. Before them come some hundred lists of tables:
+each message, timer and front of a message, to hosts and equipment that connect or listen. `hsms_drive` tells them to an
+end call by call, and to `drive` as a whole; both have to answer the entries and the pending octets that the second
+reading has, and the calls the refusals too. It runs what `rt ci` has built.
 
 A list with another answer, or at which the program crashes, is kept in a file that the message names. The last line
 tells how many there are, and the status is 1 where there is one, or where 3000 lists or more didn't reach each thing
@@ -24,7 +25,7 @@ from typing import List
 sys.dont_write_bytecode = True
 
 from command import DRIVER, LONGEST_RUN
-from second_reading import crowds, lists, talks
+from second_reading import crowds, lists, tables, talks
 
 # How many lists a run of the program gets.
 SHARE = 50
@@ -65,7 +66,7 @@ def first_difference(wanted: str, answer: str) -> str:
 
 def judged(seed: str, first: int):
     """What the lists of a share reach, and what is wrong with the answers to them."""
-    listed = [lists.damaged(seed, number) for number in range(first, first + SHARE)]
+    listed = [lists.listed(seed, number) for number in range(first, first + SHARE)]
     wanted = [lists.Answering(each) for each in listed]
     texts = [each.text() for each in listed]
     given = answers(texts)
@@ -84,7 +85,7 @@ def main() -> int:
     words.add_argument("--seed", default="1")
     words.add_argument("--workers", type=int, default=2)
     told = words.parse_args()
-    firsts = range(0, told.count, SHARE)
+    firsts = range(0, told.count + len(tables.lists()), SHARE)
     reached, failing = Counter(), 0
     with ProcessPoolExecutor(told.workers) as pool:
         for whats, wrongs in pool.map(partial(judged, told.seed), firsts):
@@ -92,7 +93,7 @@ def main() -> int:
             failing += len(wrongs)
             for wrong in wrongs:
                 print(wrong, flush=True)
-    to_reach = [what for what in talks.TO_REACH if not what.startswith("!")] + crowds.TO_REACH
+    to_reach = [what for what in talks.TO_REACH if not what.startswith("!")] + crowds.TO_REACH + tables.TO_REACH
     missed = [what for what in to_reach if not reached[what]]
     missed = missed if told.count >= ENOUGH else []
     for what in missed:

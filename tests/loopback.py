@@ -618,6 +618,20 @@ def nobody_listens():
     refused(Serving("host", "active", free_port()), 3, "Link")
 
 
+def numbers_at_their_limits():
+    """Each number that an option may have at least or at most, which `every_option_is_taken` doesn't take."""
+    port = free_port()
+    for option, number in (
+        ("--device", "0"), ("--t3", "1"), ("--t6", "3600000"), ("--t7", "3600000"), ("--t8", "3600000"),
+        ("--max", "33554432"), ("--depth", "1"), ("--first-system", "0"), ("--turns", "0"),
+    ):
+        refused(Serving("host", "active", port, option, number), 3, "Link")
+    refused(Serving("host", "active", 65535), 3, "Link")
+    for words in (["encode", "--device", "0"], ["encode", "--system", "0"], ["encode", "--depth", "1"]):
+        run = subprocess.run([PROGRAM, *words], input=b"", capture_output=True, timeout=SOON)
+        same((words, run.returncode, run.stderr), (words, 0, b""))
+
+
 def port_is_in_use():
     peers = Listening()
     refused(Serving("equipment", "passive", peers.port), 3, "Link")
@@ -722,6 +736,7 @@ TESTS = [
     log_is_full,
     nobody_reads_the_log,
     nobody_listens,
+    numbers_at_their_limits,
     port_is_in_use,
     address_is_none,
     script_is_refused_before_the_connection,

@@ -19,20 +19,32 @@ A_WHILE = 0.5
 
 FIRST = b"hsms-log 1 host active 0 45000 6000 10000 5000 1048576 32\n"
 FRONT = FIRST + b"0 up\n0 > ffff0000000100000001\n"
+
+# The longest first line has 256 octets, and with a MAX of 256 the longest later one 576, each without a CR behind.
+NARROW = FIRST.replace(b" 1048576 ", b" 256 ")
+SHORT_LOG = b"pass entries=1 sent=0 taken=0 discarded=0 expired=0 waiting=0\n"
+
 AGAIN = FRONT.replace(b"hsms-log 1", b"hsms-log 2") + b"5 down\n90000 up\n"
 
 # Each begins a log, and fails at once, whatever follows.
 FAILING = [
     (b"x\n", b"fail line=1 unreadable\n"),
-    (b"x" * 258, b"fail line=1 unreadable\n"),
+    (b"x" * 257, b"fail line=1 unreadable\n"),
+    (b"x" * 256 + b"\r\r", b"fail line=1 unreadable\n"),
+    (NARROW + b"#" * 577, b"fail line=2 unreadable\n"),
+    (NARROW + b"#" * 576 + b"\r\r", b"fail line=2 unreadable\n"),
     (FRONT + b"3 < 00008101000000000002\n", b"fail line=4 rule=NotSelected\n"),
     (AGAIN + b"90003 < 00008101000000000002\n", b"fail line=6 rule=NotSelected\n"),
     (AGAIN + b"90003 up\n", b"fail line=6 rule=NotUp\n"),
     (FRONT + b"# a comment\n" * 6000 + b"3 < 00008101000000000002\n", b"fail line=6004 rule=NotSelected\n"),
 ]
 
-# Each begins a log that may still pass. The second ends it.
+# Each begins a log of which no line fails yet. The second ends it.
 PASSING = [
+    (b"x" * 256, b"\n", b"fail line=1 unreadable\n"),
+    (b"x" * 256 + b"\r", b"\n", b"fail line=1 unreadable\n"),
+    (NARROW + b"#" * 576, b"\n0 up\n", SHORT_LOG),
+    (NARROW + b"#" * 576 + b"\r", b"\n0 up\n", SHORT_LOG),
     (FRONT, b"", b"pass entries=2 sent=1 taken=0 discarded=0 expired=0 waiting=0\n"),
     (FRONT + b"3 < 000081010000", b"00000002\n", b"fail line=4 rule=NotSelected\n"),
     (AGAIN, b"", b"pass entries=4 sent=1 taken=0 discarded=0 expired=0 waiting=0\n"),

@@ -1,8 +1,9 @@
 #!/usr/bin/env python3
 """Compares the command with a second reading of the formats and the rules, on random inputs, and audits random talks.
 
-Use: tests/second_reading.py [CASES] [SEED]. CASES is the number of audits, 4000 if left out; shows, encodes and talks
-are made in proportion. SEED is 1 if left out; the inputs depend on these two alone. It runs what `rt ci` has built.
+Use: tests/second_reading.py [CASES] [SEED]. CASES is the number of audits of random logs, 4000 if left out; shows,
+encodes and talks are made in proportion. Logs and notations at edges and corners, which no chance makes, come besides.
+SEED is 1 if left out; the inputs depend on these two alone. It runs what `rt ci` has built.
 
 In a talk two ends that are written from docs/ENDS.md are told long random lists; both logs have to pass the audit, with
 the summary that the second reading counts.
@@ -19,7 +20,7 @@ from typing import List, Tuple
 sys.dont_write_bytecode = True
 
 from command import LONGEST_SHOWN, Answer, answer_of
-from second_reading import ends, inputs, messages, session, talks, walks
+from second_reading import corners, ends, inputs, messages, session, talks, walks
 from second_reading.cases import CAPITALS, DEEP, SEVERAL, TOO_DEEP, Case, audit_case, encode_case, show_case
 from second_reading.inputs import Chance
 
@@ -28,12 +29,13 @@ WORKERS = 2
 VERDICTS = ["pass", "unreadable", *session.RULES]
 
 # What the inputs have to reach, by command: each verdict of an audit also where several connections had come up, and
-# each rule of frames by one that was thrown away.
+# each rule of frames by one that was thrown away, and what the logs at corners are made for.
 TO_REACH = {
     "audit": [
         *[what + several for what in VERDICTS for several in ("", f", {SEVERAL}")],
         *[f"! {rule}" for rule, _ in session.RULES_OF_FRAMES],
         *[DEEP, TOO_DEEP, CAPITALS],
+        *corners.TO_REACH,
     ],
     "show": [
         *["no fault", "TooShort", "TooLong", "CutOff"],
@@ -62,11 +64,12 @@ class Plan:
     """The cases to be made: of each command those at edges, then others by chance, each with a seed of its own."""
 
     def __init__(self, count: int, seed: str):
-        self.counts = {"audit": count, "show": count // 4, "encode": count // 2}
+        self.logs = walks.logs_at_edges() + corners.logs()
+        self.notations = inputs.notations_at_edges()
+        encodes = count // 2 + len(self.notations)
+        self.counts = {"audit": count + len(self.logs), "show": count // 4, "encode": encodes}
         self.talks = count // 16
         self.seed = seed
-        self.logs = walks.logs_at_edges()
-        self.notations = inputs.notations_at_edges()
 
     def cases(self) -> List[Tuple[str, int]]:
         """The command and the number of each case."""

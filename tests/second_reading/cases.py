@@ -5,9 +5,12 @@ from typing import List, Optional, Set
 
 from command import Answer
 from second_reading import ends, items, messages, session
+from second_reading.corners import A_RULE_OF_FRAMES
 from second_reading.items import Fault
 from second_reading.messages import Frame, Options
-from second_reading.session import Audited, Before, rule_of_frame
+from second_reading.session import OTHER_DIRECTION, Audited, Before, Entry, broken_rules, opens, rule_of_frame
+
+RULES_OF_FRAMES = [name for name, _ in session.RULES_OF_FRAMES]
 
 # What is said of a verdict on a log in which more than one connection had come up by then.
 SEVERAL = "several connections"
@@ -16,6 +19,9 @@ SEVERAL = "several connections"
 DEPTHS = range(91, 101)
 DEEP = "lists 91 to 100 deep"
 TOO_DEEP = "Text, lists 92 to 101 deep"
+
+# The longest log of which it is said what each of its entries shows, in entries.
+SHORT = 12
 
 # A `t3` with capital digits, and what is said of a log that has one which is lawful.
 CAPITAL_T3 = re.compile(rb"\d+ t3 (?=.*[A-F])[0-9A-Fa-f]{8}")
@@ -39,8 +45,60 @@ def audit_case(log: bytes) -> Case:
     what = verdict.split("rule=")[-1] if "rule=" in verdict else "pass" if passes else "unreadable"
     connections = sum(entry.event == "up" for entry in audited.entries)
     reached = {what, f"{what}, {SEVERAL}"} if connections > 1 else {what}
-    reached |= causes_of(audited) | depths_of(audited) | spellings_of(log, audited)
+    reached |= causes_of(audited) | depths_of(audited) | spellings_of(log, audited) | failings_of(audited)
+    if len(audited.entries) <= SHORT:
+        reached |= timings_of(audited) | closings_of(audited)
     return Case(["audit"], log, Answer(0 if passes else 1, verdict.encode() + b"\n", b""), reached)
+
+
+def name_of(entry: Entry) -> str:
+    """An entry by its event, with the cause of a cut."""
+    return f"{entry.event} {entry.cause}".rstrip()
+
+
+def failings_of(audited: Audited) -> Set[str]:
+    """Of an entry that breaks rules, the first one with its event, the first one before each other one, and by what its
+    number is in use."""
+    entry = audited.failing
+    if entry is None:
+        return set()
+    before = Before(audited.settings, audited.entries)
+    first, *others = broken_rules(before, entry)
+    if first not in RULES_OF_FRAMES:
+        others = [A_RULE_OF_FRAMES if other in RULES_OF_FRAMES else other for other in others]
+    failings = {f"{first} before {other}" for other in others} | {f"{first} of {name_of(entry)}"}
+    if first == "SystemInUse":
+        used = [o.frame for o in before.open if o.event == entry.event and o.frame.system == entry.frame.system]
+        failings |= {f"{entry.event} {entry.frame.kind} in use by {frame.kind}" for frame in used}
+    return failings
+
+
+def timings_of(audited: Audited) -> Set[str]:
+    """The lawful expiries and ends past a timer, and what is lawful once the session is over."""
+    timings = set()
+    for at, entry in enumerate(audited.entries):
+        if entry.event in ("t3", "cut", "down", session.DISCARDED):
+            before = Before(audited.settings, audited.entries[:at])
+            past = [before.waited_past_t3, before.waited_past_t6, before.waited_past_t7]
+            timers = zip(("T3", "T6", "T7"), past)
+            timings |= {f"{name_of(entry)} past {timer}" for timer, is_past in timers if is_past(entry.time)}
+            timings |= {f"{name_of(entry)} once over"} if before.is_over else set()
+    return timings
+
+
+def closings_of(audited: Audited) -> Set[str]:
+    """What closed a transaction or left it open, as the last entry shows: it would be the answer, and is lawful, or it
+    answers no transaction."""
+    entries = audited.entries + [audited.failing] * audited.verdict.endswith("rule=NoTransaction")
+    *before, last = entries or [None]
+    if len(before) < 2 or not last.flows or audited.failing not in (None, last):
+        return set()
+    is_closed = audited.failing is not None
+    asked = [e for e in before[:-1] if opens(e) and e.event == OTHER_DIRECTION[last.event]]
+    openers = [opener for opener in asked if session.answers(opener.frame, last.frame)]
+    between = before[-1]
+    what = f"{between.event} {between.frame.kind}" if between.frame else name_of(between)
+    return {f"{o.event} {o.frame.kind} {'closed' if is_closed else 'left open'} by {what}" for o in openers}
 
 
 def causes_of(audited: Audited) -> Set[str]:

@@ -353,8 +353,13 @@ ODD_NOTATIONS = [
 ]
 
 
+# What stands around an octet: a value's place, quotes, a word in front, a number in front.
+AROUND = [(b"S1F1 <A ", b"> ."), (b'S1F1 <A "a', b'"> .'), (b"S1F1 W", b" ."), (b"S1F1 <U1 1", b"> .")]
+
+
 def notations_at_edges() -> List[Tuple[bytes, Options]]:
-    """Near misses; numbers at the edges of their types; bodies, lists and inputs at the edges of their lengths."""
+    """Near misses; numbers at the edges of their types; bodies, lists and inputs at the edges of their lengths; each
+    octet where it is white, a token, of a word or quoted, or none of these."""
     texts = list(ODD_NOTATIONS)
     for form in VALUE_FORMATS:
         if form.is_signed or form.is_unsigned:
@@ -365,4 +370,5 @@ def notations_at_edges() -> List[Tuple[bytes, Options]]:
     texts += [f'S1F1 <A "{"x" * length}"> .' for length in (0xFF, 0x100, 0xFFFF, 0x10000, 0xFFFFFF, 0x1000000)]
     texts += [f"S1F1 <L {'<L> ' * length}> ." for length in (0xFF, 0x100)]
     texts += [" " * length for length in (67_108_864, 67_108_865)]
-    return [(text.encode(), Options(max=33_554_432)) for text in texts]
+    octets = [front + bytes([octet]) + behind for front, behind in AROUND for octet in range(256)]
+    return [(text, Options(max=33_554_432)) for text in [*map(str.encode, texts), *octets]]

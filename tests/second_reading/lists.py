@@ -6,7 +6,7 @@ in another order. Nothing here judges: what a list comes to, the two readings sa
 from dataclasses import dataclass, replace
 from typing import List, Set
 
-from second_reading import crowds, damage, notation
+from second_reading import crowds, damage, notation, tables
 from second_reading.crowds import faults_of
 from second_reading.ends import End, Refused, first_line, line_of
 from second_reading.inputs import Chance
@@ -136,6 +136,12 @@ def damaged(seed: str, number: int) -> Listed:
     return Listed(party.maker, told)
 
 
+def listed(seed: str, number: int) -> Listed:
+    """The list of a number from 0 on: those of tables first, then those by chance."""
+    of_tables = tables.lists()
+    return Listed(*of_tables[number]) if number < len(of_tables) else damaged(seed, number - len(of_tables))
+
+
 # What is answered.
 
 
@@ -156,7 +162,9 @@ class Answering:
         except Refused as refused:
             self.reached |= {str(refused), *(f"{told.call}: {refused} before {fault}" for fault in later)}
             return [f"refused {refused}"]
-        self.reached |= self.maker.names_of(entries)
+        names = self.maker.names_of(entries)
+        settings = self.maker.settings
+        self.reached |= names | {f"{name}, {settings.role} {settings.link}" for name in names}
         return [line_of(entry) for entry in entries]
 
     def text(self) -> str:

@@ -271,7 +271,7 @@ def breaks_not_due(before: Before, entry: Entry) -> bool:
     if entry.cause == "t6":
         return not any(entry.time - opener.time >= settings.t6 for opener in before.sent_control)
     if entry.cause == "t7":
-        return before.is_selected or entry.time - before.up.time < settings.t7
+        return before.is_selected or before.up is not None and entry.time - before.up.time < settings.t7
     return False
 
 
@@ -388,6 +388,14 @@ def broken_rule(before: Before, entry: Entry) -> Optional[str]:
     if rule is None and breaks_no_cause(before, entry):
         rule = "NoCause"
     return rule
+
+
+def broken_rules(before: Before, entry: Entry) -> List[str]:
+    """All rules that an entry breaks as the next one, each by itself, in their order."""
+    rules = [name for name, breaks in RULES_OF_ENTRIES if breaks(before, entry)]
+    if entry.flows:
+        rules += [name for name, breaks in RULES_OF_FRAMES if breaks(before, entry.event, entry.frame)]
+    return rules + ["NoCause"] * breaks_no_cause(before, entry)
 
 
 # The verdict (this project's own form).
