@@ -29,7 +29,7 @@ impl State {
     }
 }
 
-/// The lesser of two moments, where there are two.
+/// The earlier of two moments, or the one that there is.
 fn earlier(one: Option<u64>, other: Option<u64>) -> Option<u64>
     ensures { result ≡ least_of one other }
 {

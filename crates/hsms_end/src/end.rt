@@ -97,7 +97,11 @@ impl<D: Desk> End<D> {
     }
 
     /// The connection came up at this moment, in milliseconds. An active end asks for a session by Select.req (SEMI
-    /// E37, section 7, select procedure). Faults: `Spent`; `NotUp`, where it was up before; `Memory`.
+    /// E37, section 7, select procedure).
+    ///
+    /// # Errors
+    ///
+    /// `Spent`; `NotUp`, where it was up before; `Memory`.
     #[tactic(auto, using(crate::proofs::Calls::started), unfolding(crate::specs::Fault::Meets))]
     pub fn start(&mut self, now: u64) -> Result<Vec<Entry>, EndFault>
         ensures { MatchResult result
@@ -124,7 +128,11 @@ impl<D: Desk> End<D> {
 
     /// Time has gone on to this moment, in milliseconds, if it isn't past it. Each own primary that is overdue by T3 is
     /// logged. Where T6, T7 or T8 has run out the connection is cut; else equipment tells of each expiry by S9F9 (SEMI
-    /// E37, section 10, parameters; SEMI E5, section 8, transactions). Faults: `Spent`, `NotUp`, `Memory`.
+    /// E37, section 10, parameters; SEMI E5, section 8, transactions).
+    ///
+    /// # Errors
+    ///
+    /// `Spent`, `NotUp`, `Memory`.
     #[tactic(auto, using(crate::proofs::Ticked::ticked), unfolding(crate::specs::Fault::Meets))]
     pub fn tick(&mut self, now: u64) -> Result<Vec<Entry>, EndFault>
         ensures { MatchResult result
@@ -149,8 +157,11 @@ impl<D: Desk> End<D> {
         }
     }
 
-    /// Sends a primary (SEMI E37, section 7, data procedure) with own system bytes. Faults: each of [`EndFault`], in
-    /// its order, but `TooDeep` before `TooLong`. `Memory` may come in place of `TooLong`.
+    /// Sends a primary (SEMI E37, section 7, data procedure) with own system bytes.
+    ///
+    /// # Errors
+    ///
+    /// Each of [`EndFault`], in its order, but `TooDeep` before `TooLong`. `Memory` may come in place of `TooLong`.
     #[tactic(auto, using(crate::proofs::Sent::send_refused), unfolding(crate::specs::Fault::Meets))]
     pub fn send(&mut self, message: &Message) -> Result<Vec<Entry>, EndFault>
         ensures { MatchResult result
@@ -187,7 +198,11 @@ impl<D: Desk> End<D> {
         }
     }
 
-    /// The connection was lost. Faults: `Spent`, `NotUp`, `Memory`.
+    /// The connection was lost.
+    ///
+    /// # Errors
+    ///
+    /// `Spent`, `NotUp`, `Memory`.
     #[tactic(auto, using(crate::proofs::Calls::lost_accepted), unfolding(crate::specs::Fault::Meets))]
     pub fn lost(&mut self) -> Result<Vec<Entry>, EndFault>
         ensures { MatchResult result
@@ -211,8 +226,11 @@ impl<D: Desk> End<D> {
         }
     }
 
-    /// Ends the session by Separate.req (SEMI E37, section 7, separate procedure), and the connection. Faults: `Spent`,
-    /// `NotUp`, `Memory`.
+    /// Ends the session by Separate.req (SEMI E37, section 7, separate procedure), and the connection.
+    ///
+    /// # Errors
+    ///
+    /// `Spent`, `NotUp`, `Memory`.
     #[tactic(auto, using(crate::proofs::Calls::separate_accepted), unfolding(crate::specs::Fault::Meets))]
     pub fn separate(&mut self) -> Result<Vec<Entry>, EndFault>
         ensures { MatchResult result
@@ -237,7 +255,10 @@ impl<D: Desk> End<D> {
         }
     }
 
-    /// Asks by Linktest.req (SEMI E37, section 7, linktest procedure) whether the other end is still there. Faults:
+    /// Asks by Linktest.req (SEMI E37, section 7, linktest procedure) whether the other end is still there.
+    ///
+    /// # Errors
+    ///
     /// `Spent`, `NotUp`, `Full`, `Memory`.
     #[tactic(auto, using(crate::proofs::Calls::linktest_accepted), unfolding(crate::specs::Fault::Meets))]
     pub fn linktest(&mut self) -> Result<Vec<Entry>, EndFault>
@@ -268,7 +289,11 @@ impl<D: Desk> End<D> {
 
     /// Octets came, any number of them. Each message that they complete is logged, as taken where it breaks no rule and
     /// else as discarded, and answered at once. Where they spell no message the connection is cut. The others stay
-    /// pending. Faults: `Spent`, `NotUp`, `Memory`.
+    /// pending.
+    ///
+    /// # Errors
+    ///
+    /// `Spent`, `NotUp`, `Memory`.
     #[tactic(auto, using(crate::proofs::Hearing::bytes_accepted), unfolding(crate::specs::Fault::Meets))]
     pub fn bytes(&mut self, octets: &[u8]) -> Result<Vec<Entry>, EndFault>
         ensures { MatchResult result

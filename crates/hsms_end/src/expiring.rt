@@ -18,7 +18,7 @@ impl State {
     ghost use Rattle.hsms_end.specs.Expiring.{IsLate, HasExpired, MayWarn, is_data_overdue, warns_of, warnings_of};
     ghost use Rattle.hsms_end.specs.Inside.{known, at_later};
 
-    /// Logs the own data that is overdue, in order of opening. Answers the headers of its primaries.
+    /// Logs the expiry of each own primary that is overdue, in order of opening. Gives their headers.
     pub fn expire_data(
         &mut self,
         alloc: Global,
@@ -36,14 +36,14 @@ impl State {
         Ok(expired)
     }
 
-    /// The header of the own data that has been open for longest, where it is overdue.
+    /// The header of the own primary that was opened first, where it is overdue.
     fn overdue_data(&self) -> Option<Header>
         ensures { result ≡ overdue_of self.now.settings.t3 self.now.moment (oldest_of self.now.tracker.sent_data) }
     {
         overdue(self.tracker.oldest_data(), self.moment, self.settings.t3())
     }
 
-    /// Why the connection is cut, where no own data is overdue.
+    /// Why the connection is to be cut, where no own primary is overdue.
     fn overdue_cause(&self) -> Option<Cause>
         requires late { IsLate self.now }
         requires in_time { is_data_overdue self.now ≡ false }
@@ -74,7 +74,7 @@ impl State {
         }
     }
 
-    /// T7 is overdue exactly where the connection couldn't go down before it is cut.
+    /// Whether T7 is overdue. Nothing else is, so it is exactly where the tracker wouldn't take a `down` without a cut.
     fn is_t7_overdue(&self) -> bool
         requires late { IsLate self.now }
         requires data_in_time { is_data_overdue self.now ≡ false }
@@ -98,7 +98,7 @@ impl State {
             && u64::from(self.settings.t8()) < self.moment.saturating_sub(self.heard)
     }
 
-    /// The connection is cut, since a timer ran out.
+    /// Cuts the connection, since a timer ran out.
     fn cut_overdue(&mut self, entries: &mut Vec<Entry>, cause: Cause) -> Result<(), AllocError>
         requires late { IsLate self.old }
         requires in_time { is_data_overdue self.old ≡ false }
@@ -128,7 +128,7 @@ impl State {
         self.expire(alloc, entries)
     }
 
-    /// Logs what is overdue: own data, then a cut, or else the warnings of equipment.
+    /// Logs what is overdue: own primaries, then a cut, or where there is none the warnings of equipment.
     fn expire(&mut self, alloc: Global, entries: &mut Vec<Entry>) -> Result<(), AllocError>
         requires { IsLate self.old }
         ensures does { OnOk result (Does self.old entries.old.items (expiries (known self.old)) self.new entries.new.items) }

@@ -1,4 +1,4 @@
-//! Octets that come.
+//! Octets from the peer.
 
 ghost use Rattle.std.specs.Prelude.{◌≡◌};
 
@@ -16,7 +16,7 @@ impl State {
     ghost use Rattle.hsms_end.specs.Sound.{IsSound};
     ghost use Rattle.hsms_end.specs.Receiving.{HasReceivedAll};
 
-    /// The moment at which an octet came last, once these came.
+    /// The moment at which an octet came last, with these octets.
     fn heard_at(&self, octets: &[u8]) -> u64
         ensures { result ≡ heard_after octets.now self.now.moment self.now.heard }
     {

@@ -35,7 +35,7 @@ impl State {
         }
     }
 
-    /// Whether S9F11 tells of a message with this header that is too long.
+    /// Whether S9F11 is to tell of a message that is too long and has this header.
     pub fn is_warned(&self, header: Header) -> bool
         ensures { result ≡ (is_selected_phase self.now.tracker.phase && (header.stype == 0) && (header.ptype == 0) && (header.session == self.now.settings.device)) }
     {
@@ -45,7 +45,7 @@ impl State {
             && header.session == self.settings.device()
     }
 
-    /// A message of stream 9 that tells of the header at fault.
+    /// The message of stream 9 that tells of the header at fault.
     fn warning_frame(
         &self,
         alloc: Global,
@@ -64,7 +64,7 @@ impl State {
         })
     }
 
-    /// Equipment tells of an error by stream 9.
+    /// Tells of an error by stream 9, if the end is equipment.
     pub fn warn(
         &mut self,
         alloc: Global,
@@ -90,7 +90,7 @@ impl State {
         }
     }
 
-    /// A message is refused by a Reject.
+    /// Refuses a message by a Reject.
     pub fn reject(
         &mut self,
         alloc: Global,
@@ -107,7 +107,7 @@ impl State {
         Ok(())
     }
 
-    /// A Select.req that was taken is answered.
+    /// Answers a Select.req that was taken.
     pub fn answer_select(
         &mut self,
         alloc: Global,
@@ -128,7 +128,7 @@ impl State {
         Ok(())
     }
 
-    /// A Linktest.req that was taken is answered.
+    /// Answers a Linktest.req that was taken.
     pub fn answer_linktest(
         &mut self,
         alloc: Global,
@@ -199,7 +199,7 @@ impl State {
         }
     }
 
-    /// A primary that asks for a reply is aborted.
+    /// Aborts a primary, if it asks for a reply.
     fn abort(
         &mut self,
         alloc: Global,
@@ -219,7 +219,7 @@ impl State {
         Ok(())
     }
 
-    /// A primary that asks for a reply gets it.
+    /// Sends the reply to a primary, if it asks for one.
     fn reply(
         &mut self,
         alloc: Global,
@@ -240,7 +240,7 @@ impl State {
         Ok(())
     }
 
-    /// Equipment tells of an error of a primary, which is aborted.
+    /// Tells of an error of a primary, if the end is equipment, and aborts it.
     fn warn_and_abort(
         &mut self,
         alloc: Global,
@@ -259,7 +259,7 @@ impl State {
         Ok(())
     }
 
-    /// What follows a primary that was taken, by the desk's answer.
+    /// Sends what the desk's answer to a taken primary asks for.
     pub fn answer_primary(
         &mut self,
         alloc: Global,

@@ -25,7 +25,7 @@ impl State {
     ghost use Rattle.hsms_end.specs.Sound.{IsSound};
     ghost use Rattle.hsms_end.specs.Receiving.{HasHandled, HasReceivedAll};
 
-    /// The messages at the front of the pending octets, one after the other while the connection is up.
+    /// Receives the messages at the front of the pending octets, one after the other, while the connection is up.
     pub fn receive_all<D: Desk>(
         &mut self,
         alloc: Global,
@@ -51,7 +51,7 @@ impl State {
         Ok(())
     }
 
-    /// The message at the front of the pending octets, which is taken off.
+    /// Takes the message at the front off the pending octets.
     fn next_message(&mut self) -> Result<Option<Frame>, FrameFault>
         ensures front { FramesAs self.old.framer.max self.old.framer.pending result self.new.framer.pending }
         ensures off { self.new ≡ record self.old { framer = record self.old.framer { pending = self.new.framer.pending } } }
@@ -59,7 +59,7 @@ impl State {
         self.framer.next()
     }
 
-    /// The first rule of frames that a received frame breaks as a taken one, and the frame.
+    /// The first rule that a received frame would break as a taken one, and the frame itself.
     fn judge(&self, frame: Frame) -> (Option<Rule>, Frame)
         requires sound { IsSound self.now }
         requires up { is_connection_up self.now.tracker.phase ≡ true }
@@ -76,7 +76,7 @@ impl State {
         (broken, frame_of(event))
     }
 
-    /// A message that was taken off the front: its entry, and its reaction.
+    /// Logs a message that was taken off the front as taken or discarded, and reacts to it.
     fn handle<D: Desk>(
         &mut self,
         alloc: Global,
@@ -99,7 +99,7 @@ impl State {
         Ok(())
     }
 
-    /// The connection is cut, since octets are no message.
+    /// Cuts the connection, since octets are no message.
     fn cut(&mut self, entries: &mut Vec<Entry>) -> Result<(), EndFault>
         requires sound { IsSound self.old }
         requires up { is_connection_up self.old.tracker.phase ≡ true }
@@ -112,7 +112,7 @@ impl State {
         Ok(())
     }
 
-    /// The connection is cut, since a message is too long; equipment may tell of it.
+    /// Cuts the connection, since a message is too long. Equipment may tell of it before.
     fn cut_too_long(
         &mut self,
         alloc: Global,

@@ -23,7 +23,7 @@ impl State {
     ghost use Rattle.hsms_end.specs.Sound.{IsSound};
     ghost use Rattle.hsms_end.specs.Sending.{hindrance_of};
 
-    /// What hinders a message from being sent, but for a text that is too long.
+    /// The first fault for which a message isn't sent, but for a text that is too long.
     pub fn hindrance(&self, message: &Message) -> Option<EndFault>
         ensures { result ≡ hindrance_of self.now (content message.now) }
     {

@@ -30,7 +30,7 @@ impl State {
     ghost use Rattle.hsms_end.specs.Receiving.{HasHandled};
     ghost use Rattle.hsms_end.specs.Owing.{IsOwing, IsSame, CanTake, CanDiscard, IsAnsweredBy, is_silent};
 
-    /// The desk's answer to a primary, whose text is one.
+    /// The desk's answer to a primary. Its text is readable, since it was taken.
     fn ask<D: Desk>(&self, alloc: Global, desk: &D, frame: &Frame) -> Result<Answer, AllocError>
         requires { ¬ ¬ IsText self.now.settings.depth frame.now.text }
         ensures { IfOk result (λ answer. IsAnsweredBy (D.answers desk.now) self.now.settings.depth frame.now (answered answer)) }
@@ -51,7 +51,7 @@ impl State {
         }
     }
 
-    /// A primary is taken, and answered as the desk says.
+    /// Takes a primary, and answers it as the desk says.
     fn take_primary<D: Desk>(
         &mut self,
         alloc: Global,
@@ -72,7 +72,7 @@ impl State {
         Ok(())
     }
 
-    /// A Select.req is taken, and answered.
+    /// Takes a Select.req, and answers it.
     fn take_select(
         &mut self,
         alloc: Global,
@@ -92,7 +92,7 @@ impl State {
         Ok(())
     }
 
-    /// A Linktest.req is taken, and answered.
+    /// Takes a Linktest.req, and answers it.
     fn take_linktest(
         &mut self,
         alloc: Global,
@@ -111,7 +111,7 @@ impl State {
         Ok(())
     }
 
-    /// A Separate.req is taken, and the connection goes down.
+    /// Takes a Separate.req, and ends the connection.
     fn take_separate(&mut self, entries: &mut Vec<Entry>, frame: Frame) -> Result<(), AllocError>
         requires taken { CanTake self.old frame }
         requires kind { kind_of frame.header ≡ Separate }
@@ -124,7 +124,7 @@ impl State {
         Ok(())
     }
 
-    /// A message that needs no answer is taken.
+    /// Takes a message that needs no answer.
     fn take_other(&mut self, entries: &mut Vec<Entry>, frame: Frame) -> Result<(), AllocError>
         requires taken { CanTake self.old frame }
         requires kind { is_silent (kind_of frame.header) ≡ true }
@@ -136,7 +136,7 @@ impl State {
         Ok(())
     }
 
-    /// A frame that breaks no rule is taken: its entry, and its reaction.
+    /// Takes a frame that breaks no rule: logs it, and reacts to it.
     pub fn take<D: Desk>(
         &mut self,
         alloc: Global,
@@ -164,7 +164,7 @@ impl State {
         Ok(())
     }
 
-    /// A response that answers nothing is refused; a reply isn't.
+    /// Rejects a Select.rsp or Linktest.rsp that answers nothing. A reply isn't rejected.
     fn reject_response(
         &mut self,
         alloc: Global,
@@ -183,7 +183,7 @@ impl State {
         Ok(())
     }
 
-    /// Equipment that is selected tells of data for another device.
+    /// Tells of data for another device, if the end is equipment and was selected.
     fn warn_of_session(
         &mut self,
         alloc: Global,
@@ -207,7 +207,7 @@ impl State {
         Ok(())
     }
 
-    /// Equipment tells of data that it can't read.
+    /// Tells of data that can't be read, if the end is equipment.
     fn warn_unreadable(
         &mut self,
         alloc: Global,
@@ -224,7 +224,7 @@ impl State {
         Ok(())
     }
 
-    /// What follows a frame that was discarded.
+    /// Reacts to a frame that was discarded, by the rule that it breaks.
     fn answer_discarded(
         &mut self,
         alloc: Global,
@@ -263,7 +263,7 @@ impl State {
         }
     }
 
-    /// A frame that breaks a rule is discarded: its entry, and its reaction.
+    /// Discards a frame that breaks a rule: logs it, and reacts to it.
     pub fn discard(
         &mut self,
         alloc: Global,

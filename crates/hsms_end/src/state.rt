@@ -1,4 +1,4 @@
-//! What an end is known by.
+//! The state of an end.
 
 ghost use Rattle.std.specs.Prelude.{◌≡◌};
 ghost use Rattle.hsms_end.specs.Frame.{bare as bare_frame};
@@ -7,7 +7,7 @@ use hsms_frame::{Frame, Framer, Header, linktest_req, select_req, separate as se
 use hsms_machine::{Entry, Event, Phase, Settings, Side, Tracker};
 use std::alloc::{AllocError, Global};
 
-/// What an end is known by, apart from its desk.
+/// The state of an end, without its desk.
 #[derive(Drop)]
 pub struct State {
     /// The settings of its session.
@@ -92,7 +92,7 @@ impl State {
         }
     }
 
-    /// The connection comes up; an active end asks for a session.
+    /// Logs that the connection came up. An active end then asks for a session.
     pub fn start(
         &mut self,
         alloc: Global,
@@ -142,7 +142,7 @@ impl State {
         Ok(())
     }
 
-    /// The connection is lost.
+    /// Logs that the connection was lost.
     pub fn lose(&mut self, entries: &mut Vec<Entry>) -> Result<(), AllocError>
         requires sound { IsSound self.old }
         requires up { is_connection_up self.old.tracker.phase ≡ true }

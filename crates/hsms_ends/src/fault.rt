@@ -7,8 +7,8 @@ use thiserror::Error;
 #[error("LinkFault")]
 pub struct LinkFault;
 
-/// Why a connection was not served to its end. Where a second fault comes while the first is being closed, it is the
-/// later one.
+/// Why a connection was not served to its end. Where the link failed and then the connection can't be closed, it is the
+/// fault of closing.
 #[derive(Clone, Copy, Debug, PartialEq, Eq, Error)]
 pub enum ServeFault {
     /// The link failed. The log tells that the connection went down.

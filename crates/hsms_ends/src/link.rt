@@ -18,9 +18,9 @@ pub enum Got {
 
 /// A connection to a peer, and a clock. A wait that fails gives no octets, and a send that fails takes none.
 pub trait Link {
-    /// The moments that were answered, the octets that were given and those that were taken, where it tells them; how
-    /// many waits it answered, how many of them by `Closed`, and whether the last one so; how often it failed. Each
-    /// count stays at its greatest value.
+    /// What contracts see: the moments that were answered, the octets that were given and those that were taken, where
+    /// it tells them; how many waits it answered, how many of them by `Closed`, and whether the last one; how often it
+    /// failed. A count that comes to its greatest value stays there.
     ghost told: { Self → Told };
 
     /// The moment now, in milliseconds from any beginning.

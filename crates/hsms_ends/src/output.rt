@@ -22,8 +22,8 @@ pub enum Stop {
     Memory,
 }
 
-/// Puts out the entries of a call, in order: of each its line to the log and then, where it says that a message was
-/// sent, the octets of that to the link. Where the link fails nothing more is sent, and the rest is logged.
+/// Puts out the entries of a call, in order. The line of each goes to the log, and then, where the entry is a message
+/// that is sent, its octets go to the link. Where the link fails, nothing more is sent and the rest is logged.
 pub fn put_out<L: Link, W: Sink>(link: &mut L, log: &mut W, entries: &[Entry]) -> Result<(), Stop>
     requires { AllFitLengthField entries.now }
     ensures { PutsOut result (W.state log.old) (W.state log.new) (L.told link.old) (L.told link.new)

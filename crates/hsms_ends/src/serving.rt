@@ -143,7 +143,7 @@ fn begin<L: Link, W: Sink, D: Desk>(
     }
 }
 
-/// Says what is answered after a fault. After the link's the end is closed.
+/// What is answered after a fault. After a link fault the end is closed first.
 fn stopped<W: Sink, D: Desk>(log: &mut W, end: &mut End<D>, stop: Stop) -> ServeFault
     ensures { StoppedAs D.answers stop result end.old (W.state log.old) (W.state log.new) }
 {
@@ -154,7 +154,7 @@ fn stopped<W: Sink, D: Desk>(log: &mut W, end: &mut End<D>, stop: Stop) -> Serve
     }
 }
 
-/// Closes an end after the link's fault, and says what is answered: the later fault, where there is one.
+/// Closes an end after a link fault, and says what is answered: the fault of closing it, where there is one.
 fn close<W: Sink, D: Desk>(log: &mut W, end: &mut End<D>) -> ServeFault
     ensures { ClosedLink D.answers result end.old (W.state log.old) (W.state log.new) }
 {

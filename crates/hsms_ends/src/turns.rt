@@ -178,7 +178,7 @@ fn take_step<L: Link, W: Sink, D: Desk>(
     }
 }
 
-/// Hears octets: the tick, and, unless it ended the connection, the octets.
+/// Tells the end the moment, and then, unless that ended the connection, the octets that came.
 fn hear_octets<L: Link, W: Sink, D: Desk>(
     link: &mut L,
     log: &mut W,
@@ -202,7 +202,7 @@ fn hear_octets<L: Link, W: Sink, D: Desk>(
     }
 }
 
-/// Hears that the peer closed: the tick, and, unless it ended the connection, that it was lost.
+/// Tells the end the moment, and then, unless that ended the connection, that it was lost.
 fn hear_closed<L: Link, W: Sink, D: Desk>(
     link: &mut L,
     log: &mut W,
@@ -225,7 +225,7 @@ fn hear_closed<L: Link, W: Sink, D: Desk>(
     }
 }
 
-/// One wait, with what follows it, where no step is due.
+/// Waits once, and tells the end what came of it.
 fn wait_once<L: Link, W: Sink, D: Desk>(
     link: &mut L,
     log: &mut W,
@@ -245,7 +245,7 @@ fn wait_once<L: Link, W: Sink, D: Desk>(
     }
 }
 
-/// What follows an answer of `wait`.
+/// Tells the end what a wait answered.
 fn heed<L: Link, W: Sink, D: Desk>(
     link: &mut L,
     log: &mut W,
@@ -266,7 +266,7 @@ fn heed<L: Link, W: Sink, D: Desk>(
     }
 }
 
-// Until when to wait. An end logs that a timer ran out once it is later than the moment at which it is due.
+// Until when to wait: past the moment at which the next timer is due, since only then it has run out.
 fn until<D: Desk>(end: &End<D>) -> Option<u64> {
     match end.next_due() {
         Some(due) => due.checked_add(1),
@@ -295,7 +295,7 @@ fn turn<L: Link, W: Sink, D: Desk>(
     }
 }
 
-/// What follows the first tick of a turn.
+/// The rest of a turn: the next step of the script where it is due, else a wait.
 fn continue_turn<L: Link, W: Sink, D: Desk>(
     link: &mut L,
     log: &mut W,

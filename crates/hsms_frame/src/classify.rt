@@ -9,7 +9,7 @@ use crate::stypes::{
     DATA, LINKTEST_REQ, LINKTEST_RSP, REJECT_REQ, SELECT_REQ, SELECT_RSP, SEPARATE_REQ,
 };
 
-/// The kind of the message that has a header: its PType first, then its SType, and of data the function.
+/// The kind of the message with this header: by its PType, then by its SType, and of data by its function.
 pub fn kind(header: Header) -> Kind
     ensures { result ≡ kind_of header }
 {

@@ -12,12 +12,12 @@ pub struct Failed;
 
 /// What octets are read from. A call that fails takes none.
 pub trait Source {
-    /// The octets that are left, where it tells them, and how often it was called, with no room among them, found its
-    /// end, and failed. Each count stays at its greatest value.
+    /// What contracts see: the octets that are left, where it tells them, and how often it was called, was called with
+    /// an empty slice, found its end, and failed. A count that comes to its greatest value stays there.
     ghost state: { Self → SourceState };
 
-    /// Reads some octets to the front of a slice, and says how many. None are read into a slice with room only at
-    /// the end of the input.
+    /// Reads some octets to the front of a slice, and says how many: 0 only where the slice is empty, or at the end of
+    /// the input.
     fn pull(&mut self, into: &mut [u8]) -> Result<usize, Failed>
         ensures bound { IfOk result (λ n. n ≤ length into.new) }
         ensures octets { IfOk result (λ n. Takes (state self.old).left (state self.new).left n into.new) }
@@ -26,11 +26,10 @@ pub trait Source {
         ensures counts { CountsPull (length into.old) result (state self.old) (state self.new) };
 }
 
-/// What octets are written to. A call that fails writes none, and one that takes none of a slice that isn't empty
-/// fails.
+/// What octets are written to. A call writes at least one octet of a slice that isn't empty, or fails and writes none.
 pub trait Sink {
-    /// The octets that were written, where it tells them, and how often it was called and failed. Each count stays at
-    /// its greatest value.
+    /// What contracts see: the octets that were written, where it tells them, and how often it was called and failed. A
+    /// count that comes to its greatest value stays there.
     ghost state: { Self → SinkState };
 
     /// Writes some octets from the front of a slice, and says how many.

@@ -12,7 +12,7 @@ use std::alloc::AllocError;
 use std::error::Error;
 use std::fmt;
 
-/// Why octets are no frame. Each is shown as its name and its length, as in `TooShort length=9`.
+/// Why octets are no frame. Each is shown as its name, and its length where it has one, as in `TooShort length=9`.
 #[derive(Clone, Copy, Debug, PartialEq, Eq)]
 pub enum FrameFault {
     /// The length field, in octets, leaves no room for a header.
@@ -45,7 +45,7 @@ impl From<AllocError> for FrameFault {
     }
 }
 
-/// Why no frame was read. Each is shown as its name and its length, as in `TooLong length=257`.
+/// Why no frame was read. Each is shown as its name, and its length where it has one, as in `TooLong length=257`.
 #[derive(Clone, Copy, Debug, PartialEq, Eq)]
 pub enum ReadFault {
     /// The length field, in octets, leaves no room for a header.

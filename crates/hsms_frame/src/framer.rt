@@ -9,11 +9,11 @@ use crate::header::{HEADER_LENGTH, Header};
 use std::alloc::{AllocError, Global};
 use std::marker::Model;
 
-/// Octets that came so far, and the messages at their front (SEMI E37, section 8.1). However the octets were cut into
-/// pieces, the messages are the same.
+/// Takes octets in pieces, and gives the messages that they make up (SEMI E37, section 8.1). However the octets are cut
+/// into pieces, the messages are the same.
 ///
-/// Giving a message moves none of them: the framer keeps the place of the first that belongs to none. A push that finds
-/// no room behind them moves those to the front.
+/// Giving a message moves no octets: the framer keeps the place of the first one that belongs to no message given so
+/// far. Only a push that finds no room behind the octets moves those that are left to the front.
 #[derive(Drop)]
 pub struct Framer {
     max: u32,
@@ -51,7 +51,11 @@ impl Framer {
         &self.octets[self.place..]
     }
 
-    /// Takes in the next octets. The only fault is `Memory`, never of no octets, and then none were taken in.
+    /// Takes in the next octets.
+    ///
+    /// # Errors
+    ///
+    /// Only `Memory`, and never where there are no octets. None were taken in then.
     pub fn push(&mut self, octets: &[u8]) -> Result<(), FrameFault>
         ensures ok { OnOk result (IsPushed self.old octets.now self.new) }
         ensures memory { IsOkUnless result FrameFault.Memory }
@@ -69,9 +73,11 @@ impl Framer {
     /// Gives the message at the front of the pending octets, and takes its octets away. There is none where they end
     /// within a message.
     ///
-    /// Faults, each of which leaves the pending octets as they are: `TooShort`, once four octets are there, where they
-    /// count fewer than ten; `TooLong`, once fourteen are there, where the first four count more than the limit;
-    /// `Memory`, only where a whole message is there that has a text.
+    /// # Errors
+    ///
+    /// Each leaves the pending octets as they are: `TooShort`, once four octets are there, where they count fewer than
+    /// ten; `TooLong`, once fourteen are there, where the first four count more than the limit; `Memory`, only where a
+    /// whole message is there that has a text.
     #[tactic(auto, using(crate::proofs::Determined::one_framed))]
     pub fn next(&mut self) -> Result<Option<Frame>, FrameFault>
         // The answer is one to the pending octets.
@@ -109,7 +115,7 @@ fn front_frame(alloc: Global, octets: &[u8], max: u32) -> Result<Option<Frame>, 
     Ok(Some(Frame { header, text }))
 }
 
-// The octets as a text. None takes no memory.
+// The octets as a text. An empty one takes no memory.
 fn text_of(alloc: Global, octets: &[u8]) -> Result<Vec<u8>, AllocError>
     ensures ok { IfOk result (λ text. text.items ≡ octets.now) }
     ensures err { OnErr result (0 < length octets.now) }

@@ -9,18 +9,18 @@ pub fn all_are_octets()
     ensures messages { MessagesAreOctets }
 {}
 
-/// The octets of no message are a proper front of another's, and none are two messages.
+/// No message's octets are the beginning of another's, and no octets are those of two messages.
 pub fn one_message_at_front()
     ensures { OneMessageAtFront }
 {}
 
-/// To an input that is read there is exactly one answer, but for a refusal: want of memory, or a failed read.
+/// An input that is read has exactly one answer, unless memory is wanting or a read fails.
 pub fn one_answer_to_input()
     ensures some { SomeAnswer }
     ensures one { OneAnswer }
 {}
 
-/// To the octets that are pending in a framer there is exactly one answer, but for want of memory.
+/// Octets that are pending in a framer have exactly one answer, unless memory is wanting.
 pub fn one_answer_to_pending()
     ensures some { SomeAnswerToPending }
     ensures one { OneAnswerToPending }

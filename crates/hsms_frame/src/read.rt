@@ -14,7 +14,11 @@ use std::alloc::Global;
 /// Reads one message, and none of the octets behind it: four octets, then ten, then the text (SEMI E37, section 8.1).
 /// There is none where the input is at its end.
 ///
-/// `max` is the greatest count of octets of header and text. Faults, in the order in which they are found:
+/// `max` is the greatest count of octets of header and text.
+///
+/// # Errors
+///
+/// In the order in which they are found:
 ///
 /// - `TooShort`, once four octets are there, where they count fewer than ten: four octets were read.
 /// - `TooLong`, once fourteen are there, where the first four count more than `max`: fourteen were read.

@@ -76,7 +76,7 @@ impl<W: Write> Writer<W> {
     ghost use Rattle.hsms_frame.specs.Count.{count_failure};
     ghost use Rattle.hsms_frame.specs.Device.{Stays};
 
-    /// Has the writer put out what it holds back, as a buffered one does. Nothing is written that wasn't.
+    /// Has the writer put out what it holds back, as a buffered one does. To contracts that writes nothing more.
     pub fn flush(&mut self) -> Result<(), Failed>
         ensures octets { Stays (⟦<Writer<W> as Sink>⟧.state self.old).written
             (⟦<Writer<W> as Sink>⟧.state self.new).written }

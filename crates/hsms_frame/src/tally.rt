@@ -3,7 +3,7 @@
 ghost use Rattle.std.specs.Prelude.{◌≡◌, if◌then◌else◌};
 ghost use Rattle.hsms_frame.specs.Count.{next_count};
 
-/// How often a device was called, with an empty slice among them, found its end, and failed.
+/// How often a device was called, was called with an empty slice, found its end, and failed.
 #[derive(Clone, Copy)]
 pub struct Tally {
     pub calls: u64,

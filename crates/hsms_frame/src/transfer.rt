@@ -31,7 +31,7 @@ pub fn fill<R: Source>(source: &mut R, into: &mut [u8]) -> Result<usize, Failed>
     Ok(filled)
 }
 
-/// Writes all octets, or a part from their front and fails.
+/// Writes all octets. Where it fails, a part from their front was written.
 pub fn give_all<W: Sink>(sink: &mut W, octets: &[u8]) -> Result<(), Failed>
     ensures ok { OnOk result (Grows (W.state sink.old).written (W.state sink.new).written octets.now) }
     ensures err { OnErr result (GrowsByFront (W.state sink.old).written (W.state sink.new).written octets.now) }

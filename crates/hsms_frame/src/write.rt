@@ -13,12 +13,14 @@ use crate::header::Header;
 use crate::transfer::give_all;
 use std::alloc::Global;
 
-// What four octets count.
+// The greatest length that four octets hold.
 const LONGEST: u64 = 0xffff_ffff;
 
 /// The octets of a message.
 ///
-/// Faults: `TooLong` where header and text have more than 4,294,967,295 octets, before any memory is taken; `Memory`.
+/// # Errors
+///
+/// `TooLong` where header and text have more than 4,294,967,295 octets, before any memory is taken; `Memory`.
 pub fn encode_frame(alloc: Global, frame: &Frame) -> Result<Vec<u8>, FrameFault>
     ensures ok { IfOk result
         (λ octets. (octets.items ≡ frame_octets frame.now) × (10 + length frame.now.text < 2 ^ 32)) }
@@ -36,8 +38,10 @@ pub fn encode_frame(alloc: Global, frame: &Frame) -> Result<Vec<u8>, FrameFault>
 
 /// Writes the octets of a message, and takes no memory.
 ///
-/// Faults: `TooLong` where header and text have more than 4,294,967,295 octets, and nothing was written; `Write` where
-/// the sink failed, and some of the octets from their front were written.
+/// # Errors
+///
+/// `TooLong` where header and text have more than 4,294,967,295 octets, and nothing was written; `Write` where the sink
+/// failed, and some of the octets from their front were written.
 pub fn write_frame<W: Sink>(sink: &mut W, frame: &Frame) -> Result<(), WriteFault>
     ensures octets { WritesAs frame.now result (W.state sink.old).written (W.state sink.new).written }
     ensures failures { (W.state sink.new).failures ≡ failures_after_write result (W.state sink.old).failures }

@@ -6,8 +6,8 @@ ghost use Rattle.hsms_log.specs.Digits.{value_or_none, AreRead, HasOther};
 
 use std::simd::prelude::*;
 
-/// Reads the octets that digits of either case spell, eight at least, and says whether all are digits. The last eight
-/// are read from where they begin, though some of them may have been read before.
+/// Reads the octets that digits of either case spell, at least eight octets, and says whether all are digits. Octets
+/// are read eight at a time; where their number is no multiple of eight, some of the last eight are read twice.
 pub fn decode(digits: &[u8], octets: &mut [u8]) -> bool
     requires size { length digits.now ≡ 2 * length octets.old }
     requires some { 8 ≤ length octets.old }
@@ -66,7 +66,7 @@ fn has_other(values: u8x16) -> bool
     values.simd_ge(u8x16::splat(16)).to_bitmask() != 0
 }
 
-/// Puts the eight octets whose halves these are from this place on.
+/// Joins the values by twos to eight octets, and writes these from this place on.
 #[inline(always)]
 fn put_joined(values: u8x16, octets: &mut [u8], place: usize)
     requires small { (k : ℕ) → k < 16 → slice_index values k < 16 }

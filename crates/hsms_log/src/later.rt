@@ -1,4 +1,4 @@
-//! A line that is not the first.
+//! Judging a line that is not the first.
 
 ghost use Rattle.std.specs.Prelude.{◌≡◌, ◌+◌, ◌-◌, ◌<◌, ◌^◌, ◌++◌, [], ◌∷◌, List, ℕ, Some, None, Ok, IfOk, IfSome, IsSome};
 ghost use Rattle.hsms_log.specs.Verdict.{FailsAfter};
@@ -14,7 +14,7 @@ use crate::verdict::Why;
 use hsms_frame::HEADER_LENGTH;
 use std::alloc::{AllocError, Global};
 
-/// Judges a line that is not the first. The octets of its frame take the place of what the vector holds.
+/// Judges a line that is not the first. `octets` is memory for the octets of its frame, used again from line to line.
 pub fn later_line(
     session: &mut Session,
     tally: &mut Tally,

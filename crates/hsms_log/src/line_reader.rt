@@ -11,8 +11,8 @@ use crate::verdict::{Verdict, Why};
 use std::alloc::{AllocError, Global};
 use std::marker::Model;
 
-/// What is known of a text that was read in pieces: the judge stands after its lines that have ended, and of the line
-/// that may go on the octets are held, at most one more than the line's limit.
+/// Judges a text that comes in pieces. The lines that have ended are judged; of the line that may go on the octets are
+/// held, at most one more than the line's limit.
 #[derive(Drop)]
 pub struct LineReader {
     judge: Judge,
@@ -49,8 +49,8 @@ impl LineReader {
         }
     }
 
-    /// Takes the next octets in, up to the first line that fails, and gives the failure. A line fails as soon as it has
-    /// ended, or is too long however it goes on.
+    /// Takes the next octets in. Where a line of them fails, it stops there and gives the failure. A line fails as soon
+    /// as it has ended, or is too long however it goes on.
     pub fn take(&mut self, alloc: Global, octets: &[u8]) -> Result<Option<Verdict>, AllocError>
         requires { self.old.judge.tally.lines + length octets.now < 2 ^ 64 - 1 }
         ensures stands { result ≡ Ok None → (text : List ℕ) → Stands self.old text → Stands self.new (text ++ octets.now) }

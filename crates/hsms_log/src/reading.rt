@@ -101,7 +101,7 @@ pub struct FrameLine {
     pub header: Header,
 }
 
-/// Reads a line that carries a frame. The octets of its header and text take the place of what the vector holds.
+/// Reads a line that carries a frame. `octets` holds the octets of its header and text then, in place of what it held.
 pub fn read_frame_line(line: &[u8], octets: &mut Vec<u8>) -> Result<Option<FrameLine>, AllocError>
     ensures found { IfOk result (λ answer. IfSome answer (λ x. SpellsEntry line.now (frame_entry x.time x.mark x.header (drop 10 octets.new.items)))) }
     ensures size { IfOk result (λ answer. IfSome answer (λ x. 10 ≤ length octets.new.items)) }
@@ -156,8 +156,8 @@ fn drop_front(octets: &mut Vec<u8>, count: usize)
     octets.truncate(rest);
 }
 
-/// Reads a message from hexadecimal digits, and gives its header, or None where they spell no message. The octets of
-/// header and text take the place of what the vector holds.
+/// Reads a message from hexadecimal digits, and gives its header, or None where they spell no message. `octets` holds
+/// the octets of its header and text then, in place of what it held.
 #[inline(always)]
 fn read_octets(digits: &[u8], octets: &mut Vec<u8>) -> Result<Option<Header>, AllocError>
     ensures found { IfOk result (λ answer. IfSome answer (λ header. IsSpelled digits.now header (drop 10 octets.new.items))) }

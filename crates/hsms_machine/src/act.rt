@@ -37,7 +37,7 @@ impl Act {
         }
     }
 
-    /// That a frame of this header was sent, taken or discarded.
+    /// The act of sending, taking or discarding a frame of this header.
     pub fn of_frame(mark: Mark, header: Header) -> Act
         ensures act { (text : List ℕ) → result ≡ act_of (frame_event mark (frame_of header text)) }
         ensures text { (text : List ℕ) → text ≡ text_of_event (frame_event mark (frame_of header text)) }

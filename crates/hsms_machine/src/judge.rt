@@ -62,7 +62,7 @@ impl View {
         }
     }
 
-    /// Whether no connection may come up now: there was one, and it isn't down or is the only one.
+    /// Whether no connection may come up now: there was one, and it isn't down, or the log may have no other.
     fn is_not_down(&self) -> bool
         ensures { IsTrue result ↔ IsNotUp (facts_of self.now) self.now.settings Event.Up }
     {
@@ -186,7 +186,7 @@ impl View {
         self.phase != Phase::Over && self.broken_frame(Flow::Incoming, message, text).is_none()
     }
 
-    /// The first rule that a frame breaks which goes this way.
+    /// The first rule that a frame breaks which is sent or taken.
     fn broken_frame(&self, flow: Flow, message: Message, text: &[u8]) -> Option<Rule>
         ensures { IsFirst (FrameBreaks (facts_of self.now) self.now.settings flow (frame_of message text.now)) (format_rules ++ transaction_rules) result }
     {

@@ -35,8 +35,8 @@ pub fn connections_stand_apart()
     ensures apart { NothingIsOpenOverUp }
 {}
 
-/// Version 1 is read without a word of connections: the same logs are runs, each entry has the same answer after them, and
-/// the last connection is the whole log.
+/// A log of version 1 is judged as if nothing were said of connections: the same logs are runs, each entry has the same
+/// answer after them, and the last connection is the whole log.
 pub fn version_one_is_kept()
     ensures runs { VersionOneKeepsRuns }
     ensures answers { VersionOneKeepsAnswers }

@@ -224,7 +224,7 @@ pub fn has_direction(settings: Settings, flow: Flow, message: Message) -> bool
     }
 }
 
-/// Whether the W bit is one that the message may have.
+/// Whether the message may have its W bit as it is.
 #[tactic(auto, unfolding(crate::specs::Message::has_wait))]
 pub fn has_wait(message: Message) -> bool
     ensures { result ≡ is_wait_right message }

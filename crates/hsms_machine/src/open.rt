@@ -65,7 +65,7 @@ impl Transactions {
         self.items.len()
     }
 
-    /// That they are in order of opening, and apart.
+    /// Says that they are in order of opening, and no two with the same system bytes. Does nothing when it runs.
     pub fn keeps_order(&self)
         ensures in_order { AreInOrder self.now }
         ensures apart { AreApart self.now }
@@ -183,7 +183,7 @@ impl Transactions {
         time.checked_add(u64::from(limit))
     }
 
-    /// The lesser of two moments, where there are two.
+    /// The earlier of two moments, or the one that there is.
     pub fn earlier(one: Option<u64>, other: Option<u64>) -> Option<u64>
         ensures { result ≡ least_of one other }
     {

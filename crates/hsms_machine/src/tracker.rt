@@ -78,7 +78,7 @@ impl Tracker {
         self.judge(entry.time, &act, Act::text_of(&entry.event))
     }
 
-    /// As `step`, of the entry of a frame, by its parts. The text stays where it lies.
+    /// Does as `step` does, with the entry of a frame that is given by its parts. The text is judged where it lies.
     pub fn step_frame(
         &mut self,
         time: u64,

@@ -121,7 +121,7 @@ impl View {
         Ok(())
     }
 
-    /// Nothing is open any more.
+    /// Lets go of everything that is open.
     fn close_all(&mut self)
         ensures { self.new ≡ record self.old { sent_data = []; sent_control = []; taken_data = []; taken_control = [] } }
     {

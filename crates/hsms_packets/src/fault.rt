@@ -11,7 +11,7 @@ use thiserror::Error;
 /// Why octets are no capture that is read.
 #[derive(Clone, Copy, Debug, PartialEq, Eq, Error)]
 pub enum CaptureFault {
-    /// The first octets are those of no capture that is read.
+    /// The first octets are those of no format that is read.
     #[error("Unknown")]
     Unknown,
     /// A record or block claims more octets than any has, or fewer than its own fields.

@@ -8,7 +8,7 @@ ghost use Rattle.hsms_packets.specs.Front.{pcap_at, pcapng_at, options_at, with_
 use crate::fault::CaptureFault;
 use crate::number::{Order, long_of, short_at, word_at};
 
-// No record or block of a file that is read is longer.
+// The greatest size of a record or block. A longer one is a fault.
 const GREATEST: usize = 0x1000000;
 
 /// A packet's place in the octets that were read, and what is told of it.
@@ -56,7 +56,8 @@ pub enum Front {
     Passed(bool, usize),
 }
 
-/// The record at the front of a pcap file's octets behind its header. A millisecond has so many parts of a second.
+/// The record at the front of a pcap file's octets, behind the header of the file. `parts` of its time make a
+/// millisecond.
 #[tactic(auto, unfolding(crate::specs::Front::pcap_at))]
 pub fn pcap_front(order: Order, parts: u32, link: u32, octets: &[u8]) -> Result<Front, CaptureFault>
     requires { 0 < parts }

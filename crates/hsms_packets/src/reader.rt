@@ -13,7 +13,7 @@ use std::marker::Model;
 /// A file's format, and the order of its numbers.
 #[derive(Clone, Copy, Debug)]
 pub enum Format {
-    /// A millisecond has so many parts; the link type of all packets.
+    /// How many parts of its time make a millisecond, and the link type of all packets.
     Pcap { order: Order, parts: u32, link: u32 },
     /// The section's order.
     Pcapng { order: Order },

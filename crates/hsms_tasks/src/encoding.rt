@@ -25,7 +25,8 @@ pub const INPUT_LIMIT: usize = 67_108_864;
 /// before all are encoded.
 ///
 /// `max` is the greatest count of octets of header and text of a message, and `depth` the deepest nesting of lists.
-/// Faults:
+///
+/// # Errors
 ///
 /// - `Refused`: the input has more than 67,108,864 octets (`Input`), or isn't messages within the depth (`Syntax`,
 ///   `Number`, `Count`, `Deep`), or a message of it has no frame (`TooLarge`, `TooLong`). The first refusal is told,

@@ -10,8 +10,8 @@ use crate::parts::{give_front, give_number, give_text};
 use hsms_frame::{Header, Kind, kind};
 use secs_text::{Block, Output};
 
-/// Lays the line of a message, with its end, behind what a block holds: where there is no room, an output is given that
-/// first. A text is readable where its lists are nested at most `depth` deep.
+/// Lays the line of a message, with its end, behind what a block holds. Where there is no room, the output is given
+/// what the block holds first. A text is readable where its lists are nested at most `depth` deep.
 pub fn give_line<O: Output>(out: &mut O, block: &mut Block, header: Header, text: &[u8], depth: u8)
     requires { depth ≤ 100 }
     ensures { (line : List ℕ) × LineOf depth (record { header = header; text = text.now }) line
@@ -30,7 +30,7 @@ pub fn give_line<O: Output>(out: &mut O, block: &mut Block, header: Header, text
     }
 }
 
-// Of a message that is told by its name, session ID and system bytes. Where it has no text, the last of these and the
+// The line of a message that has only a name, session ID and system bytes. Where it has no text, these last two and the
 // line's end are given together.
 #[inline(always)]
 fn give_bare<O: Output>(out: &mut O, block: &mut Block, name: &[u8], header: Header, text: &[u8])
@@ -45,7 +45,7 @@ fn give_bare<O: Output>(out: &mut O, block: &mut Block, name: &[u8], header: Hea
     }
 }
 
-// Of such a message with a text, whose session ID and system bytes are told by these octets.
+// The same with a text. `address` is session ID and system bytes, as they stand in a line.
 #[inline(never)]
 fn give_bare_and_text<O: Output>(
     out: &mut O,
@@ -63,7 +63,7 @@ fn give_bare_and_text<O: Output>(
     block.lay(out, b"\n");
 }
 
-// Of a message that is told by a number besides.
+// The line of a message that has a number besides.
 #[inline(always)]
 fn give_counted<O: Output>(
     out: &mut O,
@@ -82,7 +82,7 @@ fn give_counted<O: Output>(
     block.lay(out, b"\n");
 }
 
-// Of a Reject.req: what was rejected, and why.
+// The line of a Reject.req, with what was rejected, and why.
 fn give_reject<O: Output>(out: &mut O, block: &mut Block, header: Header, text: &[u8])
     ensures { Lays (O.Given out.old) block.old (O.Given out.new) block.new
         (codes "reject" ++ address_of header ++ (codes " " ++ decimal header.byte2) ++ (codes " " ++ decimal header.byte3)

@@ -29,7 +29,7 @@ impl Calls {
         }
     }
 
-    /// A wait is answered.
+    /// Counts a wait that is answered.
     pub fn heard(&mut self, got: Got, into: &[u8]) -> Result<Got, LinkFault>
         requires { IsGot into.now got }
         ensures { Waits (told_of self.old) (told_of self.new) into.now result }
@@ -47,7 +47,7 @@ impl Calls {
         }
     }
 
-    /// A wait fails.
+    /// Counts a wait that fails.
     pub fn failed_wait(&mut self, into: &[u8]) -> Result<Got, LinkFault>
         ensures { Waits (told_of self.old) (told_of self.new) into.now result }
     {
@@ -56,7 +56,7 @@ impl Calls {
         Err(LinkFault)
     }
 
-    /// A send fails.
+    /// Counts a send that fails.
     pub fn failed_send(&mut self, octets: &[u8]) -> Result<usize, LinkFault>
         ensures err { IsErr result }
         ensures sent { Sends (told_of self.old) (told_of self.new) octets.now result }

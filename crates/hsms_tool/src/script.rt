@@ -14,7 +14,9 @@ use secs_text::Message;
 use std::alloc::{AllocError, Global};
 
 /// Reads the whole input as messages in notation: the steps that send them one after another, and then separate the
-/// session (SEMI E37, section 7). `depth` is the deepest nesting of lists. Faults:
+/// session (SEMI E37, section 7). `depth` is the deepest nesting of lists.
+///
+/// # Errors
 ///
 /// - `Refused`: the input has more than 67,108,864 octets (`Input`), or isn't messages within the depth (`Syntax`,
 ///   `Number`, `Count`, `Deep`).

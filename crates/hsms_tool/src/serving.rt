@@ -8,7 +8,9 @@ use hsms_frame::Sink;
 use hsms_options::{Service, ToolFault};
 use std::alloc::Global;
 
-/// Serves a connection as a service asks, and writes its log. Faults:
+/// Serves a connection as a service asks, and writes its log.
+///
+/// # Errors
 ///
 /// - `Link`: the link failed.
 /// - `Log`: a write to the log failed.

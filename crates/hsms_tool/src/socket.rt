@@ -12,8 +12,8 @@ use std::io::{ErrorKind, Read, Write};
 use std::net::{Net, OpenListener, OpenStream, TcpListener, TcpStream};
 use std::time::{Clock, Duration, Instant};
 
-/// A TCP connection, and the time since it was made in milliseconds: where the clock fails, the last time again, and 0
-/// at first.
+/// A TCP connection, and a clock that tells the milliseconds since it was made. Where the clock fails, it tells the
+/// last time again, and 0 at first.
 #[derive(Drop)]
 pub struct SocketLink<'a, C: Clock, S: Read + Write + OpenStream + Drop> {
     clock: &'a C,
@@ -102,8 +102,11 @@ fn is_quiet(kind: ErrorKind) -> bool {
     )
 }
 
-/// The connection of a service: one that is made, or the first that is listened for. Faults: `Link`, where none could be
-/// had, and `Memory`.
+/// The connection of a service: one that is made, or the first that is listened for.
+///
+/// # Errors
+///
+/// `Link`, where none could be had, and `Memory`.
 pub fn connected<'a, R: Clock + Net>(
     rt: &'a R,
     service: &Service,

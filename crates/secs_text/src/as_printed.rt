@@ -1,4 +1,4 @@
-//! Tokens that stand as a message is printed, several at once.
+//! Fast paths for tokens in canonical spacing: several are read at once where they stand as `print` writes them.
 
 ghost use Rattle.std.specs.Prelude.{◌≡◌, ◌≤◌, ◌<◌, ◌+◌, length, true, false, Some, IfSome, IfNone, OnSome};
 ghost use Rattle.secs_text.specs.AsPrinted.{IsOpening, IsWait, IsHead, OpensWith, IsSmall, IsLettered, IsHeaded};

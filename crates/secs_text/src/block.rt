@@ -10,13 +10,13 @@ use std::marker::Model;
 /// How many octets a block holds.
 const SIZE: usize = 65536;
 
-/// How many octets of it are free once there is room: for the words of the octets that are laid at a time, and for what
-/// stands before and behind them.
+/// How many octets of a block are free once there is room: enough for the words of as many octets as are laid at a
+/// time, and for what stands before and behind them.
 const FREE: usize = 24704;
 
 /// Where octets go, one slice after another. An output that can fail keeps its failure, for its owner to ask for.
 pub trait Output {
-    /// These are the octets that it was given. Of an output that can't tell them nothing has to hold.
+    /// Holds of the octets that it was given. An output that can't tell them may have it hold of none.
     ghost Given: { Self → List ℕ → Type 0 };
 
     /// Takes octets.
@@ -116,7 +116,8 @@ fn give_front<O: Output>(out: &mut O, block: &[u8], at: usize)
     out.give(&block[..at]);
 }
 
-/// Where octets can be laid into a block: behind what is laid, or from its front on, once that was given.
+/// Where octets can be laid into a block: behind what is laid, or, where too little is free, at its front, once the
+/// output was given what was laid.
 #[inline(always)]
 #[tactic(auto, using(crate::proofs::Blocks::puts_nothing, crate::proofs::Blocks::puts_given))]
 pub fn room<O: Output>(out: &mut O, block: &[u8], at: usize) -> usize

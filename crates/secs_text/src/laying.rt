@@ -1,5 +1,5 @@
-//! Putting words into a block of octets. A word is a load and a store of a fixed size, of which only its first octets
-//! count.
+//! Laying words into a block of octets. A word is copied by one load and one store of a fixed size, of which only the
+//! first octets count.
 
 ghost use Rattle.std.specs.Prelude.{◌≡◌, ◌+◌, ◌≤◌, ◌<◌, ◌++◌, [], ◌∷◌, length, take, codes};
 ghost use Rattle.std.specs.Fmt.{decimal};

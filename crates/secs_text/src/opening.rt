@@ -110,7 +110,7 @@ pub fn format_and_count(
     Ok((format, count))
 }
 
-/// Tells a count that isn't right.
+/// Checks a count, if one is written, against how many there are.
 pub fn check_count(count: Option<Count>, length: usize) -> Result<(), TextFault>
     ensures { Checks (count_seen count) length result }
 {

@@ -1,5 +1,5 @@
-//! Items from their octets to an output, with no item made. For each list that stands open it is kept how many elements
-//! are still to come.
+//! Printing items straight from their octets. For each list that isn't at its end it is kept how many elements are
+//! still to come.
 
 ghost use Rattle.std.specs.Prelude.{◌≡◌, ◌≤◌, ◌<◌, ◌+◌, ◌-◌, ◌/◌, ◌++◌, ℕ, Ok, false, length, take, drop, IsOk, codes, decimal};
 ghost use Rattle.secs_item.specs.Format.{is_list, value_size};

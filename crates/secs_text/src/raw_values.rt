@@ -1,4 +1,4 @@
-//! The values of an item, from its body in octets, to an output.
+//! Printing the values of an item straight from its body.
 
 ghost use Rattle.std.specs.Prelude.{◌≡◌, ◌≤◌, false, length};
 ghost use Rattle.secs_item.specs.Format.{is_list};

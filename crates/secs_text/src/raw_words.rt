@@ -1,4 +1,4 @@
-//! The words of values, from their octets.
+//! Laying the words of values straight from their octets.
 
 ghost use Rattle.std.specs.Prelude.{◌≡◌, ◌≤◌, ◌+◌, ◌*◌, ◌++◌, ℕ, List, [], ◌∷◌, length, codes, refl};
 ghost use Rattle.std.proofs.Common.{rules};
@@ -14,7 +14,7 @@ ghost use Rattle.secs_text.specs.Printed.{hexadecimal, truth_word, printed_value
 use crate::laying::{lay_byte, lay_digits, lay_natural, lay_number, lay_octet, lay_slice};
 use byteorder::{BigEndian, ByteOrder};
 
-/// A format each value of which is one word, told by its octets.
+/// A format whose values are printed as one word each, from their octets.
 pub trait RawWords {
     ghost SIZE: { ℕ };
 

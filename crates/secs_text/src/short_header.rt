@@ -66,8 +66,8 @@ fn seal_long(
     insert_octet(out, start + 3, low)
 }
 
-/// Writes the header of an item over the two octets that are kept for it, before its body: with the fewest length
-/// octets that hold the number. Whether three length octets hold it.
+/// Writes the header of an item, with the fewest length octets that hold the number, over the two octets that are kept
+/// for it in front of its body. Says whether three length octets hold the number; else nothing is written.
 pub fn seal(
     out: &mut Vec<u8>,
     start: usize,

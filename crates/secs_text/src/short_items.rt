@@ -1,4 +1,4 @@
-//! Items from their notation onto octets, with no item made.
+//! Reading items from notation straight onto octets.
 
 ghost use Rattle.std.specs.Prelude.{◌≡◌, ◌≤◌, ◌+◌, false};
 ghost use Rattle.secs_item.specs.Format.{is_list};
@@ -18,7 +18,7 @@ use crate::token::Token;
 use crate::tokens::Tokens;
 use secs_item::Format;
 
-/// Reads the values of an item, after its type name and its count, and adds the item's octets. Whether it has any.
+/// Reads the values of an item, after its type name and its count, and adds the item's octets. Says whether it has any.
 fn item_of_values(
     out: &mut Vec<u8>,
     tokens: &mut Tokens,
@@ -38,7 +38,7 @@ fn item_of_values(
 }
 
 /// Reads the elements of a list, after its type name and its count, and adds the list's octets. Lists in it may be
-/// nested `depth` deep. Whether the list and each element have octets.
+/// nested `depth` deep. Says whether the list and each element have octets.
 #[cycle(short_item)]
 fn elements(
     out: &mut Vec<u8>,
@@ -73,8 +73,9 @@ fn elements(
     Ok(seal(out, start, Format::List, number)?)
 }
 
-/// Reads the item whose `<` stood at `opening`, and adds its octets. Lists may be nested `depth` deep. Whether the item
-/// has octets: each body and each list is within three length octets. Where it has none, those added don't count.
+/// Reads the item whose `<` stood at `opening`, and adds its octets. Lists may be nested `depth` deep. Says whether the
+/// item has octets: three length octets can count each body and each list of it. Else those that were added don't
+/// count.
 #[cycle(short_item)]
 pub fn item(
     out: &mut Vec<u8>,

@@ -1,4 +1,4 @@
-//! Messages from their notation onto octets, with no message made.
+//! Reading messages from notation straight onto octets.
 
 ghost use Rattle.std.specs.Prelude.{◌≡◌, ◌≤◌, ◌<◌, ℕ, ◌++◌, ◌⊎◌, [], ◌∷◌, List, false, IfOk, IfErr, OnOk, IfSome, OnSome, MatchResult, Option};
 ghost use Rattle.std.specs.Result.{IsErrAnd};
@@ -26,8 +26,8 @@ pub trait Receiver {
     /// What stays as it is while it takes messages.
     type Kept;
 
-    /// These are the messages that it was given, where this stays. Of a receiver that can't tell them nothing has to
-    /// hold.
+    /// Holds of what stays and of the messages that it was given. A receiver that can't tell them may have it hold of
+    /// none.
     ghost Given: { Self.Kept → Self → List Content → Type 0 };
 
     /// Takes the next message: its head, and its text in the fewest octets, which is empty where the message has no
@@ -61,8 +61,8 @@ fn next_name(tokens: &mut Tokens) -> Result<Option<(u8, u8)>, TextFault>
     Ok(Some(name))
 }
 
-/// Reads a message whose stream and function were read, and adds its text. Lists may be nested `depth` deep. Its head,
-/// and whether its item has octets.
+/// Reads a message whose stream and function were read, and adds its text. Lists may be nested `depth` deep. Gives its
+/// head, and whether its item has octets.
 fn message(
     out: &mut Vec<u8>,
     tokens: &mut Tokens,

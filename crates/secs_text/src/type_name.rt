@@ -87,7 +87,7 @@ pub fn format_of_pair(letter: u8, size: u8) -> Option<Format>
     }
 }
 
-/// The words before the count of an item: as many octets as it says.
+/// What stands before the count of an item: the first `length` octets of a word.
 #[derive(Clone, Copy)]
 pub struct Opening {
     pub word: &'static [u8; 16],

@@ -120,7 +120,8 @@ pub fn signed_below(half: u64, word: &[u8]) -> Option<i64>
     }
 }
 
-// What each octet is as a hexadecimal digit, and 256 for what is none: two of which one is 256 make more than 255.
+// The value of each octet as a hexadecimal digit, and 256 for what is none: two digits of which one is 256 make more
+// than 255.
 static HEX_DIGITS: [u16; 256] = [
     256, 256, 256, 256, 256, 256, 256, 256, 256, 256, 256, 256, 256, 256, 256, 256, 256, 256, 256,
     256, 256, 256, 256, 256, 256, 256, 256, 256, 256, 256, 256, 256, 256, 256, 256, 256, 256, 256,
