@@ -3,7 +3,7 @@
 Nothing here judges: what a log is worth, the two readings say.
 """
 from dataclasses import dataclass, replace
-from typing import Callable, List, Tuple
+from typing import Callable, Iterator, List, Tuple
 
 from second_reading.inputs import Chance, Draft, any_spelling, disturbed, of_length, random_item, random_text
 
@@ -549,11 +549,29 @@ VERSIONS = [
 ]
 
 
+# A line of each form, and the words that come in the place of each of its words, and between them.
+FIRST_LINE = "hsms-log 1 host active 0 1 1 1 1 256 1"
+FORMS = [FIRST_LINE, "0 up", "0 down", "0 t3 00000001", "0 cut t6", "0 ! ffff0000000100000001"]
+OTHER_WORDS = [
+    *"hsms-log host equipment active passive up down > < ! t3 cut t6 t7 t8 length 1 01".split(),
+    *["000001", "00000001", "0000000g", "0000000001", "ffff0000000100000001", ""],
+]
+
+
+def lines_with_other_words() -> Iterator[str]:
+    """Logs with a line of each form in which one word is another one, is left out, or stands one more."""
+    for form in FORMS:
+        words = form.split(" ")
+        lines = [" ".join(words[:at] + put + words[at + cut:]) for at in range(len(words) + 1)
+                 for cut in (0, 1) for put in ([[word] for word in OTHER_WORDS] + [[]] * cut)]
+        yield from (f"{line}\n0 up\n" if form == FIRST_LINE else f"{FIRST_LINE}\n0 up\n{line}\n" for line in lines)
+
+
 def logs_at_edges() -> List[bytes]:
     """Settings with each number at and past the edges of its range, versions that there are and that there aren't,
-    frames at the edge of a header, no lines at all."""
-    logs = [b"", b"\n", b"\r\n", b"#\n", b"\x00"]
-    words = "hsms-log 1 host active 0 1 1 1 1 256 1".split(" ")
+    frames at the edge of a header, lines with words of others, no lines at all."""
+    logs = [b"", b"\n", b"\r\n", b"#\n", b"\x00", *map(str.encode, lines_with_other_words())]
+    words = FIRST_LINE.split(" ")
     edges = [(0, 32_767), *[(1, 3_600_000)] * 4, (256, 33_554_432), (1, 100)]
     for at, (least, greatest) in enumerate(edges, start=4):
         for number in (least - 1, least, greatest, greatest + 1, (1 << 64) + least):

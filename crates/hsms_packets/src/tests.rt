@@ -3,6 +3,7 @@
 ghost use Rattle.std.specs.Prelude.{◌≤◌, ◌+◌, length, IfOk};
 
 mod blocks;
+mod kinds;
 
 use super::*;
 use std::alloc::Global;

@@ -34,6 +34,19 @@ const ASKED: &[(&str, &str, &str)] = &[
     ("S9F1 .", "Quiet", "NoStream"),
     ("S7F3 W .", "NoStream", "NoStream"),
     ("S0F1 W .", "NoStream", "NoStream"),
+    // Neither W nor an item that isn't S2F25's is looked at.
+    (
+        "S1F1 <B 0x01> .",
+        "<L [0]>",
+        "<L [2] <A [1] \"M\"> <A [1] \"1\">>",
+    ),
+    (
+        "S1F13 .",
+        "<L [2] <B [1] 0x00> <L [0]>>",
+        "<L [2] <B [1] 0x00> <L [2] <A [1] \"M\"> <A [1] \"1\">>>",
+    ),
+    ("S2F25 <B 0x01> .", "<B [1] 0x01>", "<B [1] 0x01>"),
+    ("S1F3 .", "NoFunction", "NoFunction"),
 ];
 
 /// What an answer says: its name, or the item of a reply.

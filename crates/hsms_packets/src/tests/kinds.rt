@@ -1,0 +1,110 @@
+//! Blocks of the other kinds, and numbers at their greatest.
+
+use super::{behind, is_syn, opened, packet_at, segment_in};
+use crate::front::pcapng_front;
+use crate::*;
+use std::process::Abort;
+
+// A section of pcapng: an interface that counts 1,024 ticks a second from 1,700,000,000 seconds on and holds 40 octets of
+// a packet, an old packet block with the SYN and drops before it, and a simple block with the front of a longer packet.
+static OLD: [u8; 200] = [
+    0x0a, 0x0d, 0x0d, 0x0a, 0x1c, 0x00, 0x00, 0x00, 0x4d, 0x3c, 0x2b, 0x1a, 0x01, 0x00, 0x00, 0x00,
+    0xff, 0xff, 0xff, 0xff, 0xff, 0xff, 0xff, 0xff, 0x1c, 0x00, 0x00, 0x00, 0x01, 0x00, 0x00, 0x00,
+    0x2c, 0x00, 0x00, 0x00, 0x65, 0x00, 0x00, 0x00, 0x28, 0x00, 0x00, 0x00, 0x09, 0x00, 0x01, 0x00,
+    0x8a, 0x00, 0x00, 0x00, 0x0e, 0x00, 0x08, 0x00, 0x00, 0xf1, 0x53, 0x65, 0x00, 0x00, 0x00, 0x00,
+    0x00, 0x00, 0x00, 0x00, 0x2c, 0x00, 0x00, 0x00, 0x02, 0x00, 0x00, 0x00, 0x48, 0x00, 0x00, 0x00,
+    0x00, 0x00, 0x07, 0x00, 0x00, 0x00, 0x00, 0x00, 0x00, 0x06, 0x00, 0x00, 0x28, 0x00, 0x00, 0x00,
+    0x28, 0x00, 0x00, 0x00, 0x45, 0x00, 0x00, 0x28, 0x00, 0x00, 0x40, 0x00, 0x40, 0x06, 0x00, 0x00,
+    0x0a, 0x00, 0x00, 0x01, 0x0a, 0x00, 0x00, 0x02, 0x9c, 0x40, 0x13, 0x88, 0x00, 0x00, 0x03, 0xe8,
+    0x00, 0x00, 0x00, 0x00, 0x50, 0x02, 0xff, 0xff, 0x00, 0x00, 0x00, 0x00, 0x48, 0x00, 0x00, 0x00,
+    0x03, 0x00, 0x00, 0x00, 0x38, 0x00, 0x00, 0x00, 0x3c, 0x00, 0x00, 0x00, 0x45, 0x00, 0x00, 0x28,
+    0x00, 0x00, 0x40, 0x00, 0x40, 0x06, 0x00, 0x00, 0x0a, 0x00, 0x00, 0x01, 0x0a, 0x00, 0x00, 0x02,
+    0x9c, 0x40, 0x13, 0x88, 0x00, 0x00, 0x03, 0xe8, 0x00, 0x00, 0x00, 0x00, 0x50, 0x02, 0xff, 0xff,
+    0x00, 0x00, 0x00, 0x00, 0x38, 0x00, 0x00, 0x00,
+];
+
+// The header of a pcapng block, of which nothing else is there.
+static LONG_BLOCK: [u8; 12] = [6, 0, 0, 0, 0, 0, 0, 1, 0, 0, 0, 0];
+
+static TOO_LONG_BLOCK: [u8; 12] = [6, 0, 0, 0, 4, 0, 0, 1, 0, 0, 0, 0];
+
+// The header of a pcap record, likewise.
+static LONG_RECORD: [u8; 16] = [0, 0, 0, 0, 0, 0, 0, 0, 0, 0, 0, 1, 0, 0, 0, 1];
+
+static TOO_LONG_RECORD: [u8; 16] = [0, 0, 0, 0, 0, 0, 0, 0, 1, 0, 0, 1, 1, 0, 0, 1];
+
+#[test]
+fn blocks_of_other_kinds(rt: std::rt::HostRuntime) -> Result<(), CaptureFault> {
+    let mut reader = opened(&rt, rt.alloc(), OLD.as_slice())?;
+    let interface = behind(&rt, &mut reader, OLD.as_slice(), 28)?;
+    let old = behind(&rt, &mut reader, interface, 44)?;
+    let syn = packet_at(&rt, &reader, old)?;
+    assert_eq!(rt; syn.time, Some(1_700_000_001_500));
+    is_syn(&rt, &segment_in(&rt, &syn, old));
+    let simple = behind(&rt, &mut reader, old, 72)?;
+    is_cut(&rt, &packet_at(&rt, &reader, simple)?);
+    Ok(())
+}
+
+// A packet without a time, of which 40 octets are held and not all.
+fn is_cut(rt: &impl Abort, packet: &Record) {
+    assert!(rt; packet.time.is_none());
+    assert_eq!(rt; packet.link, 101);
+    assert_eq!(rt; packet.held, 40);
+    assert!(rt; !packet.whole);
+}
+
+#[test]
+fn the_longest_of_each(rt: std::rt::HostRuntime) -> Result<(), CaptureFault> {
+    let blocks = Format::Pcapng {
+        order: Order::Little,
+    };
+    let reader = Reader::new(rt.alloc(), blocks, 0);
+    assert!(rt; matches!(reader.front(LONG_BLOCK.as_slice())?, Front::More));
+    assert!(rt;
+        matches!(
+            reader.front(TOO_LONG_BLOCK.as_slice()),
+            Err(CaptureFault::Length)
+        )
+    );
+    let records = Format::Pcap {
+        order: Order::Little,
+        parts: 1000,
+        link: 101,
+    };
+    let reader = Reader::new(rt.alloc(), records, 0);
+    assert!(rt; matches!(reader.front(LONG_RECORD.as_slice())?, Front::More));
+    assert!(rt;
+        matches!(
+            reader.front(TOO_LONG_RECORD.as_slice()),
+            Err(CaptureFault::Length)
+        )
+    );
+    Ok(())
+}
+
+#[test]
+fn resolutions(rt: std::rt::HostRuntime) {
+    has_time(&rt, 0x13, Ok(Some(1_700_000_000_000)));
+    has_time(&rt, 0x14, Err(CaptureFault::Resolution));
+    has_time(&rt, 0x7f, Err(CaptureFault::Resolution));
+    has_time(&rt, 0x80, Ok(Some(1_700_001_536_000)));
+    has_time(&rt, 0xbf, Ok(Some(1_700_000_000_000)));
+    has_time(&rt, 0xc0, Err(CaptureFault::Resolution));
+}
+
+// The time of the old block, or its fault, where its interface has this resolution.
+fn has_time(rt: &impl Abort, resolution: u8, want: Result<Option<u128>, CaptureFault>) {
+    let interface = Interface {
+        link: 101,
+        snap: 0,
+        resolution,
+        offset: 1_700_000_000,
+    };
+    let (_, old) = OLD.as_slice().split_at(72);
+    match pcapng_front(Order::Little, [interface].as_slice(), old) {
+        Ok(Front::Packet(record)) => assert!(rt; want == Ok(record.time)),
+        Ok(_) => panic!(rt; "no packet"),
+        Err(fault) => assert!(rt; want == Err(fault)),
+    }
+}
