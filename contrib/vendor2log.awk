@@ -9,14 +9,21 @@
 #     2024-03-01 10:00:45.002 T3 TIMEOUT 00000002
 #     2024-03-01 10:00:50.000 DISCONNECT
 #
-# Octets may go on in lines that begin with a space. Each other line becomes a comment.
+# Octets may go on in lines that begin with a space: as they are, or behind an offset and before a column of what they
+# are as text, as hex dumps have them. Each other line becomes a comment.
+#
+# Where no line is any of these, or a message hasn't as many octets as its length says, a word goes to standard error,
+# the status is 2, and nothing more is written. Nothing at all is written before the first line that is read, so that no
+# log is made in which there is nothing to judge.
 
 BEGIN {
+  FOUR = "[0-9A-Fa-f][0-9A-Fa-f][0-9A-Fa-f][0-9A-Fa-f]"
   if (role == "") role = "host"
   if (link == "") link = "active"
   if (t3 == "") t3 = 45000
+  OFFSET = "^" FOUR "(" FOUR ")?:?$"
   # (version 2: the log may go over several connections)
-  print "hsms-log 2", role, link, device + 0, t3, "6000 10000 5000 1048576 32"
+  first = "hsms-log 2 " role " " link " " (device + 0) " " t3 " 6000 10000 5000 1048576 32"
 }
 
 # The days up to a date, of the calendar that has leap years.
@@ -34,25 +41,68 @@ function moment(date, time,   d, t, now) {
   return sprintf("%.0f", now - begin)
 }
 
+# Writes a line of the log, behind the first one.
+function put(line) {
+  if (first != "") print first
+  first = ""
+  print line
+}
+
+# Says what is wrong, and ends.
+function refuse(what) {
+  print "vendor2log: " what > "/dev/stderr"
+  refused = 1
+  exit 2
+}
+
 # The octets from a word on, without spaces.
 function octets(from,   i, all) {
   for (i = from; i <= NF; i++) all = all $i
   return tolower(all)
 }
 
+# The octets of a line of a hex dump: at most sixteen, behind an offset of four or eight digits. What is left of the line
+# is the column of text.
+function dumped(   i, all) {
+  for (i = 2; i <= NF && i < 18 && $i ~ /^[0-9A-Fa-f][0-9A-Fa-f]$/ && length(hex all) < wanted(hex all); i++)
+    all = all tolower($i)
+  return all
+}
+
+# How many digits a message has, by the length in its first eight; before they are there, nine.
+function wanted(digits,   i, size) {
+  if (length(digits) < 8) return 9
+  for (i = 1; i <= 8; i++) size = size * 16 + index("0123456789abcdef", substr(digits, i, 1)) - 1
+  return 8 + 2 * size
+}
+
 # Writes the message that is held, without its four length octets.
 function end_message() {
-  if (mark != "") print at, mark, substr(hex, 9)
+  if (mark == "") return
+  if (hex !~ /^[0-9a-f]+$/ || length(hex) != wanted(hex))
+    refuse("line " line ": a message that hasn't as many octets as its length says")
+  put(at " " mark " " substr(hex, 9))
   mark = ""
 }
 
+# Holds a message, whose octets are here or in the lines that follow.
+function begin_message(of) {
+  at = moment($1, $2); mark = of; hex = octets(4); line = NR
+}
+
 { sub(/\r$/, "") }
+/^[ \t]/ && mark != "" && $1 ~ OFFSET { hex = hex dumped(); next }
 /^[ \t]/ && mark != "" { hex = hex octets(1); next }
 { end_message() }
-$3 == "CONNECT" { print moment($1, $2), "up"; next }
-$3 == "DISCONNECT" { print moment($1, $2), "down"; next }
-$3 == "SEND" { at = moment($1, $2); mark = ">"; hex = octets(4); next }
-$3 == "RECV" { at = moment($1, $2); mark = "<"; hex = octets(4); next }
-$3 == "T3" { print moment($1, $2), "t3", tolower($NF); next }
-{ print "# " $0 }
-END { end_message() }
+$3 == "CONNECT" { put(moment($1, $2) " up"); next }
+$3 == "DISCONNECT" { put(moment($1, $2) " down"); next }
+$3 == "SEND" { begin_message(">"); next }
+$3 == "RECV" { begin_message("<"); next }
+$3 == "T3" { put(moment($1, $2) " t3 " tolower($NF)); next }
+first == "" { print "# " $0 }
+
+END {
+  if (refused) exit 2
+  end_message()
+  if (first != "") refuse("no line is a connection, a message or a timeout")
+}

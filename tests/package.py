@@ -1,0 +1,107 @@
+#!/usr/bin/env python3
+"""Makes the packages, and uses them as someone does who has nothing else.
+
+Both are made twice, and have to be the same octets; their checksums have to be right. The archive is unpacked into an
+empty folder, and the Debian package into another one. There each command of the README, and of the examples' page, has
+to write what stands below it, with the packaged program and a few words of the shell on the path, and no file of this
+repository. The program may need the C library alone. It packs what `rt ci` has built. The last line is
+`N passed, M failed`.
+"""
+import filecmp
+import os
+import re
+import shutil
+import subprocess
+import sys
+import tempfile
+
+sys.dont_write_bytecode = True
+
+from command import PROGRAM, TOP
+from transcripts import commands
+
+# What the commands of the pages call besides.
+SHELL = "sh cat head tail sed sleep cut tr sort uniq grep wc awk printf seq env od".split()
+
+PAGES = ["README.md", "examples/README.md"]
+
+
+def made(folder):
+    """Makes the packages into a folder, and answers their names."""
+    subprocess.run([f"{TOP}/contrib/package", folder], check=True)
+    return sorted(os.listdir(folder))
+
+
+def unpacked(room, folder, names):
+    """Unpacks both packages, each into a root of its own, and answers the roots."""
+    archive = next(name for name in names if name.endswith(".tar.gz"))
+    package = next(name for name in names if name.endswith(".deb"))
+    of_archive, of_package = f"{room}/archive", f"{room}/package"
+    os.mkdir(of_archive)
+    subprocess.run(["tar", "-xzf", f"{folder}/{archive}", "-C", of_archive, "--strip-components=1"], check=True)
+    subprocess.run(["dpkg-deb", "-x", f"{folder}/{package}", of_package], check=True)
+    return of_archive, of_package
+
+
+def wrote(root, words, command):
+    """What a command of a page writes, from the folder of the pages."""
+    env = {"PATH": f"{root}/usr/bin:{words}", "LC_ALL": "C.UTF-8"}
+    ended = subprocess.run(
+        ["sh", "-c", command], cwd=f"{root}/usr/share/doc/hsms", env=env,
+        stdin=subprocess.DEVNULL, stdout=subprocess.PIPE, stderr=subprocess.STDOUT, timeout=120, check=False,
+    )
+    return ended.stdout.decode(errors="replace").rstrip("\n")
+
+
+def path_of_words(room):
+    """A folder with the words of the shell alone."""
+    folder = f"{room}/words"
+    os.mkdir(folder)
+    for word in SHELL:
+        if shutil.which(word):
+            os.symlink(shutil.which(word), f"{folder}/{word}")
+    return folder
+
+
+def libraries(program):
+    """The libraries that a program needs."""
+    told = subprocess.run(["objdump", "-p", program], capture_output=True, text=True, check=True).stdout
+    return set(re.findall(r"NEEDED\s+(\S+)", told))
+
+
+def checks(room):
+    """Yields what was tried, and whether it is well."""
+    one, other = f"{room}/one", f"{room}/other"
+    names = made(one)
+    yield "three files", len(names) == 3
+    same = made(other) == names and filecmp.cmpfiles(one, other, names, shallow=False)[0] == names
+    yield "made twice, the same octets", same
+    summed = subprocess.run(["sha256sum", "-c", "--quiet", "SHA256SUMS"], cwd=one, check=False)
+    yield "checksums", summed.returncode == 0
+    words = path_of_words(room)
+    for root in unpacked(room, one, names):
+        program = f"{root}/usr/bin/hsms"
+        yield f"{root}: the C library alone", libraries(program) <= {"libc.so.6", "libm.so.6", "ld-linux-x86-64.so.2"}
+        yield f"{root}: the program as it was built", filecmp.cmp(program, PROGRAM, shallow=False)
+        yield f"{root}: what proved it", open(f"{root}/usr/share/doc/hsms/PROVED-BY").read().startswith("rattle-kit")
+        for page in PAGES:
+            with open(f"{root}/usr/share/doc/hsms/{page}") as file:
+                shown = list(commands(file.read()))
+            for command, wanted in shown:
+                answer = wrote(root, words, command)
+                yield f"{root}, {page}: $ {command}\nwanted:\n{wanted}\nwrote:\n{answer}", answer == wanted
+
+
+def main():
+    with tempfile.TemporaryDirectory(prefix="hsms-package-") as room:
+        tried = list(checks(room))
+    for what, is_well in tried:
+        if not is_well:
+            print(f"failed: {what}")
+    failed = sum(not is_well for _, is_well in tried)
+    print(f"{len(tried) - failed} passed, {failed} failed")
+    return 1 if failed else 0
+
+
+if __name__ == "__main__":
+    sys.exit(main())
