@@ -25,7 +25,7 @@ of_cells cells i e =
     none None e h = absurd cc
     none (Some c) e h = absurd cc
 
-in_span : (p : Placed) (d : End) (n : ℕ) → same_end p.from d ≡ true → p.place ≤ n → n < p.place + length p.cells → is_some (cell_in p d n) ≡ true
+pub in_span : (p : Placed) (d : End) (n : ℕ) → same_end p.from d ≡ true → p.place ≤ n → n < p.place + length p.cells → is_some (cell_in p d n) ≡ true
 in_span p d n same le lt = rw (same, le-leb p.place n le) (in_cells p.cells (n - p.place) (omega arith))
 
 guarded : (s t : Bool) (x : Option Cell) → is_some (cond (s && t) x None) ≡ true → (s ≡ true) × (t ≡ true) × (is_some x ≡ true)
@@ -44,11 +44,11 @@ either : (x y : Option Cell) → is_some (or_else x y) ≡ true → (is_some x �
 either None y e = inr e
 either (Some c) y e = inl refl
 
-from_first : (x y : Option Cell) → is_some x ≡ true → is_some (or_else x y) ≡ true
+pub from_first : (x y : Option Cell) → is_some x ≡ true → is_some (or_else x y) ≡ true
 from_first None y e = absurd cc
 from_first (Some c) y e = refl
 
-from_second : (x y : Option Cell) → is_some y ≡ true → is_some (or_else x y) ≡ true
+pub from_second : (x y : Option Cell) → is_some y ≡ true → is_some (or_else x y) ≡ true
 from_second None y e = e
 from_second (Some c) y e = refl
 
@@ -107,7 +107,7 @@ unfolding cell_at
 held_now [] p d n e = from_first (cell_in p d n) None e
 held_now (q ∷ qs) p d n e = from_second (cell_in q d n) (cell_at (qs ++ (p ∷ [])) d n) (held_now qs p d n e)
 
-same : (d : End) → same_end d d ≡ true
+pub same : (d : End) → same_end d d ≡ true
 same active = refl
 same passive = refl
 

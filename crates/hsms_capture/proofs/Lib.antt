@@ -1,5 +1,11 @@
 mod Absorbed
+mod CutOff
 mod Ends
+mod Fronts
 mod Kept
+mod Lists
+mod Longer
 mod Nearest
+mod Numbered
 mod SmallCaptures
+mod Turned

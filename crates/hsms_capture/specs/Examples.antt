@@ -1,6 +1,6 @@
 -- Small captures, and what the definitions say of them. Each message has one cell here.
-use Rattle.std.specs.Prelude.{◌≡◌, ℕ, Bool, true, false, List, [], ◌∷◌, map, Option, None, Some}
-use Rattle.hsms_capture.specs.Wire.{End, active, passive, Cell, syn, octet, fin, Seen, places, loss, difference, wire_shows}
+use Rattle.std.specs.Prelude.{◌≡◌, ℕ, true, false, List, [], ◌∷◌, map, Option, None, Some}
+use Rattle.hsms_capture.specs.Wire.{End, active, passive, Cell, syn, octet, Seen, places, loss, difference, wire_shows}
 
 abbrev pub one_cell : List Cell → Option ℕ
 one_cell [] = None

@@ -1,7 +1,7 @@
 -- What holds of the wire, whatever the code does.
-use Rattle.std.specs.Prelude.{◌%◌, ◌^◌, ◌+◌, ◌≡◌, ◌<◌, ◌≤◌, ◌⊎◌, ℕ, max, nat_le, if◌then◌else◌, List, [], ◌∷◌, ◌++◌, length, take, Option, Some, is_some, true}
+use Rattle.std.specs.Prelude.{◌%◌, ◌^◌, ◌+◌, ◌≡◌, ◌<◌, ◌≤◌, ◌⊎◌, ℕ, max, nat_le, if◌then◌else◌, List, [], ◌∷◌, ◌++◌, length, Option, Some, is_some, true}
 use Rattle.hsms_capture.specs.declared.waiting.Span.{Span}
-use Rattle.hsms_capture.specs.Wire.{End, Cell, cell_at, end_of, Placed, Shown, same_end, stream_of, loss, difference, breaks_off, nearest, shows_of, wire_shows}
+use Rattle.hsms_capture.specs.Wire.{End, Cell, cell_at, end_of, Seen, Placed, Shown, same_end, stream_of, loss, difference, nearest, shows_of, wire_shows}
 
 -- ---- the end of what is there, by the spans that wait in the order of their places
 
@@ -66,6 +66,23 @@ abbrev pub NothingBehindALoss : Type 0
 NothingBehindALoss =
     (size : List Cell → Option ℕ) (ps : List Placed) (k : ℕ) → (loss [] ps ≡ Some k) ⊎ (difference [] ps ≡ Some k)
     → EachShown (λ at. at.packet < k) (shows_of size ps)
+
+-- a message's size is told by its own cells, and it has some
+pub record IsSize (size : List Cell → Option ℕ) : Type 0 where
+  pub there : (cells : List Cell) (n : ℕ) → size cells ≡ Some n → (0 < n) × (n ≤ length cells)
+  pub stays : (cells more : List Cell) (n : ℕ) → size cells ≡ Some n → size (cells ++ more) ≡ Some n
+  pub told : (cells more : List Cell) (n : ℕ) → size (cells ++ more) ≡ Some n → n ≤ length cells → size cells ≡ Some n
+
+-- each packet's number is past the one before it
+abbrev pub AreNumbered : ℕ → List Seen → Type 0
+AreNumbered last [] = Unit {0}
+AreNumbered last (s ∷ ss) = (last < s.packet) × AreNumbered s.packet ss
+
+-- A capture that is cut anywhere shows a front of what the whole one shows.
+abbrev pub FrontOfCapture : Type 0
+FrontOfCapture =
+    (size : List Cell → Option ℕ) (base : End → ℕ) (first later : List Seen) → IsSize size → AreNumbered 0 (first ++ later)
+    → (rest : List Shown) × (wire_shows size base (first ++ later) ≡ wire_shows size base first ++ rest)
 
 -- ---- places
 
