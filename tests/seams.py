@@ -195,10 +195,13 @@ def a_blocked_send_ends_at_a_signal():
     never.is_given_up()
 
 
-# What the peer says, one after the other, and what the end sends of each: a header, and a text for itself.
-SAID = [SELECT, data(1, 1, 2, wait=True), control(5, 3)]
+# What the peer says, one after the other, and what the end sends of each: a message whole, of a long one its front and
+# its rest.
+LOOPED_BACK = b"\x22" + (2000).to_bytes(2, "big") + bytes(2000)
+ECHO = data(2, 26, 3, LOOPED_BACK)
+SAID = [SELECT, data(1, 1, 2, wait=True), data(2, 25, 3, LOOPED_BACK, wait=True), control(5, 4)]
 IDENTITY = data(1, 2, 2, bytes.fromhex("010241014d410131"))
-SENT = [[SELECTED], [IDENTITY[:14], IDENTITY[14:]], [control(6, 3)]]
+SENT = [[SELECTED], [IDENTITY], [ECHO[:1500], ECHO[1500:]], [control(6, 4)]]
 
 
 def broken_off(library, **refused):
@@ -211,7 +214,7 @@ def broken_off(library, **refused):
             peer.send(said)
             for piece in sent:
                 got += peer.exactly(len(piece))
-        peer.send(control(9, 4))
+        peer.send(control(9, 5))
         got += peer.rest()
     except (AssertionError, BrokenPipeError, ConnectionResetError):
         pass
@@ -225,7 +228,7 @@ def an_interrupted_receive_is_made_again(library):
     whole = b"".join(piece for sent in SENT for piece in sent)
     for refused in range(1, 1 + len(SAID) + 1):
         got, told, log = broken_off(library, REFUSE_RECV=refused, INTERRUPTED=1)
-        same((got, told, log[-2:]), (whole, (0, ""), ["< ffff0000000900000004", "down"]))
+        same((got, told, log[-2:]), (whole, (0, ""), ["< ffff0000000900000005", "down"]))
 
 
 def a_failed_receive_ends_it(library):
@@ -410,17 +413,16 @@ def between_plain_sockets():
     listening = Listening()
     with socket.create_connection((HERE, listening.port), SOON) as writing:
         reading = listening.accepted()
-        least = least_time(reading.stream, 22, lambda: [writing.sendall(bytes(count)) for count in (14, 8)], 5)
+        least = least_time(reading.stream, 40, lambda: [writing.sendall(bytes(count)) for count in (26, 14)], 5)
         reading.close()
     return least
 
 
 def small_messages_are_not_held_back():
-    """A reply is sent in two pieces, its header and its text."""
-    serving, peer = selected("--mdln", "M", "--softrev", "1")
-    reply = data(1, 2, 2, bytes.fromhex("010241014d410131"))
+    """A primary of an unknown stream is answered by two messages, S9F3 and SxF0."""
+    serving, peer = selected()
     within(NOT_HELD_BACK, between_plain_sockets(), math.inf)
-    within(0, least_time(peer.stream, len(reply), lambda: peer.send(data(1, 1, 2, wait=True)), 25), NOT_HELD_BACK)
+    within(0, least_time(peer.stream, 40, lambda: peer.send(data(7, 3, 2, wait=True)), 25), NOT_HELD_BACK)
     separated(serving, peer, 3)
 
 
