@@ -1,19 +1,26 @@
 #!/usr/bin/env python3
-"""Times S1F1 and its reply over loopback, between two `hsms serve`, beside an echo of the same octets.
+"""Times S1F1 and its reply over loopback, between two `hsms serve`, beside an echo of the same octets; and its timers.
 
-    bench/serve.py [EXCHANGES]
+    bench/serve.py [EXCHANGES] [--timers MS..]
 
 It runs what `rt ci` or the first use of `hsms` has built. It tells exchanges a second, of a host that sends a script to an equipment,
 of a plain Python host with that equipment, and of two plain Python ends that hand the same octets back and forth; and
-the most memory that each `hsms serve` held.
+the most memory that each `hsms serve` held. Where strace is installed, it tells the calls of the system that an exchange
+takes at each end. At last it tells how late timers run out: ends with these T7, all at the same time. Those of `--timers`
+may be up to 3,600,000 ms.
 """
+import argparse
+import itertools
 import os
+import re
+import shutil
 import socket
 import struct
 import subprocess
 import sys
 import tempfile
 import time
+from concurrent.futures import ThreadPoolExecutor
 
 sys.dont_write_bytecode = True
 from running import MB, PROGRAM, Runner
@@ -24,10 +31,21 @@ SELECT = bytes.fromhex("0000000affff0000000100000001")
 SEPARATE = bytes.fromhex("0000000affff0000000900000001")
 
 
+# The ports that are tried, one after the other: no socket is given one of them that names none.
+PORTS = itertools.cycle(range(20000, 32768))
+for _ in range(os.getpid() % 12768):
+    next(PORTS)
+
+
 def free_port():
-    with socket.socket() as found:
-        found.bind((HERE, 0))
-        return found.getsockname()[1]
+    for port in PORTS:
+        with socket.socket() as found:
+            found.setsockopt(socket.SOL_SOCKET, socket.SO_REUSEADDR, 1)
+            try:
+                found.bind((HERE, port))
+                return port
+            except OSError:
+                pass
 
 
 def ask(system):
@@ -132,8 +150,73 @@ def bare_echo(count):
     return seconds, "-"
 
 
+def traced(role, link, port, *options, stdin=subprocess.DEVNULL):
+    """An end whose calls of the system are counted."""
+    told = f"{RUNNER.room}/{role}.calls"
+    words = ["serve", "--role", role, "--link", link, "--address", HERE, "--port", str(port), *options]
+    trace = ["strace", "-f", "-c", "-U", "calls,name", "-o", told, PROGRAM, *words]
+    return told, subprocess.Popen(trace, stdin=stdin, stdout=subprocess.DEVNULL)
+
+
+def calls_of(told, run):
+    """How often an end made each call."""
+    run.wait()
+    with open(told) as file:
+        lines = [line.split() for line in file]
+    return {line[1]: int(line[0]) for line in lines if len(line) == 2 and line[0].isdigit() and line[1] != "total"}
+
+
+def calls(count):
+    """The calls of host and equipment, for so many exchanges."""
+    port = free_port()
+    equipment = traced("equipment", "passive", port, "--mdln", "M", "--softrev", "1")
+    time.sleep(1)
+    host = traced("host", "active", port, "--send", stdin=subprocess.PIPE)
+    script = host[1].stdin
+    script.write(b"S1F1 W .\n" * count)
+    script.close()
+    return {"host": calls_of(*host), "equipment": calls_of(*equipment)}
+
+
+def calls_per_exchange(few=200, many=1200):
+    """What each end calls for one exchange more."""
+    before, after = calls(few), calls(many)
+    for role in before:
+        names = sorted(after[role])
+        each = {name: (after[role][name] - before[role].get(name, 0)) / (many - few) for name in names}
+        shown = ", ".join(f"{name} {number:.2f}" for name, number in each.items() if number >= 0.01 and name != "read")
+        read = "" if role == "equipment" else ", without the reading of its script"
+        print(f"{role}: calls of the system for an exchange: {shown}{read}")
+
+
+def late(milliseconds, port):
+    """How much later than it is due the T7 of an end runs out, in milliseconds, by its own clock."""
+    words = ["--role", "equipment", "--link", "passive", "--address", HERE, "--port", str(port)]
+    run = subprocess.Popen(
+        [PROGRAM, "serve", *words, "--t7", str(milliseconds)], stdin=subprocess.DEVNULL, stdout=subprocess.PIPE
+    )
+    with connected(port) as stream:
+        stream.recv(1)
+    log = run.communicate()[0].decode()
+    return int(re.search(r"(?m)^(\d+) cut t7$", log)[1]) - milliseconds - 1
+
+
+def timers(milliseconds):
+    """The most of several ends for each T7."""
+    asked = [each for each in milliseconds for _ in range(4)]
+    with ThreadPoolExecutor(len(asked)) as pool:
+        told = list(pool.map(late, asked, [free_port() for _ in asked]))
+    for each in milliseconds:
+        most = max(number for asked_for, number in zip(asked, told) if asked_for == each)
+        print(f"T7 of {each:,} ms: at most {most} ms late")
+
+
 def main():
-    count = int(sys.argv[1]) if len(sys.argv) > 1 else 10000
+    options = argparse.ArgumentParser(description=__doc__.split("\n")[0])
+    options.add_argument("exchanges", nargs="?", type=int, default=10000)
+    options.add_argument("--timers", nargs="+", type=int, default=[1, 10, 50, 250, 300, 1000, 2500, 5000])
+    asked_for = options.parse_args()
+    count = asked_for.exchanges
     for name, run in (
         ("hsms host, hsms equipment", two_processes),
         ("Python host, hsms equipment", plain_host),
@@ -141,6 +224,9 @@ def main():
     ):
         seconds, held = run(count)
         print(f"{name}: {count / seconds:,.0f} exchanges a second, MB held {held}")
+    if shutil.which("strace"):
+        calls_per_exchange()
+    timers(asked_for.timers)
 
 
 if __name__ == "__main__":

@@ -162,10 +162,12 @@ class Peer:
         return length + self.exactly(struct.unpack(">I", length)[0])
 
     def rest(self):
+        """What comes until the other end sends no more. Then the peer closes too, for which the other end waits."""
         octets = b""
         while True:
             part = self.stream.recv(65536)
             if not part:
+                self.close()
                 return octets
             octets += part
 
@@ -482,8 +484,8 @@ def flood_of_octets():
             peer.send(b"\xff" * 65536)
     except (BrokenPipeError, ConnectionResetError):
         pass
-    served(serving, ["up", "cut length", "down"])
     peer.close()
+    served(serving, ["up", "cut length", "down"])
 
 
 def flood_of_requests():
@@ -608,10 +610,28 @@ def nobody_reads_the_log():
 
 
 def log_is_full():
-    port = free_port()
+    """It is asked before anybody is listened for."""
     with open("/dev/full", "wb") as full:
-        serving = Serving("equipment", "passive", port, stdout=full)
-        unlogged(serving, port)
+        same(Serving("equipment", "passive", free_port(), stdout=full).ended(), (3, None, "hsms: Log\n"))
+
+
+# Messages that nobody answers but by stream 9, so that many octets lie unread where their sender ends.
+UNANSWERED = b"S6F11 <A \"unknown\"> .\n"
+
+
+def all_that_is_logged_arrives():
+    """The host sends 100 messages and separates, and has read nothing of what the equipment says of them."""
+    port = free_port()
+    equipment = Serving("equipment", "passive", port)
+    host = Serving("host", "active", port, script=100 * UNANSWERED)
+    logs = []
+    for serving in (host, equipment):
+        status, log, told = serving.ended()
+        same((status, told), (0, ""))
+        passes(log)
+        logs.append(events(log))
+    sent, taken = ([event[2:] for event in log if event.startswith(mark)] for log, mark in zip(logs, "><"))
+    same((len(sent), taken), (102, sent))
 
 
 def nobody_listens():
@@ -732,6 +752,7 @@ TESTS = [
     reset,
     never_connected,
     terminated,
+    all_that_is_logged_arrives,
     turns_are_used,
     log_is_full,
     nobody_reads_the_log,

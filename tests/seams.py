@@ -25,7 +25,7 @@ sys.dont_write_bytecode = True
 from command import TOP, Answer, answer_of, refuser
 from loopback import (
     EQUIPMENT_LOG, HERE, PROGRAM, SELECT, SELECTED, SOON, Listening, Peer, Serving, control, data, equipment, events,
-    free_port, passes, same, served,
+    free_port, passes, same, served, times,
 )
 
 NO_COMMAND = Answer(2, b"", b"hsms: command line\n")
@@ -144,6 +144,101 @@ def a_send_is_given_up_after_t8():
     never.is_given_up()
 
 
+# ---- how it closes
+
+
+def it_closes_after_its_peer():
+    """Once the session is over it only reads, until the peer closes."""
+    serving, peer = selected("--t8", "600000")
+    peer.send(control(9, 2), control(5, 3), control(5, 4))
+    same(serving.line_soon("down"), True)
+    same(peer.stream.recv(1), b"")
+    peer.send(control(5, 5))
+    time.sleep(A_WHILE)
+    same(serving.run.poll(), None)
+    peer.close()
+    served(serving, [*EQUIPMENT_LOG[:3], "< ffff0000000900000002", "down"])
+
+
+def it_closes_after_t8():
+    """The peer neither closes nor stops sending: T8 doesn't begin anew with what comes."""
+    t8 = 0.5
+    serving, peer = selected("--t8", str(int(1000 * t8)))
+    peer.send(control(9, 2))
+    begin = time.monotonic()
+    while serving.run.poll() is None and time.monotonic() < begin + SOON:
+        try:
+            peer.send(b"\0")
+        except (BrokenPipeError, ConnectionResetError):
+            break
+        time.sleep(A_WHILE / 30)
+    served(serving, [*EQUIPMENT_LOG[:3], "< ffff0000000900000002", "down"])
+    within(t8 - 0.02, time.monotonic() - begin, SOON)
+    peer.close()
+
+
+def a_failed_link_is_closed_at_once(library):
+    """There is nothing to wait for, be T8 as long as it may."""
+    serving, peer = equipment("--t8", "600000", env={"LD_PRELOAD": library, "REFUSE_SEND": "1"})
+    peer.send(SELECT)
+    status, log, told = serving.ended()
+    same((status, told, events(log)), (*NO_LINK, [*EQUIPMENT_LOG[:3], "down"]))
+    peer.close()
+
+
+# ---- what is closed when it begins
+
+
+def ended_with_closed(link, closed, *options):
+    """What `serve` ends with that begins with these descriptors closed, and whether anybody has come to its peer."""
+    listening = Listening()
+    port = listening.port if link == "active" else free_port()
+    words = ["--role", "host", "--link", link, "--address", HERE, "--port", str(port), *options]
+    run = subprocess.Popen(
+        [PROGRAM, "serve", *words],
+        stdout=subprocess.PIPE,
+        stderr=subprocess.PIPE,
+        preexec_fn=lambda: [os.close(each) for each in closed],
+    )
+    nobody = listening.nobody_comes()
+    try:
+        log, told = run.communicate(timeout=SOON)
+    except subprocess.TimeoutExpired:
+        run.kill()
+        raise
+    return run.returncode, log, told, nobody
+
+
+def nothing_begins_without_an_output():
+    """A socket would be given the number of standard output, and what is logged would go to the peer."""
+    for link in ("active", "passive"):
+        for closed in ((1,), (0, 1)):
+            same(ended_with_closed(link, closed), (3, b"", b"hsms: Log\n", True))
+
+
+def nothing_begins_without_a_script():
+    for closed in ((0,), (0, 1)):
+        same(ended_with_closed("active", closed, "--send"), (3, b"", b"hsms: Read\n", True))
+
+
+def a_peer_gets_no_words():
+    """A socket is given the number of standard error where that is closed, and of standard input."""
+    for closed in ((2,), (0, 2)):
+        listening = Listening()
+        words = ["--role", "host", "--link", "active", "--address", HERE, "--port", str(listening.port)]
+        run = subprocess.Popen(
+            [PROGRAM, "serve", *words, "--turns", "1"],
+            stdout=subprocess.PIPE,
+            preexec_fn=lambda: [os.close(each) for each in closed],
+        )
+        peer = listening.accepted()
+        peer.send(SELECTED)
+        same(peer.rest(), SELECT)
+        log, _ = run.communicate(timeout=SOON)
+        same(run.returncode, 3)
+        passes(log.decode())
+
+
 # ---- signals
 
 
@@ -195,10 +290,13 @@ def a_blocked_send_ends_at_a_signal():
     never.is_given_up()
 
 
-# What the peer says, one after the other, and what the end sends of each: a header, and a text for itself.
-SAID = [SELECT, data(1, 1, 2, wait=True), control(5, 3)]
+# What the peer says, one after the other, and what the end sends of each: a message whole, of a long one its front and
+# its rest.
+LOOPED_BACK = b"\x22" + (2000).to_bytes(2, "big") + bytes(2000)
+ECHO = data(2, 26, 3, LOOPED_BACK)
+SAID = [SELECT, data(1, 1, 2, wait=True), data(2, 25, 3, LOOPED_BACK, wait=True), control(5, 4)]
 IDENTITY = data(1, 2, 2, bytes.fromhex("010241014d410131"))
-SENT = [[SELECTED], [IDENTITY[:14], IDENTITY[14:]], [control(6, 3)]]
+SENT = [[SELECTED], [IDENTITY], [ECHO[:1500], ECHO[1500:]], [control(6, 4)]]
 
 
 def broken_off(library, **refused):
@@ -211,7 +309,7 @@ def broken_off(library, **refused):
             peer.send(said)
             for piece in sent:
                 got += peer.exactly(len(piece))
-        peer.send(control(9, 4))
+        peer.send(control(9, 5))
         got += peer.rest()
     except (AssertionError, BrokenPipeError, ConnectionResetError):
         pass
@@ -225,7 +323,7 @@ def an_interrupted_receive_is_made_again(library):
     whole = b"".join(piece for sent in SENT for piece in sent)
     for refused in range(1, 1 + len(SAID) + 1):
         got, told, log = broken_off(library, REFUSE_RECV=refused, INTERRUPTED=1)
-        same((got, told, log[-2:]), (whole, (0, ""), ["< ffff0000000900000004", "down"]))
+        same((got, told, log[-2:]), (whole, (0, ""), ["< ffff0000000900000005", "down"]))
 
 
 def a_failed_receive_ends_it(library):
@@ -410,17 +508,16 @@ def between_plain_sockets():
     listening = Listening()
     with socket.create_connection((HERE, listening.port), SOON) as writing:
         reading = listening.accepted()
-        least = least_time(reading.stream, 22, lambda: [writing.sendall(bytes(count)) for count in (14, 8)], 5)
+        least = least_time(reading.stream, 40, lambda: [writing.sendall(bytes(count)) for count in (26, 14)], 5)
         reading.close()
     return least
 
 
 def small_messages_are_not_held_back():
-    """A reply is sent in two pieces, its header and its text."""
-    serving, peer = selected("--mdln", "M", "--softrev", "1")
-    reply = data(1, 2, 2, bytes.fromhex("010241014d410131"))
+    """A primary of an unknown stream is answered by two messages, S9F3 and SxF0."""
+    serving, peer = selected()
     within(NOT_HELD_BACK, between_plain_sockets(), math.inf)
-    within(0, least_time(peer.stream, len(reply), lambda: peer.send(data(1, 1, 2, wait=True)), 25), NOT_HELD_BACK)
+    within(0, least_time(peer.stream, 40, lambda: peer.send(data(7, 3, 2, wait=True)), 25), NOT_HELD_BACK)
     separated(serving, peer, 3)
 
 
@@ -463,6 +560,28 @@ def a_wait_is_never_of_nothing(library):
         serving, peer = equipment("--t7", str(t7), env={"LD_PRELOAD": library, "CLOCK_STEP": "1000000"})
         same(peer.rest(), b"")
         served(serving, ["up", "cut t7", "down"])
+
+
+# How many ends wait at the same time, for how long, and how much later most of them may end, in milliseconds. The system's
+# own timers would be a tenth of a second late or so.
+ENDS = 15
+FOR_SO_LONG = 2500
+LATE = 40
+
+
+def timers_are_not_late():
+    """The middle one of many, whose waits begin at different moments."""
+    ends = []
+    for _ in range(ENDS):
+        ends.append(equipment("--t7", str(FOR_SO_LONG)))
+        time.sleep(A_WHILE / 15)
+    late = []
+    for serving, peer in ends:
+        same(peer.rest(), b"")
+        log = served(serving, ["up", "cut t7", "down"])
+        late.append(times(log)[1] - FOR_SO_LONG)
+    within(1, min(late), math.inf)
+    within(1, sorted(late)[ENDS // 2], LATE)
 
 
 # ---- pieces
@@ -533,31 +652,34 @@ def nothing_comes_of_a_quiet_wait():
 
 # ---- a write that fails
 
+# A message whose line is longer than any block that is written.
+LONG = data(2, 25, 3, b"\x22" + (60_000).to_bytes(2, "big") + bytes(60_000), wait=True)
+
 
 def served_with_a_failed_write(library, failing):
     """What comes of a session of which this write to the log fails, once; with each time in the log as 0."""
-    serving, peer = equipment(env={"LD_PRELOAD": library, "REFUSE_WRITE": str(failing)})
-    try:
-        peer.send(SELECT + control(5, 2) + control(9, 3))
-        peer.rest()
-    except (BrokenPipeError, ConnectionResetError):
-        pass
-    status, log, told = serving.ended()
-    return (status, told), re.sub(r"(?m)^\d+", "0", log)
+    with tempfile.TemporaryFile() as file:
+        serving, peer = equipment(stdout=file, env={"LD_PRELOAD": library, "REFUSE_WRITE": str(failing)})
+        try:
+            peer.send(SELECT + control(5, 2) + LONG + control(9, 4))
+            peer.rest()
+        except (BrokenPipeError, ConnectionResetError):
+            pass
+        status, _, told = serving.ended()
+        file.seek(0)
+        return (status, told), re.sub(r"(?m)^\d+", "0", file.read().decode())
 
 
 def nothing_is_written_after_a_failed_write(library):
-    """The log holds what the writes before it wrote: nothing where the first one fails, and then each time more."""
-    logs = []
-    for failing in range(1, 40):
-        told, log = served_with_a_failed_write(library, failing)
-        logs.append(log)
-        if told == (0, ""):
-            break
-        same(told, NO_LOG)
-    same(events(logs[-1]), EQUIPMENT_LOG)
-    same([logs[-1].startswith(log) for log in logs], [True] * len(logs))
-    same((logs[0], logs), ("", sorted(set(logs), key=len)))
+    """Each write is a line with its end, but for the first one, which is of nothing and asks the output."""
+    told, whole = served_with_a_failed_write(library, 0)
+    same((told, len(events(whole))), ((0, ""), 9))
+    lines = whole.splitlines(True)
+    for count in range(len(lines)):
+        told, log = served_with_a_failed_write(library, count + 2)
+        same((told, log == "".join(lines[:count])), (NO_LOG, True))
+    told, log = served_with_a_failed_write(library, len(lines) + 2)
+    same((told, log == whole), ((0, ""), True))
 
 
 # ---- the script `hsms`
@@ -660,6 +782,11 @@ def the_script_runs_nothing_that_was_not_built():
 
 TESTS = [
     a_send_is_given_up_after_t8,
+    it_closes_after_its_peer,
+    it_closes_after_t8,
+    nothing_begins_without_an_output,
+    nothing_begins_without_a_script,
+    a_peer_gets_no_words,
     a_wait_goes_on_after_a_signal,
     a_blocked_send_ends_at_a_signal,
     a_second_client_is_refused,
@@ -669,6 +796,7 @@ TESTS = [
     logged_times_are_true,
     small_messages_are_not_held_back,
     an_idle_end_does_nothing,
+    timers_are_not_late,
     pieces_come_whole,
     nothing_comes_of_a_quiet_wait,
     the_script_builds_anew,
@@ -678,6 +806,7 @@ TESTS_WITH_LIBRARY = [
     an_interrupted_receive_is_made_again,
     a_failed_receive_ends_it,
     a_failed_send_ends_it,
+    a_failed_link_is_closed_at_once,
     a_wait_is_never_of_nothing,
     nothing_is_written_after_a_failed_write,
 ]

@@ -1,6 +1,6 @@
 //! Octets to a link.
 
-ghost use Rattle.std.specs.Prelude.{◌≡◌, ◌<◌, ◌+◌, ◌^◌, ◌++◌, length};
+ghost use Rattle.std.specs.Prelude.{◌≡◌, ◌<◌, ◌≤◌, ◌+◌, ◌^◌, ◌++◌, length, take};
 ghost use Rattle.std.specs.Int.{w32, to_be_bytes};
 ghost use Rattle.hsms_frame.specs.Frame.{frame_octets};
 ghost use Rattle.hsms_frame.specs.Header.{header_octets};
@@ -10,25 +10,57 @@ use crate::fault::LinkFault;
 use crate::link::Link;
 use hsms_frame::{Frame, Header};
 
-/// Sends a message (SEMI E37, section 8), or some octets from its front and fails.
+// The octets before the text.
+const FRONT: usize = 14;
+
+// The octets of a message that go to the link in its first call, at most: no fewer than a segment of Ethernet holds.
+const BLOCK: usize = 1500;
+
+/// Sends a message (SEMI E37, section 8), or some octets from its front and fails. A message of at most 1,500 octets is
+/// one slice; of a longer one the rest of its text is another.
 pub fn send_frame<L: Link>(link: &mut L, frame: &Frame) -> Result<(), LinkFault>
     requires { 10 + length frame.now.text < 2 ^ 32 }
     ensures { SendsAll (L.told link.old) (L.told link.new) (frame_octets frame.now) result }
 {
     let front = front(frame.length() as u32, frame.header);
-    match send_all(link, &front) {
-        Ok(()) => send_all(link, frame.text.as_slice()),
+    let text = frame.text.as_slice();
+    let (first, rest) = text.split_at(text.len().min(BLOCK - FRONT));
+    match send_joined(link, &front, first) {
+        Ok(()) => send_all(link, rest),
         Err(fault) => Err(fault),
     }
 }
 
 /// The octets before the text.
-fn front(length: u32, header: Header) -> [u8; 14]
+fn front(length: u32, header: Header) -> [u8; FRONT]
     ensures { result ≡ to_be_bytes w32 length ++ header_octets header }
 {
     let [l0, l1, l2, l3] = length.to_be_bytes();
     let [h0, h1, h2, h3, h4, h5, h6, h7, h8, h9] = header.octets();
     [l0, l1, l2, l3, h0, h1, h2, h3, h4, h5, h6, h7, h8, h9]
+}
+
+/// Sends two slices as one.
+fn send_joined<L: Link>(link: &mut L, first: &[u8], second: &[u8]) -> Result<(), LinkFault>
+    requires { length first.now + length second.now ≤ 1500 }
+    ensures { SendsAll (L.told link.old) (L.told link.new) (first.now ++ second.now) result }
+{
+    let mut block = [0u8; BLOCK];
+    let place = lay(&mut block, 0, first);
+    let end = lay(&mut block, place, second);
+    send_all(link, &block[..end])
+}
+
+/// Lays octets into a block at a place, and says where they end.
+fn lay(block: &mut [u8], place: usize, octets: &[u8]) -> usize
+    requires { place + length octets.now ≤ length block.old }
+    ensures laid { take result block.new ≡ take place block.old ++ octets.now }
+    ensures end { result ≡ place + length octets.now }
+    ensures len { length block.new ≡ length block.old }
+{
+    let end = place + octets.len();
+    block[place..end].copy_from_slice(octets);
+    end
 }
 
 /// Sends all octets, or some from their front and fails.

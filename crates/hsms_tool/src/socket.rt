@@ -1,25 +1,21 @@
-//! A TCP connection as a link, with a clock that begins when it is made.
+//! A TCP connection as a link.
 
-ghost use Rattle.std.specs.Prelude.{◌≡◌, ◌≤◌, IfOk, length};
 ghost use Rattle.hsms_tool.specs.Calls.{told_of};
 
 use crate::calls::Calls;
+use crate::wire::{Wire, is_quiet};
 use hsms_ends::{Got, Link, LinkFault, ServeFault};
 use hsms_machine::Side;
 use hsms_options::Service;
 use std::io;
 use std::io::{ErrorKind, Read, Write};
 use std::net::{Net, OpenListener, OpenStream, TcpListener, TcpStream};
-use std::time::{Clock, Duration, Instant};
+use std::time::{Clock, Duration};
 
-/// A TCP connection, and a clock that tells the milliseconds since it was made. Where the clock fails, it tells the
-/// last time again, and 0 at first.
+/// A TCP connection with its clock, and the counts of its calls.
 #[derive(Drop)]
 pub struct SocketLink<'a, C: Clock, S: Read + Write + OpenStream + Drop> {
-    clock: &'a C,
-    stream: S,
-    began: Option<Instant>,
-    last: u64,
+    wire: Wire<'a, C, S>,
     calls: Calls,
 }
 
@@ -27,39 +23,14 @@ impl<'a, C: Clock, S: Read + Write + OpenStream + Drop> SocketLink<'a, C, S> {
     /// A link over a stream that was connected just now.
     pub fn new(clock: &'a C, stream: S) -> SocketLink<'a, C, S> {
         SocketLink {
-            clock,
-            stream,
-            began: Instant::now(clock).ok(),
-            last: 0,
+            wire: Wire::new(clock, stream),
             calls: Calls::new(),
         }
     }
 
-    // The time since the connection was made.
-    fn time(&mut self) -> u64
-        ensures { self.new.calls ≡ self.old.calls }
-    {
-        if let Some(began) = self.began {
-            if let Ok(now) = Instant::now(self.clock) {
-                let passed = now.saturating_duration_since(began).as_millis();
-                self.last = u64::try_from(passed).unwrap_or(u64::MAX);
-            }
-        }
-        self.last
-    }
-
-    // Reads once, until a time or for as long as it takes.
-    fn read_until(&mut self, until: Option<u64>, into: &mut [u8]) -> io::Result<usize>
-        ensures calls { self.new.calls ≡ self.old.calls }
-        ensures bound { IfOk result (λ n. n ≤ length into.new) }
-    {
-        let now = self.time();
-        let timeout = match until {
-            Some(until) => Some(Duration::from_millis(until.saturating_sub(now).max(1))),
-            None => None,
-        };
-        self.stream.set_read_timeout(timeout)?;
-        self.stream.read(into)
+    /// Closes the connection once the peer has closed it too, or so many milliseconds are over.
+    pub fn hang_up(self, longest: u64) {
+        self.wire.hang_up(longest);
     }
 }
 
@@ -67,12 +38,12 @@ impl<'a, C: Clock, S: Read + Write + OpenStream + Drop> Link for SocketLink<'a, 
     ghost told = { λ s. told_of s.calls };
 
     fn now(&mut self) -> u64 {
-        self.time()
+        self.wire.time()
     }
 
     // A read of nothing is the end of what the peer sends.
     fn wait(&mut self, until: Option<u64>, into: &mut [u8]) -> Result<Got, LinkFault> {
-        match self.read_until(until, into) {
+        match self.wire.read_until(until, into) {
             Ok(0) => self.calls.heard(Got::Closed, into),
             Ok(count) => self.calls.heard(Got::Octets(count), into),
             Err(error) => {
@@ -86,20 +57,11 @@ impl<'a, C: Clock, S: Read + Write + OpenStream + Drop> Link for SocketLink<'a, 
     }
 
     fn send(&mut self, octets: &[u8]) -> Result<usize, LinkFault> {
-        match self.stream.write(octets) {
+        match self.wire.write(octets) {
             Ok(count) if count > 0 || octets.is_empty() => Ok(count),
             _ => self.calls.failed_send(octets),
         }
     }
-}
-
-// Whether a read that failed so has read nothing, and another one may follow: its time is over, or a signal ended it
-// early.
-fn is_quiet(kind: ErrorKind) -> bool {
-    matches!(
-        kind,
-        ErrorKind::WouldBlock | ErrorKind::TimedOut | ErrorKind::Interrupted
-    )
 }
 
 /// The connection of a service: one that is made, or the first that is listened for.

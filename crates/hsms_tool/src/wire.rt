@@ -1,0 +1,153 @@
+//! A TCP connection whose reads end at a moment, by a clock that begins when it is made.
+
+ghost use Rattle.std.specs.Prelude.{◌≤◌, IfOk, length};
+
+use std::io;
+use std::io::{ErrorKind, Read, Write};
+use std::net::{OpenStream, Shutdown};
+use std::time::{Clock, Duration, Instant};
+
+// How many octets are let go at a time.
+const ROOM: usize = 4096;
+
+// How much later than it is asked to the system may end a read, in milliseconds, besides an eighth of the time: two ticks
+// of 4 ms.
+const LATE: u64 = 8;
+
+/// A TCP connection, and a clock that tells the milliseconds since it was made. Where the clock fails, it tells the
+/// last time again, and 0 at first.
+#[derive(Drop)]
+pub struct Wire<'a, C: Clock, S: Read + Write + OpenStream + Drop> {
+    clock: &'a C,
+    stream: S,
+    began: Option<Instant>,
+    last: u64,
+    // How many milliseconds a read waits at most, or for as long as it takes.
+    limit: Option<u64>,
+}
+
+impl<'a, C: Clock, S: Read + Write + OpenStream + Drop> Wire<'a, C, S> {
+    /// A stream that was connected just now, whose reads wait for as long as it takes.
+    pub fn new(clock: &'a C, stream: S) -> Wire<'a, C, S> {
+        Wire {
+            clock,
+            stream,
+            began: Instant::now(clock).ok(),
+            last: 0,
+            limit: None,
+        }
+    }
+
+    /// The time since the connection was made.
+    pub fn time(&mut self) -> u64 {
+        if let Some(began) = self.began {
+            if let Ok(now) = Instant::now(self.clock) {
+                let passed = now.saturating_duration_since(began).as_millis();
+                self.last = u64::try_from(passed).unwrap_or(u64::MAX);
+            }
+        }
+        self.last
+    }
+
+    /// Writes some octets, and says how many.
+    pub fn write(&mut self, octets: &[u8]) -> io::Result<usize>
+        ensures { IfOk result (λ n. n ≤ length octets.now) }
+    {
+        self.stream.write(octets)
+    }
+
+    /// Reads once, until a time or for as long as it takes.
+    pub fn read_until(&mut self, until: Option<u64>, into: &mut [u8]) -> io::Result<usize>
+        ensures { IfOk result (λ n. n ≤ length into.new) }
+    {
+        match until {
+            Some(until) => self.read_in_parts(until, into),
+            None => {
+                self.limit_reads(None)?;
+                self.stream.read(into)
+            }
+        }
+    }
+
+    // Reads until a time. The system ends a read late, and the later the longer that waits. So one waits for most of what
+    // is left, and then the next one for most of the rest.
+    fn read_in_parts(&mut self, until: u64, into: &mut [u8]) -> io::Result<usize>
+        ensures { IfOk result (λ n. n ≤ length into.new) }
+    {
+        for _ in 0..u64::MAX {
+            let left = until.saturating_sub(self.time());
+            let part = part_of(left, self.limit);
+            self.limit_reads(Some(part))?;
+            match self.stream.read(into) {
+                Ok(count) => return Ok(count),
+                Err(error) => {
+                    if !is_late(error.kind()) || self.time() >= until {
+                        return Err(error);
+                    }
+                }
+            }
+        }
+        Err(io::Error::from(ErrorKind::TimedOut))
+    }
+
+    // Has a read wait no longer than that, where it isn't so yet.
+    fn limit_reads(&mut self, limit: Option<u64>) -> io::Result<()> {
+        if self.limit != limit {
+            self.stream
+                .set_read_timeout(limit.map(Duration::from_millis))?;
+            self.limit = limit;
+        }
+        Ok(())
+    }
+
+    /// Ends what is sent, and lets go what still comes, until the peer has closed the connection too or so many
+    /// milliseconds are over. A connection that is closed while octets lie unread is reset, and the peer loses what it
+    /// was sent and hasn't read.
+    pub fn hang_up(mut self, longest: u64) {
+        if self.stream.shutdown(Shutdown::Write).is_ok() {
+            let until = self.time().saturating_add(longest);
+            self.let_go(until);
+        }
+    }
+
+    // Reads until the peer has closed the connection, the reads fail, or that time has come.
+    fn let_go(&mut self, until: u64) {
+        let mut room = [0u8; ROOM];
+        for _ in 0..u64::MAX {
+            let goes_on = match self.read_until(Some(until), &mut room) {
+                Ok(count) => count > 0,
+                Err(error) => is_quiet(error.kind()),
+            };
+            if !goes_on || self.time() >= until {
+                return;
+            }
+        }
+    }
+}
+
+/// Whether a read that failed so has read nothing, and another one may follow: its time is over, or a signal ended it
+/// early.
+pub fn is_quiet(kind: ErrorKind) -> bool {
+    is_late(kind) || kind == ErrorKind::Interrupted
+}
+
+// Whether the time of a read that failed so is over.
+fn is_late(kind: ErrorKind) -> bool {
+    matches!(kind, ErrorKind::WouldBlock | ErrorKind::TimedOut)
+}
+
+// How many milliseconds the next read waits where so many are left: as the last one, if that is well within what is left,
+// so that the system needn't be told.
+fn part_of(left: u64, limit: Option<u64>) -> u64 {
+    let most = left.saturating_sub(left / 8).saturating_sub(LATE).max(1);
+    match limit {
+        Some(limit) => {
+            if limit <= most && limit >= most / 8 {
+                limit
+            } else {
+                most
+            }
+        }
+        None => most,
+    }
+}
