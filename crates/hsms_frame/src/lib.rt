@@ -22,6 +22,7 @@
 //! ```
 #![tactic(auto)]
 
+mod ahead;
 mod build;
 mod classify;
 mod device;
@@ -39,12 +40,13 @@ mod tally;
 mod transfer;
 mod write;
 
+pub use ahead::Ahead;
 pub use build::{
     data_header, linktest_req, linktest_rsp, reject_of, select_req, select_rsp, separate,
 };
 pub use classify::kind;
 pub use device::{Failed, Sink, Source};
-pub use fault::{FrameFault, ReadFault, WriteFault};
+pub use fault::{AheadFault, FrameFault, ReadFault, WriteFault};
 pub use frame::Frame;
 pub use framer::{Framer, front};
 pub use header::{CONTROL_SESSION, HEADER_LENGTH, Header};
@@ -53,7 +55,7 @@ pub use memory::{Feed, Store};
 pub use read::read_frame;
 pub use standard::{Reader, Writer};
 pub use transfer::{fill, give_all};
-pub use write::{encode_frame, write_frame};
+pub use write::{encode_frame, front_octets, write_frame};
 
 #[cfg(test)]
 mod tests;

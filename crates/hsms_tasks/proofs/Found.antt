@@ -7,12 +7,13 @@ use Rattle.hsms_frame.specs.declared.fault.FrameFault.{FrameFault}
 use Rattle.hsms_frame.specs.declared.fault.FrameFault.TheVariants as frame
 use Rattle.hsms_frame.specs.declared.fault.ReadFault.TheVariants.{TooShort, TooLong, CutOff}
 use Rattle.hsms_frame.specs.declared.header.Header.{Header}
+use Rattle.hsms_frame.specs.Ahead.{ReadsMore}
 use Rattle.hsms_frame.specs.Device.{WhereTold}
 use Rattle.hsms_frame.specs.Frame.{Frame, frame_octets, length_field, IsFaultless, IsProperFront, IsTooLong, IsTooShort}
 use Rattle.hsms_frame.specs.Framing.{FrontAs}
 use Rattle.hsms_options.specs.declared.fault.ToolFault.{ToolFault}
 use Rattle.hsms_options.specs.declared.fault.ToolFault.TheVariants.{Refused, Device, Memory}
-use Rattle.hsms_tasks.specs.Ahead.{EndsAs, FindsNext, IsStopped, IsUnread, ReadsMore, TellsFound, is_open, of_reading}
+use Rattle.hsms_tasks.specs.Ahead.{EndsAs, FindsNext, IsStopped, IsUnread, TellsFound, is_open, of_reading}
 use Rattle.hsms_tasks.specs.Show.{LeavesPart, Tells}
 
 pub if_ok_map : {T E : Type 0} (r : Result T E) (P Q : T → Type 0) → ((x : T) → P x → Q x) → IfOk r P → IfOk r Q
@@ -20,12 +21,6 @@ if_ok_map (Ok x) P Q f h = f x h
 if_ok_map (Err e) P Q f h = tt
 
 -- ---- reading more
-
--- octets were read behind the others
-pub more_read : (ahead buffer now input : List ℕ) (n : ℕ) → now ≡ ahead ++ take n buffer → take n buffer ≡ take n input → ahead ++ input ≡ now ++ drop n input
-more_read ahead buffer now input n is same =
-    ap (λ (xs : List ℕ). ahead ++ xs) (sym (take-append-drop n input)) ∙ sym (append_assoc ahead (take n input) (drop n input))
-    ∙ ap (λ (xs : List ℕ). ahead ++ xs ++ drop n input) (sym same) ∙ ap (λ (xs : List ℕ). xs ++ drop n input) (sym is)
 
 pub reads_on : (before mid now : List ℕ) (input : List ℕ) (left new : Option (List ℕ)) → ReadsMore before input mid left
     → WhereTold left (λ rest. ReadsMore mid rest now new) → ReadsMore before input now new
@@ -59,8 +54,7 @@ pub stopped : (max : ℕ) (input ahead rest : List ℕ) (fault : ToolFault) (lef
     → IsUnread rest fault left → IsStopped max input fault left
 stopped max input ahead rest (Refused words) left parts begun none = absurd none
 stopped max input ahead rest (Device word) left parts begun is = (ahead, rest, parts, is, begun.0, begun.1)
-stopped max input ahead rest Memory left parts begun (taken, more, split, is) =
-    (ahead ++ taken, more, parts ∙ ap (λ (xs : List ℕ). ahead ++ xs) split ∙ sym (append_assoc ahead taken more), is)
+stopped max input ahead rest Memory left parts begun is = (ahead, rest, parts, is)
 
 all_of : (input : List ℕ) (left : Option (List ℕ)) → left ≡ Some [] → LeavesPart input left
 all_of input left is = (input, [], sym (append-nil input), is)
