@@ -17,7 +17,8 @@ const BLOCK: usize = 65536;
 /// Octets of a source that were read and not passed. Contracts see them as a list.
 ///
 /// Whoever has use for the octets at the front looks at them where they are, and passes them; only a read moves those
-/// that are left to the front. The memory that is held is that of the most octets that were there at once.
+/// that are left to the front. The room that is held is for 131,072 octets, or for 65,536 more than were there at most
+/// before a read.
 #[derive(Drop)]
 pub struct Ahead {
     octets: Vec<u8>,

@@ -6,7 +6,8 @@
 //! a program did to them. [`laws`] has what holds of messages, whatever a program does.
 //!
 //! A message is built, and written whole. Whoever gets octets in pieces pushes each piece, and takes messages until
-//! there is none; whoever may wait reads one at a time:
+//! there is none; whoever may wait reads one at a time. [`Ahead`] reads a source in blocks, for who looks for messages
+//! where they lie ([`front`]), or for something else:
 //!
 //! ```
 //! let frame = Frame { header: data_header(0, 1, 13, true, 1), text };
