@@ -1,5 +1,7 @@
 -- The words for what is wrong with a message.
 use Rattle.std.specs.Prelude.{ℕ, List, ◌++◌, codes, decimal}
+use Rattle.hsms_frame.specs.declared.fault.AheadFault.{AheadFault}
+use Rattle.hsms_frame.specs.declared.fault.AheadFault.TheVariants as ahead
 use Rattle.hsms_frame.specs.declared.fault.FrameFault.{FrameFault}
 use Rattle.hsms_frame.specs.declared.fault.FrameFault.TheVariants as frame
 use Rattle.hsms_frame.specs.declared.fault.ReadFault.{ReadFault}
@@ -25,3 +27,8 @@ read_fault_text read.Read = codes "Read"
 abbrev pub write_fault_text : WriteFault → List ℕ
 write_fault_text (write.TooLong length header) = codes "TooLong length=" ++ decimal length
 write_fault_text write.Write = codes "Write"
+
+-- the name of a fault of a reading ahead
+abbrev pub ahead_fault_text : AheadFault → List ℕ
+ahead_fault_text ahead.Read = codes "Read"
+ahead_fault_text ahead.Memory = codes "Memory"

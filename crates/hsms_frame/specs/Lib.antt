@@ -1,3 +1,4 @@
+pub mod Ahead
 pub mod Build
 pub mod Calls
 pub mod Count

@@ -1,7 +1,8 @@
 //! What is wrong with the octets of a message, and with reading them.
 
 ghost use Rattle.std.specs.Prelude.{◌≡◌, Some};
-ghost use Rattle.hsms_frame.specs.Fault.{frame_fault_text, read_fault_text, write_fault_text};
+ghost use Rattle.hsms_frame.specs.Fault.{ahead_fault_text, frame_fault_text, read_fault_text, write_fault_text};
+ghost use Rattle.hsms_frame.specs.declared.fault.AheadFault.TheVariants as ahead;
 ghost use Rattle.hsms_frame.specs.declared.fault.FrameFault.TheVariants as frame;
 ghost use Rattle.hsms_frame.specs.declared.fault.ReadFault.TheVariants.{Memory, Read};
 ghost use Rattle.hsms_frame.specs.declared.fault.WriteFault.TheVariants.{Write};
@@ -119,5 +120,43 @@ impl From<AllocError> for ReadFault {
 
     fn from(_: AllocError) -> ReadFault {
         ReadFault::Memory
+    }
+}
+
+/// Why no more octets were read ahead. Each is shown as its name.
+#[derive(Clone, Copy, Debug, PartialEq, Eq)]
+pub enum AheadFault {
+    /// The device failed.
+    Read,
+    /// There is no memory for more.
+    Memory,
+}
+
+impl fmt::Display for AheadFault {
+    ghost output = { λ fault. Some (ahead_fault_text fault) };
+
+    fn fmt<W: fmt::Write>(&self, f: &mut fmt::Formatter<W>) -> fmt::Result {
+        match *self {
+            AheadFault::Read => write!(f, "Read"),
+            AheadFault::Memory => write!(f, "Memory"),
+        }
+    }
+}
+
+impl Error for AheadFault {}
+
+impl From<Failed> for AheadFault {
+    ghost from_gives = { λ _ e. e ≡ ahead.Read };
+
+    fn from(_: Failed) -> AheadFault {
+        AheadFault::Read
+    }
+}
+
+impl From<AllocError> for AheadFault {
+    ghost from_gives = { λ _ e. e ≡ ahead.Memory };
+
+    fn from(_: AllocError) -> AheadFault {
+        AheadFault::Memory
     }
 }

@@ -6,7 +6,8 @@
 //! a program did to them. [`laws`] has what holds of messages, whatever a program does.
 //!
 //! A message is built, and written whole. Whoever gets octets in pieces pushes each piece, and takes messages until
-//! there is none; whoever may wait reads one at a time:
+//! there is none; whoever may wait reads one at a time. [`Ahead`] reads a source in blocks, for who looks for messages
+//! where they lie ([`front`]), or for something else:
 //!
 //! ```
 //! let frame = Frame { header: data_header(0, 1, 13, true, 1), text };
@@ -22,6 +23,7 @@
 //! ```
 #![tactic(auto)]
 
+mod ahead;
 mod build;
 mod classify;
 mod device;
@@ -39,12 +41,13 @@ mod tally;
 mod transfer;
 mod write;
 
+pub use ahead::Ahead;
 pub use build::{
     data_header, linktest_req, linktest_rsp, reject_of, select_req, select_rsp, separate,
 };
 pub use classify::kind;
 pub use device::{Failed, Sink, Source};
-pub use fault::{FrameFault, ReadFault, WriteFault};
+pub use fault::{AheadFault, FrameFault, ReadFault, WriteFault};
 pub use frame::Frame;
 pub use framer::{Framer, front};
 pub use header::{CONTROL_SESSION, HEADER_LENGTH, Header};
@@ -53,7 +56,7 @@ pub use memory::{Feed, Store};
 pub use read::read_frame;
 pub use standard::{Reader, Writer};
 pub use transfer::{fill, give_all};
-pub use write::{encode_frame, write_frame};
+pub use write::{encode_frame, front_octets, write_frame};
 
 #[cfg(test)]
 mod tests;

@@ -31,7 +31,7 @@ pub fn encode_frame(alloc: Global, frame: &Frame) -> Result<Vec<u8>, FrameFault>
     if length > LONGEST {
         return Err(FrameFault::TooLong { length, header });
     }
-    let mut octets = Vec::from_slice(alloc, &front(length as u32, header))?;
+    let mut octets = Vec::from_slice(alloc, &front_octets(length as u32, header))?;
     octets.extend_from_slice(&frame.text)?;
     Ok(octets)
 }
@@ -51,13 +51,13 @@ pub fn write_frame<W: Sink>(sink: &mut W, frame: &Frame) -> Result<(), WriteFaul
     if length > LONGEST {
         return Err(WriteFault::TooLong { length, header });
     }
-    give_all(sink, &front(length as u32, header))?;
+    give_all(sink, &front_octets(length as u32, header))?;
     give_all(sink, &frame.text)?;
     Ok(())
 }
 
-// The octets before the text.
-fn front(length: u32, header: Header) -> [u8; 14]
+/// The fourteen octets before a message's text: four that hold `length`, which counts header and text, and the header.
+pub fn front_octets(length: u32, header: Header) -> [u8; 14]
     ensures { result ≡ to_be_bytes w32 length ++ header_octets header }
 {
     let [l0, l1, l2, l3] = length.to_be_bytes();

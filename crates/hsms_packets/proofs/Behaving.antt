@@ -1,6 +1,6 @@
 -- What is found at a file's front lies within the octets and isn't empty; so each file is read.
-use Rattle.std.proofs.Common.{◌≡◌, ◌≤◌, ◌<◌, ◌+◌, ◌-◌, ◌%◌, ◌==◌, ◌++◌, ◌∙◌, ℕ, zero, suc, Bool, true, false, not, cond, nat_lt, min, Option, None, Some, List, [], ◌∷◌, length, take, drop, slice_get, Result, Ok, Err, refl, sym, ap, subst, arith}
-use Rattle.std.proofs.lemmas.Bool.{lt-ltb, le-ltb, ltb-true, ltb-false}
+use Rattle.std.proofs.Common.{◌≡◌, ◌≤◌, ◌<◌, ◌+◌, ◌-◌, ◌%◌, ◌==◌, ◌++◌, ℕ, zero, suc, Bool, true, false, not, cond, nat_lt, min, Option, None, Some, List, [], ◌∷◌, length, drop, slice_get, Result, Ok, Err, refl, subst, arith}
+use Rattle.std.proofs.lemmas.Bool.{ltb-true, ltb-false}
 use Rattle.std.proofs.lemmas.List.{length-drop}
 use Rattle.hsms_packets.specs.declared.number.Order.{Order}
 use Rattle.hsms_packets.specs.declared.number.Order.TheVariants as order
@@ -8,14 +8,13 @@ use Rattle.hsms_packets.specs.declared.front.Front.{Front}
 use Rattle.hsms_packets.specs.declared.front.Front.TheVariants as front
 use Rattle.hsms_packets.specs.declared.front.Interface.{Interface}
 use Rattle.hsms_packets.specs.declared.fault.CaptureFault.{CaptureFault}
-use Rattle.hsms_packets.specs.declared.fault.CaptureFault.TheVariants as fault
 use Rattle.hsms_packets.specs.declared.reader.Format.{Format}
 use Rattle.hsms_packets.specs.declared.reader.Format.TheVariants as format
 use Rattle.hsms_packets.specs.declared.reader.Opening.{Opening}
 use Rattle.hsms_packets.specs.declared.reader.Opening.TheVariants as opening
 use Rattle.hsms_packets.specs.Number.{number_in}
 use Rattle.hsms_packets.specs.Front.{greatest, pcap_at, pcapng_at, packet_at, timed_at, ticks_at, untimed_at, held_of, interface_at, block_of, size_at, in_block, in_section, order_of, section_at}
-use Rattle.hsms_packets.specs.File.{State, Packet, Ending, complete, cut, faulty, EndsAs, Reads, ReadsBehind, ReadsFile, front_at, front_by, size_of, after, packets_in, new_state, opening_at, pcap_opening_at}
+use Rattle.hsms_packets.specs.File.{State, Packet, Ending, complete, cut, faulty, Reads, ReadsBehind, ReadsFile, front_at, front_by, size_of, after, packets_in, new_state, opening_at, pcap_opening_at}
 
 -- it lies within so many octets, and isn't empty
 abbrev pub IsSound : ℕ → Front → Type 0

@@ -4,4 +4,3 @@ mod OneReading
 mod Behaving
 mod Staying
 mod Stepping
-mod Tails

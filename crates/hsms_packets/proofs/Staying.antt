@@ -1,6 +1,6 @@
 -- What was told of a file's front stays where more octets come.
-use Rattle.std.proofs.Common.{◌≡◌, ◌⊎◌, inl, inr, ◌≤◌, ◌<◌, ◌+◌, ◌-◌, ◌*◌, ◌%◌, ◌^◌, ◌==◌, ◌++◌, ◌∙◌, ℕ, zero, suc, Bool, true, false, not, cond, nat_lt, Option, None, Some, List, [], ◌∷◌, length, take, drop, slice_get, slice_index, Result, Ok, Err, refl, sym, ap, subst, arith}
-use Rattle.std.proofs.lemmas.Bool.{lt-ltb, le-ltb, ltb-true, ltb-false}
+use Rattle.std.proofs.Common.{◌≡◌, ◌⊎◌, inl, inr, ◌≤◌, ◌<◌, ◌+◌, ◌-◌, ◌%◌, ◌==◌, ◌++◌, ◌∙◌, ℕ, zero, suc, Bool, true, false, not, cond, nat_lt, Option, None, Some, List, [], ◌∷◌, length, take, drop, slice_get, slice_index, Result, Ok, Err, refl, sym, ap, subst, arith}
+use Rattle.std.proofs.lemmas.Bool.{le-ltb, ltb-false}
 use Rattle.std.proofs.lemmas.List.{append_assoc, drop-append-le, get_or_append_left, length-append, length-drop, take-append-le}
 use Rattle.byteorder.specs.Endian.{big_from, little_from}
 use Rattle.hsms_packets.specs.declared.number.Order.{Order}
@@ -15,7 +15,7 @@ use Rattle.hsms_packets.specs.declared.reader.Format.TheVariants as format
 use Rattle.hsms_packets.specs.declared.reader.Opening.{Opening}
 use Rattle.hsms_packets.specs.declared.reader.Opening.TheVariants as opening
 use Rattle.hsms_packets.specs.Number.{number_in}
-use Rattle.hsms_packets.specs.Front.{greatest, pcap_at, pcapng_at, options_at, packet_at, timed_at, ticks_at, untimed_at, interface_at, block_of, size_at, in_block, in_section, order_of, section_at}
+use Rattle.hsms_packets.specs.Front.{greatest, pcap_at, pcapng_at, packet_at, timed_at, ticks_at, untimed_at, interface_at, block_of, size_at, in_block, in_section, order_of, section_at}
 use Rattle.hsms_packets.specs.File.{State, Packet, Ending, complete, cut, faulty, EndsAs, Reads, ReadsBehind, ReadsFile, front_at, front_by, size_of, after, packets_in, new_state, opening_at, pcap_opening_at}
 use Rattle.hsms_packets.specs.Laws.{StaysTold}
 use Rattle.hsms_packets.proofs.OneReading.{goes_no_further, ends_or_goes_on, ends_once, same_front}

@@ -1,5 +1,5 @@
 -- A file that is read in blocks: what a step tells is what was to be told.
-use Rattle.std.proofs.Common.{◌≡◌, ◌⊎◌, inl, inr, min, ◌≤◌, ◌<◌, ◌+◌, ◌-◌, ◌++◌, ◌∙◌, ℕ, Bool, true, false, List, [], ◌∷◌, length, take, drop, Option, None, Some, Result, Ok, Err, refl, sym, ap, subst, arith}
+use Rattle.std.proofs.Common.{◌≡◌, inl, inr, min, ◌≤◌, ◌<◌, ◌+◌, ◌-◌, ◌++◌, ◌∙◌, ℕ, Bool, true, false, List, [], ◌∷◌, length, take, drop, Option, None, Some, Result, Ok, Err, refl, sym, ap, subst, arith}
 use Rattle.std.proofs.lemmas.List.{append-nil, append_cancel_left, drop-append-le, drop-take, length-take-le, take-take}
 use Rattle.hsms_frame.specs.Device.{WhereTold, IsAtEnd, Stays}
 use Rattle.hsms_packets.specs.declared.front.Front.{Front}
@@ -14,7 +14,8 @@ use Rattle.hsms_packets.specs.declared.reader.Format.{Format}
 use Rattle.hsms_packets.specs.declared.reader.Opening.{Opening}
 use Rattle.hsms_packets.specs.declared.reader.Opening.TheVariants as opening
 use Rattle.hsms_packets.specs.File.{State, Packet, Ending, complete, cut, faulty, EndsAs, Reads, ReadsBehind, ReadsFile, front_at, size_of, after, packets_in, greatest_count, new_state, opening_at}
-use Rattle.hsms_packets.specs.Blocks.{IsOfDevice, ends_after_find, ends_after_open, Reading, ReadsOn, ReadsMore, ReadsAll, ReadsFor, OpensFor, OpensAs, FindsFront, FindsOpening, EndsWith, LeavesRest, StepIsWithin, StepsAs, Tells, front_told, is_more, is_unopened, opening_told, packet_of, step_of}
+use Rattle.hsms_frame.specs.Ahead.{ReadsMore}
+use Rattle.hsms_packets.specs.Blocks.{IsOfDevice, ends_after_find, ends_after_open, Reading, ReadsOn, ReadsAll, ReadsFor, OpensFor, OpensAs, FindsFront, FindsOpening, EndsWith, StepIsWithin, StepsAs, Tells, front_told, is_more, is_unopened, opening_told, packet_of, step_of}
 use Rattle.hsms_packets.proofs.Behaving.{IsSound, front_is_sound, size_is_within, open_is_short, opening_is_short, opening_is_there}
 use Rattle.hsms_packets.proofs.Staying.{found_stays, fault_stays, packets_stay, opening_keeps, Keeps}
 

@@ -1,5 +1,8 @@
 -- A capture file that is read in blocks from a source.
 use Rattle.std.specs.Prelude.{◌≡◌, ◌≤◌, ◌<◌, ◌+◌, ◌-◌, ◌^◌, ◌++◌, ℕ, Bool, true, false, List, [], ◌∷◌, length, take, drop, Option, None, Some, Result, Ok, Err}
+use Rattle.hsms_frame.specs.declared.fault.AheadFault.{AheadFault}
+use Rattle.hsms_frame.specs.declared.fault.AheadFault.TheVariants as ahead
+use Rattle.hsms_frame.specs.Ahead.{ReadsMore}
 use Rattle.hsms_frame.specs.Count.{next_count}
 use Rattle.hsms_packets.specs.declared.fault.CaptureFault.{CaptureFault}
 use Rattle.hsms_packets.specs.declared.fault.FileFault.{FileFault}
@@ -109,13 +112,14 @@ ends_after_open (Err stop.Memory) n = n
 
 -- ---- for private contracts
 
--- some octets of the input were read behind those that were read before
-abbrev pub ReadsMore : List ℕ → List ℕ → List ℕ → Option (List ℕ) → Type 0
-ReadsMore ahead input now left = (rest : List ℕ) × (left ≡ Some rest) × (ahead ++ input ≡ now ++ rest)
-
 -- all octets of the input were read
 abbrev pub ReadsAll : List ℕ → List ℕ → List ℕ → Option (List ℕ) → Type 0
 ReadsAll ahead input now left = (left ≡ Some []) × (ahead ++ input ≡ now)
+
+-- why no more was read, as a file's fault
+abbrev pub of_ahead : AheadFault → FileFault
+of_ahead ahead.Read = stop.Read
+of_ahead ahead.Memory = stop.Memory
 
 -- a read failed, or there is no memory
 abbrev pub IsOfDevice : FileFault → Type 0
@@ -123,12 +127,6 @@ IsOfDevice (stop.Capture place f) = ⊥
 IsOfDevice stop.CutOff = ⊥
 IsOfDevice stop.Read = Unit {0}
 IsOfDevice stop.Memory = Unit {0}
-
--- how often a source's end was found, by whether there was more
-abbrev pub ends_after_more : Result Bool FileFault → ℕ → ℕ
-ends_after_more (Ok true) n = n
-ends_after_more (Ok false) n = next_count n
-ends_after_more (Err f) n = n
 
 -- neither a front nor a fault is there
 abbrev pub is_more : Result Front CaptureFault → Bool

@@ -3,8 +3,9 @@
 ghost use Rattle.std.specs.Prelude.{◌≡◌};
 ghost use Rattle.hsms_packets.specs.declared.fault.CaptureFault.TheVariants.{Memory};
 ghost use Rattle.hsms_packets.specs.declared.fault.FileFault.TheVariants as stop;
+ghost use Rattle.hsms_packets.specs.Blocks.{of_ahead};
 
-use hsms_frame::Failed;
+use hsms_frame::AheadFault;
 use std::alloc::{AllocError, AllocFailed};
 use thiserror::Error;
 
@@ -67,10 +68,13 @@ impl From<AllocError> for FileFault {
     }
 }
 
-impl From<Failed> for FileFault {
-    ghost from_gives = { λ _ f. f ≡ stop.Read };
+impl From<AheadFault> for FileFault {
+    ghost from_gives = { λ fault f. f ≡ of_ahead fault };
 
-    fn from(_: Failed) -> FileFault {
-        FileFault::Read
+    fn from(fault: AheadFault) -> FileFault {
+        match fault {
+            AheadFault::Read => FileFault::Read,
+            AheadFault::Memory => FileFault::Memory,
+        }
     }
 }

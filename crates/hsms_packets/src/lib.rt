@@ -16,7 +16,6 @@
 //! ```
 #![tactic(auto)]
 
-mod ahead;
 mod fault;
 mod front;
 pub mod laws;

@@ -1,15 +1,15 @@
 //! A capture file that is read in blocks, a packet at a time.
 
-ghost use Rattle.std.specs.Prelude.{◌≡◌, ◌≤◌, length, IfOk};
-ghost use Rattle.hsms_frame.specs.Device.{WhereTold};
+ghost use Rattle.std.specs.Prelude.{◌≡◌, ◌≤◌, ◌<◌, Ok, true, false, length, IfErr, IfOk, OnErr};
+ghost use Rattle.hsms_frame.specs.Ahead.{ReadsMore, ends_after_more};
+ghost use Rattle.hsms_frame.specs.Device.{WhereTold, IsAtEnd, Stays};
 ghost use Rattle.hsms_packets.specs.File.{HasParts};
-ghost use Rattle.hsms_packets.specs.Blocks.{EndsWith, FindsFront, FindsOpening, OpensFor, ReadsFor, ends_after_find, ends_after_open, failures_after, front_told, greatest_ahead, is_more, is_unopened, opening_told, step_of};
+ghost use Rattle.hsms_packets.specs.Blocks.{EndsWith, FindsFront, FindsOpening, IsOfDevice, OpensFor, ReadsFor, ends_after_find, ends_after_open, failures_after, front_told, greatest_ahead, is_more, is_unopened, opening_told, step_of};
 
-use crate::ahead::Ahead;
 use crate::fault::{CaptureFault, FileFault};
 use crate::front::{Front, Record};
 use crate::reader::{Format, Opening, Reader, format_of};
-use hsms_frame::Source;
+use hsms_frame::{Ahead, Source};
 use std::alloc::Global;
 use std::marker::Model;
 
@@ -37,13 +37,13 @@ pub struct Packets {
 
 impl Model for Packets {
     ghost use Rattle.std.specs.Prelude.{◌≤◌, length, drop, take};
-    ghost use Rattle.hsms_packets.specs.Blocks.{Reading};
+    ghost use Rattle.hsms_packets.specs.Blocks.{Reading, greatest_ahead};
 
     ghost Value = { Reading };
 
     ghost view = { λ p. record { state = p.reader; last = take p.last p.ahead; ahead = drop p.last p.ahead } };
 
-    ghost invariant = { λ p. p.last ≤ length p.ahead };
+    ghost invariant = { λ p. (p.last ≤ length p.ahead) × (length p.ahead ≤ greatest_ahead) };
 }
 
 impl Packets {
@@ -116,6 +116,7 @@ fn next_front<R: Source>(
     ahead: &mut Ahead,
     source: &mut R,
 ) -> Result<Option<Front>, FileFault>
+    requires { length ahead.old ≤ greatest_ahead }
     ensures read { WhereTold (R.state source.old).left
         (λ input. ReadsFor result ahead.old input ahead.new (R.state source.new).left) }
     ensures found { FindsFront reader.now ahead.new result }
@@ -125,7 +126,7 @@ fn next_front<R: Source>(
 {
     let mut found = reader.front(ahead.as_slice());
     while is_to_be_read(&found) {
-        if !ahead.read_more(source)? {
+        if !read_more(ahead, source)? {
             return at_end(ahead.as_slice());
         }
         found = reader.front(ahead.as_slice());
@@ -173,21 +174,40 @@ fn told_step(number: u64, front: Front) -> Step
 
 // The format of a file, and how many octets its header has, once it is ahead.
 fn opening<R: Source>(ahead: &mut Ahead, source: &mut R) -> Result<(Format, usize), FileFault>
+    requires { length ahead.old ≤ greatest_ahead }
     ensures read { WhereTold (R.state source.old).left
         (λ input. OpensFor result ahead.old input ahead.new (R.state source.new).left) }
     ensures found { FindsOpening ahead.new result }
     ensures parts { IfOk result (λ opened. HasParts opened.0) }
+    ensures bound { length ahead.new ≤ greatest_ahead }
     ensures ends { (R.state source.new).ends ≡ ends_after_open result (R.state source.old).ends }
     ensures failures { (R.state source.new).failures ≡ failures_after result (R.state source.old).failures }
 {
     let mut found = format_of(ahead.as_slice());
     while is_to_be_opened(&found) {
-        if !ahead.read_more(source)? {
+        if !read_more(ahead, source)? {
             return Err(FileFault::CutOff);
         }
         found = format_of(ahead.as_slice());
     }
     told_opening(found)
+}
+
+// Reads more octets behind the others, and says whether there were any: none only at the end of the input.
+fn read_more<R: Source>(ahead: &mut Ahead, source: &mut R) -> Result<bool, FileFault>
+    requires { length ahead.old < 16777232 }
+    ensures ok { IfOk result (λ is_more. WhereTold (R.state source.old).left
+        (λ input. ReadsMore ahead.old input ahead.new (R.state source.new).left)) }
+    ensures more { result ≡ Ok true → length ahead.old < length ahead.new }
+    ensures none { result ≡ Ok false → (ahead.new ≡ ahead.old) × IsAtEnd (R.state source.old).left }
+    ensures bound { length ahead.new ≤ greatest_ahead }
+    ensures kept { OnErr result (ahead.new ≡ ahead.old) }
+    ensures err { OnErr result (Stays (R.state source.old).left (R.state source.new).left) }
+    ensures ends { (R.state source.new).ends ≡ ends_after_more result (R.state source.old).ends }
+    ensures stop { IfErr result IsOfDevice }
+    ensures failures { (R.state source.new).failures ≡ failures_after result (R.state source.old).failures }
+{
+    Ok(ahead.read_more(source)?)
 }
 
 // Whether neither a format nor a fault is there.

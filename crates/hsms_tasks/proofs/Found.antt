@@ -1,5 +1,5 @@
 -- The next message of an input that is read ahead.
-use Rattle.std.proofs.Common.{◌≡◌, ◌≢◌, ◌≤◌, ◌<◌, ◌+◌, ◌++◌, ℕ, List, [], length, take, drop, None, Some, Ok, Err, true, false, refl, sym, ◌∙◌, ap, subst, arith}
+use Rattle.std.proofs.Common.{◌≡◌, ◌≢◌, inl, inr, ◌≤◌, ◌<◌, ◌+◌, ◌++◌, ℕ, List, [], length, take, drop, None, Some, Ok, Err, true, false, refl, sym, ◌∙◌, ap, subst, arith}
 use Rattle.std.specs.Int.{w32, from_be_bytes}
 use Rattle.std.specs.Prelude.{Option, Result, IfOk}
 use Rattle.std.proofs.lemmas.List.{append-nil, append_assoc, drop-append-le, length-append, length-take-le, take-append-drop, take-append-le}
@@ -7,12 +7,15 @@ use Rattle.hsms_frame.specs.declared.fault.FrameFault.{FrameFault}
 use Rattle.hsms_frame.specs.declared.fault.FrameFault.TheVariants as frame
 use Rattle.hsms_frame.specs.declared.fault.ReadFault.TheVariants.{TooShort, TooLong, CutOff}
 use Rattle.hsms_frame.specs.declared.header.Header.{Header}
+use Rattle.hsms_frame.specs.Ahead.{ReadsMore}
 use Rattle.hsms_frame.specs.Device.{WhereTold}
 use Rattle.hsms_frame.specs.Frame.{Frame, frame_octets, length_field, IsFaultless, IsProperFront, IsTooLong, IsTooShort}
-use Rattle.hsms_frame.specs.Framing.{FrontAs}
+use Rattle.hsms_frame.specs.Framing.{FrontAs, IsFrontOf}
+use Rattle.hsms_frame.proofs.Determined.{one_framed}
+use Rattle.hsms_frame.proofs.Fronts.{whole_at_front}
 use Rattle.hsms_options.specs.declared.fault.ToolFault.{ToolFault}
 use Rattle.hsms_options.specs.declared.fault.ToolFault.TheVariants.{Refused, Device, Memory}
-use Rattle.hsms_tasks.specs.Ahead.{EndsAs, FindsNext, IsStopped, IsUnread, ReadsMore, TellsFound, is_open, of_reading}
+use Rattle.hsms_tasks.specs.Ahead.{EndsAs, FindsNext, IsStopped, IsUnread, TellsFound, is_open, of_reading}
 use Rattle.hsms_tasks.specs.Show.{LeavesPart, Tells}
 
 pub if_ok_map : {T E : Type 0} (r : Result T E) (P Q : T → Type 0) → ((x : T) → P x → Q x) → IfOk r P → IfOk r Q
@@ -20,12 +23,6 @@ if_ok_map (Ok x) P Q f h = f x h
 if_ok_map (Err e) P Q f h = tt
 
 -- ---- reading more
-
--- octets were read behind the others
-pub more_read : (ahead buffer now input : List ℕ) (n : ℕ) → now ≡ ahead ++ take n buffer → take n buffer ≡ take n input → ahead ++ input ≡ now ++ drop n input
-more_read ahead buffer now input n is same =
-    ap (λ (xs : List ℕ). ahead ++ xs) (sym (take-append-drop n input)) ∙ sym (append_assoc ahead (take n input) (drop n input))
-    ∙ ap (λ (xs : List ℕ). ahead ++ xs ++ drop n input) (sym same) ∙ ap (λ (xs : List ℕ). xs ++ drop n input) (sym is)
 
 pub reads_on : (before mid now : List ℕ) (input : List ℕ) (left new : Option (List ℕ)) → ReadsMore before input mid left
     → WhereTold left (λ rest. ReadsMore mid rest now new) → ReadsMore before input now new
@@ -59,8 +56,7 @@ pub stopped : (max : ℕ) (input ahead rest : List ℕ) (fault : ToolFault) (lef
     → IsUnread rest fault left → IsStopped max input fault left
 stopped max input ahead rest (Refused words) left parts begun none = absurd none
 stopped max input ahead rest (Device word) left parts begun is = (ahead, rest, parts, is, begun.0, begun.1)
-stopped max input ahead rest Memory left parts begun (taken, more, split, is) =
-    (ahead ++ taken, more, parts ∙ ap (λ (xs : List ℕ). ahead ++ xs) split ∙ sym (append_assoc ahead taken more), is)
+stopped max input ahead rest Memory left parts begun is = (ahead, rest, parts, is)
 
 all_of : (input : List ℕ) (left : Option (List ℕ)) → left ≡ Some [] → LeavesPart input left
 all_of input left is = (input, [], sym (append-nil input), is)
@@ -129,3 +125,27 @@ found_is_told max input ahead (Ok (Some m)) told left closed front tells reads =
 found_is_told max input ahead (Ok None) told left closed front tells reads = cc
 found_is_told max input ahead (Err fault) told left closed front (tool, is, tells) (rest, left_is, parts) =
     subst (λ r. FindsNext max input r ahead left) (sym is) (stopped_at max input ahead rest fault tool left left_is parts front tells)
+
+-- no part of a message is a whole one
+not_a_part : (max : ℕ) (octets : List ℕ) (header : Header) (size : ℕ) → IsOpen max octets → IsFrontOf max octets header size → ⊥
+not_a_part max octets header size (fine, begun) whole =
+    let text : List ℕ = take size (drop 14 octets) in
+    let f : Frame = record { header = header; text = text } in
+    elim (one_framed max octets (Ok (Some f)) (Ok None) (drop (14 + length text) octets) octets (whole_at_front max octets text header size whole refl) (fine, begun, refl)) [
+      | inl e ↦ cc
+      | inr q ↦ elim q [ inl e ↦ cc | inr e ↦ cc ]
+    ]
+
+-- what is there whole is found
+pub not_whole : (max : ℕ) (octets : List ℕ) (found : Result (Option (Header × ℕ)) FrameFault) (header : Header) (size : ℕ) → FrontAs max octets found
+    → IsFrontOf max octets header size → (n : Header × ℕ) × (found ≡ Ok (Some n))
+not_whole max octets (Ok (Some n)) header size front whole = (n, refl)
+not_whole max octets (Ok None) header size front whole =
+    absurd (not_a_part max octets header size front whole)
+not_whole max octets (Err (frame.TooShort n)) header size front whole =
+    let field : n ≡ 10 + size = front.field ∙ whole.field in
+    absurd (omega (arith, front.short, field))
+not_whole max octets (Err (frame.TooLong n h)) header size front whole =
+    let field : n ≡ 10 + size = front.field ∙ whole.field in
+    absurd (omega (arith, front.long, field, whole.within))
+not_whole max octets (Err frame.Memory) header size front whole = absurd front

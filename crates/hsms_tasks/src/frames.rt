@@ -2,25 +2,14 @@
 
 ghost use Rattle.std.specs.Prelude.{◌≡◌, ◌<◌, ◌+◌, ◌^◌, ◌++◌, [], true, length, OnOk, IfOk, IfErr, None};
 ghost use Rattle.secs_text.specs.Content.{Content};
-ghost use Rattle.std.specs.Int.{w32, to_be_bytes};
 ghost use Rattle.hsms_frame.specs.Frame.{frame_octets};
-ghost use Rattle.hsms_frame.specs.Header.{header_octets};
 ghost use Rattle.hsms_tasks.specs.Encode.{output_of, HasRefused};
 
 use crate::refusal::Refusal;
-use hsms_frame::{Header, data_header};
+use hsms_frame::{Header, data_header, front_octets};
 use hsms_options::{ToolFault, refused};
 use secs_text::{Head, Receiver};
 use std::alloc::{AllocError, Global};
-
-// The octets before the text of a frame.
-fn front(length: u32, header: Header) -> [u8; 14]
-    ensures { result ≡ to_be_bytes w32 length ++ header_octets header }
-{
-    let [l0, l1, l2, l3] = length.to_be_bytes();
-    let [h0, h1, h2, h3, h4, h5, h6, h7, h8, h9] = header.octets();
-    [l0, l1, l2, l3, h0, h1, h2, h3, h4, h5, h6, h7, h8, h9]
-}
 
 // Adds the octets of a frame.
 fn push_octets(octets: &mut Vec<u8>, header: Header, text: &[u8]) -> Result<(), AllocError>
@@ -28,7 +17,7 @@ fn push_octets(octets: &mut Vec<u8>, header: Header, text: &[u8]) -> Result<(), 
     ensures { OnOk result (octets.new.items ≡ octets.old.items ++ frame_octets (record { header = header; text = text.now })) }
 {
     let length = 10 + text.len() as u32;
-    octets.extend_from_slice(&front(length, header))?;
+    octets.extend_from_slice(&front_octets(length, header))?;
     octets.extend_from_slice(text)?;
     Ok(())
 }

@@ -1,7 +1,6 @@
-use Rattle.std.proofs.Common.{◌≤◌, Ok, length, ap, arith, sym, ◌∙◌}
+use Rattle.std.proofs.Common.{Ok, length, ap, arith, ◌∙◌}
 use Rattle.std.proofs.lemmas.Result.{err_from_is_err_and}
 use Rattle.hsms_packets.specs.declared.front.Front.{Front}
-use Rattle.hsms_packets.specs.Blocks.{greatest_ahead}
 use Rattle.hsms_packets.proofs.Stepping.{all_read, device_ends, device_finds, device_reads, ends_read, more_stays, open_short, told_finds}
 use Rattle.hsms_packets.proofs.packets.next_front.Goals as goal
 
@@ -14,13 +13,13 @@ returns-in_err-read_more-clause-read g c = λ input told.
     let p = err_from_is_err_and c.from_residual.result c.from_residual.ensures.1 in
     let left = (g.R.Source.state c.loop-found.source).left in
     let new = (g.R.Source.state c.read_more.new.source).left in
-    rw (p.1, p.2) (device_reads Front c.in_err-read_more.field-0.0 c.args.ahead.now c.read_more.new.self input new c.in_err-read_more.ensures.stop
-    (more_stays c.args.ahead.now c.loop-found.ahead c.read_more.new.self input left new (c.loop-found.invariant.0 input told) c.in_err-read_more.ensures.kept c.in_err-read_more.ensures.err))
+    rw (p.1, p.2) (device_reads Front c.in_err-read_more.field-0.0 c.args.ahead.now c.read_more.new.ahead input new c.in_err-read_more.ensures.stop
+    (more_stays c.args.ahead.now c.loop-found.ahead c.read_more.new.ahead input left new (c.loop-found.invariant.0 input told) c.in_err-read_more.ensures.kept c.in_err-read_more.ensures.err))
 
 pub returns-in_err-read_more-clause-found : goal.returns-in_err-read_more-clause-found
 returns-in_err-read_more-clause-found g c =
     let p = err_from_is_err_and c.from_residual.result c.from_residual.ensures.1 in
-    rw (p.1, p.2) (device_finds c.args.reader.now c.read_more.new.self c.in_err-read_more.field-0.0 c.in_err-read_more.ensures.stop)
+    rw (p.1, p.2) (device_finds c.args.reader.now c.read_more.new.ahead c.in_err-read_more.field-0.0 c.in_err-read_more.ensures.stop)
 
 pub returns-in_err-read_more-clause-bound : goal.returns-in_err-read_more-clause-bound
 returns-in_err-read_more-clause-bound g c =
@@ -39,8 +38,8 @@ returns-then-not-branch-clause-read g c = λ input told.
     let none = c.in_ok-read_more.ensures.none (ap Ok c.if-not-branch.true) in
     let left = (g.R.Source.state c.loop-found.source).left in
     let new = (g.R.Source.state c.read_more.new.source).left in
-    ends_read c.as_slice-then-not-branch.result.now c.args.ahead.now c.read_more.new.self input c.at_end.result new c.at_end.ensures
-    (all_read c.args.ahead.now c.loop-found.ahead c.read_more.new.self input left new (c.loop-found.invariant.0 input told) none.0 none.1 c.in_ok-read_more.ensures.ok)
+    ends_read c.as_slice-then-not-branch.result.now c.args.ahead.now c.read_more.new.ahead input c.at_end.result new c.at_end.ensures
+    (all_read c.args.ahead.now c.loop-found.ahead c.read_more.new.ahead input left new (c.loop-found.invariant.0 input told) none.0 none.1 c.in_ok-read_more.ensures.ok)
 
 pub loop-found-smaller : goal.loop-found-smaller
 loop-found-smaller g c =

@@ -1,7 +1,8 @@
 use Rattle.std.proofs.Common.{◌≡◌, ◌≤◌, ◌-◌, length}
 use Rattle.hsms_frame.specs.Device.{WhereTold}
 use Rattle.hsms_packets.specs.File.{front_at}
-use Rattle.hsms_packets.specs.Blocks.{ReadsMore, greatest_ahead}
+use Rattle.hsms_frame.specs.Ahead.{ReadsMore}
+use Rattle.hsms_packets.specs.Blocks.{greatest_ahead}
 use Rattle.hsms_packets.proofs.packets.next_front.Given as goal
 
 -- more was read behind what was read before, the end wasn't found, and no read failed

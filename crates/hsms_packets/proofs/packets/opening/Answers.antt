@@ -1,4 +1,4 @@
-use Rattle.std.proofs.Common.{◌<◌, ℕ, Ok, length, ap, arith, sym, ◌∙◌}
+use Rattle.std.proofs.Common.{ℕ, Ok, length, ap, arith, ◌∙◌}
 use Rattle.std.proofs.lemmas.Result.{err_from_is_err_and}
 use Rattle.hsms_packets.specs.declared.reader.Format.{Format}
 use Rattle.hsms_packets.proofs.Stepping.{all_read, device_ends_open, device_finds_opening, device_opens, more_stays, opening_short, told_opens}
@@ -14,13 +14,13 @@ returns-in_err-read_more-clause-read g c = λ input told.
     let p = err_from_is_err_and c.from_residual.result c.from_residual.ensures.1 in
     let left = (g.R.Source.state c.loop-found.source).left in
     let new = (g.R.Source.state c.read_more.new.source).left in
-    rw (p.1, p.2) (device_opens (Format × ℕ) c.in_err-read_more.field-0.0 c.args.ahead.now c.read_more.new.self input new c.in_err-read_more.ensures.stop
-    (more_stays c.args.ahead.now c.loop-found.ahead c.read_more.new.self input left new (c.loop-found.invariant.0 input told) c.in_err-read_more.ensures.kept c.in_err-read_more.ensures.err))
+    rw (p.1, p.2) (device_opens (Format × ℕ) c.in_err-read_more.field-0.0 c.args.ahead.now c.read_more.new.ahead input new c.in_err-read_more.ensures.stop
+    (more_stays c.args.ahead.now c.loop-found.ahead c.read_more.new.ahead input left new (c.loop-found.invariant.0 input told) c.in_err-read_more.ensures.kept c.in_err-read_more.ensures.err))
 
 pub returns-in_err-read_more-clause-found : goal.returns-in_err-read_more-clause-found
 returns-in_err-read_more-clause-found g c =
     let p = err_from_is_err_and c.from_residual.result c.from_residual.ensures.1 in
-    rw (p.1, p.2) (device_finds_opening c.read_more.new.self c.in_err-read_more.field-0.0 c.in_err-read_more.ensures.stop)
+    rw (p.1, p.2) (device_finds_opening c.read_more.new.ahead c.in_err-read_more.field-0.0 c.in_err-read_more.ensures.stop)
 
 pub returns-in_err-read_more-clause-ends : goal.returns-in_err-read_more-clause-ends
 returns-in_err-read_more-clause-ends g c =
@@ -33,7 +33,7 @@ returns-then-not-branch-clause-read g c = λ input told.
     let none = c.in_ok-read_more.ensures.none (ap Ok c.if-not-branch.true) in
     let left = (g.R.Source.state c.loop-found.source).left in
     let new = (g.R.Source.state c.read_more.new.source).left in
-    all_read c.args.ahead.now c.loop-found.ahead c.read_more.new.self input left new (c.loop-found.invariant.0 input told) none.0 none.1 c.in_ok-read_more.ensures.ok
+    all_read c.args.ahead.now c.loop-found.ahead c.read_more.new.ahead input left new (c.loop-found.invariant.0 input told) none.0 none.1 c.in_ok-read_more.ensures.ok
 
 pub loop-found-smaller : goal.loop-found-smaller
 loop-found-smaller g c =
@@ -43,3 +43,9 @@ loop-found-smaller g c =
 
 pub returns-clause-found : goal.returns-clause-found
 returns-clause-found g c = told_opens c.loop-found.ahead c.loop-found.found c.told_opening.result c.loop-found.invariant.1 c.told_opening.ensures
+
+pub returns-in_err-read_more-clause-bound : goal.returns-in_err-read_more-clause-bound
+returns-in_err-read_more-clause-bound g c =
+    let same = ap length c.in_err-read_more.ensures.kept in
+    let bound = c.loop-found.invariant.5 in
+    omega (arith, same, bound)

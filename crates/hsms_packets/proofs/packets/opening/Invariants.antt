@@ -1,7 +1,8 @@
-use Rattle.std.proofs.Common.{◌≡◌, ◌-◌, length, IfOk}
+use Rattle.std.proofs.Common.{◌≡◌, ◌≤◌, ◌-◌, length, IfOk}
 use Rattle.hsms_frame.specs.Device.{WhereTold}
+use Rattle.hsms_packets.specs.Blocks.{greatest_ahead}
 use Rattle.hsms_packets.specs.File.{HasOpened, opening_at}
-use Rattle.hsms_packets.specs.Blocks.{ReadsMore}
+use Rattle.hsms_frame.specs.Ahead.{ReadsMore}
 use Rattle.hsms_packets.proofs.packets.opening.Given as goal
 
 -- more was read behind what was read before, the end wasn't found, and no read failed
@@ -12,6 +13,7 @@ invariant-loop-found g l =
     × ((g.R.Source.state l.source).ends ≡ (g.R.Source.state l.initial.source).ends)
     × ((g.R.Source.state l.source).failures ≡ (g.R.Source.state l.initial.source).failures)
     × IfOk l.found (HasOpened (length l.ahead))
+    × (length l.ahead ≤ greatest_ahead)
 
 -- each part of a header is shorter than 24 octets
 abbrev pub decreases-loop-found : goal.decreases-loop-found

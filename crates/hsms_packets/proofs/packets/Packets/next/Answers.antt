@@ -1,4 +1,4 @@
-use Rattle.std.proofs.Common.{◌≡◌, refl, ap, ◌∙◌}
+use Rattle.std.proofs.Common.{refl, ap, ◌∙◌}
 use Rattle.std.proofs.lemmas.Result.{err_from_is_err_and}
 use Rattle.hsms_packets.specs.declared.fault.FileFault.TheVariants as stop
 use Rattle.hsms_packets.specs.Blocks.{Reading}
@@ -35,7 +35,7 @@ returns-in_default-pass-clause-step g c = λ input told.
 pub invariant_of-self-2 : goal.invariant_of-self-2
 invariant_of-self-2 g c =
     let found = rw c.in-Some.is at c.in_ok-front.ensures.found in
-    size_fits c.self.inside.reader c.next_front.new.ahead c.in-Some.front c.in-Ok.size found c.in-Ok.ensures.size
+    (size_fits c.self.inside.reader c.next_front.new.ahead c.in-Some.front c.in-Ok.size found c.in-Ok.ensures.size, c.in_ok-front.ensures.bound)
 
 pub returns-clause-step : goal.returns-clause-step
 returns-clause-step g c = λ input told.

@@ -1,7 +1,8 @@
-use Rattle.std.proofs.Common.{◌≡◌, ℕ, List, Err, refl, subst}
+use Rattle.std.proofs.Common.{ℕ, List, Err, subst}
 use Rattle.std.proofs.lemmas.Result.{err_from_is_err_and}
 use Rattle.hsms_packets.specs.declared.reader.Format.{Format}
-use Rattle.hsms_packets.specs.Blocks.{OpensFor, ReadsMore}
+use Rattle.hsms_frame.specs.Ahead.{ReadsMore}
+use Rattle.hsms_packets.specs.Blocks.{OpensFor}
 use Rattle.hsms_packets.specs.contracts.packets.Packets.{the_view}
 use Rattle.hsms_packets.proofs.Behaving.{opening_is_there}
 use Rattle.hsms_packets.proofs.Stepping.{not_opened, opened}

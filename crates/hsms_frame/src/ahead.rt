@@ -1,20 +1,24 @@
-//! Octets of a file that are read ahead of what was passed.
+//! Octets of a source that are read ahead of what was passed.
 
-ghost use Rattle.std.specs.Prelude.{◌≡◌, ◌≤◌, ◌<◌, ◌+◌, ◌-◌, Ok, true, false, drop, take, length, vec_len, nat_lt, if◌then◌else◌, IfErr, IfOk, OnOk, OnErr};
+ghost use Rattle.std.specs.Prelude.{◌≡◌, ◌≤◌, ◌<◌, ◌+◌, ◌-◌, Ok, true, false, drop, take, length, vec_len, nat_lt, if◌then◌else◌, IfOk, OnOk, OnErr};
 ghost use Rattle.std.specs.List.{slice_range};
+ghost use Rattle.hsms_frame.specs.Ahead.{ReadsMore, ends_after_more, failures_after_more, most_ahead};
 ghost use Rattle.hsms_frame.specs.Count.{next_count};
 ghost use Rattle.hsms_frame.specs.Device.{WhereTold, IsAtEnd, Stays, Takes, ends_after};
-ghost use Rattle.hsms_packets.specs.Blocks.{IsOfDevice, ReadsMore, ends_after_more, failures_after, greatest_ahead};
 
-use crate::fault::FileFault;
-use hsms_frame::Source;
+use crate::device::Source;
+use crate::fault::AheadFault;
 use std::alloc::{AllocError, Global};
 use std::marker::Model;
 
-// How many octets are asked for at a time, at least.
+// How many octets there is room for behind the others, at least, before a read.
 const BLOCK: usize = 65536;
 
-/// Octets that were read and not passed. Contracts see them as a list.
+/// Octets of a source that were read and not passed. Contracts see them as a list.
+///
+/// Whoever has use for the octets at the front looks at them where they are, and passes them; only a read moves those
+/// that are left to the front. The room that is held is for 131,072 octets, or for 65,536 more than were there at most
+/// before a read.
 #[derive(Drop)]
 pub struct Ahead {
     octets: Vec<u8>,
@@ -25,19 +29,18 @@ pub struct Ahead {
 impl Model for Ahead {
     ghost use Rattle.std.specs.Prelude.{◌≡◌, ◌≤◌, List, ℕ, vec_len};
     ghost use Rattle.std.specs.List.{slice_range};
-    ghost use Rattle.hsms_packets.specs.Blocks.{greatest_ahead};
 
     ghost Value = { List ℕ };
 
     ghost view = { λ a. slice_range a.octets.items a.place a.end };
 
-    ghost invariant = { λ a. (a.place ≤ a.end) × (a.end ≤ vec_len a.octets) × (vec_len a.octets ≤ greatest_ahead) };
+    ghost invariant = { λ a. (a.place ≤ a.end) × (a.end ≤ vec_len a.octets) × (131072 ≤ vec_len a.octets) };
 }
 
 impl Ahead {
     ghost use Rattle.std.specs.Prelude.{[]};
 
-    /// No octets.
+    /// No octets. Takes the memory for 131,072 of them.
     pub fn new(alloc: Global) -> Result<Ahead, AllocError>
         ensures { IfOk result (λ ahead. ahead ≡ []) }
     {
@@ -52,8 +55,7 @@ impl Ahead {
     /// The octets.
     #[inline(always)]
     pub fn as_slice(&self) -> &[u8]
-        ensures octets { result.now ≡ self.now }
-        ensures bound { length result.now ≤ greatest_ahead }
+        ensures { result.now ≡ self.now }
     {
         &self.octets[self.place..self.end]
     }
@@ -67,24 +69,28 @@ impl Ahead {
         self.place += count;
     }
 
-    /// Reads more octets, and says whether there were any: none only at the end of the input. No octet is lost, whatever
-    /// the answer.
-    pub fn read_more<R: Source>(&mut self, source: &mut R) -> Result<bool, FileFault>
-        requires { length self.old < 16777232 }
+    /// Reads more octets behind the others, and says whether there were any: none only at the end of the input. The read
+    /// may wait.
+    ///
+    /// # Errors
+    ///
+    /// `Memory`, before anything is read, and `Read`. No octet is lost, and those that are there stay.
+    pub fn read_more<R: Source>(&mut self, source: &mut R) -> Result<bool, AheadFault>
         ensures ok { IfOk result (λ is_more. WhereTold (R.state source.old).left
             (λ input. ReadsMore self.old input self.new (R.state source.new).left)) }
         ensures more { result ≡ Ok true → length self.old < length self.new }
         ensures none { result ≡ Ok false → (self.new ≡ self.old) × IsAtEnd (R.state source.old).left }
+        ensures bound { length self.new ≤ most_ahead (length self.old) }
         ensures kept { OnErr result (self.new ≡ self.old) }
         ensures err { OnErr result (Stays (R.state source.old).left (R.state source.new).left) }
         ensures ends { (R.state source.new).ends ≡ ends_after_more result (R.state source.old).ends }
-        ensures stop { IfErr result IsOfDevice }
-        ensures failures { (R.state source.new).failures ≡ failures_after result (R.state source.old).failures }
+        ensures failures { (R.state source.new).failures ≡ failures_after_more result (R.state source.old).failures }
     {
         self.end = settle(&mut self.octets, self.place, self.end);
         self.place = 0;
         make_room(&mut self.octets, self.end)?;
-        let count = read_behind(&mut self.octets, self.end, source)?;
+        let most = (self.end + BLOCK).max(2 * BLOCK);
+        let count = read_behind(&mut self.octets, self.end, most, source)?;
         self.end += count;
         Ok(count > 0)
     }
@@ -103,14 +109,11 @@ fn settle(octets: &mut [u8], place: usize, end: usize) -> usize
     end - place
 }
 
-// Makes room for what is read at a time.
+// Makes room behind octets.
 fn make_room(octets: &mut Vec<u8>, end: usize) -> Result<(), AllocError>
-    requires within { end ≤ vec_len octets.old }
-    requires short { end < 16777232 }
-    requires bound { vec_len octets.old ≤ greatest_ahead }
+    requires { end ≤ vec_len octets.old }
     ensures front { take end octets.new.items ≡ take end octets.old.items }
     ensures longer { vec_len octets.old ≤ vec_len octets.new }
-    ensures bound { vec_len octets.new ≤ greatest_ahead }
     ensures room { OnOk result (end + 65536 ≤ vec_len octets.new) }
 {
     if octets.len() - end < BLOCK {
@@ -119,16 +122,17 @@ fn make_room(octets: &mut Vec<u8>, end: usize) -> Result<(), AllocError>
     Ok(())
 }
 
-// Reads octets to behind the others, and says how many: none only at the end of the input.
+// Reads octets to behind the others, up to a place, and says how many: none only at the end of the input.
 fn read_behind<R: Source>(
     octets: &mut Vec<u8>,
     end: usize,
+    most: usize,
     source: &mut R,
-) -> Result<usize, FileFault>
-    requires { end + 65536 ≤ vec_len octets.old }
+) -> Result<usize, AheadFault>
+    requires { (end < most) × (most ≤ vec_len octets.old) }
     ensures ok { IfOk result (λ count. WhereTold (R.state source.old).left
         (λ input. ReadsMore (take end octets.old.items) input (take (end + count) octets.new.items) (R.state source.new).left)) }
-    ensures within { IfOk result (λ count. end + count ≤ vec_len octets.new) }
+    ensures within { IfOk result (λ count. end + count ≤ most) }
     ensures none { result ≡ Ok 0 → IsAtEnd (R.state source.old).left }
     ensures front { take end octets.new.items ≡ take end octets.old.items }
     ensures length { vec_len octets.new ≡ vec_len octets.old }
@@ -136,16 +140,15 @@ fn read_behind<R: Source>(
     ensures ends { IfOk result (λ count. (R.state source.new).ends
         ≡ (if nat_lt 0 count then (R.state source.old).ends else next_count (R.state source.old).ends)) }
     ensures ends_stay { OnErr result ((R.state source.new).ends ≡ (R.state source.old).ends) }
-    ensures stop { IfErr result IsOfDevice }
-    ensures failures { (R.state source.new).failures ≡ failures_after result (R.state source.old).failures }
+    ensures failures { (R.state source.new).failures ≡ failures_after_more result (R.state source.old).failures }
 {
-    let tail = &mut octets[end..];
+    let tail = &mut octets[end..most];
     let count = pull(source, tail)?;
     Ok(count)
 }
 
-// Reads some octets to the front of a slice with room, and says how many: none only at the end of the input.
-fn pull<R: Source>(source: &mut R, into: &mut [u8]) -> Result<usize, FileFault>
+// Reads some octets to the front of a slice, and says how many.
+fn pull<R: Source>(source: &mut R, into: &mut [u8]) -> Result<usize, AheadFault>
     ensures len { length into.new ≡ length into.old }
     ensures bound { IfOk result (λ n. n ≤ length into.new) }
     ensures octets { IfOk result (λ n. Takes (R.state source.old).left (R.state source.new).left n into.new) }
@@ -154,8 +157,7 @@ fn pull<R: Source>(source: &mut R, into: &mut [u8]) -> Result<usize, FileFault>
         ≡ ends_after (length into.new) (Ok n) (R.state source.old).ends) }
     ensures ends_stay { OnErr result ((R.state source.new).ends ≡ (R.state source.old).ends) }
     ensures none_lost { OnErr result (Stays (R.state source.old).left (R.state source.new).left) }
-    ensures stop { IfErr result IsOfDevice }
-    ensures failures { (R.state source.new).failures ≡ failures_after result (R.state source.old).failures }
+    ensures failures { (R.state source.new).failures ≡ failures_after_more result (R.state source.old).failures }
 {
     Ok(source.pull(into)?)
 }

@@ -1,8 +1,8 @@
 use Rattle.std.proofs.Common.{◌≤◌, ◌+◌, ◌++◌, ◌∙◌, ℕ, List, length, take, drop, ap, arith}
 use Rattle.std.proofs.lemmas.List.{length-take-le}
-use Rattle.hsms_packets.proofs.Tails.{more_read}
-use Rattle.hsms_packets.proofs.Tails.{front_of_written}
-use Rattle.hsms_packets.proofs.ahead.read_behind.Goals as goal
+use Rattle.hsms_frame.proofs.Tails.{more_read}
+use Rattle.hsms_frame.proofs.Tails.{front_of_written}
+use Rattle.hsms_frame.proofs.ahead.read_behind.Goals as goal
 
 pub returns-clause-ok : goal.returns-clause-ok
 returns-clause-ok g c = λ input told.

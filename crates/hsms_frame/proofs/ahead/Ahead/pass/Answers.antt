@@ -1,7 +1,7 @@
 use Rattle.std.proofs.Common.{◌≡◌, ◌≤◌, ◌+◌, ◌-◌, ◌∙◌, length, drop, min, sym, ap, arith}
 use Rattle.std.proofs.lemmas.List.{length-take}
-use Rattle.hsms_tasks.proofs.Tails.{slice_range_advance}
-use Rattle.hsms_tasks.proofs.ahead.Ahead.pass.Goals as goal
+use Rattle.hsms_frame.proofs.Tails.{slice_range_advance}
+use Rattle.hsms_frame.proofs.ahead.Ahead.pass.Goals as goal
 
 pub returns : goal.returns
 returns c =
