@@ -1,5 +1,11 @@
 //! Printing messages: each list by its elements, each item of values by its octets.
 
+mod items;
+pub mod messages;
+mod text;
+mod values;
+mod words;
+
 ghost use Rattle.std.specs.Prelude.{◌≡◌, ◌≤◌, ◌++◌, ℕ, List, true, false, length, codes, string_bytes, IfOk, IfErr, OnOk, MatchOption, option_map};
 ghost use Rattle.std.specs.Str.{IsUtf8};
 ghost use Rattle.secs_item.specs.Format.{is_list};
@@ -14,8 +20,8 @@ ghost use Rattle.secs_text.specs.declared.fault.TextFault.TheVariants.{Memory};
 use crate::block::{Block, Output};
 use crate::fault::TextFault;
 use crate::message::Message;
-use crate::raw_items::{put_end, put_item_of_values, put_opening};
-use crate::raw_message::{Head, put_head, put_stop};
+use crate::printing::items::{put_end, put_item_of_values, put_opening};
+use crate::printing::messages::{Head, put_head, put_stop};
 use secs_item::{Format, Item, body_octets};
 use std::alloc::{AllocError, Global};
 
