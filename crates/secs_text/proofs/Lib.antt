@@ -20,7 +20,7 @@ pub mod Answered
 pub mod Reasons
 pub mod MessageLeads
 pub mod Blocks
-pub mod PrintingWords
+pub mod PrintingValues
 pub mod PrintingText
 pub mod PrintingItems
 pub mod PrintingMessages
@@ -32,3 +32,4 @@ pub mod PrintingLeaves
 pub mod ReadingValues
 pub mod ParsingItems
 pub mod ParsingMessages
+pub mod Widths

@@ -19,6 +19,7 @@ mod as_printed;
 mod block;
 mod count;
 mod fault;
+mod formats;
 pub mod laws;
 mod laying;
 mod message;

@@ -4,7 +4,6 @@ mod items;
 pub mod messages;
 mod text;
 mod values;
-mod words;
 
 ghost use Rattle.std.specs.Prelude.{◌≡◌, ◌≤◌, ◌++◌, ℕ, List, true, false, length, codes, string_bytes, IfOk, IfErr, OnOk, MatchOption, option_map};
 ghost use Rattle.std.specs.Str.{IsUtf8};
@@ -80,21 +79,7 @@ fn put_tree<O: Output>(
 {
     match item {
         Item::List(elements) => put_list(alloc, out, block, from, elements),
-        Item::Binary(_)
-        | Item::Boolean(_)
-        | Item::Ascii(_)
-        | Item::Jis8(_)
-        | Item::Char2(_)
-        | Item::I1(_)
-        | Item::I2(_)
-        | Item::I4(_)
-        | Item::I8(_)
-        | Item::U1(_)
-        | Item::U2(_)
-        | Item::U4(_)
-        | Item::U8(_)
-        | Item::F4(_)
-        | Item::F8(_) => put_values_item(alloc, out, block, from, item),
+        _ => put_values_item(alloc, out, block, from, item),
     }
 }
 

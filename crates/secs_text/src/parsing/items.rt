@@ -90,20 +90,6 @@ pub fn item(
     let (format, count) = format_and_count(tokens, opening, depth)?;
     match format {
         Format::List => elements(out, tokens, count, depth - 1),
-        Format::Binary
-        | Format::Boolean
-        | Format::Ascii
-        | Format::Jis8
-        | Format::Char2
-        | Format::I1
-        | Format::I2
-        | Format::I4
-        | Format::I8
-        | Format::U1
-        | Format::U2
-        | Format::U4
-        | Format::U8
-        | Format::F4
-        | Format::F8 => item_of_values(out, tokens, format, count),
+        _ => item_of_values(out, tokens, format, count),
     }
 }

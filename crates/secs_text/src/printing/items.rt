@@ -1,17 +1,20 @@
 //! Printing items straight from their octets. For each list that isn't at its end it is kept how many elements are
 //! still to come.
 
-ghost use Rattle.std.specs.Prelude.{◌≡◌, ◌≤◌, ◌<◌, ◌+◌, ◌-◌, ◌/◌, ◌++◌, ℕ, Ok, false, length, take, drop, IsOk, codes, decimal};
+ghost use Rattle.std.specs.Prelude.{◌≡◌, ◌≤◌, ◌<◌, ◌+◌, ◌-◌, ◌/◌, ◌++◌, ℕ, List, Ok, false, true, length, take, drop, IsOk, codes, decimal};
+ghost use Rattle.secs_item.specs.declared.format.Format.TheVariants.{Ascii};
 ghost use Rattle.secs_item.specs.Format.{is_list, value_size};
 ghost use Rattle.secs_item.specs.Item.{Value, Elements};
 ghost use Rattle.secs_item.specs.Reading.{item_at, elements_by, values_of};
 ghost use Rattle.secs_text.specs.Body.{body_of};
-ghost use Rattle.secs_text.specs.Laid.{Laid, Puts, opening_of};
-ghost use Rattle.secs_text.specs.Printed.{printed_elements, printed_item, printed_values};
+ghost use Rattle.secs_text.specs.Laid.{Laid, Puts, opening_of, words_of};
+ghost use Rattle.secs_text.specs.Printed.{printed_elements, printed_item, printed_text, printed_values};
+ghost use Rattle.secs_text.specs.Widths.{is_width};
 
 use crate::block::{Output, room};
+use crate::formats::{Floats, Octets, Signed, Truths, Unsigned, WordFormat};
 use crate::laying::{lay_byte, lay_number, lay_small, lay_word};
-use crate::printing::values::put_values;
+use crate::printing::values::{put_text, put_words};
 use crate::type_name::opening_word;
 use secs_item::{Format, Header, read_header};
 
@@ -39,8 +42,8 @@ fn lay_opening(block: &mut [u8], at: usize, format: Format, count: usize) -> usi
     ensures laid { Laid block.old block.new at (opening_of format count) result }
     ensures near { result ≤ at + 64 }
 {
-    let opening = opening_word(format);
-    let at = lay_word::<16>(block, at, opening.word.as_slice(), opening.length);
+    let (word, length) = opening_word(format);
+    let at = lay_word::<16>(block, at, word.as_slice(), length);
     let at = lay_count(block, at, count);
     lay_byte(block, at, b']')
 }
@@ -84,16 +87,17 @@ fn body(octets: &[u8], header: Header) -> &[u8]
     &octets[header.body..header.body + header.length]
 }
 
-/// Puts an item of values of a known format with this body, after a space.
+/// Puts an item of values that are single words, with this body, after a space.
 #[inline(always)]
-fn put_values_of<O: Output>(
+fn put_item_of_words<const N: usize, W: WordFormat<N>, O: Output>(
     out: &mut O,
     block: &mut [u8],
     from: usize,
     format: Format,
     body: &[u8],
 ) -> usize
-    requires no_list { is_list format ≡ false }
+    requires width { is_width N ≡ true }
+    requires words { (o : List ℕ) → words_of W.printed N o ≡ printed_values (body_of (values_of format o)) }
     requires size { length block.old ≡ 65536 }
     requires within { from ≤ 65536 }
     ensures { Puts (O.Given out.old) block.old from (O.Given out.new) block.new result
@@ -101,7 +105,20 @@ fn put_values_of<O: Output>(
         ++ printed_values (body_of (values_of format body.now)) ++ codes ">") }
 {
     let at = put_opening(out, block, from, format, body.len());
-    let at = put_values(out, block, at, format, body);
+    let at = put_words::<N, W, O>(out, block, at, body);
+    put_end(out, block, at)
+}
+
+/// Puts an item of text with this body, after a space.
+#[inline(always)]
+fn put_item_of_text<O: Output>(out: &mut O, block: &mut [u8], from: usize, body: &[u8]) -> usize
+    requires size { length block.old ≡ 65536 }
+    requires within { from ≤ 65536 }
+    ensures { Puts (O.Given out.old) block.old from (O.Given out.new) block.new result
+        (opening_of Ascii (length body.now) ++ printed_text false body.now ++ codes ">") }
+{
+    let at = put_opening(out, block, from, Format::Ascii, body.len());
+    let at = put_text(out, block, at, body);
     put_end(out, block, at)
 }
 
@@ -123,21 +140,27 @@ pub fn put_item_of_values<O: Output>(
 {
     match format {
         Format::List => unreachable!(),
-        Format::Binary => put_values_of(out, block, from, Format::Binary, body),
-        Format::Boolean => put_values_of(out, block, from, Format::Boolean, body),
-        Format::Ascii => put_values_of(out, block, from, Format::Ascii, body),
-        Format::Jis8 => put_values_of(out, block, from, Format::Jis8, body),
-        Format::Char2 => put_values_of(out, block, from, Format::Char2, body),
-        Format::I1 => put_values_of(out, block, from, Format::I1, body),
-        Format::I2 => put_values_of(out, block, from, Format::I2, body),
-        Format::I4 => put_values_of(out, block, from, Format::I4, body),
-        Format::I8 => put_values_of(out, block, from, Format::I8, body),
-        Format::U1 => put_values_of(out, block, from, Format::U1, body),
-        Format::U2 => put_values_of(out, block, from, Format::U2, body),
-        Format::U4 => put_values_of(out, block, from, Format::U4, body),
-        Format::U8 => put_values_of(out, block, from, Format::U8, body),
-        Format::F4 => put_values_of(out, block, from, Format::F4, body),
-        Format::F8 => put_values_of(out, block, from, Format::F8, body),
+        Format::Binary => put_item_of_words::<1, Octets, O>(out, block, from, Format::Binary, body),
+        Format::Boolean => put_item_of_words::<1, Truths, O>(
+            out,
+            block,
+            from,
+            Format::Boolean,
+            body,
+        ),
+        Format::Ascii => put_item_of_text(out, block, from, body),
+        Format::Jis8 => put_item_of_words::<1, Octets, O>(out, block, from, Format::Jis8, body),
+        Format::Char2 => put_item_of_words::<1, Octets, O>(out, block, from, Format::Char2, body),
+        Format::I1 => put_item_of_words::<1, Signed, O>(out, block, from, Format::I1, body),
+        Format::I2 => put_item_of_words::<2, Signed, O>(out, block, from, Format::I2, body),
+        Format::I4 => put_item_of_words::<4, Signed, O>(out, block, from, Format::I4, body),
+        Format::I8 => put_item_of_words::<8, Signed, O>(out, block, from, Format::I8, body),
+        Format::U1 => put_item_of_words::<1, Unsigned, O>(out, block, from, Format::U1, body),
+        Format::U2 => put_item_of_words::<2, Unsigned, O>(out, block, from, Format::U2, body),
+        Format::U4 => put_item_of_words::<4, Unsigned, O>(out, block, from, Format::U4, body),
+        Format::U8 => put_item_of_words::<8, Unsigned, O>(out, block, from, Format::U8, body),
+        Format::F4 => put_item_of_words::<4, Floats, O>(out, block, from, Format::F4, body),
+        Format::F8 => put_item_of_words::<8, Floats, O>(out, block, from, Format::F8, body),
     }
 }
 

@@ -2,7 +2,7 @@ use Rattle.std.proofs.Common.{◌≤◌, ◌+◌, ◌*◌, ◌++◌, codes, take
 use Rattle.std.specs.List.{flat_map}
 use Rattle.secs_text.specs.Printed.{two_digits}
 use Rattle.secs_text.specs.Laid.{Laid}
-use Rattle.secs_text.proofs.printing.words.lay_hexadecimal.Given as goal
+use Rattle.secs_text.proofs.formats.lay_hexadecimal.Given as goal
 
 abbrev pub invariant-loop-octet : goal.invariant-loop-octet
 invariant-loop-octet l = record {
