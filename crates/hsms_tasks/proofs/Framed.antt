@@ -4,7 +4,7 @@ use Rattle.std.specs.Prelude.{Option, Some, None, is_some}
 use Rattle.secs_item.specs.Item.{Value}
 use Rattle.secs_text.specs.Content.{Content}
 use Rattle.secs_text.specs.Spellings.{text_of, headed_by}
-use Rattle.secs_text.specs.declared.raw_message.Head.{Head}
+use Rattle.secs_text.specs.declared.printing.messages.Head.{Head}
 use Rattle.hsms_frame.specs.Build.{data_header_of}
 use Rattle.hsms_frame.specs.Frame.{Frame}
 use Rattle.hsms_frame.specs.declared.header.Header.{Header}

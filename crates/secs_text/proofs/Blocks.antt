@@ -5,7 +5,7 @@ use Rattle.std.specs.Cmp.Lexicographic.{pointwise}
 use Rattle.std.proofs.lemmas.Bool.{agree_below_at, ltb-true}
 use Rattle.std.proofs.lemmas.Fmt.{AppendsLastDigit, decimal_from_appends, decimal_step, length-decimal-le}
 use Rattle.secs_item.specs.Equality.{octets_Decides}
-use Rattle.secs_text.specs.declared.tables.TheConstants.{WORDS, DIGITS, NUMBERS, PAIRS}
+use Rattle.secs_text.specs.declared.tables.TheConstants.{WORDS, NUMBERS}
 use Rattle.secs_text.specs.Laid.{Laid, Puts, two_decimals}
 use Rattle.secs_text.specs.Printed.{hexadecimal, two_digits}
 
@@ -40,9 +40,9 @@ pub words_right : (octet : ℕ) → octet < 256 → take 5 (drop (8 * octet) WOR
 words_right octet lt =
     (octets_Decides _ _).0 (agree_below_at (λ k. pointwise eqb (take 5 (drop (8 * k) WORDS)) (codes " " ++ hexadecimal (k ∷ []))) (λ k. true) 256 octet refl lt)
 
-pub digits_right : (octet : ℕ) → octet < 256 → take 2 (drop (2 * octet) DIGITS) ≡ two_digits octet
+pub digits_right : (octet : ℕ) → octet < 256 → take 2 (drop (8 * octet + 3) WORDS) ≡ two_digits octet
 digits_right octet lt =
-    (octets_Decides _ _).0 (agree_below_at (λ k. pointwise eqb (take 2 (drop (2 * k) DIGITS)) (two_digits k)) (λ k. true) 256 octet refl lt)
+    (octets_Decides _ _).0 (agree_below_at (λ k. pointwise eqb (take 2 (drop (8 * k + 3) WORDS)) (two_digits k)) (λ k. true) 256 octet refl lt)
 
 -- the digits of a number, at most so many
 abbrev by_digits : ℕ → ℕ → List ℕ
@@ -63,8 +63,8 @@ numbers_right n lt =
 pub numbers_short : (n : ℕ) → n < 256 → get_or (drop (4 * n) NUMBERS) 3 0 < 5
 numbers_short n lt = ltb-true _ 5 (agree_below_at (λ k. ltb (get_or (number_at k) 3 0) 5) (λ k. true) 256 n refl lt)
 
-pub pairs_right : (n : ℕ) → n < 100 → take 2 (drop (2 * n) PAIRS) ≡ two_decimals n
-pairs_right n lt = (octets_Decides _ _).0 (agree_below_at (λ k. pointwise eqb (take 2 (drop (2 * k) PAIRS)) (two_decimals k)) (λ k. true) 100 n refl lt)
+pub pairs_right : (n : ℕ) → n < 100 → take 2 (drop (4 * n + 401) NUMBERS) ≡ two_decimals n
+pairs_right n lt = (octets_Decides _ _).0 (agree_below_at (λ k. pointwise eqb (take 2 (drop (4 * k + 401) NUMBERS)) (two_decimals k)) (λ k. true) 100 n refl lt)
 
 -- a number by its hundreds
 pub decimal_hundreds : (n : ℕ) → 100 ≤ n → n < 2 ^ 64 → decimal (n / 100) ++ two_decimals (n % 100) ≡ decimal n

@@ -3,6 +3,7 @@ pub mod Token
 pub mod Seen
 pub mod Left
 pub mod Words
+pub mod Widths
 pub mod OctetWord
 pub mod AsPrinted
 pub mod TypeName

@@ -12,7 +12,7 @@ use Rattle.secs_text.specs.Body.{nothing_of}
 use Rattle.secs_text.specs.Content.{Content}
 use Rattle.secs_text.specs.Places.{Rules, Before, Count, Place, Step, walk, start, after_head, finished, in_item, closed, reading}
 use Rattle.std.proofs.Common.{Bor}
-use Rattle.secs_text.specs.declared.raw_message.Head.{Head}
+use Rattle.secs_text.specs.declared.printing.messages.Head.{Head}
 use Rattle.secs_text.specs.Fault.{any_messages}
 use Rattle.secs_text.specs.Reads.{Fails}
 use Rattle.secs_text.specs.Token.{Placed}

@@ -6,7 +6,7 @@ ghost use Rattle.std.specs.Fmt.{decimal};
 ghost use Rattle.secs_text.specs.Laid.{Laid, two_decimals};
 ghost use Rattle.secs_text.specs.Printed.{hexadecimal, two_digits};
 
-use crate::tables::{DIGITS, NUMBERS, PAIRS, WORDS};
+use crate::tables::{NUMBERS, WORDS};
 use itoa::{Buffer, Integer};
 use std::simd::Simd;
 
@@ -62,7 +62,7 @@ pub fn lay_digits(block: &mut [u8], at: usize, octet: u8) -> usize
     ensures laid { Laid block.old block.new at (two_digits octet) result }
     ensures near { result ≤ at + 2 }
 {
-    let (_, digits) = DIGITS.split_at(2 * usize::from(octet));
+    let (_, digits) = WORDS.split_at(8 * usize::from(octet) + 3);
     lay_word::<2>(block, at, digits, 2)
 }
 
@@ -85,7 +85,7 @@ fn lay_pair(block: &mut [u8], at: usize, number: u64) -> usize
     ensures laid { Laid block.old block.new at (two_decimals number) result }
     ensures near { result ≤ at + 2 }
 {
-    let (_, pair) = PAIRS.split_at(2 * number as usize);
+    let (_, pair) = NUMBERS.split_at(4 * number as usize + 401);
     lay_word::<2>(block, at, pair, 2)
 }
 

@@ -1,5 +1,10 @@
 //! Printing messages: each list by its elements, each item of values by its octets.
 
+mod items;
+pub mod messages;
+mod text;
+mod values;
+
 ghost use Rattle.std.specs.Prelude.{◌≡◌, ◌≤◌, ◌++◌, ℕ, List, true, false, length, codes, string_bytes, IfOk, IfErr, OnOk, MatchOption, option_map};
 ghost use Rattle.std.specs.Str.{IsUtf8};
 ghost use Rattle.secs_item.specs.Format.{is_list};
@@ -14,8 +19,8 @@ ghost use Rattle.secs_text.specs.declared.fault.TextFault.TheVariants.{Memory};
 use crate::block::{Block, Output};
 use crate::fault::TextFault;
 use crate::message::Message;
-use crate::raw_items::{put_end, put_item_of_values, put_opening};
-use crate::raw_message::{Head, put_head, put_stop};
+use crate::printing::items::{put_end, put_item_of_values, put_opening};
+use crate::printing::messages::{Head, put_head, put_stop};
 use secs_item::{Format, Item, body_octets};
 use std::alloc::{AllocError, Global};
 
@@ -74,21 +79,7 @@ fn put_tree<O: Output>(
 {
     match item {
         Item::List(elements) => put_list(alloc, out, block, from, elements),
-        Item::Binary(_)
-        | Item::Boolean(_)
-        | Item::Ascii(_)
-        | Item::Jis8(_)
-        | Item::Char2(_)
-        | Item::I1(_)
-        | Item::I2(_)
-        | Item::I4(_)
-        | Item::I8(_)
-        | Item::U1(_)
-        | Item::U2(_)
-        | Item::U4(_)
-        | Item::U8(_)
-        | Item::F4(_)
-        | Item::F8(_) => put_values_item(alloc, out, block, from, item),
+        _ => put_values_item(alloc, out, block, from, item),
     }
 }
 

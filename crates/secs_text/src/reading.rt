@@ -1,5 +1,7 @@
 //! Reading messages.
 
+mod items;
+
 ghost use Rattle.std.specs.Prelude.{◌≡◌, ◌≤◌, ◌<◌, ◌+◌, ◌++◌, ◌||◌, [], ◌∷◌, List, true, false, IfOk, IfErr, OnOk, MatchResult, Ok, None, not, ◌⊎◌};
 ghost use Rattle.secs_text.specs.Content.{Content, IsWithin, AllWithin};
 ghost use Rattle.secs_text.specs.Seen.{placed, seen, is_last, then_tokens};
@@ -15,8 +17,8 @@ ghost use Rattle.secs_text.specs.View.{content, contents};
 
 use crate::as_printed::next_wait;
 use crate::fault::TextFault;
-use crate::items::item;
 use crate::message::Message;
+use crate::reading::items::item;
 use crate::token::{Placed, Token};
 use crate::tokens::Tokens;
 use crate::word::{HeadWord, head_of};

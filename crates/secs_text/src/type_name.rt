@@ -11,40 +11,16 @@ use secs_item::Format;
 pub fn format_named(word: &[u8]) -> Option<Format>
     ensures { result ≡ format_named word.now }
 {
-    if b"L".as_slice() == word {
-        Some(Format::List)
-    } else if b"B".as_slice() == word {
-        Some(Format::Binary)
-    } else if b"BOOLEAN".as_slice() == word {
-        Some(Format::Boolean)
-    } else if b"A".as_slice() == word {
-        Some(Format::Ascii)
-    } else if b"J".as_slice() == word {
-        Some(Format::Jis8)
-    } else if b"C2".as_slice() == word {
-        Some(Format::Char2)
-    } else if b"I1".as_slice() == word {
-        Some(Format::I1)
-    } else if b"I2".as_slice() == word {
-        Some(Format::I2)
-    } else if b"I4".as_slice() == word {
-        Some(Format::I4)
-    } else if b"I8".as_slice() == word {
-        Some(Format::I8)
-    } else if b"U1".as_slice() == word {
-        Some(Format::U1)
-    } else if b"U2".as_slice() == word {
-        Some(Format::U2)
-    } else if b"U4".as_slice() == word {
-        Some(Format::U4)
-    } else if b"U8".as_slice() == word {
-        Some(Format::U8)
-    } else if b"F4".as_slice() == word {
-        Some(Format::F4)
-    } else if b"F8".as_slice() == word {
-        Some(Format::F8)
-    } else {
-        None
+    match word {
+        [letter] => format_of_letter(*letter),
+        [letter, size] => format_of_pair(*letter, *size),
+        _ => {
+            if b"BOOLEAN".as_slice() == word {
+                Some(Format::Boolean)
+            } else {
+                None
+            }
+        }
     }
 }
 
@@ -52,7 +28,7 @@ pub fn format_named(word: &[u8]) -> Option<Format>
 #[inline(always)]
 #[tactic(auto, unfolding(crate::specs::TypeName::format_named))]
 pub fn format_of_letter(letter: u8) -> Option<Format>
-    ensures named { IfSome result (λ f. format_named (letter ∷ []) ≡ Some f) }
+    ensures named { result ≡ format_named (letter ∷ []) }
     ensures word { OnSome result (is_of_word letter ≡ true) }
 {
     match letter {
@@ -68,7 +44,7 @@ pub fn format_of_letter(letter: u8) -> Option<Format>
 #[inline(always)]
 #[tactic(auto, unfolding(crate::specs::TypeName::format_named))]
 pub fn format_of_pair(letter: u8, size: u8) -> Option<Format>
-    ensures named { IfSome result (λ f. format_named (letter ∷ size ∷ []) ≡ Some f) }
+    ensures named { result ≡ format_named (letter ∷ size ∷ []) }
     ensures word { OnSome result ((is_of_word letter ≡ true) × (is_of_word size ≡ true)) }
 {
     match (letter, size) {
@@ -87,83 +63,29 @@ pub fn format_of_pair(letter: u8, size: u8) -> Option<Format>
     }
 }
 
-/// What stands before the count of an item: the first `length` octets of a word.
-#[derive(Clone, Copy)]
-pub struct Opening {
-    pub word: &'static [u8; 16],
-    pub length: usize,
-}
-
+/// What stands before the count of an item: a word, and how many octets of it count.
 #[inline(always)]
-pub fn opening_word(format: Format) -> Opening
-    ensures text { take result.length result.word.now ≡ codes " <" ++ type_name format ++ codes " [" }
-    ensures short { result.length ≤ 16 }
-    ensures long { length result.word.now ≡ 16 }
+pub fn opening_word(format: Format) -> (&'static [u8; 16], usize)
+    ensures text { take result.1 result.0.now ≡ codes " <" ++ type_name format ++ codes " [" }
+    ensures short { result.1 ≤ 16 }
+    ensures long { length result.0.now ≡ 16 }
 {
     match format {
-        Format::List => Opening {
-            word: b" <L [           ",
-            length: 5,
-        },
-        Format::Binary => Opening {
-            word: b" <B [           ",
-            length: 5,
-        },
-        Format::Boolean => Opening {
-            word: b" <BOOLEAN [     ",
-            length: 11,
-        },
-        Format::Ascii => Opening {
-            word: b" <A [           ",
-            length: 5,
-        },
-        Format::Jis8 => Opening {
-            word: b" <J [           ",
-            length: 5,
-        },
-        Format::Char2 => Opening {
-            word: b" <C2 [          ",
-            length: 6,
-        },
-        Format::I1 => Opening {
-            word: b" <I1 [          ",
-            length: 6,
-        },
-        Format::I2 => Opening {
-            word: b" <I2 [          ",
-            length: 6,
-        },
-        Format::I4 => Opening {
-            word: b" <I4 [          ",
-            length: 6,
-        },
-        Format::I8 => Opening {
-            word: b" <I8 [          ",
-            length: 6,
-        },
-        Format::U1 => Opening {
-            word: b" <U1 [          ",
-            length: 6,
-        },
-        Format::U2 => Opening {
-            word: b" <U2 [          ",
-            length: 6,
-        },
-        Format::U4 => Opening {
-            word: b" <U4 [          ",
-            length: 6,
-        },
-        Format::U8 => Opening {
-            word: b" <U8 [          ",
-            length: 6,
-        },
-        Format::F4 => Opening {
-            word: b" <F4 [          ",
-            length: 6,
-        },
-        Format::F8 => Opening {
-            word: b" <F8 [          ",
-            length: 6,
-        },
+        Format::List => (b" <L [           ", 5),
+        Format::Binary => (b" <B [           ", 5),
+        Format::Boolean => (b" <BOOLEAN [     ", 11),
+        Format::Ascii => (b" <A [           ", 5),
+        Format::Jis8 => (b" <J [           ", 5),
+        Format::Char2 => (b" <C2 [          ", 6),
+        Format::I1 => (b" <I1 [          ", 6),
+        Format::I2 => (b" <I2 [          ", 6),
+        Format::I4 => (b" <I4 [          ", 6),
+        Format::I8 => (b" <I8 [          ", 6),
+        Format::U1 => (b" <U1 [          ", 6),
+        Format::U2 => (b" <U2 [          ", 6),
+        Format::U4 => (b" <U4 [          ", 6),
+        Format::U8 => (b" <U8 [          ", 6),
+        Format::F4 => (b" <F4 [          ", 6),
+        Format::F8 => (b" <F8 [          ", 6),
     }
 }

@@ -3,7 +3,7 @@ use Rattle.std.proofs.lemmas.Str.{IsUtf8-from_ascii}
 use Rattle.std.specs.Str.{IsUtf8}
 use Rattle.secs_text.specs.Printed.{printed}
 use Rattle.secs_text.specs.View.{content}
-use Rattle.secs_text.proofs.Leaves.{if_ok_map, on_ok}
+use Rattle.secs_text.proofs.PrintingLeaves.{if_ok_map, on_ok}
 use Rattle.secs_text.proofs.PrintedNotation.{notation_of, printed_is_ascii}
 use Rattle.secs_text.proofs.printing.print.Goals as goal
 

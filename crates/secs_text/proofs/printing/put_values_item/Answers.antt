@@ -1,7 +1,7 @@
 use Rattle.std.proofs.Common.{List, ℕ, sym, subst, arith}
 use Rattle.secs_item.specs.Item.{view}
 use Rattle.secs_item.specs.Short.{IsBodyOf}
-use Rattle.secs_text.proofs.Leaves.{leaf_held, leaf_puts}
+use Rattle.secs_text.proofs.PrintingLeaves.{leaf_held, leaf_puts}
 use Rattle.secs_text.proofs.printing.put_values_item.Goals as goal
 
 pub returns-clause-puts : goal.returns-clause-puts

@@ -1,0 +1,55 @@
+-- Numbers of one, two, four and eight octets.
+use Rattle.std.proofs.Common.{◌≡◌, ℕ, ◌+◌, ◌-◌, ◌*◌, ◌/◌, ◌%◌, ◌^◌, ◌<◌, ◌≤◌, Bool, true, false, List, [], ◌∷◌, refl, sym, ap, ◌∙◌, subst, arith, if◌then◌else◌}
+use Rattle.std.specs.Prelude.{◌==◌, ◌||◌, ℤ, pos, negsuc}
+use Rattle.std.specs.Int.{w8, w16, w32, w64, cast_unsigned, byte_len}
+use Rattle.std.proofs.lemmas.Bool.{eqb-true}
+use Rattle.byteorder.specs.Endian.{big_bytes, big_number, low_bytes}
+use Rattle.secs_item.specs.Reading.{octet}
+use Rattle.secs_item.specs.Short.{octet_alone, octets_of_signed}
+use Rattle.secs_text.specs.Widths.{is_width, width_of, unsigned, octets_of_unsigned}
+use Rattle.secs_text.proofs.InRanges.{IsAround}
+
+module _ (P : ℕ → Type 0) (one : P 1) (two : P 2) (four : P 4) (eight : P 8) where
+  by_tests : (n : ℕ) (a b c d : Bool) → (n == 1) ≡ a → (n == 2) ≡ b → (n == 4) ≡ c → (n == 8) ≡ d → a || b || c || d ≡ true → P n
+  by_tests n true b c d e f g h is = subst P (sym (eqb-true n 1 e)) one
+  by_tests n false true c d e f g h is = subst P (sym (eqb-true n 2 f)) two
+  by_tests n false false true d e f g h is = subst P (sym (eqb-true n 4 g)) four
+  by_tests n false false false true e f g h is = subst P (sym (eqb-true n 8 h)) eight
+  by_tests n false false false false e f g h is = cc
+
+  -- what holds of each width
+  pub by_width : (n : ℕ) → is_width n ≡ true → P n
+  by_width n is = by_tests n (n == 1) (n == 2) (n == 4) (n == 8) refl refl refl refl is
+
+pub width_some : (n : ℕ) → is_width n ≡ true → 1 ≤ n
+width_some n is = by_width (λ k. 1 ≤ k) (omega arith) (omega arith) (omega arith) (omega arith) n is
+
+pub width_most : (n : ℕ) → is_width n ≡ true → n ≤ 8
+width_most n is = by_width (λ k. k ≤ 8) (omega arith) (omega arith) (omega arith) (omega arith) n is
+
+-- a chunk of 512 octets is whole values
+pub width_chunk : (n : ℕ) → is_width n ≡ true → (k : ℕ) × (512 ≡ k * n)
+width_chunk n is = by_width (λ m. (k : ℕ) × (512 ≡ k * m)) (512, refl) (256, refl) (128, refl) (64, refl) n is
+
+pub width_range : (n : ℕ) → is_width n ≡ true → 2 ^ (8 * n) ≡ 256 ^ n
+width_range n is = by_width (λ m. 2 ^ (8 * m) ≡ 256 ^ m) refl refl refl refl n is
+
+-- ---- numbers that aren't negative
+
+pub unsigned_is : (n : ℕ) (o : List ℕ) → is_width n ≡ true → big_number n o ≡ unsigned n o
+unsigned_is n o is = by_width (λ m. big_number m o ≡ unsigned m o) (omega arith) refl refl refl n is
+
+pub octets_is : (n x : ℕ) → is_width n ≡ true → x < 256 ^ n → big_bytes n x ≡ octets_of_unsigned n x
+octets_is n x is lt = by_width (λ m. x < 256 ^ m → big_bytes m x ≡ octets_of_unsigned m x) (λ small. ap (λ k. k ∷ []) (omega (arith, small))) (λ small. refl) (λ small. refl) (λ small. refl) n is lt
+
+-- ---- signed numbers
+
+low_is : (n : ℕ) (z : ℤ) → is_width n ≡ true → IsAround (2 ^ (8 * n - 1)) z → low_bytes w64 n z ≡ cast_unsigned (width_of n) z
+low_is n (pos x) is around = by_width (λ m. x < 2 ^ (8 * m - 1) → x % 2 ^ (8 * m) ≡ cast_unsigned (width_of m) (pos x)) (λ lt. omega (arith, lt)) (λ lt. omega (arith, lt)) (λ lt. omega (arith, lt)) (λ lt. omega (arith, lt)) n is around
+low_is n (negsuc x) is around = by_width (λ m. x < 2 ^ (8 * m - 1) → low_bytes w64 m (negsuc x) ≡ cast_unsigned (width_of m) (negsuc x)) (λ lt. omega (arith, lt)) (λ lt. omega (arith, lt)) (λ lt. omega (arith, lt)) (λ lt. omega (arith, lt)) n is around
+
+length_is : (n : ℕ) → is_width n ≡ true → (x : ℕ) → big_bytes n x ≡ big_bytes (byte_len (width_of n)) x
+length_is n is x = by_width (λ m. big_bytes m x ≡ big_bytes (byte_len (width_of m)) x) refl refl refl refl n is
+
+pub signed_octets : (n : ℕ) (z : ℤ) → is_width n ≡ true → IsAround (2 ^ (8 * n - 1)) z → big_bytes n (low_bytes w64 n z) ≡ octets_of_signed (width_of n) z
+signed_octets n z is around = ap (big_bytes n) (low_is n z is around) ∙ length_is n is (cast_unsigned (width_of n) z)

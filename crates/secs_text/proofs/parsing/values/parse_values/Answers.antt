@@ -1,0 +1,29 @@
+use Rattle.std.proofs.Common.{◌∙◌, ap, rules}
+use Rattle.secs_text.specs.Left.{left}
+use Rattle.secs_text.specs.Reads.{count_seen}
+use Rattle.secs_text.specs.Seen.{seen, then_tokens}
+use Rattle.secs_text.proofs.ParsingValues.{none_gathered, word_gathered, quoted_gathered}
+use Rattle.secs_text.proofs.parsing.values.parse_values.Goals as goal
+
+pub loop-word-init : goal.loop-word-init
+loop-word-init c = record {
+  gathered = c.in_ok-parse_octets.ensures.gathered (count_seen c.args.count) (left c.args.tokens.now) c.args.out.now.items
+      (none_gathered c.args.format (count_seen c.args.count) (left c.args.tokens.now) c.args.out.now.items c.requires.no_list);
+  no_longer = c.parse_octets.ensures.no_longer;
+}
+
+pub loop-word-preserved-else-not-branch : goal.loop-word-preserved-else-not-branch
+loop-word-preserved-else-not-branch c = record {
+  gathered = word_gathered c.next-next.result.at c.in-Word.word.now (left c.next-next.new.self) c.push_value.new.out.items c.loop-word.invariant.gathered
+      (c.next-next.ensures.tokens ∙ ap (λ t. then_tokens (record { at = c.next-next.result.at; token = seen t }) (left c.next-next.new.self)) c.in-Word.is)
+      c.in_ok-push_value-in-Word.field-0 c.if-not-branch.false c.in_ok-push_value-in-Word.ensures.octets (c.in_ok-push_value-in-Word.ensures.size c.if-not-branch.false);
+  no_longer = search rules;
+}
+
+pub loop-word-preserved : goal.loop-word-preserved
+loop-word-preserved c = record {
+  gathered = quoted_gathered c.next-next.result.at c.in-Quoted.text.now (left c.next-next.new.self) c.push_quoted.new.out.items c.in_ok-push_quoted-in-Quoted.ensures.fit c.loop-word.invariant.gathered
+      (c.next-next.ensures.tokens ∙ ap (λ t. then_tokens (record { at = c.next-next.result.at; token = seen t }) (left c.next-next.new.self)) c.in-Quoted.is)
+      c.in_ok-push_quoted-in-Quoted.field-0 c.if-not-branch-2.false c.in_ok-push_quoted-in-Quoted.ensures.octets;
+  no_longer = search rules;
+}

@@ -1,0 +1,13 @@
+use Rattle.std.proofs.Common.{◌≡◌, true, sym, ◌∙◌, arith}
+use Rattle.std.specs.List.{list_all}
+use Rattle.std.proofs.lemmas.List.{take_all}
+use Rattle.secs_text.specs.Octets.{is_quotable}
+use Rattle.secs_text.proofs.Blocks.{laid_same}
+use Rattle.secs_text.proofs.PrintingText.{run_laid}
+use Rattle.secs_text.proofs.printing.text.lay_run.Goals as goal
+
+pub returns-clause-text : goal.returns-clause-text
+returns-clause-text c =
+    let octets = c.args.octets.now in
+    let all : list_all is_quotable octets ≡ true = sym c.are_quotable.ensures ∙ c.if-not-are_quotable.false in
+    run_laid c.args.quoted octets all (omega (arith, c.told-octets)) c.lay_quote-at.ensures (laid_same octets (take_all 8 octets (omega (arith, c.told-octets))) (rw c.as_slice-2.ensures at c.lay_word.ensures.laid))

@@ -1,0 +1,13 @@
+use Rattle.std.proofs.Common.{◌≤◌, ◌+◌, ◌*◌, length}
+use Rattle.secs_text.specs.Laid.{words_of}
+use Rattle.secs_text.proofs.PrintingValues.{LaysOn}
+use Rattle.secs_text.proofs.printing.values.lay_words.Given as goal
+
+abbrev pub invariant-loop-first : goal.invariant-loop-first
+invariant-loop-first g l = record {
+  room : l.at + 48 * length l.rest ≤ length l.block;
+  laid : LaysOn l.initial.block l.block l.from l.at (words_of g.W.WordFormat.printed g.row.N l.octets) (words_of g.W.WordFormat.printed g.row.N l.rest);
+}
+
+abbrev pub decreases-loop-first : goal.decreases-loop-first
+decreases-loop-first g l = length l.rest

@@ -1,0 +1,174 @@
+//! Formats whose values are single words: how a value's octets are printed, and how a word is parsed onto octets.
+
+ghost use Rattle.std.specs.Prelude.{◌≡◌, ◌≤◌, ◌<◌, ◌-◌, ◌+◌, ◌*◌, ◌^◌, ◌++◌, ℕ, List, [], ◌∷◌, Option, true, length, codes, option_map, IfSome};
+ghost use Rattle.std.specs.Fmt.{decimal, signed_decimal};
+ghost use Rattle.secs_item.specs.Reading.{octet, truth, signed};
+ghost use Rattle.secs_item.specs.Short.{octet_alone, octet_of_truth, octets_of_signed};
+ghost use Rattle.secs_text.specs.Laid.{Laid};
+ghost use Rattle.secs_text.specs.Printed.{hexadecimal, truth_word};
+ghost use Rattle.secs_text.specs.Widths.{is_width, width_of, unsigned, octets_of_unsigned};
+ghost use Rattle.secs_text.specs.Words.{number_below, signed_below, octet_of, float_of, truth_of};
+
+use crate::laying::{lay_byte, lay_digits, lay_natural, lay_number, lay_octet, lay_slice};
+use crate::word::{float_of, number, number_below, octet_of, signed_below, truth_of};
+use byteorder::{BigEndian, ByteOrder};
+
+/// A format whose values are single words, each for `N` octets.
+pub trait WordFormat<const N: usize> {
+    /// The word that is printed for the value that these octets are.
+    ghost printed: { List ℕ → List ℕ };
+
+    /// The octets of the value that a word spells, if it spells one.
+    ghost spelled: { List ℕ → Option (List ℕ) };
+
+    /// Lays the word of a value, after a space.
+    fn lay(block: &mut [u8], at: usize, octets: &[u8; N]) -> usize
+        requires width { is_width N ≡ true }
+        requires room { at + 48 ≤ length block.old }
+        ensures laid { Laid block.old block.new at (codes " " ++ printed octets.now) result }
+        ensures near { result ≤ at + 48 };
+
+    /// The octets of the value that a word spells, if it spells one.
+    fn parse(word: &[u8]) -> Option<[u8; N]>
+        requires { is_width N ≡ true }
+        ensures { result ≡ spelled word.now };
+}
+
+/// Octets of any meaning, characters of JIS-8, and two-octet characters octet by octet: in hexadecimal.
+pub struct Octets;
+
+impl WordFormat<1> for Octets {
+    ghost printed = { λ o. hexadecimal (octet o ∷ []) };
+
+    ghost spelled = { λ w. option_map octet_alone (octet_of w) };
+
+    fn lay(block: &mut [u8], at: usize, octets: &[u8; 1]) -> usize {
+        lay_octet(block, at, octets[0])
+    }
+
+    fn parse(word: &[u8]) -> Option<[u8; 1]> {
+        Some([octet_of(word)?])
+    }
+}
+
+/// Truth values.
+pub struct Truths;
+
+impl WordFormat<1> for Truths {
+    ghost printed = { λ o. truth_word (truth o) };
+
+    ghost spelled = { λ w. option_map octet_of_truth (truth_of w) };
+
+    fn lay(block: &mut [u8], at: usize, octets: &[u8; 1]) -> usize {
+        lay_slice(block, at, if octets[0] != 0 { b" T" } else { b" F" })
+    }
+
+    fn parse(word: &[u8]) -> Option<[u8; 1]> {
+        Some([u8::from(truth_of(word)?)])
+    }
+}
+
+/// The number below that of `N` octets that a word spells.
+#[inline(always)]
+fn number_in<const N: usize>(word: &[u8]) -> Option<u64>
+    requires { is_width N ≡ true }
+    ensures value { result ≡ number_below (2 ^ (8 * N)) word.now }
+    ensures fits { IfSome result (λ n. n < 256 ^ N) }
+{
+    if N == 8 {
+        return number(word);
+    }
+    number_below(1 << (8 * N), word)
+}
+
+/// Numbers of `N` octets.
+pub struct Unsigned;
+
+impl<const N: usize> WordFormat<N> for Unsigned {
+    ghost printed = { λ o. decimal (unsigned N o) };
+
+    ghost spelled = { λ w. option_map (octets_of_unsigned N) (number_below (2 ^ (8 * N)) w) };
+
+    fn lay(block: &mut [u8], at: usize, octets: &[u8; N]) -> usize {
+        let at = lay_byte(block, at, b' ');
+        lay_natural(block, at, BigEndian::read_uint(octets, N))
+    }
+
+    fn parse(word: &[u8]) -> Option<[u8; N]> {
+        let number = number_in::<N>(word)?;
+        let mut octets = [0; N];
+        BigEndian::write_uint(&mut octets, number, N);
+        Some(octets)
+    }
+}
+
+/// The signed number that octets hold.
+#[inline(always)]
+fn signed_of<const N: usize>(octets: &[u8; N]) -> i64
+    requires { is_width N ≡ true }
+    ensures { result ≡ signed (width_of N) octets.now }
+{
+    match N {
+        1 => i64::from(octets[0].cast_signed()),
+        2 => i64::from(BigEndian::read_i16(octets)),
+        4 => i64::from(BigEndian::read_i32(octets)),
+        _ => BigEndian::read_i64(octets),
+    }
+}
+
+/// Signed numbers of `N` octets.
+pub struct Signed;
+
+impl<const N: usize> WordFormat<N> for Signed {
+    ghost printed = { λ o. signed_decimal (signed (width_of N) o) };
+
+    ghost spelled = { λ w. option_map (octets_of_signed (width_of N)) (signed_below (2 ^ (8 * N - 1)) w) };
+
+    fn lay(block: &mut [u8], at: usize, octets: &[u8; N]) -> usize {
+        let at = lay_byte(block, at, b' ');
+        let number = signed_of(octets);
+        if number >= 0 {
+            lay_natural(block, at, number as u64)
+        } else {
+            lay_number(block, at, number)
+        }
+    }
+
+    fn parse(word: &[u8]) -> Option<[u8; N]> {
+        let number = signed_below(1 << (8 * N - 1), word)?;
+        let mut octets = [0; N];
+        BigEndian::write_int(&mut octets, number, N);
+        Some(octets)
+    }
+}
+
+/// Lays at most eight octets in hexadecimal, after a space.
+fn lay_hexadecimal(block: &mut [u8], at: usize, octets: &[u8]) -> usize
+    requires few { length octets.now ≤ 8 }
+    requires room { at + 48 ≤ length block.old }
+    ensures laid { Laid block.old block.new at (codes " " ++ hexadecimal octets.now) result }
+    ensures near { result ≤ at + 48 }
+{
+    let mut end = lay_slice(block, at, b" 0x");
+    for octet in octets {
+        end = lay_digits(block, end, *octet);
+    }
+    end
+}
+
+/// Floating point of `N` octets, in hexadecimal.
+pub struct Floats;
+
+impl<const N: usize> WordFormat<N> for Floats {
+    ghost printed = { hexadecimal };
+
+    ghost spelled = { float_of N };
+
+    fn lay(block: &mut [u8], at: usize, octets: &[u8; N]) -> usize {
+        lay_hexadecimal(block, at, octets)
+    }
+
+    fn parse(word: &[u8]) -> Option<[u8; N]> {
+        float_of(word)
+    }
+}

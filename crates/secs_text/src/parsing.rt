@@ -1,0 +1,148 @@
+//! Reading messages from notation straight onto octets.
+
+mod header;
+mod items;
+pub mod values;
+
+ghost use Rattle.std.specs.Prelude.{◌≡◌, ◌≤◌, ◌<◌, ℕ, ◌++◌, ◌⊎◌, [], ◌∷◌, List, false, IfOk, IfErr, OnOk, IfSome, OnSome, MatchResult, Option};
+ghost use Rattle.std.specs.Result.{IsErrAnd};
+ghost use Rattle.secs_item.specs.Item.{Value};
+ghost use Rattle.secs_text.specs.Content.{Content, AllWithin};
+ghost use Rattle.secs_text.specs.Fault.{any_messages, NotesFault};
+ghost use Rattle.secs_text.specs.Left.{left, octets_left};
+ghost use Rattle.secs_text.specs.Notation.{Notations};
+ghost use Rattle.secs_text.specs.Places.{walk, start, after_head};
+ghost use Rattle.secs_text.specs.Reads.{Reads};
+ghost use Rattle.secs_text.specs.Spellings.{AllGiven, MessageRead, IsSpelled, headed_by, named, named_by};
+ghost use Rattle.secs_text.specs.declared.fault.TextFault.{TextFault};
+
+use crate::as_printed::next_head;
+use crate::fault::TextFault;
+use crate::parsing::items::item;
+use crate::printing::messages::Head;
+use crate::reading::{head, optional_wait};
+use crate::token::Token;
+use crate::tokens::Tokens;
+use std::alloc::{AllocError, Global};
+
+/// What takes messages, one after another.
+pub trait Receiver {
+    /// What stays as it is while it takes messages.
+    type Kept;
+
+    /// Holds of what stays and of the messages that it was given. A receiver that can't tell them may have it hold of
+    /// none.
+    ghost Given: { Self.Kept → Self → List Content → Type 0 };
+
+    /// Takes the next message: its head, and its text in the fewest octets, which is empty where the message has no
+    /// item. `None` says that the item has no octets: a body or a list of it is more than three length octets hold.
+    ///
+    /// # Errors
+    ///
+    /// Where there is no memory.
+    fn take(&mut self, head: Head, text: Option<&[u8]>) -> Result<(), AllocError>
+        requires { head.stream < 128 }
+        ensures { OnOk result ((kept : Self.Kept) (item : Option Value) (given : List Content) → IsSpelled item text.entry
+            → Given kept self.old given → Given kept self.new (given ++ headed_by head item ∷ [])) };
+}
+
+/// Reads the stream and function of the next message, if there is one.
+#[inline(always)]
+fn next_name(tokens: &mut Tokens) -> Result<Option<(u8, u8)>, TextFault>
+    ensures reads { (depth : ℕ) (ms : List Content)
+        → Reads result (walk (any_messages depth) (start ms) (left tokens.old)) (λ name. named depth ms name (left tokens.new)) }
+    ensures in_range { IfOk result (λ name. IfSome name (λ n. n.0 < 128)) }
+    ensures shorter { IfOk result (λ name. OnSome name (octets_left tokens.new < octets_left tokens.old)) }
+{
+    if let Some(name) = next_head(tokens) {
+        return Ok(Some(name));
+    }
+    let next = tokens.next();
+    if let Token::End = next.token {
+        return Ok(None);
+    }
+    let name = head(next)?;
+    Ok(Some(name))
+}
+
+/// Reads a message whose stream and function were read, and adds its text. Lists may be nested `depth` deep. Gives its
+/// head, and whether its item has octets.
+fn message(
+    out: &mut Vec<u8>,
+    tokens: &mut Tokens,
+    stream: u8,
+    function: u8,
+    depth: u8,
+) -> Result<(Head, bool), TextFault>
+    ensures reads { MessageRead depth (λ ms. after_head ms (named_by stream function)) result
+        (left tokens.old) (left tokens.new) out.old.items out.new.items }
+    ensures in_range { IfOk result (λ m. m.0.stream ≡ stream) }
+    ensures no_longer { octets_left tokens.new ≤ octets_left tokens.old }
+{
+    let (wait, next) = optional_wait(tokens);
+    let head = Head {
+        stream,
+        function,
+        wait,
+    };
+    let fits = match next.token {
+        Token::Stop => return Ok((head, true)),
+        Token::Less => item(out, tokens, next.at, depth)?,
+        _ => return Err(TextFault::Syntax { at: next.at }),
+    };
+    let next = tokens.next();
+    match next.token {
+        Token::Stop => Ok((head, fits)),
+        _ => Err(TextFault::Syntax { at: next.at }),
+    }
+}
+
+/// Gives a receiver the messages of a text, place by place.
+fn spell_several<R: Receiver>(
+    alloc: Global,
+    text: &[u8],
+    depth: u8,
+    receiver: &mut R,
+) -> Result<(), TextFault>
+    ensures { AllGiven {K = R.Kept} depth result text.now (λ kept. R.Given kept receiver.old) (λ kept. R.Given kept receiver.new) }
+{
+    let mut tokens = Tokens::new(text);
+    let mut spelling = Vec::new(alloc);
+    loop {
+        let Some((stream, function)) = next_name(&mut tokens)? else {
+            return Ok(());
+        };
+        spelling.clear();
+        let (head, fits) = message(&mut spelling, &mut tokens, stream, function, depth)?;
+        let octets = spelling.as_slice();
+        receiver.take(head, if fits { Some(octets) } else { None })?;
+    }
+}
+
+/// Gives a receiver the messages that a text is the notation of, one after another, each with the shortest octets of
+/// its item; no message of a text of white space. Lists may be nested `depth` deep, at most 100.
+///
+/// Beside what the receiver takes, it takes memory for the octets of one message at a time.
+///
+/// # Errors
+///
+/// As for [`read_all`](crate::read_all); also `Memory`, where the receiver has no memory. The messages before were
+/// given.
+pub fn spell_all<R: Receiver>(
+    alloc: Global,
+    text: &[u8],
+    depth: u8,
+    receiver: &mut R,
+) -> Result<(), TextFault>
+    requires { depth ≤ 100 }
+    ensures ok { OnOk result ((ms : List Content) × Notations ms text.now × AllWithin depth ms
+        × ((kept : R.Kept) (earlier : List Content) → R.Given kept receiver.old earlier
+        → R.Given kept receiver.new (earlier ++ ms))) }
+    ensures ok_where { (ms : List Content) → Notations ms text.now → AllWithin depth ms
+        → IfErr result (λ f. f ≡ TextFault.Memory) }
+    ensures err { IfErr result (λ f. (f ≡ TextFault.Memory) ⊎ NotesFault text.now depth f) }
+    ensures err_where { (f : TextFault) → NotesFault text.now depth f
+        → IsErrAnd result (λ e. (e ≡ f) ⊎ (e ≡ TextFault.Memory)) }
+{
+    spell_several(alloc, text, depth, receiver)
+}

@@ -1,0 +1,133 @@
+//! Values from their words onto octets.
+
+ghost use Rattle.std.specs.Prelude.{◌≡◌, ◌≤◌, ◌<◌, ◌+◌, ◌/◌, true, false, length, IfOk, OnOk};
+ghost use Rattle.std.specs.List.{AllByRecursion};
+ghost use Rattle.secs_item.specs.Format.{is_list, value_size};
+ghost use Rattle.secs_text.specs.Left.{left, octets_left};
+ghost use Rattle.secs_text.specs.Reads.{count_seen};
+ghost use Rattle.secs_text.specs.Spellings.{GathersMore, Lays, ValuesRead, holds_octets, quoted_octets, word_octets};
+ghost use Rattle.secs_text.specs.Widths.{is_width};
+
+use crate::count::Count;
+use crate::fault::TextFault;
+use crate::formats::{Floats, Octets, Signed, Truths, Unsigned, WordFormat};
+use crate::opening::check_count;
+use crate::token::Token;
+use crate::tokens::Tokens;
+use secs_item::{Format, octets_known};
+use std::alloc::AllocError;
+
+/// Adds the octets of the value that a word spells, if it spells one.
+#[inline(always)]
+fn push_word<const N: usize, W: WordFormat<N>>(
+    out: &mut Vec<u8>,
+    word: &[u8],
+) -> Result<bool, AllocError>
+    requires { is_width N ≡ true }
+    ensures octets { IfOk result (λ is_value. Lays is_value out.old.items out.new.items (W.spelled word.now)) }
+    ensures size { IfOk result (λ is_value. is_value ≡ true → length out.new.items ≡ length out.old.items + N) }
+{
+    let Some(octets) = W::parse(word) else {
+        return Ok(false);
+    };
+    out.extend_from_slice(&octets)?;
+    Ok(true)
+}
+
+/// Adds the octets of the value that a word spells in an item of this format, if it spells one.
+#[inline(always)]
+fn push_value(out: &mut Vec<u8>, format: Format, word: &[u8]) -> Result<bool, AllocError>
+    ensures octets { IfOk result (λ is_value. Lays is_value out.old.items out.new.items (word_octets format word.now)) }
+    ensures size { IfOk result (λ is_value. is_value ≡ true → length out.new.items ≡ length out.old.items + value_size format) }
+{
+    match format {
+        Format::List => Ok(false),
+        Format::Binary => push_word::<1, Octets>(out, word),
+        Format::Ascii => push_word::<1, Octets>(out, word),
+        Format::Jis8 => push_word::<1, Octets>(out, word),
+        Format::Char2 => push_word::<1, Octets>(out, word),
+        Format::Boolean => push_word::<1, Truths>(out, word),
+        Format::I1 => push_word::<1, Signed>(out, word),
+        Format::I2 => push_word::<2, Signed>(out, word),
+        Format::I4 => push_word::<4, Signed>(out, word),
+        Format::I8 => push_word::<8, Signed>(out, word),
+        Format::U1 => push_word::<1, Unsigned>(out, word),
+        Format::U2 => push_word::<2, Unsigned>(out, word),
+        Format::U4 => push_word::<4, Unsigned>(out, word),
+        Format::U8 => push_word::<8, Unsigned>(out, word),
+        Format::F4 => push_word::<4, Floats>(out, word),
+        Format::F8 => push_word::<8, Floats>(out, word),
+    }
+}
+
+/// Adds octets of text that stood between quotes, if they may stand in an item of this format.
+fn push_quoted(out: &mut Vec<u8>, format: Format, text: &[u8]) -> Result<bool, AllocError>
+    ensures octets { IfOk result (λ is_text. Lays is_text out.old.items out.new.items (quoted_octets format text.now)) }
+    ensures fit { AllByRecursion (λ n. n < 256) text.now }
+{
+    octets_known(text);
+    let Format::Ascii = format else {
+        return Ok(false);
+    };
+    out.extend_from_slice(text)?;
+    Ok(true)
+}
+
+/// Whether the values of this format are single octets in hexadecimal.
+fn holds_octets(format: Format) -> bool
+    ensures { result ≡ holds_octets format }
+{
+    matches!(
+        format,
+        Format::Binary | Format::Ascii | Format::Jis8 | Format::Char2
+    )
+}
+
+/// Adds the octets of the words that come next, as far as each is an octet behind one space.
+fn parse_octets(out: &mut Vec<u8>, tokens: &mut Tokens, format: Format) -> Result<(), AllocError>
+    ensures gathered { OnOk result (GathersMore format (left tokens.old) (left tokens.new) out.old.items out.new.items) }
+    ensures no_longer { octets_left tokens.new ≤ octets_left tokens.old }
+{
+    if !holds_octets(format) {
+        return Ok(());
+    }
+    loop {
+        let Some(octet) = tokens.next_octet() else {
+            return Ok(());
+        };
+        out.push(octet)?;
+    }
+}
+
+/// Reads the values of an item up to its `>`, and adds their octets.
+pub fn parse_values(
+    out: &mut Vec<u8>,
+    tokens: &mut Tokens,
+    format: Format,
+    count: Option<Count>,
+) -> Result<(), TextFault>
+    requires no_list { is_list format ≡ false }
+    ensures values { ValuesRead format (count_seen count) result (left tokens.old) (left tokens.new) out.old.items out.new.items }
+    ensures no_longer { octets_left tokens.new ≤ octets_left tokens.old }
+{
+    let start = out.len();
+    parse_octets(out, tokens, format)?;
+    loop {
+        let next = tokens.next();
+        match next.token {
+            Token::Word(word) => {
+                if !push_value(out, format, word)? {
+                    return Err(TextFault::Number { at: next.at });
+                }
+            }
+            Token::Quoted(text) => {
+                if !push_quoted(out, format, text)? {
+                    return Err(TextFault::Syntax { at: next.at });
+                }
+            }
+            Token::Greater => break,
+            _ => return Err(TextFault::Syntax { at: next.at }),
+        }
+    }
+    check_count(count, (out.len() - start) / format.size())
+}

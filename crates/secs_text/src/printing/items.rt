@@ -1,0 +1,250 @@
+//! Printing items straight from their octets. For each list that isn't at its end it is kept how many elements are
+//! still to come.
+
+ghost use Rattle.std.specs.Prelude.{◌≡◌, ◌≤◌, ◌<◌, ◌+◌, ◌-◌, ◌/◌, ◌++◌, ℕ, List, Ok, false, true, length, take, drop, IsOk, codes, decimal};
+ghost use Rattle.secs_item.specs.declared.format.Format.TheVariants.{Ascii};
+ghost use Rattle.secs_item.specs.Format.{is_list, value_size};
+ghost use Rattle.secs_item.specs.Item.{Value, Elements};
+ghost use Rattle.secs_item.specs.Reading.{item_at, elements_by, values_of};
+ghost use Rattle.secs_text.specs.Body.{body_of};
+ghost use Rattle.secs_text.specs.Laid.{Laid, Puts, opening_of, words_of};
+ghost use Rattle.secs_text.specs.Printed.{printed_elements, printed_item, printed_text, printed_values};
+ghost use Rattle.secs_text.specs.Widths.{is_width};
+
+use crate::block::{Output, room};
+use crate::formats::{Floats, Octets, Signed, Truths, Unsigned, WordFormat};
+use crate::laying::{lay_byte, lay_number, lay_small, lay_word};
+use crate::printing::values::{put_text, put_words};
+use crate::type_name::opening_word;
+use secs_item::{Format, Header, read_header};
+
+/// How deep lists nest at most.
+const MAX_DEPTH: usize = 100;
+
+/// Lays a number.
+#[inline(always)]
+fn lay_count(block: &mut [u8], at: usize, count: usize) -> usize
+    requires { at + 40 ≤ length block.old }
+    ensures laid { Laid block.old block.new at (decimal count) result }
+    ensures near { result ≤ at + 40 }
+{
+    if count < 256 {
+        lay_small(block, at, count as u8)
+    } else {
+        lay_number(block, at, count)
+    }
+}
+
+/// Lays the opening of an item, after a space.
+#[inline(always)]
+fn lay_opening(block: &mut [u8], at: usize, format: Format, count: usize) -> usize
+    requires { at + 64 ≤ length block.old }
+    ensures laid { Laid block.old block.new at (opening_of format count) result }
+    ensures near { result ≤ at + 64 }
+{
+    let (word, length) = opening_word(format);
+    let at = lay_word::<16>(block, at, word.as_slice(), length);
+    let at = lay_count(block, at, count);
+    lay_byte(block, at, b']')
+}
+
+/// Puts the opening of an item with a body of this length, after a space.
+#[inline(always)]
+pub fn put_opening<O: Output>(
+    out: &mut O,
+    block: &mut [u8],
+    from: usize,
+    format: Format,
+    body_length: usize,
+) -> usize
+    requires size { length block.old ≡ 65536 }
+    requires within { from ≤ 65536 }
+    ensures { Puts (O.Given out.old) block.old from (O.Given out.new) block.new result
+        (opening_of format (body_length / value_size format)) }
+{
+    let at = room(out, block, from);
+    lay_opening(block, at, format, body_length / format.size())
+}
+
+/// Puts what ends an item.
+#[inline(always)]
+pub fn put_end<O: Output>(out: &mut O, block: &mut [u8], from: usize) -> usize
+    requires size { length block.old ≡ 65536 }
+    requires within { from ≤ 65536 }
+    ensures { Puts (O.Given out.old) block.old from (O.Given out.new) block.new result (codes ">") }
+{
+    let at = room(out, block, from);
+    lay_byte(block, at, b'>')
+}
+
+/// The body of an item of values with this header.
+#[inline(always)]
+fn body(octets: &[u8], header: Header) -> &[u8]
+    requires { header.body + header.length ≤ length octets.now }
+    ensures octets { result.now ≡ take header.length (drop header.body octets.now) }
+    ensures length { length result.now ≡ header.length }
+{
+    &octets[header.body..header.body + header.length]
+}
+
+/// Puts an item of values that are single words, with this body, after a space.
+#[inline(always)]
+fn put_item_of_words<const N: usize, W: WordFormat<N>, O: Output>(
+    out: &mut O,
+    block: &mut [u8],
+    from: usize,
+    format: Format,
+    body: &[u8],
+) -> usize
+    requires width { is_width N ≡ true }
+    requires words { (o : List ℕ) → words_of W.printed N o ≡ printed_values (body_of (values_of format o)) }
+    requires size { length block.old ≡ 65536 }
+    requires within { from ≤ 65536 }
+    ensures { Puts (O.Given out.old) block.old from (O.Given out.new) block.new result
+        (opening_of format (length body.now / value_size format)
+        ++ printed_values (body_of (values_of format body.now)) ++ codes ">") }
+{
+    let at = put_opening(out, block, from, format, body.len());
+    let at = put_words::<N, W, O>(out, block, at, body);
+    put_end(out, block, at)
+}
+
+/// Puts an item of text with this body, after a space.
+#[inline(always)]
+fn put_item_of_text<O: Output>(out: &mut O, block: &mut [u8], from: usize, body: &[u8]) -> usize
+    requires size { length block.old ≡ 65536 }
+    requires within { from ≤ 65536 }
+    ensures { Puts (O.Given out.old) block.old from (O.Given out.new) block.new result
+        (opening_of Ascii (length body.now) ++ printed_text false body.now ++ codes ">") }
+{
+    let at = put_opening(out, block, from, Format::Ascii, body.len());
+    let at = put_text(out, block, at, body);
+    put_end(out, block, at)
+}
+
+/// Puts an item of values with this body, after a space. Each format has code of its own.
+#[inline(never)]
+pub fn put_item_of_values<O: Output>(
+    out: &mut O,
+    block: &mut [u8],
+    from: usize,
+    format: Format,
+    body: &[u8],
+) -> usize
+    requires no_list { is_list format ≡ false }
+    requires size { length block.old ≡ 65536 }
+    requires within { from ≤ 65536 }
+    ensures { Puts (O.Given out.old) block.old from (O.Given out.new) block.new result
+        (opening_of format (length body.now / value_size format)
+        ++ printed_values (body_of (values_of format body.now)) ++ codes ">") }
+{
+    match format {
+        Format::List => unreachable!(),
+        Format::Binary => put_item_of_words::<1, Octets, O>(out, block, from, Format::Binary, body),
+        Format::Boolean => put_item_of_words::<1, Truths, O>(
+            out,
+            block,
+            from,
+            Format::Boolean,
+            body,
+        ),
+        Format::Ascii => put_item_of_text(out, block, from, body),
+        Format::Jis8 => put_item_of_words::<1, Octets, O>(out, block, from, Format::Jis8, body),
+        Format::Char2 => put_item_of_words::<1, Octets, O>(out, block, from, Format::Char2, body),
+        Format::I1 => put_item_of_words::<1, Signed, O>(out, block, from, Format::I1, body),
+        Format::I2 => put_item_of_words::<2, Signed, O>(out, block, from, Format::I2, body),
+        Format::I4 => put_item_of_words::<4, Signed, O>(out, block, from, Format::I4, body),
+        Format::I8 => put_item_of_words::<8, Signed, O>(out, block, from, Format::I8, body),
+        Format::U1 => put_item_of_words::<1, Unsigned, O>(out, block, from, Format::U1, body),
+        Format::U2 => put_item_of_words::<2, Unsigned, O>(out, block, from, Format::U2, body),
+        Format::U4 => put_item_of_words::<4, Unsigned, O>(out, block, from, Format::U4, body),
+        Format::U8 => put_item_of_words::<8, Unsigned, O>(out, block, from, Format::U8, body),
+        Format::F4 => put_item_of_words::<4, Floats, O>(out, block, from, Format::F4, body),
+        Format::F8 => put_item_of_words::<8, Floats, O>(out, block, from, Format::F8, body),
+    }
+}
+
+/// Puts the elements of a list, each after a space, and what ends the list. The list's header was read where lists
+/// could be nested `depth` deep; it has `count` elements, and its body begins at `place`.
+#[inline(never)]
+fn put_elements<O: Output>(
+    out: &mut O,
+    block: &mut [u8],
+    from: usize,
+    octets: &[u8],
+    place: usize,
+    count: usize,
+    depth: u8,
+) -> usize
+    requires there { place ≤ length octets.now }
+    requires some { 0 < depth }
+    requires few { depth ≤ 100 }
+    requires measured { IsOk (elements_by (item_at (depth - 1)) count (drop place octets.now)) }
+    requires size { length block.old ≡ 65536 }
+    requires within { from ≤ 65536 }
+    ensures puts { (es : Elements) (n : ℕ) → elements_by (item_at (depth - 1)) count (drop place octets.now) ≡ Ok (es, n)
+        → Puts (O.Given out.old) block.old from (O.Given out.new) block.new result (printed_elements es ++ codes ">") }
+    ensures size { length block.new ≡ 65536 }
+    ensures within { result ≤ 65536 }
+{
+    let mut counts = [0; MAX_DEPTH];
+    counts[0] = count;
+    let mut lists = 1u8;
+    let mut end = place;
+    let mut at = from;
+    while lists > 0 {
+        let innermost = usize::from(lists) - 1;
+        let left = counts[innermost];
+        if left == 0 {
+            at = put_end(out, block, at);
+            lists -= 1;
+            continue;
+        }
+        counts[innermost] = left - 1;
+        let Ok(header) = read_header(octets, end, depth - lists) else {
+            unreachable!()
+        };
+        if header.format.is_list() {
+            at = put_opening(out, block, at, Format::List, header.length);
+            counts[usize::from(lists)] = header.length;
+            end = header.body;
+            if header.length == 0 {
+                at = put_end(out, block, at);
+            } else {
+                lists += 1;
+            }
+        } else {
+            let body = body(octets, header);
+            at = put_item_of_values(out, block, at, header.format, body);
+            end = header.body + header.length;
+        }
+    }
+    at
+}
+
+/// Puts the item at the front of octets that were measured, after a space.
+pub fn put_item<O: Output>(
+    out: &mut O,
+    block: &mut [u8],
+    from: usize,
+    octets: &[u8],
+    depth: u8,
+) -> usize
+    requires few { depth ≤ 100 }
+    requires measured { IsOk (item_at depth octets.now) }
+    requires size { length block.old ≡ 65536 }
+    requires within { from ≤ 65536 }
+    ensures puts { (v : Value) (n : ℕ) → item_at depth octets.now ≡ Ok (v, n)
+        → Puts (O.Given out.old) block.old from (O.Given out.new) block.new result (codes " " ++ printed_item v) }
+    ensures size { length block.new ≡ 65536 }
+    ensures within { result ≤ 65536 }
+{
+    let Ok(header) = read_header(octets, 0, depth) else {
+        unreachable!()
+    };
+    if header.format.is_list() {
+        let at = put_opening(out, block, from, Format::List, header.length);
+        return put_elements(out, block, at, octets, header.body, header.length, depth);
+    }
+    put_item_of_values(out, block, from, header.format, body(octets, header))
+}

@@ -1,0 +1,121 @@
+//! Printing messages straight from their octets.
+
+ghost use Rattle.std.specs.Prelude.{◌≡◌, ◌≤◌, ◌+◌, ◌++◌, ℕ, List, [], Option, Err, length, codes, decimal, if◌then◌else◌, IsOk, IfErr, OnOk, OnErr};
+ghost use Rattle.secs_item.specs.Fault.{TextFaults, IsTold, fault_at};
+ghost use Rattle.secs_item.specs.Header.{Reason};
+ghost use Rattle.secs_item.specs.Item.{Value};
+ghost use Rattle.secs_item.specs.Spelling.{IsText, IsTextOf};
+ghost use Rattle.secs_text.specs.Laid.{Laid, Puts};
+ghost use Rattle.secs_text.specs.Printed.{printed};
+
+use crate::block::{Block, Output, room};
+use crate::laying::{lay_byte, lay_slice, lay_small};
+use crate::printing::items::put_item;
+use secs_item::{ItemFault, measure_text};
+
+/// What a message's notation begins with.
+#[derive(Clone, Copy)]
+pub struct Head {
+    /// The stream.
+    pub stream: u8,
+    /// The function.
+    pub function: u8,
+    /// Whether a reply is wanted: the W bit.
+    pub wait: bool,
+}
+
+/// Lays a head.
+fn lay_head(block: &mut [u8], at: usize, head: Head) -> usize
+    requires { at + 64 ≤ length block.old }
+    ensures laid { Laid block.old block.new at
+        (codes "S" ++ decimal head.stream ++ codes "F" ++ decimal head.function ++ (if head.wait then codes " W" else [])) result }
+    ensures near { result ≤ at + 64 }
+{
+    let at = lay_byte(block, at, b'S');
+    let at = lay_small(block, at, head.stream);
+    let at = lay_byte(block, at, b'F');
+    let at = lay_small(block, at, head.function);
+    if head.wait {
+        lay_slice(block, at, b" W")
+    } else {
+        at
+    }
+}
+
+/// Puts a head.
+pub fn put_head<O: Output>(out: &mut O, block: &mut [u8], from: usize, head: Head) -> usize
+    requires size { length block.old ≡ 65536 }
+    requires within { from ≤ 65536 }
+    ensures { Puts (O.Given out.old) block.old from (O.Given out.new) block.new result
+        (codes "S" ++ decimal head.stream ++ codes "F" ++ decimal head.function ++ (if head.wait then codes " W" else [])) }
+{
+    let at = room(out, block, from);
+    lay_head(block, at, head)
+}
+
+/// Puts what ends a message.
+pub fn put_stop<O: Output>(out: &mut O, block: &mut [u8], from: usize) -> usize
+    requires size { length block.old ≡ 65536 }
+    requires within { from ≤ 65536 }
+    ensures { Puts (O.Given out.old) block.old from (O.Given out.new) block.new result (codes " .") }
+{
+    let at = room(out, block, from);
+    lay_slice(block, at, b" .")
+}
+
+/// Puts a message with this text, which was measured.
+fn put_message<O: Output>(
+    out: &mut O,
+    block: &mut [u8],
+    from: usize,
+    head: Head,
+    text: &[u8],
+    depth: u8,
+) -> usize
+    requires few { depth ≤ 100 }
+    requires measured { IsText depth text.now }
+    requires size { length block.old ≡ 65536 }
+    requires within { from ≤ 65536 }
+    ensures puts { (item : Option Value) → IsTextOf depth text.now item
+        → Puts (O.Given out.old) block.old from (O.Given out.new) block.new result
+        (printed (record { stream = head.stream; function = head.function; wait = head.wait; item = item })) }
+    ensures size { length block.new ≡ 65536 }
+    ensures within { result ≤ 65536 }
+{
+    let at = put_head(out, block, from, head);
+    if text.is_empty() {
+        return put_stop(out, block, at);
+    }
+    let at = put_item(out, block, at, text, depth);
+    put_stop(out, block, at)
+}
+
+/// Prints the message that has this head and this text (SEMI E5), straight from the text's octets. Its printed form
+/// goes into the block, behind what that holds; where the block is full, `out` is given what it held. The lists of the
+/// text's item are nested at most `depth` deep, and the depth is at most 100. Takes no memory.
+///
+/// # Errors
+///
+/// Where the octets are no message's text: as [`measure_text`] tells it. Nothing is printed then.
+pub fn print_text<O: Output>(
+    out: &mut O,
+    block: &mut Block,
+    head: Head,
+    text: &[u8],
+    depth: u8,
+) -> Result<(), ItemFault>
+    requires { depth ≤ 100 }
+    ensures ok { OnOk result ((item : Option Value) × IsTextOf depth text.now item
+        × ((given : List ℕ) → O.Given out.old given → (now : List ℕ) × O.Given out.new now × (now ++ block.new ≡ given ++ block.old
+        ++ printed (record { stream = head.stream; function = head.function; wait = head.wait; item = item })))) }
+    ensures ok_where { IsText depth text.now → IsOk result }
+    ensures err { IfErr result (IsTold (TextFaults depth text.now)) }
+    ensures err_where { (at : ℕ) (reason : Reason) → TextFaults depth text.now at reason
+        → result ≡ Err (fault_at at reason) }
+    ensures nothing { OnErr result ((out.new ≡ out.old) × (block.new ≡ block.old)) }
+{
+    measure_text(text, depth)?;
+    let from = block.used;
+    block.used = put_message(out, block.octets.as_mut_slice(), from, head, text, depth);
+    Ok(())
+}

@@ -1,0 +1,83 @@
+//! Reading items: each list by its elements, each item of values by its octets.
+
+ghost use Rattle.std.specs.Prelude.{◌≡◌, ◌≤◌, ◌+◌, false, length};
+ghost use Rattle.secs_item.specs.Format.{is_list};
+ghost use Rattle.secs_item.specs.Item.{view, views, list, no_elements};
+ghost use Rattle.secs_text.specs.Body.{nothing_of};
+ghost use Rattle.secs_text.specs.Left.{left, octets_left};
+ghost use Rattle.secs_text.specs.Places.{Rules, Before, walk, type_wanted, in_item, closed};
+ghost use Rattle.secs_text.specs.Reads.{Reads, count_seen};
+
+use crate::count::Count;
+use crate::fault::TextFault;
+use crate::opening::{check_count, format_and_count};
+use crate::parsing::values::parse_values;
+use crate::token::Token;
+use crate::tokens::Tokens;
+use secs_item::{Format, Item, item_of_values};
+use std::alloc::Global;
+
+/// Reads the values of an item, after its type name and its count.
+fn values(
+    alloc: Global,
+    tokens: &mut Tokens,
+    format: Format,
+    count: Option<Count>,
+) -> Result<Item, TextFault>
+    requires no_list { is_list format ≡ false }
+    ensures reads { (rules : Rules) (b : Before)
+        → Reads result (walk rules (in_item b (record { count = count_seen count; so_far = nothing_of format })) (left tokens.old))
+        (λ i. walk rules (closed b.lists b (view i)) (left tokens.new)) }
+    ensures no_longer { octets_left tokens.new ≤ octets_left tokens.old }
+{
+    let mut body = Vec::new(alloc);
+    parse_values(&mut body, tokens, format, count)?;
+    Ok(item_of_values(alloc, format, &body)?)
+}
+
+/// Reads items up to the `>` of their list. Lists in them may be nested `depth` deep.
+#[cycle(read_item)]
+#[tactic(auto, using(crate::proofs::Views::views_push, crate::proofs::Views::count_views))]
+fn elements(
+    alloc: Global,
+    tokens: &mut Tokens,
+    count: Option<Count>,
+    depth: u8,
+) -> Result<Vec<Item>, TextFault>
+    ensures reads { (rules : Rules) (b : Before) → length b.lists + 1 + depth ≡ rules.depth
+        → Reads result (walk rules (in_item b (record { count = count_seen count; so_far = list no_elements })) (left tokens.old))
+        (λ v. walk rules (closed b.lists b (list (views v.items))) (left tokens.new)) }
+    ensures no_longer { octets_left tokens.new ≤ octets_left tokens.old }
+{
+    let mut items = Vec::new(alloc);
+    loop {
+        let next = tokens.next();
+        match next.token {
+            Token::Less => items.push(item(alloc, tokens, next.at, depth)?)?,
+            Token::Greater => break,
+            _ => return Err(TextFault::Syntax { at: next.at }),
+        }
+    }
+    check_count(count, items.len())?;
+    Ok(items)
+}
+
+/// Reads the item whose `<` stood at `opening`. Lists may be nested `depth` deep.
+#[cycle(read_item)]
+pub fn item(
+    alloc: Global,
+    tokens: &mut Tokens,
+    opening: usize,
+    depth: u8,
+) -> Result<Item, TextFault>
+    ensures reads { (rules : Rules) (b : Before) → length b.lists + depth ≡ rules.depth
+        → Reads result (walk rules (type_wanted b opening) (left tokens.old))
+        (λ i. walk rules (closed b.lists b (view i)) (left tokens.new)) }
+    ensures no_longer { octets_left tokens.new ≤ octets_left tokens.old }
+{
+    let (format, count) = format_and_count(tokens, opening, depth)?;
+    match format {
+        Format::List => Ok(Item::List(elements(alloc, tokens, count, depth - 1)?)),
+        _ => values(alloc, tokens, format, count),
+    }
+}
