@@ -232,12 +232,37 @@ def closings_of(link: str, mark: str, request: Draft) -> Iterator[bytes]:
         yield log([*selected(link), (0, mark, request), *lines, (lines[-1][0], back, answers[0])], link)
 
 
+def carrying_nothing() -> Iterator[bytes]:
+    """Control messages whose header bytes that carry nothing are none: W, stream 9, a function."""
+    for link, request in (("active", LINKTEST_REQ), ("passive", LINKTEST_REQ)):
+        for byte2, byte3 in ((0x89, 0), (0x09, 1), (0xFF, 0xFF)):
+            odd = changed(request, byte2=byte2, byte3=byte3)
+            answer = changed(LINKTEST_RSP, byte2=byte2, byte3=byte3)
+            for mark in (SENT, TAKEN):
+                yield log([*selected(link), (0, mark, odd), (0, OTHER[mark], answer)], link)
+                yield log([*selected(link), (0, mark, changed(SEPARATE, byte2=byte2, byte3=byte3)), (0, "down")], link)
+            asked = (0, asking(link), changed(SELECT_REQ, byte2=byte2, byte3=byte3))
+            yield log([(0, "up"), asked, (0, OTHER[asking(link)], changed(SELECT_RSP, byte2=byte2))], link)
+
+
+def later(text: bytes) -> bytes:
+    """The same log, where the clock began before."""
+    first, *lines = text.split(b"\n")[:-1]
+    pairs = [line.split(b" ", 1) for line in lines]
+    return b"".join(line + b"\n" for line in [first, *(b"%d %s" % (int(time) + 10 * T3, rest) for time, rest in pairs)])
+
+
 def logs() -> List[bytes]:
+    found = logs_from_the_first_moment()
+    return [*found, *map(later, found)]
+
+
+def logs_from_the_first_moment() -> List[bytes]:
     found = [log([*selected(), *lines]) for lines in TWO_RULES]
     found += [log([*connected(), *lines]) for lines in TWO_RULES_UNSELECTED]
     found += [log([*before, (time, *event)], version=2) for before, time in SITUATIONS for event in EVENTS]
     found += [log([*selected(), *lines]) for lines in EXPIRIES] + [log(lines) for lines in THROWN_AWAY]
-    return [*found, *numbers_in_use(), *closings()]
+    return [*found, *numbers_in_use(), *closings(), *carrying_nothing()]
 
 
 # What the logs have to show.

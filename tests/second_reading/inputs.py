@@ -353,6 +353,23 @@ ODD_NOTATIONS = [
 ]
 
 
+# Quoted texts in the place of words and marks.
+QUOTED = [
+    '"S1F1" .', 'S1F1 "W" .', 'S1F1 "." .', 'S1F1 ".', 'S1F1 "<" L> .', 'S1F1 <"L"> .', 'S1F1 <L ">" .', 'S1F1 <A ">"> .',
+    'S1F1 <L "["0]> .', 'S1F1 <L ["0"]> .', 'S1F1 <L [0"]"> .', 'S1F1 <U1 "1"> .', 'S1F1 <BOOLEAN "T"> .',
+    'S1F1 <B "0x01"> .', "S1F1 <W> .", "S1F1 W <W> .", "S1F1 L .", "S1F1 <[0]> .", "S1F1 <<> .", "<L> .", ". .", "W .",
+]
+
+# How deep lists may be nested, at edges.
+DEPTHS = (0, 1, 2, 32, 99, 100)
+
+
+def nested_at_edges() -> List[Tuple[bytes, Options]]:
+    """Lists as deep as they may be nested, and one deeper, empty or around a value."""
+    return [(f"S1F1 {'<L ' * lists}{inner}{'>' * lists} .".encode(), Options(depth=depth))
+            for depth in DEPTHS for lists in (depth, depth + 1) for inner in ("", "<U1 1>")]
+
+
 # What stands around an octet: a value's place, quotes, a word in front, a number in front.
 AROUND = [(b"S1F1 <A ", b"> ."), (b'S1F1 <A "a', b'"> .'), (b"S1F1 W", b" ."), (b"S1F1 <U1 1", b"> .")]
 
@@ -360,7 +377,7 @@ AROUND = [(b"S1F1 <A ", b"> ."), (b'S1F1 <A "a', b'"> .'), (b"S1F1 W", b" ."), (
 def notations_at_edges() -> List[Tuple[bytes, Options]]:
     """Near misses; numbers at the edges of their types; bodies, lists and inputs at the edges of their lengths; each
     octet where it is white, a token, of a word or quoted, or none of these."""
-    texts = list(ODD_NOTATIONS)
+    texts = ODD_NOTATIONS + QUOTED
     for form in VALUE_FORMATS:
         if form.is_signed or form.is_unsigned:
             count = 1 << (8 * form.width)
@@ -371,4 +388,4 @@ def notations_at_edges() -> List[Tuple[bytes, Options]]:
     texts += [f"S1F1 <L {'<L> ' * length}> ." for length in (0xFF, 0x100)]
     texts += [" " * length for length in (67_108_864, 67_108_865)]
     octets = [front + bytes([octet]) + behind for front, behind in AROUND for octet in range(256)]
-    return [(text, Options(max=33_554_432)) for text in [*map(str.encode, texts), *octets]]
+    return [(text, Options(max=33_554_432)) for text in [*map(str.encode, texts), *octets]] + nested_at_edges()

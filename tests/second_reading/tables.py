@@ -1,5 +1,6 @@
 """Lists of what an end is told in which one thing decides: each message to hosts and equipment that connect or listen,
-selected or not; each timer at its end and past it, by what is open; fronts of messages that are too long or too short.
+selected or not; each timer at its end and past it, by what is open; fronts of messages that are too long or too short;
+what is sent, at its edges.
 
 Nothing here judges: what an end answers, the two readings say.
 """
@@ -9,6 +10,7 @@ from typing import Iterator, List, Tuple
 
 from second_reading.ends import End, Refused
 from second_reading.inputs import Draft
+from second_reading.items import BY_NAME, Item
 from second_reading.notation import Message
 from second_reading.session import Settings
 from second_reading.talks import Maker, Told
@@ -20,6 +22,8 @@ OTHER_SYSTEM = 99
 ENDS = list(product(("host", "equipment"), ("active", "passive")))
 NO_ITEM, TEXT, OCTETS = b"\x40", b"\x41\x01A", b"\x21\x01\0"
 
+LIST = Item(BY_NAME["L"], [])
+
 # Select.req and Separate.req, by their session ID and SType.
 CHANGING = [(0xFFFF, 1), (0xFFFF, 9)]
 NAMES = [(0, 1), (1, 1), (1, 3), (1, 13), (1, 255), (2, 17), (2, 25), (3, 1), (9, 1), (9, 3), (64, 7), (127, 253)]
@@ -29,9 +33,9 @@ NAMES += [(0, 0), (1, 0), (1, 2), (2, 26), (9, 2)]
 class Table:
     """An end, and what it is told."""
 
-    def __init__(self, role: str, link: str, is_obliging: bool = False):
+    def __init__(self, role: str, link: str, is_obliging: bool = False, first_system: int = 1):
         settings = Settings(role, link, DEVICE, T3, T6, T7, T8, MAX, 1)
-        self.maker = Maker(settings, b"M", 1, is_obliging)
+        self.maker = Maker(settings, b"M", first_system, is_obliging)
         self.end = self.maker.new_end()
         self.told: List[Told] = []
         self.tell("start", 0)
@@ -50,7 +54,7 @@ class Table:
     def answer_select(self, status: int = 0):
         """The session is selected, or a selection is refused."""
         if self.maker.settings.link == "active":
-            self.hear(Draft(byte3=status, stype=2, system=1))
+            self.hear(Draft(byte3=status, stype=2, system=self.maker.first_system))
         elif status == 0:
             self.hear(Draft(stype=1, system=1))
 
@@ -145,6 +149,7 @@ def wait_for(table: Table, waiting: Tuple[str, ...]):
         table.tell("linktest")
     if "an octet" in waiting:
         table.tell("hear", b"\0")
+        table.tell("tick", 5)
         table.tell("hear", b"")
     if "a later primary" in waiting:
         table.tell("tick", 10)
@@ -160,10 +165,32 @@ def tables_of_lengths(role: str, link: str) -> Iterator[Table]:
         if is_selected:
             table.answer_select()
         front = length.to_bytes(4, "big") + Draft(session, 0x81, 1, ptype, stype, OTHER_SYSTEM).octets()
-        for piece in (front[:4], front[4:13], front[13:]):
+        for piece in (front[:4], front[4:13], front[13:] + b"\0\0"):
             table.tell("hear", piece)
         table.tell("tick", T8 + 1)
         yield table
+
+
+def tables_of_sends(role: str, link: str) -> Iterator[Table]:
+    """What is sent: own numbers that begin again, streams and functions at their edges, a message as long as any may be
+    and one octet longer, lists as deep as any may be and one deeper. Each primary is answered."""
+    for first_system in ((1 << 32) - 1, (1 << 31) - 1, 0):
+        table = Table(role, link, first_system=first_system)
+        table.answer_select()
+        for stream, function, wait in product((0, 1, 8, 9, 10, 127), (0, 1, 2, 253, 255), (False, True)):
+            table.tell("send", Message(stream, function, wait, None))
+            table.hear(Draft(DEVICE, stream, (function + 1) % 256, system=table.number()))
+        table.tell("linktest")
+        table.hear(Draft(stype=6, system=table.number()))
+        yield table
+    table = Table(role, link)
+    table.answer_select()
+    for length in (MAX - 10 - 2, MAX - 10 - 1):
+        table.tell("send", Message(1, 1, False, Item(BY_NAME["A"], b"x" * length)))
+    for item in (LIST, Item(BY_NAME["L"], [LIST])):
+        table.tell("send", Message(1, 1, False, item))
+    table.tell("separate")
+    yield table
 
 
 @lru_cache(maxsize=None)
@@ -171,7 +198,7 @@ def lists() -> List[Tuple[Maker, List[Told]]]:
     tables: List[Table] = []
     for role, link in ENDS:
         tables += [*tables_of_messages(role, link), table_of_answers(role, link)]
-        tables += [*tables_of_timers(role, link), *tables_of_lengths(role, link)]
+        tables += [*tables_of_timers(role, link), *tables_of_lengths(role, link), *tables_of_sends(role, link)]
     return [table.listed() for table in tables]
 
 

@@ -581,6 +581,9 @@ def logs_at_edges() -> List[bytes]:
         logs += [f"{first}\n".encode(), f"{first}\n0 up\n0 down\n0 up\n".encode()]
     for digits in ("0" * 18, "0" * 19, "0" * 20, "0" * 21, "A" * 20, "g" * 20):
         logs.append((" ".join(words) + f"\n0 up\n0 ! {digits}\n").encode())
+    for length in range(2 * 256 + 64 - 2, 2 * 256 + 64 + 4):
+        for front in ("#", "0 ! "):
+            logs.append((" ".join(words) + f"\n0 up\n{front}{'0' * (length - len(front))}\n").encode())
     for time in (1 << 64) - 2, (1 << 64) - 1, 1 << 64:
         logs.append((" ".join(words) + f"\n{time} up\n").encode())
     return logs
