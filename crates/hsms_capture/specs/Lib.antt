@@ -1,3 +1,4 @@
 pub mod Wire
+pub mod Message
 pub mod Laws
 pub mod Examples
