@@ -28,12 +28,12 @@ of_cells cells i e =
 pub in_span : (p : Placed) (d : End) (n : ℕ) → same_end p.from d ≡ true → p.place ≤ n → n < p.place + length p.cells → is_some (cell_in p d n) ≡ true
 in_span p d n same le lt = rw (same, le-leb p.place n le) (in_cells p.cells (n - p.place) (omega arith))
 
-guarded : (s t : Bool) (x : Option Cell) → is_some (cond (s && t) x None) ≡ true → (s ≡ true) × (t ≡ true) × (is_some x ≡ true)
+pub guarded : (s t : Bool) (x : Option Cell) → is_some (cond (s && t) x None) ≡ true → (s ≡ true) × (t ≡ true) × (is_some x ≡ true)
 guarded false t x e = absurd cc
 guarded true false x e = absurd cc
 guarded true true x e = (refl, refl, e)
 
-of_span : (p : Placed) (d : End) (n : ℕ) → is_some (cell_in p d n) ≡ true → (p.place ≤ n) × (n < p.place + length p.cells)
+pub of_span : (p : Placed) (d : End) (n : ℕ) → is_some (cell_in p d n) ≡ true → (p.place ≤ n) × (n < p.place + length p.cells)
 of_span p d n e =
     let g = guarded (same_end p.from d) (nat_le p.place n) (slice_get p.cells (n - p.place)) e in
     let le = leb-true p.place n g.1 in
@@ -81,7 +81,7 @@ run_end (suc k) n ps d e before = by_test (λ held. run_end k (n + 1) ps d (omeg
 pub end_is : (ps : List Placed) (d : End) → IsEnd (IsHeld ps d) (end_of ps d)
 end_is ps d = run_end (bound ps) 0 ps d (omega arith) (λ m lt. absurd (omega (arith, lt)))
 
-held_behind : (before : List Placed) (p : Placed) (d : End) (n : ℕ) → IsHeld (before ++ (p ∷ [])) d n → IsHeld before d n ⊎ (is_some (cell_in p d n) ≡ true)
+pub held_behind : (before : List Placed) (p : Placed) (d : End) (n : ℕ) → IsHeld (before ++ (p ∷ [])) d n → IsHeld before d n ⊎ (is_some (cell_in p d n) ≡ true)
 unfolding cell_at
 held_behind [] p d n e = elim (either (cell_in p d n) None e) [ inl x ↦ inr x | inr y ↦ absurd cc ]
 held_behind (q ∷ qs) p d n e =

@@ -1,4 +1,5 @@
 mod Absorbed
+mod Asked
 mod CutOff
 mod Ends
 mod Fronts
@@ -7,5 +8,7 @@ mod Lists
 mod Longer
 mod Nearest
 mod Numbered
+mod Queue
+mod Sizes
 mod SmallCaptures
 mod Turned

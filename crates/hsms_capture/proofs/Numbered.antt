@@ -1,7 +1,7 @@
 -- Packets whose numbers rise: where a log breaks off, more packets break it off no earlier.
-use Rattle.std.proofs.Common.{◌≡◌, ◌<◌, ◌≤◌, ℕ, zero, suc, min, ◌||◌, Bool, true, false, cond, nat_lt, List, [], ◌∷◌, ◌++◌, take, drop, Option, Some, None, refl, sym, subst, arith}
+use Rattle.std.proofs.Common.{◌≡◌, ◌<◌, ◌≤◌, ℕ, zero, suc, min, ◌||◌, Bool, true, false, cond, nat_lt, List, [], ◌∷◌, ◌++◌, length, take, drop, Option, Some, None, refl, sym, subst, arith}
 use Rattle.std.proofs.lemmas.Bool.{lt-ltb, le-ltb, ltb-true, ltb-false}
-use Rattle.std.proofs.lemmas.List.{append_assoc, take-append-drop}
+use Rattle.std.proofs.lemmas.List.{append_assoc, take-append-drop, take_at}
 use Rattle.hsms_capture.specs.Wire.{Placed, other, end_of, is_past, is_behind, loss, contradicts, received, difference, earlier, breaks_off}
 use Rattle.hsms_capture.proofs.Lists.{Each, weaken, Begins, begins_cons, begins_append}
 use Rattle.hsms_capture.proofs.Longer.{end_more}
@@ -152,6 +152,37 @@ loss_settled m before (p ∷ ps) h =
               (λ (q : Placed). passes (loss (before ++ (p ∷ [])) ps) q.packet ≡ true → is_past (before ++ (p ∷ ps)) q ≡ false) ps
               (λ q g now. subst (λ (z : List Placed). is_past z q ≡ false) (append_assoc before (p ∷ []) ps) (g now)) later,
         )
+
+-- ---- a loss is sure by the next 4,096 packets
+
+within_take : {A : Type 0} (n : ℕ) (xs ys : List A) → length xs ≤ n → Begins A xs (take n (xs ++ ys))
+within_take n [] ys le = (take n ys, refl)
+within_take zero (x ∷ xs) ys le = absurd (omega (arith, le))
+within_take (suc n) (x ∷ xs) ys le = begins_cons x xs (take n (xs ++ ys)) (within_take n xs ys (omega (arith, le)))
+
+where_true : (b : Bool) (x y : Option ℕ) → b ≡ true → cond b x y ≡ x
+where_true true x y e = refl
+where_true false x y e = absurd cc
+
+where_false : (b : Bool) (x y : Option ℕ) → b ≡ false → cond b x y ≡ y
+where_false true x y e = absurd cc
+where_false false x y e = refl
+
+pub settled_sure : (before : List Placed) (p : Placed) (next later : List Placed) → length next ≤ 4096 → is_behind (before ++ (p ∷ next)) p ≡ false
+    → loss before (p ∷ (next ++ later)) ≡ loss (before ++ (p ∷ [])) (next ++ later)
+unfolding loss
+settled_sure before p next later le e =
+    let longer : Begins Placed (before ++ (p ∷ next)) (before ++ (p ∷ take 4096 (next ++ later))) =
+    begins_append before (p ∷ next) (p ∷ take 4096 (next ++ later)) (begins_cons p next (take 4096 (next ++ later)) (within_take 4096 next later le)) in
+    where_false (is_behind (before ++ (p ∷ take 4096 (next ++ later))) p) (Some p.packet) (loss (before ++ (p ∷ [])) (next ++ later))
+    (not_behind_more (before ++ (p ∷ next)) (before ++ (p ∷ take 4096 (next ++ later))) p longer e)
+
+pub loss_sure : (before : List Placed) (p : Placed) (next later : List Placed) → length next ≡ 4096 → is_behind (before ++ (p ∷ next)) p ≡ true
+    → loss before (p ∷ (next ++ later)) ≡ Some p.packet
+unfolding loss
+loss_sure before p next later len e =
+    where_true (is_behind (before ++ (p ∷ take 4096 (next ++ later))) p) (Some p.packet) (loss (before ++ (p ∷ [])) (next ++ later))
+    (subst (λ (z : List Placed). is_behind (before ++ (p ∷ z)) p ≡ true) (sym (take_at next later 4096 len)) e)
 
 -- ---- copies that differ
 

@@ -1,7 +1,8 @@
 -- The small captures, by computing.
 use Rattle.std.proofs.Common.{refl}
 use Rattle.hsms_capture.specs.Wire.{bound, cell_at, cells_up_to, cut_off, difference, loss, places, run, show, turns}
-use Rattle.hsms_capture.specs.Examples.{Asked, EarlyReply, GapAtEnd, LostReply, OtherCopy}
+use Rattle.hsms_capture.specs.Message.{cells_to, size_by}
+use Rattle.hsms_capture.specs.Examples.{Asked, EarlyReply, FinWithin, GapAtEnd, HalfOpen, LostReply, OtherCopy, Refused, ResetBetween, SeparateCrossed, UpLate}
 
 pub lost_reply : LostReply
 unfolding bound cell_at cells_up_to cut_off difference loss places run show turns
@@ -22,3 +23,27 @@ other_copy = (refl, refl)
 pub gap_at_end : GapAtEnd
 unfolding bound cell_at cells_up_to cut_off difference loss places run show turns
 gap_at_end = (refl, refl)
+
+pub refused : Refused
+unfolding bound cell_at cells_to cells_up_to cut_off difference loss places run show size_by turns
+refused = refl
+
+pub half_open : HalfOpen
+unfolding bound cell_at cells_to cells_up_to cut_off difference loss places run show size_by turns
+half_open = refl
+
+pub separate_crossed : SeparateCrossed
+unfolding bound cell_at cells_to cells_up_to cut_off difference loss places run show size_by turns
+separate_crossed = refl
+
+pub reset_between : ResetBetween
+unfolding bound cell_at cells_to cells_up_to cut_off difference loss places run show size_by turns
+reset_between = refl
+
+pub up_late : UpLate
+unfolding bound cell_at cells_to cells_up_to cut_off difference loss places run show size_by turns
+up_late = refl
+
+pub fin_within : FinWithin
+unfolding bound cell_at cells_to cells_up_to cut_off difference loss places run show size_by turns
+fin_within = refl

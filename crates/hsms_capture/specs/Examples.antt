@@ -1,6 +1,8 @@
 -- Small captures, and what the definitions say of them. Each message has one cell here.
 use Rattle.std.specs.Prelude.{◌≡◌, ℕ, true, false, List, [], ◌∷◌, map, Option, None, Some}
 use Rattle.hsms_capture.specs.Wire.{End, active, passive, Cell, syn, octet, Seen, places, loss, difference, wire_shows}
+use Rattle.hsms_capture.specs.Message.{cells_of}
+use Rattle.hsms_capture.specs.Told.{up, message, down, Entry, entry, tells}
 
 abbrev pub one_cell : List Cell → Option ℕ
 one_cell [] = None
@@ -60,3 +62,51 @@ OtherCopy = (difference [] (places base [] (connected other_copy)) ≡ Some 4) �
 
 abbrev pub GapAtEnd : Type 0
 GapAtEnd = (loss [] (places base [] (connected gap_at_end)) ≡ Some 4) × (packets gap_at_end ≡ 1 ∷ (2 ∷ (3 ∷ [])))
+
+-- ---- what a log tells of small captures
+
+-- a message of HSMS of this SType, without a text
+abbrev pub control : ℕ → List ℕ
+control s = 0 ∷ 0 ∷ 0 ∷ 10 ∷ 255 ∷ 255 ∷ 0 ∷ 0 ∷ 0 ∷ s ∷ 0 ∷ 0 ∷ 0 ∷ 1 ∷ []
+
+abbrev pub brings : End → ℕ → ℕ → ℕ → ℕ → Seen
+brings e packet number ack s = sent e packet number (Some ack) (cells_of false (control s) false)
+
+abbrev pub resets : End → ℕ → ℕ → ℕ → Seen
+resets e packet number ack = record (sent e packet number (Some ack) []) { reset = true }
+
+abbrev pub told_of : List Seen → List Entry
+told_of ss = tells (places base [] ss)
+
+-- nobody listens at the passive end
+abbrev pub Refused : Type 0
+Refused = told_of (sent active 1 1000 None (syn ∷ []) ∷ resets passive 2 1000 1001 ∷ []) ≡ []
+
+-- the SYN and ACK isn't answered
+abbrev pub HalfOpen : Type 0
+HalfOpen = told_of (connected (resets passive 3 1001 1001 ∷ [])) ≡ []
+
+-- a Linktest.req, which isn't acknowledged, crosses a Separate
+abbrev pub SeparateCrossed : Type 0
+SeparateCrossed =
+    told_of (connected (sent active 3 1001 (Some 1001) [] ∷ brings active 4 1001 1001 9 ∷ brings passive 5 1001 1001 5 ∷ []))
+    ≡ entry 3 up ∷ entry 4 (message active (control 9)) ∷ []
+
+-- a reset behind a message, and what comes behind it
+abbrev pub ResetBetween : Type 0
+ResetBetween =
+    told_of (connected (sent active 3 1001 (Some 1001) [] ∷ brings active 4 1001 1001 1 ∷ resets passive 5 1001 1015 ∷ brings active 6 1015 1001 5 ∷ []))
+    ≡ entry 3 up ∷ entry 4 (message active (control 1)) ∷ entry 5 down ∷ []
+
+-- the SYN and ACK is captured behind the Select.req that acknowledges it
+abbrev pub UpLate : Type 0
+UpLate =
+    told_of (sent active 1 1000 None (syn ∷ []) ∷ sent active 2 1001 (Some 1001) [] ∷ brings active 3 1001 1001 1
+    ∷ sent passive 4 1000 (Some 1001) (syn ∷ []) ∷ brings passive 5 1001 1015 2 ∷ [])
+    ≡ entry 2 up ∷ entry 3 (message active (control 1)) ∷ entry 5 (message passive (control 2)) ∷ []
+
+-- a FIN ends the connection, also within a message
+abbrev pub FinWithin : Type 0
+FinWithin =
+    told_of (connected (sent active 3 1001 (Some 1001) [] ∷ brings active 4 1001 1001 1 ∷ sent active 5 1015 (Some 1001) (cells_of false (0 ∷ 0 ∷ []) true) ∷ []))
+    ≡ entry 3 up ∷ entry 4 (message active (control 1)) ∷ entry 5 down ∷ []

@@ -1,7 +1,8 @@
 -- What holds of the wire, whatever the code does.
-use Rattle.std.specs.Prelude.{◌%◌, ◌^◌, ◌+◌, ◌≡◌, ◌<◌, ◌≤◌, ◌⊎◌, ℕ, max, nat_le, if◌then◌else◌, List, [], ◌∷◌, ◌++◌, length, Option, Some, is_some, true}
+use Rattle.std.specs.Prelude.{◌%◌, ◌^◌, ◌+◌, ◌≡◌, ◌<◌, ◌≤◌, ◌⊎◌, ◌&&◌, ℕ, max, nat_le, nat_lt, if◌then◌else◌, Bool, List, [], ◌∷◌, ◌++◌, length, map, filter, Option, Some, is_some, true, false}
 use Rattle.hsms_capture.specs.declared.waiting.Span.{Span}
-use Rattle.hsms_capture.specs.Wire.{End, Cell, cell_at, end_of, Seen, Placed, Shown, same_end, stream_of, loss, difference, nearest, shows_of, wire_shows}
+use Rattle.hsms_capture.specs.Message.{message_size}
+use Rattle.hsms_capture.specs.Wire.{End, other, Cell, cell_at, end_of, in_order, turns_at, Seen, Placed, Shown, same_end, stream_of, is_behind, loss, difference, nearest, shows_of, wire_shows}
 
 -- ---- the end of what is there, by the spans that wait in the order of their places
 
@@ -45,6 +46,50 @@ EndGoesOn =
     → p.place ≤ end_of before p.from
     → end_of (before ++ (p ∷ [])) p.from ≡ absorb (max (end_of before p.from) (p.place + length p.cells)) waiting
 
+-- ---- what waits behind a gap, as a queue in the order of places
+
+-- one more is put behind those of its place
+abbrev pub insert_behind : Placed → List Placed → List Placed
+insert_behind p [] = p ∷ []
+insert_behind p (q ∷ qs) = if nat_lt p.place q.place then p ∷ q ∷ qs else q ∷ insert_behind p qs
+
+-- the front of a queue that an end has reached, and what is left of it
+abbrev pub reached : ℕ → List Placed → List Placed
+reached end [] = []
+reached end (q ∷ qs) = if nat_le q.place end then q ∷ reached end qs else []
+
+abbrev pub left_waiting : ℕ → List Placed → List Placed
+left_waiting end [] = []
+left_waiting end (q ∷ qs) = if nat_le q.place end then left_waiting end qs else q ∷ qs
+
+abbrev pub waits : List Placed → End → Placed → Bool
+waits before d q = same_end q.from d && nat_lt (end_of before d) q.place
+
+abbrev pub waiting_in : List Placed → End → List Placed
+waiting_in before d = in_order (filter (waits before d) before)
+
+-- a packet that isn't behind a gap frees what its end reaches, in the order of the queue, and the others stay
+abbrev pub QueueGoesOn : Type 0
+QueueGoesOn =
+    (before : List Placed) (p : Placed) → p.place ≤ end_of before p.from
+    → (turns_at before p
+    ≡ record { at = p; own = p } ∷ map (λ q. record { at = p; own = q }) (reached (end_of (before ++ (p ∷ [])) p.from) (waiting_in before p.from)))
+    × (waiting_in (before ++ (p ∷ [])) p.from ≡ left_waiting (end_of (before ++ (p ∷ [])) p.from) (waiting_in before p.from))
+
+-- a packet behind a gap frees none, and is put into the queue
+abbrev pub QueueTakes : Type 0
+QueueTakes =
+    (before : List Placed) (p : Placed) → end_of before p.from < p.place
+    → (turns_at before p ≡ []) × (end_of (before ++ (p ∷ [])) p.from ≡ end_of before p.from)
+    × (waiting_in (before ++ (p ∷ [])) p.from ≡ insert_behind p (waiting_in before p.from))
+
+-- a packet leaves the other direction's end and queue as they were
+abbrev pub QueueStays : Type 0
+QueueStays =
+    (before : List Placed) (p : Placed)
+    → (end_of (before ++ (p ∷ [])) (other p.from) ≡ end_of before (other p.from))
+    × (waiting_in (before ++ (p ∷ [])) (other p.from) ≡ waiting_in before (other p.from))
+
 -- ---- of one connection
 
 abbrev pub cells_shown : End → List Shown → List Cell
@@ -67,11 +112,27 @@ NothingBehindALoss =
     (size : List Cell → Option ℕ) (ps : List Placed) (k : ℕ) → (loss [] ps ≡ Some k) ⊎ (difference [] ps ≡ Some k)
     → EachShown (λ at. at.packet < k) (shows_of size ps)
 
+-- A reader that goes over the packets once knows a loss: a packet is settled once some of the next 4,096 packets hold
+-- what it lacks, and it is the loss where all of them together don't.
+abbrev pub SettledIsSure : Type 0
+SettledIsSure =
+    (before : List Placed) (p : Placed) (next later : List Placed) → length next ≤ 4096 → is_behind (before ++ (p ∷ next)) p ≡ false
+    → loss before (p ∷ (next ++ later)) ≡ loss (before ++ (p ∷ [])) (next ++ later)
+
+abbrev pub LossIsSure : Type 0
+LossIsSure =
+    (before : List Placed) (p : Placed) (next later : List Placed) → length next ≡ 4096 → is_behind (before ++ (p ∷ next)) p ≡ true
+    → loss before (p ∷ (next ++ later)) ≡ Some p.packet
+
 -- a message's size is told by its own cells, and it has some
 pub record IsSize (size : List Cell → Option ℕ) : Type 0 where
   pub there : (cells : List Cell) (n : ℕ) → size cells ≡ Some n → (0 < n) × (n ≤ length cells)
   pub stays : (cells more : List Cell) (n : ℕ) → size cells ≡ Some n → size (cells ++ more) ≡ Some n
   pub told : (cells more : List Cell) (n : ℕ) → size (cells ++ more) ≡ Some n → n ≤ length cells → size cells ≡ Some n
+
+-- so are the sizes of the messages of HSMS
+abbrev pub MessagesHaveSizes : Type 0
+MessagesHaveSizes = IsSize message_size
 
 -- each packet's number is past the one before it
 abbrev pub AreNumbered : ℕ → List Seen → Type 0

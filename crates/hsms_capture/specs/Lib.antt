@@ -1,3 +1,5 @@
 pub mod Wire
+pub mod Message
+pub mod Told
 pub mod Laws
 pub mod Examples

@@ -139,10 +139,17 @@ nearest known number =
     if nat_le ahead (2 ^ 26) then Some (known + ahead) else
     (if nat_le (2 ^ 32 - ahead) (min known (2 ^ 26)) then Some (known - (2 ^ 32 - ahead)) else None))
 
+-- the same in a stream whose SYN has the number `base`
+abbrev pub place_of : ℕ → ℕ → ℕ → Option ℕ
+place_of known base number = nearest known ((number + 2 ^ 32 - base) % 2 ^ 32)
+
 -- an ACK that is too far away says nothing
+abbrev pub acknowledged_at : ℕ → ℕ → Option ℕ → Option ℕ
+acknowledged_at known base None = None
+acknowledged_at known base (Some number) = place_of known base number
+
 abbrev pub ack_place : List Placed → (End → ℕ) → End → Option ℕ → Option ℕ
-ack_place before base d None = None
-ack_place before base d (Some a) = nearest (end_of before d) ((a + 2 ^ 32 - base d) % 2 ^ 32)
+ack_place before base d a = acknowledged_at (end_of before d) (base d) a
 
 -- One octet without PSH at a place that was acknowledged before asks whether the other end is there still. It holds
 -- nothing.
@@ -170,7 +177,7 @@ placed_at acknowledged s (Some place) ack =
 unfoldable pub places : (End → ℕ) → List Placed → List Seen → List Placed
 places base before [] = before
 places base before (s ∷ ss) =
-    places base (before ++ placed_at (received before s.from) s (nearest (end_of before s.from) ((s.number + 2 ^ 32 - base s.from) % 2 ^ 32))
+    places base (before ++ placed_at (received before s.from) s (place_of (end_of before s.from) (base s.from) s.number)
     (ack_place before base (other s.from) s.acknowledged)) ss
 
 -- ---- loss

@@ -1,6 +1,6 @@
 //! What holds of the definitions, whatever the code does.
 
-ghost use Rattle.hsms_capture.specs.Laws.{AbsorbGivesTheEnd, EndGoesOn, EndIsEnd, FrontOfCapture, NearestIsFound, NearestIsNear, NothingBehindALoss, OneEnd, StreamsAreKept};
+ghost use Rattle.hsms_capture.specs.Laws.{AbsorbGivesTheEnd, EndGoesOn, EndIsEnd, FrontOfCapture, LossIsSure, MessagesHaveSizes, NearestIsFound, NearestIsNear, NothingBehindALoss, OneEnd, QueueGoesOn, QueueStays, QueueTakes, SettledIsSure, StreamsAreKept};
 
 /// Spans that wait in the order of their places give the end of what is there.
 pub fn waiting_gives_the_end()
@@ -14,6 +14,14 @@ pub fn the_end_goes_on()
     ensures queue { EndGoesOn }
 {}
 
+/// What waits behind a gap is a queue in the order of places. A packet that isn't behind a gap frees its front, one that
+/// is behind a gap is put into it, and the other direction's queue stays as it was.
+pub fn a_queue_tells_the_turns()
+    ensures frees { QueueGoesOn }
+    ensures takes { QueueTakes }
+    ensures stays { QueueStays }
+{}
+
 /// The messages of a direction are a front of its stream: none is left out, none made up.
 pub fn streams_are_kept()
     ensures { StreamsAreKept }
@@ -24,9 +32,17 @@ pub fn nothing_behind_a_loss()
     ensures { NothingBehindALoss }
 {}
 
+/// The next 4,096 packets tell whether a packet is the loss. Whatever follows them changes nothing of it.
+pub fn a_loss_is_sure()
+    ensures settled { SettledIsSure }
+    ensures lost { LossIsSure }
+{}
+
 /// A capture that is cut anywhere, where its packets are numbered in order, shows a front of what the whole one shows.
+/// That holds of messages whose own cells tell their size, as those of HSMS do.
 pub fn front_of_capture()
-    ensures { FrontOfCapture }
+    ensures front { FrontOfCapture }
+    ensures sizes { MessagesHaveSizes }
 {}
 
 /// A place that is told by its number has the number and is near to the one that is known; and each that is so is told.

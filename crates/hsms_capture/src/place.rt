@@ -1,7 +1,7 @@
 //! Places of octets in a stream.
 
 ghost use Rattle.std.specs.Prelude.{◌≡◌, ◌<◌, ◌^◌};
-ghost use Rattle.hsms_capture.specs.Wire.{nearest};
+ghost use Rattle.hsms_capture.specs.Wire.{acknowledged_at, nearest, place_of};
 
 // Places are told apart as far as this from one that is known.
 const REACH: u64 = 1 << 26;
@@ -20,4 +20,24 @@ pub fn nearest_place(known: u64, number: u32) -> Option<u64>
         return Some(known - (4294967296 - ahead));
     }
     None
+}
+
+/// The place that a number of TCP has in a stream whose SYN has the number `base`: the nearest to a place that is known.
+pub fn numbered_place(base: u32, known: u64, number: u32) -> Option<u64>
+    requires { known < 2 ^ 63 }
+    ensures { result ≡ place_of known base number }
+{
+    nearest_place(known, number.wrapping_sub(base))
+}
+
+/// The place up to which everything was received, by the number that a segment acknowledges. One that is farther than
+/// 2^26 from the place that is known says nothing, as a segment that acknowledges none.
+pub fn acknowledged_place(base: u32, known: u64, acknowledged: Option<u32>) -> Option<u64>
+    requires { known < 2 ^ 63 }
+    ensures { result ≡ acknowledged_at known base acknowledged }
+{
+    match acknowledged {
+        Some(number) => numbered_place(base, known, number),
+        None => None,
+    }
 }

@@ -23,3 +23,36 @@ fn gaps_that_are_filled(rt: std::rt::HostRuntime) {
     assert!(rt; end_behind(13, waiting.as_slice()) == 13);
     assert!(rt; end_behind(14, waiting.as_slice()) == 20);
 }
+
+#[test]
+fn places_by_their_numbers(rt: std::rt::HostRuntime) {
+    assert!(rt; numbered_place(1000, 0, 1001) == Some(1));
+    assert!(rt; numbered_place(4294967295, 0, 0) == Some(1));
+    assert!(rt; acknowledged_place(1000, 5, Some(1004)) == Some(4));
+    assert!(rt; acknowledged_place(1000, 5, Some(999)).is_none());
+    assert!(rt; acknowledged_place(1000, 5, None).is_none());
+}
+
+#[test]
+fn octets_that_ask(rt: std::rt::HostRuntime) {
+    let plain = Flags {
+        syn: false,
+        fin: false,
+        pushed: false,
+    };
+    let pushed = Flags {
+        syn: false,
+        fin: false,
+        pushed: true,
+    };
+    let last = Flags {
+        syn: false,
+        fin: true,
+        pushed: false,
+    };
+    assert!(rt; only_asks(5, 4, plain, [0].as_slice()));
+    assert!(rt; !only_asks(5, 5, plain, [0].as_slice()));
+    assert!(rt; !only_asks(5, 4, plain, [0, 0].as_slice()));
+    assert!(rt; !only_asks(5, 4, pushed, [0].as_slice()));
+    assert!(rt; !only_asks(5, 4, last, [0].as_slice()));
+}

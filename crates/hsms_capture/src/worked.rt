@@ -1,6 +1,6 @@
 //! Small captures, and what the definitions say of them.
 
-ghost use Rattle.hsms_capture.specs.Examples.{Asked, EarlyReply, GapAtEnd, LostReply, OtherCopy};
+ghost use Rattle.hsms_capture.specs.Examples.{Asked, EarlyReply, FinWithin, GapAtEnd, HalfOpen, LostReply, OtherCopy, Refused, ResetBetween, SeparateCrossed, UpLate};
 
 /// Of five captures the definitions tell the loss, the order of cause, or the copy that differs.
 pub fn small_captures()
@@ -9,4 +9,15 @@ pub fn small_captures()
     ensures asked { Asked }
     ensures other { OtherCopy }
     ensures gap { GapAtEnd }
+{}
+
+/// Of six captures the definitions tell what a log has: nothing where the connection never came up, when it came up and
+/// went down, and no message that crosses a Separate.
+pub fn small_logs()
+    ensures refused { Refused }
+    ensures half_open { HalfOpen }
+    ensures separate { SeparateCrossed }
+    ensures reset { ResetBetween }
+    ensures late { UpLate }
+    ensures fin { FinWithin }
 {}

@@ -1,0 +1,34 @@
+//! Segments that only ask whether the other end is there still.
+
+ghost use Rattle.std.specs.Prelude.{◌≡◌};
+ghost use Rattle.hsms_capture.specs.Wire.{asks_only};
+ghost use Rattle.hsms_capture.specs.Message.{cells_of};
+
+/// What is set in a segment.
+#[derive(Clone, Copy, Debug)]
+pub struct Flags {
+    pub syn: bool,
+    pub fin: bool,
+    pub pushed: bool,
+}
+
+/// Whether a segment asks only: it has one octet, whose place was acknowledged before, and nothing is set. Such an octet
+/// may be made up.
+#[tactic(auto, using(crate::proofs::Asked::brings_more, crate::proofs::Asked::brings_syn, crate::proofs::Asked::brings_fin, crate::proofs::Asked::is_pushed, crate::proofs::Asked::asks_by_place))]
+pub fn only_asks(acknowledged: u64, place: u64, flags: Flags, octets: &[u8]) -> bool
+    ensures { result ≡ asks_only acknowledged place flags.pushed (cells_of flags.syn octets.now flags.fin) }
+{
+    if octets.len() != 1 {
+        return false;
+    }
+    if flags.syn {
+        return false;
+    }
+    if flags.fin {
+        return false;
+    }
+    if flags.pushed {
+        return false;
+    }
+    place < acknowledged
+}
