@@ -5,14 +5,18 @@ ghost use Rattle.std.specs.Prelude.{◌≤◌, IfOk, length};
 use std::io;
 use std::io::{ErrorKind, Read, Write};
 use std::net::{OpenStream, Shutdown};
+use std::thread::sleep;
 use std::time::{Clock, Duration, Instant};
 
 // How many octets are let go at a time.
 const ROOM: usize = 4096;
 
 // How much later than it is asked to the system may end a read, in milliseconds, besides an eighth of the time: two ticks
-// of 4 ms.
-const LATE: u64 = 8;
+// of at most 10 ms.
+const LATE: u64 = 20;
+
+// How many milliseconds pass between two looks at what has come, where the system can't end a read in time.
+const PAUSE: u64 = 1;
 
 /// A TCP connection, and a clock that tells the milliseconds since it was made. Where the clock fails, it tells the
 /// last time again, and 0 at first.
@@ -77,7 +81,37 @@ impl<'a, C: Clock, S: Read + Write + OpenStream + Drop> Wire<'a, C, S> {
         for _ in 0..u64::MAX {
             let left = until.saturating_sub(self.time());
             let part = part_of(left, self.limit);
+            if part == 0 {
+                return self.read_soon(until, into);
+            }
             self.limit_reads(Some(part))?;
+            match self.stream.read(into) {
+                Ok(count) => return Ok(count),
+                Err(error) => {
+                    if !is_late(error.kind()) {
+                        return Err(error);
+                    }
+                }
+            }
+        }
+        Err(io::Error::from(ErrorKind::TimedOut))
+    }
+
+    // Reads until a time that is near, by reads that don't wait.
+    fn read_soon(&mut self, until: u64, into: &mut [u8]) -> io::Result<usize>
+        ensures { IfOk result (λ n. n ≤ length into.new) }
+    {
+        self.stream.set_nonblocking(true)?;
+        let answer = self.look_until(until, into);
+        self.stream.set_nonblocking(false)?;
+        answer
+    }
+
+    // Reads what has come, or looks again after a pause, until a time.
+    fn look_until(&mut self, until: u64, into: &mut [u8]) -> io::Result<usize>
+        ensures { IfOk result (λ n. n ≤ length into.new) }
+    {
+        for _ in 0..u64::MAX {
             match self.stream.read(into) {
                 Ok(count) => return Ok(count),
                 Err(error) => {
@@ -86,6 +120,7 @@ impl<'a, C: Clock, S: Read + Write + OpenStream + Drop> Wire<'a, C, S> {
                     }
                 }
             }
+            sleep(self.clock, Duration::from_millis(PAUSE));
         }
         Err(io::Error::from(ErrorKind::TimedOut))
     }
@@ -136,13 +171,13 @@ fn is_late(kind: ErrorKind) -> bool {
     matches!(kind, ErrorKind::WouldBlock | ErrorKind::TimedOut)
 }
 
-// How many milliseconds the next read waits where so many are left: as the last one, if that is well within what is left,
-// so that the system needn't be told.
+// How many milliseconds the next read waits where so many are left, or 0 where it can't end in time: as the last one, if
+// that is well within what is left, so that the system needn't be told.
 fn part_of(left: u64, limit: Option<u64>) -> u64 {
-    let most = left.saturating_sub(left / 8).saturating_sub(LATE).max(1);
+    let most = left.saturating_sub(left / 8).saturating_sub(LATE);
     match limit {
         Some(limit) => {
-            if limit <= most && limit >= most / 8 {
+            if limit <= most && limit >= most / 16 {
                 limit
             } else {
                 most
