@@ -1,11 +1,10 @@
 -- Numbers of one, two, four and eight octets.
-use Rattle.std.proofs.Common.{◌≡◌, ℕ, ◌+◌, ◌-◌, ◌*◌, ◌/◌, ◌%◌, ◌^◌, ◌<◌, ◌≤◌, Bool, true, false, List, [], ◌∷◌, refl, sym, ap, ◌∙◌, subst, arith, if◌then◌else◌}
+use Rattle.std.proofs.Common.{◌≡◌, ℕ, ◌-◌, ◌*◌, ◌%◌, ◌^◌, ◌<◌, ◌≤◌, Bool, true, false, List, [], ◌∷◌, refl, sym, ap, ◌∙◌, subst, arith}
 use Rattle.std.specs.Prelude.{◌==◌, ◌||◌, ℤ, pos, negsuc}
-use Rattle.std.specs.Int.{w8, w16, w32, w64, cast_unsigned, byte_len}
+use Rattle.std.specs.Int.{w64, cast_unsigned, byte_len}
 use Rattle.std.proofs.lemmas.Bool.{eqb-true}
 use Rattle.byteorder.specs.Endian.{big_bytes, big_number, low_bytes}
-use Rattle.secs_item.specs.Reading.{octet}
-use Rattle.secs_item.specs.Short.{octet_alone, octets_of_signed}
+use Rattle.secs_item.specs.Short.{octets_of_signed}
 use Rattle.secs_text.specs.Widths.{is_width, width_of, unsigned, octets_of_unsigned}
 use Rattle.secs_text.proofs.InRanges.{IsAround}
 

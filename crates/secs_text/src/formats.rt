@@ -68,7 +68,7 @@ impl WordFormat<1> for Truths {
     }
 }
 
-/// The number below that of `N` octets that a word spells.
+/// The number that a word spells, if `N` octets hold it.
 #[inline(always)]
 fn number_in<const N: usize>(word: &[u8]) -> Option<u64>
     requires { is_width N ≡ true }

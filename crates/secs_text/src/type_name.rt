@@ -1,6 +1,6 @@
 //! The names of the item formats, as they are read and printed.
 
-ghost use Rattle.std.specs.Prelude.{◌≡◌, ◌≤◌, ◌++◌, ◌∷◌, [], true, length, take, codes, Some, IfSome, OnSome};
+ghost use Rattle.std.specs.Prelude.{◌≡◌, ◌≤◌, ◌++◌, ◌∷◌, [], true, length, take, codes, OnSome};
 ghost use Rattle.secs_text.specs.Octets.{is_of_word};
 ghost use Rattle.secs_text.specs.TypeName.{type_name, format_named};
 

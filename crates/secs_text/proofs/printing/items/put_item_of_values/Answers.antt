@@ -1,15 +1,12 @@
-use Rattle.std.proofs.Common.{◌≡◌, ◌/◌, ◌++◌, ◌∷◌, [], ℕ, List, codes, decimal, false, length, sym, ap, ◌∙◌, subst, arith}
+use Rattle.std.proofs.Common.{◌≡◌, ◌/◌, ◌++◌, ◌∷◌, [], ℕ, List, codes, decimal, false, length, sym, ap, ◌∙◌, arith}
 use Rattle.std.specs.Fmt.{signed_decimal}
 use Rattle.std.specs.Int.{w8, w16, w32, w64}
 use Rattle.byteorder.specs.Endian.{big_number}
-use Rattle.secs_item.specs.declared.format.Format.{Format}
 use Rattle.secs_item.specs.declared.format.Format.TheVariants as format
-use Rattle.secs_item.specs.Format.{value_size}
-use Rattle.secs_item.specs.Reading.{each, octet, truth, signed, values_of}
+use Rattle.secs_item.specs.Reading.{octet, truth, signed}
 use Rattle.secs_item.proofs.Bodies.{each_octet}
-use Rattle.secs_text.specs.Body.{body_of}
-use Rattle.secs_text.specs.Laid.{Puts, opening_of, each_words}
-use Rattle.secs_text.specs.Printed.{hexadecimal, truth_word, printed_text, printed_values}
+use Rattle.secs_text.specs.Laid.{opening_of, each_words}
+use Rattle.secs_text.specs.Printed.{hexadecimal, truth_word, printed_text}
 use Rattle.secs_text.proofs.Blocks.{puts_same}
 use Rattle.secs_text.proofs.printing.items.put_item_of_values.Goals as goal
 

@@ -1,4 +1,4 @@
-use Rattle.std.proofs.Common.{◌≡◌, ◌+◌, ◌*◌, ◌≤◌, ◌<◌, length, take, drop, ap, ◌∙◌, arith}
+use Rattle.std.proofs.Common.{◌≡◌, ◌+◌, ◌*◌, ◌≤◌, ◌<◌, length, ap, arith}
 use Rattle.std.proofs.lemmas.List.{length-drop}
 use Rattle.secs_text.specs.Laid.{words_of}
 use Rattle.secs_text.proofs.Widths.{width_some}
