@@ -355,9 +355,10 @@ ODD_NOTATIONS = [
 
 # Quoted texts in the place of words and marks.
 QUOTED = [
-    '"S1F1" .', 'S1F1 "W" .', 'S1F1 "." .', 'S1F1 ".', 'S1F1 "<" L> .', 'S1F1 <"L"> .', 'S1F1 <L ">" .', 'S1F1 <A ">"> .',
-    'S1F1 <L "["0]> .', 'S1F1 <L ["0"]> .', 'S1F1 <L [0"]"> .', 'S1F1 <U1 "1"> .', 'S1F1 <BOOLEAN "T"> .',
-    'S1F1 <B "0x01"> .', "S1F1 <W> .", "S1F1 W <W> .", "S1F1 L .", "S1F1 <[0]> .", "S1F1 <<> .", "<L> .", ". .", "W .",
+    *['"S1F1" .', 'S1F1 "W" .', 'S1F1 "." .', 'S1F1 ".', 'S1F1 "<" L> .', 'S1F1 <"L"> .', 'S1F1 <L ">" .'],
+    *['S1F1 <A ">"> .', 'S1F1 <L "["0]> .', 'S1F1 <L ["0"]> .', 'S1F1 <L [0"]"> .', 'S1F1 <U1 "1"> .'],
+    *['S1F1 <BOOLEAN "T"> .', 'S1F1 <B "0x01"> .', "S1F1 <W> .", "S1F1 W <W> .", "S1F1 L .", "S1F1 <[0]> ."],
+    *["S1F1 <<> .", "<L> .", ". .", "W ."],
 ]
 
 # How deep lists may be nested, at edges.
@@ -388,4 +389,6 @@ def notations_at_edges() -> List[Tuple[bytes, Options]]:
     texts += [f"S1F1 <L {'<L> ' * length}> ." for length in (0xFF, 0x100)]
     texts += [" " * length for length in (67_108_864, 67_108_865)]
     octets = [front + bytes([octet]) + behind for front, behind in AROUND for octet in range(256)]
-    return [(text, Options(max=33_554_432)) for text in [*map(str.encode, texts), *octets]] + nested_at_edges()
+    around_max = [(f'S1F1 <A "{"x" * length}"> .'.encode(), Options(max=256)) for length in range(242, 247)]
+    found = [(text, Options(max=33_554_432)) for text in [*map(str.encode, texts), *octets]]
+    return [*found, *around_max, *nested_at_edges()]

@@ -47,9 +47,10 @@ class Table:
         except Refused:
             pass
 
-    def hear(self, draft: Draft):
-        octets = draft.octets()
-        self.tell("hear", len(octets).to_bytes(4, "big") + octets)
+    def hear(self, *drafts: Draft):
+        """Messages come at once."""
+        messages = [draft.octets() for draft in drafts]
+        self.tell("hear", b"".join(len(octets).to_bytes(4, "big") + octets for octets in messages))
 
     def answer_select(self, status: int = 0):
         """The session is selected, or a selection is refused."""
@@ -173,7 +174,8 @@ def tables_of_lengths(role: str, link: str) -> Iterator[Table]:
 
 def tables_of_sends(role: str, link: str) -> Iterator[Table]:
     """What is sent: own numbers that begin again, streams and functions at their edges, a message as long as any may be
-    and one octet longer, lists as deep as any may be and one deeper. Each primary is answered."""
+    and one octet longer, lists as deep as any may be and one deeper; and what comes behind a Separate. Each primary is
+    answered."""
     for first_system in ((1 << 32) - 1, (1 << 31) - 1, 0):
         table = Table(role, link, first_system=first_system)
         table.answer_select()
@@ -190,6 +192,10 @@ def tables_of_sends(role: str, link: str) -> Iterator[Table]:
     for item in (LIST, Item(BY_NAME["L"], [LIST])):
         table.tell("send", Message(1, 1, False, item))
     table.tell("separate")
+    yield table
+    table = Table(role, link)
+    table.answer_select()
+    table.hear(*(Draft(stype=stype, system=OTHER_SYSTEM) for stype in (5, 9, 5)))
     yield table
 
 
