@@ -1,5 +1,5 @@
 -- The next message of an input that is read ahead.
-use Rattle.std.proofs.Common.{◌≡◌, ◌≢◌, inl, inr, ◌≤◌, ◌<◌, ◌+◌, ◌++◌, ℕ, List, [], length, take, drop, None, Some, Ok, Err, true, false, refl, sym, ◌∙◌, ap, subst, arith}
+use Rattle.std.proofs.Common.{◌≡◌, ◌≢◌, ◌≤◌, ◌<◌, ◌+◌, ◌++◌, ℕ, List, [], length, take, drop, None, Some, Ok, Err, true, false, refl, sym, ◌∙◌, ap, subst, arith}
 use Rattle.std.specs.Int.{w32, from_be_bytes}
 use Rattle.std.specs.Prelude.{Option, Result, IfOk}
 use Rattle.std.proofs.lemmas.List.{append-nil, append_assoc, drop-append-le, length-append, length-take-le, take-append-drop, take-append-le}
@@ -10,9 +10,7 @@ use Rattle.hsms_frame.specs.declared.header.Header.{Header}
 use Rattle.hsms_frame.specs.Ahead.{ReadsMore}
 use Rattle.hsms_frame.specs.Device.{WhereTold}
 use Rattle.hsms_frame.specs.Frame.{Frame, frame_octets, length_field, IsFaultless, IsProperFront, IsTooLong, IsTooShort}
-use Rattle.hsms_frame.specs.Framing.{FrontAs, IsFrontOf}
-use Rattle.hsms_frame.proofs.Determined.{one_framed}
-use Rattle.hsms_frame.proofs.Fronts.{whole_at_front}
+use Rattle.hsms_frame.specs.Framing.{FrontAs}
 use Rattle.hsms_options.specs.declared.fault.ToolFault.{ToolFault}
 use Rattle.hsms_options.specs.declared.fault.ToolFault.TheVariants.{Refused, Device, Memory}
 use Rattle.hsms_tasks.specs.Ahead.{EndsAs, FindsNext, IsStopped, IsUnread, TellsFound, is_open, of_reading}
@@ -125,27 +123,3 @@ found_is_told max input ahead (Ok (Some m)) told left closed front tells reads =
 found_is_told max input ahead (Ok None) told left closed front tells reads = cc
 found_is_told max input ahead (Err fault) told left closed front (tool, is, tells) (rest, left_is, parts) =
     subst (λ r. FindsNext max input r ahead left) (sym is) (stopped_at max input ahead rest fault tool left left_is parts front tells)
-
--- no part of a message is a whole one
-not_a_part : (max : ℕ) (octets : List ℕ) (header : Header) (size : ℕ) → IsOpen max octets → IsFrontOf max octets header size → ⊥
-not_a_part max octets header size (fine, begun) whole =
-    let text : List ℕ = take size (drop 14 octets) in
-    let f : Frame = record { header = header; text = text } in
-    elim (one_framed max octets (Ok (Some f)) (Ok None) (drop (14 + length text) octets) octets (whole_at_front max octets text header size whole refl) (fine, begun, refl)) [
-      | inl e ↦ cc
-      | inr q ↦ elim q [ inl e ↦ cc | inr e ↦ cc ]
-    ]
-
--- what is there whole is found
-pub not_whole : (max : ℕ) (octets : List ℕ) (found : Result (Option (Header × ℕ)) FrameFault) (header : Header) (size : ℕ) → FrontAs max octets found
-    → IsFrontOf max octets header size → (n : Header × ℕ) × (found ≡ Ok (Some n))
-not_whole max octets (Ok (Some n)) header size front whole = (n, refl)
-not_whole max octets (Ok None) header size front whole =
-    absurd (not_a_part max octets header size front whole)
-not_whole max octets (Err (frame.TooShort n)) header size front whole =
-    let field : n ≡ 10 + size = front.field ∙ whole.field in
-    absurd (omega (arith, front.short, field))
-not_whole max octets (Err (frame.TooLong n h)) header size front whole =
-    let field : n ≡ 10 + size = front.field ∙ whole.field in
-    absurd (omega (arith, front.long, field, whole.within))
-not_whole max octets (Err frame.Memory) header size front whole = absurd front

@@ -7,7 +7,7 @@ use Rattle.std.proofs.lemmas.List.Elements.{All-append, All-push}
 use Rattle.std.proofs.lemmas.List.Concat.{flat_map-cons}
 use Rattle.std.proofs.lemmas.Bool.{cases_lt}
 use Rattle.hsms_tasks.proofs.Outlets.{take_behind}
-use Rattle.hsms_tasks.specs.Held.{GrowsHolding, LaysLine}
+use Rattle.hsms_tasks.specs.Held.{GrowsHolding}
 use Rattle.hsms_frame.specs.declared.header.Header.{Header}
 use Rattle.hsms_frame.specs.Device.{WhereTold, Grows, GrowsByFront}
 use Rattle.hsms_frame.specs.Frame.{Frame, frame_octets}
@@ -411,30 +411,3 @@ stops_full_unwritten max depth input count (Refused words) before left old mid h
 stops_full_unwritten max depth input count Memory before left old mid held new ahead full is begun word some front = absurd word
 stops_full_unwritten max depth input count (Device word) before left old mid held new ahead full is (messages, lines, rest, size, within, shown, reads, told, grows) write some front =
     put_fails max depth input messages lines rest word.now left old mid held new write (omega (arith, full, size)) within shown reads (leaves_behind ahead rest left (sym is ∙ told)) some grows front
-
--- ---- one message that is there whole
-
--- its line was laid, and it was passed
-pub shows_front : (max depth : ℕ) (input ahead rest : List ℕ) (h : Header) (size : ℕ) (left old : Option (List ℕ)) (held : List ℕ) (mid : Option (List ℕ)) (then : List ℕ)
-    (new : Option (List ℕ)) (now after : List ℕ) → input ≡ ahead ++ rest → left ≡ Some rest → IsFrontOf max ahead h size → GrowsHolding old held mid then []
-    → LaysLine depth (record { header = h; text = take size (drop 14 ahead) }) (Ok tt) mid then new now → after ≡ drop (14 + size) ahead
-    → ShowsNext max depth input (Ok true) (behind after left) old held new now
-shows_front max depth input ahead rest h size left old held mid then new now after parts told front holds (line, shown, lays) passed = (
-  record { header = h; text = take size (drop 14 ahead) },
-  drop (14 + size) ahead ++ rest,
-  line,
-  begins_with max input ahead rest (take size (drop 14 ahead)) h size parts front refl,
-  shown,
-  ap (λ (xs : List ℕ). behind xs left) passed ∙ ap (behind (drop (14 + size) ahead)) told,
-  holding_then _ _ _ _ _ _ [] line holds lays,
-)
-
--- a write failed
-pub stops_at_front : (max depth : ℕ) (input ahead rest : List ℕ) (h : Header) (size : ℕ) (fault : ToolFault) (left old : Option (List ℕ)) (held : List ℕ)
-    (mid : Option (List ℕ)) (then : List ℕ) (new : Option (List ℕ)) (now : List ℕ) → input ≡ ahead ++ rest → left ≡ Some rest → IsFrontOf max ahead h size
-    → GrowsHolding old held mid then [] → IsWrite fault → LaysLine depth (record { header = h; text = take size (drop 14 ahead) }) (Err fault) mid then new now
-    → ShowsNext max depth input (Err fault) left old held new now
-stops_at_front max depth input ahead rest h size fault left old held mid then new now parts told front holds word (line, shown, grows) =
-    let after = drop (14 + size) ahead in
-    write_stops max depth input (after ++ rest) line (record { header = h; text = take size (drop 14 ahead) }) fault left old held mid then new now word
-    (begins_with max input ahead rest (take size (drop 14 ahead)) h size parts front refl) (after, rest, refl, told) shown holds grows
