@@ -362,7 +362,7 @@ QUOTED = [
 ]
 
 # How deep lists may be nested, at edges.
-DEPTHS = (0, 1, 2, 32, 99, 100)
+DEPTHS = (1, 2, 32, 99, 100)
 
 
 def nested_at_edges() -> List[Tuple[bytes, Options]]:
