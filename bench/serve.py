@@ -10,7 +10,6 @@ takes at each end. At last it tells how late timers run out: ends with these T7,
 may be up to 3,600,000 ms.
 """
 import argparse
-import itertools
 import os
 import re
 import shutil
@@ -23,29 +22,15 @@ import time
 from concurrent.futures import ThreadPoolExecutor
 
 sys.dont_write_bytecode = True
-from running import MB, PROGRAM, Runner
+from running import MB, PROGRAM, TOP, Runner
+
+sys.path.append(f"{TOP}/tests")
+from loopback import free_port
 
 HERE = "127.0.0.1"
 
 SELECT = bytes.fromhex("0000000affff0000000100000001")
 SEPARATE = bytes.fromhex("0000000affff0000000900000001")
-
-
-# The ports that are tried, one after the other: no socket is given one of them that names none.
-PORTS = itertools.cycle(range(20000, 32768))
-for _ in range(os.getpid() % 12768):
-    next(PORTS)
-
-
-def free_port():
-    for port in PORTS:
-        with socket.socket() as found:
-            found.setsockopt(socket.SOL_SOCKET, socket.SO_REUSEADDR, 1)
-            try:
-                found.bind((HERE, port))
-                return port
-            except OSError:
-                pass
 
 
 def ask(system):
