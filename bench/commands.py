@@ -72,13 +72,35 @@ def empty_lists(size):
     return unit * (size // len(unit))
 
 
-def small_notation(size):
-    unit = b"S1F1 W .\nS1F2 <L [0]> .\nS2F17 W .\n"
+def no_items(size):
+    """Data messages whose texts are no item: they are shown in hexadecimal."""
+    unit = frame("00008101000000000002", b"\xff" + bytes(range(256)) * 4)
     return unit * (size // len(unit))
 
 
-def nested_notation(size):
-    unit = shown(NESTED)
+# a data message of 200 BOOLEANs
+BOOLEANS = frame("00008101000000000002", b"\x25\xc8" + b"\x00\x01\x01\x00\x01" * 40)
+
+# a data message of sixteen texts of 32 octets
+TEXTS = frame("00008101000000000002", b"\x01\x10" + b"\x41\x20a text of two and thirty octets." * 16)
+
+
+def booleans(size):
+    return BOOLEANS * (size // len(BOOLEANS))
+
+
+def notation_of(message):
+    """What makes a notation of this message, again and again."""
+
+    def make(size):
+        unit = shown(message)
+        return unit * (size // len(unit))
+
+    return make
+
+
+def small_notation(size):
+    unit = b"S1F1 W .\nS1F2 <L [0]> .\nS2F17 W .\n"
     return unit * (size // len(unit))
 
 
@@ -110,9 +132,14 @@ def main():
         ("show", "bare headers", lambda size: bare * (size // len(bare)), size),
         ("show", "lists nested to 32", nested, size),
         ("show", "lists of empty lists", empty_lists, size),
+        ("show", "texts that are no item", no_items, size),
+        ("show", "BOOLEANs", booleans, size),
         ("encode", "ordinary traffic", notation, min(size, 67 * MB)),
         ("encode", "small messages", small_notation, min(size, 67 * MB)),
-        ("encode", "lists nested to 32", nested_notation, min(size, 67 * MB)),
+        ("encode", "lists nested to 32", notation_of(NESTED), min(size, 67 * MB)),
+        ("encode", "texts of 32 octets", notation_of(TEXTS), min(size, 67 * MB)),
+        ("encode", "BOOLEANs", notation_of(BOOLEANS), min(size, 67 * MB)),
+        ("encode --hex", "small messages", small_notation, min(size, 67 * MB)),
         ("audit", "ordinary traffic", log, size),
     ]
     with tempfile.TemporaryDirectory(prefix="hsms-bench-") as room:
@@ -128,7 +155,7 @@ def told(runner, command, what, make, size):
     write(path, lambda size: [make(size)], size)
     given = os.path.getsize(path)
     copied, _ = runner.run(["cat"], path)
-    taken, held = runner.run([PROGRAM, command], path)
+    taken, held = runner.run([PROGRAM, *command.split()], path)
     lines = f", {lines_of(path) / taken / 1e6:.2f} million lines/s" if command == "audit" else ""
     speed = f"{given / MB / taken:.0f} MB/s{lines}, {taken / max(copied, 1e-3):.0f} times cat"
     return f"hsms {command}, {what}, {given // MB} MB: {speed}, {per_octet(runner, command, make)}{held:.0f} MB held"
@@ -139,7 +166,7 @@ def per_octet(runner, command, make):
     path, counts = f"{runner.room}/small", []
     for size in (3 * MB, 6 * MB):
         write(path, lambda size: [make(size)], size)
-        count = runner.instructions([PROGRAM, command], path)
+        count = runner.instructions([PROGRAM, *command.split()], path)
         if count is None:
             return ""
         counts.append((count, os.path.getsize(path)))

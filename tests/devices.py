@@ -27,6 +27,8 @@ NO_READ = (3, b"hsms: Read\n")
 # The words of the command, and the file that it reads.
 SMALL = [
     (["show"], "examples/session.bin"),
+    (["show", "--hex"], "examples/session.hex"),
+    (["show", "--hex"], "examples/odd.hex"),
     (["encode"], "examples/session.txt"),
     (["encode", "--hex"], "examples/report.txt"),
     (["audit"], "examples/session.log"),

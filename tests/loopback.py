@@ -15,6 +15,16 @@ import subprocess
 import sys
 import time
 
+# The modules below leave no compiled files in the repository.
+sys.dont_write_bytecode = True
+
+from second_reading import talks
+from second_reading.ends import End, equipment_desk, log_of, scripted_desk
+from second_reading.inputs import Chance, random_item
+from second_reading.items import encode
+from second_reading.notation import printed
+from second_reading.session import Settings
+
 TOP = os.path.dirname(os.path.dirname(os.path.abspath(__file__)))
 PROGRAM = sys.argv[1] if len(sys.argv) > 1 else f"{TOP}/crates/hsms_tool/out/hsms_tool"
 HERE = "127.0.0.1"
@@ -64,10 +74,12 @@ class Serving:
     # All that were started.
     started = []
 
-    def __init__(self, role, link, port, *options, script=None, address=HERE, stdout=subprocess.PIPE, env=None):
+    def __init__(
+        self, role, link, port, *options, script=None, send=True, address=HERE, stdout=subprocess.PIPE, env=None
+    ):
         words = [PROGRAM, "serve", "--role", role, "--link", link, "--address", address, "--port", str(port), *options]
         self.run = subprocess.Popen(
-            words + ([] if script is None else ["--send"]),
+            words + (["--send"] if send and script is not None else []),
             stdin=subprocess.DEVNULL if script is None else subprocess.PIPE,
             stdout=stdout,
             stderr=subprocess.PIPE,
@@ -194,9 +206,13 @@ class Listening:
         self.port = self.listener.getsockname()[1]
 
     def accepted(self):
-        stream, _ = self.listener.accept()
+        peer = self.next_one()
         self.listener.close()
-        return Peer(stream)
+        return peer
+
+    def next_one(self):
+        """The next peer; more may follow."""
+        return Peer(self.listener.accept()[0])
 
     def nobody_comes(self):
         self.listener.settimeout(A_WHILE)
@@ -477,6 +493,120 @@ def no_reply():
     )
 
 
+# The replies of a host to an event report, an alarm report and a request for the time, and no stream 7.
+REPLIES = b'S6F12 <B 0x00> . S5F2 <B 0x00> . S2F18 <A "2026112319210000"> . S7F0 .\n'
+TIME = b"\x41\x102026112319210000"
+ACCEPTED = b"\x21\x01\x00"
+ASKED = [
+    (6, 11, 6, 12, ACCEPTED),
+    (5, 1, 5, 2, ACCEPTED),
+    (2, 17, 2, 18, TIME),
+    (7, 3, 7, 0, b""),
+    (1, 1, 1, 2, b"\x01\x00"),
+    (3, 17, 3, 0, b""),
+]
+
+
+def host_answers_by_its_script():
+    peers = Listening()
+    serving = Serving("host", "active", peers.port, "--answer", script=REPLIES, send=False)
+    peer = peers.accepted()
+    peer.send(SELECTED)
+    peer.wants(SELECT)
+    log = ["up", "> ffff0000000100000001", "< ffff0000000200000001"]
+    for system in range(100, 200):
+        stream, function, *reply = ASKED[system % len(ASKED)]
+        asked = data(stream, function, system, b"\x01\x00", wait=True)
+        answer = data(reply[0], reply[1], system, reply[2])
+        peer.send(asked)
+        peer.wants(answer)
+        log += ["< " + asked[4:].hex(), "> " + answer[4:].hex()]
+    peer.send(data(7, 3, 200), data(6, 11, 201), control(9, 202))
+    same(peer.rest(), b"")
+    served(
+        serving,
+        log + ["< " + data(7, 3, 200)[4:].hex(), "< " + data(6, 11, 201)[4:].hex(), "< ffff00000009000000ca", "down"],
+    )
+
+
+def equipment_answers_by_its_script():
+    port = free_port()
+    equipment = Serving("equipment", "passive", port, "--answer", script=b'S7F0 . S2F18 <A "T"> . S2F32 <B 0x00> .', send=False)
+    time.sleep(A_WHILE)
+    host = Serving("host", "active", port, script=50 * b"S2F17 W . S2F31 W <A> ." + b"S7F3 W . S7F5 .")
+    for serving in (host, equipment):
+        status, log, told = serving.ended()
+        same((status, told), (0, ""))
+        passes(log)
+        replies = [text[2:14] + text[22:] for text in events(log) if re.match("[<>] 000002(12|20)", text)]
+        same(replies, 50 * ["000002120000410154", "000002200000210100"])
+        same(
+            [text[2:] for text in events(log) if re.match("[<>] 0000[08]7", text)],
+            ["00008703000000000066", "00000700000000000066", "00000705000000000067"],
+        )
+
+
+def random_replies_are_those_of_a_second_reading():
+    """Random primaries to an equipment with a random script: its log is the one that a second reading writes."""
+    for number in range(40):
+        chance = Chance(f"script {number}")
+        replies = talks.random_replies(chance)
+        octets = SELECT
+        for system in range(100, 120):
+            stream, function = chance.choice(talks.NAMES_OF_DATA)
+            text = encode(random_item(chance, 2)) if chance.happens(0.5) else b""
+            # (a longer one's line fills the pipe of the log, which is read at last)
+            text = text if len(text) <= 1000 else b""
+            octets += data(stream, function, system, text, wait=chance.happens(0.7))
+        end = End(Settings("equipment", "passive", 0, 45000, 6000, 10000, 5000, 1048576, 32), desk_of(replies), 1)
+        end.start(0)
+        end.hear(octets + control(9, 120))
+        script = "\n".join(map(printed, replies)).encode()
+        serving, peer = equipment("--answer", "--mdln", "M", "--softrev", "1", script=script, send=False)
+        peer.send(octets + control(9, 120))
+        peer.rest()
+        served(serving, events(log_of(end).decode()))
+
+
+def desk_of(replies):
+    return scripted_desk(replies, equipment_desk(b"M", b"1"))
+
+
+def steps_stand_between_replies():
+    for send in (False, True):
+        peers = Listening()
+        serving = Serving("host", "active", peers.port, "--answer", script=b"S6F12 <B 0x00> . S1F1 W . S5F2 .", send=send)
+        peer = peers.accepted()
+        peer.send(SELECTED)
+        peer.wants(SELECT, data(1, 1, 2, wait=True))
+        peer.send(data(6, 11, 1, wait=True))
+        peer.wants(data(6, 12, 1, b"\x21\x01\x00"))
+        peer.send(data(5, 1, 2, wait=True))
+        peer.wants(data(5, 2, 2))
+        peer.send(data(1, 2, 2, b"\x01\x00"))
+        if send:
+            peer.wants(control(9, 3))
+        else:
+            peer.send(control(9, 3))
+        same(peer.rest(), b"")
+        served(
+            serving,
+            [
+                "up",
+                "> ffff0000000100000001",
+                "< ffff0000000200000001",
+                "> 00008101000000000002",
+                "< 0000860b000000000001",
+                "> 0000060c000000000001210100",
+                "< 00008501000000000002",
+                "> 00000502000000000002",
+                "< 000001020000000000020100",
+                ("> " if send else "< ") + "ffff0000000900000003",
+                "down",
+            ],
+        )
+
+
 def flood_of_octets():
     serving, peer = equipment()
     try:
@@ -700,9 +830,12 @@ def command_line_is_refused():
         ("--depth", ["0", "101"]),
         ("--first-system", ["4294967296"]),
         ("--turns", ["4294967296"]),
+        ("--connections", ["0", "4294967296"]),
+        ("--t5", ["0", "3600001"]),
     ):
         lines += [WORDS + [option, value] for value in values]
-    lines += [WORDS + ["--send", "x"], WORDS + ["--t5", "1"], WORDS + ["--mdln"], WORDS + ["x"]]
+    lines += [WORDS + [option, "x"] for option in ("--send", "--answer")]
+    lines += [WORDS + ["--send=1"], WORDS + ["--t9", "1"], WORDS + ["--mdln"], WORDS + ["x"]]
     for words in lines:
         run = subprocess.run([PROGRAM, *words], input=b"", capture_output=True, timeout=SOON)
         same((words, run.returncode, run.stdout, run.stderr), (words, 2, b"", b"hsms: command line\n"))
@@ -711,7 +844,9 @@ def command_line_is_refused():
 def help_tells_every_option():
     run = subprocess.run([PROGRAM, "serve", "--help"], capture_output=True, timeout=SOON)
     same((run.returncode, run.stderr), (0, b""))
-    for word in "role link address port device t3 t6 t7 t8 max depth first-system turns mdln softrev send".split():
+    for word in (
+        "role link address port device t3 t6 t7 t8 max depth first-system turns mdln softrev send answer again once connections t5"
+    ).split():
         same((word, f"--{word} " in run.stdout.decode()), (word, True))
 
 
@@ -729,6 +864,167 @@ def every_option_is_taken():
     same(log.split("\n")[0], "hsms-log 1 equipment passive 32767 3600000 1 2 3 256 100")
 
 
+# ---- one connection after the other
+
+ALONE = "ffff0000000100000001"
+
+
+def served_again(serving, count):
+    """So many connections were served to their ends, in one log of version 2 whose times go on."""
+    status, log, told = serving.ended()
+    same((status, told), (0, ""))
+    same(log.split(" ")[:2], ["hsms-log", "2"])
+    same((events(log).count("up"), events(log).count("down")), (count, count))
+    same(times(log), sorted(times(log)))
+    passes(log)
+    return log
+
+
+def equipment_listens_on():
+    """Ten connections: some are separated, and some break off before, while or after the peer is selected."""
+    port = free_port()
+    serving = Serving("equipment", "passive", port, "--again", "--connections", "10")
+    for number in range(10):
+        peer = Peer.connected(port)
+        if number % 5 == 1:
+            peer.close()
+        elif number % 5 == 2:
+            peer.send(SELECT[:7])
+            peer.close()
+        elif number % 5 == 3:
+            peer.send(SELECT)
+            peer.wants(SELECTED)
+            peer.reset()
+        else:
+            peer.send(SELECT + control(5, 2) + control(9, 3))
+            same(peer.rest(), SELECTED + control(6, 2))
+    log = served_again(serving, 10)
+    same(events(log).count("< " + ALONE), 6)
+    same(events(log).count("< ffff0000000900000003"), 4)
+
+
+def host_of(peers, count, *options):
+    return Serving("host", "active", peers.port, "--again", "--connections", str(count), *options, script=b"S1F1 W .")
+
+
+PRIMARY = data(1, 1, 2, wait=True)
+
+
+def replies_hold_in_each_connection():
+    port = free_port()
+    serving = Serving(
+        "equipment", "passive", port, "--again", "--connections", "2", "--answer", script=b"S6F12 <B 0x00> .", send=False
+    )
+    for _ in range(2):
+        peer = Peer.connected(port)
+        peer.send(SELECT + data(6, 11, 2, wait=True) + control(9, 3))
+        same(peer.rest(), SELECTED + data(6, 12, 2, ACCEPTED))
+    served_again(serving, 2)
+
+
+def host_connects_again():
+    """Ten connections, in each of which the script is sent: some peers answer it, and some break off before."""
+    peers = Listening()
+    serving = host_of(peers, 10, "--t5", "50")
+    for number in range(10):
+        peer = peers.next_one()
+        peer.wants(SELECT)
+        if number % 5 == 1:
+            peer.close()
+            continue
+        peer.send(SELECTED)
+        peer.wants(PRIMARY)
+        if number % 5 == 2:
+            peer.close()
+        elif number % 5 == 3:
+            peer.reset()
+        else:
+            peer.send(data(1, 2, 2))
+            same(peer.rest(), control(9, 3))
+    log = served_again(serving, 10)
+    same(events(log).count("> " + ALONE), 10)
+    same(events(log).count("> ffff0000000900000003"), 4)
+    peers.listener.close()
+
+
+def script_is_sent_once():
+    peers = Listening()
+    serving = host_of(peers, 2, "--t5", "50", "--once")
+    peer = peers.next_one()
+    peer.wants(SELECT)
+    peer.send(SELECTED)
+    peer.wants(PRIMARY)
+    peer.send(data(1, 2, 2))
+    same(peer.rest(), control(9, 3))
+    peer = peers.next_one()
+    peer.wants(SELECT)
+    peer.send(SELECTED + control(9, 7))
+    same(peer.rest(), b"")
+    served_again(serving, 2)
+    peers.listener.close()
+
+
+def peer_is_away_for_a_while():
+    """A host whose peer isn't there yet tries again after T5, and waits as long between two connections."""
+    port = free_port()
+    serving = Serving("host", "active", port, "--again", "--connections", "2", "--t5", "300", script=b"")
+    time.sleep(A_WHILE)
+    same(serving.run.poll(), None)
+    peers = socket.create_server((HERE, port))
+    peers.settimeout(SOON)
+    ends = []
+    for _ in range(2):
+        peer = Peer(peers.accept()[0])
+        ends.append(time.monotonic())
+        peer.send(SELECTED)
+        same(peer.rest(), SELECT + control(9, 2))
+        ends.append(time.monotonic())
+    served_again(serving, 2)
+    peers.close()
+    same(ends[2] - ends[1] > 0.25, True)
+
+
+def two_processes_again():
+    port = free_port()
+    equipment = Serving("equipment", "passive", port, "--again", "--connections", "10")
+    host = Serving("host", "active", port, "--again", "--connections", "10", "--t5", "20", script=SCRIPT)
+    served_again(host, 10)
+    served_again(equipment, 10)
+
+
+def terminated_between_connections():
+    port = free_port()
+    serving = Serving("equipment", "passive", port, "--again")
+    for _ in range(2):
+        peer = Peer.connected(port)
+        peer.send(SELECT + control(9, 3))
+        same(peer.rest(), SELECTED)
+    time.sleep(A_WHILE)
+    status, log, told = serving.killed(signal.SIGTERM)
+    same((status, told), (-signal.SIGTERM, ""))
+    same(events(log), ["up", "< " + ALONE, "> ffff0000000200000001", "< ffff0000000900000003", "down"] * 2)
+    passes(log)
+
+
+def timers_go_on():
+    """T7 runs out in a second connection as in the first, by the same clock."""
+    port = free_port()
+    serving = Serving("equipment", "passive", port, "--again", "--connections", "2", "--t7", "300")
+    for _ in range(2):
+        peer = Peer.connected(port)
+        same(peer.rest(), b"")
+    log = served_again(serving, 2)
+    same(events(log), ["up", "cut t7", "down"] * 2)
+    first, second = times(log)[1] - times(log)[0], times(log)[4] - times(log)[3]
+    same((300 < first < 600, 300 < second < 600), (True, True))
+
+
+def port_is_in_use_again():
+    with socket.create_server((HERE, 0)) as taken:
+        serving = Serving("equipment", "passive", taken.getsockname()[1], "--again")
+        refused(serving, 3, "Link")
+
+
 TESTS = [
     equipment_is_selected_tested_and_separated,
     octet_by_octet,
@@ -743,6 +1039,10 @@ TESTS = [
     one_octet_and_silence,
     no_answer_to_select,
     no_reply,
+    host_answers_by_its_script,
+    equipment_answers_by_its_script,
+    random_replies_are_those_of_a_second_reading,
+    steps_stand_between_replies,
     flood_of_octets,
     flood_of_requests,
     half_a_header_and_closed,
@@ -764,6 +1064,15 @@ TESTS = [
     command_line_is_refused,
     help_tells_every_option,
     every_option_is_taken,
+    equipment_listens_on,
+    replies_hold_in_each_connection,
+    host_connects_again,
+    script_is_sent_once,
+    peer_is_away_for_a_while,
+    two_processes_again,
+    terminated_between_connections,
+    timers_go_on,
+    port_is_in_use_again,
 ]
 
 

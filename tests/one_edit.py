@@ -11,7 +11,7 @@ import os
 import sys
 import tempfile
 
-from twins import TOP, BadEdit, Edit, checked, edit_in, refusal, room_for
+from twins import TOP, BadEdit, Edit, checked, edit_in, refusal, room_with_what_is_kept
 
 
 def body_of(edit, name):
@@ -39,7 +39,7 @@ def main():
         if asked.body:
             edit = body_of(edit, asked.body)
         with tempfile.TemporaryDirectory(prefix="edit-") as room:
-            is_proved, output = checked(room_for(asked.crate, room), edit)
+            is_proved, output = checked(room_with_what_is_kept(asked.crate, room), edit)
     except BadEdit as error:
         print(f"BAD EDIT: {error}")
         return 2

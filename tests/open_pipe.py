@@ -64,22 +64,28 @@ PIECES = [MESSAGES + LONG[:100_000], LONG[100_000:199_999], LONG[199_999:] + MES
 
 SHOWN = [(pieces, LINES) for pieces in CUTS] + [(PIECES, LINES + LONG_LINE + LINES)]
 
+# The same in lines of hexadecimal.
+HEX = b"0000000affff0000000100000001\n0000000c0000810d0000000000010100\n"
+HEX_SHOWN = [([HEX[:at], HEX[at:]], LINES) for at in range(1, len(HEX), 7)]
+HEX_LONG = LONG.hex().encode()
+HEX_SHOWN.append(([HEX + HEX_LONG[:200_000], HEX_LONG[200_000:] + b"\n" + HEX], LINES + LONG_LINE + LINES))
+
 # How long a piece is given to be read by itself, in seconds.
 A_MOMENT = 0.03
 
 
-def shown_in_pieces(pieces):
+def shown_in_pieces(pieces, *options):
     """What is shown of messages that come in these pieces."""
-    with started("show") as show:
+    with started("show", *options) as show:
         for piece in pieces:
             given(show, piece)
             time.sleep(A_MOMENT)
         return show.communicate(None, SOON)[0]
 
 
-def shown_while_open(octets, length):
+def shown_while_open(octets, length, *options):
     """What is shown of these octets, so many octets of it, while the pipe is open."""
-    with started("show") as show:
+    with started("show", *options) as show:
         given(show, octets)
         shown = b""
         while len(shown) < length and select.select([show.stdout], [], [], SOON)[0]:
@@ -88,8 +94,8 @@ def shown_while_open(octets, length):
         return shown
 
 
-def started(command="audit"):
-    return subprocess.Popen([PROGRAM, command], stdin=subprocess.PIPE, stdout=subprocess.PIPE, stderr=subprocess.STDOUT)
+def started(*words):
+    return subprocess.Popen([PROGRAM, *words], stdin=subprocess.PIPE, stdout=subprocess.PIPE, stderr=subprocess.STDOUT)
 
 
 def given(audit, octets):
@@ -99,7 +105,7 @@ def given(audit, octets):
 
 def told_while_open(octets):
     """What the audit of these octets has written when it ends by itself, while the pipe is open."""
-    with started() as audit:
+    with started("audit") as audit:
         given(audit, octets)
         try:
             audit.wait(SOON)
@@ -111,7 +117,7 @@ def told_while_open(octets):
 
 def told_at_the_end(front, rest):
     """What the audit writes once the pipe is closed behind the rest; before that, it may write nothing."""
-    with started() as audit:
+    with started("audit") as audit:
         given(audit, front)
         try:
             audit.wait(A_WHILE)
@@ -124,6 +130,8 @@ def main():
     answers = [(told_while_open(octets), wanted) for octets, wanted in FAILING]
     answers += [(told_at_the_end(front, rest), wanted) for front, rest, wanted in PASSING]
     answers += [(shown_in_pieces(pieces), wanted) for pieces, wanted in SHOWN]
+    answers += [(shown_in_pieces(pieces, "--hex"), wanted) for pieces, wanted in HEX_SHOWN]
+    answers += [(shown_while_open(HEX + rest, len(LINES), "--hex"), LINES) for rest in (b"", HEX[:28])]
     answers += [(shown_while_open(MESSAGES + rest, len(LINES)), LINES) for rest in (b"", MESSAGES[:17])]
     differing = [(told, wanted) for told, wanted in answers if told != wanted]
     for told, wanted in differing:

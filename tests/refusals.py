@@ -79,6 +79,9 @@ EXAMPLES = [
     (["show"], "examples/session.bin"),
     (["show", "--depth", "1"], "examples/session.bin"),
     (["show", "--depth", "0"], "examples/select.bin"),
+    (["show", "--hex"], "examples/session.hex"),
+    (["show", "--hex"], "examples/odd.hex"),
+    (["show", "--bare"], "examples/session.hex"),
     (["show", "--help"], "examples/select.bin"),
     (["--help"], "examples/select.bin"),
     ([], "examples/select.bin"),
@@ -87,6 +90,7 @@ EXAMPLES = [
     (["audit"], "examples/expired.log"),
     (["serve", *NOBODY_THERE], "examples/session.txt"),
     (["serve", *NOBODY_THERE, "--send"], "examples/session.txt"),
+    (["serve", *NOBODY_THERE, "--answer"], "examples/session.txt"),
     (["serve", *NOBODY_THERE, "--send", "--depth", "1"], "examples/nested.txt"),
     (["serve", "--help"], "examples/select.bin"),
 ]
@@ -194,11 +198,11 @@ def runs():
     seen = set()
     for row in [*rows(), *examples()]:
         words = [PROGRAM, *row.words]
-        steps = int("--send" in row.words)
+        script = max(2 * ("--send" in row.words), 3 * ("--answer" in row.words))
         if row.words not in seen:
-            yield Check(f"{row}, from the words on", words, row.given, judge_of(row, 1 + steps))
+            yield Check(f"{row}, from the words on", words, row.given, judge_of(row, 1 + script))
         seen.add(row.words)
-        yield Check(str(row), words, row.given, judge_of(row, steps), is_from_input=True)
+        yield Check(str(row), words, row.given, judge_of(row, script), is_from_input=True)
 
 
 def fronts(output):
@@ -209,7 +213,8 @@ def fronts(output):
 
 def judge_of(row, collections):
     """What a run of the command has to do. Std can do without the room that it asks for as it begins to collect the words,
-    or the steps of a script: so often the command may answer as ever although memory was refused."""
+    to part the messages of a script into replies and others, or to collect its steps: so often the command may answer
+    as ever although memory was refused."""
     parts = fronts(row.answer.output) if row.words[:1] == ("show",) else {b""}
     done_without = []
 

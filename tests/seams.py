@@ -684,22 +684,84 @@ def nothing_is_written_after_a_failed_write(library):
 
 # ---- the script `hsms`
 
-STUB = """#!/bin/sh
-echo "$PWD: $*" >> "$CALLS"
-[ -z "$FAILS" ] || exit 1
-mkdir -p out
-printf '#!/bin/sh\\necho "run with $*"\\n' > out/hsms_tool
-chmod +x out/hsms_tool
+# It stands for `rt`, which lets no other one work on a crate that stands on the same ones. Two crates that don't stand
+# on one another have to be tried at once, and one may fail.
+STUB = """#!/usr/bin/env python3
+import fcntl, os, sys, time
+
+crates, crate = os.path.split(os.getcwd())
+with open(f"{crates}/../crates.txt") as file:
+    below = {name: uses.split() for name, colon, uses in (line.partition(":") for line in file) if colon}
+wanted, names = [crate], set()
+while wanted:
+    name = wanted.pop()
+    names.add(name)
+    wanted += [it for it in below[name] if it in below]
+held = [os.open(f"{crates}/{name}", os.O_RDONLY) for name in sorted(names)]
+for it in held:
+    fcntl.flock(it, fcntl.LOCK_EX)
+
+def told():
+    with open(os.environ["CALLS"]) as file:
+        return file.read()
+
+def tell(text):
+    with open(os.environ["CALLS"], "a") as file:
+        file.write(text + "\\n")
+
+tell(f"begin {crate} {' '.join(sys.argv[1:])}")
+tries = 0
+while os.environ.get("MEETS") and crate in ("low", "other") and tries < 500:
+    if "begin low" in told() and "begin other" in told():
+        break
+    time.sleep(0.01)
+    tries += 1
+if os.environ.get("FAILS") == crate:
+    sys.exit(1)
+for name in names - {crate}:
+    if not os.path.exists(f"{crates}/{name}/out/rlib/built"):
+        sys.exit(1)
+os.makedirs("out/rlib", exist_ok=True)
+with open("out/rlib/built", "w"):
+    tell(f"end {crate}")
+if crate == "hsms_tool":
+    with open("out/hsms_tool", "w") as file:
+        file.write("#!/bin/sh\\necho \\"run with $*\\"\\n")
+    os.chmod("out/hsms_tool", 0o755)
 """
+CRATES = """# Each crate, and what it stands on.
+base:
+low: base byteorder
+other: base
+hsms_tool: high low
+high: low other thiserror
+unused: low
+"""
+BELOW = {
+    "base": [],
+    "low": ["base"],
+    "other": ["base"],
+    "high": ["base", "low", "other"],
+    "hsms_tool": ["base", "low", "other", "high"],
+}
 SOURCES = [
     "crates.txt",
     "crates/low/src/lib.rt",
     "crates/low/src/within/more.rt",
     "crates/low/specs/Lib.antt",
-    "crates/low/proofs/function/Answers.antt",
+    "crates/base/src/lib.rt",
+    "crates/high/src/lib.rt",
+    "crates/other/src/lib.rt",
     "crates/hsms_tool/src/main.rt",
 ]
-NO_SOURCES = ["README.md", "tests/seams.py", "crates/low/must-fail/one.edit", "crates/low/out/kept", "build.log"]
+NO_SOURCES = [
+    "README.md",
+    "tests/seams.py",
+    "crates/low/must-fail/one.edit",
+    "crates/low/proofs/function/Answers.antt",
+    "crates/low/out/kept",
+    "build.log",
+]
 
 
 class Script:
@@ -712,10 +774,11 @@ class Script:
         for name in [*SOURCES, *NO_SOURCES, "bin/rt"]:
             os.makedirs(os.path.dirname(f"{room}/{name}"), exist_ok=True)
             with open(f"{room}/{name}", "w") as file:
-                file.write(STUB if name == "bin/rt" else "")
+                file.write({"bin/rt": STUB, "crates.txt": CRATES}.get(name, ""))
             self.change(name)
         os.chmod(f"{room}/bin/rt", 0o755)
-        shutil.copy(f"{TOP}/hsms", f"{room}/hsms")
+        for name in ["hsms", "build", "tests/rooms.py"]:
+            shutil.copy(f"{TOP}/{name}", f"{room}/{name}")
 
     def change(self, name):
         """A file is changed, later than all others."""
@@ -723,61 +786,110 @@ class Script:
         os.utime(f"{self.room}/{name}", (self.time, self.time))
 
     def run(self, *words, called="hsms", **env):
-        """What the script answers, and how often it has built the command."""
+        """What the script answers, and what it had `rt` do."""
         env = {"PATH": f"{self.room}/bin:{os.environ['PATH']}", "CALLS": self.calls, **env}
-        before = self.built()
+        if os.path.exists(self.calls):
+            os.unlink(self.calls)
         answer = answer_of(words, b"", f"{self.room}/{called}", env=env, cwd="/")
-        count = self.built() - before
-        if count and not env.get("FAILS"):
+        calls = self.called()
+        if "end hsms_tool" in calls:
             self.change("crates/hsms_tool/out/hsms_tool")
-        return answer, count
+        return answer, calls
 
-    def built(self):
+    def called(self):
         if not os.path.exists(self.calls):
-            return 0
+            return []
         with open(self.calls) as lines:
-            calls = lines.read().splitlines()
-        same(set(calls), {f"{self.room}/crates/hsms_tool: run -- --help"})
-        return len(calls)
+            return [re.sub(r"--jobs \d+", "--jobs N", line) for line in lines.read().splitlines()]
 
 
 RAN = (0, b"run with show --max 256\n")
 
 
-def runs(script, count, **how):
+def built_in_order(calls):
+    """Each crate of the command is proved once, after those that it stands on."""
+    begins = {name: f"begin {name} " + ("run --jobs N -- --help" if name == "hsms_tool" else "lib --jobs N") for name in BELOW}
+    same(sorted(calls), sorted([*begins.values(), *(f"end {name}" for name in BELOW)]))
+    for name, below in BELOW.items():
+        for other in below:
+            same((other, name, calls.index(f"end {other}") < calls.index(begins[name])), (other, name, True))
+
+
+def runs(script, is_built, **how):
     """The script runs the command, and builds it before or doesn't."""
-    answer, built = script.run("show", "--max", "256", **how)
-    same((answer.status, answer.output, built), (*RAN, count))
-    same(answer.error.startswith(b"hsms: proving and building") if count else answer.error == b"", True)
+    answer, calls = script.run("show", "--max", "256", **how)
+    same((answer.status, answer.output), RAN)
+    if is_built:
+        built_in_order(calls)
+        lines = answer.error.decode().splitlines()
+        same(lines[0].startswith("hsms: proving and building"), True)
+        same([line[: len("hsms: N of 5 crates proved")] for line in lines[1:]], [f"hsms: {n} of 5 crates proved" for n in range(1, 6)])
+        same(lines[-1], "hsms: 5 of 5 crates proved: hsms_tool")
+    else:
+        same((calls, answer.error), ([], b""))
 
 
 def the_script_builds_anew():
     with tempfile.TemporaryDirectory(prefix="hsms-seams-") as room:
         script = Script(room)
-        runs(script, 1)
-        runs(script, 0)
+        runs(script, True)
+        runs(script, False)
         for name in SOURCES:
             script.change(name)
-            runs(script, 1)
-            runs(script, 0)
+            runs(script, True)
+            runs(script, False)
         for name in NO_SOURCES:
             script.change(name)
-            runs(script, 0)
+            runs(script, False)
         os.symlink("../hsms", f"{room}/bin/hsms")
-        runs(script, 0, called="bin/hsms")
+        runs(script, False, called="bin/hsms")
         script.change(SOURCES[1])
-        runs(script, 1, called="bin/hsms")
+        runs(script, True, called="bin/hsms")
+
+
+def the_script_proves_crates_side_by_side():
+    """Where there is one processor alone, one waits for the other."""
+    with tempfile.TemporaryDirectory(prefix="hsms-seams-") as room:
+        script = Script(room)
+        before = time.monotonic()
+        runs(script, True, MEETS="1" if len(os.sched_getaffinity(0)) > 1 else "")
+        within(0, time.monotonic() - before, 4)
+
+
+def two_starts_build_in_turn():
+    with tempfile.TemporaryDirectory(prefix="hsms-seams-") as room:
+        script = Script(room)
+        env = {"PATH": f"{script.room}/bin:{os.environ['PATH']}", "CALLS": script.calls}
+        how = dict(env=env, cwd="/", stdout=subprocess.PIPE, stderr=subprocess.DEVNULL)
+        for start in [subprocess.Popen([f"{script.room}/hsms", "show"], **how) for _ in range(2)]:
+            same((start.communicate()[0], start.returncode), (b"run with show\n", 0))
+        calls = script.called()
+        built_in_order(calls[: len(calls) // 2])
+        built_in_order(calls[len(calls) // 2 :])
 
 
 def the_script_runs_nothing_that_was_not_built():
     with tempfile.TemporaryDirectory(prefix="hsms-seams-") as room:
         script = Script(room)
-        for _ in range(2):
-            answer, built = script.run("show", FAILS="1")
-            same((answer.status, answer.output, built), (3, b"", 1))
-            same(b"hsms: it wasn't built" in answer.error, True)
-            runs(script, 1)
+        for name in ["hsms_tool", "high"]:
+            answer, calls = script.run("show", FAILS=name)
+            same((answer.status, answer.output, f"end {name}" in calls), (3, b"", False))
+            same(("end high" in calls, any(call.startswith("begin hsms_tool") for call in calls)), (name != "high",) * 2)
+            log = f"{script.room}/crates/{name}/build.log"
+            same(answer.error.decode().splitlines()[-1], f"hsms: it wasn't built: {name} isn't proved; {log} says why")
+            runs(script, True)
             script.change(SOURCES[2])
+
+
+def the_script_says_that_the_kit_is_missing():
+    with tempfile.TemporaryDirectory(prefix="hsms-seams-") as room:
+        script = Script(room)
+        os.unlink(f"{room}/bin/rt")
+        for tool in ["sh", "readlink", "find", "env", "python3"]:
+            os.symlink(shutil.which(tool), f"{room}/bin/{tool}")
+        answer, _ = script.run("show", PATH=f"{room}/bin")
+        same((answer.status, answer.output), (3, b""))
+        same(answer.error.decode().splitlines()[-1].startswith("hsms: there is no rt on the path"), True)
 
 
 TESTS = [
@@ -800,6 +912,9 @@ TESTS = [
     pieces_come_whole,
     nothing_comes_of_a_quiet_wait,
     the_script_builds_anew,
+    the_script_proves_crates_side_by_side,
+    two_starts_build_in_turn,
+    the_script_says_that_the_kit_is_missing,
     the_script_runs_nothing_that_was_not_built,
 ]
 TESTS_WITH_LIBRARY = [

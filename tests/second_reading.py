@@ -38,7 +38,7 @@ TO_REACH = {
         *corners.TO_REACH,
     ],
     "show": [
-        *["no fault", "TooShort", "TooLong", "CutOff"],
+        *["no fault", "TooShort", "TooLong", "CutOff", "NoHex", "NoMessage"],
         *["primary", "reply", *messages.CONTROL_KINDS.values(), "other-stype", "other-ptype"],
         *[f"text {fault}" for fault in ("NoLength", "Format", "Deep", "Truncated", "Ragged", "Trailing")],
     ],
@@ -80,7 +80,7 @@ class Plan:
         if command == "audit":
             return audit_case(self.logs[number] if number < len(self.logs) else walks.random_log(chance))
         if command == "show":
-            return show_case(*inputs.random_stream(chance))
+            return show_case(*(inputs.random_lines(chance) if number % 3 == 2 else inputs.random_stream(chance)))
         is_at_edge = number < len(self.notations)
         return encode_case(*(self.notations[number] if is_at_edge else inputs.random_notation(chance)))
 

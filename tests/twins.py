@@ -26,16 +26,16 @@ import tempfile
 import time
 from dataclasses import dataclass
 
-TOP = os.path.dirname(os.path.dirname(os.path.abspath(__file__)))
+sys.dont_write_bytecode = True
+
+from rooms import TOP, bring, room_for
+
 TWINS = f"{TOP}/tests/twins"
 WRONG_BODY = "-- wrong body: "
 OF_CRATE = "-- crate: "
 
 # How long a check may take, in seconds.
 LONGEST_CHECK = 1800
-
-# What a crate above reads of a crate.
-BELOW = ("src", "specs", "proofs", "out/rlib")
 
 
 class BadEdit(Exception):
@@ -111,36 +111,11 @@ def unmatched(bodies, twins):
     return told
 
 
-def crates_listed():
-    """What each crate stands on, by the list of crates."""
-    lines = [line.partition(":") for line in text_of(f"{TOP}/crates.txt").split("\n") if not line.startswith("#")]
-    return {name.split()[0]: below.split() for name, _, below in lines if name.strip()}
-
-
-def crates_below(crate, listed):
-    """The repository's crates that a crate stands on."""
-    direct = [it for it in listed[crate] if it in listed]
-    return set(direct).union(*[crates_below(it, listed) for it in direct])
-
-
-def copy_parts(crate, parts, room):
-    for part in parts:
-        source = f"{TOP}/crates/{crate}/{part}"
-        if os.path.isdir(source):
-            shutil.copytree(source, f"{room}/crates/{crate}/{part}")
-
-
-def room_for(crate, room):
-    """Copies a crate and what is below it into a folder, as a repository of its own, and says where the crate is."""
-    listed = crates_listed()
-    below = crates_below(crate, listed)
-    for name in sorted(below):
-        copy_parts(name, BELOW, room)
-    copy_parts(crate, ("src", "specs", "proofs", "out"), room)
-    shutil.copy(f"{TOP}/HANDLES", room)
-    with open(f"{room}/crates.txt", "w", encoding="utf-8") as file:
-        file.writelines(f"{name}: {' '.join(listed[name])}\n" for name in listed if name in below or name == crate)
-    return f"{room}/crates/{crate}"
+def room_with_what_is_kept(crate, room):
+    """A room for a crate, with what earlier checks kept of it."""
+    folder = room_for(crate, room)
+    bring(crate, ("out",), room, shutil.copy2)
+    return folder
 
 
 def write_all(folder, texts):
@@ -182,7 +157,7 @@ def tried(folder, name, edit):
 def tried_in_crate(crate, twins):
     """How many twins of a crate are proved."""
     with tempfile.TemporaryDirectory(prefix="twins-") as room:
-        folder = room_for(crate, room)
+        folder = room_with_what_is_kept(crate, room)
         return sum(tried(folder, name, twins[name]) for name in sorted(twins))
 
 

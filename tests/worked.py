@@ -228,7 +228,28 @@ def shows() -> List[Row]:
         ("show", message(LINES[1][0])[:15], refused("CutOff")),
     ]
     rows += [Row(tuple(words.split()), given, answer) for words, given, answer in faulty]
-    return [*rows, row_of("show", b"", "")]
+    return [*rows, row_of("show", b"", ""), *shows_of_lines()]
+
+
+def shows_of_lines() -> List[Row]:
+    digits, line = LINES[0]
+    whole = message(digits).hex()
+    spaced = " ".join(digits[at:at + 2].upper() for at in range(0, len(digits), 2))
+    select = line + "\n"
+    rows = [
+        ("show --hex", f"{whole}\n\n{whole}", Answer(0, (2 * select).encode(), b"")),
+        ("show --hex --bare", f"\t{spaced} \r\n", Answer(0, select.encode(), b"")),
+        ("show --hex", " \n\r\n", Answer(0, b"", b"")),
+        ("show --hex", f"{whole}\n{whole}0\n", refused("NoHex line=2", select)),
+        ("show --hex", f"{whole[:-1]} {whole[-1]}\n", refused("NoHex line=1")),
+        ("show --hex", f"\n{whole}{whole}\n", refused("NoMessage line=2")),
+        ("show --hex", digits, refused("NoMessage line=1")),
+        ("show --hex --bare", whole, Answer(0, b"other-ptype 0000 00000001 255 ! 00000001\n", b"")),
+        ("show --hex --max 256", " " * (4 * 256 + 65), refused("NoMessage line=1")),
+        ("show --hex --max 256", " " * (4 * 256 + 64), Answer(0, b"", b"")),
+        ("show --bare", f"{digits}\n", refused("command line")),
+    ]
+    return [Row(tuple(words.split()), given.encode(), answer) for words, given, answer in rows]
 
 
 def encodes() -> List[Row]:

@@ -141,7 +141,7 @@ def spellings_of(log: bytes, audited: Audited) -> Set[str]:
 
 def show_case(stream: bytes, options: Options) -> Case:
     output, fault = messages.show(stream, options)
-    frames, _ = messages.frames_of(stream, options.max)
+    frames, _ = messages.frames_given(stream, options)
     texts = {items.fault_of_text(frame.text, options.depth) for frame in frames if frame.is_data}
     reached = {f"text {name}" for name in texts if name} | {frame.kind for frame in frames}
     reached.add(fault.name if fault else "no fault")

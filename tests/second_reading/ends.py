@@ -3,7 +3,7 @@
 What may be taken is asked of the rules in `session`. An end here never runs out of memory.
 """
 from dataclasses import dataclass
-from typing import Callable, List, Optional
+from typing import Callable, List, Optional, Sequence
 
 from second_reading.items import BY_NAME, Fault, Item, decode_text, encode
 from second_reading.messages import HEADER, Frame, frame_at
@@ -66,6 +66,19 @@ def host_desk() -> Desk:
 def obliging_desk() -> Desk:
     """A desk that answers each primary by a reply without an item."""
     return lambda message: Answer("reply")
+
+
+def scripted_desk(replies: Sequence[Message], own: Desk) -> Desk:
+    """A desk that gives the item of the first of the replies to a primary, or aborts it where one of its stream says so."""
+
+    def answer(message: Message) -> Answer:
+        of_stream = [reply for reply in replies if reply.stream == message.stream]
+        given = [reply for reply in of_stream if reply.function == message.function + 1]
+        if given:
+            return Answer("reply", given[0].item)
+        return Answer("quiet") if any(reply.function == 0 for reply in of_stream) else own(message)
+
+    return answer
 
 
 # Frames that an end sends.

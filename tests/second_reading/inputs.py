@@ -177,6 +177,42 @@ def random_stream(chance: Chance) -> Tuple[bytes, Options]:
     return stream, options
 
 
+def in_digits(chance: Chance, octets: bytes) -> bytes:
+    """Octets in digits, with blanks at places, and now and then one at a wrong place or a wrong digit."""
+    blank = chance.one(b"", b"", b" ", b"\t", b"  ")
+    pairs = [b"%02x" % octet if chance.happens(0.9) else b"%02X" % octet for octet in octets]
+    digits = chance.one(b"", b"", b" ") + blank.join(pairs) + chance.one(b"", b"", b" \t")
+    kind = chance.random()
+    if kind < 0.04:
+        place = chance.randrange(len(digits) + 1)
+        digits = digits[:place] + chance.one(b" ", b"g", b"\r", b"\x00", b"0", b":") + digits[place:]
+    elif kind < 0.08:
+        digits = digits[:chance.randrange(len(digits) + 1)]
+    return digits
+
+
+def random_lines(chance: Chance) -> Tuple[bytes, Options]:
+    """Lines of hexadecimal and the options with which they are shown."""
+    bare = chance.happens(0.5)
+    options = Options(max=chance.one(256, 300, 1_048_576), depth=chance.one(1, 2, 32, 100), hex=True, bare=bare)
+    lines = []
+    for _ in range(chance.one(0, 1, 1, 2, 3, 6)):
+        octets = random_draft(chance, options.depth, options.max).octets()
+        if not bare:
+            length = len(octets) + chance.choice([0] * 20 + [-1, 1, 256])
+            octets = length.to_bytes(4, "big") + octets
+        if chance.happens(0.03):
+            octets = chance.one(octets[:9], octets[:3], octets + octets, octets + bytes(options.max % 1000))
+        lines.append(in_digits(chance, octets))
+        if chance.happens(0.2):
+            lines.append(chance.one(b"", b"", b" ", b"\t \t"))
+    if options.max < 1000 and chance.happens(0.1):
+        longest = 4 * options.max + 64
+        lines.append(b" " * (longest + chance.one(-1, 0, 1)) + chance.one(b"", b"\r"))
+    text = b"".join(line + chance.one(b"\n", b"\n", b"\n", b"\r\n") for line in lines)
+    return (text[:-1] if chance.happens(0.2) else text), options
+
+
 # Messages in notation.
 
 ODD_TOKENS = (

@@ -1,4 +1,5 @@
 """Messages as octets (SEMI E37, section 8): frames, headers and kinds; what `hsms show` and `hsms encode` answer."""
+import re
 from dataclasses import dataclass
 from typing import List, Optional, Tuple
 
@@ -7,6 +8,9 @@ from second_reading.items import Fault
 
 HEADER = 10
 GREATEST_INPUT = 67_108_864
+
+# Octets in digits, with blanks before, between and behind them.
+OCTETS = re.compile(rb"[ \t]*(?:[0-9A-Fa-f]{2}[ \t]*)*")
 
 CONTROL_KINDS = {1: "select.req", 2: "select.rsp", 5: "linktest.req", 6: "linktest.rsp", 7: "reject", 9: "separate"}
 
@@ -116,11 +120,46 @@ class Options:
     max: int = 1_048_576
     depth: int = 32
     hex: bool = False
+    bare: bool = False
 
 
-def show(octets: bytes, options: Options) -> Tuple[bytes, Optional[Fault]]:
-    """What `hsms show` writes of a stream of octets, and the fault that it tells."""
-    frames, fault = frames_of(octets, options.max)
+def frame_of_line(line: bytes, number: int, options: Options) -> Optional[Frame]:
+    """The message of a line of hexadecimal with this number, or None where the line has no octet."""
+    if len(line) > 4 * options.max + 64:
+        raise Fault("NoMessage", line=number)
+    digits = line[:-1] if line.endswith(b"\r") else line
+    if not OCTETS.fullmatch(digits):
+        raise Fault("NoHex", line=number)
+    octets = bytes.fromhex(digits.translate(None, b" \t").decode())
+    if not octets:
+        return None
+    content = octets if options.bare else octets[4:]
+    is_counted = options.bare or (len(octets) >= 4 and int.from_bytes(octets[:4], "big") == len(content))
+    if not is_counted or not HEADER <= len(content) <= options.max:
+        raise Fault("NoMessage", line=number)
+    return Frame(content)
+
+
+def frames_of_lines(text: bytes, options: Options) -> Tuple[List[Frame], Optional[Fault]]:
+    """The messages of lines of hexadecimal up to their end or the first fault, and that fault."""
+    frames = []
+    for number, line in enumerate(text.split(b"\n"), 1):
+        try:
+            frame = frame_of_line(line, number, options)
+        except Fault as fault:
+            return frames, fault
+        frames += [frame] if frame else []
+    return frames, None
+
+
+def frames_given(given: bytes, options: Options) -> Tuple[List[Frame], Optional[Fault]]:
+    """The messages of what `hsms show` is given, up to its end or its first fault, and that fault."""
+    return frames_of_lines(given, options) if options.hex else frames_of(given, options.max)
+
+
+def show(given: bytes, options: Options) -> Tuple[bytes, Optional[Fault]]:
+    """What `hsms show` writes of what it is given, and the fault that it tells."""
+    frames, fault = frames_given(given, options)
     lines = [shown(frame, options.depth) + "\n" for frame in frames]
     return "".join(lines).encode(), fault
 

@@ -5,7 +5,7 @@ The ends are those of `ends`. Nothing here judges: whether their logs pass, the 
 from dataclasses import dataclass
 from typing import Any, List, Set, Tuple
 
-from second_reading.ends import End, Refused, equipment_desk, host_desk, obliging_desk
+from second_reading.ends import End, Refused, equipment_desk, host_desk, obliging_desk, scripted_desk
 from second_reading.inputs import Chance, Draft, random_item, random_text
 from second_reading.messages import Frame
 from second_reading.notation import Message
@@ -25,6 +25,7 @@ TO_REACH = [
     *["Reject 1", "Reject 2", "Reject 3", "Reject 4"],
     *["S9F1", "S9F3", "S9F5", "S9F7", "S9F9", "S9F11", "SxF0"],
     *["SxF252", "SxF254", "SxF0 in place of a reply"],
+    *["a reply of a script", "SxF0 of a script"],
     *["! PType", "! SType", "! ControlText", "! Session", "! Direction", "! NotSelected", "! WBit", "! Text"],
     "! NoTransaction",
     *["t3", "cut t6", "cut t7", "cut t8", "cut length", "down"],
@@ -42,17 +43,20 @@ class Told:
 
 @dataclass(frozen=True)
 class Maker:
-    """What an end is made of. The desk of equipment tells the model; the obliging one may stand in place of any."""
+    """What an end is made of. The desk of equipment tells the model; the obliging one may stand in place of any, and
+    each answers what the replies of a script don't, if there is one."""
 
     settings: Settings
     model: bytes
     first_system: int
     is_obliging: bool = False
+    replies: Tuple[Message, ...] = ()
 
     def new_end(self) -> End:
         """An end that was told nothing yet."""
         desk = host_desk() if self.settings.role == "host" else equipment_desk(self.model, REVISION)
-        return End(self.settings, obliging_desk() if self.is_obliging else desk, self.first_system)
+        desk = obliging_desk() if self.is_obliging else desk
+        return End(self.settings, scripted_desk(self.replies, desk), self.first_system)
 
     def names_of(self, entries: List[Entry]) -> Set[str]:
         """What entries of its end are, as the list of what is to be reached has it."""
@@ -60,19 +64,25 @@ class Maker:
         if self.is_obliging:
             replies = [entry.frame for entry in entries if entry.event == SENT and entry.frame.kind == "reply"]
             names |= {f"SxF{frame.function}" if frame.function else "SxF0 in place of a reply" for frame in replies}
-        return names
+        return names | self.of_script(entries)
+
+    def of_script(self, entries: List[Entry]) -> Set[str]:
+        """What entries of its end come of the replies of its script."""
+        sent = {(entry.frame.stream, entry.frame.function) for entry in entries if entry.event == SENT}
+        given = sent & {(reply.stream, reply.function) for reply in self.replies}
+        return {"a reply of a script" if function else "SxF0 of a script" for _, function in given}
 
 
 class Party:
     """One of the two ends, and the octets that it sent and that the other one didn't get yet."""
 
-    def __init__(self, chance: Chance, role: str, link: str):
+    def __init__(self, chance: Chance, role: str, link: str, replies: Tuple[Message, ...] = ()):
         timers = (chance.one(20, 60, 3600), chance.one(60, 200, 1000), chance.one(100, 1000), chance.one(50, 200, 1000))
         device = chance.one(0, 0, 0, 0, 0, 1)
         limits = (chance.choice(LIMITS), chance.one(1, 2, 4, 32, chance.randrange(91, 101)))
         self.settings = Settings(role, link, device, *timers, *limits, chance.one(1, 1, 2))
         model, first_system = bytes(chance.one(0, 1, 6, 240)), chance.one(0, 1, 5, (1 << 32) - 2)
-        self.maker = Maker(self.settings, model, first_system, chance.happens(0.2))
+        self.maker = Maker(self.settings, model, first_system, chance.happens(0.2), replies)
         self.end = self.maker.new_end()
         self.line = b""
         self.reached: Set[str] = set()
@@ -119,10 +129,10 @@ def name_of(entry: Entry) -> str:
 class Talk:
     """Two ends, what they are told, and the time."""
 
-    def __init__(self, chance: Chance):
+    def __init__(self, chance: Chance, script: Tuple[Message, ...] = ()):
         self.chance = chance
         links = chance.one(("active", "passive"), ("passive", "active"), ("active", "passive"), ("passive", "passive"))
-        self.parties = [Party(chance, "host", links[0]), Party(chance, "equipment", links[1])]
+        self.parties = [Party(chance, role, link, script) for role, link in zip(("host", "equipment"), links)]
         self.now = chance.one(0, 5, 1_000_000)
 
     def run(self, count: int):
@@ -219,14 +229,22 @@ class Talk:
         return Message(stream, function, stream != 9 and chance.happens(0.7), item)
 
 
-def parties_of(chance: Chance, *lengths: int) -> List[Party]:
+def random_replies(chance: Chance) -> Tuple[Message, ...]:
+    """The replies of a script, of which some have the same name."""
+    names = [chance.choice(NAMES_OF_DATA) for _ in range(chance.randrange(6))]
+    functions = [0 if function == 255 or chance.happens(0.3) else function + function % 2 for _, function in names]
+    items = [None if chance.happens(0.3) else random_item(chance, chance.one(1, 2, 3)) for _ in names]
+    return tuple(Message(stream, function, False, item) for (stream, _), function, item in zip(names, functions, items))
+
+
+def parties_of(chance: Chance, *lengths: int, script: Tuple[Message, ...] = ()) -> List[Party]:
     """The two parties of a talk of one of these lengths, after it."""
-    whole = Talk(chance)
+    whole = Talk(chance, script)
     whole.run(chance.one(*lengths))
     return whole.parties
 
 
 def talk(seed: str) -> List[Tuple[End, Set[str]]]:
     """The two ends of a talk, after it, and what each did."""
-    parties = parties_of(Chance(seed), 20, 100, 200, 400)
+    parties = parties_of(Chance(seed), 20, 100, 200, 400, script=random_replies(Chance(f"{seed} script")))
     return [(party.end, party.reached | party.reasons()) for party in parties]

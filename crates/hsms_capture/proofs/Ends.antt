@@ -40,7 +40,7 @@ of_span p d n e =
     let lt = of_cells p.cells (n - p.place) g.2 in
     (le, omega (arith, le, lt))
 
-either : (x y : Option Cell) → is_some (or_else x y) ≡ true → (is_some x ≡ true) ⊎ (is_some y ≡ true)
+pub either : (x y : Option Cell) → is_some (or_else x y) ≡ true → (is_some x ≡ true) ⊎ (is_some y ≡ true)
 either None y e = inr e
 either (Some c) y e = inl refl
 
@@ -52,7 +52,7 @@ pub from_second : (x y : Option Cell) → is_some y ≡ true → is_some (or_els
 from_second None y e = e
 from_second (Some c) y e = refl
 
-not_past : (ps : List Placed) (d : End) (n : ℕ) → IsHeld ps d n → n < bound ps
+pub not_past : (ps : List Placed) (d : End) (n : ℕ) → IsHeld ps d n → n < bound ps
 unfolding cell_at bound
 not_past [] d n e = absurd cc
 not_past (p ∷ ps) d n e =

@@ -1,8 +1,8 @@
 -- What is shown of a direction is a front of its stream, and nothing of it stands behind a loss.
-use Rattle.std.proofs.Common.{◌≡◌, ◌<◌, ◌≤◌, ◌⊎◌, inl, inr, min, arith, ℕ, zero, suc, ◌+◌, Bool, true, false, nat_lt, cond, List, [], ◌∷◌, ◌++◌, length, take, drop, map, filter, flat_map, Option, Some, None, refl, sym, ap, subst, ◌∙◌}
+use Rattle.std.proofs.Common.{◌≡◌, ◌<◌, ◌≤◌, ◌⊎◌, inl, inr, min, arith, ℕ, zero, suc, ◌+◌, ◌&&◌, ◌||◌, Bool, true, false, nat_lt, cond, List, [], ◌∷◌, ◌++◌, length, take, drop, map, filter, flat_map, Option, Some, None, refl, sym, ap, subst, ◌∙◌}
 use Rattle.std.proofs.lemmas.Bool.{ltb-true}
 use Rattle.std.proofs.lemmas.List.{append_assoc, take-append-drop}
-use Rattle.hsms_capture.specs.Wire.{End, active, passive, same_end, Cell, Placed, Turn, Delivery, deliveries, is_before, Left, Cut, and_then, cut_by, cut_off, Shown, Both, left_of, with_left, delivered, show, both_streams, shows_of, stream_of, turns, loss, difference, earlier, breaks_off, told_turns, up_to_reset}
+use Rattle.hsms_capture.specs.Wire.{End, active, passive, same_end, Cell, Placed, Turn, Delivery, deliveries, is_before, is_open, Left, Cut, and_then, cut_by, cut_off, Shown, Both, left_of, with_left, delivered, show, both_streams, shows_of, stream_of, turns, loss, difference, earlier, breaks_off, told_turns, up_to_reset}
 use Rattle.hsms_capture.specs.Laws.{cells_shown, EachShown}
 
 flat : List (List Cell) → List Cell
@@ -118,12 +118,12 @@ unfolding EachTurn
 weaken P Q [] f h = tt
 weaken P Q (t ∷ ts) f h = (f t.at h.0, weaken P Q ts f h.1)
 
-reset_each : (P : Placed → Type 0) (ts : List Turn) → EachTurn P ts → EachTurn P (up_to_reset ts)
+reset_each : (P : Placed → Type 0) (opened : Bool) (ts : List Turn) → EachTurn P ts → EachTurn P (up_to_reset opened ts)
 unfolding EachTurn
-reset_each P [] h = tt
-reset_each P (t ∷ ts) h = by_reset t.own.reset (reset_each P ts h.1)
+reset_each P opened [] h = tt
+reset_each P opened (t ∷ ts) h = by_reset (t.own.reset && (opened || is_open t)) (reset_each P (opened || is_open t) ts h.1)
   where
-    by_reset : (b : Bool) → EachTurn P (up_to_reset ts) → EachTurn P (cond b (t ∷ []) (t ∷ up_to_reset ts))
+    by_reset : (b : Bool) → EachTurn P (up_to_reset (opened || is_open t) ts) → EachTurn P (cond b (t ∷ []) (t ∷ up_to_reset (opened || is_open t) ts))
     by_reset true later = (h.0, tt)
     by_reset false later = (h.0, later)
 
@@ -151,7 +151,7 @@ none_behind size ps k e =
     let each : EachTurn (λ at. at.packet < k) (filter (is_before (breaks_off ps)) (turns [] ps)) =
     subst (λ (o : Option ℕ). EachTurn (λ at. at.packet < k) (filter (is_before o) (turns [] ps))) (sym off.1) near in
     show_each (λ at. at.packet < k) size (flat_map deliveries (told_turns ps)) (both_streams ps)
-    (delivery_each (λ at. at.packet < k) (told_turns ps) (reset_each (λ at. at.packet < k) (filter (is_before (breaks_off ps)) (turns [] ps)) each))
+    (delivery_each (λ at. at.packet < k) (told_turns ps) (reset_each (λ at. at.packet < k) false (filter (is_before (breaks_off ps)) (turns [] ps)) each))
 
 pub kept : (size : List Cell → Option ℕ) (ps : List Placed) (d : End) → (rest : List Cell) × (stream_of ps d ≡ cells_shown d (shows_of size ps) ++ rest)
 kept size ps active = show_keeps size (flat_map deliveries (told_turns ps)) active (both_streams ps)

@@ -1,9 +1,13 @@
 mod Absorbed
 mod Asked
+mod Behind
 mod CutOff
+mod Differing
+mod Draining
 mod Ends
 mod Fronts
 mod Kept
+mod Laid
 mod Lists
 mod Longer
 mod Nearest
@@ -11,4 +15,8 @@ mod Numbered
 mod Queue
 mod Sizes
 mod SmallCaptures
+mod Stepped
 mod Turned
+mod Waited
+mod Watched
+mod Whole

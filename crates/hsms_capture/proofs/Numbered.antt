@@ -160,7 +160,7 @@ within_take n [] ys le = (take n ys, refl)
 within_take zero (x ∷ xs) ys le = absurd (omega (arith, le))
 within_take (suc n) (x ∷ xs) ys le = begins_cons x xs (take n (xs ++ ys)) (within_take n xs ys (omega (arith, le)))
 
-where_true : (b : Bool) (x y : Option ℕ) → b ≡ true → cond b x y ≡ x
+pub where_true : (b : Bool) (x y : Option ℕ) → b ≡ true → cond b x y ≡ x
 where_true true x y e = refl
 where_true false x y e = absurd cc
 

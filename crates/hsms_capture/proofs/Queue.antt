@@ -54,7 +54,7 @@ order_more (r ∷ ps) p = ap (insert_by_place r) (order_more ps p) ∙ either_wa
 
 -- ---- a filter of what is in order
 
-abbrev Sorted : List Placed → Type 0
+abbrev pub Sorted : List Placed → Type 0
 Sorted [] = Unit {0}
 Sorted (q ∷ qs) = Each (λ (r : Placed). q.place ≤ r.place) qs × Sorted qs
 
@@ -78,7 +78,7 @@ insert_sorted p (q ∷ qs) h = by_test (nat_le p.place q.place) refl (insert_sor
         let lt = leb-false p.place q.place e in
         (insert_least q.place p qs (omega (arith, lt)) h.0, later)
 
-order_sorted : (ps : List Placed) → Sorted (in_order ps)
+pub order_sorted : (ps : List Placed) → Sorted (in_order ps)
 order_sorted [] = tt
 order_sorted (p ∷ ps) = insert_sorted p (in_order ps) (order_sorted ps)
 

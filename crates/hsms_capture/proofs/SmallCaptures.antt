@@ -2,7 +2,7 @@
 use Rattle.std.proofs.Common.{refl}
 use Rattle.hsms_capture.specs.Wire.{bound, cell_at, cells_up_to, cut_off, difference, loss, places, run, show, turns}
 use Rattle.hsms_capture.specs.Message.{cells_to, size_by}
-use Rattle.hsms_capture.specs.Examples.{Asked, EarlyReply, FinWithin, GapAtEnd, HalfOpen, LostReply, OtherCopy, Refused, ResetBetween, SeparateCrossed, UpLate}
+use Rattle.hsms_capture.specs.Examples.{Asked, EarlyReply, FinWithin, GapAtEnd, HalfOpen, LostReply, OtherCopy, Refused, RefusedOnce, ResetBetween, SeparateCrossed, UpLate}
 
 pub lost_reply : LostReply
 unfolding bound cell_at cells_up_to cut_off difference loss places run show turns
@@ -27,6 +27,10 @@ gap_at_end = (refl, refl)
 pub refused : Refused
 unfolding bound cell_at cells_to cells_up_to cut_off difference loss places run show size_by turns
 refused = refl
+
+pub refused_once : RefusedOnce
+unfolding bound cell_at cells_to cells_up_to cut_off difference loss places run show size_by turns
+refused_once = refl
 
 pub half_open : HalfOpen
 unfolding bound cell_at cells_to cells_up_to cut_off difference loss places run show size_by turns

@@ -1,8 +1,8 @@
 -- The turns of more packets begin with those of fewer.
-use Rattle.std.proofs.Common.{◌≡◌, ◌<◌, ◌≤◌, ℕ, ◌+◌, ◌&&◌, Bool, true, false, cond, nat_lt, nat_le, List, [], ◌∷◌, ◌++◌, length, map, filter, flat_map, Option, Some, None, refl, sym, ap, subst, ◌∙◌, arith}
+use Rattle.std.proofs.Common.{◌≡◌, ◌<◌, ◌≤◌, ℕ, ◌+◌, ◌&&◌, ◌||◌, Bool, true, false, cond, nat_lt, nat_le, List, [], ◌∷◌, ◌++◌, length, map, filter, flat_map, Option, Some, None, refl, sym, ap, subst, ◌∙◌, arith}
 use Rattle.std.proofs.lemmas.Bool.{leb-true, ltb-false, le-ltb}
 use Rattle.std.proofs.lemmas.List.{append_assoc, append-nil}
-use Rattle.hsms_capture.specs.Wire.{End, active, passive, same_end, other, Placed, Turn, end_of, insert_by_place, in_order, turns_at, turns, loss, breaks_off, difference, is_before, is_past, up_to_reset, told_turns, Delivery, deliveries}
+use Rattle.hsms_capture.specs.Wire.{End, active, passive, same_end, other, Placed, Turn, end_of, insert_by_place, in_order, turns_at, turns, loss, breaks_off, difference, is_before, is_open, is_past, up_to_reset, told_turns, Delivery, deliveries}
 use Rattle.hsms_capture.proofs.Lists.{Each, weaken, both_hold, each_append, each_filter, each_map, Begins, begins_cons}
 use Rattle.hsms_capture.proofs.Longer.{end_more, Holds, each_holds, within_own}
 use Rattle.hsms_capture.proofs.Numbered.{Rising, rising_front, later_packets, before_later, passes, passes_less, passes_both, loss_settled, breaks_more}
@@ -29,7 +29,7 @@ insert_each P p (q ∷ qs) f h = by_test (nat_le p.place q.place) (insert_each P
     by_test true later = (f, h)
     by_test false later = (h.0, later)
 
-order_each : (P : Placed → Type 0) (ps : List Placed) → Each P ps → Each P (in_order ps)
+pub order_each : (P : Placed → Type 0) (ps : List Placed) → Each P ps → Each P (in_order ps)
 order_each P [] h = tt
 order_each P (p ∷ ps) h = insert_each P p (in_order ps) h.0 (order_each P ps h.1)
 
@@ -105,14 +105,14 @@ filter_front a b (t ∷ ts) us o h = by_test (is_before a t) refl (filter_front 
     by_test false e later =
         rw (nothing_later a t.at.packet ts (sym (before_is a t) ∙ e) o.0) (filter (is_before b) (t ∷ (ts ++ us)), refl)
 
-reset_more : (ts us : List Turn) → Begins Turn (up_to_reset ts) (up_to_reset (ts ++ us))
-reset_more [] us = (up_to_reset us, refl)
-reset_more (t ∷ ts) us = by_reset t.own.reset (reset_more ts us)
+reset_more : (opened : Bool) (ts us : List Turn) → Begins Turn (up_to_reset opened ts) (up_to_reset opened (ts ++ us))
+reset_more opened [] us = (up_to_reset opened us, refl)
+reset_more opened (t ∷ ts) us = by_reset (t.own.reset && (opened || is_open t)) (reset_more (opened || is_open t) ts us)
   where
-    by_reset : (b : Bool) → Begins Turn (up_to_reset ts) (up_to_reset (ts ++ us))
-        → Begins Turn (cond b (t ∷ []) (t ∷ up_to_reset ts)) (cond b (t ∷ []) (t ∷ up_to_reset (ts ++ us)))
+    by_reset : (b : Bool) → Begins Turn (up_to_reset (opened || is_open t) ts) (up_to_reset (opened || is_open t) (ts ++ us))
+        → Begins Turn (cond b (t ∷ []) (t ∷ up_to_reset (opened || is_open t) ts)) (cond b (t ∷ []) (t ∷ up_to_reset (opened || is_open t) (ts ++ us)))
     by_reset true later = ([], refl)
-    by_reset false later = begins_cons t (up_to_reset ts) (up_to_reset (ts ++ us)) later
+    by_reset false later = begins_cons t (up_to_reset (opened || is_open t) ts) (up_to_reset (opened || is_open t) (ts ++ us)) later
 
 pub told_more : (m : ℕ) (xs ys : List Placed) → Rising m (xs ++ ys) → Begins Turn (told_turns xs) (told_turns (xs ++ ys))
 told_more m xs ys h =
@@ -121,7 +121,7 @@ told_more m xs ys h =
     (λ t later e. breaks_more t.at.packet m xs ys h later e) (turns_each (λ (p : Placed). Rising p.packet ys) [] xs (before_later m xs ys h)) in
     let front = filter_front (breaks_off xs) (breaks_off (xs ++ ys)) (turns [] xs) (turns xs ys) (turns_ordered m [] xs (rising_front m xs ys h)) passed in
     let whole = ap (λ (ts : List Turn). filter (is_before (breaks_off (xs ++ ys))) ts) (turns_more [] xs ys) ∙ front.1 in
-    subst (λ (ts : List Turn). Begins Turn (told_turns xs) (up_to_reset ts)) (sym whole) (reset_more (filter (is_before (breaks_off xs)) (turns [] xs)) front.0)
+    subst (λ (ts : List Turn). Begins Turn (told_turns xs) (up_to_reset false ts)) (sym whole) (reset_more false (filter (is_before (breaks_off xs)) (turns [] xs)) front.0)
 
 -- ---- what is told lies within what is held
 
@@ -132,7 +132,7 @@ both_true : (a b : Bool) → (a && b) ≡ true → (a ≡ true) × (b ≡ true)
 both_true false b e = absurd cc
 both_true true b e = (refl, e)
 
-same_from : (a b : End) → same_end a b ≡ true → a ≡ b
+pub same_from : (a b : End) → same_end a b ≡ true → a ≡ b
 same_from active active e = refl
 same_from active passive e = absurd cc
 same_from passive active e = absurd cc
@@ -186,11 +186,11 @@ turn_within : (ps : List Placed) (at own : Placed) (a : Option ℕ) → own.plac
 turn_within ps at own None le past = (le, tt)
 turn_within ps at own (Some n) le past = (ltb-false (end_of ps (other own.from)) n past, (le, tt))
 
-reset_each : (P : Turn → Type 0) (ts : List Turn) → Each P ts → Each P (up_to_reset ts)
-reset_each P [] h = tt
-reset_each P (t ∷ ts) h = by_reset t.own.reset (reset_each P ts h.1)
+reset_each : (P : Turn → Type 0) (opened : Bool) (ts : List Turn) → Each P ts → Each P (up_to_reset opened ts)
+reset_each P opened [] h = tt
+reset_each P opened (t ∷ ts) h = by_reset (t.own.reset && (opened || is_open t)) (reset_each P (opened || is_open t) ts h.1)
   where
-    by_reset : (b : Bool) → Each P (up_to_reset ts) → Each P (cond b (t ∷ []) (t ∷ up_to_reset ts))
+    by_reset : (b : Bool) → Each P (up_to_reset (opened || is_open t) ts) → Each P (cond b (t ∷ []) (t ∷ up_to_reset (opened || is_open t) ts))
     by_reset true later = (h.0, tt)
     by_reset false later = (h.0, later)
 
@@ -212,6 +212,6 @@ told_within m ps h =
     let fair = turns_fair (Sound ps) ps [] ps m refl tt sound h in
     let kept = filter (is_before (breaks_off ps)) (turns [] ps) in
     flat_each (Within ps) (told_turns ps)
-    (reset_each (λ (t : Turn). Each (Within ps) (deliveries t)) kept
+    (reset_each (λ (t : Turn). Each (Within ps) (deliveries t)) false kept
     (weaken (λ (t : Turn). Fair (Sound ps) ps t × (is_before (breaks_off ps) t ≡ true)) (λ (t : Turn). Each (Within ps) (deliveries t)) kept
     (λ t f. sound_within ps t f.0 f.1) (each_filter (Fair (Sound ps) ps) (is_before (breaks_off ps)) (turns [] ps) fair)))

@@ -86,6 +86,13 @@ Refused = told_of (sent active 1 1000 None (syn ∷ []) ∷ resets passive 2 100
 abbrev pub HalfOpen : Type 0
 HalfOpen = told_of (connected (resets passive 3 1001 1001 ∷ [])) ≡ []
 
+-- nobody listens at first; the SYN is sent again, since the reset was lost behind the tap
+abbrev pub RefusedOnce : Type 0
+RefusedOnce =
+    told_of (sent active 1 1000 None (syn ∷ []) ∷ resets passive 2 1000 1001 ∷ sent active 3 1000 None (syn ∷ []) ∷ sent passive 4 1000 (Some 1001) (syn ∷ [])
+    ∷ sent active 5 1001 (Some 1001) [] ∷ brings active 6 1001 1001 1 ∷ [])
+    ≡ entry 5 up ∷ entry 6 (message active (control 1)) ∷ []
+
 -- a Linktest.req, which isn't acknowledged, crosses a Separate
 abbrev pub SeparateCrossed : Type 0
 SeparateCrossed =

@@ -1,5 +1,9 @@
 pub mod Wire
 pub mod Message
 pub mod Told
+pub mod Known
+pub mod Losses
+pub mod Held
+pub mod Early
 pub mod Laws
 pub mod Examples

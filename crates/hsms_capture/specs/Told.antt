@@ -1,7 +1,7 @@
 -- What a log tells of a connection that the wire shows: when it came up, its messages in the order of cause, and when it
 -- went down. A connection that never came up tells nothing.
-use Rattle.std.specs.Prelude.{ℕ, ◌==◌, ◌&&◌, Bool, true, false, nat_le, if◌then◌else◌, List, [], ◌∷◌, ◌++◌, flat_map, filter, get_or, Option, Some, None}
-use Rattle.hsms_capture.specs.Wire.{End, passive, other, same_end, Cell, syn, octet, fin, Placed, Turn, acknowledges, told_turns, earlier, Shown, shows_of}
+use Rattle.std.specs.Prelude.{ℕ, ◌==◌, ◌&&◌, ◌||◌, Bool, true, false, nat_le, if◌then◌else◌, List, [], ◌∷◌, ◌++◌, flat_map, filter, get_or, Option, Some, None}
+use Rattle.hsms_capture.specs.Wire.{End, passive, other, same_end, Cell, syn, octet, fin, Placed, Turn, acknowledges, is_open, told_turns, earlier, Shown, shows_of}
 use Rattle.hsms_capture.specs.Message.{message_size}
 
 pub data Told : Type 0 where
@@ -26,10 +26,10 @@ entry_of d packet octets (octet n ∷ cs) = entry_of d packet (octets ++ (n ∷ 
 abbrev pub shown_entries : List Shown → List Entry
 shown_entries ss = flat_map (λ s. entry_of s.of s.at.packet [] s.cells) ss
 
--- a reset ends the connection at its turn, which is the last one that is told
-abbrev pub reset_entries : List Turn → List Entry
-reset_entries [] = []
-reset_entries (t ∷ ts) = if t.own.reset then (entry t.at.packet down ∷ []) else reset_entries ts
+-- a reset ends the connection at its turn, which is the last one that is told, where it is open
+abbrev pub reset_entries : Bool → List Turn → List Entry
+reset_entries opened [] = []
+reset_entries opened (t ∷ ts) = if t.own.reset && (opened || is_open t) then (entry t.at.packet down ∷ []) else reset_entries (opened || is_open t) ts
 
 -- a Separate, by the octets of PType and SType behind those of the length
 abbrev pub is_separate : List ℕ → Bool
@@ -75,7 +75,7 @@ behind_up None es = []
 behind_up (Some k) es = entry k up ∷ up_to_down (filter (λ e. nat_le k e.packet) es) None
 
 abbrev pub told_by : List Entry → List Turn → List Entry
-told_by es ts = behind_up (earlier (answered_at ts) (first_message es)) (es ++ reset_entries ts)
+told_by es ts = behind_up (earlier (answered_at ts) (first_message es)) (es ++ reset_entries false ts)
 
 abbrev pub tells : List Placed → List Entry
 tells ps = told_by (shown_entries (shows_of message_size ps)) (told_turns ps)

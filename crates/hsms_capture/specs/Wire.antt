@@ -231,13 +231,18 @@ abbrev pub is_before : Option ℕ → Turn → Bool
 is_before None t = true
 is_before (Some k) t = nat_lt t.at.packet k
 
--- a reset ends both streams
-abbrev pub up_to_reset : List Turn → List Turn
-up_to_reset [] = []
-up_to_reset (t ∷ ts) = if t.own.reset then t ∷ [] else t ∷ up_to_reset ts
+-- The connection is open: the SYN of the passive end is acknowledged, or what stands behind a SYN is acknowledged or
+-- brought.
+abbrev pub is_open : Turn → Bool
+is_open t = nat_le 1 (acknowledges passive t) || nat_le 2 (acknowledges active t) || nat_le 2 (t.own.place + length t.own.cells)
+
+-- a reset ends both streams, where the connection is open; one before that ends nothing
+abbrev pub up_to_reset : Bool → List Turn → List Turn
+up_to_reset opened [] = []
+up_to_reset opened (t ∷ ts) = if t.own.reset && (opened || is_open t) then t ∷ [] else t ∷ up_to_reset (opened || is_open t) ts
 
 abbrev pub told_turns : List Placed → List Turn
-told_turns ps = up_to_reset (filter (is_before (breaks_off ps)) (turns [] ps))
+told_turns ps = up_to_reset false (filter (is_before (breaks_off ps)) (turns [] ps))
 
 -- ---- what is delivered at a turn: first what it acknowledges, then what it brings
 

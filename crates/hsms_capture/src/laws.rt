@@ -1,5 +1,6 @@
 //! What holds of the definitions, whatever the code does.
 
+ghost use Rattle.hsms_capture.specs.Known.{TurnsGoOn};
 ghost use Rattle.hsms_capture.specs.Laws.{AbsorbGivesTheEnd, EndGoesOn, EndIsEnd, FrontOfCapture, LossIsSure, MessagesHaveSizes, NearestIsFound, NearestIsNear, NothingBehindALoss, OneEnd, QueueGoesOn, QueueStays, QueueTakes, SettledIsSure, StreamsAreKept};
 
 /// Spans that wait in the order of their places give the end of what is there.
@@ -20,6 +21,12 @@ pub fn a_queue_tells_the_turns()
     ensures frees { QueueGoesOn }
     ensures takes { QueueTakes }
     ensures stays { QueueStays }
+{}
+
+/// The turns that are told segment by segment, as [`Turns`](crate::Turns) tells them, are those of all segments.
+#[tactic(auto, using(crate::proofs::Stepped::turns_go_on))]
+pub fn segments_tell_the_turns()
+    ensures { TurnsGoOn }
 {}
 
 /// The messages of a direction are a front of its stream: none is left out, none made up.

@@ -2,18 +2,30 @@
 //!
 //! The definitions are in `specs/Wire.antt`: which octets of both directions are held, where the turn of each packet is,
 //! where something was lost, and which messages each end sent, in the order of cause. [`laws`] says what holds of them.
-//! The code has a few leaves so far: the places of octets ([`numbered_place`], [`acknowledged_place`]), the end of what
-//! is there without a gap ([`end_behind`]), and octets that hold nothing ([`only_asks`]).
+//! The code tells whose turn it is so far: [`Turns`] takes the segments of a connection, one after another; and where the
+//! capture lost something: [`Losses`] takes them by their places, and the ends behind each. Turns stand on
+//! the places of octets ([`numbered_place`], [`acknowledged_place`]) and on octets that hold nothing ([`only_asks`]);
+//! [`end_behind`] is the end of what is there without a gap, where octets wait. [`Held`] holds the cells of a direction by
+//! their places, of two copies the first, and tells a later copy that differs and the message at the front.
 #![tactic(auto)]
 
 mod asking;
+mod early;
+mod held;
 pub mod laws;
+mod losses;
+mod packet;
 mod place;
+mod turns;
 mod waiting;
 pub mod worked;
 
 pub use asking::{Flags, only_asks};
+pub use held::{Cell, Held, HeldFault};
+pub use losses::{BothEnds, Losses, Need};
+pub use packet::{Packet, Segment, Side};
 pub use place::{acknowledged_place, nearest_place, numbered_place};
+pub use turns::{Turns, TurnsFault};
 pub use waiting::{Span, end_behind};
 
 #[cfg(test)]

@@ -1,6 +1,6 @@
 //! Places of octets in a stream.
 
-ghost use Rattle.std.specs.Prelude.{◌≡◌, ◌<◌, ◌^◌};
+ghost use Rattle.std.specs.Prelude.{◌≡◌, ◌<◌, ◌≤◌, ◌+◌, ◌^◌, IfSome};
 ghost use Rattle.hsms_capture.specs.Wire.{acknowledged_at, nearest, place_of};
 
 // Places are told apart as far as this from one that is known.
@@ -10,7 +10,8 @@ const REACH: u64 = 1 << 26;
 /// behind 2^32. None is told that is farther than 2^26.
 pub fn nearest_place(known: u64, number: u32) -> Option<u64>
     requires { known < 2 ^ 63 }
-    ensures { result ≡ nearest known number }
+    ensures place { result ≡ nearest known number }
+    ensures near { IfSome result (λ place. place ≤ known + 2 ^ 26) }
 {
     let ahead = (u64::from(number) + 4294967296 - known % 4294967296) % 4294967296;
     if ahead <= REACH {
@@ -25,7 +26,8 @@ pub fn nearest_place(known: u64, number: u32) -> Option<u64>
 /// The place that a number of TCP has in a stream whose SYN has the number `base`: the nearest to a place that is known.
 pub fn numbered_place(base: u32, known: u64, number: u32) -> Option<u64>
     requires { known < 2 ^ 63 }
-    ensures { result ≡ place_of known base number }
+    ensures place { result ≡ place_of known base number }
+    ensures near { IfSome result (λ place. place ≤ known + 2 ^ 26) }
 {
     nearest_place(known, number.wrapping_sub(base))
 }

@@ -1,6 +1,8 @@
 //! Places and ends whose numbers are written out.
 
 use super::*;
+use std::alloc::{AllocError, Global};
+use std::process::Abort;
 
 #[test]
 fn numbers_that_begin_again(rt: std::rt::HostRuntime) {
@@ -55,4 +57,161 @@ fn octets_that_ask(rt: std::rt::HostRuntime) {
     assert!(rt; !only_asks(5, 4, plain, [0, 0].as_slice()));
     assert!(rt; !only_asks(5, 4, pushed, [0].as_slice()));
     assert!(rt; !only_asks(5, 4, last, [0].as_slice()));
+}
+
+fn sent(from: Side, packet: u64, number: u32, acknowledged: Option<u32>) -> Segment {
+    Segment {
+        from,
+        packet,
+        time: packet,
+        number,
+        acknowledged,
+        flags: Flags {
+            syn: number == 1000,
+            fin: false,
+            pushed: true,
+        },
+        reset: false,
+    }
+}
+
+// Both SYNs have the number 1000. The packets whose turn it was are told by their numbers.
+fn told_numbers(
+    rt: &impl Abort,
+    alloc: Global,
+    segments: &[(Segment, &[u8])],
+    wanted: &[u64],
+) -> Result<(), TurnsFault> {
+    let mut turns = Turns::new(alloc, 1000, 1000);
+    let mut told = Vec::new(alloc);
+    for (segment, octets) in segments {
+        turns.take(*segment, octets, &mut told)?;
+    }
+    assert!(rt; told.len() == wanted.len());
+    for (packet, number) in told.iter().zip(wanted.iter()) {
+        assert!(rt; packet.packet == *number);
+    }
+    Ok(())
+}
+
+#[test]
+fn turns_of_packets(rt: std::rt::HostRuntime) -> Result<(), TurnsFault> {
+    let none: &[u8] = [].as_slice();
+    let one = [7].as_slice();
+    let two = [8, 9].as_slice();
+    let ahead = [
+        (sent(Side::Active, 1, 1000, None), none),
+        (sent(Side::Passive, 2, 1000, Some(1001)), none),
+        (sent(Side::Active, 3, 1003, Some(1001)), two),
+        (sent(Side::Active, 4, 1002, Some(1001)), one),
+        (sent(Side::Passive, 5, 1001, Some(1001)), none),
+        (sent(Side::Active, 6, 1001, Some(1001)), one),
+        (sent(Side::Active, 7, 500_000_000, Some(1001)), one),
+    ];
+    told_numbers(
+        &rt,
+        rt.alloc(),
+        ahead.as_slice(),
+        [1, 2, 5, 6, 4, 3].as_slice(),
+    )
+}
+
+fn brings(packet: u64, acknowledged: u64) -> Packet {
+    Packet {
+        packet,
+        time: packet,
+        from: 5,
+        to: 5,
+        acknowledged: Some(acknowledged),
+        reset: false,
+    }
+}
+
+// What packet 9 acknowledges isn't there, and 4,096 packets follow.
+fn loses_what_packet_nine_needs(rt: &impl Abort, alloc: Global) -> Result<(), AllocError> {
+    let mut losses = Losses::new(alloc);
+    let ends = BothEnds {
+        active: 5,
+        passive: 5,
+    };
+    let settled = losses.take(Side::Passive, brings(8, 5), ends)?;
+    assert!(rt; settled.is_none());
+    assert!(rt; losses.first().is_none());
+    for number in 9..4105 {
+        let acknowledged = if number == 9 { 6 } else { 5 };
+        let early = losses.take(Side::Active, brings(number, acknowledged), ends)?;
+        assert!(rt; early.is_none());
+    }
+    assert!(rt; losses.first() == Some(9));
+    let lost = losses.take(Side::Active, brings(4105, 5), ends)?;
+    assert!(rt; lost == Some(9));
+    Ok(())
+}
+
+#[test]
+fn loss_of_an_octet(rt: std::rt::HostRuntime) -> Result<(), AllocError> {
+    loses_what_packet_nine_needs(&rt, rt.alloc())
+}
+
+// A SYN and the octets 7, 8 and 9, of which 8 is captured first, and again with another value.
+fn holds_first_copies(rt: &impl Abort, alloc: Global) -> Result<(), HeldFault> {
+    let plain = Flags {
+        syn: false,
+        fin: false,
+        pushed: true,
+    };
+    let opens = Flags {
+        syn: true,
+        fin: false,
+        pushed: false,
+    };
+    let mut held = Held::new(alloc);
+    held.put(2, plain, [8].as_slice())?;
+    held.put(0, opens, [7, 0, 9].as_slice())?;
+    assert!(rt; held.cell(0) == Some(Cell::Syn));
+    assert!(rt; held.cell(1) == Some(Cell::Octet(7)));
+    assert!(rt; held.cell(2) == Some(Cell::Octet(8)));
+    assert!(rt; held.cell(3) == Some(Cell::Octet(9)));
+    assert!(rt; held.cell(4).is_none());
+    assert!(rt; held.contradicts(1, 1, plain, [7, 0].as_slice()));
+    assert!(rt; !held.contradicts(1, 1, plain, [7, 8, 9, 10].as_slice()));
+    assert!(rt; !held.contradicts(3, 1, plain, [7, 0, 9].as_slice()));
+    held.pass(3);
+    assert!(rt; held.cell(2).is_none());
+    assert!(rt; held.cell(3) == Some(Cell::Octet(9)));
+    assert!(rt; held.put(67108867, plain, [1].as_slice()) == Err(HeldFault::Full));
+    Ok(())
+}
+
+#[test]
+fn first_copies_of_octets(rt: std::rt::HostRuntime) -> Result<(), HeldFault> {
+    holds_first_copies(&rt, rt.alloc())
+}
+
+// A SYN, and a message of a length of 2 whose last octet is captured later.
+fn cuts_a_message(rt: &impl Abort, alloc: Global) -> Result<(), HeldFault> {
+    let plain = Flags {
+        syn: false,
+        fin: false,
+        pushed: true,
+    };
+    let opens = Flags {
+        syn: true,
+        fin: false,
+        pushed: false,
+    };
+    let mut held = Held::new(alloc);
+    held.put(0, opens, [0, 0, 0, 2, 7].as_slice())?;
+    assert!(rt; held.front(6) == Some(1));
+    held.pass(1);
+    assert!(rt; held.front(7).is_none());
+    held.put(6, plain, [8].as_slice())?;
+    assert!(rt; held.front(6).is_none());
+    assert!(rt; held.front(7) == Some(6));
+    Ok(())
+}
+
+#[test]
+fn messages_at_the_front(rt: std::rt::HostRuntime) -> Result<(), HeldFault> {
+    cuts_a_message(&rt, rt.alloc())
 }

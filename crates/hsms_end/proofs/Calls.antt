@@ -1,5 +1,5 @@
 -- What the calls of an end answer.
-use Rattle.std.proofs.Common.{◌≡◌, ℕ, ◌<◌, ◌≤◌, Bool, true, false, List, [], ◌∷◌, Some, None, refl, sym, subst, ◌∙◌, inl, inr, arith}
+use Rattle.std.proofs.Common.{◌≡◌, ℕ, max, ◌<◌, ◌≤◌, Bool, true, false, List, [], ◌∷◌, Some, None, refl, sym, subst, ◌∙◌, inl, inr, arith}
 use Rattle.secs_text.specs.Content.{Content}
 use Rattle.hsms_machine.specs.declared.entry.Entry.{Entry}
 use Rattle.hsms_machine.specs.declared.entry.Event.TheVariants.{Down}
@@ -96,9 +96,10 @@ unfolding Meets
 start_meets spent end now s u =
     inr (not_spent spent s, inr (up_is_up (is_before end.tracker.phase) u, inr ((λ b. b), inr ((λ b. b), inr ((λ b. b), inr ((λ b. let d : false ≡ true = b.0 in cc), inr ((λ b. b), inr ((λ b. b), refl))))))))
 
-pub started : {D : Type 0} (answers : D → Content → Answered) (desk : D) (end end' : State) (spent : Bool) (at : EndOf D) (now : ℕ) (first entries : List Entry) → spent ≡ false → inside_of desk end spent ≡ at → first ≡ [] → is_before end.tracker.phase ≡ true → Does (record end { moment = now }) first (opening_of end.settings.link) end' entries → Accepts answers at (start now) entries (inside_of desk end' false)
-started answers desk end end' spent at now first entries fresh is empty before h =
-    accepted answers desk end (record end { moment = now }) end' spent at (start now) (opening_of end.settings.link) first entries fresh is empty (start_meets spent end now fresh before) refl (λ es k h. h) h
+pub started : {D : Type 0} (answers : D → Content → Answered) (desk : D) (end end' : State) (spent : Bool) (at : EndOf D) (now moment : ℕ) (first entries : List Entry) → moment ≡ max end.moment now → spent ≡ false → inside_of desk end spent ≡ at → first ≡ [] → is_before end.tracker.phase ≡ true → Does (record end { moment = moment }) first (opening_of end.settings.link) end' entries → Accepts answers at (start now) entries (inside_of desk end' false)
+started answers desk end end' spent at now moment first entries later fresh is empty before h =
+    accepted answers desk end (record end { moment = max end.moment now }) end' spent at (start now) (opening_of end.settings.link) first entries fresh is empty (start_meets spent end now fresh before) refl (λ es k h. h)
+    (subst (λ (m : ℕ). Does (record end { moment = m }) first (opening_of end.settings.link) end' entries) later h)
 
 -- ---- lost, separate and linktest
 

@@ -199,7 +199,7 @@ quiet_turn acts end from entries end' none h same = append-nil end.pending ∙ s
 
 pub turn_keeps_octets : (desk : Content → Answered) (end : Known) (input : Told) (entries : List Entry) (end' : Known) → Turn desk end input entries end' → end.pending ++ octets_of input ≡ octets_received entries ++ end'.pending
 turn_keeps_octets desk end (start now) entries end' h =
-    quiet_turn (opening_of end.settings.link) end (record end { moment = now }) entries end' (opening_none end.settings.link) h refl
+    quiet_turn (opening_of end.settings.link) end (record end { moment = max end.moment now }) entries end' (opening_none end.settings.link) h refl
 turn_keeps_octets desk end (tick now) entries end' h =
     let later : Known = record end { moment = max end.moment now } in
     quiet_turn (expiries later) end later entries end' (expiries_none later) h refl

@@ -189,7 +189,7 @@ module _ (one_answer : OneAnswerToPending) (one_text : OneText) (desk : Content 
 module _ (one_answer : OneAnswerToPending) (one_text : OneText) where
   pub turn_has_one_outcome : (desk : Content → Answered) (end : Known) (input : Told) (one other : List Entry) (end' end'' : Known) → Turn desk end input one end' → Turn desk end input other end'' → (one ≡ other) × (end' ≡ end'')
   turn_has_one_outcome desk end (start now) one other end' end'' h k =
-      acts_have_one_outcome (record end { moment = now }) (opening_of end.settings.link) one other end' end'' h k
+      acts_have_one_outcome (record end { moment = max end.moment now }) (opening_of end.settings.link) one other end' end'' h k
   turn_has_one_outcome desk end (tick now) one other end' end'' h k =
       let later : Known = record end { moment = max end.moment now } in
       acts_have_one_outcome later (expiries later) one other end' end'' h k

@@ -289,12 +289,10 @@ selected_of phase.Gone e = absurd (let d : false ≡ true = e in cc)
 
 -- ---- what may follow a frame that was judged
 
-pub can_take : (end : State) (frame given : Frame) (answer : Option Rule) → IsSound end → is_up end.tracker.phase ≡ true → answer ≡ None → given ≡ frame → BreaksAsTaken end.tracker frame answer → IsLawful end (received_as frame answer) → CanTake end given
-can_take end frame given answer sound up none same broken lawful =
-    subst (λ (f : Frame). CanTake end f) (sym same)
-    (record { owing = sound_owing end sound up; lawful = subst (λ (a : Option Rule). IsLawful end (received_as frame a)) none lawful; broken = subst (λ (a : Option Rule). BreaksAsTaken end.tracker frame a) none broken })
+pub can_take : (end : State) (frame : Frame) (answer : Option Rule) → IsSound end → is_up end.tracker.phase ≡ true → answer ≡ None → BreaksAsTaken end.tracker frame answer → IsLawful end (received_as frame answer) → CanTake end frame
+can_take end frame answer sound up none broken lawful =
+    record { owing = sound_owing end sound up; lawful = subst (λ (a : Option Rule). IsLawful end (received_as frame a)) none lawful; broken = subst (λ (a : Option Rule). BreaksAsTaken end.tracker frame a) none broken }
 
-pub can_discard : (end : State) (frame given : Frame) (answer : Option Rule) (rule : Rule) → IsSound end → is_up end.tracker.phase ≡ true → answer ≡ Some rule → given ≡ frame → BreaksAsTaken end.tracker frame answer → IsLawful end (received_as frame answer) → CanDiscard end given rule
-can_discard end frame given answer rule sound up some same broken lawful =
-    subst (λ (f : Frame). CanDiscard end f rule) (sym same)
-    (record { owing = sound_owing end sound up; lawful = subst (λ (a : Option Rule). IsLawful end (received_as frame a)) some lawful; broken = subst (λ (a : Option Rule). BreaksAsTaken end.tracker frame a) some broken })
+pub can_discard : (end : State) (frame : Frame) (answer : Option Rule) (rule : Rule) → IsSound end → is_up end.tracker.phase ≡ true → answer ≡ Some rule → BreaksAsTaken end.tracker frame answer → IsLawful end (received_as frame answer) → CanDiscard end frame rule
+can_discard end frame answer rule sound up some broken lawful =
+    record { owing = sound_owing end sound up; lawful = subst (λ (a : Option Rule). IsLawful end (received_as frame a)) some lawful; broken = subst (λ (a : Option Rule). BreaksAsTaken end.tracker frame a) some broken }

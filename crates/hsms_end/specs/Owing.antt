@@ -84,10 +84,6 @@ pub record IsReplyTo (settings : Parameters) (primary : Header) (frame : Frame) 
   pub size : 10 + length frame.text ≤ settings.max
   pub text : IsText settings.depth frame.text
 
-abbrev pub is_taken : Event → Bool
-is_taken (Taken frame) = true
-is_taken _ = false
-
 -- a message of this kind is taken without a reaction
 abbrev pub is_silent : Kind → Bool
 is_silent Primary = false

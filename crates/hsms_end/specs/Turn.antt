@@ -193,7 +193,7 @@ Sends end message entries end' =
 -- the input gives these new entries, and leads from one end to the other
 abbrev pub Turn : (Content → Answered) → Known → Told → List Entry → Known → Type 0
 Turn desk end (start now) entries end' =
-    Acts (record end { moment = now }) (opening_of end.settings.link) entries end'
+    Acts (record end { moment = max end.moment now }) (opening_of end.settings.link) entries end'
 Turn desk end (tick now) entries end' =
     let later = record end { moment = max end.moment now } in Acts later (expiries later) entries end'
 Turn desk end (bytes octets) entries end' =

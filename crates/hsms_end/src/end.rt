@@ -38,7 +38,7 @@ impl<D> Model for End<D> {
 impl<D: Desk> End<D> {
     ghost use Rattle.std.specs.Prelude.{◌≡◌, MatchResult};
     ghost use Rattle.hsms_machine.specs.View.{own_open_of};
-    ghost use Rattle.hsms_end.specs.Known.{untold};
+    ghost use Rattle.hsms_end.specs.Known.{untold, untold_since};
     ghost use Rattle.hsms_end.specs.Due.{next_due};
     ghost use Rattle.hsms_end.specs.End.{Accepts, Refuses};
     ghost use Rattle.secs_text.specs.View.{content};
@@ -46,9 +46,23 @@ impl<D: Desk> End<D> {
 
     /// An end that was told nothing yet. Its own system bytes are counted from the first number on (SEMI E37, section
     /// 8, message format). Takes no memory; the calls take theirs from this allocator.
-    #[tactic(auto, unfolding(hsms_machine::specs::Entry::connection_of))]
     pub fn new(alloc: Global, settings: Settings, desk: D, first_system: u32) -> End<D>
         ensures { result ≡ record { desk = desk; known = untold settings first_system } }
+    {
+        Self::since(alloc, settings, desk, first_system, 0)
+    }
+
+    /// An end that was told nothing yet, and starts no earlier than at this moment, in milliseconds: what comes up after
+    /// another connection. Takes no memory.
+    #[tactic(auto, unfolding(hsms_machine::specs::Entry::connection_of))]
+    pub fn since(
+        alloc: Global,
+        settings: Settings,
+        desk: D,
+        first_system: u32,
+        moment: u64,
+    ) -> End<D>
+        ensures { result ≡ record { desk = desk; known = untold_since settings first_system moment } }
     {
         End {
             alloc,
@@ -57,7 +71,7 @@ impl<D: Desk> End<D> {
                 settings,
                 tracker: Tracker::new(alloc, settings),
                 framer: Framer::new(alloc, settings.max()),
-                moment: 0,
+                moment,
                 next: first_system,
                 heard: 0,
             },
@@ -70,6 +84,13 @@ impl<D: Desk> End<D> {
         ensures { result ≡ self.now.known.view.phase }
     {
         self.state.tracker.phase()
+    }
+
+    /// The time of the last entry, or 0 where there is none. Takes no memory.
+    pub fn last_time(&self) -> u64
+        ensures { result ≡ self.now.known.view.last_time }
+    {
+        self.state.tracker.last_time()
     }
 
     /// How many own transactions are open: primaries that ask for a reply, Select.req and Linktest.req. Takes no
@@ -96,8 +117,8 @@ impl<D: Desk> End<D> {
         self.state.next_due()
     }
 
-    /// The connection came up at this moment, in milliseconds. An active end asks for a session by Select.req (SEMI
-    /// E37, section 7, select procedure).
+    /// The connection came up at this moment, in milliseconds, or at the end's own where that is later. An active end
+    /// asks for a session by Select.req (SEMI E37, section 7, select procedure).
     ///
     /// # Errors
     ///
@@ -117,7 +138,8 @@ impl<D: Desk> End<D> {
         self.spent = true;
         let alloc = self.alloc;
         let mut entries = Vec::new(alloc);
-        match self.state.start(alloc, &mut entries, now) {
+        let moment = self.state.moment.max(now);
+        match self.state.start(alloc, &mut entries, moment) {
             Ok(()) => {
                 self.spent = false;
                 Ok(entries)

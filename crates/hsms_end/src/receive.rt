@@ -1,20 +1,17 @@
 //! What received octets lead to.
 
 ghost use Rattle.std.specs.Prelude.{◌≡◌};
-ghost use Rattle.hsms_frame.specs.Frame.{Frame as FrameValue};
-ghost use Rattle.std.specs.Prelude.{true};
 ghost use Rattle.hsms_machine.specs.declared.entry.Event.TheVariants.{Taken};
-ghost use Rattle.hsms_end.specs.Owing.{is_taken};
 
 use crate::answer::Desk;
 use crate::fault::EndFault;
 use crate::state::State;
 use hsms_frame::{Frame, FrameFault, Header};
-use hsms_machine::{Cause, Entry, Event, Rule};
+use hsms_machine::{Cause, Entry, EntryRef, Event, Mark, Rule};
 use std::alloc::Global;
 
 impl State {
-    ghost use Rattle.std.specs.Prelude.{◌++◌, [], ◌∷◌, true, OnOk, IfOk, IfErr};
+    ghost use Rattle.std.specs.Prelude.{◌≡◌, ◌++◌, [], ◌∷◌, true, OnOk, IfOk, IfErr};
     ghost use Rattle.hsms_frame.specs.Framing.{FramesAs};
     ghost use Rattle.hsms_end.specs.declared.fault.EndFault.TheVariants.{Memory};
     ghost use Rattle.hsms_end.specs.Act.{logs, asks};
@@ -59,21 +56,14 @@ impl State {
         self.framer.next()
     }
 
-    /// The first rule that a received frame would break as a taken one, and the frame itself.
-    fn judge(&self, frame: Frame) -> (Option<Rule>, Frame)
+    /// The first rule that a received frame would break as a taken one.
+    fn judge(&self, frame: &Frame) -> Option<Rule>
         requires sound { IsSound self.now }
         requires up { is_connection_up self.now.tracker.phase ≡ true }
-        ensures frame { result.1 ≡ frame }
-        ensures broken { BreaksAsTaken self.now.tracker frame result.0 }
-        ensures lawful { IsLawful self.now (received_as frame result.0) }
+        ensures broken { BreaksAsTaken self.now.tracker frame.now result }
+        ensures lawful { IsLawful self.now (received_as frame.now result) }
     {
-        let entry = Entry {
-            time: self.moment,
-            event: Event::Taken(frame),
-        };
-        let broken = self.tracker.check(&entry);
-        let Entry { event, .. } = entry;
-        (broken, frame_of(event))
+        self.tracker.check_ref(&taken_at(self.moment, frame))
     }
 
     /// Logs a message that was taken off the front as taken or discarded, and reacts to it.
@@ -91,8 +81,7 @@ impl State {
         ensures octets { OnOk result (self.new.framer ≡ self.old.framer) }
         ensures memory { IfErr result (λ fault. fault ≡ Memory) }
     {
-        let (broken, frame) = self.judge(frame);
-        match broken {
+        match self.judge(&frame) {
             None => self.take(alloc, desk, entries, frame)?,
             Some(rule) => self.discard(alloc, entries, frame, rule)?,
         }
@@ -134,18 +123,9 @@ impl State {
     }
 }
 
-/// The frame that an event takes.
-fn frame_of(event: Event) -> Frame
-    requires { is_taken event ≡ true }
-    ensures { (frame : FrameValue) → event ≡ Taken frame → result ≡ frame }
+/// The entry of a frame that is taken.
+fn taken_at<'a>(time: u64, frame: &'a Frame) -> EntryRef<'a>
+    ensures { result ≡ record { time = time; event = Taken frame.now } }
 {
-    match event {
-        Event::Taken(frame) => frame,
-        Event::Up
-        | Event::Sent(_)
-        | Event::Discarded(_)
-        | Event::T3(_)
-        | Event::Cut(_)
-        | Event::Down => unreachable!(),
-    }
+    EntryRef::of_frame(time, Mark::Taken, frame.header, frame.text.as_slice())
 }

@@ -22,7 +22,7 @@ use Rattle.hsms_ends.specs.Link.{Told, Heard, Hears}
 use Rattle.hsms_ends.specs.PutOut.{GrowsByPart, LogGrows, IsEnding, sent_octets, log_lines}
 use Rattle.hsms_ends.specs.Turning.{has_gone}
 use Rattle.hsms_ends.specs.Serving.{Story, Unopened, Unstarted, Started, IsStory, IsLost, IsStarted, has_lost, lost_entries, last_lost, last_call, entries_of, heard_of, turns_begun, MayHaveFailed}
-use Rattle.hsms_ends.specs.Outcome.{Ran, ClosedAs, ClosedLink, RestClosed, StoppedAs, AnswersEnd, HoldsLines, ServesEnd}
+use Rattle.hsms_ends.specs.Outcome.{Ran, ClosedAs, IsLeft, ClosedLink, RestClosed, StoppedAs, AnswersEnd, HoldsLines, ServesEnd}
 use Rattle.hsms_ends.proofs.Puttings.{lines-append, sent-append, part_of_first, log_then, stops_then, grows_along, whole_is}
 use Rattle.hsms_ends.proofs.Yielding.{ending_none}
 use Rattle.hsms_ends.proofs.Downs.{gone_after}
@@ -102,7 +102,7 @@ module _ {D : Type 0} (answers : D → Content → Answered) where
 
   pub end_ok : (served : Served) (limit : ℕ) (new end : EndOf D) (script : List Step) (log log' : SinkState) (link link' : Told) (n m : ℕ)
       → Ran answers (Ok tt) limit new end script log log' link link' n m → has_gone end ≡ true → served.entries ≡ n → served.refused ≡ m
-      → ServesEnd answers new script limit (Ok served) log log' link link'
+      → ServesEnd answers new end script limit (Ok served) log log' link link'
   end_ok served limit new end script log log' link link' n m r gone entries refused = record {
     story = r.story;
     last = r.end';
@@ -121,11 +121,12 @@ module _ {D : Type 0} (answers : D → Content → Answered) where
     failures = r.puts.sent.1;
     failed_is = refl;
     lost_is = no_lost r.story r.not_lost;
+    left = r.leads;
   }
 
   pub end_turns : (limit : ℕ) (new end : EndOf D) (script : List Step) (log log' : SinkState) (link link' : Told) (n m : ℕ)
       → Ran answers (Ok tt) limit new end script log log' link link' n m → has_gone end ≡ false
-      → ServesEnd answers new script limit (Err serve.Turns) log log' link link'
+      → ServesEnd answers new end script limit (Err serve.Turns) log log' link link'
   end_turns limit new end script log log' link link' n m r up =
       let here = ap (λ (e : EndOf D). has_gone e) (sym r.leads) ∙ up in
       record {
@@ -146,6 +147,7 @@ module _ {D : Type 0} (answers : D → Content → Answered) where
         failures = r.puts.sent.1;
         failed_is = refl;
         lost_is = no_lost r.story r.not_lost;
+        left = r.leads;
       }
 
   extend : (new mid end : EndOf D) (script : List Step) (story : Story) (loss : Option (List Entry)) → has_lost story ≡ false → IsStarted story → IsStory answers new script story mid → IsLost answers mid loss end → Extended answers new script story loss end
@@ -162,10 +164,16 @@ module _ {D : Type 0} (answers : D → Content → Answered) where
     started = tt;
   }
 
-  ended_link : (fault : ServeFault) (limit : ℕ) (new end : EndOf D) (script : List Step) (log mid log' : SinkState) (link link' : Told) (n m : ℕ)
-      → Ran answers (Err Link) limit new end script log mid link link' n m → ClosedLink answers fault end mid log'
-      → ServesEnd answers new script limit (Err fault) log log' link link'
-  ended_link fault limit new end script log mid log' link link' n m r h =
+  pub left_itself : (fault : ServeFault) (end : EndOf D) → IsLeft (Err fault) end end
+  left_itself serve.Link end = refl
+  left_itself serve.Turns end = refl
+  left_itself serve.Log end = tt
+  left_itself serve.Memory end = tt
+
+  ended_link : (fault : ServeFault) (limit : ℕ) (new end end_new : EndOf D) (script : List Step) (log mid log' : SinkState) (link link' : Told) (n m : ℕ)
+      → Ran answers (Err Link) limit new end script log mid link link' n m → ClosedLink answers fault end end_new mid log'
+      → ServesEnd answers new end_new script limit (Err fault) log log' link link'
+  ended_link fault limit new end end_new script log mid log' link link' n m r h =
       let P : EndOf D → Type 0 = λ e. IsLost answers e h.loss h.end' in
       let x = extend new r.end' h.end' script r.story h.loss r.not_lost r.started r.is_story (subst P r.leads h.is_lost) in
       let a = entries_of r.story in
@@ -199,15 +207,16 @@ module _ {D : Type 0} (answers : D → Content → Answered) where
         failures = r.puts.sent.1;
         failed_is = link_failed fault h.end' h.loss mid log' h.closed;
         lost_is = λ _. refl;
+        left = h.left;
       }
 
-  pub ended : (stop : Stop) (fault : ServeFault) (limit : ℕ) (new end : EndOf D) (script : List Step) (log mid log' : SinkState) (link link' : Told) (n m : ℕ)
-      → Ran answers (Err stop) limit new end script log mid link link' n m → StoppedAs answers stop fault end mid log'
-      → ServesEnd answers new script limit (Err fault) log log' link link'
-  ended Link fault limit new end script log mid log' link link' n m r h = ended_link fault limit new end script log mid log' link link' n m r h
-  ended Memory fault limit new end script log mid log' link link' n m r h =
-      let F : ServeFault → Type 0 = λ f. ServesEnd answers new script limit (Err f) log log' link link' in
-      let L : SinkState → Type 0 = λ l. ServesEnd answers new script limit (Err serve.Memory) log l link link' in
+  pub ended : (stop : Stop) (fault : ServeFault) (limit : ℕ) (new end end_new : EndOf D) (script : List Step) (log mid log' : SinkState) (link link' : Told) (n m : ℕ)
+      → Ran answers (Err stop) limit new end script log mid link link' n m → StoppedAs answers stop fault end end_new mid log'
+      → ServesEnd answers new end_new script limit (Err fault) log log' link link'
+  ended Link fault limit new end end_new script log mid log' link link' n m r h = ended_link fault limit new end end_new script log mid log' link link' n m r h
+  ended Memory fault limit new end end_new script log mid log' link link' n m r h =
+      let F : ServeFault → Type 0 = λ f. ServesEnd answers new end_new script limit (Err f) log log' link link' in
+      let L : SinkState → Type 0 = λ l. ServesEnd answers new end_new script limit (Err serve.Memory) log l link link' in
       subst F (sym h.0) (subst L (sym h.1) (record {
         story = r.story;
         last = r.end';
@@ -226,10 +235,11 @@ module _ {D : Type 0} (answers : D → Content → Answered) where
         failures = r.puts.sent.1;
         failed_is = tt;
         lost_is = no_lost r.story r.not_lost;
+        left = tt;
       }))
-  ended Log fault limit new end script log mid log' link link' n m r h =
-      let F : ServeFault → Type 0 = λ f. ServesEnd answers new script limit (Err f) log log' link link' in
-      let L : SinkState → Type 0 = λ l. ServesEnd answers new script limit (Err serve.Log) log l link link' in
+  ended Log fault limit new end end_new script log mid log' link link' n m r h =
+      let F : ServeFault → Type 0 = λ f. ServesEnd answers new end_new script limit (Err f) log log' link link' in
+      let L : SinkState → Type 0 = λ l. ServesEnd answers new end_new script limit (Err serve.Log) log l link link' in
       subst F (sym h.0) (subst L (sym h.1) (elim r.puts.sent [
         | inl all ↦ record {
           story = r.story;
@@ -249,6 +259,7 @@ module _ {D : Type 0} (answers : D → Content → Answered) where
           failures = all.1;
           failed_is = tt;
           lost_is = no_lost r.story r.not_lost;
+          left = tt;
         }
         | inr part ↦ record {
           story = r.story;
@@ -268,5 +279,6 @@ module _ {D : Type 0} (answers : D → Content → Answered) where
           failures = part.1;
           failed_is = tt;
           lost_is = no_lost r.story r.not_lost;
+          left = tt;
         }
       ]))

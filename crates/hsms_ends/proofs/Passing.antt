@@ -24,7 +24,7 @@ use Rattle.hsms_log.specs.Log.{LogText, written_log}
 use Rattle.hsms_log.specs.Verdict.{Judges, summary_of}
 use Rattle.hsms_log.proofs.WrittenLog.{log_written}
 use Rattle.hsms_end.specs.Answer.{Answered}
-use Rattle.hsms_end.specs.Known.{EndOf, untold}
+use Rattle.hsms_end.specs.Known.{EndOf, untold, untold_since}
 use Rattle.hsms_end.specs.Turn.{Told as Input}
 use Rattle.hsms_end.specs.End.{Accepts}
 use Rattle.hsms_ends.specs.declared.step.Step.{Step}
@@ -121,18 +121,18 @@ module _ {D : Type 0} (answers : D → Content → Answered) where
         sized = All-append (λ (entry : Entry). IsDiscardSized s.max entry.event) before entries p.sized (subst R p.settings kept.sized);
       }
 
-  reached_new : (desk : D) (s : Parameters) (first_system : ℕ) → IsReached s [] (record { desk = desk; known = untold s first_system })
-  reached_new desk s first_system =
+  reached_new : (desk : D) (s : Parameters) (first_system since : ℕ) → IsReached s [] (record { desk = desk; known = untold_since s first_system since })
+  reached_new desk s first_system since =
       record { seen = record { run = empty_run s; seen = refl }; settings = refl; sized = All-nil (λ (entry : Entry). IsDiscardSized s.max entry.event) }
 
-  reached : (desk : D) (s : Parameters) (first_system : ℕ) (script : List Step) (story : Story) (last : EndOf D)
-      → IsStory answers (record { desk = desk; known = untold s first_system }) script story last → IsReached s (entries_of story) last
-  reached desk s first_system script story last is =
+  pub reached : (desk : D) (s : Parameters) (first_system since : ℕ) (script : List Step) (story : Story) (last : EndOf D)
+      → IsStory answers (record { desk = desk; known = untold_since s first_system since }) script story last → IsReached s (entries_of story) last
+  reached desk s first_system since script story last is =
       let P : List Entry → EndOf D → Type 0 = λ before end. IsReached s before end in
       along_story answers P (λ before end input entries end' p h. reached_next s before end input entries end' p h)
-      (record { desk = desk; known = untold s first_system }) script story last (reached_new desk s first_system) is
+      (record { desk = desk; known = untold_since s first_system since }) script story last (reached_new desk s first_system since) is
 
-  answers_by : (limit : ℕ) (result : Result Served ServeFault) (story : Story) (last : EndOf D) → has_gone last ≡ ends_down (entries_of story) → AnswersEnd limit result story last → Answers limit result story
+  pub answers_by : (limit : ℕ) (result : Result Served ServeFault) (story : Story) (last : EndOf D) → has_gone last ≡ ends_down (entries_of story) → AnswersEnd limit result story last → Answers limit result story
   answers_by limit (Ok served) story last same h = (h.0, sym same ∙ h.1, h.2, h.3)
   answers_by limit (Err serve.Turns) story last same h = (h.0, h.1, sym same ∙ h.2)
   answers_by limit (Err serve.Link) story last same h = (h.0, sym same ∙ h.1)
@@ -158,12 +158,12 @@ module _ {D : Type 0} (answers : D → Content → Answered) where
   held_by (Err serve.Memory) story log log' s whole rest parted h = h
 
   -- the settings' line was written
-  pub opened : (desk : D) (s : Parameters) (first_system : ℕ) (script : List Step) (limit : ℕ) (result : Result Served ServeFault) (log mid log' : SinkState) (link link' : Told)
+  pub opened : (end_new : EndOf D) (desk : D) (s : Parameters) (first_system : ℕ) (script : List Step) (limit : ℕ) (result : Result Served ServeFault) (log mid log' : SinkState) (link link' : Told)
       → IsWithinLimits s → LogGrows log mid (settings_line s ++ 10 ∷ [])
-      → ServesEnd answers (record { desk = desk; known = untold s first_system }) script limit result mid log' link link'
+      → ServesEnd answers (record { desk = desk; known = untold s first_system }) end_new script limit result mid log' link link'
       → Serves answers (record { desk = desk; known = untold s first_system }) script limit result log log' link link'
-  opened desk s first_system script limit result log mid log' link link' within grows r =
-      let there = reached desk s first_system script r.story r.last r.is_story in
+  opened end_new desk s first_system script limit result log mid log' link link' within grows r =
+      let there = reached desk s first_system 0 script r.story r.last r.is_story in
       let H : List ℕ → Type 0 = λ l. HoldsLines result log log' l r.rest in
       let held : HoldsLines result log log' (written_log s r.whole) r.rest =
       subst H (append_assoc (settings_line s) (10 ∷ []) (log_lines r.whole)) (holds_then result log mid log' (settings_line s ++ 10 ∷ []) (log_lines r.whole) r.rest grows r.log_holds) in

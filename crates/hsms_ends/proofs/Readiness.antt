@@ -21,7 +21,7 @@ use Rattle.hsms_machine.specs.View.{HasView}
 use Rattle.hsms_machine.proofs.First.{none_head}
 use Rattle.hsms_machine.proofs.Runs.{empty_run}
 use Rattle.hsms_end.specs.Answer.{Answered}
-use Rattle.hsms_end.specs.Known.{EndOf, untold}
+use Rattle.hsms_end.specs.Known.{EndOf, untold_since}
 use Rattle.hsms_end.specs.Turn.{Told as Input}
 use Rattle.hsms_end.specs.End.{Accepts}
 use Rattle.hsms_ends.specs.PutOut.{FitsLengthField, AllFitLengthField}
@@ -123,5 +123,5 @@ module _ {D : Type 0} (answers : D → Content → Answered) where
       subst P (sym t.leads) (along_turn answers Q (λ before e input entries e' p h. ready_after e e' input entries p h) false [] end script t.turn t.end' script' ready t.is_turn)
 
 -- a new end is ready
-pub ready_new : {D : Type 0} (desk : D) (s : Parameters) (first_system : ℕ) → IsWithinLimits s → IsReady (record { desk = desk; known = untold s first_system })
-ready_new desk s first_system limits = record { within = limits; log = []; seen = record { run = empty_run s; seen = refl } }
+pub ready_new : {D : Type 0} (desk : D) (s : Parameters) (first_system since : ℕ) → IsWithinLimits s → IsReady (record { desk = desk; known = untold_since s first_system since })
+ready_new desk s first_system since limits = record { within = limits; log = []; seen = record { run = empty_run s; seen = refl } }

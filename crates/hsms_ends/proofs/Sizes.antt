@@ -116,7 +116,7 @@ from_kept end from entries end' same h =
 
 pub turn_kept : (desk : Content → Answered) (end : Known) (input : Told) (entries : List Entry) (end' : Known) → Turn desk end input entries end' → Keeps end entries end'
 turn_kept desk end (start now) entries end' h =
-    let from : Known = record end { moment = now } in
+    let from : Known = record end { moment = max end.moment now } in
     from_kept end from entries end' refl (acts_kept (opening_of end.settings.link) from entries end' (opening_none end.settings.link) h)
 turn_kept desk end (tick now) entries end' h =
     let later : Known = record end { moment = max end.moment now } in

@@ -5,3 +5,6 @@ pub mod Turning
 pub mod Serving
 pub mod Outcome
 pub mod Laws
+pub mod Again
+pub mod Onward
+pub mod Scripted

@@ -161,12 +161,21 @@ ClosedAs serve.Log end' loss log log' = LogFailsIn log log' (lost_entries loss)
 ClosedAs serve.Turns end' loss log log' = ⊥
 ClosedAs serve.Memory end' loss log log' = LogGrows log log' (log_lines (lost_entries loss))
 
-pub record ClosedLink {D : Type 0} (answers : D → Content → Answered) (fault : ServeFault) (end : EndOf D) (log log' : SinkState) : Type 0 where
+-- the end that there is afterwards is the last one; after the log's fault or want of memory it isn't used
+abbrev pub IsLeft : {D : Type 0} → Result Served ServeFault → EndOf D → EndOf D → Type 0
+IsLeft (Ok _) last end_new = end_new ≡ last
+IsLeft (Err serve.Link) last end_new = end_new ≡ last
+IsLeft (Err serve.Turns) last end_new = end_new ≡ last
+IsLeft (Err serve.Log) last end_new = Unit {0}
+IsLeft (Err serve.Memory) last end_new = Unit {0}
+
+pub record ClosedLink {D : Type 0} (answers : D → Content → Answered) (fault : ServeFault) (end end_new : EndOf D) (log log' : SinkState) : Type 0 where
   pub loss : Option (List Entry)
   pub end' : EndOf D
   pub is_lost : IsLost answers end loss end'
   pub closed : ClosedAs fault end' loss log log'
   pub in_range : All IsEntry (lost_entries loss)
+  pub left : IsLeft (Err fault) end' end_new
 
 -- the entries of `lost` were logged, or the log failed
 abbrev pub RestClosed : ServeFault → SinkState → SinkState → List Entry → Type 0
@@ -176,10 +185,10 @@ RestClosed serve.Turns log log' entries = ⊥
 RestClosed serve.Memory log log' entries = ⊥
 
 -- what is answered after a fault
-abbrev pub StoppedAs : {D : Type 0} → (D → Content → Answered) → Stop → ServeFault → EndOf D → SinkState → SinkState → Type 0
-StoppedAs answers Link fault end log log' = ClosedLink answers fault end log log'
-StoppedAs answers Log fault end log log' = (fault ≡ serve.Log) × (log' ≡ log)
-StoppedAs answers Memory fault end log log' = (fault ≡ serve.Memory) × (log' ≡ log)
+abbrev pub StoppedAs : {D : Type 0} → (D → Content → Answered) → Stop → ServeFault → EndOf D → EndOf D → SinkState → SinkState → Type 0
+StoppedAs answers Link fault end end_new log log' = ClosedLink answers fault end end_new log log'
+StoppedAs answers Log fault end end_new log log' = (fault ≡ serve.Log) × (log' ≡ log)
+StoppedAs answers Memory fault end end_new log log' = (fault ≡ serve.Memory) × (log' ≡ log)
 
 -- which story and which end an answer tells of
 abbrev pub AnswersEnd : {D : Type 0} → ℕ → Result Served ServeFault → Story → EndOf D → Type 0
@@ -201,7 +210,7 @@ HoldsLines (Err serve.Log) old new lines rest = LogStops old new lines rest
 HoldsLines (Err serve.Memory) old new lines rest = (rest ≡ []) × LogGrows old new lines
 
 -- a new end was served: what `serve` leaves, but for the settings' line
-pub record ServesEnd {D : Type 0} (answers : D → Content → Answered) (new : EndOf D) (script : List Step) (limit : ℕ) (result : Result Served ServeFault) (log log' : SinkState) (link link' : Told) : Type 0 where
+pub record ServesEnd {D : Type 0} (answers : D → Content → Answered) (new end_new : EndOf D) (script : List Step) (limit : ℕ) (result : Result Served ServeFault) (log log' : SinkState) (link link' : Told) : Type 0 where
   pub story : Story
   pub last : EndOf D
   pub is_story : IsStory answers new script story last
@@ -219,3 +228,4 @@ pub record ServesEnd {D : Type 0} (answers : D → Content → Answered) (new : 
   pub failures : link'.failures ≡ failures_after failed link.failures
   pub failed_is : MayHaveFailed result failed
   pub lost_is : has_lost story ≡ true → failed ≡ true
+  pub left : IsLeft result last end_new

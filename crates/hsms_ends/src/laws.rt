@@ -1,6 +1,6 @@
 //! Laws over the definitions of the ends and of what is served. Each is the contract of a function that does nothing.
 
-ghost use Rattle.hsms_ends.specs.Laws.{ServedLogPasses};
+ghost use Rattle.hsms_ends.specs.Laws.{ServedLogPasses, ServedAgainLogPasses};
 
 use hsms_end::Desk;
 pub use hsms_end::laws::{
@@ -13,4 +13,9 @@ pub use hsms_end::laws::{
 /// (`Judges`, the headline of its `audit`), is `Pass` with the summary of the entries that the end gave.
 pub fn served_log_passes<D: Desk>()
     ensures { ServedLogPasses D.answers }
+{}
+
+/// The log of connections that were served one after the other passes the audit too, with the summary of all entries.
+pub fn served_again_log_passes<D: Desk>()
+    ensures { ServedAgainLogPasses D.answers }
 {}

@@ -13,6 +13,7 @@
 //! ```
 #![tactic(auto)]
 
+mod again;
 mod fault;
 pub mod laws;
 mod link;
@@ -20,14 +21,17 @@ mod output;
 mod peer;
 mod range;
 mod scripted;
+mod scripted_desk;
 mod sending;
 mod serving;
 mod step;
 mod turns;
 
+pub use again::{Lent, serve_again};
 pub use fault::{LinkFault, ServeFault};
 pub use hsms_end::{Answer, Desk, Driven, End, EndFault, EquipmentDesk, HostDesk, Input, drive};
-pub use link::{Got, Link};
+pub use link::{Again, Got, Link};
 pub use scripted::Scripted;
+pub use scripted_desk::ScriptedDesk;
 pub use serving::{Served, serve};
 pub use step::Step;

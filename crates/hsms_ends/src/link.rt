@@ -39,3 +39,11 @@ pub trait Link {
         ensures some { IfOk result (λ n. 0 < length octets.now → 0 < n) }
         ensures sent { Sends (told self.old) (told self.new) octets.now result };
 }
+
+/// A link that connects again.
+pub trait Again: Link {
+    /// Goes over to the next connection, the first one too, and says whether there is one. What the link tells of its
+    /// calls goes on.
+    fn again(&mut self) -> bool
+        ensures { Self.told self.new ≡ Self.told self.old };
+}

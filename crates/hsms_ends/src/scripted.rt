@@ -4,7 +4,7 @@ ghost use Rattle.std.specs.Prelude.{◌≡◌};
 ghost use Rattle.hsms_ends.specs.Script.{moment_at};
 
 use crate::fault::LinkFault;
-use crate::link::{Got, Link};
+use crate::link::{Again, Got, Link};
 use crate::peer::Peer;
 use hsms_frame::{Sink, Store};
 use std::marker::Model;
@@ -182,6 +182,13 @@ impl Link for Scripted {
                 Err(LinkFault)
             }
         }
+    }
+}
+
+/// It connects again as often as it is asked, to the same peer: the next connection goes on with the waits that are left.
+impl Again for Scripted {
+    fn again(&mut self) -> bool {
+        true
     }
 }
 

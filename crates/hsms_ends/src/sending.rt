@@ -1,14 +1,12 @@
 //! Octets to a link.
 
 ghost use Rattle.std.specs.Prelude.{◌≡◌, ◌<◌, ◌≤◌, ◌+◌, ◌^◌, ◌++◌, length, take};
-ghost use Rattle.std.specs.Int.{w32, to_be_bytes};
 ghost use Rattle.hsms_frame.specs.Frame.{frame_octets};
-ghost use Rattle.hsms_frame.specs.Header.{header_octets};
 ghost use Rattle.hsms_ends.specs.PutOut.{SendsAll};
 
 use crate::fault::LinkFault;
 use crate::link::Link;
-use hsms_frame::{Frame, Header};
+use hsms_frame::{Frame, front_octets};
 
 // The octets before the text.
 const FRONT: usize = 14;
@@ -22,22 +20,13 @@ pub fn send_frame<L: Link>(link: &mut L, frame: &Frame) -> Result<(), LinkFault>
     requires { 10 + length frame.now.text < 2 ^ 32 }
     ensures { SendsAll (L.told link.old) (L.told link.new) (frame_octets frame.now) result }
 {
-    let front = front(frame.length() as u32, frame.header);
+    let front = front_octets(frame.length() as u32, frame.header);
     let text = frame.text.as_slice();
     let (first, rest) = text.split_at(text.len().min(BLOCK - FRONT));
     match send_joined(link, &front, first) {
         Ok(()) => send_all(link, rest),
         Err(fault) => Err(fault),
     }
-}
-
-/// The octets before the text.
-fn front(length: u32, header: Header) -> [u8; FRONT]
-    ensures { result ≡ to_be_bytes w32 length ++ header_octets header }
-{
-    let [l0, l1, l2, l3] = length.to_be_bytes();
-    let [h0, h1, h2, h3, h4, h5, h6, h7, h8, h9] = header.octets();
-    [l0, l1, l2, l3, h0, h1, h2, h3, h4, h5, h6, h7, h8, h9]
 }
 
 /// Sends two slices as one.

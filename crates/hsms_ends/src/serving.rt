@@ -72,8 +72,8 @@ pub fn serve<L: Link, W: Sink, D: Desk + Drop>(
     }
 }
 
-/// Serves a new end.
-fn serve_end<L: Link, W: Sink, D: Desk>(
+/// Serves an end that was told nothing yet. The settings' line isn't written.
+pub fn serve_end<L: Link, W: Sink, D: Desk>(
     link: &mut L,
     log: &mut W,
     end: &mut End<D>,
@@ -81,7 +81,7 @@ fn serve_end<L: Link, W: Sink, D: Desk>(
     turns: u64,
 ) -> Result<Served, ServeFault>
     requires { IsReady end.old }
-    ensures { ServesEnd D.answers end.old script.now turns result (W.state log.old) (W.state log.new)
+    ensures { ServesEnd D.answers end.old end.new script.now turns result (W.state log.old) (W.state log.new)
         (L.told link.old) (L.told link.new) }
 {
     let mut progress = Progress {
@@ -145,7 +145,7 @@ fn begin<L: Link, W: Sink, D: Desk>(
 
 /// What is answered after a fault. After a link fault the end is closed first.
 fn stopped<W: Sink, D: Desk>(log: &mut W, end: &mut End<D>, stop: Stop) -> ServeFault
-    ensures { StoppedAs D.answers stop result end.old (W.state log.old) (W.state log.new) }
+    ensures { StoppedAs D.answers stop result end.old end.new (W.state log.old) (W.state log.new) }
 {
     match stop {
         Stop::Link => close(log, end),
@@ -156,7 +156,7 @@ fn stopped<W: Sink, D: Desk>(log: &mut W, end: &mut End<D>, stop: Stop) -> Serve
 
 /// Closes an end after a link fault, and says what is answered: the fault of closing it, where there is one.
 fn close<W: Sink, D: Desk>(log: &mut W, end: &mut End<D>) -> ServeFault
-    ensures { ClosedLink D.answers result end.old (W.state log.old) (W.state log.new) }
+    ensures { ClosedLink D.answers result end.old end.new (W.state log.old) (W.state log.new) }
 {
     if has_gone(end) {
         return ServeFault::Link;

@@ -1,5 +1,6 @@
 mod failing;
 mod framing;
+mod reading_ahead;
 mod writing;
 
 use super::*;

@@ -9,12 +9,16 @@ mod forms;
 mod limits;
 mod orders;
 mod other_ends;
+mod places;
+mod remedies;
 mod rules;
 mod sessions;
 mod timers;
 
 use hsms_frame::{Frame, Header};
-use hsms_machine::{Cause, Entry, Event, Mark, Phase, Role, Rule, Settings, Side, Tracker};
+use hsms_machine::{
+    Cause, Entry, EntryRef, Event, Mark, Phase, Role, Rule, Settings, Side, Tracker,
+};
 use std::alloc::{AllocError, Global};
 use std::process::Abort;
 use std::test::Fail;
@@ -170,9 +174,18 @@ fn step_frame(
     mark: Mark,
     header: Header,
 ) -> Result<Option<Rule>, AllocError> {
-    match tracker.step_frame(time, mark, header, &[]) {
+    let entry = EntryRef::of_frame(time, mark, header, &[]);
+    match tracker.step_ref(&entry) {
         Ok(broken) => Ok(broken),
-        Err(_) => tracker.step_frame(time, mark, header, &[]),
+        Err(_) => tracker.step_ref(&entry),
+    }
+}
+
+/// The entry of what happened. Where memory was refused, a second try meets no refusal.
+fn happened(alloc: Global, time: u64, happening: Happening) -> Result<Entry, AllocError> {
+    match entry(alloc, time, happening) {
+        Ok(entry) => Ok(entry),
+        Err(_) => entry(alloc, time, happening),
     }
 }
 
@@ -184,10 +197,7 @@ fn step_happening(
     time: u64,
     happening: Happening,
 ) -> Result<Option<Rule>, AllocError> {
-    let entry = match entry(alloc, time, happening) {
-        Ok(entry) => entry,
-        Err(_) => entry(alloc, time, happening)?,
-    };
+    let entry = happened(alloc, time, happening)?;
     step(rt, tracker, &entry)
 }
 

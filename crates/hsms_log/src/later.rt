@@ -12,6 +12,7 @@ use crate::session::Session;
 use crate::tally::Tally;
 use crate::verdict::Why;
 use hsms_frame::HEADER_LENGTH;
+use hsms_machine::EntryRef;
 use std::alloc::{AllocError, Global};
 
 /// Judges a line that is not the first. `octets` is memory for the octets of its frame, used again from line to line.
@@ -57,7 +58,8 @@ fn frame_line(
         → (before : List (List ℕ)) → Tracks session.old tally.old before → FailsAfter before line why)) }
 {
     let FrameLine { time, mark, header } = frame;
-    if let Some(rule) = session.tracker.step_frame(time, mark, header, text)? {
+    let entry = EntryRef::of_frame(time, mark, header, text);
+    if let Some(rule) = session.tracker.step_ref(&entry)? {
         return Ok(Some(Why::Broken(rule)));
     }
     tally.count_frame(mark);

@@ -13,3 +13,8 @@ pub mod OneConnection
 pub mod Decided
 pub mod Timely
 pub mod Listed
+pub mod Joins
+pub mod Placed
+pub mod Mending
+pub mod Oldest
+pub mod Namesakes

@@ -18,7 +18,7 @@ use Rattle.hsms_machine.specs.Timer.{due_at, due_times, least_of, least_in}
 use Rattle.hsms_machine.specs.Ordered.{IsOrdered, AreKeyed, AreSince, AreUntil, AreInOrder, AreApart, AreKept, uses, first_of}
 
 -- the parts of an `||` that is false
-or_parts : (a b : Bool) → (a || b) ≡ false → (a ≡ false) × (b ≡ false)
+pub or_parts : (a b : Bool) → (a || b) ≡ false → (a ≡ false) × (b ≡ false)
 or_parts true b e = absurd (let d : true ≡ false = e in cc)
 or_parts false b e = (refl, e)
 
@@ -45,6 +45,17 @@ find-some test (x ∷ xs) = some_cond (test x) x (find test xs) (list_any test x
 
 pub lookup-uses : (system : ℕ) (es : List (ℕ × Transaction)) → AreKeyed es → is_some (lookup (nat_eq system) es) ≡ uses system (values_of es)
 lookup-uses system es keyed = ap is_some (lookup-find system es keyed) ∙ find-some (λ opened. opened.header.system == system) (values_of es)
+
+found_case : (test : Transaction → Bool) (x opened : Transaction) (xs : List Transaction) (b : Bool) → test x ≡ b → (find test xs ≡ Some opened → list_any (λ other. test other && (other.time == opened.time)) xs ≡ true) → cond b (Some x) (find test xs) ≡ Some opened → ((b && (x.time == opened.time)) || list_any (λ other. test other && (other.time == opened.time)) xs) ≡ true
+found_case test x opened xs true t later e =
+    let is : x ≡ opened = cc in
+    let same : (x.time == opened.time) ≡ true = eq-eqb x.time opened.time (ap (λ (y : Transaction). y.time) is) in
+    rw same refl
+found_case test x opened xs false t later e = later e
+
+pub found_any : (test : Transaction → Bool) (opened : Transaction) (xs : List Transaction) → find test xs ≡ Some opened → list_any (λ other. test other && (other.time == opened.time)) xs ≡ true
+found_any test opened [] e = absurd cc
+found_any test opened (x ∷ xs) e = found_case test x opened xs (test x) refl (found_any test opened xs) e
 
 is_none_at : (r : Option Transaction) → is_some r ≡ false → r ≡ None
 is_none_at None e = refl
@@ -114,6 +125,13 @@ concludes_only other x e = elim (or_cases (answers x.header other) (rejects x.he
   | inl a ↦ answers_only other x a
   | inr r ↦ rejects_only other x r
 ]
+
+-- and at a time
+pub timed_only : (other : Header) (time : ℕ) (x : Transaction) → (concludes x.header other && (x.time == time)) ≡ true → x.header.system ≡ other.system
+timed_only other time x e = concludes_only other x (and_parts (concludes x.header other) (x.time == time) e).0
+
+pub timed_here : (b : Bool) (time : ℕ) → b ≡ true → (b && (time == time)) ≡ true
+timed_here b time e = rw e (eq-eqb time time refl)
 
 pub filter_none : (test : Transaction → Bool) (xs : List Transaction) → list_any test xs ≡ false → filter (λ x. not (test x)) xs ≡ xs
 filter_none test [] none = refl

@@ -117,7 +117,7 @@ taken_control-closes : (time : ℕ) (h : Frame) (event : Event) → is_control_r
 taken_control-closes time h (Sent f) b = refl
 taken_control-closes time h event b = refl
 
-agrees_by : (pool : Pool) (time : ℕ) (opening event : Event) → Agrees pool opening event (opened_as_at pool time opening)
+pub agrees_by : (pool : Pool) (time : ℕ) (opening event : Event) → Agrees pool opening event (opened_as_at pool time opening)
 agrees_by SentData time (Sent h) event = picks (is_data_request h.header) (Agrees SentData (Sent h) event) (record { time = time; header = h.header }) (sent_data-closes time h event) tt
 agrees_by SentControl time (Sent h) event = picks (is_control_request h.header) (Agrees SentControl (Sent h) event) (record { time = time; header = h.header }) (sent_control-closes time h event) tt
 agrees_by TakenData time (Taken h) event = picks (is_data_request h.header) (Agrees TakenData (Taken h) event) (record { time = time; header = h.header }) (taken_data-closes time h event) tt

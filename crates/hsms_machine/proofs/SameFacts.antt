@@ -155,7 +155,7 @@ pub late : (F : Facts) → F.IsOver → (settings : Parameters) (entry : Entry) 
 late F over settings entry e = late_by F over settings entry.time entry.event e
 
 -- directly after `down`, an `up` breaks no rule but those of order
-late_up : (F : Facts) → F.FollowsDown → (settings : Parameters) (time : ℕ) → Never (Breaks F settings (record { time = time; event = Up })) late_rules
+pub late_up : (F : Facts) → F.FollowsDown → (settings : Parameters) (time : ℕ) → Never (Breaks F settings (record { time = time; event = Up })) late_rules
 late_up F down settings time = ((λ b. b.1.0.1 down), ((λ b. elim b.1 [ inl p ↦ p.0.1 down | inr q ↦ q.0.1 down ]), ((λ b. b), ((λ b. b), ((λ b. b), ((λ b. b), ((λ b. b), ((λ b. b), ((λ b. b), ((λ b. b), ((λ b. b), ((λ b. b), ((λ b. b), ((λ b. b), ((λ b. b), ((λ b. b), tt))))))))))))))))
 
 bool_cases : (b : Bool) → (b ≡ true) ⊎ (b ≡ false)

@@ -9,8 +9,8 @@ use Rattle.hsms_frame.specs.declared.kinds.Kind.TheVariants.{Primary, SelectReq,
 use Rattle.hsms_machine.specs.declared.entry.Entry.{Entry}
 use Rattle.hsms_machine.specs.declared.entry.Event.{Event}
 use Rattle.hsms_machine.specs.declared.entry.Event.TheVariants.{Sent, Taken, Discarded, T3}
-use Rattle.hsms_machine.specs.declared.act.Act.{Act}
-use Rattle.hsms_machine.specs.declared.act.Act.TheVariants.{Up as ActUp, Sent as ActSent, Taken as ActTaken, T3 as ActT3}
+use Rattle.hsms_machine.specs.declared.entry.Act.{Act}
+use Rattle.hsms_machine.specs.declared.entry.Act.TheVariants.{Up as ActUp, Sent as ActSent, Taken as ActTaken, T3 as ActT3}
 use Rattle.hsms_machine.specs.declared.rule.Rule.{Rule}
 use Rattle.hsms_machine.specs.declared.rule.Rule.TheVariants.{TooLong, PType, SType, ControlText, Session, Direction, NotSelected, WBit, Text, SystemInUse, NoTransaction, SelectStatus, NoCause}
 use Rattle.hsms_machine.specs.declared.open.Transaction.{Transaction}

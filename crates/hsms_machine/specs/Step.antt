@@ -5,8 +5,8 @@ use Rattle.std.specs.List.{list_any}
 use Rattle.hsms_machine.specs.declared.entry.Entry.{Entry}
 use Rattle.hsms_machine.specs.declared.entry.Event.{Event}
 use Rattle.hsms_machine.specs.declared.entry.Event.TheVariants.{Sent, Taken, T3}
-use Rattle.hsms_machine.specs.declared.act.Act.{Act}
-use Rattle.hsms_machine.specs.declared.act.Act.TheVariants.{Sent as ActSent, Taken as ActTaken}
+use Rattle.hsms_machine.specs.declared.entry.Act.{Act}
+use Rattle.hsms_machine.specs.declared.entry.Act.TheVariants.{Sent as ActSent, Taken as ActTaken}
 use Rattle.hsms_machine.specs.declared.phase.Phase.{Phase}
 use Rattle.hsms_machine.specs.declared.phase.Phase.TheVariants.{Before, NotSelected, Selected, Over, Gone}
 use Rattle.hsms_machine.specs.declared.rule.Rule.{Rule}

@@ -1,6 +1,8 @@
 //! What a session log says.
 
-use hsms_frame::Frame;
+use crate::message::Message;
+use hsms_frame::{Frame, Header};
+use std::marker::Model;
 
 /// Why a connection was cut by its own end (SEMI E37, section 10, parameters).
 #[derive(Clone, Copy, Debug, PartialEq, Eq)]
@@ -52,4 +54,100 @@ pub struct Entry {
     pub time: u64,
     /// What happened.
     pub event: Event,
+}
+
+impl Entry {
+    ghost use Rattle.std.specs.Prelude.{◌≡◌};
+
+    /// The entry, with the text of its frame where it lies.
+    pub fn as_ref<'a>(&'a self) -> EntryRef<'a>
+        ensures { result ≡ self.now }
+    {
+        let time = self.time;
+        match &self.event {
+            Event::Up => EntryRef::without_frame(time, Act::Up),
+            Event::Sent(frame) => {
+                EntryRef::of_frame(time, Mark::Sent, frame.header, frame.text.as_slice())
+            }
+            Event::Taken(frame) => {
+                EntryRef::of_frame(time, Mark::Taken, frame.header, frame.text.as_slice())
+            }
+            Event::Discarded(frame) => {
+                EntryRef::of_frame(time, Mark::Discarded, frame.header, frame.text.as_slice())
+            }
+            Event::T3(system) => EntryRef::without_frame(time, Act::T3(*system)),
+            Event::Cut(cause) => EntryRef::without_frame(time, Act::Cut(*cause)),
+            Event::Down => EntryRef::without_frame(time, Act::Down),
+        }
+    }
+}
+
+/// An event without the text of its frame, and with the kind of its message, which is found once. What changes with an
+/// entry, and most of the rules, ask for no text.
+#[derive(Clone, Copy)]
+pub enum Act {
+    Up,
+    Sent(Message),
+    Taken(Message),
+    Discarded(Message),
+    T3(u32),
+    Cut(Cause),
+    Down,
+}
+
+/// An entry of a session log whose text lies elsewhere, in an [`Entry`] or among octets that were read. A tracker judges
+/// it without a copy. Contracts see it as the entry.
+#[derive(Drop)]
+pub struct EntryRef<'a> {
+    time: u64,
+    act: Act,
+    text: &'a [u8],
+}
+
+impl<'a> Model for EntryRef<'a> {
+    ghost use Rattle.hsms_machine.specs.declared.entry.Entry.{Entry};
+    ghost use Rattle.hsms_machine.specs.Act.{entry_of};
+
+    ghost Value = { Entry };
+
+    ghost view = { λ e. entry_of e.time e.act e.text.now };
+}
+
+impl<'a> EntryRef<'a> {
+    ghost use Rattle.std.specs.Prelude.{◌≡◌, []};
+    ghost use Rattle.hsms_machine.specs.Entry.{frame_entry};
+    ghost use Rattle.hsms_machine.specs.Act.{entry_of};
+
+    /// The entry of a frame that has this mark, header and text.
+    #[inline(always)]
+    pub fn of_frame(time: u64, mark: Mark, header: Header, text: &'a [u8]) -> EntryRef<'a>
+        ensures { result ≡ frame_entry time mark header text.now }
+    {
+        let message = Message::of(header);
+        let act = match mark {
+            Mark::Sent => Act::Sent(message),
+            Mark::Taken => Act::Taken(message),
+            Mark::Discarded => Act::Discarded(message),
+        };
+        EntryRef { time, act, text }
+    }
+
+    #[inline(always)]
+    fn without_frame(time: u64, act: Act) -> EntryRef<'a>
+        ensures { result ≡ entry_of time act [] }
+    {
+        EntryRef {
+            time,
+            act,
+            text: &[],
+        }
+    }
+
+    /// The time, the event but for its text, and the text.
+    #[inline(always)]
+    pub(crate) fn parts(&self) -> (u64, &Act, &[u8])
+        ensures { entry_of result.0 result.1.now result.2.now ≡ self.now }
+    {
+        (self.time, &self.act, self.text)
+    }
 }

@@ -1,7 +1,6 @@
 //! Which rule an entry breaks first, as the view tells it.
 
-use crate::act::Act;
-use crate::entry::Cause;
+use crate::entry::{Act, Cause};
 use crate::flow::Flow;
 use crate::message::{
     Message, establishes, has_direction, has_session, has_wait, is_control, is_control_request,

@@ -1,6 +1,7 @@
 //! Laws over the definitions of a run. Each is the contract of a function that does nothing.
 
-ghost use Rattle.hsms_machine.specs.Laws.{EachResponseAnswersOne, DataFlowsWhileSelected, ExpiryIsLoggedFirst, RepliesComeWithinT3, SystemBytesAreUnique, OneConnectionInVersionOne, EachConnectionFollowsDown, NothingIsOpenOverUp, VersionOneKeepsRuns, VersionOneKeepsAnswers, VersionOneIsOneConnection, ViewListsWhatIsOpen, LawfulEntryExtendsRun, FrontOfRunIsRun, NextOfRunIsLawful, EachEntryHasAnAnswer, NoEntryHasTwoAnswers, EmptyLogIsRun};
+ghost use Rattle.hsms_machine.specs.Laws.{EachResponseAnswersOne, DataFlowsWhileSelected, ExpiryIsLoggedFirst, RepliesComeWithinT3, SystemBytesAreUnique, OneConnectionInVersionOne, EachConnectionFollowsDown, NothingIsOpenOverUp, VersionOneKeepsRuns, VersionOneKeepsAnswers, VersionOneIsOneConnection, ViewListsWhatIsOpen, LawfulEntryExtendsRun, FrontOfRunIsRun, NextOfRunIsLawful, EachEntryHasAnAnswer, NoEntryHasTwoAnswers, EmptyLogIsRun, RunIsRunOfSeveral, SingleRunOfSeveralIsRun, JoinedRunsAreARun, JoinedConnectionsAreARun};
+ghost use Rattle.hsms_machine.specs.Repair.{RepairedLogPasses, LawfulEntryIsKept, RunIsItsRepair, FrontIsKept};
 
 /// Each sent or taken response of a run answers exactly one open transaction, which it closes.
 pub fn each_response_answers_one()
@@ -68,4 +69,22 @@ pub fn each_entry_has_one_answer()
 /// The empty log is a run.
 pub fn empty_log_is_run()
     ensures { EmptyLogIsRun }
+{}
+
+/// Runs of single connections, each that ends with `down` before the next one's `up`, with times that don't go back, are,
+/// joined, a run of several connections.
+pub fn joined_connections_are_a_run()
+    ensures kept { RunIsRunOfSeveral }
+    ensures single { SingleRunOfSeveralIsRun }
+    ensures joined { JoinedRunsAreARun }
+    ensures connections { JoinedConnectionsAreARun }
+{}
+
+/// A log that was gone on with behind each failure is a run. A lawful entry stays as it is, and so does a run, and each log
+/// up to its first failure.
+pub fn repaired_log_passes()
+    ensures passes { RepairedLogPasses }
+    ensures kept { LawfulEntryIsKept }
+    ensures run { RunIsItsRepair }
+    ensures front { FrontIsKept }
 {}

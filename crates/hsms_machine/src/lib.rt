@@ -19,7 +19,6 @@
 //! ```
 #![tactic(auto)]
 
-mod act;
 mod entry;
 mod flow;
 mod judge;
@@ -27,13 +26,17 @@ pub mod laws;
 mod message;
 mod open;
 mod phase;
+mod places;
+mod remedy;
 mod rule;
 mod settings;
 mod tracker;
 mod view;
 
-pub use entry::{Cause, Entry, Event, Mark};
+pub use entry::{Cause, Entry, EntryRef, Event, Mark};
 pub use phase::Phase;
+pub use places::Places;
+pub use remedy::Remedy;
 pub use rule::Rule;
 pub use settings::{
     GREATEST_DEPTH, GREATEST_DEVICE, GREATEST_MAX, GREATEST_TIME, LEAST_DEPTH, LEAST_MAX,

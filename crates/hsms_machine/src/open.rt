@@ -41,7 +41,7 @@ impl Drop for Transactions {
 }
 
 impl Transactions {
-    ghost use Rattle.std.specs.Prelude.{◌≡◌, ◌-◌, ◌^◌, ◌<◌, ◌==◌, ◌&&◌, not, [], ◌∷◌, ◌++◌, length, filter, remove, false, nat_lt, nat_le, OnOk, OnErr, IfSome, IfNone};
+    ghost use Rattle.std.specs.Prelude.{◌≡◌, ◌-◌, ◌^◌, ◌<◌, ◌==◌, ◌&&◌, not, [], ◌∷◌, ◌++◌, length, filter, remove, true, false, nat_lt, nat_le, OnOk, OnErr, IfSome, IfNone};
     ghost use Rattle.std.specs.List.{list_any, find};
     ghost use Rattle.hsms_machine.specs.Timer.{least_in, due_times, due_at, least_of};
     ghost use Rattle.hsms_machine.specs.Transaction.{answers as is_answer, concludes as is_conclusion};
@@ -104,6 +104,17 @@ impl Transactions {
         }
         match self.items.get(&system) {
             Some(opened) => Some(*opened),
+            None => None,
+        }
+    }
+
+    /// When the transaction was opened that has the message's system bytes.
+    pub fn time_of(&self, message: Message) -> Option<u64>
+        ensures time { IfSome result (λ time. list_any (λ opened. (opened.header.system == message.system) && (opened.time == time)) self.now ≡ true) }
+        ensures none { IfNone result (uses message.system self.now ≡ false) }
+    {
+        match self.get(message.header().system) {
+            Some(opened) => Some(opened.time),
             None => None,
         }
     }
@@ -206,6 +217,23 @@ impl Transactions {
             Some((place, _, opened)) => {
                 if concludes(opened.header, other) {
                     Some(place)
+                } else {
+                    None
+                }
+            }
+            None => None,
+        }
+    }
+
+    /// When the transaction was opened that the message, which goes in the other direction, answers or rejects.
+    pub fn time_concluded(&self, other: Message) -> Option<u64>
+        ensures time { IfSome result (λ time. list_any (λ opened. is_conclusion opened.header other && (opened.time == time)) self.now ≡ true) }
+        ensures none { IfNone result (list_any (λ opened. is_conclusion opened.header other) self.now ≡ false) }
+    {
+        match self.get(other.header().system) {
+            Some(opened) => {
+                if concludes(opened.header, other) {
+                    Some(opened.time)
                 } else {
                     None
                 }

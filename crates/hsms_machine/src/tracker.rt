@@ -1,8 +1,8 @@
 //! The judge of a session, entry by entry.
 
-use crate::act::Act;
-use crate::entry::{Entry, Mark};
+use crate::entry::{Entry, EntryRef};
 use crate::phase::Phase;
+use crate::remedy::Remedy;
 use crate::rule::Rule;
 use crate::settings::Settings;
 use crate::view::View;
@@ -34,12 +34,10 @@ impl Model for Tracker {
 impl Tracker {
     ghost use Rattle.std.specs.Prelude.{◌≡◌, [], Some, None, IsTrue, IfOk, OnErr};
     ghost use Rattle.hsms_machine.specs.declared.rule.Rule.{Rule};
-    ghost use Rattle.hsms_machine.specs.Entry.{frame_entry};
-    ghost use Rattle.hsms_machine.specs.declared.entry.Entry.{Entry};
-    ghost use Rattle.hsms_machine.specs.Act.{HasParts};
     ghost use Rattle.hsms_machine.specs.Transaction.{opens};
     ghost use Rattle.hsms_machine.specs.View.{HasView, IsBrokenAfter, LeadsTo, IfLawful, waiting_of, own_open_of, next_due_of, in_use_of, oldest_of};
     ghost use Rattle.hsms_machine.specs.Step.{IsBrokenAt, IsInOrder, view_after};
+    ghost use Rattle.hsms_machine.specs.Repair.{remedy_of};
 
     /// The tracker of a session without an entry.
     pub fn new(alloc: Global, settings: Settings) -> Tracker
@@ -50,15 +48,29 @@ impl Tracker {
         }
     }
 
+    /// The time of the last entry, or 0 where there is none. Takes no memory.
+    pub fn last_time(&self) -> u64
+        ensures { result ≡ self.now.last_time }
+    {
+        self.view.last_time
+    }
+
     /// The first rule that the entry would break as the next one, or None where it is lawful. Takes no
     /// memory.
     pub fn check(&self, entry: &Entry) -> Option<Rule>
         ensures answer { IsBrokenAfter self.now entry.now result }
         ensures told { IsBrokenAt self.now entry.now result }
     {
-        let act = Act::of(&entry.event);
-        self.view
-            .first_broken(entry.time, &act, Act::text_of(&entry.event))
+        self.check_ref(&entry.as_ref())
+    }
+
+    /// Does as `check` does, of an entry whose text lies elsewhere.
+    pub fn check_ref(&self, entry: &EntryRef<'_>) -> Option<Rule>
+        ensures answer { IsBrokenAfter self.now entry.now result }
+        ensures told { IsBrokenAt self.now entry.now result }
+    {
+        let (time, act, text) = entry.parts();
+        self.view.first_broken(time, act, text)
     }
 
     /// The first rule that the entry breaks as the next one, or None where it is lawful, and then it is
@@ -74,53 +86,35 @@ impl Tracker {
         ensures err_lawful { OnErr result (IsBrokenAfter self.old entry.now None) }
         ensures err_opens { OnErr result (IsTrue (opens entry.now.event)) }
     {
-        let act = Act::of(&entry.event);
-        self.judge(entry.time, &act, Act::text_of(&entry.event))
+        self.step_ref(&entry.as_ref())
     }
 
-    /// Does as `step` does, with the entry of a frame that is given by its parts. The text is judged where it lies.
-    pub fn step_frame(
-        &mut self,
-        time: u64,
-        mark: Mark,
-        header: Header,
-        text: &[u8],
-    ) -> Result<Option<Rule>, AllocError>
-        ensures answer { IfOk result (λ answer. IsBrokenAfter self.old (frame_entry time mark header text.now) answer) }
-        ensures told { IfOk result (λ answer. IsBrokenAt self.old (frame_entry time mark header text.now) answer) }
-        ensures lawful { IfLawful result (LeadsTo self.old (frame_entry time mark header text.now) self.new) }
-        ensures next { IfLawful result (self.new ≡ view_after self.old (frame_entry time mark header text.now)) }
+    /// Does as `step` does, with an entry whose text lies elsewhere.
+    #[inline(always)]
+    pub fn step_ref(&mut self, entry: &EntryRef<'_>) -> Result<Option<Rule>, AllocError>
+        ensures answer { IfOk result (λ answer. IsBrokenAfter self.old entry.now answer) }
+        ensures told { IfOk result (λ answer. IsBrokenAt self.old entry.now answer) }
+        ensures lawful { IfLawful result (LeadsTo self.old entry.now self.new) }
+        ensures next { IfLawful result (self.new ≡ view_after self.old entry.now) }
         ensures broken { IfOk result (λ answer. (rule : Rule) → answer ≡ Some rule → self.new ≡ self.old) }
         ensures err { OnErr result (self.new ≡ self.old) }
-        ensures err_lawful { OnErr result (IsBrokenAfter self.old (frame_entry time mark header text.now) None) }
-        ensures err_opens { OnErr result (IsTrue (opens (frame_entry time mark header text.now).event)) }
+        ensures err_lawful { OnErr result (IsBrokenAfter self.old entry.now None) }
+        ensures err_opens { OnErr result (IsTrue (opens entry.now.event)) }
     {
-        let act = Act::of_frame(mark, header);
-        self.judge(time, &act, text)
-    }
-
-    // The first rule that the entry of these parts breaks, or none, and then it is taken in.
-    fn judge(&mut self, time: u64, act: &Act, text: &[u8]) -> Result<Option<Rule>, AllocError>
-        ensures answer { (entry : Entry) → HasParts entry time act.now text.now
-            → IfOk result (λ answer. IsBrokenAfter self.old entry answer) }
-        ensures told { (entry : Entry) → HasParts entry time act.now text.now
-            → IfOk result (λ answer. IsBrokenAt self.old entry answer) }
-        ensures lawful { (entry : Entry) → HasParts entry time act.now text.now
-            → IfLawful result (LeadsTo self.old entry self.new) }
-        ensures next { (entry : Entry) → HasParts entry time act.now text.now
-            → IfLawful result (self.new ≡ view_after self.old entry) }
-        ensures broken { IfOk result (λ answer. (rule : Rule) → answer ≡ Some rule → self.new ≡ self.old) }
-        ensures err { OnErr result (self.new ≡ self.old) }
-        ensures err_lawful { (entry : Entry) → HasParts entry time act.now text.now
-            → OnErr result (IsBrokenAfter self.old entry None) }
-        ensures err_opens { (entry : Entry) → HasParts entry time act.now text.now
-            → OnErr result (IsTrue (opens entry.event)) }
-    {
+        let (time, act, text) = entry.parts();
         let broken = self.view.first_broken(time, act, text);
         if broken.is_none() {
             self.view.take_in(time, act)?;
         }
         Ok(broken)
+    }
+
+    /// How the log is gone on with behind an entry that breaks this rule first as the next one. Takes no memory.
+    pub fn remedy(&self, rule: Rule, entry: &EntryRef<'_>) -> Remedy
+        ensures { result ≡ remedy_of self.now entry.now rule }
+    {
+        let (time, act, _) = entry.parts();
+        self.view.remedy(rule, time, act)
     }
 
     /// Where the session stands.

@@ -1,6 +1,6 @@
 //! What the rules need to know of the entries so far, and how an entry changes it.
 
-use crate::act::Act;
+use crate::entry::Act;
 use crate::message::{Message, establishes, is_control_request, is_data_request, separates};
 use crate::open::{Transaction, Transactions};
 use crate::phase::Phase;

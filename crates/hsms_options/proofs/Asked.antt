@@ -18,8 +18,9 @@ use Rattle.hsms_options.specs.declared.fault.ToolFault.TheVariants.{Refused, Dev
 use Rattle.hsms_options.specs.declared.options.Request.{Request}
 use Rattle.hsms_options.specs.declared.options.Request.TheVariants as request
 use Rattle.hsms_options.specs.declared.options.Task.TheVariants as asked
+use Rattle.hsms_options.specs.declared.repeating.Repeat.{Repeat}
 use Rattle.hsms_options.specs.declared.service.Service.{Service}
-use Rattle.hsms_options.specs.Number.{IsFlag, Number, number_between, number_in}
+use Rattle.hsms_options.specs.Number.{Number, number_between, number_in}
 use Rattle.hsms_options.specs.Options.{AsksBy, AsksFor, CallsForText, IsHelp, Spells, SpellsNothing, SpellsWork, command_line, request_to_serve}
 use Rattle.hsms_machine.specs.Settings.{Parameters}
 use Rattle.hsms_options.specs.Service.{AsksToServe, HasTerms}
@@ -78,16 +79,6 @@ number_read {E} gives n found r parses few none value = go (one_of n.name (rows_
     go None is = rw (none is, sym (sym is ∙ one_text-rows found n.name)) refl
     go (Some t) is = rw (sym (sym is ∙ one_text-rows found n.name)) (tried gives n t r parses few (value t is))
 
--- a flag
-pub flag_read : (name : Text) (found : Found) (flag : Bool) → (one_text found name ≡ None → flag ≡ false)
-    → (one_text found name ≡ Some (codes "true") → flag ≡ true) → (one_text found name ≡ Some (codes "false") → flag ≡ false)
-    → IsFlag name (rows_of found) flag
-flag_read name found flag none set unset = (
-  (λ is. none (one_text-rows found name ∙ is)),
-  (λ is. unset (one_text-rows found name ∙ is)),
-  (λ is. set (one_text-rows found name ∙ is)),
-)
-
 -- ---- serving
 
 -- the name is that of serving, and this is what it asks for
@@ -98,10 +89,10 @@ service_asked name rows (Err fault) is asks = tt
 
 -- what has to be given isn't there
 pub no_terms : (rows : List Row) (text : List ℕ) (fault : ToolFault)
-    → ((settings : Parameters) (address : List ℕ) (port first_system turns : ℕ) → HasTerms rows settings address port first_system turns → ⊥)
+    → ((settings : Parameters) (address : List ℕ) (port first_system turns : ℕ) (repeat : Repeat) → HasTerms rows settings address port first_system turns repeat → ⊥)
     → IsRefusedAs text fault → IsRefusedFor ((service : Service) → AsksToServe rows service → ⊥) text fault
 no_terms rows text (Refused given) none told =
-    (told, (λ service asks. none service.settings (string_bytes service.address) service.port service.first_system service.turns asks.0))
+    (told, (λ service asks. none service.settings (string_bytes service.address) service.port service.first_system service.turns service.repeat asks.0))
 no_terms rows text (Device given) none told = told
 no_terms rows text Memory none told = tt
 
@@ -118,7 +109,7 @@ command_is_free = refl
 spells : (words : List Text) (request : Request) → SpellsWork words request → Spells words request
 spells words (request.Task (asked.Help text)) (fine, (name, rows, entered, asks)) = absurd asks
 spells words (request.Task asked.Audit) work = work
-spells words (request.Task (asked.Show max depth)) work = work
+spells words (request.Task (asked.Show max depth form)) work = work
 spells words (request.Task (asked.Encode device system max depth hex)) work = work
 spells words (request.Serve service) work = work
 
@@ -174,7 +165,7 @@ asks_explained words app k (Ok (request.Task (asked.Help text))) is fails (help,
 asks_explained words app k (Ok (request.Task (asked.Help text))) is fails (help, inr kind) =
     inr (among_faults words app DisplayVersion (λ memory. absurd cc) is (subst (λ x. is_simple_and_free app ≡ true → (x ≡ OutOfMemory) ⊎ IsAmong x (fault_of app words)) kind fails))
 asks_explained words app k (Ok (request.Task asked.Audit)) is fails (help, kind) = absurd help
-asks_explained words app k (Ok (request.Task (asked.Show max depth))) is fails (help, kind) = absurd help
+asks_explained words app k (Ok (request.Task (asked.Show max depth form))) is fails (help, kind) = absurd help
 asks_explained words app k (Ok (request.Task (asked.Encode device system max depth hex))) is fails (help, kind) = absurd help
 asks_explained words app k (Ok (request.Serve service)) is fails (help, kind) = absurd help
 asks_explained words app k (Err fault) is fails help = tt

@@ -1,9 +1,10 @@
 -- Options with numbers, and flags, by the way in which `clap` reads them.
-use Rattle.std.specs.Prelude.{◌≡◌, ℕ, Bool, true, false, not, is_some, pos, List, codes, Option, Some, None, if◌then◌else◌}
+use Rattle.std.specs.Prelude.{◌≡◌, ℕ, Bool, false, not, is_some, pos, List, codes, Option, Some, None, if◌then◌else◌}
 use Rattle.std.specs.Option.{option_map_or}
+use Rattle.std.specs.Str.{bytes_eq}
 use Rattle.std.specs.Str.Parse.{digits_value, without_leading_plus}
 use Rattle.clap.specs.ValueTests.{is_unsigned_in}
-use Rattle.clap.specs.Words.{Row, Rule, Text, new_rule, one_of}
+use Rattle.clap.specs.Words.{Row, Rule, Text, first_of, new_rule, one_of}
 use Rattle.clap.specs.declared.builder.action.ArgAction.TheVariants.{SetTrue}
 use Rattle.clap.specs.declared.builder.value_parser.ValueParser.TheVariants.{Signed}
 
@@ -53,7 +54,9 @@ abbrev pub number_in : Number → List Row → Option ℕ
 number_in n rows = option_map_or (number_between n.least n.greatest) (one_of n.name rows) n.left_out
 
 -- whether the matches have a flag
+abbrev pub flag_in : Text → List Row → Bool
+flag_in name rows = option_map_or (bytes_eq (codes "true")) (first_of name rows) false
+
+-- the same, of an answer
 abbrev pub IsFlag : Text → List Row → Bool → Type 0
-IsFlag name rows flag =
-    (one_of name rows ≡ None → flag ≡ false) × (one_of name rows ≡ Some (codes "false") → flag ≡ false)
-    × (one_of name rows ≡ Some (codes "true") → flag ≡ true)
+IsFlag name rows flag = flag ≡ flag_in name rows

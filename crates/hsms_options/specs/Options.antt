@@ -1,15 +1,17 @@
 -- What the words of a command line ask for, by the way in which `clap` reads them.
-use Rattle.std.specs.Prelude.{◌≡◌, ◌≢◌, ◌≤◌, ◌⊎◌, true, false, List, [], ◌∷◌, codes, Option, Some, Result, Ok, Err}
+use Rattle.std.specs.Prelude.{◌≡◌, ◌≢◌, ◌≤◌, ◌⊎◌, true, false, List, [], ◌∷◌, codes, Bool, Option, Some, None, Result, Ok, Err}
 use Rattle.clap.specs.Words.{App, IsAmong, Row, Shape, Text, fault_of, new_app, subcommand_of}
 use Rattle.clap.specs.declared.error.kind.ErrorKind.{ErrorKind}
 use Rattle.clap.specs.declared.error.kind.ErrorKind.TheVariants.{DisplayHelp, DisplayVersion}
 use Rattle.hsms_options.specs.declared.fault.ToolFault.{ToolFault}
+use Rattle.hsms_options.specs.declared.options.Form.{Form}
+use Rattle.hsms_options.specs.declared.options.Form.TheVariants as form
 use Rattle.hsms_options.specs.declared.options.Request.{Request}
 use Rattle.hsms_options.specs.declared.options.Request.TheVariants as request
 use Rattle.hsms_options.specs.declared.options.Task.{Task}
 use Rattle.hsms_options.specs.declared.options.Task.TheVariants as asked
 use Rattle.hsms_options.specs.declared.service.Service.{Service}
-use Rattle.hsms_options.specs.Number.{IsFlag, depth_number, device_number, flag_option, max_number, number_in, option_of, system_number}
+use Rattle.hsms_options.specs.Number.{IsFlag, depth_number, device_number, flag_in, flag_option, max_number, number_in, option_of, system_number}
 use Rattle.hsms_options.specs.Service.{AsksToServe, serve_rules}
 
 -- ---- the command that is described to `clap`
@@ -19,7 +21,9 @@ abbrev pub named : Text → Shape
 named name = (new_app name).top
 
 abbrev pub show_command : Shape
-show_command = record (named (codes "show")) { rules = option_of max_number ∷ option_of depth_number ∷ [] }
+show_command = record (named (codes "show")) {
+  rules = option_of max_number ∷ option_of depth_number ∷ flag_option (codes "hex") ∷ flag_option (codes "bare") ∷ [];
+}
 
 abbrev pub audit_command : Shape
 audit_command = named (codes "audit")
@@ -41,12 +45,23 @@ command_line = record {
 
 -- ---- what is asked for
 
+-- the form of the messages that are shown, by the flags `hex` and `bare`: the second one asks for the first
+abbrev pub form_by : Bool → Bool → Option Form
+form_by false false = Some form.Octets
+form_by true false = Some form.Lines
+form_by true true = Some form.BareLines
+form_by false true = None
+
+abbrev pub form_in : List Row → Option Form
+form_in rows = form_by (flag_in (codes "hex") rows) (flag_in (codes "bare") rows)
+
 -- what a subcommand of this name asks for, with these matches, where it is a task
 abbrev pub AsksForTask : Text → List Row → Task → Type 0
 AsksForTask name rows (asked.Help text) = ⊥
 AsksForTask name rows asked.Audit = name ≡ codes "audit"
-AsksForTask name rows (asked.Show max depth) =
+AsksForTask name rows (asked.Show max depth form) =
     (name ≡ codes "show") × (number_in max_number rows ≡ Some max) × (number_in depth_number rows ≡ Some depth)
+    × (form_in rows ≡ Some form)
 AsksForTask name rows (asked.Encode device system max depth hex) =
     (name ≡ codes "encode") × (number_in device_number rows ≡ Some device) × (number_in system_number rows ≡ Some system)
     × (number_in max_number rows ≡ Some max) × (number_in depth_number rows ≡ Some depth) × IsFlag (codes "hex") rows hex
@@ -77,7 +92,7 @@ CallsForText kind = (kind ≡ DisplayHelp) ⊎ (kind ≡ DisplayVersion)
 abbrev pub SpellsTask : List Text → Task → Type 0
 SpellsTask words (asked.Help text) = IsAmong DisplayHelp (fault_of command_line words) ⊎ IsAmong DisplayVersion (fault_of command_line words)
 SpellsTask words asked.Audit = SpellsWork words (request.Task asked.Audit)
-SpellsTask words (asked.Show max depth) = SpellsWork words (request.Task (asked.Show max depth))
+SpellsTask words (asked.Show max depth form) = SpellsWork words (request.Task (asked.Show max depth form))
 SpellsTask words (asked.Encode device system max depth hex) = SpellsWork words (request.Task (asked.Encode device system max depth hex))
 
 -- the words ask for this, or may call for help or for the version
@@ -95,7 +110,7 @@ SpellsNothing words =
 abbrev pub IsTaskWithinLimits : Task → Type 0
 IsTaskWithinLimits (asked.Help text) = Unit {0}
 IsTaskWithinLimits asked.Audit = Unit {0}
-IsTaskWithinLimits (asked.Show max depth) = (256 ≤ max) × (max ≤ 33554432) × (1 ≤ depth) × (depth ≤ 100)
+IsTaskWithinLimits (asked.Show max depth form) = (256 ≤ max) × (max ≤ 33554432) × (1 ≤ depth) × (depth ≤ 100)
 IsTaskWithinLimits (asked.Encode device system max depth hex) =
     (device ≤ 32767) × (256 ≤ max) × (max ≤ 33554432) × (1 ≤ depth) × (depth ≤ 100)
 
@@ -108,7 +123,7 @@ IsWithinLimits (request.Serve service) = (1 ≤ service.port) × (service.port �
 abbrev pub IsHelpText : Task → Type 0
 IsHelpText (asked.Help text) = Unit {0}
 IsHelpText asked.Audit = ⊥
-IsHelpText (asked.Show max depth) = ⊥
+IsHelpText (asked.Show max depth form) = ⊥
 IsHelpText (asked.Encode device system max depth hex) = ⊥
 
 abbrev pub IsHelp : Request → Type 0

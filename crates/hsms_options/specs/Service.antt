@@ -6,6 +6,7 @@ use Rattle.hsms_machine.specs.declared.settings.Role.TheVariants.{Host, Equipmen
 use Rattle.hsms_machine.specs.declared.settings.Side.{Side}
 use Rattle.hsms_machine.specs.declared.settings.Side.TheVariants.{Active, Passive}
 use Rattle.hsms_machine.specs.Settings.{Parameters}
+use Rattle.hsms_options.specs.declared.repeating.Repeat.{Repeat}
 use Rattle.hsms_options.specs.declared.service.Service.{Service}
 use Rattle.hsms_options.specs.Number.{IsFlag, Number, depth_number, device_number, flag_option, max_number, number_in, option_of}
 
@@ -38,6 +39,14 @@ first_system_number = record { name = codes "first-system"; least = 0; greatest 
 abbrev pub turns_number : Number
 turns_number = record { name = codes "turns"; least = 0; greatest = 4294967295; left_out = Some 4294967295 }
 
+-- how long an end waits before it connects again
+abbrev pub t5_number : Number
+t5_number = time_number (codes "t5") 10000
+
+-- how many connections are served at most, one after the other
+abbrev pub connections_number : Number
+connections_number = record { name = codes "connections"; least = 1; greatest = 4294967295; left_out = Some 4294967295 }
+
 -- an option with a text, `--NAME TEXT`
 abbrev pub text_option : Text → Rule
 text_option name = record (new_rule name) { long = Some name; value_names = 1 }
@@ -59,10 +68,14 @@ limit_rules =
 abbrev pub desk_rules : List Rule
 desk_rules =
     option_of first_system_number ∷ option_of turns_number ∷ text_option (codes "mdln") ∷ text_option (codes "softrev")
-    ∷ flag_option (codes "send") ∷ []
+    ∷ flag_option (codes "send") ∷ flag_option (codes "answer") ∷ []
+
+abbrev pub again_rules : List Rule
+again_rules =
+    flag_option (codes "again") ∷ flag_option (codes "once") ∷ option_of connections_number ∷ option_of t5_number ∷ []
 
 abbrev pub serve_rules : List Rule
-serve_rules = connection_rules ++ (limit_rules ++ desk_rules)
+serve_rules = connection_rules ++ (limit_rules ++ (desk_rules ++ again_rules))
 
 -- a command with these options more
 abbrev pub with_rules : App → List Rule → App
@@ -97,15 +110,23 @@ HasSettings rows s =
     × (number_in device_number rows ≡ Some s.device) × HasTimes rows s.t3 s.t6 s.t7 s.t8
     × (number_in max_number rows ≡ Some s.max) × (number_in depth_number rows ≡ Some s.depth)
 
--- the matches have these settings, address, port, first system bytes and turns
-abbrev pub HasTerms : List Row → Parameters → Text → ℕ → ℕ → ℕ → Type 0
-HasTerms rows settings address port first_system turns =
+-- the matches say so of connections one after the other
+abbrev pub HasRepeat : List Row → Repeat → Type 0
+HasRepeat rows repeat =
+    IsFlag (codes "again") rows repeat.again × IsFlag (codes "once") rows repeat.once
+    × (number_in connections_number rows ≡ Some repeat.connections) × (number_in t5_number rows ≡ Some repeat.t5)
+
+-- the matches have these settings, address, port, first system bytes and turns, and say so of connections
+abbrev pub HasTerms : List Row → Parameters → Text → ℕ → ℕ → ℕ → Repeat → Type 0
+HasTerms rows settings address port first_system turns repeat =
     HasSettings rows settings × (first_of (codes "address") rows ≡ Some address) × (number_in port_number rows ≡ Some port)
     × (number_in first_system_number rows ≡ Some first_system) × (number_in turns_number rows ≡ Some turns)
+    × HasRepeat rows repeat
 
 -- the matches ask for this service
 abbrev pub AsksToServe : List Row → Service → Type 0
 AsksToServe rows service =
     HasTerms rows service.settings (string_bytes service.address) service.port service.first_system service.turns
+    service.repeat
     × (string_bytes service.mdln ≡ text_in (codes "mdln") rows) × (string_bytes service.softrev ≡ text_in (codes "softrev") rows)
-    × IsFlag (codes "send") rows service.send
+    × IsFlag (codes "send") rows service.send × IsFlag (codes "answer") rows service.answer

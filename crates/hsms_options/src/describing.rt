@@ -5,16 +5,18 @@ ghost use Rattle.clap.specs.Words.{app_of};
 ghost use Rattle.hsms_options.specs.Options.{audit_command, command_line, encode_command, show_command};
 
 use crate::describing_options::{
-    depth_option, device_option, hex_option, max_option, system_option,
+    bare_option, depth_option, device_option, hex_input_option, hex_option, max_option,
+    system_option,
 };
 use crate::describing_serve::serve_command;
 use clap::Command;
 use std::alloc::{AllocError, Global};
 
 const SHOW_HELP: &str = "Example: hsms show < capture.bin\n\n\
-    Statuses: 0 every message is shown; 2 the command line or the input is refused (TooShort, TooLong, CutOff);\n\
-    3 the input can't be read (Read), the output can't be written (Write), there are more than 4294967295 messages\n\
-    (Endless), or memory is wanting (Memory). What was shown before a fault stays shown.";
+    Statuses: 0 every message is shown; 2 the command line or the input is refused (TooShort, TooLong, CutOff; with\n\
+    --hex NoHex, NoMessage); 3 the input can't be read (Read), the output can't be written (Write), there are more\n\
+    than 4294967295 messages or lines (Endless), or memory is wanting (Memory). What was shown before a fault stays\n\
+    shown.";
 
 const AUDIT_USAGE: &str = "hsms audit [OPTIONS] < LOG";
 
@@ -29,7 +31,7 @@ const AUDIT_HELP: &str =
     NotDue         this timer hasn't run out\n  \
     TooLong        the frame is longer than the settings allow\n  \
     PType          its PType isn't 0\n  \
-    SType          its SType is none of the standard\n  \
+    SType          single session doesn't have its SType\n  \
     ControlText    a control message with a text\n  \
     Session        its session ID isn't that of such a message\n  \
     Direction      this end may not send or take it\n  \
@@ -50,7 +52,7 @@ const ENCODE_HELP: &str = "Example: echo 'S1F13 W <L> .' | hsms encode > message
     Deep, TooLarge, TooLong); 3 the input can't be read (Read), the output can't be written (Write), or memory is\n\
     wanting (Memory). Nothing is written where the input is refused.";
 
-const VERSION: &str = "0.1 (session logs of versions 1 and 2)";
+const VERSION: &str = "0.2 (session logs of versions 1 and 2)";
 
 /// The command `hsms`, which wants one of four subcommands.
 pub fn command<'a>(alloc: Global) -> Result<Command<'a>, AllocError>
@@ -74,7 +76,9 @@ fn show_command<'a>(alloc: Global) -> Result<Command<'a>, AllocError>
         .about("Shows the HSMS messages of standard input, a line each")
         .after_help(SHOW_HELP)
         .arg(max_option(alloc))?
-        .arg(depth_option(alloc))
+        .arg(depth_option(alloc))?
+        .arg(hex_input_option(alloc))?
+        .arg(bare_option(alloc))
 }
 
 fn audit_command<'a>(alloc: Global) -> Command<'a>

@@ -58,13 +58,41 @@ pub fn system_option<'a>(alloc: Global) -> Arg<'a>
         .value_parser(value_parser!(u32))
 }
 
-/// The option `--hex`.
+/// The option `--hex` of a command that writes messages.
 pub fn hex_option<'a>(alloc: Global) -> Arg<'a>
     ensures rule { rule_of result ≡ flag_option (codes "hex") }
     ensures local { result.global ≡ false }
 {
-    Arg::new(alloc, "hex")
-        .long("hex")
-        .help("Write each message as a line of hexadecimal")
+    flag(alloc, "hex", "Write each message as a line of hexadecimal")
+}
+
+/// The option `--hex` of a command that reads messages.
+pub fn hex_input_option<'a>(alloc: Global) -> Arg<'a>
+    ensures rule { rule_of result ≡ flag_option (codes "hex") }
+    ensures local { result.global ≡ false }
+{
+    flag(alloc, "hex", "Read each message from a line of hexadecimal")
+}
+
+/// The option `--bare`.
+pub fn bare_option<'a>(alloc: Global) -> Arg<'a>
+    ensures rule { rule_of result ≡ flag_option (codes "bare") }
+    ensures local { result.global ≡ false }
+{
+    flag(
+        alloc,
+        "bare",
+        "With --hex: lines of header and text alone, as the hexadecimal of a log's lines",
+    )
+}
+
+/// An option without a value.
+pub fn flag<'a>(alloc: Global, name: &'a str, help: &'a str) -> Arg<'a>
+    ensures rule { rule_of result ≡ flag_option name.now }
+    ensures local { result.global ≡ false }
+{
+    Arg::new(alloc, name)
+        .long(name)
+        .help(help)
         .action(ArgAction::SetTrue)
 }

@@ -3,13 +3,13 @@
 ghost use Rattle.std.specs.Prelude.{◌≡◌, IfOk, Some, [], codes, pos, false};
 ghost use Rattle.clap.specs.Words.{app_of, rule_of};
 ghost use Rattle.clap.specs.declared.builder.value_parser.ValueParser.TheVariants.{Signed};
-ghost use Rattle.hsms_options.specs.Number.{flag_option, option_of};
+ghost use Rattle.hsms_options.specs.Number.{option_of};
 ghost use Rattle.hsms_options.specs.Options.{serve_command};
-ghost use Rattle.hsms_options.specs.Service.{connection_rules, desk_rules, limit_rules, needed_option, port_number, text_option, with_rules};
+ghost use Rattle.hsms_options.specs.Service.{again_rules, connection_rules, connections_number, desk_rules, limit_rules, needed_option, port_number, text_option, with_rules};
 
-use crate::describing_options::{depth_option, device_option, max_option};
+use crate::describing_options::{depth_option, device_option, flag, max_option};
 use crate::limits::{GREATEST_PORT, LEAST_PORT};
-use clap::{Arg, ArgAction, Command, value_parser};
+use clap::{Arg, Command, value_parser};
 use hsms_machine::{GREATEST_TIME, LEAST_TIME};
 use std::alloc::{AllocError, Global};
 
@@ -33,7 +33,8 @@ pub fn serve_command<'a>(alloc: Global) -> Result<Command<'a>, AllocError>
         .after_help(SERVE_HELP);
     let connected = with_connection(alloc, serve)?;
     let limited = with_limits(alloc, connected)?;
-    with_desk(alloc, limited)
+    let answering = with_desk(alloc, limited)?;
+    with_again(alloc, answering)
 }
 
 // Adds how the end gets its connection, and its device.
@@ -108,7 +109,39 @@ fn with_desk<'a>(alloc: Global, command: Command<'a>) -> Result<Command<'a>, All
             "softrev",
             "Software revision of the equipment [default: empty]",
         ))?
-        .arg(send_option(alloc))
+        .arg(flag(
+            alloc,
+            "send",
+            "Send the messages of standard input, in notation, and then separate",
+        ))?
+        .arg(flag(
+            alloc,
+            "answer",
+            "Reply by those of standard input that have even functions, and send the others",
+        ))
+}
+
+// Adds whether it serves one connection after the other.
+fn with_again<'a>(alloc: Global, command: Command<'a>) -> Result<Command<'a>, AllocError>
+    ensures { IfOk result (λ c. app_of c ≡ with_rules (app_of command.entry) again_rules) }
+{
+    command
+        .arg(flag(
+            alloc,
+            "again",
+            "Serve connection after connection, in one log of version 2; without it one alone",
+        ))?
+        .arg(flag(
+            alloc,
+            "once",
+            "With --again: send the script in the first connection alone, and not in each",
+        ))?
+        .arg(connections_option(alloc))?
+        .arg(time_option(
+            alloc,
+            "t5",
+            "With --again: wait before it connects again, in ms: 1 to 3600000 [default: 10000]",
+        ))
 }
 
 fn needed_option<'a>(alloc: Global, name: &'a str, value: &'a str, help: &'a str) -> Arg<'a>
@@ -166,12 +199,13 @@ fn port_option<'a>(alloc: Global) -> Arg<'a>
         .value_parser(value_parser!(u16).range(i64::from(LEAST_PORT)..=i64::from(GREATEST_PORT)))
 }
 
-fn send_option<'a>(alloc: Global) -> Arg<'a>
-    ensures rule { rule_of result ≡ flag_option (codes "send") }
+fn connections_option<'a>(alloc: Global) -> Arg<'a>
+    ensures rule { rule_of result ≡ option_of connections_number }
     ensures local { result.global ≡ false }
 {
-    Arg::new(alloc, "send")
-        .long("send")
-        .help("Send the messages of standard input, in notation, and then separate")
-        .action(ArgAction::SetTrue)
+    Arg::new(alloc, "connections")
+        .long("connections")
+        .value_name("N")
+        .help("With --again: end after so many connections: 1 to 4294967295 [default: 4294967295]")
+        .value_parser(value_parser!(u32).range(1..))
 }

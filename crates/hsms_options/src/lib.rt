@@ -16,9 +16,11 @@ mod describing_serve;
 mod fault;
 mod limits;
 mod options;
+mod repeating;
 mod service;
 mod values;
 
 pub use fault::{ToolFault, exit_status, no_request, refused};
-pub use options::{Request, Task, parse};
+pub use options::{Form, Request, Task, parse};
+pub use repeating::Repeat;
 pub use service::Service;

@@ -24,6 +24,12 @@ pub const DEFAULT_T7: u32 = 10_000;
 /// The longest time between octets of a message, in milliseconds (SEMI E37, T8).
 pub const DEFAULT_T8: u32 = 5_000;
 
+/// How long an end waits before it connects again, in milliseconds (SEMI E37, T5).
+pub const DEFAULT_T5: u32 = 10_000;
+
+/// How many connections are served at most, one after the other.
+pub const DEFAULT_CONNECTIONS: u32 = u32::MAX;
+
 /// How many turns an end takes at most.
 pub const DEFAULT_TURNS: u32 = u32::MAX;
 

@@ -3,7 +3,7 @@
 ghost use Rattle.std.specs.Prelude.{◌≡◌, ◌≢◌, IfOk, IfErr, IfSome, IsErrAnd, Ok, None, codes, map, string_bytes};
 ghost use Rattle.clap.specs.Words.{found_of, kind_of, rows_of, subcommand_rows_of};
 ghost use Rattle.clap.specs.declared.error.kind.ErrorKind.TheVariants.{OutOfMemory};
-ghost use Rattle.hsms_options.specs.Options.{AsksBy, AsksFor, AsksForTask, CallsForText, IsHelp, IsTaskWithinLimits, IsWithinLimits, Spells, SpellsNothing, request_to_serve};
+ghost use Rattle.hsms_options.specs.Options.{AsksBy, AsksFor, AsksForTask, CallsForText, IsHelp, IsTaskWithinLimits, IsWithinLimits, Spells, SpellsNothing, form_in, request_to_serve};
 ghost use Rattle.hsms_options.specs.Status.{IsRefusedAs, IsRefusedFor};
 ghost use Rattle.hsms_options.specs.declared.options.Request.{Request};
 ghost use Rattle.hsms_options.specs.declared.options.Request.TheVariants as request;
@@ -31,11 +31,12 @@ pub enum Request {
 pub enum Task {
     /// The text is to be printed.
     Help(String),
-    /// The messages of standard input are to be shown. `max` is the greatest count of octets of header and text, and
-    /// `depth` the deepest nesting of lists.
+    /// The messages of standard input, in a form, are to be shown. `max` is the greatest count of octets of header and
+    /// text, and `depth` the deepest nesting of lists.
     Show {
         max: u32,
         depth: u8,
+        form: Form,
     },
     /// The log of standard input is to be audited.
     Audit,
@@ -48,6 +49,17 @@ pub enum Task {
         depth: u8,
         hex: bool,
     },
+}
+
+/// In which form the messages of an input stand.
+#[derive(Clone, Copy, Debug)]
+pub enum Form {
+    /// As octets, one message behind another.
+    Octets,
+    /// As lines of hexadecimal, each of the octets of a message.
+    Lines,
+    /// As lines of hexadecimal, each of header and text alone: without the four octets that count them.
+    BareLines,
 }
 
 /// What the words of a command line ask for. The first one is the command's name.
@@ -122,7 +134,19 @@ fn asked_to_show(options: &ArgMatches<'_>) -> Option<Task>
 {
     let max = max_of(options)?;
     let depth = depth_of(options)?;
-    Some(Task::Show { max, depth })
+    let form = form_of(options)?;
+    Some(Task::Show { max, depth, form })
+}
+
+fn form_of(options: &ArgMatches<'_>) -> Option<Form>
+    ensures { result ≡ form_in (rows_of (found_of options.now)) }
+{
+    match (flag_of(options, "hex"), flag_of(options, "bare")) {
+        (false, false) => Some(Form::Octets),
+        (true, false) => Some(Form::Lines),
+        (true, true) => Some(Form::BareLines),
+        (false, true) => None,
+    }
 }
 
 fn asked_to_encode(options: &ArgMatches<'_>) -> Option<Task>

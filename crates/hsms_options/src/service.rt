@@ -1,6 +1,6 @@
 //! The options of `hsms serve`: which connection is to be served, and how.
 
-ghost use Rattle.std.specs.Prelude.{◌≡◌, ◌≤◌, ℕ, List, IfOk, IfErr, IfSome, Some, None, codes, option_map};
+ghost use Rattle.std.specs.Prelude.{◌≡◌, ◌≤◌, ℕ, List, IfOk, IfErr, IfSome, Some, None, codes};
 ghost use Rattle.clap.specs.Words.{first_of, found_of, rows_of};
 ghost use Rattle.hsms_machine.specs.Settings.{IsTimeLimit, Parameters};
 ghost use Rattle.hsms_machine.specs.declared.settings.Role.{Role};
@@ -8,6 +8,7 @@ ghost use Rattle.hsms_machine.specs.declared.settings.Side.{Side};
 ghost use Rattle.hsms_options.specs.Number.{number_in};
 ghost use Rattle.hsms_options.specs.Service.{AsksToServe, HasSettings, HasTerms, HasTimes, port_number, role_word, side_word, text_in, time_number};
 ghost use Rattle.hsms_options.specs.Status.{IsRefusedFor};
+ghost use Rattle.hsms_options.specs.declared.repeating.Repeat.{Repeat};
 ghost use Rattle.hsms_options.specs.declared.service.Service.{Service};
 
 use crate::fault::{ToolFault, no_request};
@@ -15,7 +16,8 @@ use crate::limits::{
     DEFAULT_SYSTEM, DEFAULT_T3, DEFAULT_T6, DEFAULT_T7, DEFAULT_T8, DEFAULT_TURNS, GREATEST_PORT,
     LEAST_PORT,
 };
-use crate::values::{depth_of, device_of, flag_of, max_of, number_of};
+use crate::repeating::{Repeat, repeat_of};
+use crate::values::{depth_of, device_of, flag_of, max_of, number_of, text_of};
 use clap::ArgMatches;
 use hsms_machine::{GREATEST_TIME, LEAST_TIME, Role, Settings, Side};
 use std::alloc::Global;
@@ -37,8 +39,12 @@ pub struct Service {
     pub mdln: String,
     /// The software revision that equipment tells of itself.
     pub softrev: String,
-    /// Whether standard input is a script of messages that are to be sent.
+    /// Whether standard input is a script of messages that are to be sent, and then the session is to be separated.
     pub send: bool,
+    /// Whether the messages of standard input that have an even function are replies of its desk.
+    pub answer: bool,
+    /// Whether connections are served one after the other, and which.
+    pub repeat: Repeat,
 }
 
 /// The options that have to be given, or to be numbers: the settings, where the connection is, and the counts.
@@ -49,6 +55,7 @@ struct Terms<'a> {
     port: u16,
     first_system: u32,
     turns: u32,
+    repeat: Repeat,
 }
 
 /// The times of an end, in milliseconds.
@@ -81,6 +88,8 @@ pub fn asked_to_serve(alloc: Global, options: &ArgMatches<'_>) -> Result<Service
             mdln: String::from_str(alloc, text_or_none(options, "mdln"))?,
             softrev: String::from_str(alloc, text_or_none(options, "softrev"))?,
             send: flag_of(options, "send"),
+            answer: flag_of(options, "answer"),
+            repeat: terms.repeat,
         }),
         None => Err(no_request(alloc)),
     }
@@ -88,22 +97,25 @@ pub fn asked_to_serve(alloc: Global, options: &ArgMatches<'_>) -> Result<Service
 
 fn terms_of<'a>(options: &ArgMatches<'a>) -> Option<Terms<'a>>
     ensures asks { IfSome result (λ terms.
-        HasTerms (rows_of (found_of options.now)) terms.settings terms.address.now terms.port terms.first_system terms.turns) }
+        HasTerms (rows_of (found_of options.now)) terms.settings terms.address.now terms.port terms.first_system terms.turns
+        terms.repeat) }
     ensures port { IfSome result (λ terms. (1 ≤ terms.port) × (terms.port ≤ 65535)) }
-    ensures none { result ≡ None → (settings : Parameters) (address : List ℕ) (port first_system turns : ℕ)
-        → HasTerms (rows_of (found_of options.now)) settings address port first_system turns → ⊥ }
+    ensures none { result ≡ None → (settings : Parameters) (address : List ℕ) (port first_system turns : ℕ) (repeat : Repeat)
+        → HasTerms (rows_of (found_of options.now)) settings address port first_system turns repeat → ⊥ }
 {
     let settings = settings_of(options)?;
     let address = text_of(options, "address")?;
     let port = port_of(options)?;
     let first_system = number_of(options, "first-system", 0, u32::MAX, Some(DEFAULT_SYSTEM))?;
     let turns = number_of(options, "turns", 0, u32::MAX, Some(DEFAULT_TURNS))?;
+    let repeat = repeat_of(options)?;
     Some(Terms {
         settings,
         address,
         port,
         first_system,
         turns,
+        repeat,
     })
 }
 
@@ -135,7 +147,8 @@ fn times_of(options: &ArgMatches<'_>) -> Option<Times>
     Some(Times { t3, t6, t7, t8 })
 }
 
-fn time_of(options: &ArgMatches<'_>, name: &str, left_out: u32) -> Option<u32>
+/// The time of an option, in milliseconds.
+pub fn time_of(options: &ArgMatches<'_>, name: &str, left_out: u32) -> Option<u32>
     requires { IsTimeLimit left_out }
     ensures value { result ≡ number_in (time_number name.now left_out) (rows_of (found_of options.now)) }
     ensures within { IfSome result IsTimeLimit }
@@ -174,13 +187,6 @@ fn side_of(options: &ArgMatches<'_>) -> Option<Side>
         "passive" => Some(Side::Passive),
         _ => None,
     }
-}
-
-// The text of an option, if it is given.
-fn text_of<'a>(options: &ArgMatches<'a>, name: &str) -> Option<&'a str>
-    ensures { option_map (λ text. text.now) result ≡ first_of name.now (rows_of (found_of options.now)) }
-{
-    options.get_str(name)
 }
 
 // The text of an option, which is empty where it isn't given.

@@ -1,7 +1,7 @@
 //! The values of options, as `clap` gives them.
 
-ghost use Rattle.std.specs.Prelude.{◌≡◌, ◌≤◌, ◌&&◌, IfSome, Some, None, if◌then◌else◌, nat_le};
-ghost use Rattle.clap.specs.Words.{found_of, rows_of};
+ghost use Rattle.std.specs.Prelude.{◌≡◌, ◌≤◌, ◌&&◌, IfSome, Some, None, if◌then◌else◌, nat_le, option_map};
+ghost use Rattle.clap.specs.Words.{first_of, found_of, rows_of};
 ghost use Rattle.hsms_options.specs.Number.{IsFlag, depth_number, device_number, max_number, number_in, system_number};
 
 use crate::limits::{DEFAULT_DEPTH, DEFAULT_DEVICE, DEFAULT_MAX, DEFAULT_SYSTEM};
@@ -85,5 +85,15 @@ fn within(number: u32, least: u32, greatest: u32) -> Option<u32>
 pub fn flag_of(options: &ArgMatches<'_>, name: &str) -> bool
     ensures { IsFlag name.now (rows_of (found_of options.now)) result }
 {
-    options.get_flag(name)
+    match text_of(options, name) {
+        Some(text) => text == "true",
+        None => false,
+    }
+}
+
+/// The text of an option, if it is given.
+pub fn text_of<'a>(options: &ArgMatches<'a>, name: &str) -> Option<&'a str>
+    ensures { option_map (λ text. text.now) result ≡ first_of name.now (rows_of (found_of options.now)) }
+{
+    options.get_str(name)
 }

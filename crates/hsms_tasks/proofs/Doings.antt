@@ -5,17 +5,27 @@ use Rattle.hsms_frame.specs.Count.{count_failure, next_count}
 use Rattle.hsms_frame.specs.Device.{SourceState, WhereTold, Grows, GrowsByFront}
 use Rattle.hsms_options.specs.declared.fault.ToolFault.{ToolFault}
 use Rattle.hsms_options.specs.declared.fault.ToolFault.TheVariants.{Refused, Device, Memory}
-use Rattle.hsms_tasks.specs.Doing.{IsDone, Prints, well}
+use Rattle.hsms_options.specs.declared.options.Form.{Form}
+use Rattle.hsms_options.specs.declared.options.Form.TheVariants as forms
+use Rattle.hsms_tasks.specs.Doing.{IsDone, Prints, ShowsForm, well}
 use Rattle.hsms_tasks.specs.Encode.{EncodesAll}
-use Rattle.hsms_tasks.specs.Show.{CountsFailure, IsReadOrWrite, IsReadWriteOrEndless, IsWrite, Shows}
+use Rattle.hsms_tasks.specs.Show.{CountsFailure, IsReadOrWrite, IsReadWriteOrEndless, IsWrite}
 use Rattle.hsms_tasks.proofs.Devices.{of_write, wider}
 
-shows_well : (max depth : ℕ) (input : List ℕ) (r : Result (Unit {0}) ToolFault) (left old new : Option (List ℕ)) → Shows max depth input r left old new
-    → Shows max depth input (well r) left old new
-shows_well max depth input (Ok _) left old new shows = shows
-shows_well max depth input (Err (Refused words)) left old new shows = shows
-shows_well max depth input (Err (Device word)) left old new shows = shows
-shows_well max depth input (Err Memory) left old new shows = shows
+shows_well : (form : Form) (max depth : ℕ) (input : List ℕ) (r : Result (Unit {0}) ToolFault) (left old new : Option (List ℕ))
+    → ShowsForm form max depth input r left old new → ShowsForm form max depth input (well r) left old new
+shows_well forms.Octets max depth input (Ok _) left old new shows = shows
+shows_well forms.Octets max depth input (Err (Refused words)) left old new shows = shows
+shows_well forms.Octets max depth input (Err (Device word)) left old new shows = shows
+shows_well forms.Octets max depth input (Err Memory) left old new shows = shows
+shows_well forms.Lines max depth input (Ok _) left old new shows = shows
+shows_well forms.Lines max depth input (Err (Refused words)) left old new shows = shows
+shows_well forms.Lines max depth input (Err (Device word)) left old new shows = shows
+shows_well forms.Lines max depth input (Err Memory) left old new shows = shows
+shows_well forms.BareLines max depth input (Ok _) left old new shows = shows
+shows_well forms.BareLines max depth input (Err (Refused words)) left old new shows = shows
+shows_well forms.BareLines max depth input (Err (Device word)) left old new shows = shows
+shows_well forms.BareLines max depth input (Err Memory) left old new shows = shows
 
 encodes_well : (device max depth : ℕ) (hex : Bool) (system : ℕ) (input : List ℕ) (r : Result (Unit {0}) ToolFault) (left old new : Option (List ℕ))
     → EncodesAll device max depth hex system input r left old new → EncodesAll device max depth hex system input (well r) left old new
@@ -29,11 +39,11 @@ is_done (Ok _) old new end = (refl, end)
 is_done (Err fault) old new end = tt
 
 -- messages were shown
-pub shows_all : (max depth : ℕ) (r : Result (Unit {0}) ToolFault) (old new : SourceState) (before after : Option (List ℕ))
-    → OnOk r (new.ends ≡ next_count old.ends) → WhereTold old.left (λ input. Shows max depth input r new.left before after)
-    → IsDone (well r) old new × WhereTold old.left (λ input. Shows max depth input (well r) new.left before after)
-shows_all max depth r old new before after end shows =
-    (is_done r old new end, (λ input told. shows_well max depth input r new.left before after (shows input told)))
+pub shows_all : (form : Form) (max depth : ℕ) (r : Result (Unit {0}) ToolFault) (old new : SourceState) (before after : Option (List ℕ))
+    → OnOk r (new.ends ≡ next_count old.ends) → WhereTold old.left (λ input. ShowsForm form max depth input r new.left before after)
+    → IsDone (well r) old new × WhereTold old.left (λ input. ShowsForm form max depth input (well r) new.left before after)
+shows_all form max depth r old new before after end shows =
+    (is_done r old new end, (λ input told. shows_well form max depth input r new.left before after (shows input told)))
 
 -- messages were encoded
 pub encodes_all : (device max depth : ℕ) (hex : Bool) (system : ℕ) (r : Result (Unit {0}) ToolFault) (old new : SourceState) (before after : Option (List ℕ))

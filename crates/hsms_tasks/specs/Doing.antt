@@ -1,15 +1,18 @@
 -- What the command does between its input and its output.
-use Rattle.std.specs.Prelude.{◌≡◌, ℕ, Bool, true, List, codes, string_bytes, Option, Result, Ok, Err, IfOk}
+use Rattle.std.specs.Prelude.{◌≡◌, ℕ, Bool, true, false, List, codes, string_bytes, Option, Result, Ok, Err, IfOk}
 use Rattle.std.specs.Bool.{OnTrue}
 use Rattle.hsms_frame.specs.Device.{SourceState, SinkState, WhereTold, Grows, GrowsByFront}
 use Rattle.hsms_log.specs.Auditing.{HasEnded}
 use Rattle.hsms_options.specs.declared.fault.ToolFault.{ToolFault}
 use Rattle.hsms_options.specs.declared.fault.ToolFault.TheVariants.{Refused, Device, Memory}
+use Rattle.hsms_options.specs.declared.options.Form.{Form}
+use Rattle.hsms_options.specs.declared.options.Form.TheVariants as form
 use Rattle.hsms_options.specs.declared.options.Task.{Task}
 use Rattle.hsms_options.specs.declared.options.Task.TheVariants as asked
 use Rattle.hsms_tasks.specs.Audit.{AuditsTo}
 use Rattle.hsms_tasks.specs.Encode.{EncodesAll}
 use Rattle.hsms_tasks.specs.Show.{Shows}
+use Rattle.hsms_tasks.specs.ShowHex.{ShowsHex}
 
 -- a text is written, or a part of it where the write fails
 abbrev pub Prints : List ℕ → Result Bool ToolFault → Option (List ℕ) → Option (List ℕ) → Type 0
@@ -22,12 +25,20 @@ Prints text (Err Memory) old new = ⊥
 abbrev pub IsDone : Result Bool ToolFault → SourceState → SourceState → Type 0
 IsDone result old new = IfOk result (λ well. (well ≡ true) × HasEnded old.ends new.ends)
 
+-- what is shown of an input, by the form of its messages
+abbrev pub ShowsForm : {T : Type 0} → Form → ℕ → ℕ → List ℕ → Result T ToolFault → Option (List ℕ) → Option (List ℕ)
+    → Option (List ℕ) → Type 0
+ShowsForm form.Octets max depth input result left old new = Shows max depth input result left old new
+ShowsForm form.Lines max depth input result left old new = ShowsHex false max depth input result left old new
+ShowsForm form.BareLines max depth input result left old new = ShowsHex true max depth input result left old new
+
 -- What is done for a task, with the states of input and output before and now: help is printed; messages are shown,
 -- or encoded; a log is audited, and all is well where it passes.
 abbrev pub Performs : Task → Result Bool ToolFault → SourceState → SourceState → SinkState → SinkState → Type 0
 Performs (asked.Help text) result old new before after = Prints (string_bytes text) result before.written after.written
-Performs (asked.Show max depth) result old new before after =
-    IsDone result old new × WhereTold old.left (λ input. Shows max depth input result new.left before.written after.written)
+Performs (asked.Show max depth form) result old new before after =
+    IsDone result old new
+    × WhereTold old.left (λ input. ShowsForm form max depth input result new.left before.written after.written)
 Performs asked.Audit result old new before after =
     IfOk result (λ well. OnTrue well (HasEnded old.ends new.ends))
     × WhereTold old.left (λ input. AuditsTo input result new.left (HasEnded old.ends new.ends) before.written after.written)

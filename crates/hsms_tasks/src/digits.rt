@@ -1,10 +1,11 @@
 //! Octets in hexadecimal, as they stand in a line.
 
-ghost use Rattle.std.specs.Prelude.{◌≡◌, ◌++◌, [], ◌∷◌};
+ghost use Rattle.std.specs.Prelude.{◌≡◌, ◌++◌, [], ◌∷◌, map};
 ghost use Rattle.hex.specs.Hex.{encode_lower};
-ghost use Rattle.hsms_tasks.specs.Line.{address_of};
+ghost use Rattle.hsms_tasks.specs.Line.{address_of, digit_of};
 
 use hsms_frame::Header;
+use std::simd::prelude::*;
 
 // The two digits of each octet.
 static DIGITS: [[u8; 2]; 256] = [
@@ -63,4 +64,31 @@ pub fn address_and_end(header: Header) -> [u8; 15]
 {
     let [a, b, c, d, e, f, g, h, i, j, k, l, m, n] = address(header);
     [a, b, c, d, e, f, g, h, i, j, k, l, m, n, b'\n']
+}
+
+/// The digits of sixteen octets.
+#[inline(always)]
+pub fn digits_of_sixteen(octets: &[u8; 16]) -> [u8; 32]
+    ensures { result ≡ encode_lower octets.now }
+{
+    let octets = u8x16::from_array(*octets);
+    let high = digits_of_values(octets >> u8x16::splat(4));
+    let low = digits_of_values(octets & u8x16::splat(15));
+    let mut digits = [0u8; 32];
+    let (first, second) = high.interleave(low);
+    first.copy_to_slice(&mut digits);
+    second.copy_to_slice(&mut digits[16..]);
+    digits
+}
+
+// The digit of each value, where that is below sixteen.
+#[inline(always)]
+fn digits_of_values(values: u8x16) -> u8x16
+    ensures { result ≡ map digit_of values }
+{
+    let is_letter = values.simd_ge(u8x16::splat(10));
+    is_letter.select(
+        values + u8x16::splat(b'a' - 10),
+        values + u8x16::splat(b'0'),
+    )
 }

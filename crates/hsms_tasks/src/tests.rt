@@ -2,6 +2,7 @@ mod auditing;
 mod connections;
 mod devices;
 mod encoding;
+mod hex_lines;
 
 ghost use Rattle.std.specs.Prelude.{◌<◌};
 

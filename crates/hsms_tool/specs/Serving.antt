@@ -1,5 +1,6 @@
 -- What `hsms serve` serves a connection with, and how it tells what came of it.
-use Rattle.std.specs.Prelude.{◌≡◌, ℕ, Bool, true, List, codes, string_bytes, Result, Ok, Err}
+use Rattle.std.specs.Prelude.{◌≡◌, ℕ, Bool, true, List, codes, string_bytes, Option, Some, None, Result, Ok, Err}
+use Rattle.secs_text.specs.declared.message.Message.{Message}
 use Rattle.secs_text.specs.Content.{Content}
 use Rattle.hsms_end.specs.Answer.{Answered}
 use Rattle.hsms_end.specs.Desk.{equipment_answer, host_answer}
@@ -11,6 +12,7 @@ use Rattle.hsms_ends.specs.declared.fault.ServeFault.TheVariants as serve
 use Rattle.hsms_ends.specs.declared.serving.Served.{Served}
 use Rattle.hsms_ends.specs.declared.step.Step.{Step}
 use Rattle.hsms_ends.specs.Link.{Told}
+use Rattle.hsms_ends.specs.Scripted.{scripted_answer}
 use Rattle.hsms_ends.specs.Serving.{Serves}
 use Rattle.hsms_tool.specs.declared.desks.OwnDesk.{OwnDesk}
 use Rattle.hsms_tool.specs.declared.desks.OwnDesk.TheVariants.{Host, Equipment}
@@ -20,14 +22,16 @@ use Rattle.hsms_options.specs.declared.service.Service.{Service}
 
 -- what a desk answers
 abbrev pub own_answer : OwnDesk → Content → Answered
-own_answer (Host desk) message = host_answer message
-own_answer (Equipment desk) message = equipment_answer desk.mdln.items desk.softrev.items message
+own_answer (Host desk) message = scripted_answer desk.replies.items host_answer message
+own_answer (Equipment desk) message =
+    scripted_answer desk.replies.items (equipment_answer desk.own.mdln.items desk.own.softrev.items) message
 
--- the desk of a service: a host's, or that of equipment with its model and software revision
-abbrev pub IsDeskOf : Service → OwnDesk → Type 0
-IsDeskOf service (Host desk) = service.settings.role ≡ role.Host
-IsDeskOf service (Equipment desk) =
-    (service.settings.role ≡ role.Equipment) × (desk.mdln.items ≡ string_bytes service.mdln) × (desk.softrev.items ≡ string_bytes service.softrev)
+-- the desk of a service with these replies: a host's, or that of equipment with its model and software revision
+abbrev pub IsDeskOf : Service → List Message → OwnDesk → Type 0
+IsDeskOf service replies (Host desk) = (service.settings.role ≡ role.Host) × (desk.replies.items ≡ replies)
+IsDeskOf service replies (Equipment desk) =
+    (service.settings.role ≡ role.Equipment) × (desk.own.mdln.items ≡ string_bytes service.mdln)
+    × (desk.own.softrev.items ≡ string_bytes service.softrev) × (desk.replies.items ≡ replies)
 
 -- the word for a fault that is a device's, or that ends the serving
 abbrev pub IsWordOf : ServeFault → List ℕ → Type 0
@@ -48,6 +52,18 @@ TellsServed (Ok served) (Ok well) = well ≡ true
 TellsServed (Ok served) (Err told) = ⊥
 TellsServed (Err fault) (Ok well) = ⊥
 TellsServed (Err fault) (Err told) = TellsServe fault told
+
+-- it is well, unless a connection is wanting
+abbrev pub TellsWanting : Option ServeFault → Result Bool ToolFault → Type 0
+TellsWanting None (Ok well) = well ≡ true
+TellsWanting None (Err told) = ⊥
+TellsWanting (Some fault) (Ok well) = ⊥
+TellsWanting (Some fault) (Err told) = TellsServe fault told
+
+-- what came of serving connections one after the other, as the command tells it
+abbrev pub TellsServedAgain : Result ℕ ServeFault → Option ServeFault → Result Bool ToolFault → Type 0
+TellsServedAgain (Ok n) wanting told = TellsWanting wanting told
+TellsServedAgain (Err fault) wanting told = TellsWanting (Some fault) told
 
 -- a new end served a connection with this desk, as the service asks
 abbrev pub ServesTo : Service → OwnDesk → List Step → Result Served ServeFault → SinkState → SinkState → Told → Told → Type 0

@@ -3,17 +3,17 @@
 ghost use Rattle.std.specs.Prelude.{IfOk};
 ghost use Rattle.hsms_tool.specs.Serving.{IsDeskOf};
 
-use hsms_ends::{Answer, Desk, EquipmentDesk, HostDesk};
+use hsms_ends::{Answer, Desk, EquipmentDesk, HostDesk, ScriptedDesk};
 use hsms_machine::Role;
 use hsms_options::Service;
 use secs_text::Message;
 use std::alloc::{AllocError, Global};
 
-/// A host's desk, or that of equipment.
+/// A host's desk, or that of equipment, with the replies of a script.
 #[derive(Debug, Drop)]
 pub enum OwnDesk {
-    Host(HostDesk),
-    Equipment(EquipmentDesk),
+    Host(ScriptedDesk<HostDesk>),
+    Equipment(ScriptedDesk<EquipmentDesk>),
 }
 
 impl Desk for OwnDesk {
@@ -29,15 +29,25 @@ impl Desk for OwnDesk {
     }
 }
 
-/// The desk of a service: a host's, or that of equipment with its model and software revision.
-pub fn desk_of(alloc: Global, service: &Service) -> Result<OwnDesk, AllocError>
-    ensures { IfOk result (IsDeskOf service.now) }
+/// The desk of a service with these replies: a host's, or that of equipment with its model and software revision.
+pub fn desk_of(
+    alloc: Global,
+    service: &Service,
+    replies: Vec<Message>,
+) -> Result<OwnDesk, AllocError>
+    ensures { IfOk result (IsDeskOf service.now replies.items) }
 {
     match service.settings.role() {
-        Role::Host => Ok(OwnDesk::Host(HostDesk)),
-        Role::Equipment => Ok(OwnDesk::Equipment(EquipmentDesk {
-            mdln: Vec::from_slice(alloc, service.mdln.as_bytes())?,
-            softrev: Vec::from_slice(alloc, service.softrev.as_bytes())?,
+        Role::Host => Ok(OwnDesk::Host(ScriptedDesk {
+            replies,
+            own: HostDesk,
         })),
+        Role::Equipment => {
+            let own = EquipmentDesk {
+                mdln: Vec::from_slice(alloc, service.mdln.as_bytes())?,
+                softrev: Vec::from_slice(alloc, service.softrev.as_bytes())?,
+            };
+            Ok(OwnDesk::Equipment(ScriptedDesk { replies, own }))
+        }
     }
 }

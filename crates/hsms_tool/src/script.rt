@@ -1,9 +1,10 @@
-//! The script of `hsms serve --send`: messages in notation.
+//! The script of `hsms serve`: messages in notation.
 
-ghost use Rattle.std.specs.Prelude.{◌≡◌, ◌≤◌, IfOk, IfErr, OnOk, codes};
+ghost use Rattle.std.specs.Prelude.{◌≡◌, ◌≤◌, ◌++◌, IfOk, IfErr, OnOk, [], ◌∷◌, codes, filter, map, not, if◌then◌else◌};
+ghost use Rattle.hsms_ends.specs.declared.step.Step.TheVariants.{Send, Separate};
 ghost use Rattle.hsms_frame.specs.Count.{next_count};
 ghost use Rattle.hsms_frame.specs.Device.{WhereTold};
-ghost use Rattle.hsms_tool.specs.Script.{IsNoScript, IsScript, sends};
+ghost use Rattle.hsms_tool.specs.Script.{IsNoScript, IsScript, is_reply, replies_of, steps_of as script_steps};
 ghost use Rattle.hsms_tasks.specs.Show.{CountsFailure, HasWord};
 
 use hsms_ends::Step;
@@ -13,8 +14,18 @@ use hsms_tasks::{INPUT_LIMIT, messages_of, read_whole};
 use secs_text::Message;
 use std::alloc::{AllocError, Global};
 
-/// Reads the whole input as messages in notation: the steps that send them one after another, and then separate the
-/// session (SEMI E37, section 7). `depth` is the deepest nesting of lists.
+/// What a script asks for.
+#[derive(Debug, Drop)]
+pub struct Script {
+    /// What the end is told, one after the other.
+    pub steps: Vec<Step>,
+    /// What its desk replies by.
+    pub replies: Vec<Message>,
+}
+
+/// Reads the whole input as messages in notation. With `answer` those with an even function are replies (SEMI E5,
+/// function). The others are steps, each of which is sent; with `send` the session is separated then (SEMI E37,
+/// section 7). `depth` is the deepest nesting of lists.
 ///
 /// # Errors
 ///
@@ -26,9 +37,11 @@ pub fn read_script<R: Source>(
     alloc: Global,
     source: &mut R,
     depth: u8,
-) -> Result<Vec<Step>, ToolFault>
+    send: bool,
+    answer: bool,
+) -> Result<Script, ToolFault>
     requires { depth ≤ 100 }
-    ensures ok { IfOk result (λ steps. WhereTold (R.state source.old).left (IsScript depth steps.items)) }
+    ensures ok { IfOk result (λ script. WhereTold (R.state source.old).left (IsScript depth send answer script)) }
     ensures err { IfErr result (λ fault. WhereTold (R.state source.old).left
         (λ input. IsNoScript depth input fault (R.state source.new).left)) }
     ensures word { IfErr result (HasWord (codes "Read")) }
@@ -37,14 +50,52 @@ pub fn read_script<R: Source>(
 {
     let input = read_whole(alloc, source, INPUT_LIMIT)?;
     let messages = messages_of(alloc, &input, depth)?;
-    Ok(steps_of(alloc, messages)?)
+    Ok(script_of(alloc, messages, send, answer)?)
 }
 
-// Each message is sent, and then the session is separated.
-fn steps_of(alloc: Global, messages: Vec<Message>) -> Result<Vec<Step>, AllocError>
-    ensures { IfOk result (λ steps. steps.items ≡ sends messages.items) }
+// The replies and the steps of messages.
+fn script_of(
+    alloc: Global,
+    messages: Vec<Message>,
+    send: bool,
+    answer: bool,
+) -> Result<Script, AllocError>
+    ensures replies { IfOk result (λ script. script.replies.items ≡ replies_of answer messages.items) }
+    ensures steps { IfOk result (λ script. script.steps.items ≡ script_steps send answer messages.items) }
+{
+    let (replies, sent) = parted(alloc, messages, answer)?;
+    let steps = steps_of(alloc, sent, send)?;
+    Ok(Script { steps, replies })
+}
+
+// The replies among messages, and the others.
+fn parted(
+    alloc: Global,
+    messages: Vec<Message>,
+    answer: bool,
+) -> Result<(Vec<Message>, Vec<Message>), AllocError>
+    ensures { IfOk result (λ parts. (parts.0.items ≡ filter (is_reply answer) messages.items)
+        × (parts.1.items ≡ filter (λ m. not (is_reply answer m)) messages.items)) }
+{
+    messages
+        .into_iter()
+        .partition(alloc, |message| replies(answer, message))
+}
+
+// Whether a message is a reply.
+fn replies(answer: bool, message: &Message) -> bool
+    ensures { result ≡ is_reply answer message.now }
+{
+    answer && message.function() % 2 == 0
+}
+
+// Each message is sent, and then the session is separated where it is to be.
+fn steps_of(alloc: Global, messages: Vec<Message>, send: bool) -> Result<Vec<Step>, AllocError>
+    ensures { IfOk result (λ steps. steps.items ≡ map (λ m. Send m) messages.items ++ (if send then Separate ∷ [] else [])) }
 {
     let mut steps: Vec<Step> = messages.into_iter().map(Step::Send).collect(alloc)?;
-    steps.push(Step::Separate)?;
+    if send {
+        steps.push(Step::Separate)?;
+    }
     Ok(steps)
 }

@@ -15,8 +15,8 @@ use std::time::{Clock, Duration};
 /// A TCP connection with its clock, and the counts of its calls.
 #[derive(Drop)]
 pub struct SocketLink<'a, C: Clock, S: Read + Write + OpenStream + Drop> {
-    wire: Wire<'a, C, S>,
-    calls: Calls,
+    pub wire: Wire<'a, C, S>,
+    pub calls: Calls,
 }
 
 impl<'a, C: Clock, S: Read + Write + OpenStream + Drop> SocketLink<'a, C, S> {
@@ -29,7 +29,7 @@ impl<'a, C: Clock, S: Read + Write + OpenStream + Drop> SocketLink<'a, C, S> {
     }
 
     /// Closes the connection once the peer has closed it too, or so many milliseconds are over.
-    pub fn hang_up(self, longest: u64) {
+    pub fn hang_up(mut self, longest: u64) {
         self.wire.hang_up(longest);
     }
 }
@@ -79,8 +79,8 @@ pub fn connected<'a, R: Clock + Net>(
     }
 }
 
-// There is no connection, or memory is wanting for it.
-fn unconnected(kind: ErrorKind) -> ServeFault {
+/// There is no connection, or memory is wanting for it.
+pub fn unconnected(kind: ErrorKind) -> ServeFault {
     if kind == ErrorKind::OutOfMemory {
         ServeFault::Memory
     } else {
@@ -88,17 +88,32 @@ fn unconnected(kind: ErrorKind) -> ServeFault {
     }
 }
 
-// A small message waits for no other one, and octets that the peer doesn't take wait no longer than T8.
 fn stream_of<R: Net>(rt: &R, service: &Service) -> io::Result<R::Stream> {
-    let place = (service.address.as_str(), service.port);
-    let stream = match service.settings.link() {
-        Side::Active => TcpStream::connect(rt, place)?,
-        Side::Passive => {
-            let listener = TcpListener::bind(rt, place)?;
-            let (stream, _) = listener.accept()?;
-            stream
-        }
-    };
+    match service.settings.link() {
+        Side::Active => dialled(rt, service),
+        Side::Passive => accepted::<R>(&listening(rt, service)?, service),
+    }
+}
+
+/// A connection that is made.
+pub fn dialled<R: Net>(rt: &R, service: &Service) -> io::Result<R::Stream> {
+    let stream = TcpStream::connect(rt, (service.address.as_str(), service.port))?;
+    prepared::<R>(stream, service)
+}
+
+/// What is listened at.
+pub fn listening<R: Net>(rt: &R, service: &Service) -> io::Result<R::Listener> {
+    TcpListener::bind(rt, (service.address.as_str(), service.port))
+}
+
+/// The next connection that is listened for.
+pub fn accepted<R: Net>(listener: &R::Listener, service: &Service) -> io::Result<R::Stream> {
+    let (stream, _) = listener.accept()?;
+    prepared::<R>(stream, service)
+}
+
+// A small message waits for no other one, and octets that the peer doesn't take wait no longer than T8.
+fn prepared<R: Net>(stream: R::Stream, service: &Service) -> io::Result<R::Stream> {
     stream.set_nodelay(true)?;
     let t8 = u64::from(service.settings.t8());
     stream.set_write_timeout(Some(Duration::from_millis(t8)))?;

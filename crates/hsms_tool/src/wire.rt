@@ -18,8 +18,8 @@ const LATE: u64 = 20;
 // How many milliseconds pass between two looks at what has come, where the system can't end a read in time.
 const PAUSE: u64 = 1;
 
-/// A TCP connection, and a clock that tells the milliseconds since it was made. Where the clock fails, it tells the
-/// last time again, and 0 at first.
+/// A TCP connection, and a clock that tells the milliseconds since the first one was made. Where the clock fails, it
+/// tells the last time again, and 0 at first.
 #[derive(Drop)]
 pub struct Wire<'a, C: Clock, S: Read + Write + OpenStream + Drop> {
     clock: &'a C,
@@ -42,7 +42,13 @@ impl<'a, C: Clock, S: Read + Write + OpenStream + Drop> Wire<'a, C, S> {
         }
     }
 
-    /// The time since the connection was made.
+    /// Closes the connection, and goes over to the next one, which was made just now. The time goes on.
+    pub fn go_over(&mut self, stream: S) {
+        self.stream = stream;
+        self.limit = None;
+    }
+
+    /// The time since the first connection was made.
     pub fn time(&mut self) -> u64 {
         if let Some(began) = self.began {
             if let Ok(now) = Instant::now(self.clock) {
@@ -138,7 +144,7 @@ impl<'a, C: Clock, S: Read + Write + OpenStream + Drop> Wire<'a, C, S> {
     /// Ends what is sent, and lets go what still comes, until the peer has closed the connection too or so many
     /// milliseconds are over. A connection that is closed while octets lie unread is reset, and the peer loses what it
     /// was sent and hasn't read.
-    pub fn hang_up(mut self, longest: u64) {
+    pub fn hang_up(&mut self, longest: u64) {
         if self.stream.shutdown(Shutdown::Write).is_ok() {
             let until = self.time().saturating_add(longest);
             self.let_go(until);

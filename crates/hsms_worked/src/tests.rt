@@ -10,6 +10,7 @@ mod limits;
 mod order;
 mod own;
 mod party;
+mod reconnect;
 mod refused;
 mod scripted;
 mod serving;

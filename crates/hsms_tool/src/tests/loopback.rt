@@ -5,7 +5,7 @@ use crate::socket::SocketLink;
 use hsms_ends::{Link, Step};
 use hsms_frame::{Feed, Store};
 use hsms_machine::{Role, Settings, Side};
-use hsms_options::Service;
+use hsms_options::{Repeat, Service};
 use hsms_tasks::audit_to;
 use std::alloc::Global;
 use std::io::{Read, Write};
@@ -35,6 +35,13 @@ fn service(alloc: Global, role: Role, link: Side) -> Result<Service, Fail> {
         mdln: String::from_str(alloc, "M")?,
         softrev: String::from_str(alloc, "1")?,
         send: false,
+        answer: false,
+        repeat: Repeat {
+            again: false,
+            once: false,
+            connections: 1,
+            t5: 10000,
+        },
     })
 }
 
@@ -46,7 +53,7 @@ fn verdict<L: Link>(
     script: &[Step],
 ) -> Result<Vec<u8>, Fail> {
     let mut log = Store::new(vec![in alloc; 0u8; 512]?, 512, u64::MAX);
-    let desk = desk_of(alloc, service)?;
+    let desk = desk_of(alloc, service, Vec::new(alloc))?;
     serve_to(alloc, link, &mut log, service, desk, script)?;
     let mut source = Feed::new(Vec::from_slice(alloc, log.written())?, 512, u64::MAX);
     let mut line = Store::new(vec![in alloc; 0u8; 128]?, 128, u64::MAX);

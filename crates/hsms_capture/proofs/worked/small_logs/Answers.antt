@@ -1,4 +1,4 @@
-use Rattle.hsms_capture.proofs.SmallCaptures.{fin_within, half_open, refused, reset_between, separate_crossed, up_late}
+use Rattle.hsms_capture.proofs.SmallCaptures.{fin_within, half_open, refused, refused_once, reset_between, separate_crossed, up_late}
 use Rattle.hsms_capture.proofs.worked.small_logs.Goals as goal
 
 pub returns-clause-refused : goal.returns-clause-refused
@@ -18,3 +18,6 @@ returns-clause-late c = up_late
 
 pub returns-clause-fin : goal.returns-clause-fin
 returns-clause-fin c = fin_within
+
+pub returns-clause-once : goal.returns-clause-once
+returns-clause-once c = refused_once

@@ -7,4 +7,6 @@ pub returns : goal.returns
 returns c =
     let named : app_of c.after_help.result ≡ new_app (codes "show") = rw (c.after_help.ensures, c.about.ensures) c.new.ensures.app in
     let one = c.in_ok-arg.ensures.shape c.max_option.ensures.local ∙ ap₂ with_rule named c.max_option.ensures.rule in
-    IfOk-weaker c.arg-2.result _ _ (λ command adds. adds.shape c.depth_option.ensures.local ∙ ap₂ with_rule one c.depth_option.ensures.rule) c.arg-2.ensures
+    let two = c.in_ok-arg-2.ensures.shape c.depth_option.ensures.local ∙ ap₂ with_rule one c.depth_option.ensures.rule in
+    let three = c.in_ok-arg-3.ensures.shape c.hex_input_option.ensures.local ∙ ap₂ with_rule two c.hex_input_option.ensures.rule in
+    IfOk-weaker c.arg-4.result _ _ (λ command adds. adds.shape c.bare_option.ensures.local ∙ ap₂ with_rule three c.bare_option.ensures.rule) c.arg-4.ensures

@@ -1,7 +1,7 @@
 use Rattle.std.proofs.Common.{ap, codes, ◌≡◌, ◌∙◌}
 use Rattle.std.proofs.lemmas.Result.{IfOk-weaker}
 use Rattle.clap.specs.Words.{App, app_of, new_app}
-use Rattle.hsms_options.specs.Service.{connection_rules, desk_rules, limit_rules, with_rules}
+use Rattle.hsms_options.specs.Service.{again_rules, connection_rules, desk_rules, limit_rules, with_rules}
 use Rattle.hsms_options.proofs.describing_serve.serve_command.Goals as goal
 
 pub returns : goal.returns
@@ -9,4 +9,5 @@ returns c =
     let named : app_of c.after_help-serve.result ≡ new_app (codes "serve") = rw (c.after_help-serve.ensures, c.override_usage.ensures, c.about.ensures) c.new.ensures.app in
     let connected = c.in_ok-connected.ensures ∙ ap (λ (a : App). with_rules a connection_rules) named in
     let limited = c.in_ok-limited.ensures ∙ ap (λ (a : App). with_rules a limit_rules) connected in
-    IfOk-weaker c.with_desk.result _ _ (λ command shape. shape ∙ ap (λ (a : App). with_rules a desk_rules) limited) c.with_desk.ensures
+    let answering = c.in_ok-answering.ensures ∙ ap (λ (a : App). with_rules a desk_rules) limited in
+    IfOk-weaker c.with_again.result _ _ (λ command shape. shape ∙ ap (λ (a : App). with_rules a again_rules) answering) c.with_again.ensures

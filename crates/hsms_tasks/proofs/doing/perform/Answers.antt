@@ -14,16 +14,16 @@ pub returns-in-Help-clause-writes : goal.returns-in-Help-clause-writes
 returns-in-Help-clause-writes g c = rw c.well.ensures (printing_writes c.put.result _ _ c.put.ensures.word c.put.ensures.writes)
 
 pub returns-in-Show-clause-does : goal.returns-in-Show-clause-does
-returns-in-Show-clause-does g c = rw (c.in-Show.is, c.well-in-Show.ensures) (shows_all _ _ c.show.result (g.R.Source.state c.args.source.now) (g.R.Source.state c.show.new.source) (g.W.Sink.state c.args.sink.now).written (g.W.Sink.state c.show.new.sink).written c.show.ensures.end c.show.ensures.lines)
+returns-in-Show-clause-does g c = rw (c.in-Show.is, c.well-in-Show.ensures) (shows_all _ _ _ c.show_form.result (g.R.Source.state c.args.source.now) (g.R.Source.state c.show_form.new.source) (g.W.Sink.state c.args.sink.now).written (g.W.Sink.state c.show_form.new.sink).written c.show_form.ensures.end c.show_form.ensures.lines)
 
 pub returns-in-Show-clause-word : goal.returns-in-Show-clause-word
-returns-in-Show-clause-word g c = rw c.well-in-Show.ensures (word_of_showing c.show.result c.show.ensures.word)
+returns-in-Show-clause-word g c = rw c.well-in-Show.ensures (word_of_showing c.show_form.result c.show_form.ensures.word)
 
 pub returns-in-Show-clause-reads : goal.returns-in-Show-clause-reads
-returns-in-Show-clause-reads g c = rw c.well-in-Show.ensures (counts_well _ c.show.result _ _ c.show.ensures.reads)
+returns-in-Show-clause-reads g c = rw c.well-in-Show.ensures (counts_well _ c.show_form.result _ _ c.show_form.ensures.reads)
 
 pub returns-in-Show-clause-writes : goal.returns-in-Show-clause-writes
-returns-in-Show-clause-writes g c = rw c.well-in-Show.ensures (counts_well _ c.show.result _ _ c.show.ensures.writes)
+returns-in-Show-clause-writes g c = rw c.well-in-Show.ensures (counts_well _ c.show_form.result _ _ c.show_form.ensures.writes)
 
 pub returns-in-Encode-clause-does : goal.returns-in-Encode-clause-does
 returns-in-Encode-clause-does g c = rw (c.in-Encode.is, c.well-in-Encode.ensures) (encodes_all _ _ _ _ _ c.encode_all.result (g.R.Source.state c.args.source.now) (g.R.Source.state c.encode_all.new.source) (g.W.Sink.state c.args.sink.now).written (g.W.Sink.state c.encode_all.new.sink).written c.encode_all.ensures.end c.encode_all.ensures.frames)

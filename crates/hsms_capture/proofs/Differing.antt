@@ -1,0 +1,152 @@
+-- Copies that differ from what is held.
+use Rattle.std.proofs.Common.{◌≡◌, ◌<◌, ◌≤◌, ◌+◌, ◌-◌, ◌^◌, ◌++◌, ◌∷◌, ◌&&◌, ◌||◌, ℕ, suc, Bool, true, false, nat_le, List, [], length, map, get_or, Option, Some, None, refl, sym, ap, ◌∙◌, arith, inl, inr}
+use Rattle.std.proofs.lemmas.Bool.{le-leb, lt-leb, cases_lt}
+use Rattle.hsms_capture.specs.declared.held.Cell.{Cell as HeldCell}
+use Rattle.hsms_capture.specs.declared.held.Cell.TheVariants as held
+use Rattle.hsms_capture.specs.Wire.{End, Cell, Placed, cell_at, is_other, contradicts}
+use Rattle.hsms_capture.specs.Message.{cells_of}
+use Rattle.hsms_capture.specs.Held.{Store, wire_cell, IsStoreOf, TellsOther, is_another, differs_at, differs, flag_of, octets_of, held_of}
+use Rattle.hsms_capture.proofs.Laid.{cells_length, flag_count, length_flag, length_octets, wire_is}
+
+-- ---- one cell
+
+pub is_acknowledged : (acknowledged place : ℕ) (b : Bool) → place < acknowledged → false ≡ (nat_le acknowledged place && b)
+is_acknowledged acknowledged place b lt = rw (lt-leb acknowledged place lt) refl
+
+pub is_open : (acknowledged place : ℕ) (b : Bool) → acknowledged ≤ place → b ≡ (nat_le acknowledged place && b)
+is_open acknowledged place b le = rw (le-leb acknowledged place le) refl
+
+or_false : (b : Bool) → b ≡ (b || false)
+or_false true = refl
+or_false false = refl
+
+pub one_differs : (base acknowledged place : ℕ) (b : Bool) (c : HeldCell) (ss : List (Option HeldCell)) → b ≡ true
+    → differs_at base acknowledged place c ss ≡ differs base acknowledged place (flag_of b c) ss
+unfolding differs
+one_differs base acknowledged place false c ss e = absurd cc
+one_differs base acknowledged place true c ss e = or_false (differs_at base acknowledged place c ss)
+
+pub none_differs : (base acknowledged place : ℕ) (b : Bool) (c : HeldCell) (ss : List (Option HeldCell)) → b ≡ false
+    → false ≡ differs base acknowledged place (flag_of b c) ss
+unfolding differs
+none_differs base acknowledged place true c ss e = absurd cc
+none_differs base acknowledged place false c ss e = refl
+
+-- ---- several cells
+
+pub octet_found : (base acknowledged place n : ℕ) (ns : List ℕ) (ss : List (Option HeldCell)) (w : Bool)
+    → differs_at base acknowledged place (held.Octet n) ss ≡ true → differs base acknowledged place (octets_of (n ∷ ns)) ss ≡ w → true ≡ w
+unfolding differs
+octet_found base acknowledged place n ns ss w e h = sym (ap (λ (b : Bool). b || differs base acknowledged (place + 1) (octets_of ns) ss) e) ∙ h
+
+pub octet_passed : (base acknowledged place n : ℕ) (ns : List ℕ) (ss : List (Option HeldCell)) (w : Bool)
+    → differs_at base acknowledged place (held.Octet n) ss ≡ false → differs base acknowledged place (octets_of (n ∷ ns)) ss ≡ w
+    → differs base acknowledged (place + 1) (octets_of ns) ss ≡ w
+unfolding differs
+octet_passed base acknowledged place n ns ss w e h = sym (ap (λ (b : Bool). b || differs base acknowledged (place + 1) (octets_of ns) ss) e) ∙ h
+
+pub octets_end : (base acknowledged place : ℕ) (ns : List ℕ) (ss : List (Option HeldCell)) (w : Bool)
+    → length ns ≡ 0 → differs base acknowledged place (octets_of ns) ss ≡ w → false ≡ w
+unfolding differs
+octets_end base acknowledged place [] ss w e h = h
+octets_end base acknowledged place (n ∷ ns) ss w e h = absurd (omega (arith, e))
+
+or_assoc : (a b c : Bool) → (a || (b || c)) ≡ ((a || b) || c)
+or_assoc true b c = refl
+or_assoc false b c = refl
+
+append_differs : (base acknowledged place : ℕ) (xs ys : List HeldCell) (ss : List (Option HeldCell))
+    → differs base acknowledged place (xs ++ ys) ss ≡ (differs base acknowledged place xs ss || differs base acknowledged (place + length xs) ys ss)
+unfolding differs
+append_differs base acknowledged place [] ys ss = ap (λ (n : ℕ). differs base acknowledged n ys ss) (omega arith)
+append_differs base acknowledged place (x ∷ xs) ys ss =
+    ap (λ (b : Bool). differs_at base acknowledged place x ss || b)
+    (append_differs base acknowledged (place + 1) xs ys ss
+    ∙ ap (λ (n : ℕ). differs base acknowledged (place + 1) xs ss || differs base acknowledged n ys ss) (omega arith))
+    ∙ or_assoc (differs_at base acknowledged place x ss) (differs base acknowledged (place + 1) xs ss) (differs base acknowledged (place + length (x ∷ xs)) ys ss)
+
+-- ---- a packet
+
+in_parts : (base acknowledged place first behind : ℕ) (syns fins : Bool) (octets : List ℕ) (ss : List (Option HeldCell))
+    → first ≡ place + flag_count syns → behind ≡ first + length octets
+    → differs base acknowledged place (held_of syns octets fins) ss
+    ≡ (differs base acknowledged place (flag_of syns held.Syn) ss
+    || (differs base acknowledged first (octets_of octets) ss || differs base acknowledged behind (flag_of fins held.Fin) ss))
+in_parts base acknowledged place first behind syns fins octets ss e f =
+    let one = length_flag syns held.Syn in
+    let many = length_octets octets in
+    let a : place + length (flag_of syns held.Syn) ≡ first = omega (arith, one, e) in
+    let b : first + length (octets_of octets) ≡ behind = omega (arith, many, f) in
+    append_differs base acknowledged place (flag_of syns held.Syn) (octets_of octets ++ flag_of fins held.Fin) ss
+    ∙ ap (λ (z : Bool). differs base acknowledged place (flag_of syns held.Syn) ss || z)
+    (ap (λ (n : ℕ). differs base acknowledged n (octets_of octets ++ flag_of fins held.Fin) ss) a
+    ∙ append_differs base acknowledged first (octets_of octets) (flag_of fins held.Fin) ss
+    ∙ ap (λ (n : ℕ). differs base acknowledged first (octets_of octets) ss || differs base acknowledged n (flag_of fins held.Fin) ss) b)
+
+first_true : (a b : Bool) → a ≡ true → true ≡ (a || b)
+first_true true b e = refl
+first_true false b e = absurd cc
+
+second_true : (a b c : Bool) → b ≡ true → true ≡ (a || (b || c))
+second_true true b c e = refl
+second_true false b c e = first_true b c e
+
+third_true : (a b c : Bool) → a ≡ false → b ≡ false → c ≡ (a || (b || c))
+third_true true b c e f = absurd cc
+third_true false true c e f = absurd cc
+third_true false false c e f = refl
+
+pub tells_syn : (base acknowledged place : ℕ) (syns fins : Bool) (octets : List ℕ) (ss : List (Option HeldCell))
+    → differs base acknowledged place (flag_of syns held.Syn) ss ≡ true → true ≡ differs base acknowledged place (held_of syns octets fins) ss
+tells_syn base acknowledged place syns fins octets ss e =
+    let first = place + flag_count syns in
+    let behind = first + length octets in
+    first_true (differs base acknowledged place (flag_of syns held.Syn) ss)
+    (differs base acknowledged first (octets_of octets) ss || differs base acknowledged behind (flag_of fins held.Fin) ss) e
+    ∙ sym (in_parts base acknowledged place first behind syns fins octets ss refl refl)
+
+pub tells_octets : (base acknowledged place first : ℕ) (syns fins : Bool) (octets : List ℕ) (ss : List (Option HeldCell)) → first ≡ place + flag_count syns
+    → differs base acknowledged first (octets_of octets) ss ≡ true → true ≡ differs base acknowledged place (held_of syns octets fins) ss
+tells_octets base acknowledged place first syns fins octets ss e h =
+    let behind = first + length octets in
+    second_true (differs base acknowledged place (flag_of syns held.Syn) ss) (differs base acknowledged first (octets_of octets) ss)
+    (differs base acknowledged behind (flag_of fins held.Fin) ss) h
+    ∙ sym (in_parts base acknowledged place first behind syns fins octets ss e refl)
+
+pub tells_fin : (base acknowledged place first behind : ℕ) (syns fins : Bool) (octets : List ℕ) (ss : List (Option HeldCell)) → first ≡ place + flag_count syns
+    → behind ≡ first + length octets → differs base acknowledged place (flag_of syns held.Syn) ss ≡ false → differs base acknowledged first (octets_of octets) ss ≡ false
+    → differs base acknowledged behind (flag_of fins held.Fin) ss ≡ differs base acknowledged place (held_of syns octets fins) ss
+tells_fin base acknowledged place first behind syns fins octets ss e f a b =
+    third_true (differs base acknowledged place (flag_of syns held.Syn) ss) (differs base acknowledged first (octets_of octets) ss)
+    (differs base acknowledged behind (flag_of fins held.Fin) ss) a b
+    ∙ sym (in_parts base acknowledged place first behind syns fins octets ss e f)
+
+-- ---- by the definition
+
+one_is : (s : Store) (acknowledged place : ℕ) (c : HeldCell) (ps : List Placed) (d : End) → s.place ≤ acknowledged → IsStoreOf s ps d
+    → differs_at s.place acknowledged place c s.cells ≡ (nat_le acknowledged place && is_other (wire_cell c) (cell_at ps d place))
+one_is s acknowledged place c ps d le h =
+    elim (cases_lt place acknowledged) [
+      | inl lt ↦ rw (lt-leb acknowledged place lt) refl
+      | inr ge ↦ ap (λ (z : Option Cell). nat_le acknowledged place && is_other (wire_cell c) z) (h place (omega (arith, le, ge)))
+    ]
+
+differs_is : (s : Store) (acknowledged place : ℕ) (cs : List HeldCell) (ps : List Placed) (d : End) → s.place ≤ acknowledged → IsStoreOf s ps d
+    → differs s.place acknowledged place cs s.cells ≡ contradicts ps d acknowledged place (map wire_cell cs)
+unfolding differs
+differs_is s acknowledged place [] ps d le h = refl
+differs_is s acknowledged place (c ∷ cs) ps d le h =
+    ap (λ (b : Bool). b || differs s.place acknowledged (place + 1) cs s.cells) (one_is s acknowledged place c ps d le h)
+    ∙ ap (λ (b : Bool). (nat_le acknowledged place && is_other (wire_cell c) (cell_at ps d place)) || b) (differs_is s acknowledged (place + 1) cs ps d le h)
+
+pub tells_other : (s : Store) (acknowledged place : ℕ) (syns fins : Bool) (octets : List ℕ)
+    → TellsOther s acknowledged place (cells_of syns octets fins) (differs s.place acknowledged place (held_of syns octets fins) s.cells)
+tells_other s acknowledged place syns fins octets le lt ps d h =
+    differs_is s acknowledged place (held_of syns octets fins) ps d le h
+    ∙ ap (contradicts ps d acknowledged place) (sym (wire_is syns fins octets))
+
+pub tells_past : (s : Store) (acknowledged place : ℕ) (syns fins : Bool) (octets : List ℕ) (told : Bool) → 2 ^ 64 ≤ place + length (held_of syns octets fins)
+    → TellsOther s acknowledged place (cells_of syns octets fins) told
+tells_past s acknowledged place syns fins octets told past le lt ps d h =
+    let same = cells_length syns fins octets in
+    absurd (omega (arith, past, lt, same))

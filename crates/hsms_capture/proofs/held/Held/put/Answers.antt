@@ -1,0 +1,17 @@
+use Rattle.std.proofs.Common.{subst, arith}
+use Rattle.hsms_capture.specs.Held.{PutsIn, Store}
+use Rattle.hsms_capture.specs.Message.{cells_of}
+use Rattle.hsms_capture.proofs.Laid.{puts_in, puts_none}
+use Rattle.hsms_capture.proofs.held.Held.put.Goals as goal
+
+pub returns-then-count-eq0-clause-ok : goal.returns-then-count-eq0-clause-ok
+returns-then-count-eq0-clause-ok c =
+    puts_none c.args.self.now c.args.place c.args.flags.syn c.args.flags.fin c.args.octets.now (omega (arith, c.count_of-count.ensures, c.if-count-eq0.true))
+
+pub returns-clause-ok : goal.returns-clause-ok
+returns-clause-ok c =
+    let cells = cells_of c.args.flags.syn c.args.octets.now c.args.flags.fin in
+    subst (λ (s : Store). PutsIn s c.args.place cells (record { place = c.self.inside.place; cells = c.lay_all.new.cells.items })) c.self.view_is
+    (puts_in c.self.inside.place c.args.place c.args.flags.syn c.args.flags.fin c.args.octets.now c.self.inside.cells.items c.widen.new.cells.items c.lay_all.new.cells.items
+    c.in_ok-widen.ensures.ok c.lay_all.ensures.items
+    (omega (arith, c.in_ok-widen.ensures.room, c.widen.new.cells.ok.0, c.count_of-count.ensures, c.in-Some.ensures, c.saturating_sub-wanted.ensures)))

@@ -1,0 +1,165 @@
+//! Packets that lack something: octets that they acknowledge, or that stand before theirs, and weren't captured so far.
+
+ghost use Rattle.std.specs.Prelude.{◌≡◌, ◌+◌, ◌++◌, ◌∷◌, [], false, IfSome, IfNone, OnOk, OnErr};
+ghost use Rattle.std.specs.VecDeque.{deque_len};
+ghost use Rattle.hsms_capture.specs.Losses.{is_lacking, needs_of, unsettled, IsUnsettled, first_of};
+
+use crate::packet::{Packet, Side};
+use std::alloc::{AllocError, Global};
+use std::collections::VecDeque;
+use std::marker::Model;
+
+// How many packets may follow one that lacks something.
+const WINDOW: usize = 4096;
+
+/// The ends of what is there without a gap, of both directions.
+#[derive(Clone, Copy, Debug, PartialEq, Eq)]
+pub struct BothEnds {
+    pub active: u64,
+    pub passive: u64,
+}
+
+/// What a packet needs: what stands before its place, and in the other direction before the place that it acknowledges.
+#[derive(Clone, Copy, Debug)]
+pub struct Need {
+    pub packet: u64,
+    pub from: Side,
+    pub place: u64,
+    pub acknowledged: u64,
+}
+
+/// Finds the first loss of a connection: a packet that lacks what none of the next 4,096 packets brings. Contracts see
+/// what the packets need from the first on that lacks something.
+#[derive(Drop)]
+pub struct Losses {
+    needs: VecDeque<Need>,
+}
+
+impl Model for Losses {
+    ghost use Rattle.std.specs.Prelude.{List};
+    ghost use Rattle.hsms_capture.specs.declared.losses.Need.{Need};
+
+    ghost Value = { List Need };
+
+    ghost view = { λ l. l.needs.items };
+}
+
+impl Losses {
+    ghost use Rattle.std.specs.Prelude.{◌≡◌, ℕ, [], Ok, Some, None, OnErr};
+    ghost use Rattle.hsms_capture.specs.Losses.{FindsLoss, TellsLoss, Watches, WatchesOn, first_of};
+
+    /// No packet yet. Takes no memory.
+    #[tactic(auto, using(crate::proofs::Watched::watches_none))]
+    pub fn new(alloc: Global) -> Losses
+        ensures { Watches result [] }
+    {
+        Losses {
+            needs: VecDeque::new(alloc),
+        }
+    }
+
+    /// Takes a packet that one end sent, and the ends of both directions behind it, and tells the packet that is the loss,
+    /// as soon as that is sure. Nothing is to be taken behind a loss. A refused growth changes nothing.
+    #[tactic(auto, using(crate::proofs::Watched::watches_on, crate::proofs::Watched::took_none))]
+    pub fn take(
+        &mut self,
+        from: Side,
+        packet: Packet,
+        ends: BothEnds,
+    ) -> Result<Option<u64>, AllocError>
+        ensures none { result ≡ Ok None → WatchesOn self.old from packet ends self.new }
+        ensures lost { (k : ℕ) → result ≡ Ok (Some k) → FindsLoss self.old from packet ends k }
+        ensures err { OnErr result (self.new ≡ self.old) }
+    {
+        watch(&mut self.needs, from, packet, ends)?;
+        if self.needs.len() <= WINDOW {
+            return Ok(None);
+        }
+        Ok(self.first())
+    }
+
+    /// The packet that is the loss, where no packet follows.
+    #[tactic(auto, using(crate::proofs::Watched::tells_first))]
+    pub fn first(&self) -> Option<u64>
+        ensures first { result ≡ first_of self.now }
+        ensures loss { TellsLoss self.now result }
+    {
+        first_packet(&self.needs)
+    }
+}
+
+// The packet of the first need.
+#[tactic(auto, using(crate::proofs::Watched::first_none, crate::proofs::Watched::first_some))]
+fn first_packet(needs: &VecDeque<Need>) -> Option<u64>
+    ensures { result ≡ first_of needs.now.items }
+{
+    match needs.front() {
+        Some(need) => Some(need.packet),
+        None => None,
+    }
+}
+
+// Puts what a packet needs behind the others, and takes from the front what lacks nothing.
+fn watch(
+    needs: &mut VecDeque<Need>,
+    from: Side,
+    packet: Packet,
+    ends: BothEnds,
+) -> Result<(), AllocError>
+    ensures ok { OnOk result (needs.new.items ≡ unsettled ends (needs.old.items ++ needs_of from packet ∷ [])) }
+    ensures err { OnErr result (needs.new.items ≡ needs.old.items) }
+{
+    needs.push_back(need_of(from, packet))?;
+    settle(needs, ends);
+    Ok(())
+}
+
+// What a packet needs.
+fn need_of(from: Side, packet: Packet) -> Need
+    ensures { result ≡ needs_of from packet }
+{
+    Need {
+        packet: packet.packet,
+        from,
+        place: packet.from,
+        acknowledged: packet.acknowledged.unwrap_or(0),
+    }
+}
+
+// Takes from the front what lacks nothing.
+#[tactic(auto, using(crate::proofs::Watched::settles_one, crate::proofs::Watched::settles_all))]
+fn settle(needs: &mut VecDeque<Need>, ends: BothEnds)
+    ensures { needs.new.items ≡ unsettled ends needs.old.items }
+{
+    while let Some(_) = take_settled(needs, ends) {}
+}
+
+// Takes the first, if it lacks nothing.
+fn take_settled(needs: &mut VecDeque<Need>, ends: BothEnds) -> Option<Need>
+    ensures some { IfSome result (λ need. (needs.old.items ≡ need ∷ needs.new.items) × (is_lacking ends need ≡ false)) }
+    ensures none { IfNone result ((needs.new.items ≡ needs.old.items) × IsUnsettled ends needs.old.items) }
+    ensures len { IfSome result (λ need. deque_len needs.old ≡ deque_len needs.new + 1) }
+{
+    let lacks = match needs.front() {
+        Some(need) => lacks_some(ends, *need),
+        None => true,
+    };
+    if lacks {
+        return None;
+    }
+    needs.pop_front()
+}
+
+// Whether something is lacking.
+fn lacks_some(ends: BothEnds, need: Need) -> bool
+    ensures { result ≡ is_lacking ends need }
+{
+    let (own, other) = match need.from {
+        Side::Active => (ends.active, ends.passive),
+        Side::Passive => (ends.passive, ends.active),
+    };
+    if other < need.acknowledged {
+        return true;
+    }
+    own < need.place
+}

@@ -1,0 +1,226 @@
+//! Packets of one connection by their places, and the turn of each.
+
+ghost use Rattle.std.specs.Prelude.{◌≡◌, ◌≤◌, ◌<◌, ◌+◌, ◌^◌, ◌++◌, IfOk, OnOk, OnErr, None, length};
+ghost use Rattle.hsms_capture.specs.Known.{Step, packet_of, placed_as, seen_of, step, step_by};
+
+use crate::asking::only_asks;
+use crate::early::{free, put};
+use crate::losses::BothEnds;
+use crate::packet::{Packet, Segment, Side};
+use crate::place::{acknowledged_place, numbered_place};
+use std::alloc::{AllocError, Global};
+use std::collections::VecDeque;
+use std::marker::Model;
+
+// Streams are followed up to here.
+const FAR: u64 = 1 << 62;
+
+/// Why a segment isn't taken.
+#[derive(Clone, Copy, Debug, PartialEq, Eq)]
+pub enum TurnsFault {
+    /// A stream has come past 2^62 octets.
+    Far,
+    /// There is no memory.
+    Memory,
+}
+
+impl From<AllocError> for TurnsFault {
+    ghost use Rattle.std.specs.Prelude.{◌≡◌};
+    ghost use Rattle.hsms_capture.specs.declared.turns.TurnsFault.TheVariants.{Memory};
+
+    ghost from_gives = { λ _ f. f ≡ Memory };
+
+    fn from(_: AllocError) -> TurnsFault {
+        TurnsFault::Memory
+    }
+}
+
+// What is known of one direction.
+#[derive(Drop)]
+struct Direction {
+    base: u32,
+    end: u64,
+    acknowledged: u64,
+    waiting: VecDeque<Packet>,
+}
+
+impl Model for Direction {
+    ghost use Rattle.hsms_capture.specs.Known.{Flow};
+
+    ghost Value = { Flow };
+
+    ghost view = { λ d. record {
+      base = d.base;
+      end = d.end;
+      acknowledged = d.acknowledged;
+      waiting = d.waiting.items;
+    } };
+}
+
+impl Direction {
+    ghost use Rattle.std.specs.Prelude.{◌≡◌, []};
+
+    // Nothing is there.
+    fn new(alloc: Global, base: u32) -> Direction
+        ensures { result ≡ record { base = base; end = 0; acknowledged = 0; waiting = [] } }
+    {
+        Direction {
+            base,
+            end: 0,
+            acknowledged: 0,
+            waiting: VecDeque::new(alloc),
+        }
+    }
+}
+
+/// What is known of both directions of a connection: where the end is of what is there without a gap, what was
+/// acknowledged, and which packets wait behind a gap. Contracts see what `known` says.
+#[derive(Drop)]
+pub struct Turns {
+    active: Direction,
+    passive: Direction,
+}
+
+impl Model for Turns {
+    ghost use Rattle.hsms_capture.specs.Known.{Known};
+
+    ghost Value = { Known };
+
+    ghost view = { λ t. record { active = t.active; passive = t.passive } };
+}
+
+impl Turns {
+    ghost use Rattle.std.specs.Prelude.{◌≡◌, ◌≤◌, ◌^◌, [], max, Err, IfOk, OnErr};
+    ghost use Rattle.hsms_capture.specs.declared.turns.TurnsFault.TheVariants.{Far};
+    ghost use Rattle.hsms_capture.specs.Known.{GoesOn, bases, known, seen_of};
+
+    /// A connection of which nothing is read yet, by the numbers of both SYNs. Takes no memory.
+    pub fn new(alloc: Global, active: u32, passive: u32) -> Turns
+        ensures { result ≡ known (bases active passive) [] }
+    {
+        Turns {
+            active: Direction::new(alloc, active),
+            passive: Direction::new(alloc, passive),
+        }
+    }
+
+    /// Takes a segment with these octets, and tells the packets whose turn is at it, in their order: none where it stands
+    /// behind a gap or is too far away; else itself, and then those that it frees. Gives the segment by its place, if it
+    /// isn't too far away.
+    ///
+    /// # Errors
+    ///
+    /// `Memory`, and `Far` where a stream has come past 2^62 octets. Neither changes anything.
+    pub fn take(
+        &mut self,
+        segment: Segment,
+        octets: &[u8],
+        told: &mut Vec<Packet>,
+    ) -> Result<Option<Packet>, TurnsFault>
+        ensures ok { IfOk result (GoesOn self.old told.old.items (seen_of segment octets.now) self.new told.new.items) }
+        ensures err { OnErr result ((self.new ≡ self.old) × (told.new.items ≡ told.old.items)) }
+        ensures far { result ≡ Err Far → 2 ^ 62 ≤ max self.old.active.end self.old.passive.end }
+    {
+        if self.active.end.max(self.passive.end) >= FAR {
+            return Err(TurnsFault::Far);
+        }
+        match segment.from {
+            Side::Active => Ok(follow(&mut self.active, &mut self.passive, segment, octets, told)?),
+            Side::Passive => Ok(follow(
+                &mut self.passive,
+                &mut self.active,
+                segment,
+                octets,
+                told,
+            )?),
+        }
+    }
+
+    /// The ends of what is there without a gap.
+    pub fn ends(&self) -> BothEnds
+        ensures { result ≡ record { active = self.now.active.end; passive = self.now.passive.end } }
+    {
+        BothEnds {
+            active: self.active.end,
+            passive: self.passive.end,
+        }
+    }
+}
+
+// Takes a segment of one direction.
+fn follow(
+    own: &mut Direction,
+    peer: &mut Direction,
+    segment: Segment,
+    octets: &[u8],
+    told: &mut Vec<Packet>,
+) -> Result<Option<Packet>, AllocError>
+    requires own { own.old.end < 2 ^ 62 }
+    requires peer { peer.old.end < 2 ^ 62 }
+    ensures own { OnOk result (own.new ≡ (step own.old peer.old (seen_of segment octets.now)).own) }
+    ensures peer { OnOk result (peer.new ≡ (step own.old peer.old (seen_of segment octets.now)).peer) }
+    ensures told { OnOk result (told.new.items ≡ told.old.items ++ (step own.old peer.old (seen_of segment octets.now)).told) }
+    ensures placed { IfOk result (λ placed. placed ≡ (step own.old peer.old (seen_of segment octets.now)).placed) }
+    ensures err { OnErr result ((own.new ≡ own.old) × (peer.new ≡ peer.old) × (told.new.items ≡ told.old.items)) }
+{
+    let Some(place) = numbered_place(own.base, own.end, segment.number) else {
+        return Ok(None);
+    };
+    let acknowledged = acknowledged_place(peer.base, peer.end, segment.acknowledged);
+    let packet = packet_at(own.acknowledged, place, acknowledged, segment, octets);
+    queue(own, peer, packet, told)?;
+    Ok(Some(packet))
+}
+
+// A segment at its place.
+fn packet_at(
+    received: u64,
+    place: u64,
+    acknowledged: Option<u64>,
+    segment: Segment,
+    octets: &[u8],
+) -> Packet
+    requires { place ≤ 2 ^ 62 + 2 ^ 26 }
+    ensures { result ≡ packet_of (placed_as received (seen_of segment octets.now) place acknowledged) }
+{
+    Packet {
+        packet: segment.packet,
+        time: segment.time,
+        from: place,
+        to: place + count_of(received, place, segment, octets),
+        acknowledged,
+        reset: segment.reset,
+    }
+}
+
+// How many cells a segment brings.
+fn count_of(received: u64, place: u64, segment: Segment, octets: &[u8]) -> u64
+    ensures value { result ≡ length (placed_as received (seen_of segment octets.now) place None).cells }
+    ensures bound { result < 2 ^ 63 + 2 }
+{
+    let flags = segment.flags;
+    if only_asks(received, place, flags, octets) {
+        return 0;
+    }
+    u64::from(flags.syn) + octets.len() as u64 + u64::from(flags.fin)
+}
+
+// Puts a packet into the queue of its direction, and takes from its front what has its turn now.
+fn queue(
+    own: &mut Direction,
+    peer: &mut Direction,
+    packet: Packet,
+    told: &mut Vec<Packet>,
+) -> Result<(), AllocError>
+    ensures own { OnOk result (own.new ≡ (step_by own.old peer.old packet).own) }
+    ensures peer { OnOk result (peer.new ≡ (step_by own.old peer.old packet).peer) }
+    ensures told { OnOk result (told.new.items ≡ told.old.items ++ (step_by own.old peer.old packet).told) }
+    ensures err { OnErr result ((own.new ≡ own.old) × (peer.new ≡ peer.old) × (told.new.items ≡ told.old.items)) }
+{
+    told.reserve(own.waiting.len() + 1)?;
+    put(&mut own.waiting, packet)?;
+    let (end, acknowledged) = free(&mut own.waiting, own.end, peer.acknowledged, told)?;
+    own.end = end;
+    peer.acknowledged = acknowledged;
+    Ok(())
+}

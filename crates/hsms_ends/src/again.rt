@@ -1,0 +1,175 @@
+//! Connection after connection, served in one log.
+
+ghost use Rattle.std.specs.Prelude.{◌≡◌, ◌==◌, if◌then◌else◌};
+ghost use Rattle.hsms_machine.specs.Settings.{IsWithinLimits, several_of};
+ghost use Rattle.hsms_ends.specs.declared.fault.ServeFault.{ServeFault};
+ghost use Rattle.hsms_ends.specs.Again.{ServesAgain};
+ghost use Rattle.hsms_ends.specs.Onward.{Onward, NextServed, ServedEach, script_at};
+
+use crate::fault::ServeFault;
+use crate::link::Again;
+use crate::serving::serve_end;
+use crate::step::Step;
+use hsms_end::{Answer, Desk, End};
+use hsms_frame::Sink;
+use hsms_log::write_settings;
+use hsms_machine::Settings;
+use secs_text::Message;
+use std::alloc::{AllocError, Global};
+
+/// A desk that is lent: each end of a run of connections has it.
+pub struct Lent<'a, D> {
+    /// The desk.
+    pub desk: &'a D,
+}
+
+impl<'a, D> Copy for Lent<'a, D> {}
+
+impl<'a, D> Clone for Lent<'a, D> {
+    fn clone(&self) -> Result<Lent<'a, D>, AllocError> {
+        Ok(*self)
+    }
+}
+
+impl<'a, D: Desk> Desk for Lent<'a, D> {
+    ghost answers = { λ lent. D.answers lent.desk.now };
+
+    fn answer(&self, alloc: Global, message: &Message) -> Result<Answer, AllocError> {
+        self.desk.answer(alloc, message)
+    }
+}
+
+/// Serves connection after connection, each as [`serve`](crate::serve) does, in one log of version 2, and says how many
+/// went down. It ends after so many connections, and where the link has no further one.
+///
+/// The first connection has the script, and each further one the later script. Each end starts no earlier than at the
+/// time of the last entry before it, so that times go on. A connection that the link's fault ended is followed by the
+/// next one, as one that went down is; after any other fault no further one is served.
+///
+/// **The log is the text of a run of the session machine, so that `audit` passes it** (`ServesAgain`;
+/// `laws::served_again_log_passes`); after the answer `Log` whole lines and a part of the next one. The link is at no
+/// moment ahead of it, as with `serve`.
+///
+/// # Errors
+///
+/// `Log`, where the settings' line wasn't taken. Else the fault of the last connection: `Log`, `Turns` or `Memory`.
+pub fn serve_again<L: Again, W: Sink, D: Desk + Copy>(
+    alloc: Global,
+    link: &mut L,
+    log: &mut W,
+    settings: Settings,
+    desk: D,
+    first_system: u32,
+    script: &[Step],
+    later: &[Step],
+    turns: u64,
+    connections: u64,
+) -> Result<u64, ServeFault>
+    ensures { ServesAgain D.answers desk (several_of settings) first_system script.now later.now turns connections result
+        (W.state log.old) (W.state log.new) (L.told link.old) (L.told link.new) }
+{
+    let several = settings.several();
+    match write_settings(log, &several) {
+        Ok(()) => serve_each(
+            alloc,
+            link,
+            log,
+            several,
+            desk,
+            first_system,
+            script,
+            later,
+            turns,
+            connections,
+        ),
+        Err(_) => Err(ServeFault::Log),
+    }
+}
+
+/// Serves one connection after the other.
+fn serve_each<L: Again, W: Sink, D: Desk + Copy>(
+    alloc: Global,
+    link: &mut L,
+    log: &mut W,
+    settings: Settings,
+    desk: D,
+    first_system: u32,
+    script: &[Step],
+    later: &[Step],
+    turns: u64,
+    connections: u64,
+) -> Result<u64, ServeFault>
+    requires within { IsWithinLimits settings }
+    requires several { settings.version ≡ 2 }
+    ensures { ServedEach D.answers desk settings first_system script.now later.now turns connections result
+        (W.state log.old) (W.state log.new) (L.told link.old) (L.told link.new) }
+{
+    let mut done = 0;
+    let mut since = 0;
+    while done < connections {
+        if !link.again() {
+            return Ok(done);
+        }
+        let steps = steps_of(script, later, done);
+        match serve_next(
+            alloc,
+            link,
+            log,
+            settings,
+            desk,
+            first_system,
+            since,
+            steps,
+            turns,
+        ) {
+            Ok(moment) => {
+                since = moment;
+                done += 1;
+            }
+            Err(fault) => return Err(fault),
+        }
+    }
+    Ok(done)
+}
+
+/// The script of a connection: the later one, unless it is the first.
+fn steps_of<'a>(script: &'a [Step], later: &'a [Step], done: u64) -> &'a [Step]
+    ensures { result.now ≡ script_at script.now later.now done }
+{
+    if done == 0 { script } else { later }
+}
+
+/// Serves the next connection, and says the time of its last entry where it went down.
+fn serve_next<L: Again, W: Sink, D: Desk + Copy>(
+    alloc: Global,
+    link: &mut L,
+    log: &mut W,
+    settings: Settings,
+    desk: D,
+    first_system: u32,
+    since: u64,
+    script: &[Step],
+    turns: u64,
+) -> Result<u64, ServeFault>
+    requires { IsWithinLimits settings }
+    ensures { NextServed D.answers desk settings first_system since script.now turns result
+        (W.state log.old) (W.state log.new) (L.told link.old) (L.told link.new) }
+{
+    let mut end = End::since(alloc, settings, desk, first_system, since);
+    match serve_end(link, log, &mut end, script, turns) {
+        Ok(_) => Ok(end.last_time()),
+        Err(fault) => go_on(&end, fault),
+    }
+}
+
+/// What follows a fault: after the link's the next connection.
+fn go_on<D: Desk>(end: &End<D>, fault: ServeFault) -> Result<u64, ServeFault>
+    ensures { Onward result (Err fault) end.now }
+{
+    match fault {
+        ServeFault::Link => Ok(end.last_time()),
+        ServeFault::Log => Err(ServeFault::Log),
+        ServeFault::Turns => Err(ServeFault::Turns),
+        ServeFault::Memory => Err(ServeFault::Memory),
+    }
+}

@@ -1,0 +1,45 @@
+use super::assert_octets;
+use crate::{Ahead, AheadFault, Feed};
+use std::alloc::AllocError;
+use std::test::Fail;
+
+// Whether more was read, or None where the source failed. Want of memory is handed up.
+fn more(ahead: &mut Ahead, source: &mut Feed) -> Result<Option<bool>, AllocError> {
+    match ahead.read_more(source) {
+        Ok(is_more) => Ok(Some(is_more)),
+        Err(AheadFault::Read) => Ok(None),
+        Err(AheadFault::Memory) => Err(AllocError),
+    }
+}
+
+#[test]
+fn reads_ahead_of_what_is_passed(rt: HostRuntime) -> Result<(), Fail> {
+    let alloc = rt.alloc();
+    let mut source = Feed::new(Vec::from_slice(alloc, b"0123456")?, 4, 3);
+    let mut ahead = Ahead::new(alloc)?;
+    assert_octets(&rt, ahead.as_slice(), b"");
+    assert!(rt; more(&mut ahead, &mut source)? == Some(true));
+    ahead.as_slice().get(3).ok_or("four octets")?;
+    ahead.pass(3);
+    assert_octets(&rt, ahead.as_slice(), b"3");
+    assert!(rt; more(&mut ahead, &mut source)? == Some(true));
+    assert_octets(&rt, ahead.as_slice(), b"3456");
+    assert!(rt; more(&mut ahead, &mut source)? == Some(false));
+    assert!(rt; more(&mut ahead, &mut source)? == None);
+    assert_octets(&rt, ahead.as_slice(), b"3456");
+    Ok(())
+}
+
+// Nothing is passed, so each read needs more room than the one before.
+#[test]
+fn reads_far_ahead(rt: HostRuntime) -> Result<(), Fail> {
+    let alloc = rt.alloc();
+    let mut source = Feed::new(vec![in alloc; 7u8; 200_000]?, 100_000, u64::MAX);
+    let mut ahead = Ahead::new(alloc)?;
+    assert!(rt; more(&mut ahead, &mut source)? == Some(true));
+    assert!(rt; more(&mut ahead, &mut source)? == Some(true));
+    assert!(rt; more(&mut ahead, &mut source)? == Some(true));
+    assert!(rt; more(&mut ahead, &mut source)? == Some(false));
+    assert!(rt; ahead.as_slice().len() == 200_000);
+    Ok(())
+}

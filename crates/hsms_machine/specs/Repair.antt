@@ -1,0 +1,160 @@
+-- How a log is gone on with behind a failure (this project's profile): what stands in place of an entry that breaks a
+-- rule, and a log in which this was done throughout.
+use Rattle.std.specs.Prelude.{◌≡◌, ℕ, ◌+◌, ◌-◌, ◌==◌, ◌&&◌, min, List, [], ◌∷◌, ◌++◌, Option, Some, None, nat_lt, if◌then◌else◌}
+use Rattle.hsms_machine.specs.declared.entry.Entry.{Entry}
+use Rattle.hsms_machine.specs.declared.entry.Event.{Event}
+use Rattle.hsms_machine.specs.declared.entry.Event.TheVariants.{Up, Taken, Discarded, T3, Cut, Down}
+use Rattle.hsms_machine.specs.declared.entry.Cause.TheVariants.{T6, T7}
+use Rattle.hsms_machine.specs.declared.rule.Rule.{Rule}
+use Rattle.hsms_machine.specs.declared.rule.Rule.TheVariants.{Backwards, NotUp, T3Overdue, LinkOverdue, NotDue, NoCause}
+use Rattle.hsms_machine.specs.declared.remedy.Remedy.{Remedy}
+use Rattle.hsms_machine.specs.declared.remedy.Remedy.TheVariants.{Raise, Discard, ExpireFirst, CutFirst, DownFirst, LeaveOut}
+use Rattle.hsms_machine.specs.declared.open.Transaction.{Transaction}
+use Rattle.hsms_machine.specs.declared.view.View.{View}
+use Rattle.hsms_machine.specs.Settings.{Parameters}
+use Rattle.hsms_machine.specs.Step.{is_connected}
+use Rattle.hsms_machine.specs.View.{view_of}
+use Rattle.hsms_machine.specs.Run.{Broken, IsRun}
+use Rattle.hsms_machine.specs.Ordered.{first_of}
+
+-- ---- one entry
+
+-- what is done with an entry
+pub data Change : Type 0 where
+  -- another entry stands in place of this one
+  Other : Entry → Change
+  -- this entry stands before it
+  First : Entry → Change
+  -- it is left out
+  Without : Change
+
+abbrev pub entry_of_event : ℕ → Event → Entry
+entry_of_event time event = record { time = time; event = event }
+
+-- a taken frame is thrown away
+abbrev pub thrown_away : Event → Event
+thrown_away (Taken frame) = Discarded frame
+thrown_away event = event
+
+-- what a remedy does with an entry
+abbrev pub change_by : Remedy → Entry → Change
+change_by (Raise time) entry = Other (entry_of_event time entry.event)
+change_by Discard entry = Other (entry_of_event entry.time (thrown_away entry.event))
+change_by (ExpireFirst time system) entry = First (entry_of_event time (T3 system))
+change_by (CutFirst time cause) entry = First (entry_of_event time (Cut cause))
+change_by (DownFirst time) entry = First (entry_of_event time Down)
+change_by LeaveOut entry = Without
+
+-- ---- what a broken rule asks for
+
+-- a received frame that may not be taken is thrown away
+abbrev pub discarded : Event → Remedy
+discarded (Taken frame) = Discard
+discarded event = LeaveOut
+
+-- an `up` that lacks its `down` has it put before, where the log may have several connections
+abbrev pub lacks_down : View → ℕ → Event → Remedy
+lacks_down view time Up =
+    if (view.settings.version == 2) && is_connected view.phase then DownFirst time else LeaveOut
+lacks_down view time event = LeaveOut
+
+-- the later of two moments
+abbrev pub later_of : ℕ → ℕ → ℕ
+later_of one other = if nat_lt one other then other else one
+
+-- When the limit had passed since a time: no later than the entry at this time, and no earlier than the one before it.
+abbrev pub expiry_of : View → ℕ → ℕ → ℕ → ℕ
+expiry_of view time since limit = later_of view.last_time (min (since + limit) time)
+
+-- the primary that was opened first has expired
+abbrev pub expired : View → ℕ → Option Transaction → Remedy
+expired view time None = LeaveOut
+expired view time (Some opened) = ExpireFirst (expiry_of view time opened.time view.settings.t3) opened.header.system
+
+-- the connection was cut as T7 ran out
+abbrev pub cut_by_t7 : View → ℕ → Remedy
+cut_by_t7 view time = CutFirst (expiry_of view time view.up_time view.settings.t7) T7
+
+-- the connection was cut as T6 of the first open request ran out, or T7 where it had not by this time
+abbrev pub cut : View → ℕ → Option Transaction → Remedy
+cut view time None = cut_by_t7 view time
+cut view time (Some opened) =
+    if nat_lt view.settings.t6 (time - opened.time)
+    then CutFirst (expiry_of view time opened.time view.settings.t6) T6
+    else cut_by_t7 view time
+
+-- what the rule that the entry broke first asks for
+abbrev pub remedy_of : View → Entry → Rule → Remedy
+remedy_of view entry Backwards = Raise view.last_time
+remedy_of view entry NotUp = lacks_down view entry.time entry.event
+remedy_of view entry T3Overdue = expired view entry.time (first_of view.sent_data)
+remedy_of view entry LinkOverdue = cut view entry.time (first_of view.sent_control)
+remedy_of view entry NotDue = LeaveOut
+remedy_of view entry NoCause = LeaveOut
+remedy_of view entry rule = discarded entry.event
+
+-- ---- what stands in place of an entry
+
+-- after the log the first broken rule of the entry asks for this
+abbrev pub Asks : Parameters → List Entry → Entry → Change → Type 0
+Asks settings log entry change =
+    (rule : Rule) × Broken settings log entry (Some rule)
+    × (change_by (remedy_of (view_of settings log) entry rule) entry ≡ change)
+
+-- what was done with an entry
+pub data Steps : Type 0 where
+  Passed : Steps
+  LeftOut : Steps
+  Changed : Steps → Steps
+  Preceded : Steps → Steps → Steps
+
+-- `put` stands in place of the entry after the log: the entry where it is lawful, else what is asked for, itself mended
+abbrev pub Mended : Parameters → List Entry → Steps → Entry → List Entry → Type 0
+Mended settings log Passed entry put = Broken settings log entry None × (put ≡ entry ∷ [])
+Mended settings log LeftOut entry put = Asks settings log entry Without × (put ≡ [])
+Mended settings log (Changed steps) entry put =
+    (other : Entry) × Asks settings log entry (Other other) × Mended settings log steps other put
+Mended settings log (Preceded one more) entry put =
+    (first : Entry) × (before : List Entry) × (rest : List Entry)
+    × Asks settings log entry (First first)
+    × Mended settings log one first before
+    × Mended settings (log ++ before) more entry rest
+    × (put ≡ before ++ rest)
+
+-- ---- a whole log
+
+-- `after` stands in place of the entries, behind a log that was gone on with before
+abbrev pub IsRepaired : Parameters → List Entry → List Entry → List Entry → Type 0
+IsRepaired settings before [] after = after ≡ []
+IsRepaired settings before (entry ∷ entries) after =
+    (steps : Steps) × (put : List Entry) × (rest : List Entry)
+    × Mended settings before steps entry put
+    × IsRepaired settings (before ++ put) entries rest
+    × (after ≡ put ++ rest)
+
+-- ---- laws
+
+-- the log that was gone on with is a run
+abbrev pub RepairedLogPasses : Type 0
+RepairedLogPasses =
+    (settings : Parameters) (log repaired : List Entry) → IsRepaired settings [] log repaired → IsRun settings repaired
+
+-- a lawful entry stays as it is
+abbrev pub LawfulEntryIsKept : Type 0
+LawfulEntryIsKept =
+    (settings : Parameters) (log : List Entry) (steps : Steps) (entry : Entry) (put : List Entry)
+    → Broken settings log entry None → Mended settings log steps entry put
+    → put ≡ entry ∷ []
+
+-- so a run stays as it is
+abbrev pub RunIsItsRepair : Type 0
+RunIsItsRepair =
+    (settings : Parameters) (log repaired : List Entry) → IsRun settings log → IsRepaired settings [] log repaired
+    → repaired ≡ log
+
+-- up to the first entry that breaks a rule nothing is changed
+abbrev pub FrontIsKept : Type 0
+FrontIsKept =
+    (settings : Parameters) (front more repaired : List Entry)
+    → IsRun settings front → IsRepaired settings [] (front ++ more) repaired
+    → (rest : List Entry) × (repaired ≡ front ++ rest)

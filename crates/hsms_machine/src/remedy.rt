@@ -1,0 +1,142 @@
+//! How a log is gone on with behind an entry that breaks a rule.
+
+use crate::entry::{Act, Cause};
+use crate::phase::Phase;
+use crate::rule::Rule;
+use crate::view::View;
+
+/// How a log is gone on with behind an entry that breaks a rule: what stands in its place, or before it. Times are in ms.
+#[derive(Clone, Copy, Debug, PartialEq, Eq)]
+pub enum Remedy {
+    /// The entry stands at this time.
+    Raise(u64),
+    /// The taken frame of the entry is thrown away.
+    Discard,
+    /// At this time T3 has expired for the sent primary with these system bytes; then the entry.
+    ExpireFirst(u64, u32),
+    /// At this time the connection was cut; then the entry.
+    CutFirst(u64, Cause),
+    /// At this time the connection went down; then the entry.
+    DownFirst(u64),
+    /// The entry is left out.
+    LeaveOut,
+}
+
+impl View {
+    ghost use Rattle.std.specs.Prelude.{◌≡◌, ◌+◌, min, []};
+    ghost use Rattle.hsms_machine.specs.Act.{event_of, entry_of};
+    ghost use Rattle.hsms_machine.specs.Ordered.{first_of};
+    ghost use Rattle.hsms_machine.specs.Step.{is_connected as is_phase_connected};
+    ghost use Rattle.hsms_machine.specs.Repair.{remedy_of, discarded, lacks_down, expired, cut, cut_by_t7, expiry_of};
+
+    /// What the rule asks for that the entry broke first.
+    pub fn remedy(&self, rule: Rule, time: u64, act: &Act) -> Remedy
+        ensures { result ≡ remedy_of self.now (entry_of time act.now []) rule }
+    {
+        match rule {
+            Rule::Backwards => Remedy::Raise(self.last_time),
+            Rule::NotUp => self.down_first(time, act),
+            Rule::T3Overdue => self.expire_first(time),
+            Rule::LinkOverdue => self.cut_first(time),
+            Rule::NotDue | Rule::NoCause => Remedy::LeaveOut,
+            Rule::Ended
+            | Rule::TooLong
+            | Rule::PType
+            | Rule::SType
+            | Rule::ControlText
+            | Rule::Session
+            | Rule::Direction
+            | Rule::NotSelected
+            | Rule::WBit
+            | Rule::Text
+            | Rule::SystemInUse
+            | Rule::NoTransaction
+            | Rule::SelectStatus => Self::discard(act),
+        }
+    }
+
+    fn discard(act: &Act) -> Remedy
+        ensures { result ≡ discarded (event_of act.now []) }
+    {
+        match act {
+            Act::Taken(_) => Remedy::Discard,
+            Act::Up | Act::Sent(_) | Act::Discarded(_) | Act::T3(_) | Act::Cut(_) | Act::Down => {
+                Remedy::LeaveOut
+            }
+        }
+    }
+
+    fn down_first(&self, time: u64, act: &Act) -> Remedy
+        ensures { result ≡ lacks_down self.now time (event_of act.now []) }
+    {
+        if matches!(act, Act::Up) && self.settings.version() == 2 && self.is_connected() {
+            Remedy::DownFirst(time)
+        } else {
+            Remedy::LeaveOut
+        }
+    }
+
+    fn is_connected(&self) -> bool
+        ensures { result ≡ is_phase_connected self.now.phase }
+    {
+        match self.phase {
+            Phase::Before | Phase::Gone => false,
+            Phase::NotSelected | Phase::Selected | Phase::Over => true,
+        }
+    }
+
+    fn expire_first(&self, time: u64) -> Remedy
+        ensures { result ≡ expired self.now time (first_of self.now.sent_data) }
+    {
+        match self.sent_data.first() {
+            Some(opened) => {
+                let expiry = self.expiry(time, opened.time, self.settings.t3());
+                Remedy::ExpireFirst(expiry, opened.header.system)
+            }
+            None => Remedy::LeaveOut,
+        }
+    }
+
+    fn cut_first(&self, time: u64) -> Remedy
+        ensures { result ≡ cut self.now time (first_of self.now.sent_control) }
+    {
+        let limit = self.settings.t6();
+        match self.sent_control.first() {
+            Some(opened) => {
+                if u64::from(limit) < time.saturating_sub(opened.time) {
+                    Remedy::CutFirst(self.expiry(time, opened.time, limit), Cause::T6)
+                } else {
+                    self.cut_by_t7(time)
+                }
+            }
+            None => self.cut_by_t7(time),
+        }
+    }
+
+    fn cut_by_t7(&self, time: u64) -> Remedy
+        ensures { result ≡ cut_by_t7 self.now time }
+    {
+        Remedy::CutFirst(
+            self.expiry(time, self.up_time, self.settings.t7()),
+            Cause::T7,
+        )
+    }
+
+    /// When the limit had passed since a time: no later than now, and no earlier than the last entry.
+    fn expiry(&self, now: u64, since: u64, limit: u32) -> u64
+        ensures { result ≡ expiry_of self.now now since limit }
+    {
+        let due = Self::passed(since, limit, now);
+        if self.last_time < due {
+            due
+        } else {
+            self.last_time
+        }
+    }
+
+    fn passed(since: u64, limit: u32, now: u64) -> u64
+        ensures { result ≡ min (since + limit) now }
+    {
+        since.saturating_add(u64::from(limit)).min(now)
+    }
+}

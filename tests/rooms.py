@@ -1,0 +1,56 @@
+"""Crates, each in a repository of its own with what it stands on.
+
+While `rt` works on a crate, it lets no other `rt` work on a crate that stands on the same ones. Side by side they are
+worked on in rooms, as are copies that an edit changes.
+"""
+import os
+import shutil
+
+TOP = os.path.dirname(os.path.dirname(os.path.abspath(__file__)))
+
+# What is read of a crate, and of a crate below it besides.
+READ = ("src", "specs", "proofs")
+BUILT = "out/rlib"
+
+
+def crates_listed():
+    """What each crate stands on, by the list of crates."""
+    with open(f"{TOP}/crates.txt", encoding="utf-8") as file:
+        lines = [line.partition("#")[0].partition(":") for line in file]
+    return {name.split()[0]: below.split() for name, colon, below in lines if colon}
+
+
+def crates_below(crate, listed):
+    """The repository's crates that a crate stands on."""
+    direct = [it for it in listed[crate] if it in listed]
+    return set(direct).union(*[crates_below(it, listed) for it in direct])
+
+
+def link(source, target):
+    """Gives a file a second name, or copies it where the folders have no file system in common."""
+    try:
+        os.link(source, target)
+    except OSError:
+        shutil.copy2(source, target)
+
+
+def bring(crate, parts, room, how):
+    for part in parts:
+        source = f"{TOP}/crates/{crate}/{part}"
+        if os.path.isdir(source):
+            shutil.copytree(source, f"{room}/crates/{crate}/{part}", copy_function=how)
+
+
+def room_for(crate, room):
+    """Brings a crate, which may be changed there, and what is built below it, which may not. Says where the crate is."""
+    listed = crates_listed()
+    below = crates_below(crate, listed)
+    for name in sorted(below):
+        bring(name, (*READ, BUILT), room, link)
+    os.makedirs(f"{room}/crates/{crate}", exist_ok=True)
+    bring(crate, READ, room, shutil.copy2)
+    if os.path.exists(f"{TOP}/HANDLES"):
+        shutil.copy(f"{TOP}/HANDLES", room)
+    with open(f"{room}/crates.txt", "w", encoding="utf-8") as file:
+        file.writelines(f"{name}: {' '.join(listed[name])}\n" for name in listed if name in below or name == crate)
+    return f"{room}/crates/{crate}"
