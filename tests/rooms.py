@@ -8,6 +8,9 @@ import shutil
 
 TOP = os.path.dirname(os.path.dirname(os.path.abspath(__file__)))
 
+# What the check of a crate takes of memory at most, in KB.
+MEMORY = 3 << 20
+
 # What is read of a crate, and of a crate below it besides.
 READ = ("src", "specs", "proofs")
 BUILT = "out/rlib"
@@ -24,6 +27,13 @@ def crates_below(crate, listed):
     """The repository's crates that a crate stands on."""
     direct = [it for it in listed[crate] if it in listed]
     return set(direct).union(*[crates_below(it, listed) for it in direct])
+
+
+def processors():
+    """How many checks may run at once: one for each processor that has memory for it."""
+    with open("/proc/meminfo", encoding="ascii") as lines:
+        free = next(int(line.split()[1]) for line in lines if line.startswith("MemAvailable:"))
+    return max(1, min(len(os.sched_getaffinity(0)), free // MEMORY))
 
 
 def link(source, target):

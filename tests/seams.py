@@ -757,7 +757,7 @@ SOURCES = [
 NO_SOURCES = [
     "README.md",
     "tests/seams.py",
-    "crates/low/must-fail/one.edit",
+    "tests/must-fail/low/one.edit",
     "crates/low/proofs/function/Answers.antt",
     "crates/low/out/kept",
     "build.log",

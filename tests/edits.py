@@ -1,0 +1,406 @@
+#!/usr/bin/env python3
+"""Tries the must-fail edits, many at once, and their harmless twins.
+
+A must-fail edit is a wrong body, which the check has to refuse: a file tests/must-fail/CRATE/NAME.edit.
+
+    -- wrong body: what follows a message is read ahead
+    file: src/read.rt
+    old: a text that stands once in the file
+    new: what stands there in its place
+
+Where a file has several bodies, each stands behind a line `-- BODY`. A file of one body says in its first line what
+this does. Were it refused only because a proof no longer fits the changed text, that would say nothing of a contract.
+So it has a twin, tests/twins/NAME.edit: an edit of the same place and the same shape, which means what the code means
+as it stands, and has to be proved. Its first line is `-- crate: CRATE`.
+
+Bodies of different functions are tried in one check of a copy of their crate, since a proof sees of another function
+its contract alone. A body is refused where the check names a goal of the function that it turns, or a line of this
+function's own proof that no longer fits, and not where only a function that it calls isn't proved. What such a check
+doesn't name is tried again among others, and at last alone. The last line is `N passed, M failed`.
+
+Use: tests/edits.py [CRATE..] tries all edits and twins of these crates, or of every crate. What they stand on is built
+first, by ./build, where it isn't. tests/edits.py --one CRATE NAME [BODY] tries one edit and writes what the check says,
+and tests/edits.py --twins NAME.. tries some twins.
+"""
+import argparse
+import os
+import re
+import shutil
+import subprocess
+import sys
+import tempfile
+import time
+from concurrent.futures import ThreadPoolExecutor
+from dataclasses import dataclass
+
+sys.dont_write_bytecode = True
+
+from rooms import TOP, bring, link, processors, room_for
+
+EDITS = f"{TOP}/tests/must-fail"
+TWINS = f"{TOP}/tests/twins"
+WRONG_BODY = "-- wrong body: "
+OF_CRATE = "-- crate: "
+
+# How long a check may take, in seconds.
+LONGEST_CHECK = 1800
+
+# How many bodies are tried together, and how many such checks a body may have before it is tried alone.
+TOGETHER = 24
+AMONG_OTHERS = 2
+
+# What a check says of a function that isn't proved, of a goal, and of a line of a proof by hand.
+NOT_PROVED = re.compile(r"^fn (\S+): (?:not proved|no proof)(.*)", re.MULTILINE)
+LINE_OF_A_PROOF = re.compile(r"^(?:note: )?(?:\./)?proofs/(\S+?)/[A-Z]\w*\.antt:\d+:\d+: error: (.*)", re.MULTILINE)
+A_NAME_IS_GONE = re.compile(r"has no field|is not in scope|has no `|was not admitted")
+
+
+class BadEdit(Exception):
+    """An edit that can't be applied."""
+
+
+@dataclass(frozen=True)
+class Change:
+    """A text of a file of a crate, and what stands in its place."""
+
+    path: str
+    old: str
+    new: str
+
+
+@dataclass(frozen=True)
+class Edit:
+    """Changes of a crate that are one edit."""
+
+    crate: str
+    name: str
+    changes: tuple
+
+    def texts(self, folder, texts=()):
+        """The edited files, by their paths in the crate: as these texts have them, or else as the folder does."""
+        texts = dict(texts)
+        for it in self.changes:
+            text = texts.get(it.path) or text_of(f"{folder}/{it.path}")
+            if not it.old or text.count(it.old) != 1:
+                raise BadEdit(f"{it.path} has {text.count(it.old)} times, and not once: {it.old}")
+            texts[it.path] = text.replace(it.old, it.new)
+        return texts
+
+    def functions(self):
+        """The functions that the edit turns, each by its module and its name."""
+        return {function_at(self.crate, it) for it in self.changes}
+
+
+def text_of(path):
+    with open(path, encoding="utf-8") as file:
+        return file.read()
+
+
+def function_at(crate, change):
+    """The module and the name of the function that a change lies in."""
+    text = text_of(f"{TOP}/crates/{crate}/{change.path}")
+    place = text.find(change.old)
+    end = text.find("\n", place)
+    names = re.findall(r"\bfn (\w+)", text[: end if end >= 0 else len(text)])
+    module = change.path.removeprefix("src/").removesuffix(".rt")
+    return "" if module in ("lib", "main") else module, names[-1] if names else ""
+
+
+def changes_in(lines):
+    """The changes that lines tell."""
+    path = old = ""
+    found = []
+    for line in lines:
+        word, _, rest = line.partition(": ")
+        if word == "file":
+            path = rest
+        elif word == "old":
+            old = rest
+        elif word in ("new", "new:"):
+            found.append(Change(path, old, rest))
+    return tuple(found)
+
+
+def edits_in(path, crate, name):
+    """The edits of a file: one, or one behind each line `-- BODY`."""
+    lines = text_of(path).split("\n")
+    starts = [place for place, line in enumerate(lines) if re.fullmatch(r"-- \w+", line)]
+    if not starts:
+        return [Edit(crate, name, changes_in(lines))]
+    parts = zip(starts, [*starts[1:], len(lines)])
+    return [Edit(crate, f"{name} {lines[start][3:]}", changes_in(lines[start:end])) for start, end in parts]
+
+
+def names_in(folder):
+    return sorted(it[:-5] for it in os.listdir(folder) if it.endswith(".edit")) if os.path.isdir(folder) else []
+
+
+def bodies_of(crate):
+    """The wrong bodies of a crate."""
+    folder = f"{EDITS}/{crate}"
+    return [edit for name in names_in(folder) for edit in edits_in(f"{folder}/{name}.edit", crate, name)]
+
+
+def all_twins():
+    """The twins of every crate."""
+    found = []
+    for name in names_in(TWINS):
+        path = f"{TWINS}/{name}.edit"
+        found.append(Edit(text_of(path).split("\n")[0].removeprefix(OF_CRATE), name, changes_in(text_of(path).split("\n"))))
+    return found
+
+
+def without_a_fellow(crates, twins):
+    """What is wrong with a wrong body and its twin beside one another, by name."""
+    alone = {
+        name: crate
+        for crate in crates
+        for name in names_in(f"{EDITS}/{crate}")
+        if text_of(f"{EDITS}/{crate}/{name}.edit").startswith(WRONG_BODY)
+    }
+    crate_of = {it.name: it.crate for it in twins}
+    told = {name: "it has no twin" for name in alone if crate_of.get(name) != alone[name]}
+    told.update({it.name: "it is the twin of no wrong body" for it in twins if alone.get(it.name) != it.crate})
+    return told
+
+
+def room_with_what_is_kept(crate, room):
+    """A room for a crate, with what earlier checks kept of it."""
+
+    def keep(source, target):
+        # a check replaces a file with what it proved, and changes none
+        (link if source.endswith(".oantt") else shutil.copy2)(source, target)
+
+    folder = room_for(crate, room)
+    bring(crate, ("out",), room, keep)
+    return folder
+
+
+def write_all(folder, texts):
+    for path, text in texts.items():
+        with open(f"{folder}/{path}", "w", encoding="utf-8") as file:
+            file.write(text)
+
+
+def checked(folder, texts):
+    """Checks the crate with these texts, and takes them back. Says whether it is proved, and what was written."""
+    before = {path: text_of(f"{folder}/{path}") for path in texts}
+    write_all(folder, texts)
+    words = ["rt", "check", "--jobs", "1"]
+    try:
+        ran = subprocess.run(
+            words, cwd=folder, stdout=subprocess.PIPE, stderr=subprocess.STDOUT, timeout=LONGEST_CHECK, check=False
+        )
+    finally:
+        write_all(folder, before)
+    return ran.returncode == 0, ran.stdout.decode(errors="replace")
+
+
+def refused_in(output):
+    """The functions that a check refuses by a goal or a line of their own, by module and name, with what it says."""
+    found = {}
+    for path, said in NOT_PROVED.findall(output):
+        goal = re.search(r"`search` did not prove (.*?)(?:; it calls|$)", said)
+        if goal:
+            module, name = named(path.split("::")[1:])
+            found.setdefault((module, name), []).append(goal[1])
+    for path, said in LINE_OF_A_PROOF.findall(output):
+        if not A_NAME_IS_GONE.search(re.sub(r"`[^`]*`", "", said)):
+            module, name = named(path.split("/"))
+            found.setdefault((module, name), []).append(said[:120])
+    return found
+
+
+def named(parts):
+    """The module and the name of a function by the parts of its path, of which types are left out."""
+    *modules, name = parts
+    return "/".join(it for it in modules if not it[0].isupper()), name
+
+
+def chosen(folder, edits, most):
+    """Edits that can be tried in one check, of different functions, at most so many, and the texts with all of them."""
+    texts, taken, functions = {}, [], set()
+    for edit in edits:
+        if functions & edit.functions() or len(taken) == most:
+            continue
+        try:
+            texts = edit.texts(folder, texts)
+        except BadEdit:
+            continue
+        taken.append(edit)
+        functions |= edit.functions()
+    return taken, texts
+
+
+class Trial:
+    """The trials of a crate's edits and twins."""
+
+    def __init__(self, crate, folder):
+        self.crate, self.folder = crate, folder
+        self.passed, self.failed, self.checks = 0, [], 0
+
+    def fail(self, edit, why):
+        self.failed.append(f"{self.crate}/{edit.name}: {why}")
+
+    def check(self, texts):
+        self.checks += 1
+        return checked(self.folder, texts)
+
+    def applicable(self, edits):
+        """Those that can be applied."""
+        good = []
+        for edit in edits:
+            try:
+                edit.texts(self.folder)
+                good.append(edit)
+            except (BadEdit, OSError) as error:
+                self.fail(edit, f"BAD EDIT: {error}")
+        return good
+
+    def refuse(self, edits):
+        """Tries wrong bodies: each has to be refused."""
+        left, most = self.applicable(edits), TOGETHER
+        among = dict.fromkeys(left, 0)
+        while left:
+            together, texts = chosen(self.folder, [it for it in left if among[it] < AMONG_OTHERS] or left[:1], most)
+            is_proved, output = self.check(texts)
+            if len(together) == 1:
+                self.alone(together[0], is_proved, output)
+                left.remove(together[0])
+                most = min(2 * most, TOGETHER)
+                continue
+            refused = refused_in(output)
+            if not refused:
+                # it came to no verdict, or one of them doesn't compile
+                most = len(together) // 2
+                continue
+            for edit in together:
+                among[edit] += 1
+                if any(it in refused for it in edit.functions()):
+                    self.passed += 1
+                    left.remove(edit)
+
+    def alone(self, edit, is_proved, output):
+        """What came of a body that was tried by itself."""
+        refused = refused_in(output)
+        if is_proved:
+            self.fail(edit, "NOT REFUSED: the crate is proved with it")
+        elif not refused:
+            self.fail(edit, f"BAD EDIT: no goal is refused: {first_error(output)}")
+        else:
+            self.passed += 1
+
+    def prove(self, twins):
+        """Tries twins: each has to be proved."""
+        left = self.applicable(twins)
+        while left:
+            together, texts = chosen(self.folder, left, TOGETHER)
+            is_proved, output = self.check(texts)
+            left = [it for it in left if it not in together]
+            if is_proved:
+                self.passed += len(together)
+            elif len(together) == 1:
+                self.fail(together[0], f"REFUSED, a twin: {first_error(output)}")
+            else:
+                for edit in together:
+                    self.prove_alone(edit)
+
+    def prove_alone(self, edit):
+        is_proved, output = self.check(edit.texts(self.folder))
+        if is_proved:
+            self.passed += 1
+        else:
+            self.fail(edit, f"REFUSED, a twin: {first_error(output)}")
+
+
+def first_error(output):
+    """The first line of what a check wrote that tells what it refuses."""
+    lines = output.strip().split("\n")
+    tells = re.compile(r":\d+:\d+: error|^note: \S+:\d+:\d+: it is not proved|: (?:not proved|no proof)|^error")
+    return next((line for line in lines if tells.search(line)), lines[-1])[:300]
+
+
+def tried(crate, bodies, twins):
+    """Tries the edits of a crate, and tells what came of them."""
+    began = time.monotonic()
+    with tempfile.TemporaryDirectory(prefix="edits-") as room:
+        trial = Trial(crate, room_with_what_is_kept(crate, room))
+        try:
+            is_proved, output = trial.check({})
+            if is_proved:
+                trial.refuse(bodies)
+                trial.prove(twins)
+            else:
+                trial.failed = [f"{crate}: it isn't proved without an edit: {first_error(output)}"]
+        except (OSError, subprocess.TimeoutExpired) as error:
+            trial.failed.append(f"{crate}: {error}")
+    for it in trial.failed:
+        print(it)
+    told = f"{len(bodies)} wrong bodies, {len(twins)} twins in {trial.checks} checks"
+    print(f"{crate}: {told}, {time.monotonic() - began:.0f} s", flush=True)
+    return trial.passed, len(trial.failed)
+
+
+def try_one(crate, name, body):
+    """Tries one edit, and writes what the check says of it."""
+    path = f"{EDITS}/{crate}/{name}.edit"
+    if not os.path.isfile(path):
+        print(f"there is no {os.path.relpath(path, TOP)}")
+        return 2
+    wanted = [it for it in edits_in(path, crate, name) if not body or it.name == f"{name} {body}"]
+    with tempfile.TemporaryDirectory(prefix="edit-") as room:
+        folder = room_with_what_is_kept(crate, room)
+        try:
+            texts = {}
+            for edit in wanted:
+                texts = edit.texts(folder, texts)
+        except BadEdit as error:
+            print(f"BAD EDIT: {error}")
+            return 2
+        is_proved, output = checked(folder, texts)
+    print(output, end="")
+    refused = refused_in(output)
+    for (module, function), goals in refused.items():
+        print(f"refused: {module or crate} {function}: {', '.join(goals)}")
+    if is_proved or not refused:
+        print("NOT REFUSED: the crate is proved with this edit" if is_proved else "BAD EDIT: no goal is refused")
+    return 0 if refused and not is_proved else 1
+
+
+def size_of(crate):
+    """About how long the checks of a crate take, beside those of others."""
+    return sum(len(files) for _, _, files in os.walk(f"{TOP}/crates/{crate}/proofs")) + 4 * len(bodies_of(crate))
+
+
+def main():
+    parser = argparse.ArgumentParser(description=__doc__, formatter_class=argparse.RawDescriptionHelpFormatter)
+    parser.add_argument("names", nargs="*", metavar="CRATE")
+    parser.add_argument("--one", action="store_true", help="tries one edit: CRATE NAME [BODY]")
+    parser.add_argument("--twins", action="store_true", help="tries twins by their names")
+    asked = parser.parse_args()
+    if asked.one:
+        return try_one(asked.names[0], asked.names[1], asked.names[2] if len(asked.names) > 2 else "")
+    twins = all_twins()
+    crates = sorted(os.listdir(EDITS))
+    wrong = without_a_fellow(crates, twins)
+    if asked.twins:
+        twins = [it for it in twins if it.name in asked.names]
+        crates, wrong, bodies = sorted({it.crate for it in twins}), {}, {}
+    else:
+        crates = [it for it in crates if not asked.names or it in asked.names]
+        bodies = {crate: bodies_of(crate) for crate in crates}
+    if subprocess.run([f"{TOP}/build", *crates], stdin=subprocess.DEVNULL, check=False).returncode:
+        return 1
+    for name, why in wrong.items():
+        print(f"{name}: {why}")
+    crates.sort(key=size_of, reverse=True)
+    with ThreadPoolExecutor(processors()) as lanes:
+        of_crate = lambda crate: tried(crate, bodies.get(crate, []), [it for it in twins if it.crate == crate])
+        results = list(lanes.map(of_crate, crates))
+    failed = sum(failed for _, failed in results) + len(wrong)
+    print(f"{sum(passed for passed, _ in results)} passed, {failed} failed")
+    return 1 if failed else 0
+
+
+if __name__ == "__main__":
+    sys.exit(main())
