@@ -35,7 +35,7 @@ from dataclasses import dataclass
 
 sys.dont_write_bytecode = True
 
-from rooms import TOP, bring, link, processors, room_for
+from rooms import TOP, bring, crates_below, crates_listed, link, processors, room_for
 
 EDITS = f"{TOP}/tests/must-fail"
 TWINS = f"{TOP}/tests/twins"
@@ -372,6 +372,13 @@ def size_of(crate):
     return sum(len(files) for _, _, files in os.walk(f"{TOP}/crates/{crate}/proofs")) + 4 * len(bodies_of(crate))
 
 
+def is_built_below(crates):
+    """Builds what crates stand on, where it isn't built as `rt check` wants it."""
+    below = set().union(*[crates_below(it, crates_listed()) for it in crates])
+    words = [f"{TOP}/build", *sorted(below)]
+    return not below or subprocess.run(words, stdin=subprocess.DEVNULL, check=False).returncode == 0
+
+
 def main():
     parser = argparse.ArgumentParser(description=__doc__, formatter_class=argparse.RawDescriptionHelpFormatter)
     parser.add_argument("names", nargs="*", metavar="CRATE")
@@ -389,7 +396,7 @@ def main():
     else:
         crates = [it for it in crates if not asked.names or it in asked.names]
         bodies = {crate: bodies_of(crate) for crate in crates}
-    if subprocess.run([f"{TOP}/build", *crates], stdin=subprocess.DEVNULL, check=False).returncode:
+    if not is_built_below(crates):
         return 1
     for name, why in wrong.items():
         print(f"{name}: {why}")
