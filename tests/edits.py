@@ -51,7 +51,7 @@ AMONG_OTHERS = 2
 
 # What a check says of a function that isn't proved, of a goal, and of a line of a proof by hand.
 NOT_PROVED = re.compile(r"^fn (\S+): (?:not proved|no proof)(.*)", re.MULTILINE)
-LINE_OF_A_PROOF = re.compile(r"^(?:note: )?(?:\./)?proofs/(\S+?)/[A-Z]\w*\.antt:\d+:\d+: error: (.*)", re.MULTILINE)
+LINE_OF_A_PROOF = re.compile(r"^(?:note: )?(?:\./)?proofs/(\S+?)\.antt:\d+:\d+: error: (.*)", re.MULTILINE)
 A_NAME_IS_GONE = re.compile(r"has no field|is not in scope|has no `|was not admitted")
 
 
@@ -202,12 +202,12 @@ def refused_in(output):
     for path, said in NOT_PROVED.findall(output):
         goal = re.search(r"`search` did not prove (.*?)(?:; it calls|$)", said)
         if goal:
-            module, name = named(path.split("::")[1:])
-            found.setdefault((module, name), []).append(goal[1])
+            found.setdefault(named(path.split("::")[1:]), []).append(goal[1])
     for path, said in LINE_OF_A_PROOF.findall(output):
         if not A_NAME_IS_GONE.search(re.sub(r"`[^`]*`", "", said)):
-            module, name = named(path.split("/"))
-            found.setdefault((module, name), []).append(said[:120])
+            # a file of a function's proof lies in its folder; a lemma of a file of its own speaks of what isn't a function
+            *parts, file = path.split("/")
+            found.setdefault(named(parts) if parts else ("", file), []).append(said[:120])
     return found
 
 
