@@ -95,8 +95,8 @@ impl Transactions {
         }
     }
 
-    /// The transaction of these system bytes, and its place. The oldest is looked at first: it is mostly the one that is
-    /// asked for, and no hash is taken for it.
+    /// The transaction of these system bytes, and its place. The oldest is looked at first, without a hash: mostly
+    /// it is the one that is asked for.
     #[inline(always)]
     fn found(&self, system: u32) -> Option<(usize, Transaction)>
         ensures found { option_map (λ x. x.1) result ≡ find (λ opened. opened.header.system == system) self.now }
