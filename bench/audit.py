@@ -84,6 +84,14 @@ def headers():
         place += 1
 
 
+def comments():
+    """Comments alone, as someone has written them who looked at the log."""
+    place = 0
+    while True:
+        yield f"# {7 * place} a comment of the one who looked at it\n"
+        place += 1
+
+
 def texts(text):
     """Messages that want no answer, with this text."""
 
@@ -160,6 +168,7 @@ def logs(size):
     yield "ordinary traffic, one open at a time", lambda size: [one_at_a_time(size)], size, 3 * MB
     yield "ordinary traffic, 200 open each way", sized(traffic), size, 3 * MB
     yield "bare headers", sized(headers), size, 3 * MB
+    yield "comments", sized(comments), size, 3 * MB
     yield "nested to 32", sized(texts(nested())), size, 3 * MB
     yield "lists of empty lists", sized(texts(empty_lists())), size, 3 * MB
     for count in (24, 240, 2_400, 24_000):

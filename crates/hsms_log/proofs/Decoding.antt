@@ -21,6 +21,16 @@ value_some None small = absurd (omega arith)
 pub value_none : (c : ℕ) → 16 ≤ value_or_none c → is_hex_digit c ≡ false
 value_none c large = grind (arith)
 
+value_small : (c : ℕ) → value_or_none c < 128 → value_or_none c < 16
+value_small c less = grind (arith)
+
+-- values that lack the high bit are those of digits
+pub all_digits : (digits values : List ℕ) (place : ℕ) → ((k : ℕ) → k < 16 → get_or values k 0 ≡ value_or_none (get_or digits (place + k) 0))
+    → ((k : ℕ) → k < 16 → get_or values k 0 < 128) → (k : ℕ) → k < 16 → get_or values k 0 < 16
+all_digits digits values place told small k less =
+    let c = get_or digits (place + k) 0 in
+    subst (λ n. n < 16) (sym (told k less)) (value_small c (subst (λ n. n < 128) (told k less) (small k less)))
+
 -- two digits are the octet of their values
 pair_is : (a b v i : ℕ) → IsPair a b v → pair_value a b i ≡ Ok v
 pair_is a b v i h =
@@ -145,31 +155,31 @@ mask_some p (x ∷ xs) some =
     ]
 
 abbrev is_large : ℕ → Bool
-is_large x = top 7 (cond (leb 16 x) 255 0)
+is_large x = top 7 (cond (leb 128 x) 255 0)
 
-large_true : (x : ℕ) → is_large x ≡ true → 16 ≤ x
-large_true x e = go (leb 16 x) refl e
+large_true : (x : ℕ) → is_large x ≡ true → 128 ≤ x
+large_true x e = go (leb 128 x) refl e
   where
-    go : (t : Bool) → leb 16 x ≡ t → top 7 (cond t 255 0) ≡ true → 16 ≤ x
-    go true p q = leb-true 16 x p
+    go : (t : Bool) → leb 128 x ≡ t → top 7 (cond t 255 0) ≡ true → 128 ≤ x
+    go true p q = leb-true 128 x p
     go false p q = cc q
 
-large_false : (x : ℕ) → is_large x ≡ false → x < 16
-large_false x e = go (leb 16 x) refl e
+large_false : (x : ℕ) → is_large x ≡ false → x < 128
+large_false x e = go (leb 128 x) refl e
   where
-    go : (t : Bool) → leb 16 x ≡ t → top 7 (cond t 255 0) ≡ false → x < 16
+    go : (t : Bool) → leb 128 x ≡ t → top 7 (cond t 255 0) ≡ false → x < 128
     go true p q = cc q
-    go false p q = leb-false 16 x p
+    go false p q = leb-false 128 x p
 
 mask_is : (values : List ℕ) → length values ≡ 16
-    → mask_l (map (top 7) (zip2 (λ a b. cond (leb a b) 255 0) (replicate 16 16) values)) % 2 ^ 64 ≡ mask_l (map is_large values)
+    → mask_l (map (top 7) (zip2 (λ a b. cond (leb a b) 255 0) (replicate 16 128) values)) % 2 ^ 64 ≡ mask_l (map is_large values)
 mask_is values long =
-    let lanes = lanes_of_two (λ a b. cond (leb a b) 255 0) (λ _. 16) (λ x. x) values (lanes_of_one values 16 16 long) (lanes_loaded values) in
-    ap (λ l. mask_l l % 2 ^ 64) (ap (map (top 7)) lanes ∙ map-map (top 7) (λ x. cond (leb 16 x) 255 0) values)
+    let lanes = lanes_of_two (λ a b. cond (leb a b) 255 0) (λ _. 128) (λ x. x) values (lanes_of_one values 16 128 long) (lanes_loaded values) in
+    ap (λ l. mask_l l % 2 ^ 64) (ap (map (top 7)) lanes ∙ map-map (top 7) (λ x. cond (leb 128 x) 255 0) values)
     ∙ mask_l-mod (map is_large values) 64 (omega (arith, length-map values is_large, long))
 
 pub all_small : (values : List ℕ) → length values ≡ 16
-    → mask_l (map (top 7) (zip2 (λ a b. cond (leb a b) 255 0) (replicate 16 16) values)) % 2 ^ 64 ≡ 0 → (k : ℕ) → k < 16 → get_or values k 0 < 16
+    → mask_l (map (top 7) (zip2 (λ a b. cond (leb a b) 255 0) (replicate 16 128) values)) % 2 ^ 64 ≡ 0 → (k : ℕ) → k < 16 → get_or values k 0 < 128
 all_small values long empty k less =
     large_false (get_or values k 0) (mask_none is_large values (sym (mask_is values long) ∙ empty) k (omega (arith, long)))
 
@@ -178,7 +188,7 @@ mask_one zero none = cc none
 mask_one (suc n) none = omega arith
 
 pub one_large : (values : List ℕ) → length values ≡ 16
-    → 0 < mask_l (map (top 7) (zip2 (λ a b. cond (leb a b) 255 0) (replicate 16 16) values)) % 2 ^ 64 → (k : ℕ) × (k < 16) × (16 ≤ get_or values k 0)
+    → 0 < mask_l (map (top 7) (zip2 (λ a b. cond (leb a b) 255 0) (replicate 16 128) values)) % 2 ^ 64 → (k : ℕ) × (k < 16) × (128 ≤ get_or values k 0)
 one_large values long some =
     let found = mask_some is_large values (subst (λ n. 0 < n) (mask_is values long) some) in
     (found.0, omega (arith, found.1, long), large_true (get_or values found.0 0) found.2)

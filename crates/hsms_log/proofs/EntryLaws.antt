@@ -1,9 +1,9 @@
 -- Entries, read.
-use Rattle.std.proofs.Common.{◌≡◌, ◌<◌, ℕ, List, [], ◌∷◌, length, get_or, Some, None, sym, ap, ◌∙◌, subst, arith}
+use Rattle.std.proofs.Common.{◌≡◌, ℕ, List, Some, None, sym, ap, ◌∙◌, subst}
 use Rattle.std.specs.Prelude.{Option}
 use Rattle.hsms_machine.specs.declared.entry.Entry.{Entry}
 use Rattle.hsms_machine.specs.declared.entry.Event.{Event}
-use Rattle.hsms_log.specs.Spelling.{Carries, SpellsEntry, SpellsEvent, IsEvent}
+use Rattle.hsms_log.specs.Spelling.{Carries, IsBlank, SpellsEntry, SpellsEvent, IsEvent}
 use Rattle.hsms_log.specs.Carried.{HasFrame, CarriesFrame}
 use Rattle.hsms_log.specs.Reading.{number_at}
 use Rattle.hsms_log.proofs.Numbers.{number_at-spelled, number_at-some, pair_inj}
@@ -29,11 +29,10 @@ entry_found line text time event h fits spelled =
     let front = number_at-some line time text h in
     record { fits = record { time = front.0; event = fits }; spelled = (text, spelled, front.1) }
 
-pub line_unread : (max : ℕ) (line : List ℕ) → 0 < length line → (get_or line 0 0 ≡ 35 → ⊥)
-    → ((entry : Entry) → SpellsEntry line entry → ⊥) → (carried : Option Entry) → Carries max line carried → ⊥
-line_unread max [] some other none None h = omega (arith, some)
-line_unread max (octet ∷ line) some other none None h = other h.1
-line_unread max line some other none (Some entry) h = none entry h.1
+pub line_unread : (max : ℕ) (line : List ℕ) → (IsBlank line → ⊥) → ((entry : Entry) → SpellsEntry line entry → ⊥)
+    → (carried : Option Entry) → Carries max line carried → ⊥
+line_unread max line other none None h = other h.1
+line_unread max line other none (Some entry) h = none entry h.1
 
 -- a line has one time, and one text after it
 pub entry_parts : (line : List ℕ) (a b : Entry) (h : SpellsEntry line a) (k : SpellsEntry line b) → (a.time ≡ b.time) × (h.spelled.0 ≡ k.spelled.0)
@@ -48,8 +47,7 @@ event_marked line text time h framed entry spelled =
     let P : List ℕ → Type 0 = λ t. SpellsEvent t entry.event in
     framed entry.event (subst P both.1 spelled.spelled.1)
 
-pub line_marked : (max : ℕ) (line : List ℕ) → 0 < length line → (get_or line 0 0 ≡ 35 → ⊥)
-    → ((entry : Entry) → SpellsEntry line entry → HasFrame entry.event) → (carried : Option Entry) → Carries max line carried → CarriesFrame carried
-line_marked max [] some other framed None h = omega (arith, some)
-line_marked max (octet ∷ line) some other framed None h = other h.1
-line_marked max line some other framed (Some entry) h = framed entry h.1
+pub line_marked : (max : ℕ) (line : List ℕ) → (IsBlank line → ⊥) → ((entry : Entry) → SpellsEntry line entry → HasFrame entry.event)
+    → (carried : Option Entry) → Carries max line carried → CarriesFrame carried
+line_marked max line other framed None h = absurd (other h.1)
+line_marked max line other framed (Some entry) h = framed entry h.1

@@ -265,7 +265,7 @@ line_go max (octet ∷ line) fits =
       | inr other ↦
           elim (entry_decided (octet ∷ line)) [
             | inl entry ↦ inl (Some entry.0, (fits, entry.1))
-            | inr fails ↦ inr (λ h. line_unread max (octet ∷ line) (omega arith) other (λ entry spelled. fails (entry, spelled)) h.0 h.1)
+            | inr fails ↦ inr (λ h. line_unread max (octet ∷ line) other (λ entry spelled. fails (entry, spelled)) h.0 h.1)
           ]
     ]
 

@@ -57,13 +57,13 @@ fn values_at(digits: &[u8], place: usize) -> u8x16
         .select(from_zero, letter)
 }
 
-/// Whether one of the values is no digit's.
+/// Whether one of the values is no digit's. The high bit alone is looked at: 255 has it, and no digit's value does.
 #[inline(always)]
 fn has_other(values: u8x16) -> bool
-    ensures none { result ≡ false → (k : ℕ) → k < 16 → slice_index values k < 16 }
-    ensures some { result ≡ true → (k : ℕ) × (k < 16) × (16 ≤ slice_index values k) }
+    ensures none { result ≡ false → (k : ℕ) → k < 16 → slice_index values k < 128 }
+    ensures some { result ≡ true → (k : ℕ) × (k < 16) × (128 ≤ slice_index values k) }
 {
-    values.simd_ge(u8x16::splat(16)).to_bitmask() != 0
+    values.simd_ge(u8x16::splat(128)).to_bitmask() != 0
 }
 
 /// Joins the values by twos to eight octets, and writes these from this place on.

@@ -7,7 +7,7 @@ ghost use Rattle.hsms_log.specs.Spelling.{Carries};
 ghost use Rattle.hsms_log.specs.Judging.{Tracks};
 
 use crate::fault::LineFault;
-use crate::reading::{FrameLine, Line, read_frame_line, read_line};
+use crate::reading::{FrameLine, Line, is_blank, read_frame_line, read_line};
 use crate::session::Session;
 use crate::tally::Tally;
 use crate::verdict::Why;
@@ -32,6 +32,10 @@ pub fn later_line(
     let max = session.settings.max();
     if line.len() > 2 * max as usize + 64 {
         return Ok(Some(Why::Unreadable));
+    }
+    if is_blank(line) {
+        tally.count_line();
+        return Ok(None);
     }
     match read_frame_line(line, octets)? {
         Some(frame) => {
@@ -67,6 +71,7 @@ fn frame_line(
 }
 
 /// Judges a line that carries no frame, or is unreadable.
+#[inline(never)]
 fn other_line(
     session: &mut Session,
     tally: &mut Tally,

@@ -1,10 +1,10 @@
 //! What a line that is not the first carries.
 
-ghost use Rattle.std.specs.Prelude.{◌≡◌, ◌≢◌, ◌<◌, ◌≤◌, ◌^◌, ◌++◌, ◌∷◌, ℕ, List, Option, None, Ok, IfOk, IfErr, IfSome, length, vec_len, drop, codes};
+ghost use Rattle.std.specs.Prelude.{◌≡◌, ◌≢◌, ◌↔◌, ◌<◌, ◌≤◌, ◌^◌, ◌++◌, ◌∷◌, ℕ, List, Option, None, Ok, IsTrue, IfOk, IfErr, IfSome, length, vec_len, drop, codes};
 ghost use Rattle.hsms_frame.specs.Frame.{Frame as Message};
 ghost use Rattle.hsms_machine.specs.declared.entry.Event.{Event as Happening};
 ghost use Rattle.hsms_machine.specs.declared.entry.Entry.{Entry as LogEntry};
-ghost use Rattle.hsms_log.specs.Spelling.{Carries, SpellsEntry, SpellsEvent, IsEvent, IsMessage, IsHexOf, message_octets, system_octets};
+ghost use Rattle.hsms_log.specs.Spelling.{Carries, IsBlank, SpellsEntry, SpellsEvent, IsEvent, IsMessage, IsHexOf, message_octets, system_octets};
 ghost use Rattle.hsms_machine.specs.Entry.{frame_entry};
 ghost use Rattle.hsms_log.specs.Carried.{carried_by, CarriesFrame, HasFrame};
 ghost use Rattle.hsms_log.specs.FrameLine.{IsSpelled, mark_word};
@@ -38,10 +38,20 @@ pub fn read_line(alloc: Global, line: &[u8], max: u32) -> Result<Line, LineFault
     if line.len() > 2 * max as usize + 64 {
         return Err(LineFault::Unreadable);
     }
-    if line.is_empty() || line[0] == b'#' {
+    if is_blank(line) {
         return Ok(Line::Nothing);
     }
     Ok(Line::Entry(read_entry(alloc, line)?))
+}
+
+/// Whether the line is empty, or a comment.
+pub fn is_blank(line: &[u8]) -> bool
+    ensures { IsTrue result ↔ IsBlank line.now }
+{
+    match line {
+        [] => true,
+        [first, ..] => *first == b'#',
+    }
 }
 
 fn read_entry(alloc: Global, line: &[u8]) -> Result<Entry, LineFault>

@@ -1,5 +1,5 @@
 -- What a map keeps of open transactions, as the list of its values tells it.
-use Rattle.std.proofs.Common.{◌≡◌, ℕ, ◌+◌, ◌-◌, ◌^◌, ◌<◌, ◌≤◌, min, Bool, true, false, not, cond, ◌==◌, ◌&&◌, ◌||◌, List, [], ◌∷◌, ◌++◌, Option, Some, None, is_some, inl, inr, refl, sym, ap, subst, ◌∙◌, arith, filter, nat_lt, nat_le, nat_eq, slice_get, length, remove, position, zero, suc}
+use Rattle.std.proofs.Common.{◌≡◌, ℕ, ◌+◌, ◌-◌, ◌^◌, ◌<◌, ◌≤◌, min, Bool, true, false, not, cond, ◌==◌, ◌&&◌, ◌||◌, List, [], ◌∷◌, ◌++◌, Option, Some, None, is_some, inl, inr, refl, sym, ap, subst, ◌∙◌, arith, filter, nat_lt, nat_le, nat_eq, slice_get, length, remove, position, zero, suc, ◌↔◌, IsSome, option_to_list, length-append}
 use Rattle.std.specs.List.{AllByRecursion, list_any, find, cons_option}
 use Rattle.std.specs.Cmp.{nat_eq_equiv}
 use Rattle.std.specs.Option.{option_map}
@@ -311,6 +311,27 @@ removed-place system es i keyed apart at =
     ∙ ap values_of (sym (remove_entry-first (nat_eq system) es i (Found-position (nat_eq system) es i at).first))
     ∙ removed-values system es keyed apart
 
+-- the last entry taken off the end
+remove-nil : {X : Type 0} (xs : List X) (i : ℕ) → xs ≡ [] → remove xs i ≡ []
+remove-nil [] zero e = refl
+remove-nil [] (suc i) e = refl
+remove-nil (x ∷ xs) i e = absurd cc
+
+remove-append : {X : Type 0} (rest : List X) (x : X) → remove (rest ++ x ∷ []) (length rest) ≡ rest
+remove-append [] x = refl
+remove-append (y ∷ rest) x = ap (λ l. y ∷ l) (remove-append rest x)
+
+pub last_removed : {X : Type 0} (es rest : List X) (gone : Option X) (i : ℕ) → es ≡ rest ++ option_to_list gone → (IsSome gone ↔ (0 < length es)) → i ≡ length es - 1 → rest ≡ remove es i
+last_removed es [] None i e some at = sym (remove-nil es i e)
+last_removed es (y ∷ rest) None i e some at =
+    let size : length es ≡ length (y ∷ rest) + 0 = ap length e ∙ length-append (y ∷ rest) [] in
+    let not : false ≡ true = some.1 (omega (arith, size)) in
+    absurd cc
+last_removed es rest (Some x) i e some at =
+    let size : length es ≡ length rest + 1 = ap length e ∙ length-append rest (x ∷ []) in
+    let here : i ≡ length rest = omega (arith, size, at) in
+    rw (e, here) (sym (remove-append rest x))
+
 -- ---- no message of another kind ends a transaction
 
 answers_none : (request other : Kind) (one two : Header) → (is_response_kind other || is_reject_kind other) ≡ false → answers_kind request other one two ≡ false
@@ -370,6 +391,25 @@ ordered moment (x ∷ xs) until in_order apart = (
 pub value-first : (es : List (ℕ × Transaction)) → option_map (λ e. e.1) (slice_get es 0) ≡ first_of (values_of es)
 value-first [] = refl
 value-first (e ∷ es) = refl
+
+-- the first, where it has the system bytes
+first_has : (system : ℕ) (opened x : Transaction) → Some opened ≡ Some x → opened.header.system ≡ system → (x.header.system == system) ≡ true
+first_has system opened x e is =
+    let same : opened ≡ x = cc in
+    eq-eqb x.header.system system (ap (λ (y : Transaction). y.header.system) (sym same) ∙ is)
+
+pub first_found : (system : ℕ) (opened : Transaction) (xs : List Transaction) → Some opened ≡ first_of xs → opened.header.system ≡ system → find (λ other. other.header.system == system) xs ≡ Some opened
+first_found system opened [] e is = absurd cc
+first_found system opened (x ∷ xs) e is =
+    let here = first_has system opened x e is in
+    rw here (sym e)
+
+pub first_removed : (system : ℕ) (opened : Transaction) (xs : List Transaction) → Some opened ≡ first_of xs → opened.header.system ≡ system → AreApart xs → remove xs 0 ≡ filter (λ other. not (other.header.system == system)) xs
+first_removed system opened [] e is apart = absurd cc
+first_removed system opened (x ∷ xs) e is apart =
+    let here = first_has system opened x e is in
+    let unused : uses system xs ≡ false = subst (λ s. uses s xs ≡ false) (eqb-true x.header.system system here) apart.0 in
+    rw here (sym (filter_none (λ other. other.header.system == system) xs unused))
 
 module _ (test : ℕ → Bool) (falls : (a b : ℕ) → a ≤ b → test b ≡ true → test a ≡ true) where
   none_since : (time : ℕ) → test time ≡ false → (xs : List Transaction) → AreSince time xs → list_any (λ opened. test opened.time) xs ≡ false

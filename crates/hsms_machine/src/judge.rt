@@ -24,6 +24,7 @@ impl View {
     ghost use Rattle.hsms_machine.specs.Step.{facts_of, IsBrokenAt};
 
     /// The first rule that the entry breaks.
+    #[inline(always)]
     pub fn first_broken(&self, time: u64, act: &Act, text: &[u8]) -> Option<Rule>
         ensures { IsBrokenAt self.now (entry_of time act.now text.now) result }
     {
@@ -38,6 +39,7 @@ impl View {
         self.broken_event(act, text)
     }
 
+    #[inline(always)]
     fn broken_order(&self, time: u64, act: &Act) -> Option<Rule>
         ensures { IsFirst (Breaks (facts_of self.now) self.now.settings (entry_of time act.now [])) order_rules result }
     {
@@ -88,6 +90,7 @@ impl View {
         }
     }
 
+    #[inline(always)]
     fn broken_timer(&self, time: u64, act: &Act) -> Option<Rule>
         ensures { IsFirst (Breaks (facts_of self.now) self.now.settings (entry_of time act.now [])) timer_rules result }
     {
@@ -133,6 +136,7 @@ impl View {
             && u64::from(self.settings.t7()) < time.saturating_sub(self.up_time)
     }
 
+    #[inline(always)]
     fn is_not_due(&self, time: u64, act: &Act) -> bool
         ensures { IsTrue result ↔ IsNotDue (facts_of self.now) self.now.settings time (event_of act.now []) }
     {
@@ -158,6 +162,7 @@ impl View {
         }
     }
 
+    #[inline(always)]
     fn broken_event(&self, act: &Act, text: &[u8]) -> Option<Rule>
         ensures { IsFirst (Breaks (facts_of self.now) self.now.settings (entry_of 0 act.now text.now)) (format_rules ++ (transaction_rules ++ Rule.NoCause ∷ [])) result }
     {
@@ -169,6 +174,7 @@ impl View {
         }
     }
 
+    #[inline(never)]
     fn broken_discard(&self, message: Message, text: &[u8]) -> Option<Rule>
         ensures { IsFirst (λ rule. IsNoCause (facts_of self.now) self.now.settings (Event.Discarded (frame_of message text.now))) (Rule.NoCause ∷ []) result }
     {
@@ -186,6 +192,7 @@ impl View {
     }
 
     /// The first rule that a frame breaks which is sent or taken.
+    #[inline(always)]
     fn broken_frame(&self, flow: Flow, message: Message, text: &[u8]) -> Option<Rule>
         ensures { IsFirst (FrameBreaks (facts_of self.now) self.now.settings flow (frame_of message text.now)) (format_rules ++ transaction_rules) result }
     {
@@ -246,6 +253,7 @@ impl View {
         }
     }
 
+    #[inline(never)]
     fn is_text(&self, text: &[u8]) -> bool
         ensures { IsTrue result ↔ IsText self.now.settings.depth text.now }
     {

@@ -1,6 +1,6 @@
 //! Transactions that are open, of one direction and kind.
 
-use crate::message::{Message, answers, concludes, may_conclude};
+use crate::message::{Message, answers, concludes};
 use hsms_frame::Header;
 use indexmap::IndexMap;
 use std::alloc::{AllocError, Global};
@@ -43,6 +43,7 @@ impl Drop for Transactions {
 impl Transactions {
     ghost use Rattle.std.specs.Prelude.{◌≡◌, ◌-◌, ◌^◌, ◌<◌, ◌==◌, ◌&&◌, not, [], ◌∷◌, ◌++◌, length, filter, remove, true, false, nat_lt, nat_le, OnOk, OnErr, IfSome, IfNone};
     ghost use Rattle.std.specs.List.{list_any, find};
+    ghost use Rattle.std.specs.Option.{option_map};
     ghost use Rattle.hsms_machine.specs.Timer.{least_in, due_times, due_at, least_of};
     ghost use Rattle.hsms_machine.specs.Transaction.{answers as is_answer, concludes as is_conclusion};
     ghost use Rattle.hsms_machine.specs.View.{oldest_of};
@@ -94,16 +95,34 @@ impl Transactions {
         }
     }
 
+    /// The transaction of these system bytes, and its place. The oldest is looked at first, without a hash: mostly
+    /// it is the one that is asked for.
+    #[inline(always)]
+    fn found(&self, system: u32) -> Option<(usize, Transaction)>
+        ensures found { option_map (λ x. x.1) result ≡ find (λ opened. opened.header.system == system) self.now }
+        ensures place { IfSome result (λ x. remove self.now x.0 ≡ filter (λ opened. not (opened.header.system == system)) self.now) }
+        ensures apart { AreApart self.now }
+    {
+        let Some((_, oldest)) = self.items.first() else {
+            return None;
+        };
+        if oldest.header.system == system {
+            return Some((0, *oldest));
+        }
+        match self.items.get_full(&system) {
+            Some((place, _, opened)) => Some((place, *opened)),
+            None => None,
+        }
+    }
+
     /// The transaction of these system bytes.
+    #[inline(always)]
     pub fn get(&self, system: u32) -> Option<Transaction>
         ensures found { result ≡ find (λ opened. opened.header.system == system) self.now }
         ensures apart { AreApart self.now }
     {
-        if self.items.is_empty() {
-            return None;
-        }
-        match self.items.get(&system) {
-            Some(opened) => Some(*opened),
+        match self.found(system) {
+            Some((_, opened)) => Some(opened),
             None => None,
         }
     }
@@ -151,6 +170,7 @@ impl Transactions {
     }
 
     /// Whether the transaction of these system bytes has waited for at least the limit.
+    #[inline(never)]
     pub fn is_due(&self, system: u32, now: u64, limit: u32) -> bool
         ensures { result ≡ list_any (λ opened. (opened.header.system == system) && nat_le limit (now - opened.time)) self.now }
     {
@@ -161,6 +181,7 @@ impl Transactions {
     }
 
     /// Whether some transaction has these system bytes.
+    #[inline(always)]
     pub fn is_in_use(&self, system: u32) -> bool
         ensures { result ≡ uses system self.now }
     {
@@ -168,6 +189,7 @@ impl Transactions {
     }
 
     /// Whether the message, which goes in the other direction, answers a transaction.
+    #[inline(always)]
     pub fn has_request_of(&self, response: Message) -> bool
         ensures { result ≡ list_any (λ opened. is_answer opened.header response) self.now }
     {
@@ -206,15 +228,13 @@ impl Transactions {
     }
 
     /// The place of the transaction that the message, which goes in the other direction, answers or rejects.
+    #[inline(always)]
     fn place_concluded(&self, other: Message) -> Option<usize>
         ensures none { IfNone result (list_any (λ opened. is_conclusion opened.header other) self.now ≡ false) }
         ensures place { IfSome result (λ place. remove self.now place ≡ filter (λ opened. not (is_conclusion opened.header other)) self.now) }
     {
-        if self.items.is_empty() {
-            return None;
-        }
-        match self.items.get_full(&other.header().system) {
-            Some((place, _, opened)) => {
+        match self.found(other.header().system) {
+            Some((place, opened)) => {
                 if concludes(opened.header, other) {
                     Some(place)
                 } else {
@@ -249,21 +269,25 @@ impl Transactions {
         self.items.truncate(0);
     }
 
+    /// Takes out the one at this place. The last is taken off the end, and none moves.
     fn remove_at(&mut self, place: usize)
         ensures { self.new ≡ remove self.old place }
     {
-        self.items.shift_remove_index(place);
+        if place == self.items.len().saturating_sub(1) {
+            self.items.pop();
+        } else {
+            self.items.shift_remove_index(place);
+        }
     }
 
     /// Takes out what the message, which goes in the other direction, answers or rejects.
+    #[inline(never)]
     pub fn remove_concluded(&mut self, other: Message)
         ensures { self.new ≡ filter (λ opened. not (is_conclusion opened.header other)) self.old }
     {
-        if may_conclude(other) {
-            match self.place_concluded(other) {
-                Some(place) => self.remove_at(place),
-                None => {}
-            }
+        match self.place_concluded(other) {
+            Some(place) => self.remove_at(place),
+            None => {}
         }
     }
 

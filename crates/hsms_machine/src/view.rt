@@ -1,7 +1,9 @@
 //! What the rules need to know of the entries so far, and how an entry changes it.
 
 use crate::entry::Act;
-use crate::message::{Message, establishes, is_control_request, is_data_request, separates};
+use crate::message::{
+    Message, establishes, is_control_request, is_data_request, may_conclude, separates,
+};
 use crate::open::{Transaction, Transactions};
 use crate::phase::Phase;
 use crate::settings::Settings;
@@ -21,9 +23,9 @@ pub struct View {
 }
 
 impl View {
-    ghost use Rattle.std.specs.Prelude.{◌≡◌, ◌++◌, [], None, false, IsTrue, OnOk, OnErr, option_to_list};
+    ghost use Rattle.std.specs.Prelude.{◌≡◌, ◌++◌, [], None, false, not, filter, IsTrue, OnOk, OnErr, option_to_list};
     ghost use Rattle.hsms_machine.specs.Message.{is_request, is_data_request as opens_data_transaction, is_control_request as opens_control_transaction};
-    ghost use Rattle.hsms_machine.specs.Transaction.{opens, opened_by, SentData, SentControl, TakenData, TakenControl};
+    ghost use Rattle.hsms_machine.specs.Transaction.{opens, opened_by, concludes as is_conclusion, SentData, SentControl, TakenData, TakenControl};
     ghost use Rattle.hsms_machine.specs.Session.{ends_session as is_end_of_session, selects as is_selection};
     ghost use Rattle.hsms_machine.specs.View.{view_of, own_open_of, next_due_of};
     ghost use Rattle.hsms_machine.specs.Act.{event_of, entry_of};
@@ -70,6 +72,7 @@ impl View {
     }
 
     /// Takes a lawful entry in.
+    #[inline(always)]
     pub fn take_in(&mut self, time: u64, act: &Act) -> Result<(), AllocError>
         requires fresh { IsFresh self.old act.now }
         requires until { IsUntil time self.old }
@@ -86,6 +89,7 @@ impl View {
         Ok(())
     }
 
+    #[inline(always)]
     fn take_transactions_in(&mut self, time: u64, act: &Act) -> Result<(), AllocError>
         requires fresh { IsFresh self.old act.now }
         requires until { IsUntil time self.old }
@@ -101,8 +105,7 @@ impl View {
         match act {
             Act::Sent(message) => {
                 Self::open_in(&mut self.sent_data, &mut self.sent_control, time, *message)?;
-                self.taken_data.remove_concluded(*message);
-                self.taken_control.remove_concluded(*message);
+                Self::close_in(&mut self.taken_data, &mut self.taken_control, *message);
             }
             Act::Taken(message) => {
                 Self::open_in(
@@ -111,8 +114,7 @@ impl View {
                     time,
                     *message,
                 )?;
-                self.sent_data.remove_concluded(*message);
-                self.sent_control.remove_concluded(*message);
+                Self::close_in(&mut self.sent_data, &mut self.sent_control, *message);
             }
             Act::T3(system) => self.sent_data.remove_system(*system),
             Act::Up => self.close_all(),
@@ -132,6 +134,7 @@ impl View {
     }
 
     /// Puts the transaction that the message opens, if it opens one, at the end of its list.
+    #[inline(always)]
     fn open_in(
         primaries: &mut Transactions,
         requests: &mut Transactions,
@@ -145,16 +148,35 @@ impl View {
         ensures err { OnErr result ((primaries.new ≡ primaries.old) × (requests.new ≡ requests.old)) }
         ensures opens { OnErr result (IsTrue (is_request message)) }
     {
-        let opened = Transaction {
-            time,
-            header: message.header(),
-        };
         if is_data_request(message) {
-            primaries.push(opened)?;
+            primaries.push(Self::opened(time, message))?;
         } else if is_control_request(message) {
-            requests.push(opened)?;
+            requests.push(Self::opened(time, message))?;
         }
         Ok(())
+    }
+
+    /// The transaction that a request opens.
+    #[inline(always)]
+    fn opened(time: u64, request: Message) -> Transaction
+        ensures { result ≡ record { time = time; header = request } }
+    {
+        Transaction {
+            time,
+            header: request.header(),
+        }
+    }
+
+    /// Takes out what the message, which goes in the other direction, answers or rejects. Most kinds end nothing.
+    #[inline(always)]
+    fn close_in(primaries: &mut Transactions, requests: &mut Transactions, other: Message)
+        ensures data { primaries.new ≡ filter (λ opened. not (is_conclusion opened.header other)) primaries.old }
+        ensures control { requests.new ≡ filter (λ opened. not (is_conclusion opened.header other)) requests.old }
+    {
+        if may_conclude(other) {
+            primaries.remove_concluded(other);
+            requests.remove_concluded(other);
+        }
     }
 
     fn next_phase(phase: Phase, act: &Act) -> Phase
