@@ -1,6 +1,7 @@
 pub mod TokenLists
 pub mod Views
 pub mod Fronts
+pub mod Runs
 pub mod Numbers
 pub mod HeadWords
 pub mod Hexadecimal
