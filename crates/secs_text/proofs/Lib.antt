@@ -26,8 +26,8 @@ pub mod PrintingText
 pub mod PrintingItems
 pub mod PrintingMessages
 pub mod ParsingValues
-pub mod OctetWords
 pub mod AsPrinted
+pub mod ShortWords
 pub mod InRanges
 pub mod PrintingLeaves
 pub mod ReadingValues
