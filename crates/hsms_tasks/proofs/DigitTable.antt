@@ -1,9 +1,11 @@
 -- The digits of an octet, and of sixteen at once.
-use Rattle.std.proofs.Common.{◌≡◌, ℕ, ◌<◌, ◌/◌, ◌%◌, zero, suc, true, eqb, List, [], ◌∷◌, ◌++◌, length, map, get_or, refl, ap, ap₂, sym, subst, ◌∙◌, Fits, w8, arith}
+use Rattle.std.proofs.Common.{◌≡◌, ℕ, ◌*◌, ◌<◌, ◌/◌, ◌%◌, zero, suc, true, eqb, List, [], ◌∷◌, ◌++◌, length, map, take, drop, get_or, refl, ap, ap₂, sym, subst, ◌∙◌, Fits, w8, arith}
 use lib.Lanes.{Each1, pick_l}
 use Rattle.std.specs.Cmp.Lexicographic.{pointwise}
 use Rattle.std.proofs.lemmas.Bool.{agree_below, agree_below_at, eqb-true}
+use Rattle.std.proofs.lemmas.List.{take-append-drop, take_at}
 use Rattle.hex.specs.Hex.{encode_lower, encode_with, lower_digits}
+use Rattle.hsms_log.proofs.Parts.{encode-append}
 use Rattle.secs_item.specs.Equality.{octets_Decides}
 use Rattle.hsms_tasks.specs.declared.digits.TheConstants.{DIGITS}
 
@@ -65,3 +67,17 @@ map_told f g xs ys is same fits = is ∙ go xs fits
     go [] fits = refl
     go (x ∷ xs) fits =
         ap₂ (λ y ys. y ∷ ys) (eqb-true _ _ (agree_below_at (λ x. eqb (f x) (g x)) (λ _. true) 256 x same fits.0.fits)) (go xs fits.1)
+
+-- ---- fewer than sixteen
+
+pub length-encode : (octets : List ℕ) → length (encode_lower octets) ≡ 2 * length octets
+unfolding encode_with
+length-encode [] = refl
+length-encode (x ∷ octets) = let rest = length-encode octets in omega (arith, rest)
+
+-- the digits of the first octets
+pub first_digits : (octets whole : List ℕ) → take (length octets) whole ≡ octets → take (2 * length octets) (encode_lower whole) ≡ encode_lower octets
+first_digits octets whole front =
+    let split : encode_lower whole ≡ encode_lower octets ++ encode_lower (drop (length octets) whole) =
+    ap encode_lower (sym (take-append-drop (length octets) whole) ∙ ap (λ o. o ++ drop (length octets) whole) front) ∙ encode-append octets (drop (length octets) whole) in
+    ap (take (2 * length octets)) split ∙ take_at (encode_lower octets) (encode_lower (drop (length octets) whole)) (2 * length octets) (length-encode octets)

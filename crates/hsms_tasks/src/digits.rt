@@ -1,6 +1,6 @@
 //! Octets in hexadecimal, as they stand in a line.
 
-ghost use Rattle.std.specs.Prelude.{◌≡◌, ◌++◌, [], ◌∷◌, map};
+ghost use Rattle.std.specs.Prelude.{◌≡◌, ◌≤◌, ◌*◌, ◌++◌, [], ◌∷◌, length, map, take};
 ghost use Rattle.hex.specs.Hex.{encode_lower};
 ghost use Rattle.hsms_tasks.specs.Line.{address_of, digit_of};
 
@@ -79,6 +79,27 @@ pub fn digits_of_sixteen(octets: &[u8; 16]) -> [u8; 32]
     first.copy_to_slice(&mut digits);
     second.copy_to_slice(&mut digits[16..]);
     digits
+}
+
+/// The digits of at most sixteen octets. What stands behind them doesn't count.
+#[inline(always)]
+pub fn digits_of_few(octets: &[u8]) -> [u8; 32]
+    requires { length octets.now ≤ 16 }
+    ensures { take (2 * length octets.now) result ≡ encode_lower octets.now }
+{
+    let sixteen = sixteen_of_few(octets);
+    digits_of_sixteen(&sixteen)
+}
+
+// Sixteen octets that begin with these.
+#[inline(always)]
+fn sixteen_of_few(octets: &[u8]) -> [u8; 16]
+    requires { length octets.now ≤ 16 }
+    ensures { take (length octets.now) result ≡ octets.now }
+{
+    let mut sixteen = [0u8; 16];
+    sixteen[..octets.len()].copy_from_slice(octets);
+    sixteen
 }
 
 // The digit of each value, where that is below sixteen.

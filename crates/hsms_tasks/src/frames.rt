@@ -1,48 +1,77 @@
 //! The frames of messages, one behind another.
 
-ghost use Rattle.std.specs.Prelude.{◌≡◌, ◌<◌, ◌+◌, ◌^◌, ◌++◌, [], true, length, OnOk, IfOk, IfErr, None};
+ghost use Rattle.std.specs.Prelude.{◌≡◌, ◌≤◌, ◌<◌, ◌+◌, ◌^◌, ◌++◌, [], true, length, OnOk, IfOk, IfErr, None};
+ghost use Rattle.hex.specs.Hex.{encode_lower};
 ghost use Rattle.secs_text.specs.Content.{Content};
 ghost use Rattle.hsms_frame.specs.Frame.{frame_octets};
 ghost use Rattle.hsms_tasks.specs.Encode.{output_of, HasRefused};
 
+use crate::digits::{digits_of_few, digits_of_sixteen};
 use crate::refusal::Refusal;
 use hsms_frame::{Header, data_header, front_octets};
 use hsms_options::{ToolFault, refused};
 use secs_text::{Head, Receiver};
 use std::alloc::{AllocError, Global};
 
+// Adds octets, if there are any.
+#[inline(always)]
+fn push_some(output: &mut Vec<u8>, octets: &[u8]) -> Result<(), AllocError>
+    ensures { OnOk result (output.new.items ≡ output.old.items ++ octets.now) }
+{
+    if octets.is_empty() {
+        return Ok(());
+    }
+    output.extend_from_slice(octets)
+}
+
 // Adds the octets of a frame.
-fn push_octets(octets: &mut Vec<u8>, header: Header, text: &[u8]) -> Result<(), AllocError>
+fn push_octets(output: &mut Vec<u8>, header: Header, text: &[u8]) -> Result<(), AllocError>
     requires { 10 + length text.now < 2 ^ 32 }
-    ensures { OnOk result (octets.new.items ≡ octets.old.items ++ frame_octets (record { header = header; text = text.now })) }
+    ensures { OnOk result (output.new.items ≡ output.old.items ++ frame_octets (record { header = header; text = text.now })) }
 {
     let length = 10 + text.len() as u32;
-    octets.extend_from_slice(&front_octets(length, header))?;
-    octets.extend_from_slice(text)?;
+    output.extend_from_slice(&front_octets(length, header))?;
+    push_some(output, text)?;
+    Ok(())
+}
+
+// Adds the digits of at most sixteen octets.
+#[inline(always)]
+fn push_few(output: &mut Vec<u8>, octets: &[u8]) -> Result<(), AllocError>
+    requires { length octets.now ≤ 16 }
+    ensures { OnOk result (output.new.items ≡ output.old.items ++ encode_lower octets.now) }
+{
+    let digits = digits_of_few(octets);
+    output.extend_from_slice(&digits[..2 * octets.len()])
+}
+
+// Adds the digits of octets.
+fn push_digits(output: &mut Vec<u8>, octets: &[u8]) -> Result<(), AllocError>
+    ensures { OnOk result (output.new.items ≡ output.old.items ++ encode_lower octets.now) }
+{
+    let mut rest = octets;
+    while let Some((front, others)) = rest.split_first_chunk::<16>() {
+        output.extend_from_slice(&digits_of_sixteen(front))?;
+        rest = others;
+    }
+    push_few(output, rest)?;
     Ok(())
 }
 
 // Adds the octets of a frame as a line of hexadecimal.
-fn push_line(
-    alloc: Global,
-    output: &mut Vec<u8>,
-    header: Header,
-    text: &[u8],
-) -> Result<(), AllocError>
+fn push_line(output: &mut Vec<u8>, header: Header, text: &[u8]) -> Result<(), AllocError>
     requires { 10 + length text.now < 2 ^ 32 }
     ensures { OnOk result (output.new.items ≡ output.old.items ++ output_of true (record { header = header; text = text.now })) }
 {
-    let mut octets = Vec::new(alloc);
-    push_octets(&mut octets, header, text)?;
-    let digits = hex::encode(alloc, &octets)?;
-    output.extend_from_slice(digits.as_bytes())?;
+    let length = 10 + text.len() as u32;
+    push_few(output, &front_octets(length, header))?;
+    push_digits(output, text)?;
     output.push(b'\n')?;
     Ok(())
 }
 
 // Adds the octets of a frame, or their line.
 fn push_frame(
-    alloc: Global,
     output: &mut Vec<u8>,
     header: Header,
     text: &[u8],
@@ -52,7 +81,7 @@ fn push_frame(
     ensures { OnOk result (output.new.items ≡ output.old.items ++ output_of hex (record { header = header; text = text.now })) }
 {
     if hex {
-        push_line(alloc, output, header, text)
+        push_line(output, header, text)
     } else {
         push_octets(output, header, text)
     }
@@ -107,7 +136,7 @@ impl Receiver for Frames {
             head.wait,
             self.next,
         );
-        push_frame(self.alloc, &mut self.output, header, text, self.framing.hex)?;
+        push_frame(&mut self.output, header, text, self.framing.hex)?;
         self.next = self.next.wrapping_add(1);
         Ok(())
     }

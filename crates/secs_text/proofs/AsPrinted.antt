@@ -4,9 +4,9 @@ use Rattle.std.specs.Prelude.{Some, Ok, Err, ◌==◌}
 use Rattle.std.specs.List.{list_all}
 use Rattle.std.specs.Str.Parse.{digits_value}
 use Rattle.std.proofs.lemmas.Bool.{eqb-true, false_from_ne_true, lt-ltb, le-ltb}
-use Rattle.std.proofs.lemmas.List.{drop-drop, drop_more, length-append}
+use Rattle.std.proofs.lemmas.List.{drop-drop, drop_more, length-append, length-take-le, take-append-drop}
 use Rattle.secs_item.specs.declared.format.Format.{Format}
-use Rattle.secs_text.specs.AsPrinted.{EndsWord, IsWord, IsPastSpace, IsSymbol, OpensWith, IsSmall, IsLettered, IsHeaded, IsOpening, IsWait, IsHead}
+use Rattle.secs_text.specs.AsPrinted.{EndsWord, IsWord, IsPastSpace, IsSymbol, NamesType, IsCounted, IsSmall, IsLettered, IsHeaded, IsOpening, IsWait, IsHead}
 use Rattle.secs_item.specs.declared.format.Format.TheVariants as format
 use Rattle.secs_text.specs.Body.{nothing_of}
 use Rattle.secs_text.specs.Content.{Content}
@@ -24,8 +24,8 @@ use Rattle.secs_text.specs.Token.{Placed, front, whole, with_front, tokens_after
 use Rattle.secs_text.specs.TypeName.{format_named}
 use Rattle.secs_text.specs.Words.{is_numeral, number_below, head, head_word, head_of_parts}
 use Rattle.secs_text.proofs.Fronts.{both}
-use Rattle.secs_text.proofs.Numbers.{just, take_all, value_more, numeral_digits}
-use Rattle.secs_text.proofs.PrintedWords.{and_true, of_word_digit, all_of_word}
+use Rattle.secs_text.proofs.Numbers.{just, no_number, take_all, value_more, numeral_digits}
+use Rattle.secs_text.proofs.PrintedWords.{and_true, all_of_word}
 use Rattle.secs_text.proofs.Tokenized.{word_here, prefix_front, take_front, drop_front}
 
 -- ---- octets, one by one
@@ -42,15 +42,9 @@ three_of o le = two_of o (omega arith) ∙ ap (λ r. get_or o 0 0 ∷ get_or o 1
 four_of : (o : List ℕ) → 4 ≤ length o → o ≡ get_or o 0 0 ∷ get_or o 1 0 ∷ get_or o 2 0 ∷ get_or o 3 0 ∷ drop 4 o
 four_of o le = three_of o (omega arith) ∙ ap (λ r. get_or o 0 0 ∷ get_or o 1 0 ∷ get_or o 2 0 ∷ r) (drop_more o 3 0 (omega arith))
 
-pub five_of : (o : List ℕ) → 5 ≤ length o → o ≡ get_or o 0 0 ∷ get_or o 1 0 ∷ get_or o 2 0 ∷ get_or o 3 0 ∷ get_or o 4 0 ∷ drop 5 o
-five_of o le = four_of o (omega arith) ∙ ap (λ r. get_or o 0 0 ∷ get_or o 1 0 ∷ get_or o 2 0 ∷ get_or o 3 0 ∷ r) (drop_more o 4 0 (omega arith))
-
-pub six_of : (o : List ℕ) → 6 ≤ length o → o ≡ get_or o 0 0 ∷ get_or o 1 0 ∷ get_or o 2 0 ∷ get_or o 3 0 ∷ get_or o 4 0 ∷ get_or o 5 0 ∷ drop 6 o
-six_of o le = five_of o (omega arith) ∙ ap (λ r. get_or o 0 0 ∷ get_or o 1 0 ∷ get_or o 2 0 ∷ get_or o 3 0 ∷ get_or o 4 0 ∷ r) (drop_more o 5 0 (omega arith))
-
 -- ---- symbols
 
-white_here : (at c : ℕ) (octets : List ℕ) → is_white c ≡ true → tokens_from at (c ∷ octets) ≡ tokens_from (at + 1) octets
+pub white_here : (at c : ℕ) (octets : List ℕ) → is_white c ≡ true → tokens_from at (c ∷ octets) ≡ tokens_from (at + 1) octets
 unfolding tokens_after
 white_here at c octets e = rw e refl
 
@@ -89,16 +83,13 @@ symbol_taken at size c text octets t left past is =
 
 -- ---- words
 
-digit_word : (digit : ℕ) → is_digit digit ≡ true → IsWord (digit ∷ [])
-digit_word digit d = record { some = omega arith; all = and_true _ _ (of_word_digit digit d) refl }
-
-opening_here : (at digit : ℕ) (w rest : List ℕ) → IsWord w → is_digit digit ≡ true → tokens_from at (w ++ (0x20 ∷ 0x5B ∷ digit ∷ 0x5D ∷ rest))
-    ≡ record { at = at; token = math.word w } ∷ record { at = at + length w + 1; token = math.bracket } ∷ record { at = at + length w + 1 + 1; token = math.word (digit ∷ []) } ∷ record { at = at + length w + 1 + 1 + 1; token = math.bracket_end } ∷ tokens_from (at + length w + 1 + 1 + 1 + 1) rest
+opening_here : (at : ℕ) (w d rest : List ℕ) → IsWord w → IsWord d → tokens_from at (w ++ (0x20 ∷ 0x5B ∷ (d ++ 0x5D ∷ rest)))
+    ≡ record { at = at; token = math.word w } ∷ record { at = at + length w + 1; token = math.bracket } ∷ record { at = at + length w + 1 + 1; token = math.word d } ∷ record { at = at + length w + 1 + 1 + length d; token = math.bracket_end } ∷ tokens_from (at + length w + 1 + 1 + length d + 1) rest
 unfolding tokens_after
-opening_here at digit w rest is d =
+opening_here at w d rest is d_is =
     let n = at + length w in
-    word_here at w (0x20 ∷ 0x5B ∷ digit ∷ 0x5D ∷ rest) is refl
-    ∙ ap (λ ts. record { at = at; token = math.word w } ∷ record { at = n + 1; token = math.bracket } ∷ ts) (word_here (n + 1 + 1) (digit ∷ []) (0x5D ∷ rest) (digit_word digit d) refl)
+    word_here at w (0x20 ∷ 0x5B ∷ (d ++ 0x5D ∷ rest)) is refl
+    ∙ ap (λ ts. record { at = at; token = math.word w } ∷ record { at = n + 1; token = math.bracket } ∷ ts) (word_here (n + 1 + 1) d (0x5D ∷ rest) d_is refl)
 
 -- a digit is a number
 one_digit : (digit : ℕ) → is_digit digit ≡ true → (is_numeral (digit ∷ []) ≡ true) × (digits_value 10 (digit ∷ []) ≡ digit - 48)
@@ -116,30 +107,54 @@ one_digit digit d =
 below : (limit n : ℕ) (w : List ℕ) → is_numeral w ≡ true → digits_value 10 w ≡ n → n < limit → number_below limit w ≡ Some n
 below limit n w numeral value lt = just limit w (length w) n numeral (omega arith) (sym value ∙ ap (λ o. digits_value 10 o) (sym (take_all w (length w) (omega arith)))) lt
 
-pub opening_taken : (at size digit number : ℕ) (f : Format) (text octets : List ℕ) → octets ≡ drop at text → OpensWith f size digit octets → number ≡ digit - 48 → digit ≤ 57
-    → IsOpening f (record { at = at + size + 1; number = number }) (tokens_from at (drop at text)) (tokens_from (at + (size + 4)) (drop (at + (size + 4)) text))
-opening_taken at size digit number f text octets left opens is high =
-    let n = at + length opens.name in
-    let value = one_digit digit opens.counts in
-    let count_at : n + 1 ≡ at + size + 1 = ap (λ k. at + k + 1) opens.sized in
-    let last : n + 1 + 1 + 1 + 1 ≡ at + (size + 4) = omega (arith, opens.sized) in
-    let four : size + 4 ≡ length opens.name + 4 = ap (λ k. k + 4) (sym opens.sized) in
-    let shown = opens.name ++ (codes " [" ++ digit ∷ 0x5D ∷ opens.rest) in
-    let rest_is : drop (at + (size + 4)) text ≡ opens.rest =
-    sym (drop-drop (size + 4) at text) ∙ ap (λ o. drop (size + 4) o) (sym left ∙ opens.parts) ∙ ap (λ k. drop k shown) four
-    ∙ sym (drop-drop 4 (length opens.name) shown) ∙ ap (λ o. drop 4 o) (drop_front opens.name (codes " [" ++ digit ∷ 0x5D ∷ opens.rest)) in
+numeral_of : (limit number : ℕ) (w : List ℕ) → number_below limit w ≡ Some number → is_numeral w ≡ true
+numeral_of limit number w e = by_numeral (is_numeral w) refl
+  where
+    by_numeral : (b : Bool) → is_numeral w ≡ b → is_numeral w ≡ true
+    by_numeral true is = is
+    by_numeral false is = let none = sym (no_number limit w is) ∙ e in cc
+
+numeral_word : (w : List ℕ) → is_numeral w ≡ true → IsWord w
+numeral_word [] e = cc
+numeral_word (c ∷ w) e = record { some = omega arith; all = all_of_word (c ∷ w) (numeral_digits (c ∷ w) e) }
+
+pub counted : (number size : ℕ) (o : List ℕ) → number_below (2 ^ 64) (take size o) ≡ Some number → size < length o → get_or o size 0 ≡ 0x5D → IsCounted number size o
+counted number size o numbers within last = record {
+  digits = take size o;
+  rest = drop (size + 1) o;
+  numbers = numbers;
+  word = numeral_word (take size o) (numeral_of (2 ^ 64) number (take size o) numbers);
+  sized = length-take-le size o (omega arith);
+  parts = sym (take-append-drop size o) ∙ ap (λ r. take size o ++ r) (drop_more o size 0 within ∙ ap (λ c. c ∷ drop (size + 1) o) last);
+}
+
+pub opening_taken : (at size number count : ℕ) (f : Format) (text octets behind_name : List ℕ) → octets ≡ drop at text → NamesType f size octets → behind_name ≡ drop (size + 2) octets → IsCounted number count behind_name
+    → IsOpening f (record { at = at + size + 1; number = number }) (tokens_from at (drop at text)) (tokens_from (at + (size + count + 3)) (drop (at + (size + count + 3)) text))
+opening_taken at size number count f text octets behind_name left names name_left is =
+    let n = at + length names.name in
+    let d = is.digits in
+    let name = names.name in
+    let opened : length (name ++ (0x20 ∷ 0x5B ∷ [])) ≡ size + 2 = omega (arith, length-append name (0x20 ∷ 0x5B ∷ []), names.sized) in
+    let joined : names.rest ≡ d ++ 0x5D ∷ is.rest = sym (name_left ∙ ap (λ o. drop (size + 2) o) (names.parts ∙ sym (append_assoc name (0x20 ∷ 0x5B ∷ []) names.rest)) ∙ ap (λ k. drop k ((name ++ (0x20 ∷ 0x5B ∷ [])) ++ names.rest)) (sym opened) ∙ drop_front (name ++ (0x20 ∷ 0x5B ∷ [])) names.rest) ∙ is.parts in
+    let shown : octets ≡ name ++ (0x20 ∷ 0x5B ∷ (d ++ 0x5D ∷ is.rest)) = names.parts ∙ ap (λ o. name ++ (0x20 ∷ 0x5B ∷ o)) joined in
+    let ending = 0x20 ∷ 0x5B ∷ (d ++ 0x5D ∷ []) in
+    let apart : octets ≡ (name ++ ending) ++ is.rest = shown ∙ ap (λ o. name ++ (0x20 ∷ 0x5B ∷ o)) (sym (append_assoc d (0x5D ∷ []) is.rest)) ∙ sym (append_assoc name ending is.rest) in
+    let long : length (name ++ ending) ≡ size + count + 3 = omega (arith, length-append name ending, length-append d (0x5D ∷ []), names.sized, is.sized) in
+    let rest_is : drop (at + (size + count + 3)) text ≡ is.rest = behind at (size + count + 3) text octets (name ++ ending) is.rest left apart long in
+    let count_at : n + 1 ≡ at + size + 1 = ap (λ k. at + k + 1) names.sized in
+    let last : n + 1 + 1 + length d + 1 ≡ at + (size + count + 3) = omega (arith, names.sized, is.sized) in
     record {
       at = at;
-      name = opens.name;
-      named = opens.named;
+      name = name;
+      named = names.named;
       number_at = n + 1 + 1;
-      number = digit ∷ [];
-      numbers = below (2 ^ 64) number (digit ∷ []) value.0 (value.1 ∙ sym is) (omega arith);
-      end_at = n + 1 + 1 + 1;
-      parts = ap (λ o. tokens_from at o) (sym left ∙ opens.parts) ∙ opening_here at digit opens.name opens.rest opens.word opens.counts
-          ∙ ap (λ k. record { at = at; token = math.word opens.name } ∷ record { at = k; token = math.bracket } ∷ record { at = n + 1 + 1; token = math.word (digit ∷ []) } ∷ record { at = n + 1 + 1 + 1; token = math.bracket_end } ∷ tokens_from (n + 1 + 1 + 1 + 1) opens.rest) count_at
-          ∙ ap (λ k. record { at = at; token = math.word opens.name } ∷ record { at = at + size + 1; token = math.bracket } ∷ record { at = n + 1 + 1; token = math.word (digit ∷ []) } ∷ record { at = n + 1 + 1 + 1; token = math.bracket_end } ∷ tokens_from k opens.rest) last
-          ∙ ap (λ o. record { at = at; token = math.word opens.name } ∷ record { at = at + size + 1; token = math.bracket } ∷ record { at = n + 1 + 1; token = math.word (digit ∷ []) } ∷ record { at = n + 1 + 1 + 1; token = math.bracket_end } ∷ tokens_from (at + (size + 4)) o) (sym rest_is);
+      number = d;
+      numbers = is.numbers;
+      end_at = n + 1 + 1 + length d;
+      parts = ap (λ o. tokens_from at o) (sym left ∙ shown) ∙ opening_here at name d is.rest names.word is.word
+          ∙ ap (λ k. record { at = at; token = math.word name } ∷ record { at = k; token = math.bracket } ∷ record { at = n + 1 + 1; token = math.word d } ∷ record { at = n + 1 + 1 + length d; token = math.bracket_end } ∷ tokens_from (n + 1 + 1 + length d + 1) is.rest) count_at
+          ∙ ap (λ k. record { at = at; token = math.word name } ∷ record { at = at + size + 1; token = math.bracket } ∷ record { at = n + 1 + 1; token = math.word d } ∷ record { at = n + 1 + 1 + length d; token = math.bracket_end } ∷ tokens_from k is.rest) last
+          ∙ ap (λ o. record { at = at; token = math.word name } ∷ record { at = at + size + 1; token = math.bracket } ∷ record { at = n + 1 + 1; token = math.word d } ∷ record { at = n + 1 + 1 + length d; token = math.bracket_end } ∷ tokens_from (at + (size + count + 3)) o) (sym rest_is);
     }
 
 letter_word : (a : ℕ) → is_of_word a ≡ true → IsWord (a ∷ [])
@@ -148,28 +163,26 @@ letter_word a is = record { some = omega arith; all = and_true _ _ is refl }
 pair_word : (a b : ℕ) → is_of_word a ≡ true → is_of_word b ≡ true → IsWord (a ∷ b ∷ [])
 pair_word a b first second = record { some = omega arith; all = and_true _ _ first (and_true _ _ second refl) }
 
-pub opens_with_letter : (f : Format) (o : List ℕ) → 5 ≤ length o → format_named (get_or o 0 0 ∷ []) ≡ Some f → is_of_word (get_or o 0 0) ≡ true → get_or o 1 0 ≡ 0x20 → get_or o 2 0 ≡ 0x5B → is_digit (get_or o 3 0) ≡ true → get_or o 4 0 ≡ 0x5D
-    → OpensWith f 1 (get_or o 3 0) o
-opens_with_letter f o le named first space bracket digit end = record {
+pub names_letter : (f : Format) (o : List ℕ) → 3 ≤ length o → format_named (get_or o 0 0 ∷ []) ≡ Some f → is_of_word (get_or o 0 0) ≡ true → get_or o 1 0 ≡ 0x20 → get_or o 2 0 ≡ 0x5B
+    → NamesType f 1 o
+names_letter f o le named first space bracket = record {
   name = get_or o 0 0 ∷ [];
-  rest = drop 5 o;
+  rest = drop 3 o;
   named = named;
   word = letter_word (get_or o 0 0) first;
   sized = refl;
-  counts = digit;
-  parts = five_of o le ∙ rw (space, bracket, end) refl;
+  parts = three_of o le ∙ rw (space, bracket) refl;
 }
 
-pub opens_with_pair : (f : Format) (o : List ℕ) → 6 ≤ length o → format_named (get_or o 0 0 ∷ get_or o 1 0 ∷ []) ≡ Some f → is_of_word (get_or o 0 0) ≡ true → is_of_word (get_or o 1 0) ≡ true → get_or o 2 0 ≡ 0x20 → get_or o 3 0 ≡ 0x5B → is_digit (get_or o 4 0) ≡ true → get_or o 5 0 ≡ 0x5D
-    → OpensWith f 2 (get_or o 4 0) o
-opens_with_pair f o le named first second space bracket digit end = record {
+pub names_pair : (f : Format) (o : List ℕ) → 4 ≤ length o → format_named (get_or o 0 0 ∷ get_or o 1 0 ∷ []) ≡ Some f → is_of_word (get_or o 0 0) ≡ true → is_of_word (get_or o 1 0) ≡ true → get_or o 2 0 ≡ 0x20 → get_or o 3 0 ≡ 0x5B
+    → NamesType f 2 o
+names_pair f o le named first second space bracket = record {
   name = get_or o 0 0 ∷ get_or o 1 0 ∷ [];
-  rest = drop 6 o;
+  rest = drop 4 o;
   named = named;
   word = pair_word (get_or o 0 0) (get_or o 1 0) first second;
   sized = refl;
-  counts = digit;
-  parts = six_of o le ∙ rw (space, bracket, end) refl;
+  parts = four_of o le ∙ rw (space, bracket) refl;
 }
 
 -- ---- heads
@@ -251,7 +264,7 @@ seam : (xs q : List ℕ) → get_or (xs ++ q) (length xs) 0 ≡ get_or q 0 0
 seam [] q = refl
 seam (x ∷ xs) q = seam xs q
 
-ends_of : (q : List ℕ) → is_of_word (get_or q 0 0) ≡ false → EndsWord q
+pub ends_of : (q : List ℕ) → is_of_word (get_or q 0 0) ≡ false → EndsWord q
 ends_of [] e = refl
 ends_of (c ∷ q) e = rw e refl
 

@@ -1,6 +1,7 @@
 pub mod TokenLists
 pub mod Views
 pub mod Fronts
+pub mod Runs
 pub mod Numbers
 pub mod HeadWords
 pub mod Hexadecimal
@@ -25,8 +26,8 @@ pub mod PrintingText
 pub mod PrintingItems
 pub mod PrintingMessages
 pub mod ParsingValues
-pub mod OctetWords
 pub mod AsPrinted
+pub mod ShortWords
 pub mod InRanges
 pub mod PrintingLeaves
 pub mod ReadingValues

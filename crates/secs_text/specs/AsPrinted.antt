@@ -36,15 +36,23 @@ pub record IsSymbol (c : ℕ) (t : Token) : Type 0 where
   pub fronts : (octets : List ℕ) → front c octets ≡ whole (seen t) 0
   pub goes_on : is_last (seen t) ≡ false
 
--- a type name of so many octets, and a count of one digit
-pub record OpensWith (f : Format) (size digit : ℕ) (octets : List ℕ) : Type 0 where
+-- a type name of so many octets, and a space and a `[` behind it
+pub record NamesType (f : Format) (size : ℕ) (octets : List ℕ) : Type 0 where
   pub name : List ℕ
   pub rest : List ℕ
   pub named : format_named name ≡ Some f
   pub word : IsWord name
   pub sized : length name ≡ size
-  pub counts : is_digit digit ≡ true
-  pub parts : octets ≡ name ++ (codes " [" ++ digit ∷ 0x5D ∷ rest)
+  pub parts : octets ≡ name ++ (codes " [" ++ rest)
+
+-- a number in so many digits, and a `]` behind it
+pub record IsCounted (number size : ℕ) (octets : List ℕ) : Type 0 where
+  pub digits : List ℕ
+  pub rest : List ℕ
+  pub numbers : number_below (2 ^ 64) digits ≡ Some number
+  pub word : IsWord digits
+  pub sized : length digits ≡ size
+  pub parts : octets ≡ digits ++ 0x5D ∷ rest
 
 -- a number in so many digits, below 100
 pub record IsSmall (number count : ℕ) (octets : List ℕ) : Type 0 where

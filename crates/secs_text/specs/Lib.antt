@@ -4,8 +4,8 @@ pub mod Seen
 pub mod Left
 pub mod Words
 pub mod Widths
-pub mod OctetWord
 pub mod AsPrinted
+pub mod ShortWord
 pub mod TypeName
 pub mod Content
 pub mod Body

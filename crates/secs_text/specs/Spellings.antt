@@ -38,14 +38,6 @@ word_octets format.U8 w = option_map (big_bytes 8) (number_below (2 ^ 64) w)
 word_octets format.F4 w = float_of 4 w
 word_octets format.F8 w = float_of 8 w
 
--- formats whose values are single octets in hexadecimal
-abbrev pub holds_octets : Format → Bool
-holds_octets format.Binary = true
-holds_octets format.Ascii = true
-holds_octets format.Jis8 = true
-holds_octets format.Char2 = true
-holds_octets f = false
-
 -- the octets of a quoted text in an item of this format
 abbrev pub quoted_octets : Format → List ℕ → Option (List ℕ)
 quoted_octets format.Ascii text = Some text

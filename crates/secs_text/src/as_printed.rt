@@ -1,7 +1,7 @@
 //! Fast paths for tokens in canonical spacing: several are read at once where they stand as `print` writes them.
 
 ghost use Rattle.std.specs.Prelude.{◌≡◌, ◌≤◌, ◌<◌, ◌+◌, length, true, false, Some, IfSome, IfNone, OnSome};
-ghost use Rattle.secs_text.specs.AsPrinted.{IsOpening, IsWait, IsHead, OpensWith, IsSmall, IsLettered, IsHeaded};
+ghost use Rattle.secs_text.specs.AsPrinted.{IsOpening, IsWait, IsHead, NamesType, IsCounted, IsSmall, IsLettered, IsHeaded};
 ghost use Rattle.secs_text.specs.Left.{left, octets_left};
 ghost use Rattle.secs_text.specs.Octets.{is_of_word};
 
@@ -9,27 +9,36 @@ use crate::count::Count;
 use crate::octet::{is_digit, is_of_word};
 use crate::tokens::Tokens;
 use crate::type_name::{format_of_letter, format_of_pair};
+use crate::word::leading_numeral;
 use secs_item::Format;
 
-/// A type name of one or two octets at the front, how many it has, and the digit of the count behind it.
+/// A type name of one or two octets at the front, and how many it has. A space and a `[` stand behind it.
 #[inline(always)]
-fn opening_front(octets: &[u8]) -> Option<(Format, usize, u8)>
-    ensures opens { IfSome result (λ o. OpensWith o.0 o.1 o.2 octets.now) }
-    ensures within { IfSome result (λ o. o.1 + 4 ≤ length octets.now) }
+fn name_front(octets: &[u8]) -> Option<(Format, usize)>
+    ensures names { IfSome result (λ n. NamesType n.0 n.1 octets.now) }
+    ensures within { IfSome result (λ n. n.1 + 2 ≤ length octets.now) }
 {
     match octets {
-        [letter, b' ', b'[', digit, b']', ..] if is_digit(*digit) => {
-            Some((format_of_letter(*letter)?, 1, *digit))
-        }
-        [letter, size, b' ', b'[', digit, b']', ..] if is_digit(*digit) => {
-            Some((format_of_pair(*letter, *size)?, 2, *digit))
-        }
+        [letter, b' ', b'[', ..] => Some((format_of_letter(*letter)?, 1)),
+        [letter, size, b' ', b'[', ..] => Some((format_of_pair(*letter, *size)?, 2)),
         _ => None,
     }
 }
 
-/// Takes a type name and the count behind it, if the name has one or two octets, the count one digit, and both stand as
-/// they are printed.
+/// The number that digits at the front spell, and how many they are. A `]` stands behind them.
+#[inline(always)]
+fn count_front(octets: &[u8]) -> Option<(u64, usize)>
+    ensures counts { IfSome result (λ n. IsCounted n.0 n.1 octets.now) }
+    ensures within { IfSome result (λ n. n.1 < length octets.now) }
+{
+    let (number, size) = leading_numeral(octets)?;
+    if size == octets.len() || octets[size] != b']' {
+        return None;
+    }
+    Some((number, size))
+}
+
+/// Takes a type name and the count behind it, if the name has one or two octets, and both stand as they are printed.
 #[inline(always)]
 pub fn next_opening(tokens: &mut Tokens) -> Option<(Format, Count)>
     ensures taken { IfSome result (λ o. IsOpening o.0 o.1 (left tokens.old) (left tokens.new)) }
@@ -37,10 +46,11 @@ pub fn next_opening(tokens: &mut Tokens) -> Option<(Format, Count)>
     ensures none { IfNone result (tokens.new ≡ tokens.old) }
 {
     let (_, rest) = tokens.text.split_at(tokens.place);
-    let (format, size, digit) = opening_front(rest)?;
-    let at = tokens.place + size + 1;
-    tokens.place += size + 4;
-    let number = u64::from(digit - b'0');
+    let (format, name) = name_front(rest)?;
+    let (_, rest) = rest.split_at(name + 2);
+    let (number, digits) = count_front(rest)?;
+    let at = tokens.place + name + 1;
+    tokens.place += name + digits + 3;
     Some((format, Count { at, number }))
 }
 

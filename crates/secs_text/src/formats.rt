@@ -6,11 +6,14 @@ ghost use Rattle.secs_item.specs.Reading.{octet, truth, signed};
 ghost use Rattle.secs_item.specs.Short.{octet_alone, octet_of_truth, octets_of_signed};
 ghost use Rattle.secs_text.specs.Laid.{Laid};
 ghost use Rattle.secs_text.specs.Printed.{hexadecimal, truth_word};
+ghost use Rattle.secs_text.specs.ShortWord.{IsShortWord};
 ghost use Rattle.secs_text.specs.Widths.{is_width, width_of, unsigned, octets_of_unsigned};
 ghost use Rattle.secs_text.specs.Words.{number_below, signed_below, octet_of, float_of, truth_of};
 
 use crate::laying::{lay_byte, lay_digits, lay_natural, lay_number, lay_octet, lay_slice};
-use crate::word::{float_of, number, number_below, octet_of, signed_below, truth_of};
+use crate::word::{
+    float_of, number, number_below, octet_of, octet_of_digits, signed_below, truth_of,
+};
 use byteorder::{BigEndian, ByteOrder};
 
 /// A format whose values are single words, each for `N` octets.
@@ -34,6 +37,16 @@ pub trait WordFormat<const N: usize> {
         ensures { result ≡ spelled word.now };
 }
 
+/// A format whose values are single octets, each spelled by a word that has `N` octets with the space before it.
+pub trait ShortWord<const N: usize> {
+    /// The octets of the value that a word spells, if it spells one.
+    ghost reads: { List ℕ → Option (List ℕ) };
+
+    /// The octet that a word spells, which stands behind its space.
+    fn read(text: &[u8; N]) -> Option<u8>
+        ensures { IfSome result (λ octet. IsShortWord reads octet text.now) };
+}
+
 /// Octets of any meaning, characters of JIS-8, and two-octet characters octet by octet: in hexadecimal.
 pub struct Octets;
 
@@ -51,6 +64,18 @@ impl WordFormat<1> for Octets {
     }
 }
 
+impl ShortWord<5> for Octets {
+    ghost reads = { λ w. option_map octet_alone (octet_of w) };
+
+    #[inline(always)]
+    fn read(text: &[u8; 5]) -> Option<u8> {
+        match text {
+            [b' ', b'0', b'x', high, low] => octet_of_digits(*high, *low),
+            _ => None,
+        }
+    }
+}
+
 /// Truth values.
 pub struct Truths;
 
@@ -60,11 +85,25 @@ impl WordFormat<1> for Truths {
     ghost spelled = { λ w. option_map octet_of_truth (truth_of w) };
 
     fn lay(block: &mut [u8], at: usize, octets: &[u8; 1]) -> usize {
-        lay_slice(block, at, if octets[0] != 0 { b" T" } else { b" F" })
+        let at = lay_byte(block, at, b' ');
+        lay_byte(block, at, if octets[0] != 0 { b'T' } else { b'F' })
     }
 
     fn parse(word: &[u8]) -> Option<[u8; 1]> {
         Some([u8::from(truth_of(word)?)])
+    }
+}
+
+impl ShortWord<2> for Truths {
+    ghost reads = { λ w. option_map octet_of_truth (truth_of w) };
+
+    #[inline(always)]
+    fn read(text: &[u8; 2]) -> Option<u8> {
+        match text {
+            [b' ', b'T'] => Some(1),
+            [b' ', b'F'] => Some(0),
+            _ => None,
+        }
     }
 }
 

@@ -27,6 +27,7 @@ mod octet;
 mod opening;
 mod parsing;
 mod printing;
+mod quotable;
 mod reading;
 mod tables;
 mod token;

@@ -2,6 +2,7 @@
 
 mod header;
 mod items;
+mod runs;
 pub mod values;
 
 ghost use Rattle.std.specs.Prelude.{◌≡◌, ◌≤◌, ◌<◌, ℕ, ◌++◌, ◌⊎◌, [], ◌∷◌, List, false, IfOk, IfErr, OnOk, IfSome, OnSome, MatchResult, Option};

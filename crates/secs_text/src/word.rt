@@ -1,6 +1,6 @@
 //! What words spell.
 
-ghost use Rattle.std.specs.Prelude.{◌≡◌, ◌≤◌, ◌<◌, ◌^◌, ◌*◌, ◌%◌, ◌==◌, ◌&&◌, if◌then◌else◌, not, true, length, take, option_and_then, IfSome};
+ghost use Rattle.std.specs.Prelude.{◌≡◌, ◌≤◌, ◌<◌, ◌^◌, ◌*◌, ◌%◌, ◌==◌, ◌&&◌, if◌then◌else◌, not, true, length, take, option_and_then, Some, IfSome};
 ghost use Rattle.std.specs.List.{prefix_len, list_all};
 ghost use Rattle.std.specs.Str.Parse.{digits_value};
 ghost use Rattle.secs_text.specs.Octets.{is_digit};
@@ -63,6 +63,18 @@ fn number_of_digits(digits: &[u8], number: u64) -> Option<u64>
         return long_number(digits);
     }
     Some(number)
+}
+
+/// The number that the digits at the front spell, if they are a numeral and it is below 2^64, and how many they are.
+#[inline(always)]
+pub fn leading_numeral(octets: &[u8]) -> Option<(u64, usize)>
+    ensures value { IfSome result (λ n. number_below (2 ^ 64) (take n.1 octets.now) ≡ Some n.0) }
+    ensures within { IfSome result (λ n. n.1 ≤ length octets.now) }
+{
+    let (size, number) = leading_number(octets);
+    let (digits, _) = octets.split_at(size);
+    let number = number_of_digits(digits, number)?;
+    Some((number, size))
 }
 
 /// The number that digits spell, if they are a numeral and it is below the limit. `number` is what they spell, modulo

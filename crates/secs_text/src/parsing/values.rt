@@ -5,13 +5,14 @@ ghost use Rattle.std.specs.List.{AllByRecursion};
 ghost use Rattle.secs_item.specs.Format.{is_list, value_size};
 ghost use Rattle.secs_text.specs.Left.{left, octets_left};
 ghost use Rattle.secs_text.specs.Reads.{count_seen};
-ghost use Rattle.secs_text.specs.Spellings.{GathersMore, Lays, ValuesRead, holds_octets, quoted_octets, word_octets};
+ghost use Rattle.secs_text.specs.Spellings.{GathersMore, Lays, ValuesRead, quoted_octets, word_octets};
 ghost use Rattle.secs_text.specs.Widths.{is_width};
 
 use crate::count::Count;
 use crate::fault::TextFault;
 use crate::formats::{Floats, Octets, Signed, Truths, Unsigned, WordFormat};
 use crate::opening::check_count;
+use crate::parsing::runs::parse_run;
 use crate::token::Token;
 use crate::tokens::Tokens;
 use secs_item::{Format, octets_known};
@@ -73,29 +74,19 @@ fn push_quoted(out: &mut Vec<u8>, format: Format, text: &[u8]) -> Result<bool, A
     Ok(true)
 }
 
-/// Whether the values of this format are single octets in hexadecimal.
-fn holds_octets(format: Format) -> bool
-    ensures { result ≡ holds_octets format }
-{
-    matches!(
-        format,
-        Format::Binary | Format::Ascii | Format::Jis8 | Format::Char2
-    )
-}
-
-/// Adds the octets of the words that come next, as far as each is an octet behind one space.
-fn parse_octets(out: &mut Vec<u8>, tokens: &mut Tokens, format: Format) -> Result<(), AllocError>
+/// Adds the octets of the values that come next, where a value of this format is one octet, as far as their words stand
+/// as they are printed.
+fn parse_printed(out: &mut Vec<u8>, tokens: &mut Tokens, format: Format) -> Result<(), AllocError>
     ensures gathered { OnOk result (GathersMore format (left tokens.old) (left tokens.new) out.old.items out.new.items) }
     ensures no_longer { octets_left tokens.new ≤ octets_left tokens.old }
 {
-    if !holds_octets(format) {
-        return Ok(());
-    }
-    loop {
-        let Some(octet) = tokens.next_octet() else {
-            return Ok(());
-        };
-        out.push(octet)?;
+    match format {
+        Format::Binary => parse_run::<5, Octets>(out, tokens, Format::Binary),
+        Format::Ascii => parse_run::<5, Octets>(out, tokens, Format::Ascii),
+        Format::Jis8 => parse_run::<5, Octets>(out, tokens, Format::Jis8),
+        Format::Char2 => parse_run::<5, Octets>(out, tokens, Format::Char2),
+        Format::Boolean => parse_run::<2, Truths>(out, tokens, Format::Boolean),
+        _ => Ok(()),
     }
 }
 
@@ -111,7 +102,7 @@ pub fn parse_values(
     ensures no_longer { octets_left tokens.new ≤ octets_left tokens.old }
 {
     let start = out.len();
-    parse_octets(out, tokens, format)?;
+    parse_printed(out, tokens, format)?;
     loop {
         let next = tokens.next();
         match next.token {

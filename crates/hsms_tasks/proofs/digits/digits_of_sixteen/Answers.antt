@@ -1,4 +1,4 @@
-use Rattle.std.proofs.Common.{length, ap₂, refl, sym, ap, ◌∙◌, map}
+use Rattle.std.proofs.Common.{length, ap₂, refl, ap, ◌∙◌, map}
 use Rattle.std.proofs.lemmas.Simd.{map-map}
 use Rattle.std.proofs.lemmas.List.{length-map}
 use Rattle.hsms_log.proofs.Decoding.{lanes_of_two, lanes_of_one, lanes_loaded}

@@ -5,6 +5,7 @@ use Rattle.hsms_tasks.proofs.frames.push_octets.Goals as goal
 
 pub returns : goal.returns
 returns c =
-    c.in_ok-extend_from_slice-2.ensures.items
-    ∙ ap (λ o. o ++ c.args.text.now) (c.in_ok-extend_from_slice.ensures.items ∙ ap (λ o. c.args.octets.now.items ++ o) c.front_octets.ensures)
-    ∙ append_assoc c.args.octets.now.items (to_be_bytes w32 (10 + length c.args.text.now) ++ header_octets c.args.header) c.args.text.now
+    let old = c.args.output.now.items in
+    let text = c.args.text.now in
+    let front = to_be_bytes w32 (10 + length text) ++ header_octets c.args.header in
+    c.in_ok-push_some.ensures ∙ ap (λ o. o ++ text) (c.in_ok-extend_from_slice.ensures.items ∙ ap (λ o. old ++ o) c.front_octets.ensures) ∙ append_assoc old front text

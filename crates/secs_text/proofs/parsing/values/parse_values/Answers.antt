@@ -7,9 +7,9 @@ use Rattle.secs_text.proofs.parsing.values.parse_values.Goals as goal
 
 pub loop-word-init : goal.loop-word-init
 loop-word-init c = record {
-  gathered = c.in_ok-parse_octets.ensures.gathered (count_seen c.args.count) (left c.args.tokens.now) c.args.out.now.items
+  gathered = c.in_ok-parse_printed.ensures.gathered (count_seen c.args.count) (left c.args.tokens.now) c.args.out.now.items
       (none_gathered c.args.format (count_seen c.args.count) (left c.args.tokens.now) c.args.out.now.items c.requires.no_list);
-  no_longer = c.parse_octets.ensures.no_longer;
+  no_longer = c.parse_printed.ensures.no_longer;
 }
 
 pub loop-word-preserved-else-not-branch : goal.loop-word-preserved-else-not-branch

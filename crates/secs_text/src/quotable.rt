@@ -1,0 +1,48 @@
+//! Octets that may stand between quotes, looked at sixteen at once.
+
+ghost use Rattle.std.specs.Prelude.{◌≡◌, ◌≤◌, ◌+◌, length, drop, map, not};
+ghost use Rattle.std.specs.List.{prefix_len};
+ghost use Rattle.std.specs.Simd.Lanes.{mask_l};
+ghost use Rattle.secs_text.specs.Octets.{is_quotable};
+
+use crate::octet::is_quotable;
+use std::simd::prelude::*;
+
+/// A bit for each of sixteen octets, the lowest for the first. It is set where the octet may not stand between quotes.
+#[inline(always)]
+fn others(octets: u8x16) -> u64
+    ensures { result ≡ mask_l (map (λ c. not (is_quotable c)) octets) }
+{
+    let unprintable = (octets - u8x16::splat(b' ')).simd_ge(u8x16::splat(95));
+    (unprintable | octets.simd_eq(u8x16::splat(b'"'))).to_bitmask()
+}
+
+/// How many octets up to the last that may stand between quotes there are, if those before this place may: octets are
+/// looked at one by one.
+fn end_of_few(octets: &[u8], from: usize) -> usize
+    requires { from ≤ length octets.now }
+    ensures { result ≡ from + prefix_len is_quotable (drop from octets.now) }
+{
+    let mut i = from;
+    while i < octets.len() && is_quotable(octets[i]) {
+        i += 1;
+    }
+    i
+}
+
+/// How many octets at the front may stand between quotes.
+#[inline(always)]
+pub fn quotable_length(octets: &[u8]) -> usize
+    ensures length { result ≡ prefix_len is_quotable octets.now }
+    ensures within { result ≤ length octets.now }
+{
+    let mut i = 0;
+    while octets.len() - i >= 16 {
+        let found = others(u8x16::from_slice(&octets[i..]));
+        if found != 0 {
+            return i + found.trailing_zeros() as usize;
+        }
+        i += 16;
+    }
+    end_of_few(octets, i)
+}
