@@ -2,13 +2,10 @@
 use Rattle.std.proofs.Common.{◌≡◌, ◌<◌, ◌≤◌, ℕ, zero, suc, min, ◌||◌, Bool, true, false, cond, nat_lt, List, [], ◌∷◌, ◌++◌, length, take, drop, Option, Some, None, refl, sym, subst, arith}
 use Rattle.std.proofs.lemmas.Bool.{lt-ltb, le-ltb, ltb-true, ltb-false}
 use Rattle.std.proofs.lemmas.List.{append_assoc, take-append-drop, take_at}
+pub use Rattle.hsms_capture.specs.Connected.{AreRising as Rising}
 use Rattle.hsms_capture.specs.Wire.{Placed, other, end_of, is_past, is_behind, loss, contradicts, received, difference, earlier, breaks_off}
 use Rattle.hsms_capture.proofs.Lists.{Each, weaken, Begins, begins_cons, begins_append}
 use Rattle.hsms_capture.proofs.Longer.{end_more}
-
-abbrev pub Rising : ℕ → List Placed → Type 0
-Rising last [] = Unit {0}
-Rising last (p ∷ ps) = (last < p.packet) × Rising p.packet ps
 
 pub rising_lower : (m n : ℕ) (ps : List Placed) → m ≤ n → Rising n ps → Rising m ps
 rising_lower m n [] le h = tt

@@ -3,6 +3,11 @@ pub mod Message
 pub mod Told
 pub mod Known
 pub mod Losses
+pub mod Telling
+pub mod Turning
+pub mod Drained
+pub mod Connected
+pub mod Finished
 pub mod Held
 pub mod Early
 pub mod Laws

@@ -10,21 +10,28 @@
 #![tactic(auto)]
 
 mod asking;
+mod cutting;
 mod early;
+mod ending;
 mod held;
 pub mod laws;
 mod losses;
 mod packet;
 mod place;
+mod streams;
+mod teller;
+mod telling;
 mod turns;
 mod waiting;
 pub mod worked;
 
 pub use asking::{Flags, only_asks};
+pub use ending::Ending;
 pub use held::{Cell, Held, HeldFault};
 pub use losses::{BothEnds, Losses, Need};
 pub use packet::{Packet, Segment, Side};
 pub use place::{acknowledged_place, nearest_place, numbered_place};
+pub use telling::{Event, Happening};
 pub use turns::{Turns, TurnsFault};
 pub use waiting::{Span, end_behind};
 

@@ -202,12 +202,13 @@ fn cuts_a_message(rt: &impl Abort, alloc: Global) -> Result<(), HeldFault> {
     };
     let mut held = Held::new(alloc);
     held.put(0, opens, [0, 0, 0, 2, 7].as_slice())?;
-    assert!(rt; held.front(6) == Some(1));
+    assert!(rt; held.front(0, 6) == Some(1));
     held.pass(1);
-    assert!(rt; held.front(7).is_none());
+    assert!(rt; held.front(1, 7).is_none());
     held.put(6, plain, [8].as_slice())?;
-    assert!(rt; held.front(6).is_none());
-    assert!(rt; held.front(7) == Some(6));
+    assert!(rt; held.front(1, 6).is_none());
+    assert!(rt; held.front(1, 7) == Some(6));
+    assert!(rt; held.front(0, 7).is_none());
     Ok(())
 }
 
