@@ -214,7 +214,7 @@ over_hear n up = refl
 over_hear n (message d octets) = refl
 over_hear n down = refl
 
-over_hears : (es : List Entry) → hears telling.Over es ≡ record { state = telling.Over; told = [] }
+pub over_hears : (es : List Entry) → hears telling.Over es ≡ record { state = telling.Over; told = [] }
 unfolding hears
 over_hears [] = refl
 over_hears (e ∷ es) = ap (λ (h : Heard). and_heard h (λ s. hears s es)) (over_hear e.packet e.told) ∙ over_hears es

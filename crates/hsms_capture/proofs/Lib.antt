@@ -1,8 +1,10 @@
 mod Absorbed
+mod Arriving
 mod Asked
 mod Awaited
 mod Behind
 mod Bringing
+mod Connecting
 mod CutOff
 mod Differing
 mod Draining
@@ -22,6 +24,8 @@ mod Sizes
 mod Slicing
 mod SmallCaptures
 mod Stepped
+mod Sure
+mod Tells
 mod Turned
 mod Waited
 mod Watched

@@ -99,11 +99,11 @@ and_twice : (a b : List Entry) (l : Log) → and_log a (and_log b l) ≡ and_log
 and_twice a b l = ap (λ (es : List Entry). record { told = es; closed = l.closed }) (sym (append_assoc a b l.told))
 
 -- one turn
-abbrev told_then : Bool → List Entry → Log → Log
+abbrev pub told_then : Bool → List Entry → Log → Log
 told_then true es l = record { told = es; closed = true }
 told_then false es l = and_log es l
 
-tell_first : (s : Telling) (opened : Bool) (b : Both) (t : Due) (ts : List Due)
+pub tell_first : (s : Telling) (opened : Bool) (b : Both) (t : Due) (ts : List Due)
     → tell_on s opened b (t ∷ ts)
     ≡ told_then (resets opened t) (hears s (entries_at opened t b)).told (tell_on (hears s (entries_at opened t b)).state (opened || opens t) (delivers t b).both ts)
 unfolding tell_on

@@ -39,7 +39,7 @@ everywhere : (ps : List Placed) → Each (λ (p : Placed). Unit {0}) ps
 everywhere [] = tt
 everywhere (p ∷ ps) = (tt, everywhere ps)
 
-at_itself : (before : List Placed) (p : Placed) → Each (λ (t : Turn). t.at ≡ p) (turns_at before p)
+pub at_itself : (before : List Placed) (p : Placed) → Each (λ (t : Turn). t.at ≡ p) (turns_at before p)
 at_itself before p = by_gap (nat_lt (end_of before p.from) p.place)
   where
     by_gap : (b : Bool) → Each (λ (t : Turn). t.at ≡ p) (cond b [] (turn_of p p ∷ map (turn_of p) (in_order (filter (frees before p) before))))

@@ -7,6 +7,7 @@ use Rattle.hsms_capture.specs.declared.teller.Teller.{Teller}
 use Rattle.hsms_capture.specs.declared.telling.Happening.{Happening}
 use Rattle.hsms_capture.specs.declared.telling.Telling.TheVariants as telling
 use Rattle.hsms_capture.specs.Wire.{End, active, passive, Cell, Placed, Turn, Left, Both, both_streams, stream_of, end_of, received, turns, breaks_off, is_before}
+use Rattle.hsms_capture.specs.Told.{tells}
 use Rattle.hsms_capture.specs.Held.{IsStoreOf}
 use Rattle.hsms_capture.specs.Telling.{entry_as}
 use Rattle.hsms_capture.specs.Turning.{Log, and_log, due_of, is_over, tell_on}
@@ -78,3 +79,7 @@ abbrev pub TellsBefore : Option ℕ → Teller → List Due → List Happening �
 TellsBefore limit old queue told new left later closed =
     (more : Bool) (ps : List Placed) → AreRising 0 ps → MayFollow more ps [] → AreStreamsOf old.streams ps → IsLimit more limit ps → Waits more old queue ps told
     → AreStreamsOf new.streams ps × by_closed closed (IsClosed more ps later) (IsOpen more limit new left ps later)
+
+-- A log tells what is told turn by turn, where the numbers of packets rise.
+abbrev pub LogIsTold : Type 0
+LogIsTold = (ps : List Placed) → AreRising 0 ps → (log_of ps).told ≡ tells ps

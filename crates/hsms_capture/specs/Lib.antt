@@ -8,6 +8,8 @@ pub mod Turning
 pub mod Drained
 pub mod Connected
 pub mod Finished
+pub mod Arrived
+pub mod Standing
 pub mod Held
 pub mod Early
 pub mod Laws

@@ -10,6 +10,7 @@
 #![tactic(auto)]
 
 mod asking;
+mod connection;
 mod cutting;
 mod early;
 mod ending;
@@ -18,6 +19,7 @@ pub mod laws;
 mod losses;
 mod packet;
 mod place;
+mod reading;
 mod streams;
 mod teller;
 mod telling;
@@ -26,6 +28,7 @@ mod waiting;
 pub mod worked;
 
 pub use asking::{Flags, only_asks};
+pub use connection::{Connection, ConnectionFault};
 pub use ending::Ending;
 pub use held::{Cell, Held, HeldFault};
 pub use losses::{BothEnds, Losses, Need};
