@@ -14,22 +14,24 @@ use Rattle.hsms_capture.specs.declared.streams.Due.{Due}
 use Rattle.hsms_capture.specs.declared.teller.Teller.{Teller}
 use Rattle.hsms_capture.specs.declared.telling.Happening.{Happening}
 use Rattle.hsms_capture.specs.declared.telling.Telling.TheVariants as telling
-use Rattle.hsms_capture.specs.Wire.{End, active, passive, other, Seen, Placed, places, place_of, ack_place, placed_at, asks_only, end_of, received, turns, loss, difference, earlier}
+use Rattle.hsms_capture.specs.Wire.{End, active, passive, other, Seen, Placed, Turn, places, place_of, ack_place, placed_at, asks_only, end_of, received, turns, loss, difference, earlier}
 use Rattle.hsms_capture.specs.Held.{Store, IsStoreOf}
 use Rattle.hsms_capture.specs.Known.{GoesOn, Known, end_at, known, packet_of, placed_as, placed_behind, seen_of}
 use Rattle.hsms_capture.specs.Laws.{AreNumbered}
-use Rattle.hsms_capture.specs.Losses.{TellsLoss, Watches, side_of}
+use Rattle.hsms_capture.specs.Losses.{TellsLoss, Watches, first_of, side_of}
 use Rattle.hsms_capture.specs.Told.{Entry, tells}
 use Rattle.hsms_capture.specs.Telling.{entry_as}
-use Rattle.hsms_capture.specs.Turning.{Log, tell_on}
+use Rattle.hsms_capture.specs.Turning.{Log, and_log, due_of, tell_on}
+use Rattle.hsms_capture.specs.Drained.{IsHeldBack}
 use Rattle.hsms_capture.specs.Connected.{AreRising, AreStreamsOf, Waits, lefts, log_of, told_dues}
 use Rattle.hsms_capture.specs.Finished.{BreaksAt, Finishes, IsEnded, broken, ended}
 use Rattle.hsms_capture.specs.Arrived.{BringsCells, IsArrival, IsReading, Outcome, Reacts, own_packet}
-use Rattle.hsms_capture.specs.Standing.{EndsAs, Followed, StandsAs, TakesOn, ToldIsSure, of_side}
+use Rattle.hsms_capture.specs.Standing.{EndsAs, Followed, StandsAs, TakesOn, ToldAtOnce, ToldIsSure, of_side}
 use Rattle.hsms_capture.proofs.Fronts.{places_begin, places_more, places_rise}
 use Rattle.hsms_capture.proofs.Stepped.{one_more}
 use Rattle.hsms_capture.proofs.Sure.{nothing_follows}
 use Rattle.hsms_capture.proofs.Tells.{tells_all}
+use Rattle.hsms_capture.proofs.Watched.{tells_loss}
 
 -- ---- a segment by its place
 
@@ -167,7 +169,7 @@ ends_now c first told later e is tells finishes base seen numbered stands =
     let ps = places base [] seen in
     let rises = all_rise base seen numbered in
     let h = subst (λ (o : Option Ending). StandsAs o c.turns c.reading told base seen) is stands in
-    let r = h.1 in
+    let r = h.1.0 in
     at_end ps later e rises
     (finishes false ps rises refl r.2 (breaks_here first c.reading.differs ps (tells ps r.0) r.1) (waits_end c.reading.teller c.reading.due.items ps told rises r.3) [] refl)
 
@@ -181,11 +183,14 @@ unfolding places difference turns
 begins turns r a p base e w az ah pz ph none differs is = (
   e,
   (
-    w,
-    sym differs,
-    subst (λ (t : Teller). AreStreamsOf t.streams []) (sym is)
-        ((ah active, omega (arith, az), omega arith, omega (arith, az)), (ph passive, omega (arith, pz), omega arith, omega (arith, pz))),
-    subst (λ (t : Teller). Waits true t r.due.items [] []) (sym is) ([], [], refl, none, λ later h. refl),
+    (
+      w,
+      sym differs,
+      subst (λ (t : Teller). AreStreamsOf t.streams []) (sym is)
+          ((ah active, omega (arith, az), omega arith, omega (arith, az)), (ph passive, omega (arith, pz), omega arith, omega (arith, pz))),
+      subst (λ (t : Teller). Waits true t r.due.items [] []) (sym is) ([], [], refl, none, λ later h. refl),
+    ),
+    subst (IsHeldBack (earlier (first_of r.losses) r.differs)) (sym none) tt,
   ),
 )
 
@@ -199,7 +204,7 @@ front_by : (end : Option Ending) (known_turns : Known) (r : Reading) (told : Lis
 front_by None known_turns r told base seen more h rises =
     let ps = places base [] seen in
     let all = ps ++ more in
-    let w = h.1.3 in
+    let w = h.1.0.3 in
     let rest = tell_on r.teller.telling r.teller.opened (lefts r.teller.streams all) (told_dues all (w.1 ++ turns ps more)) in
     (rest.told, sym (tells_all all rises) ∙ ap (λ (l : Log). l.told) (w.4 more rises))
 front_by (Some e) known_turns r told base seen more h rises =
@@ -213,3 +218,42 @@ told_sure c told base seen later stands numbered =
     let whole : places base [] (seen ++ later) ≡ ps ++ split.0 = places_more base [] seen later ∙ split.1 in
     let rises = subst (AreRising 0) whole (all_rise base (seen ++ later) numbered) in
     subst (Front told) (sym whole) (front_by c.ending c.turns c.reading told base seen split.0 stands rises)
+
+-- ---- nothing is held back where nothing is lacking
+
+no_queue : (o : Option ℕ) (queue : List Due) → o ≡ None → IsHeldBack o queue → queue ≡ []
+no_queue None [] e h = refl
+no_queue None (t ∷ ts) e h = absurd cc
+no_queue (Some k) queue e h = absurd cc
+
+no_turns : (ts : List Turn) → map due_of ts ≡ [] → ts ≡ []
+no_turns [] e = refl
+no_turns (t ∷ ts) e = absurd cc
+
+open_told : (turns_known : Known) (r : Reading) (told : List Happening) (base : End → ℕ) (seen : List Seen) → StandsAs None turns_known r told base seen
+    → AreRising 0 (places base [] seen) → loss [] (places base [] seen) ≡ None → difference [] (places base [] seen) ≡ None → map entry_as told ≡ (log_of (places base [] seen)).told
+unfolding turns tell_on
+open_told turns_known r told base seen h rises lost differs =
+    let ps = places base [] seen in
+    let knows = h.1.0 in
+    let w = knows.3 in
+    let first : first_of r.losses ≡ None = tells_loss r.losses ps knows.0 ∙ lost in
+    let limit : earlier (first_of r.losses) r.differs ≡ None = ap (λ (o : Option ℕ). earlier o r.differs) first ∙ sym knows.1 ∙ differs in
+    let rest : w.1 ≡ [] = no_turns w.1 (sym w.3 ∙ no_queue (earlier (first_of r.losses) r.differs) r.due.items limit h.1.1) in
+    let log = w.4 [] (nothing_follows ps rises) in
+    let all = ps ++ [] in
+    sym (ap (λ (z : List Placed). (log_of z).told) (sym (append-nil ps))
+    ∙ ap (λ (l : Log). l.told) (log ∙ ap (λ (ts : List Turn). and_log (map entry_as told) (tell_on r.teller.telling r.teller.opened (lefts r.teller.streams all) (told_dues all (ts ++ [])))) rest)
+    ∙ append-nil (map entry_as told))
+
+told_by_now : (end : Option Ending) (turns_known : Known) (r : Reading) (told : List Happening) (base : End → ℕ) (seen : List Seen) → StandsAs end turns_known r told base seen
+    → AreRising 0 (places base [] seen) → loss [] (places base [] seen) ≡ None → difference [] (places base [] seen) ≡ None → map entry_as told ≡ (log_of (places base [] seen)).told
+told_by_now None turns_known r told base seen h rises lost differs = open_told turns_known r told base seen h rises lost differs
+told_by_now (Some e) turns_known r told base seen h rises lost differs =
+    let ps = places base [] seen in
+    (h [] (nothing_follows ps rises)).0 ∙ ap (λ (z : List Placed). (log_of z).told) (append-nil ps)
+
+pub told_at_once : ToldAtOnce
+told_at_once c told base seen stands numbered lost differs =
+    let rises = all_rise base seen numbered in
+    told_by_now c.ending c.turns c.reading told base seen stands rises lost differs ∙ tells_all (places base [] seen) rises

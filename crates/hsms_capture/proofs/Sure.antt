@@ -1,6 +1,6 @@
 -- What is sure behind a packet, and told.
-use Rattle.std.proofs.Common.{◌≡◌, ◌<◌, ◌≤◌, ◌++◌, ◌∷◌, ℕ, Bool, true, false, cond, List, [], map, min, take, Option, Some, None, Result, Ok, refl, sym, ap, subst, ◌∙◌, arith}
-use Rattle.std.proofs.lemmas.Bool.{ltb-true, lt-ltb, le-ltb}
+use Rattle.std.proofs.Common.{◌≡◌, ◌<◌, ◌≤◌, ◌++◌, ◌∷◌, ℕ, Bool, true, false, cond, nat_lt, List, [], map, min, take, Option, Some, None, Result, Ok, refl, sym, ap, subst, ◌∙◌, arith, inl, inr}
+use Rattle.std.proofs.lemmas.Bool.{ltb-true, lt-ltb, le-ltb, leb-true, cases_lt}
 use Rattle.std.proofs.lemmas.List.{append-nil, append_assoc}
 use Rattle.hsms_capture.specs.declared.ending.Ending.{Ending}
 use Rattle.hsms_capture.specs.declared.ending.Ending.TheVariants as ending
@@ -18,12 +18,12 @@ use Rattle.hsms_capture.specs.Wire.{End, active, passive, Placed, Turn, received
 use Rattle.hsms_capture.specs.Losses.{FindsLoss, IsNext, Watches, WatchesOn, first_of, need_at}
 use Rattle.hsms_capture.specs.Telling.{entry_as}
 use Rattle.hsms_capture.specs.Turning.{Log, and_log, tell_on}
-use Rattle.hsms_capture.specs.Drained.{is_sure}
+use Rattle.hsms_capture.specs.Drained.{IsHeldBack, is_sure}
 use Rattle.hsms_capture.specs.Connected.{AreRising, AreStreamsOf, IsClosed, IsLimit, IsStreamOf, TellsBefore, Waits, lefts, told_dues}
-use Rattle.hsms_capture.specs.Finished.{BreaksAt, Finishes, IsEnded, broken, ended_by}
-use Rattle.hsms_capture.specs.Arrived.{Arrives, GoesOn, MayLose, PassesBoth, PassesTo, Reacts, TellsSure}
+use Rattle.hsms_capture.specs.Finished.{BreaksAt, Finishes, IsEnded, broken, ended_by, EachBehind}
+use Rattle.hsms_capture.specs.Arrived.{Arrives, GoesOn, MayLose, PassesBoth, PassesTo, Reacts, TellsSure, breaks_sure, is_first}
 use Rattle.hsms_capture.proofs.Lists.{Each, weaken}
-use Rattle.hsms_capture.proofs.Numbered.{before_later, difference_more, later_packets, loss_past, passes, passes_both, passes_earlier, rising_behind}
+use Rattle.hsms_capture.proofs.Numbered.{before_later, difference_more, later_packets, loss_past, passes, passes_both, passes_earlier, rising_behind, rising_lower}
 use Rattle.hsms_capture.proofs.Turned.{turns_each}
 use Rattle.hsms_capture.proofs.Finishing.{behind_each}
 
@@ -97,13 +97,17 @@ sure_open acked old new next left told later first limit e f tells pass losses d
     let is : limit ≡ earlier (first_of old.losses) old.differs = f ∙ ap (λ (o : Option ℕ). earlier o old.differs) e in
     let sound = subst (λ (o : Option ℕ). IsLimit true o ps) (sym is) (sure_limit old.losses ps old.differs r.0 r.1) in
     let h = tells true ps rises (nothing_follows ps rises) r.2 sound r.3 in (
-      subst (λ (ns : List Need). Watches ns ps) (sym losses) r.0,
-      r.1 ∙ sym differs,
       (
-        passed next.streams.active new.teller.streams.active acked.active ps active (ap (λ (b : BothEnds). b.active) acks) h.0.0 pass.0,
-        passed next.streams.passive new.teller.streams.passive acked.passive ps passive (ap (λ (b : BothEnds). b.passive) acks) h.0.1 pass.1,
+        subst (λ (ns : List Need). Watches ns ps) (sym losses) r.0,
+        r.1 ∙ sym differs,
+        (
+          passed next.streams.active new.teller.streams.active acked.active ps active (ap (λ (b : BothEnds). b.active) acks) h.0.0 pass.0,
+          passed next.streams.passive new.teller.streams.passive acked.passive ps passive (ap (λ (b : BothEnds). b.passive) acks) h.0.1 pass.1,
+        ),
+        subst (λ (q : List Due). Waits true new.teller q ps later) (sym queue) (waits_same true next new.teller left ps later telling opened pass.0.0 pass.1.0 h.1.0),
       ),
-      subst (λ (q : List Due). Waits true new.teller q ps later) (sym queue) (waits_same true next new.teller left ps later telling opened pass.0.0 pass.1.0 h.1.0),
+      subst (λ (q : List Due). IsHeldBack (earlier (first_of new.losses) new.differs) q) (sym queue)
+          (subst (λ (o : Option ℕ). IsHeldBack o left) (is ∙ ap (λ (ns : List Need). earlier (first_of ns) old.differs) (sym losses) ∙ ap (earlier (first_of new.losses)) (sym differs)) h.1.1),
     )
 
 -- ---- where one is lost
@@ -167,6 +171,71 @@ pub none_lost : (lost : Option ℕ) (acked : BothEnds) (old new : Reading) (told
 none_lost lost acked old new told later r is tells ps rises acks may differs streams waits =
     tells ps rises acks (subst (λ (o : Option ℕ). MayLose o old.losses ps) is may, differs, streams, waits)
 
+-- ---- where a copy differs, and nothing before it lacks anything
+
+difference_among : (P : ℕ → Type 0) (before ps : List Placed) (k : ℕ) → Each (λ (p : Placed). P p.packet) ps → difference before ps ≡ Some k → P k
+unfolding difference
+difference_among P before [] k h e = absurd cc
+difference_among P before (p ∷ ps) k h e =
+    by_test (contradicts before p.from (received before p.from) p.place p.cells) e (difference_among P (before ++ (p ∷ [])) ps k h.1)
+  where
+    by_test : (b : Bool) → cond b (Some p.packet) (difference (before ++ (p ∷ [])) ps) ≡ Some k → (difference (before ++ (p ∷ [])) ps ≡ Some k → P k) → P k
+    by_test true e later = let same : p.packet ≡ k = cc in subst P same h.0
+    by_test false e later = later e
+
+-- no loss stands before it
+no_loss_before : (first : Option ℕ) (k j : ℕ) → is_first first k ≡ true → j < k → passes first j ≡ true
+no_loss_before None k j e lt = refl
+no_loss_before (Some l) k j e lt = let le = leb-true k l e in lt-ltb j l (omega (arith, le, lt))
+
+breaks_there : (l : Option ℕ) (k : ℕ) → ((j : ℕ) → l ≡ Some j → k ≤ j) → (earlier l (Some k) ≡ Some k) × (broken l (Some k) ≡ ending.Differs k)
+breaks_there None k h = (refl, refl)
+breaks_there (Some j) k h =
+    let le = h j refl in
+    let least : min j k ≡ k = omega (arith, le) in
+    rw (least, le-ltb j k le) (refl, refl)
+
+first_least : (first : Option ℕ) (k : ℕ) → is_first first k ≡ true → (earlier first (Some k) ≡ Some k) × (broken first (Some k) ≡ ending.Differs k)
+first_least first k e = breaks_there first k (λ j f. leb-true k j (subst (λ (o : Option ℕ). is_first o k ≡ true) f e))
+
+differs_breaks : (needs : List Need) (k : ℕ) (ps : List Placed) → Watches needs ps → difference [] ps ≡ Some k → is_first (first_of needs) k ≡ true
+    → BreaksAt true (earlier (first_of needs) (Some k)) (broken (first_of needs) (Some k)) ps
+differs_breaks needs k ps w differs e later h =
+    let all = ps ++ later in
+    let whole : all ≡ w.0 ++ (w.1 ++ later) = ap (λ (z : List Placed). z ++ later) w.2 ∙ append_assoc w.0 w.1 later in
+    let rises : AreRising k later = difference_among (λ n. AreRising n later) [] ps k (before_later 0 ps later h) differs in
+    let stays : difference [] all ≡ Some k = difference_stays [] ps later k differs in
+    let none : (j : ℕ) → loss [] all ≡ Some j → k ≤ j =
+    λ j f. elim (cases_lt j k) [
+      | inr le ↦ le
+      | inl lt ↦
+          let passed = before_loss w.0 w.1 later needs j w.3 (subst (AreRising 0) whole h) (rising_lower j k later (omega (arith, lt)) rises) (no_loss_before (first_of needs) k j e lt) in
+          let here : nat_lt j j ≡ true = subst (λ (o : Option ℕ). passes o j ≡ true) (sym (w.4 later) ∙ f) passed in
+          let less = ltb-true j j here in
+          absurd (omega (arith, less))
+    ] in
+    let there = breaks_there (loss [] all) k none in
+    let first = first_least (first_of needs) k e in
+    let behind = behind_each (Some k) k (turns ps later) (le-ltb k k (omega arith))
+    (turns_each (λ (p : Placed). k ≤ p.packet) ps later
+    (weaken (λ (p : Placed). k < p.packet) (λ (p : Placed). k ≤ p.packet) later (λ p lt. omega (arith, lt)) (later_packets k later rises))) in (
+      ap (earlier (loss [] all)) stays ∙ there.0 ∙ sym first.0,
+      first.1 ∙ sym there.1 ∙ sym (ap (broken (loss [] all)) stays),
+      subst (λ (o : Option ℕ). EachBehind o (turns ps later)) (sym first.0) behind,
+    )
+
+pub differs_ends : (first : Option ℕ) (acked : BothEnds) (old new : Reading) (told later : List Happening) (e : Ending) → first ≡ first_of old.losses
+    → breaks_sure first old.differs ≡ true → Finishes first old.differs old.teller old.due.items told later e → TellsSure acked old told new later (Some e)
+differs_ends first acked old new told later e is sure finishes ps rises acks r = by_differs old.differs refl sure
+  where
+    by_differs : (o : Option ℕ) → old.differs ≡ o → breaks_sure first o ≡ true → IsEnded true ps later e
+    by_differs None f g = absurd cc
+    by_differs (Some k) f g =
+        let breaks = differs_breaks old.losses k ps r.0 (r.1 ∙ f) (subst (λ (o : Option ℕ). is_first o k ≡ true) is g) in
+        finishes true ps rises (nothing_follows ps rises) r.2
+        (subst (λ (o : Option ℕ). BreaksAt true (earlier o old.differs) (broken o old.differs) ps) (sym is)
+        (subst (λ (o : Option ℕ). BreaksAt true (earlier (first_of old.losses) o) (broken (first_of old.losses) o) ps) (sym f) breaks)) r.3
+
 -- ---- a packet comes
 
 may_lose : {E : Type 0} (r : Result (Option ℕ) E) (o : Option ℕ) (from : Side) (packet : Packet) (ends : BothEnds) (old new : List Need) (ps : List Placed) (p : Placed) → r ≡ Ok o
@@ -180,9 +249,10 @@ pub reacts : {E : Type 0} (r : Result (Option ℕ) E) (a : Arrival) (octets : Li
     → ((k : ℕ) → r ≡ Ok (Some k) → FindsLoss mid.losses a.from a.packet a.ends k) → some.differs ≡ mid.differs → some.teller ≡ mid.teller → some.due.items ≡ mid.due.items
     → GoesOn lost a.received some told new later end → Reacts a octets freed old told new later end
 reacts r a octets freed old mid some new told later lost end arrives is none found differs teller queue goes ps p arrival rises reading =
-    let got = arrives ps p arrival reading.1 reading.2 in
-    let watched : Watches mid.losses ps = subst (λ (ns : List Need). Watches ns ps) (sym got.2) reading.0 in
+    let knows = reading.0 in
+    let got = arrives ps p arrival knows.1 knows.2 in
+    let watched : Watches mid.losses ps = subst (λ (ns : List Need). Watches ns ps) (sym got.2) knows.0 in
     let may = may_lose r lost a.from a.packet a.ends mid.losses some.losses ps p is none found watched (arrival.1, arrival.0, arrival.5) in
     goes (ps ++ p ∷ []) rises arrival.6 may (got.0 ∙ sym differs) (subst (λ (t : Teller). AreStreamsOf t.streams (ps ++ p ∷ [])) (sym teller) got.1)
     (subst (λ (q : List Due). Waits true some.teller q (ps ++ p ∷ []) told) (sym queue)
-    (subst (λ (t : Teller). Waits true t mid.due.items (ps ++ p ∷ []) told) (sym teller) (got.3 told reading.3)))
+    (subst (λ (t : Teller). Waits true t mid.due.items (ps ++ p ∷ []) told) (sym teller) (got.3 told knows.3)))

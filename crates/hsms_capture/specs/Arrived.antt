@@ -1,5 +1,5 @@
 -- What a reader of a connection knows, and what it does as a packet comes.
-use Rattle.std.specs.Prelude.{◌≡◌, ◌≤◌, ◌⊎◌, ◌++◌, ◌∷◌, Bool, true, false, ℕ, min, max, List, [], map, Option, Some, None}
+use Rattle.std.specs.Prelude.{◌≡◌, ◌≤◌, ◌⊎◌, ◌++◌, ◌∷◌, Bool, true, false, nat_le, ℕ, min, max, List, [], map, Option, Some, None}
 use Rattle.hsms_capture.specs.declared.ending.Ending.{Ending}
 use Rattle.hsms_capture.specs.declared.losses.BothEnds.{BothEnds}
 use Rattle.hsms_capture.specs.declared.losses.Need.{Need}
@@ -11,12 +11,13 @@ use Rattle.hsms_capture.specs.declared.streams.Due.{Due}
 use Rattle.hsms_capture.specs.declared.streams.Stream.{Stream}
 use Rattle.hsms_capture.specs.declared.streams.Streams.{Streams}
 use Rattle.hsms_capture.specs.declared.telling.Happening.{Happening}
-use Rattle.hsms_capture.specs.Wire.{End, active, passive, Cell, Placed, Turn, received, turns, contradicts, loss, difference}
+use Rattle.hsms_capture.specs.Wire.{End, active, passive, Cell, Placed, Turn, received, turns, contradicts, loss, difference, earlier}
 use Rattle.hsms_capture.specs.Held.{Store, IsStoreOf}
 use Rattle.hsms_capture.specs.Known.{packet_of}
-use Rattle.hsms_capture.specs.Losses.{Watches, ends_of, side_of}
+use Rattle.hsms_capture.specs.Losses.{Watches, ends_of, first_of, side_of}
 use Rattle.hsms_capture.specs.Message.{cells_of}
 use Rattle.hsms_capture.specs.Connected.{AreRising, AreStreamsOf, Waits}
+use Rattle.hsms_capture.specs.Drained.{IsHeldBack}
 use Rattle.hsms_capture.specs.Finished.{IsEnded}
 
 -- ---- what is brought
@@ -76,8 +77,16 @@ Arrives a octets freed old new =
     → (difference [] (ps ++ p ∷ []) ≡ new.differs) × AreStreamsOf new.teller.streams (ps ++ p ∷ []) × (new.losses ≡ old.losses)
     × ((told : List Happening) → Waits true old.teller old.due.items ps told → Waits true new.teller new.due.items (ps ++ p ∷ []) told)
 
+-- what follows from it
+abbrev pub IsKnown : Reading → List Placed → List Happening → Type 0
+IsKnown r ps told = Watches r.losses ps × (difference [] ps ≡ r.differs) × AreStreamsOf r.teller.streams ps × Waits true r.teller r.due.items ps told
+
+-- what is held back stands at a packet that lacks something, or that differs, or behind it
+abbrev pub IsPrompt : Reading → Type 0
+IsPrompt r = IsHeldBack (earlier (first_of r.losses) r.differs) r.due.items
+
 abbrev pub IsReading : Reading → List Placed → List Happening → Type 0
-IsReading r ps told = Watches r.losses ps × (difference [] ps ≡ r.differs) × AreStreamsOf r.teller.streams ps × Waits true r.teller r.due.items ps told
+IsReading r ps told = IsKnown r ps told × IsPrompt r
 
 -- it goes on, or it ended
 abbrev pub Outcome : Reading → List Placed → List Happening → Option Ending → Type 0
@@ -87,7 +96,7 @@ Outcome r ps told (Some e) = IsEnded true ps told e
 -- what is sure is told
 abbrev pub TellsSure : BothEnds → Reading → List Happening → Reading → List Happening → Option Ending → Type 0
 TellsSure acked old told new later r =
-    (ps : List Placed) → AreRising 0 ps → acked ≡ received_of ps → IsReading old ps told → Outcome new ps later r
+    (ps : List Placed) → AreRising 0 ps → acked ≡ received_of ps → IsKnown old ps told → Outcome new ps later r
 
 abbrev pub Reacts : Arrival → List ℕ → List Packet → Reading → List Happening → Reading → List Happening → Option Ending → Type 0
 Reacts a octets freed old told new later r =
@@ -105,3 +114,12 @@ abbrev pub GoesOn : Option ℕ → BothEnds → Reading → List Happening → R
 GoesOn lost acked old told new later r =
     (ps : List Placed) → AreRising 0 ps → acked ≡ received_of ps → MayLose lost old.losses ps → difference [] ps ≡ old.differs → AreStreamsOf old.teller.streams ps
     → Waits true old.teller old.due.items ps told → Outcome new ps later r
+
+-- a copy differs, and no packet before it lacks anything
+abbrev pub is_first : Option ℕ → ℕ → Bool
+is_first None k = true
+is_first (Some j) k = nat_le k j
+
+abbrev pub breaks_sure : Option ℕ → Option ℕ → Bool
+breaks_sure first None = false
+breaks_sure first (Some k) = is_first first k

@@ -9,7 +9,7 @@ use Rattle.hsms_capture.specs.declared.packet.Side.{Side}
 use Rattle.hsms_capture.specs.declared.packet.Side.TheVariants as side
 use Rattle.hsms_capture.specs.declared.reading.Reading.{Reading}
 use Rattle.hsms_capture.specs.declared.telling.Happening.{Happening}
-use Rattle.hsms_capture.specs.Wire.{End, Seen, places}
+use Rattle.hsms_capture.specs.Wire.{End, Seen, places, loss, difference}
 use Rattle.hsms_capture.specs.Known.{Known, known, seen_of}
 use Rattle.hsms_capture.specs.Laws.{AreNumbered}
 use Rattle.hsms_capture.specs.Telling.{entry_as}
@@ -50,3 +50,9 @@ abbrev pub ToldIsSure : Type 0
 ToldIsSure =
     (c : Connection) (told : List Happening) (base : End → ℕ) (seen later : List Seen) → Stands c told base seen → AreNumbered 0 (seen ++ later)
     → (rest : List Entry) × (tells (places base [] (seen ++ later)) ≡ map entry_as told ++ rest)
+
+-- Where these segments have no loss and no copy that differs, all that is told of them was told at the last of them.
+abbrev pub ToldAtOnce : Type 0
+ToldAtOnce =
+    (c : Connection) (told : List Happening) (base : End → ℕ) (seen : List Seen) → Stands c told base seen → AreNumbered 0 seen
+    → loss [] (places base [] seen) ≡ None → difference [] (places base [] seen) ≡ None → map entry_as told ≡ tells (places base [] seen)

@@ -1,7 +1,7 @@
 //! What is known of a connection in the midst of a capture, and what is told as a packet comes.
 
 ghost use Rattle.std.specs.Prelude.{◌≡◌, ◌++◌, IfOk, OnOk, map};
-ghost use Rattle.hsms_capture.specs.Arrived.{Arrives, Brings, BringsTo, GoesOn, PassesBoth, PassesTo, Reacts, TellsSure, due_as, or_differs};
+ghost use Rattle.hsms_capture.specs.Arrived.{Arrives, Brings, BringsTo, GoesOn, PassesBoth, PassesTo, Reacts, TellsSure, breaks_sure, due_as, or_differs};
 ghost use Rattle.hsms_capture.specs.Message.{cells_of};
 
 use crate::asking::Flags;
@@ -162,6 +162,44 @@ fn tell_sure(
     Ok(None)
 }
 
+// Whether a copy differs, and no packet before it lacks anything.
+fn breaks_surely(first: Option<u64>, differs: Option<u64>) -> bool
+    ensures { result ≡ breaks_sure first differs }
+{
+    match differs {
+        Some(packet) => match first {
+            Some(lacking) => packet <= lacking,
+            None => true,
+        },
+        None => false,
+    }
+}
+
+// Tells what is sure, and ends where a copy differs and nothing before it lacks anything.
+fn settle(
+    alloc: Global,
+    reading: &mut Reading,
+    received: BothEnds,
+    told: &mut Vec<Happening>,
+) -> Result<Option<Ending>, AllocError>
+    ensures { IfOk result (λ r. TellsSure received reading.old told.old.items reading.new told.new.items r) }
+{
+    let first = reading.losses.first();
+    let differs = reading.differs;
+    if breaks_surely(first, differs) {
+        let ending = finish(
+            alloc,
+            &mut reading.teller,
+            &mut reading.due,
+            first,
+            differs,
+            told,
+        )?;
+        return Ok(Some(ending));
+    }
+    tell_sure(alloc, reading, received, told)
+}
+
 // Tells what is sure behind a packet, of which it may be known that one is lost.
 fn go_on(
     alloc: Global,
@@ -173,7 +211,7 @@ fn go_on(
     ensures { IfOk result (λ r. GoesOn lost received reading.old told.old.items reading.new told.new.items r) }
 {
     let Some(packet) = lost else {
-        return tell_sure(alloc, reading, received, told);
+        return settle(alloc, reading, received, told);
     };
     let ending = finish(
         alloc,

@@ -5,9 +5,9 @@ use Rattle.hsms_capture.proofs.reading.go_on.Goals as goal
 
 pub returns-in_default : goal.returns-in_default
 returns-in_default c =
-    ok_weaker c.tell_sure.result
-    (λ r h. none_lost c.args.lost c.args.received c.args.reading.now c.tell_sure.new.reading c.args.told.now.items c.tell_sure.new.told.items r (let e = c.in_default.is in cc) h)
-    c.tell_sure.ensures
+    ok_weaker c.settle.result
+    (λ r h. none_lost c.args.lost c.args.received c.args.reading.now c.settle.new.reading c.args.told.now.items c.settle.new.told.items r (let e = c.in_default.is in cc) h)
+    c.settle.ensures
 
 pub returns : goal.returns
 returns c =
