@@ -1,11 +1,11 @@
 -- Copies that differ from what is held.
-use Rattle.std.proofs.Common.{◌≡◌, ◌<◌, ◌≤◌, ◌+◌, ◌-◌, ◌^◌, ◌++◌, ◌∷◌, ◌&&◌, ◌||◌, ℕ, suc, Bool, true, false, nat_le, List, [], length, map, get_or, Option, Some, None, refl, sym, ap, ◌∙◌, arith, inl, inr}
+use Rattle.std.proofs.Common.{◌≡◌, ◌<◌, ◌≤◌, ◌+◌, ◌^◌, ◌++◌, ◌∷◌, ◌&&◌, ◌||◌, ℕ, Bool, true, false, nat_le, List, [], length, map, Option, refl, sym, ap, ◌∙◌, arith, inl, inr}
 use Rattle.std.proofs.lemmas.Bool.{le-leb, lt-leb, cases_lt}
 use Rattle.hsms_capture.specs.declared.held.Cell.{Cell as HeldCell}
 use Rattle.hsms_capture.specs.declared.held.Cell.TheVariants as held
 use Rattle.hsms_capture.specs.Wire.{End, Cell, Placed, cell_at, is_other, contradicts}
 use Rattle.hsms_capture.specs.Message.{cells_of}
-use Rattle.hsms_capture.specs.Held.{Store, wire_cell, IsStoreOf, TellsOther, is_another, differs_at, differs, flag_of, octets_of, held_of}
+use Rattle.hsms_capture.specs.Held.{Store, wire_cell, IsStoreOf, TellsOther, differs_at, differs, flag_of, octets_of, held_of}
 use Rattle.hsms_capture.proofs.Laid.{cells_length, flag_count, length_flag, length_octets, wire_is}
 
 -- ---- one cell

@@ -34,7 +34,7 @@ new_rises : (acknowledged n : ℕ) (s : Seen) (place ack : Option ℕ) (rest : L
 new_rises acknowledged n s None ack rest lt h = rising_lower n s.packet rest (omega (arith, lt)) h
 new_rises acknowledged n s (Some place) ack rest lt h = (lt, h)
 
-places_rise : (base : End → ℕ) (before : List Placed) (n : ℕ) (ss : List Seen) → AreNumbered n ss → Rises before n (places base before ss)
+pub places_rise : (base : End → ℕ) (before : List Placed) (n : ℕ) (ss : List Seen) → AreNumbered n ss → Rises before n (places base before ss)
 unfolding places
 places_rise base before n [] h = ([], sym (append-nil before), tt)
 places_rise base before n (s ∷ ss) h =

@@ -1,14 +1,14 @@
 -- Cells that are laid by their places: what is held stays, and what is laid is held.
-use Rattle.std.proofs.Common.{◌≡◌, ◌<◌, ◌≤◌, ◌+◌, ◌-◌, ◌++◌, ◌∷◌, ℕ, zero, suc, Bool, true, false, cond, nat_le, nat_lt, List, [], length, map, max, min, drop, get_or, slice_get, slice_set, Option, Some, None, is_some, refl, sym, ap, subst, ◌∙◌, arith, length-append, length-drop, inl, inr}
+use Rattle.std.proofs.Common.{◌≡◌, ◌<◌, ◌≤◌, ◌+◌, ◌-◌, ◌++◌, ◌∷◌, ℕ, zero, suc, Bool, true, false, cond, nat_le, nat_lt, List, [], length, map, max, min, drop, get_or, slice_get, slice_set, Option, Some, None, is_some, refl, sym, ap, ◌∙◌, arith, length-append, length-drop, inl, inr}
 use Rattle.std.proofs.lemmas.Bool.{le-leb, lt-leb, lt-ltb, le-ltb, cases_lt}
 use Rattle.std.proofs.lemmas.List.{set-get_or, get_or-set_same, get_or-set_other, length-set, drop-drop, get_or-drop}
 use Rattle.std.proofs.Math.ListN.{get_or-eq_default}
 use Rattle.std.specs.Option.{option_map}
 use Rattle.hsms_capture.specs.declared.held.Cell.{Cell as HeldCell}
 use Rattle.hsms_capture.specs.declared.held.Cell.TheVariants as held
-use Rattle.hsms_capture.specs.Wire.{End, Cell, syn, octet, fin, Placed, or_else, cell_in, cell_at}
+use Rattle.hsms_capture.specs.Wire.{End, Cell, syn, octet, Placed, or_else, cell_in, cell_at}
 use Rattle.hsms_capture.specs.Message.{cells_of}
-use Rattle.hsms_capture.specs.Held.{Store, cell_held, wire_cell, IsStoreOf, PutsIn, laid_at, laid_all, flag_of, octets_of, held_of, SameCells, CellIs}
+use Rattle.hsms_capture.specs.Held.{Store, wire_cell, IsStoreOf, PutsIn, laid_at, laid_all, flag_of, octets_of, held_of, SameCells, CellIs}
 use Rattle.hsms_capture.proofs.Ends.{same}
 use Rattle.hsms_capture.proofs.Longer.{cell_more}
 

@@ -2,13 +2,10 @@
 use Rattle.std.proofs.Common.{◌≡◌, ◌<◌, ◌≤◌, ℕ, zero, suc, min, ◌||◌, Bool, true, false, cond, nat_lt, List, [], ◌∷◌, ◌++◌, length, take, drop, Option, Some, None, refl, sym, subst, arith}
 use Rattle.std.proofs.lemmas.Bool.{lt-ltb, le-ltb, ltb-true, ltb-false}
 use Rattle.std.proofs.lemmas.List.{append_assoc, take-append-drop, take_at}
+pub use Rattle.hsms_capture.specs.Connected.{AreRising as Rising}
 use Rattle.hsms_capture.specs.Wire.{Placed, other, end_of, is_past, is_behind, loss, contradicts, received, difference, earlier, breaks_off}
 use Rattle.hsms_capture.proofs.Lists.{Each, weaken, Begins, begins_cons, begins_append}
 use Rattle.hsms_capture.proofs.Longer.{end_more}
-
-abbrev pub Rising : ℕ → List Placed → Type 0
-Rising last [] = Unit {0}
-Rising last (p ∷ ps) = (last < p.packet) × Rising p.packet ps
 
 pub rising_lower : (m n : ℕ) (ps : List Placed) → m ≤ n → Rising n ps → Rising m ps
 rising_lower m n [] le h = tt
@@ -19,7 +16,7 @@ later_packets m [] h = tt
 later_packets m (p ∷ ps) h =
     (h.0, weaken (λ (q : Placed). p.packet < q.packet) (λ (q : Placed). m < q.packet) ps (λ q lt. omega (arith, h.0, lt)) (later_packets p.packet ps h.1))
 
-rising_behind : (m : ℕ) (xs ys : List Placed) → Rising m (xs ++ ys) → Rising m ys
+pub rising_behind : (m : ℕ) (xs ys : List Placed) → Rising m (xs ++ ys) → Rising m ys
 rising_behind m [] ys h = h
 rising_behind m (x ∷ xs) ys h = rising_lower m x.packet ys (omega (arith, h.0)) (rising_behind x.packet xs ys h.1)
 
@@ -47,7 +44,7 @@ passes_both None b n e = (refl, e)
 passes_both (Some j) None n e = (e, refl)
 passes_both (Some j) (Some k) n e = let lt = ltb-true n (min j k) e in (lt-ltb n j (omega (arith, lt)), lt-ltb n k (omega (arith, lt)))
 
-passes_earlier : (a b : Option ℕ) (n : ℕ) → passes a n ≡ true → passes b n ≡ true → passes (earlier a b) n ≡ true
+pub passes_earlier : (a b : Option ℕ) (n : ℕ) → passes a n ≡ true → passes b n ≡ true → passes (earlier a b) n ≡ true
 passes_earlier None b n e f = f
 passes_earlier (Some j) None n e f = e
 passes_earlier (Some j) (Some k) n e f =
@@ -92,7 +89,7 @@ take_begins (suc n) [] ys = (take (suc n) ys, refl)
 take_begins (suc n) (x ∷ xs) ys = begins_cons x (take n xs) (take n (xs ++ ys)) (take_begins n xs ys)
 
 -- `n` is before all of these
-loss_past : (n : ℕ) (before ps : List Placed) → Rising n ps → passes (loss before ps) n ≡ true
+pub loss_past : (n : ℕ) (before ps : List Placed) → Rising n ps → passes (loss before ps) n ≡ true
 unfolding loss
 loss_past n before [] h = refl
 loss_past n before (p ∷ ps) h =
@@ -196,7 +193,7 @@ difference_past n before (p ∷ ps) h =
     by_test true later = lt-ltb n p.packet h.0
     by_test false later = later
 
-difference_more : (n : ℕ) (before xs ys : List Placed) → Rising n ys → passes (difference before xs) n ≡ true → passes (difference before (xs ++ ys)) n ≡ true
+pub difference_more : (n : ℕ) (before xs ys : List Placed) → Rising n ys → passes (difference before xs) n ≡ true → passes (difference before (xs ++ ys)) n ≡ true
 unfolding difference
 difference_more n before [] ys later e = difference_past n before ys later
 difference_more n before (p ∷ ps) ys later e =

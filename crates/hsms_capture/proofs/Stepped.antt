@@ -114,7 +114,7 @@ turns_one : (before : List Placed) (p : Placed) → turns before (p ∷ []) ≡ 
 unfolding turns
 turns_one before p = append-nil (turns_at before p)
 
-received_more : (before : List Placed) (p : Placed) (d : End) → received (before ++ (p ∷ [])) d ≡ max (received before d) (greatest_acknowledged d (turns_at before p))
+pub received_more : (before : List Placed) (p : Placed) (d : End) → received (before ++ (p ∷ [])) d ≡ max (received before d) (greatest_acknowledged d (turns_at before p))
 received_more before p d =
     ap (greatest_acknowledged d) (turns_more [] before (p ∷ []) ∙ ap (λ (ts : List Turn). turns [] before ++ ts) (turns_one before p))
     ∙ greatest_more d (turns [] before) (turns_at before p)
@@ -131,7 +131,7 @@ turned : (p : Placed) (qs : List Placed) → Each (λ (q : Placed). q.from ≡ p
 turned p [] h = tt
 turned p (q ∷ qs) h = (h.0, turned p qs h.1)
 
-turns_own : (before : List Placed) (p : Placed) → Each (λ (t : Turn). t.own.from ≡ p.from) (turns_at before p)
+pub turns_own : (before : List Placed) (p : Placed) → Each (λ (t : Turn). t.own.from ≡ p.from) (turns_at before p)
 turns_own before p =
     elim (cases_lt (end_of before p.from) p.place) [
       | inl lt ↦ subst (Each (λ (t : Turn). t.own.from ≡ p.from)) (sym (takes before p lt).0) tt
@@ -221,7 +221,7 @@ step_is base before s = step_by_place base before s (place_of (end_of before s.f
 
 -- ---- of both directions
 
-one_more : (base : End → ℕ) (before : List Seen) (s : Seen) → places base [] (before ++ (s ∷ [])) ≡ places base [] before ++ placed_behind base (places base [] before) s
+pub one_more : (base : End → ℕ) (before : List Seen) (s : Seen) → places base [] (before ++ (s ∷ [])) ≡ places base [] before ++ placed_behind base (places base [] before) s
 unfolding places
 one_more base before s = places_more base [] before (s ∷ [])
 

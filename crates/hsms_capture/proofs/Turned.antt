@@ -39,7 +39,7 @@ everywhere : (ps : List Placed) → Each (λ (p : Placed). Unit {0}) ps
 everywhere [] = tt
 everywhere (p ∷ ps) = (tt, everywhere ps)
 
-at_itself : (before : List Placed) (p : Placed) → Each (λ (t : Turn). t.at ≡ p) (turns_at before p)
+pub at_itself : (before : List Placed) (p : Placed) → Each (λ (t : Turn). t.at ≡ p) (turns_at before p)
 at_itself before p = by_gap (nat_lt (end_of before p.from) p.place)
   where
     by_gap : (b : Bool) → Each (λ (t : Turn). t.at ≡ p) (cond b [] (turn_of p p ∷ map (turn_of p) (in_order (filter (frees before p) before))))
@@ -56,7 +56,7 @@ turns_each P before (p ∷ ps) h =
     (weaken (λ (t : Turn). t.at ≡ p) (λ (t : Turn). P t.at) (turns_at before p) (λ t e. subst P (sym e) h.0) (at_itself before p))
     (turns_each P (before ++ (p ∷ [])) ps h.1)
 
-abbrev Ordered : List Turn → Type 0
+abbrev pub Ordered : List Turn → Type 0
 Ordered [] = Unit {0}
 Ordered (t ∷ ts) = Each (λ (u : Turn). t.at.packet ≤ u.at.packet) ts × Ordered ts
 
@@ -69,7 +69,7 @@ ordered_append n (t ∷ ts) us f g o = (
   ordered_append n ts us f.1 g o,
 )
 
-turns_ordered : (m : ℕ) (before ps : List Placed) → Rising m ps → Ordered (turns before ps)
+pub turns_ordered : (m : ℕ) (before ps : List Placed) → Rising m ps → Ordered (turns before ps)
 unfolding turns
 turns_ordered m before [] h = tt
 turns_ordered m before (p ∷ ps) h =
@@ -81,11 +81,11 @@ turns_ordered m before (p ∷ ps) h =
 
 -- ---- what is told
 
-before_is : (o : Option ℕ) (t : Turn) → is_before o t ≡ passes o t.at.packet
+pub before_is : (o : Option ℕ) (t : Turn) → is_before o t ≡ passes o t.at.packet
 before_is None t = refl
 before_is (Some k) t = refl
 
-nothing_later : (a : Option ℕ) (n : ℕ) (ts : List Turn) → passes a n ≡ false → Each (λ (u : Turn). n ≤ u.at.packet) ts → filter (is_before a) ts ≡ []
+pub nothing_later : (a : Option ℕ) (n : ℕ) (ts : List Turn) → passes a n ≡ false → Each (λ (u : Turn). n ≤ u.at.packet) ts → filter (is_before a) ts ≡ []
 nothing_later a n [] e h = refl
 nothing_later None n (t ∷ ts) e h = absurd cc
 nothing_later (Some k) n (t ∷ ts) e h =
@@ -215,3 +215,10 @@ told_within m ps h =
     (reset_each (λ (t : Turn). Each (Within ps) (deliveries t)) false kept
     (weaken (λ (t : Turn). Fair (Sound ps) ps t × (is_before (breaks_off ps) t ≡ true)) (λ (t : Turn). Each (Within ps) (deliveries t)) kept
     (λ t f. sound_within ps t f.0 f.1) (each_filter (Fair (Sound ps) ps) (is_before (breaks_off ps)) (turns [] ps) fair)))
+
+-- what is delivered at a turn before the end of the log is there
+pub each_within : (m : ℕ) (ps : List Placed) → Rising m ps → Each (λ (t : Turn). is_before (breaks_off ps) t ≡ true → Each (Within ps) (deliveries t)) (turns [] ps)
+each_within m ps h =
+    let sound = both_hold (Holds ps) (λ (p : Placed). passes (loss [] ps) p.packet ≡ true → is_past ps p ≡ false) ps (each_holds ps) (loss_settled m [] ps h) in
+    weaken (Fair (Sound ps) ps) (λ (t : Turn). is_before (breaks_off ps) t ≡ true → Each (Within ps) (deliveries t)) (turns [] ps)
+    (λ t f e. sound_within ps t f e) (turns_fair (Sound ps) ps [] ps m refl tt sound h)

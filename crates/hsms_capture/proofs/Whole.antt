@@ -2,24 +2,26 @@
 use Rattle.std.proofs.Common.{◌≡◌, ◌<◌, ◌≤◌, ◌+◌, ◌-◌, ◌*◌, ◌∷◌, ℕ, zero, suc, List, [], length, drop, get_or, Option, Some, None, is_some, true, refl, sym, ap, subst, ◌∙◌, ◌^◌, arith, inl, inr}
 use Rattle.std.proofs.lemmas.Bool.{lt-ltb, le-ltb, cases_lt}
 use Rattle.std.proofs.lemmas.Grind.{pow_more}
+use Rattle.std.proofs.lemmas.List.{get_or-drop}
+use Rattle.std.proofs.Math.ListN.{get_or-eq_default}
 use Rattle.std.specs.Option.{option_map}
 use Rattle.hsms_capture.specs.Laws.{IsHeld}
 use Rattle.hsms_capture.proofs.Ends.{end_is, not_past}
 use Rattle.hsms_capture.proofs.Sizes.{is_size}
 use Rattle.hsms_capture.specs.declared.held.Cell.{Cell as HeldCell}
 use Rattle.hsms_capture.specs.declared.held.Cell.TheVariants as held
-use Rattle.hsms_capture.specs.Wire.{End, Cell, syn, octet, fin, Placed, bound, cell_at, cells_up_to, end_of, stream_of}
+use Rattle.hsms_capture.specs.Wire.{End, Cell, Placed, bound, cell_at, cells_up_to, end_of, stream_of}
 use Rattle.hsms_capture.specs.Message.{cells_to, message_size, one_more, size_by}
-use Rattle.hsms_capture.specs.Held.{Store, IsFront, IsStoreOf, fitting, in_piece, further, octet_in, wire_cell}
+use Rattle.hsms_capture.specs.Held.{Store, IsFront, IsPiece, IsStoreOf, fitting, in_piece, piece_from, further, octet_in, wire_cell}
 
-piece_end : (ss : List (Option HeldCell)) (i : ℕ) → get_or ss i None ≡ None → in_piece (drop i ss) ≡ []
+pub piece_end : (ss : List (Option HeldCell)) (i : ℕ) → get_or ss i None ≡ None → in_piece (drop i ss) ≡ []
 piece_end [] zero e = refl
 piece_end [] (suc i) e = refl
 piece_end (None ∷ ss) zero e = refl
 piece_end (Some c ∷ ss) zero e = absurd cc
 piece_end (s ∷ ss) (suc i) e = piece_end ss i e
 
-piece_next : (ss : List (Option HeldCell)) (i : ℕ) (c : HeldCell) → get_or ss i None ≡ Some c → in_piece (drop i ss) ≡ wire_cell c ∷ in_piece (drop (suc i) ss)
+pub piece_next : (ss : List (Option HeldCell)) (i : ℕ) (c : HeldCell) → get_or ss i None ≡ Some c → in_piece (drop i ss) ≡ wire_cell c ∷ in_piece (drop (suc i) ss)
 piece_next [] zero c e = absurd cc
 piece_next [] (suc i) c e = absurd cc
 piece_next (None ∷ ss) zero c e = absurd cc
@@ -208,22 +210,54 @@ front_is s ps d h le =
     ∙ sym (skips s.place (bound ps) k 0 ps d (omega (arith, within)) (λ i lt. let at : i ≡ 0 + i = omega arith in subst (IsHeld ps d) at ((end_is ps d).0 i (omega (arith, lt, le))))
     ∙ ap (cells_up_to k ps d) (omega arith))
 
-pub front_none : (s : Store) (upto : ℕ) → None ≡ message_size (in_piece s.cells) → IsFront s upto None
-front_none s upto e ps d h le =
-    ap (fitting upto s.place) (e ∙ ap message_size (front_is s ps d h le))
+-- what is held from a place on is what is there of the stream
+pub piece_is : (s : Store) (place : ℕ) (ps : List Placed) (d : End) → IsStoreOf s ps d → s.place ≤ place → place ≤ end_of ps d → piece_from s place ≡ drop place (stream_of ps d)
+piece_is s place ps d h low high =
+    front_is (record { place = place; cells = drop (place - s.place) s.cells }) ps d
+    (λ n le.
+    let at : (place - s.place) + (n - place) ≡ n - s.place = omega (arith, le, low) in
+    ap (option_map wire_cell) (get_or-drop (place - s.place) s.cells (n - place) None ∙ ap (λ (i : ℕ). get_or s.cells i None) at) ∙ h n (omega (arith, le, low))) high
 
-pub front_past : (s : Store) (upto count : ℕ) → Some count ≡ message_size (in_piece s.cells) → upto - s.place < count → IsFront s upto None
-front_past s upto count e lt ps d h le =
-    past (omega (arith, lt)) ∙ ap (fitting upto s.place) (e ∙ ap message_size (front_is s ps d h le))
-  where
-    past : upto < s.place + count → None ≡ fitting upto s.place (Some count)
-    past lt = rw (lt-ltb upto (s.place + count) lt) refl
+pub front_none : (s : Store) (place upto first : ℕ) → first ≡ place - s.place → None ≡ message_size (in_piece (drop first s.cells)) → IsPiece s place upto None
+front_none s place upto first f e le =
+    ap (fitting upto place) (e ∙ ap (λ (i : ℕ). message_size (in_piece (drop i s.cells))) f)
 
-pub front_whole : (s : Store) (upto count : ℕ) → Some count ≡ message_size (in_piece s.cells) → count ≤ upto - s.place → IsFront s upto (Some count)
-front_whole s upto count e fits ps d h le =
-    let some = is_size.there (in_piece s.cells) count (sym e) in
-    let more = some.0 in
-    within (omega (arith, fits, more)) ∙ ap (fitting upto s.place) (e ∙ ap message_size (front_is s ps d h le))
+pub front_past : (s : Store) (place upto first count : ℕ) → first ≡ place - s.place → Some count ≡ message_size (in_piece (drop first s.cells)) → upto - place < count
+    → IsPiece s place upto None
+front_past s place upto first count f e lt le =
+    past (omega (arith, lt)) ∙ ap (fitting upto place) (e ∙ ap (λ (i : ℕ). message_size (in_piece (drop i s.cells))) f)
   where
-    within : s.place + count ≤ upto → Some count ≡ fitting upto s.place (Some count)
-    within le = rw (le-ltb upto (s.place + count) le) refl
+    past : upto < place + count → None ≡ fitting upto place (Some count)
+    past lt = rw (lt-ltb upto (place + count) lt) refl
+
+pub front_whole : (s : Store) (place upto first count : ℕ) → first ≡ place - s.place → Some count ≡ message_size (in_piece (drop first s.cells)) → place + count ≤ upto
+    → IsPiece s place upto (Some count)
+front_whole s place upto first count f e fits le =
+    within fits ∙ ap (fitting upto place) (e ∙ ap (λ (i : ℕ). message_size (in_piece (drop i s.cells))) f)
+  where
+    within : place + count ≤ upto → Some count ≡ fitting upto place (Some count)
+    within le = rw (le-ltb upto (place + count) le) refl
+
+pub front_stands : (s : Store) (place upto : ℕ) (count : Option ℕ) → IsPiece s place upto count → IsFront s place upto count
+front_stands s place upto count p low ps d h high =
+    p low ∙ ap (λ (cs : List Cell). fitting upto place (message_size cs)) (piece_is s place ps d h low high)
+
+pub size_some : (count : ℕ) (cs : List Cell) → Some count ≡ message_size cs → 0 < count
+size_some count cs e = (is_size.there cs count (sym e)).0
+
+-- ---- a cell behind an index
+
+pub cell_there : (cells : List (Option HeldCell)) (first index place : ℕ) (c : Option HeldCell) → place ≡ first + index → c ≡ get_or cells place None
+    → c ≡ get_or (drop first cells) index None
+cell_there cells first index place c e f = f ∙ ap (λ (i : ℕ). get_or cells i None) e ∙ sym (get_or-drop first cells index None)
+
+pub cell_far : (cells : List (Option HeldCell)) (first index : ℕ) → length cells ≤ first + index → None ≡ get_or (drop first cells) index None
+cell_far cells first index le = sym (get_or-drop first cells index None ∙ get_or-eq_default cells None le)
+
+-- three octets have a small value
+pub small : (i v : ℕ) → i < 4 → v < 256 ^ i → v < 2 ^ 24
+small zero v lt h = omega (arith, h)
+small (suc zero) v lt h = omega (arith, h)
+small (suc (suc zero)) v lt h = omega (arith, h)
+small (suc (suc (suc zero))) v lt h = omega (arith, h)
+small (suc (suc (suc (suc i)))) v lt h = absurd (omega (arith, lt))

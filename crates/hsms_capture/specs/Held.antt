@@ -101,11 +101,19 @@ abbrev pub fitting : ℕ → ℕ → Option ℕ → Option ℕ
 fitting upto place None = None
 fitting upto place (Some n) = if nat_lt upto (place + n) then None else Some n
 
--- what is cut off the front of the stream, up to a place: so many cells, if a message is there whole and ends by it
-abbrev pub IsFront : Store → ℕ → Option ℕ → Type 0
-IsFront s upto count =
-    (ps : List Placed) (d : End) → IsStoreOf s ps d → s.place ≤ end_of ps d
-    → count ≡ fitting upto s.place (message_size (drop s.place (stream_of ps d)))
+-- the cells in one piece from a place on
+abbrev pub piece_from : Store → ℕ → List Cell
+piece_from s place = in_piece (drop (place - s.place) s.cells)
+
+-- what is cut off the stream in a place, up to another: so many cells, if a message is there whole and ends by it
+abbrev pub IsFront : Store → ℕ → ℕ → Option ℕ → Type 0
+IsFront s place upto count =
+    s.place ≤ place → (ps : List Placed) (d : End) → IsStoreOf s ps d → place ≤ end_of ps d
+    → count ≡ fitting upto place (message_size (drop place (stream_of ps d)))
+
+-- the same by what is held
+abbrev pub IsPiece : Store → ℕ → ℕ → Option ℕ → Type 0
+IsPiece s place upto count = s.place ≤ place → count ≡ fitting upto place (message_size (piece_from s place))
 
 abbrev pub octet_in : HeldCell → Option ℕ
 octet_in held.Syn = None

@@ -3,6 +3,13 @@ pub mod Message
 pub mod Told
 pub mod Known
 pub mod Losses
+pub mod Telling
+pub mod Turning
+pub mod Drained
+pub mod Connected
+pub mod Finished
+pub mod Arrived
+pub mod Standing
 pub mod Held
 pub mod Early
 pub mod Laws

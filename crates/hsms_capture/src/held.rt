@@ -1,9 +1,10 @@
 //! The cells of one direction by their places.
 
-ghost use Rattle.std.specs.Prelude.{◌≡◌, ◌≤◌, ◌<◌, ◌+◌, ◌^◌, ◌⊎◌, None, OnOk, OnErr, drop, get_or, length};
+ghost use Rattle.std.specs.Prelude.{◌≡◌, ◌≤◌, ◌<◌, ◌+◌, ◌^◌, ◌⊎◌, IfSome, IfOk, None, OnOk, OnErr, drop, get_or, length};
 ghost use Rattle.std.specs.VecDeque.{deque_len, deque_capacity};
 ghost use Rattle.hsms_capture.specs.Held.{SameCells, differs, differs_at, flag_of, further, held_of, in_piece, is_another, laid_all, laid_at, octet_in, octets_of, wire_cell};
 ghost use Rattle.hsms_capture.specs.Message.{cells_to, message_size};
+ghost use Rattle.hsms_capture.specs.Telling.{PieceTells};
 ghost use Rattle.hsms_capture.specs.Wire.{same_cell};
 
 use crate::asking::Flags;
@@ -20,6 +21,14 @@ pub enum Cell {
     Syn,
     Octet(u8),
     Fin,
+}
+
+/// What the cells of a message are: its octets; or the SYN; or octets up to a FIN, which ends the stream.
+#[derive(Drop)]
+pub(crate) enum Piece {
+    Message(Vec<u8>),
+    Opens,
+    Closes,
 }
 
 /// Why cells aren't held.
@@ -59,8 +68,9 @@ impl Model for Held {
 }
 
 impl Held {
-    ghost use Rattle.std.specs.Prelude.{◌≡◌, ◌≤◌, ◌-◌, ◌^◌, List, [], max, Err, OnOk, OnErr, length};
-    ghost use Rattle.hsms_capture.specs.Held.{CellIs, EndsFar, IsFront, IsStoreOf, PutsIn, TellsOther};
+    ghost use Rattle.std.specs.Prelude.{◌≡◌, ◌<◌, ◌≤◌, ◌+◌, ◌-◌, ◌^◌, List, [], max, Err, IfOk, IfSome, OnOk, OnErr, length};
+    ghost use Rattle.hsms_capture.specs.Held.{CellIs, EndsFar, IsFront, IsPiece, IsStoreOf, PutsIn, TellsOther};
+    ghost use Rattle.hsms_capture.specs.Telling.{Tells};
     ghost use Rattle.hsms_capture.specs.Wire.{End, Placed};
     ghost use Rattle.hsms_capture.specs.Message.{cells_of};
     ghost use Rattle.hsms_capture.specs.declared.held.HeldFault.TheVariants.{Full};
@@ -133,19 +143,31 @@ impl Held {
         differs_in(&self.cells, self.place, acknowledged, place, flags, octets)
     }
 
-    /// How many cells the message has that begins with the first cell that is held: four octets of a length and as many
-    /// octets as it says; a SYN and a FIN end it. None where it isn't there whole, or ends past a place.
+    /// How many cells the message has that begins in a place: four octets of a length and as many octets as it says; a SYN
+    /// and a FIN end it. None where it isn't there whole, or ends past another place.
     #[tactic(auto, using(crate::proofs::Whole::front_none, crate::proofs::Whole::front_past, crate::proofs::Whole::front_whole))]
-    pub fn front(&self, upto: u64) -> Option<u64>
-        ensures { IsFront self.now upto result }
+    pub fn front(&self, place: u64, upto: u64) -> Option<u64>
+        ensures front { IsFront self.now place upto result }
+        ensures piece { IsPiece self.now place upto result }
+        ensures fits { IfSome result (λ count. (0 < count) × (place + count ≤ upto)) }
     {
-        let Some(count) = size_of(&self.cells) else {
+        let Some(first) = place.checked_sub(self.place) else {
             return None;
         };
-        if upto.saturating_sub(self.place) < count {
+        let Some(count) = size_of(&self.cells, first) else {
+            return None;
+        };
+        if upto.saturating_sub(place) < count {
             return None;
         }
         Some(count)
+    }
+
+    // What so many cells from a place on tell.
+    pub(crate) fn piece(&self, alloc: Global, place: u64, count: u64) -> Result<Piece, AllocError>
+        ensures { IfOk result (λ told. Tells self.now place count told) }
+    {
+        piece_of(alloc, &self.cells, place.saturating_sub(self.place), count)
     }
 
     /// The cell in a place, if it is held.
@@ -158,6 +180,32 @@ impl Held {
         }
         cell_of(&self.cells, place - self.place)
     }
+}
+
+// What so many cells tell that are held in one piece from an index on.
+#[tactic(auto, using(crate::proofs::Pieces::begins, crate::proofs::Pieces::misses, crate::proofs::Pieces::ends))]
+fn piece_of(
+    alloc: Global,
+    cells: &VecDeque<Option<Cell>>,
+    first: u64,
+    count: u64,
+) -> Result<Piece, AllocError>
+    ensures { IfOk result (λ told. PieceTells (drop first cells.now.items) count told) }
+{
+    let mut octets = Vec::new(alloc);
+    let mut index = 0;
+    while index < count {
+        let Some(cell) = cell_behind(cells, first, index) else {
+            return Ok(Piece::Opens);
+        };
+        match cell {
+            Cell::Syn => return Ok(Piece::Opens),
+            Cell::Octet(octet) => octets.push(octet)?,
+            Cell::Fin => return Ok(Piece::Closes),
+        }
+        index += 1;
+    }
+    Ok(Piece::Message(octets))
 }
 
 // The cell at an index, if it is there.
@@ -392,15 +440,16 @@ fn is_same(one: Cell, other: Cell) -> bool
     }
 }
 
-// How many cells the message at the front has, if it is there whole.
+// How many cells the message has that begins at an index, if it is there whole.
 #[tactic(auto, using(crate::proofs::Whole::size_none, crate::proofs::Whole::size_end, crate::proofs::Whole::next_kept, crate::proofs::Whole::size_done, crate::proofs::Whole::size_begins))]
-fn size_of(cells: &VecDeque<Option<Cell>>) -> Option<u64>
-    ensures { result ≡ message_size (in_piece cells.now.items) }
+fn size_of(cells: &VecDeque<Option<Cell>>, first: u64) -> Option<u64>
+    ensures size { result ≡ message_size (in_piece (drop first cells.now.items)) }
+    ensures some { IfSome result (λ count. 0 < count) }
 {
     let mut value = 0;
     let mut index = 0;
     while index < 4 {
-        let Some(cell) = cell_of(cells, index) else {
+        let Some(cell) = cell_behind(cells, first, index) else {
             return None;
         };
         index += 1;
@@ -409,19 +458,20 @@ fn size_of(cells: &VecDeque<Option<Cell>>) -> Option<u64>
         };
         value = value * 256 + u64::from(octet);
     }
-    size_behind(cells, 4, value)
+    size_behind(cells, first, 4, value)
 }
 
 // How many cells stand before an index and, so many of them, behind it, up to one that is no octet.
 #[tactic(auto, using(crate::proofs::Whole::rest_none, crate::proofs::Whole::rest_end, crate::proofs::Whole::rest_next, crate::proofs::Whole::rest_done))]
-fn size_behind(cells: &VecDeque<Option<Cell>>, index: u64, count: u64) -> Option<u64>
+fn size_behind(cells: &VecDeque<Option<Cell>>, first: u64, index: u64, count: u64) -> Option<u64>
     requires { index + count < 2 ^ 63 }
-    ensures { result ≡ further index (cells_to count (in_piece (drop index cells.now.items))) }
+    ensures size { result ≡ further index (cells_to count (in_piece (drop index (drop first cells.now.items)))) }
+    ensures some { IfSome result (λ all. index ≤ all) }
 {
     let mut index = index;
     let mut left = count;
     while left > 0 {
-        let Some(cell) = cell_of(cells, index) else {
+        let Some(cell) = cell_behind(cells, first, index) else {
             return None;
         };
         index += 1;
@@ -431,6 +481,17 @@ fn size_behind(cells: &VecDeque<Option<Cell>>, index: u64, count: u64) -> Option
         left -= 1;
     }
     Some(index)
+}
+
+// The cell so many behind an index, if it is there.
+#[tactic(auto, using(crate::proofs::Whole::cell_there, crate::proofs::Whole::cell_far))]
+fn cell_behind(cells: &VecDeque<Option<Cell>>, first: u64, index: u64) -> Option<Cell>
+    ensures { result ≡ get_or (drop first cells.now.items) index None }
+{
+    let Some(place) = first.checked_add(index) else {
+        return None;
+    };
+    cell_of(cells, place)
 }
 
 // The octet of a cell, if it is one.

@@ -1,7 +1,9 @@
 //! What holds of the definitions, whatever the code does.
 
+ghost use Rattle.hsms_capture.specs.Connected.{LogIsTold};
 ghost use Rattle.hsms_capture.specs.Known.{TurnsGoOn};
 ghost use Rattle.hsms_capture.specs.Laws.{AbsorbGivesTheEnd, EndGoesOn, EndIsEnd, FrontOfCapture, LossIsSure, MessagesHaveSizes, NearestIsFound, NearestIsNear, NothingBehindALoss, OneEnd, QueueGoesOn, QueueStays, QueueTakes, SettledIsSure, StreamsAreKept};
+ghost use Rattle.hsms_capture.specs.Standing.{ToldAtOnce, ToldIsSure};
 
 /// Spans that wait in the order of their places give the end of what is there.
 pub fn waiting_gives_the_end()
@@ -27,6 +29,26 @@ pub fn a_queue_tells_the_turns()
 #[tactic(auto, using(crate::proofs::Stepped::turns_go_on))]
 pub fn segments_tell_the_turns()
     ensures { TurnsGoOn }
+{}
+
+/// What is told turn by turn, as [`Connection`](crate::Connection) tells it, is what the definition tells.
+#[tactic(auto, using(crate::proofs::Tells::tells_all))]
+pub fn turns_tell_the_log()
+    ensures { LogIsTold }
+{}
+
+/// What a [`Connection`](crate::Connection) has told, wherever its capture is cut, is the front of what is told of these
+/// segments and any more.
+#[tactic(auto, using(crate::proofs::Connecting::told_sure))]
+pub fn what_was_told_is_sure()
+    ensures { ToldIsSure }
+{}
+
+/// Nothing is held back where nothing is lacking: where the segments so far have no loss and no copy that differs, all that
+/// is told of them was told at the last of them.
+#[tactic(auto, using(crate::proofs::Connecting::told_at_once))]
+pub fn what_is_sure_is_told()
+    ensures { ToldAtOnce }
 {}
 
 /// The messages of a direction are a front of its stream: none is left out, none made up.

@@ -202,16 +202,140 @@ fn cuts_a_message(rt: &impl Abort, alloc: Global) -> Result<(), HeldFault> {
     };
     let mut held = Held::new(alloc);
     held.put(0, opens, [0, 0, 0, 2, 7].as_slice())?;
-    assert!(rt; held.front(6) == Some(1));
+    assert!(rt; held.front(0, 6) == Some(1));
     held.pass(1);
-    assert!(rt; held.front(7).is_none());
+    assert!(rt; held.front(1, 7).is_none());
     held.put(6, plain, [8].as_slice())?;
-    assert!(rt; held.front(6).is_none());
-    assert!(rt; held.front(7) == Some(6));
+    assert!(rt; held.front(1, 6).is_none());
+    assert!(rt; held.front(1, 7) == Some(6));
+    assert!(rt; held.front(0, 7).is_none());
     Ok(())
 }
 
 #[test]
 fn messages_at_the_front(rt: std::rt::HostRuntime) -> Result<(), HeldFault> {
     cuts_a_message(&rt, rt.alloc())
+}
+
+// A Select.req and a Select.rsp, a Separate and a Linktest.req, without a text.
+const SELECT: [u8; 14] = [0, 0, 0, 10, 255, 255, 0, 0, 0, 1, 0, 0, 0, 1];
+
+const SELECTED: [u8; 14] = [0, 0, 0, 10, 255, 255, 0, 0, 0, 2, 0, 0, 0, 1];
+
+const OTHER: [u8; 14] = [0, 0, 0, 10, 255, 255, 0, 0, 0, 1, 0, 0, 0, 2];
+
+const SEPARATE: [u8; 14] = [0, 0, 0, 10, 255, 255, 0, 0, 0, 9, 0, 0, 0, 2];
+
+const LINKTEST: [u8; 14] = [0, 0, 0, 10, 255, 255, 0, 0, 0, 5, 0, 0, 0, 3];
+
+// A message by its SType, 100 where a connection comes up, 200 where it goes down.
+fn kind_of(event: &Event) -> u8 {
+    match event {
+        Event::Up => 100,
+        Event::Message { octets, .. } => octets.get(9).copied().unwrap_or(0),
+        Event::Down => 200,
+    }
+}
+
+// Both SYNs have the number 1000. What happens is told by packets and kinds.
+fn happens(
+    rt: &impl Abort,
+    alloc: Global,
+    segments: &[(Segment, &[u8])],
+    wanted: &[(u64, u8)],
+    ending: Ending,
+) -> Result<(), ConnectionFault> {
+    let mut connection = Connection::new(alloc, 1000, 1000);
+    let mut told = Vec::new(alloc);
+    for (segment, octets) in segments {
+        connection = connection.take(alloc, *segment, octets, &mut told)?;
+    }
+    let found = connection.end(alloc, &mut told)?;
+    assert!(rt; found == ending);
+    assert!(rt; told.len() == wanted.len());
+    for (happening, (packet, kind)) in told.iter().zip(wanted.iter()) {
+        assert!(rt; happening.packet == *packet);
+        assert!(rt; kind_of(&happening.event) == *kind);
+    }
+    Ok(())
+}
+
+// The SYN and ACK is captured behind the Select.req; what crosses a Separate is left out; a reset ends it.
+#[test]
+fn a_whole_connection(rt: std::rt::HostRuntime) -> Result<(), ConnectionFault> {
+    let none: &[u8] = [].as_slice();
+    let mut resets = sent(Side::Passive, 9, 1029, Some(1029));
+    resets.reset = true;
+    let segments = [
+        (sent(Side::Active, 1, 1000, None), none),
+        (sent(Side::Active, 2, 1001, Some(1001)), none),
+        (sent(Side::Active, 3, 1001, Some(1001)), SELECT.as_slice()),
+        (sent(Side::Passive, 4, 1000, Some(1001)), none),
+        (
+            sent(Side::Passive, 5, 1001, Some(1015)),
+            SELECTED.as_slice(),
+        ),
+        (sent(Side::Active, 6, 1015, Some(1015)), SEPARATE.as_slice()),
+        (
+            sent(Side::Passive, 7, 1015, Some(1015)),
+            LINKTEST.as_slice(),
+        ),
+        (sent(Side::Active, 8, 1029, Some(1029)), none),
+        (resets, none),
+    ];
+    let wanted = [(2, 100), (3, 1), (5, 2), (6, 9), (9, 200)];
+    happens(
+        &rt,
+        rt.alloc(),
+        segments.as_slice(),
+        wanted.as_slice(),
+        Ending::Complete,
+    )
+}
+
+// The reply that packet 5 acknowledges wasn't captured.
+#[test]
+fn a_lost_reply(rt: std::rt::HostRuntime) -> Result<(), ConnectionFault> {
+    let none: &[u8] = [].as_slice();
+    let segments = [
+        (sent(Side::Active, 1, 1000, None), none),
+        (sent(Side::Passive, 2, 1000, Some(1001)), none),
+        (sent(Side::Active, 3, 1001, Some(1001)), none),
+        (sent(Side::Active, 4, 1001, Some(1001)), SELECT.as_slice()),
+        (sent(Side::Active, 5, 1015, Some(1015)), none),
+        (sent(Side::Active, 6, 1015, Some(1015)), SEPARATE.as_slice()),
+    ];
+    let wanted = [(3, 100), (4, 1)];
+    happens(
+        &rt,
+        rt.alloc(),
+        segments.as_slice(),
+        wanted.as_slice(),
+        Ending::Lost(5),
+    )
+}
+
+// Packet 5 brings other octets than packet 4.
+#[test]
+fn a_copy_that_differs(rt: std::rt::HostRuntime) -> Result<(), ConnectionFault> {
+    let none: &[u8] = [].as_slice();
+    let segments = [
+        (sent(Side::Active, 1, 1000, None), none),
+        (sent(Side::Passive, 2, 1000, Some(1001)), none),
+        (sent(Side::Active, 3, 1001, Some(1001)), none),
+        (sent(Side::Active, 4, 1001, Some(1001)), SELECT.as_slice()),
+        (sent(Side::Active, 5, 1001, Some(1001)), OTHER.as_slice()),
+        (
+            sent(Side::Passive, 6, 1001, Some(1015)),
+            SELECTED.as_slice(),
+        ),
+    ];
+    let wanted = [(3, 100), (4, 1)];
+    happens(
+        &rt,
+        rt.alloc(),
+        segments.as_slice(),
+        wanted.as_slice(),
+        Ending::Differs(5),
+    )
 }

@@ -145,6 +145,16 @@ impl Turns {
             passive: self.passive.end,
         }
     }
+
+    /// The places up to which each direction is acknowledged by the turns of the other one.
+    pub fn received(&self) -> BothEnds
+        ensures { result ≡ record { active = self.now.active.acknowledged; passive = self.now.passive.acknowledged } }
+    {
+        BothEnds {
+            active: self.active.acknowledged,
+            passive: self.passive.acknowledged,
+        }
+    }
 }
 
 // Takes a segment of one direction.

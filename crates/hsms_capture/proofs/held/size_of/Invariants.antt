@@ -5,7 +5,7 @@ use Rattle.hsms_capture.proofs.held.size_of.Given as goal
 
 abbrev pub invariant-loop-index : goal.invariant-loop-index
 invariant-loop-index l =
-    (further l.index (size_by (4 - l.index) l.value (in_piece (drop l.index l.cells.items))) ≡ message_size (in_piece l.cells.items))
+    (further l.index (size_by (4 - l.index) l.value (in_piece (drop l.index (drop l.first l.cells.items)))) ≡ message_size (in_piece (drop l.first l.cells.items)))
     × (l.index ≤ 4) × (l.value < 256 ^ l.index)
 
 abbrev pub decreases-loop-index : goal.decreases-loop-index

@@ -1,4 +1,4 @@
-use Rattle.std.proofs.Common.{◌≤◌, ◌⊎◌, ◌≡◌, ◌-◌}
+use Rattle.std.proofs.Common.{◌≤◌, ◌⊎◌, ◌-◌}
 use Rattle.std.specs.VecDeque.{deque_len, deque_capacity}
 use Rattle.hsms_capture.specs.Held.{SameCells}
 use Rattle.hsms_capture.proofs.held.widen.Given as goal

@@ -1,16 +1,27 @@
-use Rattle.std.proofs.Common.{None, Some, subst, arith}
+use Rattle.std.proofs.Common.{None, Some, subst, arith, sym, ◌∙◌}
 use Rattle.hsms_capture.specs.Held.{IsFront, Store}
-use Rattle.hsms_capture.proofs.Whole.{front_past, front_whole}
+use Rattle.hsms_capture.proofs.Whole.{front_none, front_past, front_stands, front_whole}
 use Rattle.hsms_capture.proofs.held.Held.front.Goals as goal
 
-pub returns-then-saturating_sub-count : goal.returns-then-saturating_sub-count
-returns-then-saturating_sub-count c =
-    subst (λ (s : Store). IsFront s c.args.upto None) c.self.view_is
-    (front_past (record { place = c.self.inside.place; cells = c.self.inside.cells.items }) c.args.upto c.in-Some.count
-    (let is = c.in-Some.is in let of = c.size_of.ensures in cc) (omega (arith, c.saturating_sub.ensures, c.if-saturating_sub-count.true)))
+pub returns-in_default-size_of-clause-front : goal.returns-in_default-size_of-clause-front
+returns-in_default-size_of-clause-front c =
+    let s : Store = record { place = c.self.inside.place; cells = c.self.inside.cells.items } in
+    subst (λ (s : Store). IsFront s c.args.place c.args.upto None) c.self.view_is
+    (front_stands s c.args.place c.args.upto None
+    (front_none s c.args.place c.args.upto c.in-Some.first (omega (arith, c.in-Some.ensures)) (sym c.in_default-size_of.is ∙ c.size_of.ensures.size)))
 
-pub returns : goal.returns
-returns c =
-    subst (λ (s : Store). IsFront s c.args.upto (Some c.in-Some.count)) c.self.view_is
-    (front_whole (record { place = c.self.inside.place; cells = c.self.inside.cells.items }) c.args.upto c.in-Some.count
-    (let is = c.in-Some.is in let of = c.size_of.ensures in cc) (omega (arith, c.saturating_sub.ensures, c.if-saturating_sub-count.false)))
+pub returns-then-saturating_sub-count-clause-front : goal.returns-then-saturating_sub-count-clause-front
+returns-then-saturating_sub-count-clause-front c =
+    let s : Store = record { place = c.self.inside.place; cells = c.self.inside.cells.items } in
+    subst (λ (s : Store). IsFront s c.args.place c.args.upto None) c.self.view_is
+    (front_stands s c.args.place c.args.upto None
+    (front_past s c.args.place c.args.upto c.in-Some.first c.in-Some-size_of.count (omega (arith, c.in-Some.ensures)) (sym c.in-Some-size_of.is ∙ c.size_of.ensures.size)
+    (omega (arith, c.saturating_sub.ensures, c.if-saturating_sub-count.true))))
+
+pub returns-clause-front : goal.returns-clause-front
+returns-clause-front c =
+    let s : Store = record { place = c.self.inside.place; cells = c.self.inside.cells.items } in
+    subst (λ (s : Store). IsFront s c.args.place c.args.upto (Some c.in-Some-size_of.count)) c.self.view_is
+    (front_stands s c.args.place c.args.upto (Some c.in-Some-size_of.count)
+    (front_whole s c.args.place c.args.upto c.in-Some.first c.in-Some-size_of.count (omega (arith, c.in-Some.ensures)) (sym c.in-Some-size_of.is ∙ c.size_of.ensures.size)
+    (omega (arith, c.saturating_sub.ensures, c.if-saturating_sub-count.false, c.in-Some-size_of.ensures.some))))

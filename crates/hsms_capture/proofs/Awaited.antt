@@ -1,0 +1,260 @@
+-- What is told, and what is still to be told, whatever follows.
+use Rattle.std.proofs.Common.{◌≡◌, ◌≤◌, ◌++◌, ◌∷◌, ◌||◌, ℕ, Bool, true, false, cond, List, [], length, drop, map, Option, Some, None, refl, sym, ap, subst, ◌∙◌, arith, length-drop}
+use Rattle.std.proofs.lemmas.List.{append-nil, append_assoc, drop-append-le}
+use Rattle.hsms_capture.specs.declared.packet.Side.{Side}
+use Rattle.hsms_capture.specs.declared.packet.Side.TheVariants as side
+use Rattle.hsms_capture.specs.declared.streams.Due.{Due}
+use Rattle.hsms_capture.specs.declared.streams.Stream.{Stream}
+use Rattle.hsms_capture.specs.declared.streams.Streams.{Streams}
+use Rattle.hsms_capture.specs.declared.teller.Teller.{Teller}
+use Rattle.hsms_capture.specs.declared.telling.Happening.{Happening}
+use Rattle.hsms_capture.specs.declared.telling.Telling.{Telling}
+use Rattle.hsms_capture.specs.declared.telling.Telling.TheVariants as telling
+use Rattle.hsms_capture.specs.Wire.{End, active, passive, Cell, Placed, Turn, Left, Both, stream_of, end_of, received, turns, breaks_off, is_before, deliveries}
+use Rattle.hsms_capture.specs.Told.{Told, up, message, down, Entry, entry}
+use Rattle.hsms_capture.specs.Held.{Store, IsStoreOf, piece_from}
+use Rattle.hsms_capture.specs.Known.{end_at}
+use Rattle.hsms_capture.specs.Telling.{Heard, and_heard, hear, hears, entry_as, IsLeft}
+use Rattle.hsms_capture.specs.Turning.{AreLeft, Log, and_log, due_of, is_over, resets, opens, entries_at, delivers, tell_on}
+use Rattle.hsms_capture.specs.Drained.{AreTails, Drains, EachDue, Fits, IsHeldBack, Spans, SpansTo, is_sure, log_by}
+use Rattle.hsms_capture.specs.Connected.{AreRising, AreStreamsOf, IsLimit, IsStreamOf, MayFollow, TellsBefore, Waits, left_at, lefts, log_of, told_dues}
+use Rattle.hsms_capture.proofs.Lists.{Each, weaken}
+use Rattle.hsms_capture.proofs.Longer.{stream_length, stream_more}
+use Rattle.hsms_capture.proofs.Numbered.{before_later}
+use Rattle.hsms_capture.proofs.Turned.{Within, each_within, turns_each}
+use Rattle.hsms_capture.proofs.Whole.{piece_is}
+
+-- ---- turns, and what is kept of them
+
+split : (rest : List Turn) (taken left : List Due) → map due_of rest ≡ taken ++ left
+    → (a : List Turn) × (b : List Turn) × (rest ≡ a ++ b) × (map due_of a ≡ taken) × (map due_of b ≡ left)
+split rest [] left e = ([], rest, refl, refl, e)
+split [] (t ∷ taken) left e = absurd cc
+split (r ∷ rest) (t ∷ taken) left e =
+    let first : due_of r ≡ t = cc in
+    let others : map due_of rest ≡ taken ++ left = cc in
+    let later = split rest taken left others in (
+      r ∷ later.0,
+      later.1,
+      ap (λ (ts : List Turn). r ∷ ts) later.2,
+      ap (λ (ds : List Due). due_of r ∷ ds) later.3 ∙ ap (λ (d : Due). d ∷ taken) first,
+      later.4,
+    )
+
+sure_before : (o : Option ℕ) (t : Turn) → is_sure o t.at.packet ≡ true → is_before o t ≡ true
+sure_before None t e = refl
+sure_before (Some k) t e = e
+
+pub sure_kept : (all : List Placed) (a more : List Turn) → Each (λ (t : Turn). is_sure (breaks_off all) t.at.packet ≡ true) a
+    → told_dues all (a ++ more) ≡ map due_of a ++ told_dues all more
+sure_kept all [] more h = refl
+sure_kept all (t ∷ a) more h = rw (sure_before (breaks_off all) t h.0) (ap (λ (ds : List Due). due_of t ∷ ds) (sure_kept all a more h.1))
+
+each_front : {A : Type 0} (P : A → Type 0) (xs ys : List A) → Each P (xs ++ ys) → Each P xs
+each_front P [] ys h = tt
+each_front P (x ∷ xs) ys h = (h.0, each_front P xs ys h.1)
+
+pub each_back : {A : Type 0} (P : A → Type 0) (xs ys : List A) → Each P (xs ++ ys) → Each P ys
+each_back P [] ys h = h
+each_back P (x ∷ xs) ys h = each_back P xs ys h.1
+
+each_due : (P : Due → Type 0) (ts : List Turn) → Each (λ (t : Turn). P (due_of t)) ts → EachDue P (map due_of ts)
+each_due P [] h = tt
+each_due P (t ∷ ts) h = (h.0, each_due P ts h.1)
+
+due_each : (P : Due → Type 0) (ts : List Turn) → EachDue P (map due_of ts) → Each (λ (t : Turn). P (due_of t)) ts
+due_each P [] h = tt
+due_each P (t ∷ ts) h = (h.0, due_each P ts h.1)
+
+both_each : (P Q R : Turn → Type 0) (ts : List Turn) → ((t : Turn) → P t → Q t → R t) → Each P ts → Each Q ts → Each R ts
+both_each P Q R [] f g h = tt
+both_each P Q R (t ∷ ts) f g h = (f t g.0 h.0, both_each P Q R ts f g.1 h.1)
+
+-- what follows has greater numbers than each turn
+pub follows_turns : (more : Bool) (ps later : List Placed) → MayFollow more ps later → Each (λ (t : Turn). AreRising t.at.packet later) (turns [] ps)
+follows_turns true ps later h = turns_each (λ (p : Placed). AreRising p.packet later) [] ps (before_later 0 ps later h)
+follows_turns false ps later h = turns_each (λ (p : Placed). AreRising p.packet later) [] ps (none ps)
+  where
+    none : (qs : List Placed) → Each (λ (p : Placed). AreRising p.packet later) qs
+    none [] = tt
+    none (q ∷ qs) = (subst (AreRising q.packet) (sym h) tt, none qs)
+
+-- ---- what is held of the streams
+
+abbrev pub ends_by : List Placed → Side → ℕ
+ends_by ps d = end_of ps (end_at d)
+
+span_is : (s : Stream) (ps : List Placed) (d : End) → IsStreamOf s ps d → SpansTo s (end_of ps d)
+span_is s ps d h =
+    let low = h.1 in
+    let high = h.2 in
+    let piece : length (piece_from s.held s.place) ≡ length (drop s.place (stream_of ps d)) = ap length (piece_is s.held s.place ps d h.0 low high) in
+    let dropped = length-drop s.place (stream_of ps d) in
+    let whole = stream_length ps d in
+    (low, high, omega (arith, piece, dropped, whole, high))
+
+spans_are : (s : Streams) (ps : List Placed) → AreStreamsOf s ps → Spans s (ends_by ps)
+spans_are s ps h side.Active = span_is s.active ps active h.0
+spans_are s ps h side.Passive = span_is s.passive ps passive h.1
+
+left_is : (s : Stream) (ps later : List Placed) (d : End) → IsStreamOf s ps d → IsLeft s.held s.place (left_at s.place (stream_of (ps ++ later) d))
+left_is s ps later d h =
+    let more = stream_more ps later d in
+    let whole = stream_length ps d in
+    let high = h.2 in (
+      refl,
+      h.1,
+      (
+        more.0,
+        ap (drop s.place) more.1 ∙ drop-append-le s.place (stream_of ps d) more.0 (omega (arith, whole, high))
+            ∙ ap (λ (cs : List Cell). cs ++ more.0) (sym (piece_is s.held s.place ps d h.0 h.1 high)),
+      ),
+    )
+
+lefts_are : (s : Streams) (ps later : List Placed) → AreStreamsOf s ps → AreLeft s (lefts s (ps ++ later))
+lefts_are s ps later h = (left_is s.active ps later active h.0, left_is s.passive ps later passive h.1)
+
+same_left : (l : Left) (place : ℕ) (cells : List Cell) → l.place ≡ place → l.cells ≡ drop l.place cells → l ≡ left_at place cells
+same_left l place cells e f = by_parts l.place l.cells e f
+  where
+    by_parts : (p : ℕ) (cs : List Cell) → p ≡ place → cs ≡ drop p cells → ◌≡◌ {A = Left} (record { place = p; cells = cs }) (left_at place cells)
+    by_parts p cs e f = rw (f, e) refl
+
+same_both : (a b c d : Left) → a ≡ b → c ≡ d → ◌≡◌ {A = Both} (record { active = a; passive = c }) (record { active = b; passive = d })
+same_both a b c d e f = rw (e, f) refl
+
+tails_are : (s : Streams) (all : List Placed) (c : Both) → AreLeft s c → AreTails (stream_of all active) (stream_of all passive) c → c ≡ lefts s all
+tails_are s all c left tails =
+    same_both c.active (left_at s.active.place (stream_of all active)) c.passive (left_at s.passive.place (stream_of all passive))
+    (same_left c.active s.active.place (stream_of all active) left.0.0 tails.0) (same_left c.passive s.passive.place (stream_of all passive) left.1.0 tails.1)
+
+moved_stream : (s r : Stream) (ps : List Placed) (d : End) → IsStreamOf s ps d → r.held ≡ s.held → SpansTo r (end_of ps d) → IsStreamOf r ps d
+moved_stream s r ps d h e span =
+    (subst (λ (z : Store). IsStoreOf z ps d) (sym e) h.0, span.0, span.1, subst (λ (z : Store). z.place ≤ received ps d) (sym e) h.3)
+
+-- ---- what is delivered is there
+
+fits_by : (ps : List Placed) (at own : Placed) (e : End) (a : Option ℕ)
+    → Each (Within ps) (deliveries (record { at = at; own = record own { from = e; acknowledged = a } })) → Fits (ends_by ps) (due_of (record { at = at; own = record own { from = e; acknowledged = a } }))
+fits_by ps at own active None h = (omega arith, h.0)
+fits_by ps at own active (Some n) h = (h.0, h.1.0)
+fits_by ps at own passive None h = (omega arith, h.0)
+fits_by ps at own passive (Some n) h = (h.0, h.1.0)
+
+fits_is : (ps : List Placed) (t : Turn) → Each (Within ps) (deliveries t) → Fits (ends_by ps) (due_of t)
+fits_is ps t h = fits_by ps t.at t.own t.own.from t.own.acknowledged h
+
+queue_fits : (more : Bool) (limit : Option ℕ) (ps : List Placed) (gone rest : List Turn) → AreRising 0 ps → MayFollow more ps [] → IsLimit more limit ps → turns [] ps ≡ gone ++ rest
+    → EachDue (λ t. is_sure limit t.at ≡ true → Fits (ends_by ps) t) (map due_of rest)
+queue_fits more limit ps gone rest rises none sound whole =
+    each_due (λ t. is_sure limit t.at ≡ true → Fits (ends_by ps) t) rest
+    (weaken (λ (t : Turn). is_before (breaks_off ps) t ≡ true → Each (Within ps) (deliveries t)) (λ (t : Turn). is_sure limit t.at.packet ≡ true → Fits (ends_by ps) (due_of t)) rest
+    (λ t within e. fits_is ps t (within (sure_before (breaks_off ps) t
+    (subst (λ (z : List Placed). is_sure (breaks_off z) t.at.packet ≡ true) (append-nil ps) (sound [] none t.at.packet tt e)))))
+    (each_back (λ (t : Turn). is_before (breaks_off ps) t ≡ true → Each (Within ps) (deliveries t)) gone rest
+    (subst (Each (λ (t : Turn). is_before (breaks_off ps) t ≡ true → Each (Within ps) (deliveries t))) whole (each_within 0 ps rises))))
+
+-- ---- what is told before a limit
+
+-- how things stand then
+abbrev Comes : Bool → Teller → List Due → List Placed → List Happening → Bool → Type 0
+Comes more new left ps later closed =
+    AreStreamsOf new.streams ps
+    × ((gone : List Turn) × (rest : List Turn) × (turns [] ps ≡ gone ++ rest) × (left ≡ map due_of rest)
+    × ((lt : List Placed) → MayFollow more ps lt
+    → log_of (ps ++ lt) ≡ log_by closed later (tell_on new.telling new.opened (lefts new.streams (ps ++ lt)) (told_dues (ps ++ lt) (rest ++ turns ps lt)))))
+
+comes : (limit : Option ℕ) (queue left : List Due) (old new : Teller) (told later : List Happening) (closed : Bool) → Drains limit queue old told left new later closed
+    → (more : Bool) (ps : List Placed) → AreRising 0 ps → MayFollow more ps [] → AreStreamsOf old.streams ps → IsLimit more limit ps → Waits more old queue ps told
+    → Comes more new left ps later closed
+comes limit queue left old new told later closed drains more ps rises none streams sound waits =
+    let gone = waits.0 in
+    let rest = waits.1 in
+    let fits = queue_fits more limit ps gone rest rises none sound waits.2 in
+    let drained = drains (ends_by ps) (spans_are old.streams ps streams) (subst (EachDue (λ t. is_sure limit t.at ≡ true → Fits (ends_by ps) t)) (sym waits.3) fits) in
+    let taken = drained.0 in
+    let parts = split rest taken left (sym waits.3 ∙ drained.1) in
+    let a = parts.0 in
+    let b = parts.1 in
+    let spans = drained.3 in
+    let stores = drained.4 in
+    let has = drained.5 in
+    let sure : Each (λ (t : Turn). is_sure limit t.at.packet ≡ true) a = due_each (λ t. is_sure limit t.at ≡ true) a (subst (EachDue (λ t. is_sure limit t.at ≡ true)) (sym parts.3) drained.2) in (
+      (moved_stream old.streams.active new.streams.active ps active streams.0 stores.0 (spans side.Active), moved_stream old.streams.passive new.streams.passive ps passive streams.1 stores.1 (spans side.Passive)),
+      (
+        gone ++ a,
+        b,
+        waits.2 ∙ ap (λ (ts : List Turn). gone ++ ts) parts.2 ∙ sym (append_assoc gone a b),
+        sym parts.4,
+        λ lt h.
+            let all = ps ++ lt in
+            let rise : Each (λ (t : Turn). AreRising t.at.packet lt) a =
+            each_front (λ (t : Turn). AreRising t.at.packet lt) a b (subst (Each (λ (t : Turn). AreRising t.at.packet lt)) parts.2
+            (each_back (λ (t : Turn). AreRising t.at.packet lt) gone rest (subst (Each (λ (t : Turn). AreRising t.at.packet lt)) waits.2 (follows_turns more ps lt h)))) in
+            let kept = both_each (λ (t : Turn). AreRising t.at.packet lt) (λ (t : Turn). is_sure limit t.at.packet ≡ true) (λ (t : Turn). is_sure (breaks_off all) t.at.packet ≡ true) a
+            (λ t r s. sound lt h t.at.packet r s) rise sure in
+            let others = told_dues all (b ++ turns ps lt) in
+            let dues : told_dues all (rest ++ turns ps lt) ≡ taken ++ others =
+            ap (λ (ts : List Turn). told_dues all (ts ++ turns ps lt)) parts.2 ∙ ap (told_dues all) (append_assoc a b (turns ps lt)) ∙ sure_kept all a (b ++ turns ps lt) kept
+            ∙ ap (λ (ds : List Due). ds ++ others) parts.3 in
+            let hold = has (lefts old.streams all) (lefts_are old.streams ps lt streams) in
+            let c = hold.0 in
+            let same : c ≡ lefts new.streams all = tails_are new.streams all c hold.1 (hold.2 (stream_of all active) (stream_of all passive) (refl, refl)) in
+            waits.4 lt h
+            ∙ ap (λ (ds : List Due). and_log (map entry_as told) (tell_on old.telling old.opened (lefts old.streams all) ds)) dues
+            ∙ hold.3 others
+            ∙ ap (λ (z : Both). log_by closed later (tell_on new.telling new.opened z others)) same,
+      ),
+    )
+
+-- ---- behind the end nothing is told
+
+over_hear : (n : ℕ) (t : Told) → hear telling.Over (entry n t) ≡ record { state = telling.Over; told = [] }
+over_hear n up = refl
+over_hear n (message d octets) = refl
+over_hear n down = refl
+
+pub over_hears : (es : List Entry) → hears telling.Over es ≡ record { state = telling.Over; told = [] }
+unfolding hears
+over_hears [] = refl
+over_hears (e ∷ es) = ap (λ (h : Heard). and_heard h (λ s. hears s es)) (over_hear e.packet e.told) ∙ over_hears es
+
+over_tells : (opened : Bool) (b : Both) (ts : List Due) → tell_on telling.Over opened b ts ≡ record { told = []; closed = true }
+unfolding tell_on
+over_tells opened b [] = refl
+over_tells opened b (t ∷ ts) =
+    by_reset (resets opened t) (hears telling.Over (entries_at opened t b)) (over_hears (entries_at opened t b)) (over_tells (opened || opens t) (delivers t b).both ts)
+  where
+    by_reset : (r : Bool) (h : Heard) → h ≡ record { state = telling.Over; told = [] }
+        → tell_on telling.Over (opened || opens t) (delivers t b).both ts ≡ record { told = []; closed = true }
+        → cond r (record { told = h.told; closed = true }) (and_log h.told (tell_on h.state (opened || opens t) (delivers t b).both ts)) ≡ record { told = []; closed = true }
+    by_reset true h e later = rw e refl
+    by_reset false h e later = rw (e, later) refl
+
+over_log : (t : Telling) (opened : Bool) (b : Both) (ts : List Due) → is_over t ≡ true → tell_on t opened b ts ≡ record { told = []; closed = true }
+over_log (telling.Waiting early) opened b ts e = absurd cc
+over_log (telling.Running s) opened b ts e = absurd cc
+over_log telling.Over opened b ts e = over_tells opened b ts
+
+abbrev closed_log : List Entry → Log
+closed_log es = record { told = es; closed = true }
+
+pub reset_told : (limit : Option ℕ) (queue left : List Due) (old new : Teller) (told later : List Happening) → Drains limit queue old told left new later true
+    → TellsBefore limit old queue told new left later true
+reset_told limit queue left old new told later drains more ps rises none streams sound waits =
+    let h = comes limit queue left old new told later true drains more ps rises none streams sound waits in
+    (h.0, h.1.4)
+
+pub before_told : (limit : Option ℕ) (queue left : List Due) (old new : Teller) (told later : List Happening) (closed : Bool) → Drains limit queue old told left new later false
+    → IsHeldBack limit left → closed ≡ is_over new.telling → TellsBefore limit old queue told new left later closed
+before_told limit queue left old new told later true drains back over more ps rises none streams sound waits =
+    let h = comes limit queue left old new told later false drains more ps rises none streams sound waits in (
+      h.0,
+      λ lt f.
+          h.1.4 lt f
+          ∙ ap (and_log (map entry_as later)) (over_log new.telling new.opened (lefts new.streams (ps ++ lt)) (told_dues (ps ++ lt) (h.1.1 ++ turns ps lt)) (sym over))
+          ∙ ap (λ (es : List Entry). closed_log es) (append-nil (map entry_as later)),
+    )
+before_told limit queue left old new told later false drains back over more ps rises none streams sound waits =
+    let h = comes limit queue left old new told later false drains more ps rises none streams sound waits in
+    (h.0, (h.1, back, sym over))

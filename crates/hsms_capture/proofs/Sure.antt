@@ -1,0 +1,258 @@
+-- What is sure behind a packet, and told.
+use Rattle.std.proofs.Common.{◌≡◌, ◌<◌, ◌≤◌, ◌++◌, ◌∷◌, ℕ, Bool, true, false, cond, nat_lt, List, [], map, min, take, Option, Some, None, Result, Ok, refl, sym, ap, subst, ◌∙◌, arith, inl, inr}
+use Rattle.std.proofs.lemmas.Bool.{ltb-true, lt-ltb, le-ltb, leb-true, cases_lt}
+use Rattle.std.proofs.lemmas.List.{append-nil, append_assoc}
+use Rattle.hsms_capture.specs.declared.ending.Ending.{Ending}
+use Rattle.hsms_capture.specs.declared.ending.Ending.TheVariants as ending
+use Rattle.hsms_capture.specs.declared.losses.BothEnds.{BothEnds}
+use Rattle.hsms_capture.specs.declared.losses.Need.{Need}
+use Rattle.hsms_capture.specs.declared.packet.Packet.{Packet}
+use Rattle.hsms_capture.specs.declared.packet.Side.{Side}
+use Rattle.hsms_capture.specs.declared.reading.Arrival.{Arrival}
+use Rattle.hsms_capture.specs.declared.reading.Reading.{Reading}
+use Rattle.hsms_capture.specs.declared.streams.Due.{Due}
+use Rattle.hsms_capture.specs.declared.streams.Stream.{Stream}
+use Rattle.hsms_capture.specs.declared.teller.Teller.{Teller}
+use Rattle.hsms_capture.specs.declared.telling.Happening.{Happening}
+use Rattle.hsms_capture.specs.Wire.{End, active, passive, Placed, Turn, received, turns, loss, difference, earlier, breaks_off, contradicts, is_behind}
+use Rattle.hsms_capture.specs.Losses.{FindsLoss, IsNext, Watches, WatchesOn, first_of, need_at}
+use Rattle.hsms_capture.specs.Telling.{entry_as}
+use Rattle.hsms_capture.specs.Turning.{Log, and_log, tell_on}
+use Rattle.hsms_capture.specs.Drained.{IsHeldBack, is_sure}
+use Rattle.hsms_capture.specs.Connected.{AreRising, AreStreamsOf, IsClosed, IsLimit, IsStreamOf, TellsBefore, Waits, lefts, told_dues}
+use Rattle.hsms_capture.specs.Finished.{BreaksAt, Finishes, IsEnded, broken, ended_by, EachBehind}
+use Rattle.hsms_capture.specs.Arrived.{Arrives, GoesOn, MayLose, PassesBoth, PassesTo, Reacts, TellsSure, breaks_sure, is_first}
+use Rattle.hsms_capture.proofs.Lists.{Each, weaken}
+use Rattle.hsms_capture.proofs.Numbered.{before_later, difference_more, later_packets, loss_past, passes, passes_both, passes_earlier, rising_behind, rising_lower}
+use Rattle.hsms_capture.proofs.Turned.{turns_each}
+use Rattle.hsms_capture.proofs.Finishing.{behind_each}
+
+-- ---- what stands before the first packet that lacks something
+
+sure_passes : (o : Option ℕ) (n : ℕ) → is_sure o n ≡ true → passes o n ≡ true
+sure_passes None n e = e
+sure_passes (Some k) n e = e
+
+passes_sure : (o : Option ℕ) (n : ℕ) → passes o n ≡ true → is_sure o n ≡ true
+passes_sure None n e = e
+passes_sure (Some k) n e = e
+
+before_loss : (settled rest later : List Placed) (needs : List Need) (n : ℕ) → needs ≡ map need_at rest → AreRising 0 (settled ++ (rest ++ later)) → AreRising n later
+    → passes (first_of needs) n ≡ true → passes (loss settled (rest ++ later)) n ≡ true
+before_loss settled [] later needs n e h r f = loss_past n settled later r
+before_loss settled (q ∷ rest) later needs n e h r f =
+    let first : first_of needs ≡ Some q.packet = ap first_of e in
+    let lt = ltb-true n q.packet (subst (λ (o : Option ℕ). passes o n ≡ true) first f) in
+    loss_past n settled (q ∷ (rest ++ later)) (lt, (rising_behind 0 settled (q ∷ (rest ++ later)) h).1)
+
+sure_limit : (needs : List Need) (ps : List Placed) (d : Option ℕ) → Watches needs ps → difference [] ps ≡ d → IsLimit true (earlier (first_of needs) d) ps
+sure_limit needs ps d w e later h n r sure =
+    let both = passes_both (first_of needs) d n (sure_passes (earlier (first_of needs) d) n sure) in
+    let whole : ps ++ later ≡ w.0 ++ (w.1 ++ later) = ap (λ (z : List Placed). z ++ later) w.2 ∙ append_assoc w.0 w.1 later in
+    let lost : passes (loss [] (ps ++ later)) n ≡ true =
+    subst (λ (o : Option ℕ). passes o n ≡ true) (sym (w.4 later)) (before_loss w.0 w.1 later needs n w.3 (subst (AreRising 0) whole h) r both.0) in
+    let differs = difference_more n [] ps later r (subst (λ (o : Option ℕ). passes o n ≡ true) (sym e) both.1) in
+    passes_sure (breaks_off (ps ++ later)) n (passes_earlier (loss [] (ps ++ later)) (difference [] (ps ++ later)) n lost differs)
+
+-- ---- what is let go
+
+passed : (s r : Stream) (acked : ℕ) (ps : List Placed) (d : End) → acked ≡ received ps d → IsStreamOf s ps d → PassesTo s acked r → IsStreamOf r ps d
+passed s r acked ps d e h p =
+    let at = p.0 in
+    let place = p.1 in
+    let low = h.1 in
+    let high = h.2 in
+    let known = h.3 in
+    (p.2 ps d h.0, omega (arith, at, place, low), omega (arith, at, high), omega (arith, place, known, e))
+
+waits_same : (more : Bool) (t u : Teller) (queue : List Due) (ps : List Placed) (told : List Happening) → u.telling ≡ t.telling → u.opened ≡ t.opened
+    → u.streams.active.place ≡ t.streams.active.place → u.streams.passive.place ≡ t.streams.passive.place → Waits more t queue ps told → Waits more u queue ps told
+waits_same more t u queue ps told telling opened a b w =
+    (w.0, w.1, w.2, w.3, λ later h. w.4 later h ∙ same_log (ps ++ later) (w.1 ++ turns ps later))
+  where
+    same_log : (all : List Placed) (us : List Turn) → and_log (map entry_as told) (tell_on t.telling t.opened (lefts t.streams all) (told_dues all us))
+        ≡ and_log (map entry_as told) (tell_on u.telling u.opened (lefts u.streams all) (told_dues all us))
+    same_log all us = rw (telling, opened, a, b) refl
+
+closed_all : (ps : List Placed) (told : List Happening) → IsClosed true ps told → IsEnded true ps told ending.Complete
+closed_all ps told closed lt h =
+    let log = closed lt h in
+    (sym (ap (λ (l : Log). l.told) log), sym (ap (λ (l : Log). ended_by l.closed (ps ++ lt)) log))
+
+pub nothing_follows : (ps : List Placed) → AreRising 0 ps → AreRising 0 (ps ++ [])
+nothing_follows ps h = subst (AreRising 0) (sym (append-nil ps)) h
+
+pub sure_closed : (acked : BothEnds) (old new : Reading) (next : Teller) (left : List Due) (told later : List Happening) (first limit : Option ℕ) → first ≡ first_of old.losses
+    → limit ≡ earlier first old.differs → TellsBefore limit old.teller old.due.items told next left later true → TellsSure acked old told new later (Some ending.Complete)
+sure_closed acked old new next left told later first limit e f tells ps rises acks r =
+    let is : limit ≡ earlier (first_of old.losses) old.differs = f ∙ ap (λ (o : Option ℕ). earlier o old.differs) e in
+    let sound = subst (λ (o : Option ℕ). IsLimit true o ps) (sym is) (sure_limit old.losses ps old.differs r.0 r.1) in
+    closed_all ps later (tells true ps rises (nothing_follows ps rises) r.2 sound r.3).1
+
+pub sure_open : (acked : BothEnds) (old new : Reading) (next : Teller) (left : List Due) (told later : List Happening) (first limit : Option ℕ) → first ≡ first_of old.losses
+    → limit ≡ earlier first old.differs → TellsBefore limit old.teller old.due.items told next left later false → PassesBoth next.streams acked new.teller.streams
+    → new.losses ≡ old.losses → new.differs ≡ old.differs → new.due.items ≡ left → new.teller.telling ≡ next.telling → new.teller.opened ≡ next.opened
+    → TellsSure acked old told new later None
+sure_open acked old new next left told later first limit e f tells pass losses differs queue telling opened ps rises acks r =
+    let is : limit ≡ earlier (first_of old.losses) old.differs = f ∙ ap (λ (o : Option ℕ). earlier o old.differs) e in
+    let sound = subst (λ (o : Option ℕ). IsLimit true o ps) (sym is) (sure_limit old.losses ps old.differs r.0 r.1) in
+    let h = tells true ps rises (nothing_follows ps rises) r.2 sound r.3 in (
+      (
+        subst (λ (ns : List Need). Watches ns ps) (sym losses) r.0,
+        r.1 ∙ sym differs,
+        (
+          passed next.streams.active new.teller.streams.active acked.active ps active (ap (λ (b : BothEnds). b.active) acks) h.0.0 pass.0,
+          passed next.streams.passive new.teller.streams.passive acked.passive ps passive (ap (λ (b : BothEnds). b.passive) acks) h.0.1 pass.1,
+        ),
+        subst (λ (q : List Due). Waits true new.teller q ps later) (sym queue) (waits_same true next new.teller left ps later telling opened pass.0.0 pass.1.0 h.1.0),
+      ),
+      subst (λ (q : List Due). IsHeldBack (earlier (first_of new.losses) new.differs) q) (sym queue)
+          (subst (λ (o : Option ℕ). IsHeldBack o left) (is ∙ ap (λ (ns : List Need). earlier (first_of ns) old.differs) (sym losses) ∙ ap (earlier (first_of new.losses)) (sym differs)) h.1.1),
+    )
+
+-- ---- where one is lost
+
+loss_among : (P : ℕ → Type 0) (before ps : List Placed) (k : ℕ) → Each (λ (p : Placed). P p.packet) ps → loss before ps ≡ Some k → P k
+unfolding loss
+loss_among P before [] k h e = absurd cc
+loss_among P before (p ∷ ps) k h e = by_test (is_behind (before ++ (p ∷ take 4096 ps)) p) e (loss_among P (before ++ (p ∷ [])) ps k h.1)
+  where
+    by_test : (b : Bool) → cond b (Some p.packet) (loss (before ++ (p ∷ [])) ps) ≡ Some k → (loss (before ++ (p ∷ [])) ps ≡ Some k → P k) → P k
+    by_test true e later = let same : p.packet ≡ k = cc in subst P same h.0
+    by_test false e later = later e
+
+difference_stays : (before xs ys : List Placed) (k : ℕ) → difference before xs ≡ Some k → difference before (xs ++ ys) ≡ Some k
+unfolding difference
+difference_stays before [] ys k e = absurd cc
+difference_stays before (p ∷ ps) ys k e = by_test (contradicts before p.from (received before p.from) p.place p.cells) e (difference_stays (before ++ (p ∷ [])) ps ys k)
+  where
+    by_test : (b : Bool) → cond b (Some p.packet) (difference (before ++ (p ∷ [])) ps) ≡ Some k
+        → (difference (before ++ (p ∷ [])) ps ≡ Some k → difference (before ++ (p ∷ [])) (ps ++ ys) ≡ Some k)
+        → cond b (Some p.packet) (difference (before ++ (p ∷ [])) (ps ++ ys)) ≡ Some k
+    by_test true e later = e
+    by_test false e later = later e
+
+abbrev Breaks : Option ℕ → Option ℕ → ℕ → Option ℕ → Type 0
+Breaks l o k d = (earlier l o ≡ earlier (Some k) d) × (broken (Some k) d ≡ broken l o)
+
+breaks_by : (k : ℕ) (d o : Option ℕ) → ((j : ℕ) → d ≡ Some j → o ≡ Some j) → (d ≡ None → passes o k ≡ true) → Breaks (Some k) o k d
+breaks_by k (Some j) o same past = rw (same j refl) (refl, refl)
+breaks_by k None None same past = (refl, refl)
+breaks_by k None (Some j) same past =
+    let lt = ltb-true k j (past refl) in
+    let least : min k j ≡ k = omega (arith, lt) in
+    rw (least, lt-ltb k j lt) (refl, refl)
+
+not_sure_at : (k : ℕ) (d : Option ℕ) → is_sure (earlier (Some k) d) k ≡ false
+not_sure_at k None = le-ltb k k (omega arith)
+not_sure_at k (Some j) = le-ltb k (min k j) (omega arith)
+
+lost_breaks : (k : ℕ) (d : Option ℕ) (ps : List Placed) → ((later : List Placed) → loss [] (ps ++ later) ≡ Some k) → difference [] ps ≡ d
+    → BreaksAt true (earlier (Some k) d) (broken (Some k) d) ps
+lost_breaks k d ps lost differs later h =
+    let here : loss [] ps ≡ Some k = ap (loss []) (sym (append-nil ps)) ∙ lost [] in
+    let rises : AreRising k later = loss_among (λ n. AreRising n later) [] ps k (before_later 0 ps later h) here in
+    let o = difference [] (ps ++ later) in
+    let by = breaks_by k d o (λ j e. difference_stays [] ps later j (differs ∙ e))
+    (λ e. difference_more k [] ps later rises (subst (λ (z : Option ℕ). passes z k ≡ true) (sym (differs ∙ e)) refl)) in
+    let behind = behind_each (earlier (Some k) d) k (turns ps later) (not_sure_at k d)
+    (turns_each (λ (p : Placed). k ≤ p.packet) ps later
+    (weaken (λ (p : Placed). k < p.packet) (λ (p : Placed). k ≤ p.packet) later (λ p lt. omega (arith, lt)) (later_packets k later rises))) in
+    (ap (λ (l : Option ℕ). earlier l o) (lost later) ∙ by.0, by.1 ∙ ap (λ (l : Option ℕ). broken l o) (sym (lost later)), behind)
+
+pub lost_ends : (k : ℕ) (lost : Option ℕ) (acked : BothEnds) (old new : Reading) (told later : List Happening) (e : Ending) → lost ≡ Some k
+    → Finishes (Some k) old.differs old.teller old.due.items told later e → GoesOn lost acked old told new later (Some e)
+lost_ends k lost acked old new told later e is finishes ps rises acks may differs streams waits =
+    let sure = subst (λ (o : Option ℕ). MayLose o old.losses ps) is may in
+    finishes true ps rises (nothing_follows ps rises) streams (lost_breaks k old.differs ps sure differs) waits
+
+pub none_lost : (lost : Option ℕ) (acked : BothEnds) (old new : Reading) (told later : List Happening) (r : Option Ending) → lost ≡ None
+    → TellsSure acked old told new later r → GoesOn lost acked old told new later r
+none_lost lost acked old new told later r is tells ps rises acks may differs streams waits =
+    tells ps rises acks (subst (λ (o : Option ℕ). MayLose o old.losses ps) is may, differs, streams, waits)
+
+-- ---- where a copy differs, and nothing before it lacks anything
+
+difference_among : (P : ℕ → Type 0) (before ps : List Placed) (k : ℕ) → Each (λ (p : Placed). P p.packet) ps → difference before ps ≡ Some k → P k
+unfolding difference
+difference_among P before [] k h e = absurd cc
+difference_among P before (p ∷ ps) k h e =
+    by_test (contradicts before p.from (received before p.from) p.place p.cells) e (difference_among P (before ++ (p ∷ [])) ps k h.1)
+  where
+    by_test : (b : Bool) → cond b (Some p.packet) (difference (before ++ (p ∷ [])) ps) ≡ Some k → (difference (before ++ (p ∷ [])) ps ≡ Some k → P k) → P k
+    by_test true e later = let same : p.packet ≡ k = cc in subst P same h.0
+    by_test false e later = later e
+
+-- no loss stands before it
+no_loss_before : (first : Option ℕ) (k j : ℕ) → is_first first k ≡ true → j < k → passes first j ≡ true
+no_loss_before None k j e lt = refl
+no_loss_before (Some l) k j e lt = let le = leb-true k l e in lt-ltb j l (omega (arith, le, lt))
+
+breaks_there : (l : Option ℕ) (k : ℕ) → ((j : ℕ) → l ≡ Some j → k ≤ j) → (earlier l (Some k) ≡ Some k) × (broken l (Some k) ≡ ending.Differs k)
+breaks_there None k h = (refl, refl)
+breaks_there (Some j) k h =
+    let le = h j refl in
+    let least : min j k ≡ k = omega (arith, le) in
+    rw (least, le-ltb j k le) (refl, refl)
+
+first_least : (first : Option ℕ) (k : ℕ) → is_first first k ≡ true → (earlier first (Some k) ≡ Some k) × (broken first (Some k) ≡ ending.Differs k)
+first_least first k e = breaks_there first k (λ j f. leb-true k j (subst (λ (o : Option ℕ). is_first o k ≡ true) f e))
+
+differs_breaks : (needs : List Need) (k : ℕ) (ps : List Placed) → Watches needs ps → difference [] ps ≡ Some k → is_first (first_of needs) k ≡ true
+    → BreaksAt true (earlier (first_of needs) (Some k)) (broken (first_of needs) (Some k)) ps
+differs_breaks needs k ps w differs e later h =
+    let all = ps ++ later in
+    let whole : all ≡ w.0 ++ (w.1 ++ later) = ap (λ (z : List Placed). z ++ later) w.2 ∙ append_assoc w.0 w.1 later in
+    let rises : AreRising k later = difference_among (λ n. AreRising n later) [] ps k (before_later 0 ps later h) differs in
+    let stays : difference [] all ≡ Some k = difference_stays [] ps later k differs in
+    let none : (j : ℕ) → loss [] all ≡ Some j → k ≤ j =
+    λ j f. elim (cases_lt j k) [
+      | inr le ↦ le
+      | inl lt ↦
+          let passed = before_loss w.0 w.1 later needs j w.3 (subst (AreRising 0) whole h) (rising_lower j k later (omega (arith, lt)) rises) (no_loss_before (first_of needs) k j e lt) in
+          let here : nat_lt j j ≡ true = subst (λ (o : Option ℕ). passes o j ≡ true) (sym (w.4 later) ∙ f) passed in
+          let less = ltb-true j j here in
+          absurd (omega (arith, less))
+    ] in
+    let there = breaks_there (loss [] all) k none in
+    let first = first_least (first_of needs) k e in
+    let behind = behind_each (Some k) k (turns ps later) (le-ltb k k (omega arith))
+    (turns_each (λ (p : Placed). k ≤ p.packet) ps later
+    (weaken (λ (p : Placed). k < p.packet) (λ (p : Placed). k ≤ p.packet) later (λ p lt. omega (arith, lt)) (later_packets k later rises))) in (
+      ap (earlier (loss [] all)) stays ∙ there.0 ∙ sym first.0,
+      first.1 ∙ sym there.1 ∙ sym (ap (broken (loss [] all)) stays),
+      subst (λ (o : Option ℕ). EachBehind o (turns ps later)) (sym first.0) behind,
+    )
+
+pub differs_ends : (first : Option ℕ) (acked : BothEnds) (old new : Reading) (told later : List Happening) (e : Ending) → first ≡ first_of old.losses
+    → breaks_sure first old.differs ≡ true → Finishes first old.differs old.teller old.due.items told later e → TellsSure acked old told new later (Some e)
+differs_ends first acked old new told later e is sure finishes ps rises acks r = by_differs old.differs refl sure
+  where
+    by_differs : (o : Option ℕ) → old.differs ≡ o → breaks_sure first o ≡ true → IsEnded true ps later e
+    by_differs None f g = absurd cc
+    by_differs (Some k) f g =
+        let breaks = differs_breaks old.losses k ps r.0 (r.1 ∙ f) (subst (λ (o : Option ℕ). is_first o k ≡ true) is g) in
+        finishes true ps rises (nothing_follows ps rises) r.2
+        (subst (λ (o : Option ℕ). BreaksAt true (earlier o old.differs) (broken o old.differs) ps) (sym is)
+        (subst (λ (o : Option ℕ). BreaksAt true (earlier (first_of old.losses) o) (broken (first_of old.losses) o) ps) (sym f) breaks)) r.3
+
+-- ---- a packet comes
+
+may_lose : {E : Type 0} (r : Result (Option ℕ) E) (o : Option ℕ) (from : Side) (packet : Packet) (ends : BothEnds) (old new : List Need) (ps : List Placed) (p : Placed) → r ≡ Ok o
+    → (r ≡ Ok None → WatchesOn old from packet ends new) → ((k : ℕ) → r ≡ Ok (Some k) → FindsLoss old from packet ends k) → Watches old ps
+    → IsNext from packet ends ps p → MayLose o new (ps ++ p ∷ [])
+may_lose r None from packet ends old new ps p is none lost w next = none is ps p w next
+may_lose r (Some k) from packet ends old new ps p is none lost w next = lost k is ps p w next
+
+pub reacts : {E : Type 0} (r : Result (Option ℕ) E) (a : Arrival) (octets : List ℕ) (freed : List Packet) (old mid some new : Reading) (told later : List Happening) (lost : Option ℕ)
+    (end : Option Ending) → Arrives a octets freed old mid → r ≡ Ok lost → (r ≡ Ok None → WatchesOn mid.losses a.from a.packet a.ends some.losses)
+    → ((k : ℕ) → r ≡ Ok (Some k) → FindsLoss mid.losses a.from a.packet a.ends k) → some.differs ≡ mid.differs → some.teller ≡ mid.teller → some.due.items ≡ mid.due.items
+    → GoesOn lost a.received some told new later end → Reacts a octets freed old told new later end
+reacts r a octets freed old mid some new told later lost end arrives is none found differs teller queue goes ps p arrival rises reading =
+    let knows = reading.0 in
+    let got = arrives ps p arrival knows.1 knows.2 in
+    let watched : Watches mid.losses ps = subst (λ (ns : List Need). Watches ns ps) (sym got.2) knows.0 in
+    let may = may_lose r lost a.from a.packet a.ends mid.losses some.losses ps p is none found watched (arrival.1, arrival.0, arrival.5) in
+    goes (ps ++ p ∷ []) rises arrival.6 may (got.0 ∙ sym differs) (subst (λ (t : Teller). AreStreamsOf t.streams (ps ++ p ∷ [])) (sym teller) got.1)
+    (subst (λ (q : List Due). Waits true some.teller q (ps ++ p ∷ []) told) (sym queue)
+    (subst (λ (t : Teller). Waits true t mid.due.items (ps ++ p ∷ []) told) (sym teller) (got.3 told knows.3)))

@@ -1,0 +1,35 @@
+use Rattle.std.proofs.Common.{◌≡◌, List, [], Option, Some, None, subst}
+use Rattle.hsms_capture.specs.declared.packet.Packet.{Packet}
+use Rattle.hsms_capture.specs.Arrived.{Reacts}
+use Rattle.hsms_capture.specs.Known.{GoesOn, seen_of}
+use Rattle.hsms_capture.proofs.Connecting.{followed_none, followed_some}
+use Rattle.hsms_capture.proofs.connection.follow.Goals as goal
+
+pub returns-in_default : goal.returns-in_default
+returns-in_default c =
+    let s = seen_of c.args.segment c.args.octets.now in
+    let freed = c.take.new.told.items in
+    let none : c.in_ok-packet.field-0 ≡ None = (let e = c.in_default.is in cc) in
+    followed_none c.args.turns.now c.take.new.self c.args.reading.now c.args.segment c.args.octets.now c.args.told.now.items freed
+    (subst (λ (o : Option Packet). GoesOn c.args.turns.now [] s c.take.new.self freed o) none
+    (subst (λ (ps : List Packet). GoesOn c.args.turns.now ps s c.take.new.self freed c.in_ok-packet.field-0) c.new-freed.ensures.items c.in_ok-packet.ensures.ok))
+
+pub returns : goal.returns
+returns c =
+    let s = seen_of c.args.segment c.args.octets.now in
+    let freed = c.take.new.told.items in
+    let some : c.in_ok-packet.field-0 ≡ Some c.in-Some.packet = (let e = c.in-Some.is in cc) in
+    followed_some c.args.turns.now c.take.new.self c.args.reading.now c.react.new.reading c.args.segment c.args.octets.now c.args.told.now.items c.react.new.told.items freed
+    c.in-Some.packet c.of_side-acknowledged.result c.received.result c.ends.result c.received-2.result c.in_ok-react.field-0
+    (subst (λ (o : Option Packet). GoesOn c.args.turns.now [] s c.take.new.self freed o) some
+    (subst (λ (ps : List Packet). GoesOn c.args.turns.now ps s c.take.new.self freed c.in_ok-packet.field-0) c.new-freed.ensures.items c.in_ok-packet.ensures.ok))
+    c.received.ensures c.of_side-acknowledged.ensures c.ends.ensures c.received-2.ensures
+    (subst (λ (ps : List Packet). Reacts (record {
+      from = c.args.segment.from;
+      flags = c.args.segment.flags;
+      packet = c.in-Some.packet;
+      acknowledged = c.of_side-acknowledged.result;
+      ends = c.ends.result;
+      received = c.received-2.result;
+    }) c.args.octets.now ps c.args.reading.now c.args.told.now.items c.react.new.reading c.react.new.told.items c.in_ok-react.field-0)
+    (let e = c.deref.ensures.value in cc) c.in_ok-react.ensures)

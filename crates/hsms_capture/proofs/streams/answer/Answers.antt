@@ -1,0 +1,12 @@
+use Rattle.std.proofs.lemmas.Result.{on_ok_weaker}
+use Rattle.hsms_capture.proofs.Bringing.{no_answer, up_heard}
+use Rattle.hsms_capture.proofs.streams.answer.Goals as goal
+
+pub returns-then-answers : goal.returns-then-answers
+returns-then-answers c =
+    on_ok_weaker c.come_up.result
+    (up_heard c.args.due c.args.telling.now c.come_up.new.self c.args.told.now.items c.come_up.new.told.items (let e = c.answers.ensures in let f = c.if-answers.true in cc))
+    c.come_up.ensures
+
+pub returns : goal.returns
+returns c = no_answer c.args.due c.args.telling.now c.args.told.now.items (let e = c.answers.ensures in let f = c.if-answers.false in cc)

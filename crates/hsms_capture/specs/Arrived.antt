@@ -1,0 +1,125 @@
+-- What a reader of a connection knows, and what it does as a packet comes.
+use Rattle.std.specs.Prelude.{◌≡◌, ◌≤◌, ◌⊎◌, ◌++◌, ◌∷◌, Bool, true, false, nat_le, ℕ, min, max, List, [], map, Option, Some, None}
+use Rattle.hsms_capture.specs.declared.ending.Ending.{Ending}
+use Rattle.hsms_capture.specs.declared.losses.BothEnds.{BothEnds}
+use Rattle.hsms_capture.specs.declared.losses.Need.{Need}
+use Rattle.hsms_capture.specs.declared.packet.Packet.{Packet}
+use Rattle.hsms_capture.specs.declared.packet.Side.{Side}
+use Rattle.hsms_capture.specs.declared.reading.Arrival.{Arrival}
+use Rattle.hsms_capture.specs.declared.reading.Reading.{Reading}
+use Rattle.hsms_capture.specs.declared.streams.Due.{Due}
+use Rattle.hsms_capture.specs.declared.streams.Stream.{Stream}
+use Rattle.hsms_capture.specs.declared.streams.Streams.{Streams}
+use Rattle.hsms_capture.specs.declared.telling.Happening.{Happening}
+use Rattle.hsms_capture.specs.Wire.{End, active, passive, Cell, Placed, Turn, received, turns, contradicts, loss, difference, earlier}
+use Rattle.hsms_capture.specs.Held.{Store, IsStoreOf}
+use Rattle.hsms_capture.specs.Known.{packet_of}
+use Rattle.hsms_capture.specs.Losses.{Watches, ends_of, first_of, side_of}
+use Rattle.hsms_capture.specs.Message.{cells_of}
+use Rattle.hsms_capture.specs.Connected.{AreRising, AreStreamsOf, Waits}
+use Rattle.hsms_capture.specs.Drained.{IsHeldBack}
+use Rattle.hsms_capture.specs.Finished.{IsEnded}
+
+-- ---- what is brought
+
+-- these cells, or none where it only asks
+abbrev pub BringsCells : Placed → List Cell → Type 0
+BringsCells p cells = (p.cells ≡ []) ⊎ (p.cells ≡ cells)
+
+abbrev pub Brings : Store → ℕ → Packet → List Cell → Store → Bool → Type 0
+Brings old acknowledged packet cells new differs =
+    (ps : List Placed) (p : Placed) → packet ≡ packet_of p → BringsCells p cells → old.place ≤ acknowledged → IsStoreOf old ps p.from
+    → (differs ≡ contradicts ps p.from acknowledged p.place p.cells) × IsStoreOf new (ps ++ p ∷ []) p.from × (new.place ≡ old.place)
+
+abbrev pub arrival_cells : Arrival → List ℕ → List Cell
+arrival_cells a octets = cells_of a.flags.syn octets a.flags.fin
+
+abbrev pub BringsTo : Streams → Arrival → List ℕ → Streams → Bool → Type 0
+BringsTo old a octets new differs =
+    (ps : List Placed) (p : Placed) → a.packet ≡ packet_of p → a.from ≡ side_of p.from → BringsCells p (arrival_cells a octets) → a.acknowledged ≡ received ps p.from
+    → AreStreamsOf old ps
+    → (differs ≡ contradicts ps p.from (received ps p.from) p.place p.cells) × AreStreamsOf new (ps ++ p ∷ [])
+    × (new.active.place ≡ old.active.place) × (new.passive.place ≡ old.passive.place)
+
+abbrev pub or_differs : Option ℕ → Bool → ℕ → Option ℕ
+or_differs (Some k) b n = Some k
+or_differs None true n = Some n
+or_differs None false n = None
+
+-- what was told and acknowledged is let go
+abbrev pub PassesTo : Stream → ℕ → Stream → Type 0
+PassesTo old acknowledged new =
+    (new.place ≡ old.place) × (new.held.place ≡ max old.held.place (min acknowledged old.place))
+    × ((ps : List Placed) (d : End) → IsStoreOf old.held ps d → IsStoreOf new.held ps d)
+
+-- ---- whose turn is at it
+
+abbrev pub due_as : ℕ → Side → Packet → Due
+due_as at from packet = record { at = at; from = from; packet = packet }
+
+abbrev pub own_packet : Turn → Packet
+own_packet t = packet_of t.own
+
+-- ---- a packet comes
+
+abbrev pub received_of : List Placed → BothEnds
+received_of ps = record { active = received ps active; passive = received ps passive }
+
+abbrev pub IsArrival : Arrival → List ℕ → List Packet → List Placed → Placed → Type 0
+IsArrival a octets freed ps p =
+    (a.packet ≡ packet_of p) × (a.from ≡ side_of p.from) × BringsCells p (arrival_cells a octets) × (a.acknowledged ≡ received ps p.from)
+    × (freed ≡ map own_packet (turns ps (p ∷ []))) × (a.ends ≡ ends_of (ps ++ p ∷ [])) × (a.received ≡ received_of (ps ++ p ∷ []))
+
+-- what is known but for what lacks something
+abbrev pub Arrives : Arrival → List ℕ → List Packet → Reading → Reading → Type 0
+Arrives a octets freed old new =
+    (ps : List Placed) (p : Placed) → IsArrival a octets freed ps p → difference [] ps ≡ old.differs → AreStreamsOf old.teller.streams ps
+    → (difference [] (ps ++ p ∷ []) ≡ new.differs) × AreStreamsOf new.teller.streams (ps ++ p ∷ []) × (new.losses ≡ old.losses)
+    × ((told : List Happening) → Waits true old.teller old.due.items ps told → Waits true new.teller new.due.items (ps ++ p ∷ []) told)
+
+-- what follows from it
+abbrev pub IsKnown : Reading → List Placed → List Happening → Type 0
+IsKnown r ps told = Watches r.losses ps × (difference [] ps ≡ r.differs) × AreStreamsOf r.teller.streams ps × Waits true r.teller r.due.items ps told
+
+-- what is held back stands at a packet that lacks something, or that differs, or behind it
+abbrev pub IsPrompt : Reading → Type 0
+IsPrompt r = IsHeldBack (earlier (first_of r.losses) r.differs) r.due.items
+
+abbrev pub IsReading : Reading → List Placed → List Happening → Type 0
+IsReading r ps told = IsKnown r ps told × IsPrompt r
+
+-- it goes on, or it ended
+abbrev pub Outcome : Reading → List Placed → List Happening → Option Ending → Type 0
+Outcome r ps told None = IsReading r ps told
+Outcome r ps told (Some e) = IsEnded true ps told e
+
+-- what is sure is told
+abbrev pub TellsSure : BothEnds → Reading → List Happening → Reading → List Happening → Option Ending → Type 0
+TellsSure acked old told new later r =
+    (ps : List Placed) → AreRising 0 ps → acked ≡ received_of ps → IsKnown old ps told → Outcome new ps later r
+
+abbrev pub Reacts : Arrival → List ℕ → List Packet → Reading → List Happening → Reading → List Happening → Option Ending → Type 0
+Reacts a octets freed old told new later r =
+    (ps : List Placed) (p : Placed) → IsArrival a octets freed ps p → AreRising 0 (ps ++ p ∷ []) → IsReading old ps told → Outcome new (ps ++ p ∷ []) later r
+
+abbrev pub PassesBoth : Streams → BothEnds → Streams → Type 0
+PassesBoth old acked new = PassesTo old.active acked.active new.active × PassesTo old.passive acked.passive new.passive
+
+-- what is known where a packet may be lost
+abbrev pub MayLose : Option ℕ → List Need → List Placed → Type 0
+MayLose None needs ps = Watches needs ps
+MayLose (Some k) needs ps = (later : List Placed) → loss [] (ps ++ later) ≡ Some k
+
+abbrev pub GoesOn : Option ℕ → BothEnds → Reading → List Happening → Reading → List Happening → Option Ending → Type 0
+GoesOn lost acked old told new later r =
+    (ps : List Placed) → AreRising 0 ps → acked ≡ received_of ps → MayLose lost old.losses ps → difference [] ps ≡ old.differs → AreStreamsOf old.teller.streams ps
+    → Waits true old.teller old.due.items ps told → Outcome new ps later r
+
+-- a copy differs, and no packet before it lacks anything
+abbrev pub is_first : Option ℕ → ℕ → Bool
+is_first None k = true
+is_first (Some j) k = nat_le k j
+
+abbrev pub breaks_sure : Option ℕ → Option ℕ → Bool
+breaks_sure first None = false
+breaks_sure first (Some k) = is_first first k

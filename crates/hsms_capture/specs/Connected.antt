@@ -1,0 +1,85 @@
+-- What a reader of a connection knows in the midst of a capture, what it has told, and what is still to be told.
+use Rattle.std.specs.Prelude.{◌≡◌, ◌<◌, ◌≤◌, ◌++◌, ◌∷◌, Bool, true, false, ℕ, List, [], drop, map, filter, Option, None}
+use Rattle.hsms_capture.specs.declared.streams.Due.{Due}
+use Rattle.hsms_capture.specs.declared.streams.Stream.{Stream}
+use Rattle.hsms_capture.specs.declared.streams.Streams.{Streams}
+use Rattle.hsms_capture.specs.declared.teller.Teller.{Teller}
+use Rattle.hsms_capture.specs.declared.telling.Happening.{Happening}
+use Rattle.hsms_capture.specs.declared.telling.Telling.TheVariants as telling
+use Rattle.hsms_capture.specs.Wire.{End, active, passive, Cell, Placed, Turn, Left, Both, both_streams, stream_of, end_of, received, turns, breaks_off, is_before}
+use Rattle.hsms_capture.specs.Told.{tells}
+use Rattle.hsms_capture.specs.Held.{IsStoreOf}
+use Rattle.hsms_capture.specs.Telling.{entry_as}
+use Rattle.hsms_capture.specs.Turning.{Log, and_log, due_of, is_over, tell_on}
+use Rattle.hsms_capture.specs.Drained.{IsHeldBack, is_sure}
+
+-- ---- what all packets tell, turn by turn
+
+abbrev pub told_dues : List Placed → List Turn → List Due
+told_dues all ts = map due_of (filter (is_before (breaks_off all)) ts)
+
+abbrev pub log_of : List Placed → Log
+log_of all = tell_on (telling.Waiting None) false (both_streams all) (told_dues all (turns [] all))
+
+-- ---- in the midst of it
+
+abbrev pub left_at : ℕ → List Cell → Left
+left_at place cells = record { place = place; cells = drop place cells }
+
+-- what is left of the streams, where so much was told
+abbrev pub lefts : Streams → List Placed → Both
+lefts s all = record { active = left_at s.active.place (stream_of all active); passive = left_at s.passive.place (stream_of all passive) }
+
+abbrev pub IsStreamOf : Stream → List Placed → End → Type 0
+IsStreamOf s ps d = IsStoreOf s.held ps d × (s.held.place ≤ s.place) × (s.place ≤ end_of ps d) × (s.held.place ≤ received ps d)
+
+abbrev pub AreStreamsOf : Streams → List Placed → Type 0
+AreStreamsOf s ps = IsStreamOf s.active ps active × IsStreamOf s.passive ps passive
+
+-- packets whose numbers rise from one on
+abbrev pub AreRising : ℕ → List Placed → Type 0
+AreRising last [] = Unit {0}
+AreRising last (p ∷ ps) = (last < p.packet) × AreRising p.packet ps
+
+-- any packets may follow whose numbers rise, or none
+abbrev pub MayFollow : Bool → List Placed → List Placed → Type 0
+MayFollow true ps later = AreRising 0 (ps ++ later)
+MayFollow false ps later = later ≡ []
+
+-- the log of all is what was told, and what the turns tell that are still to come
+abbrev pub Continues : Teller → List Turn → List Placed → List Happening → List Placed → Type 0
+Continues t rest ps told later =
+    log_of (ps ++ later)
+    ≡ and_log (map entry_as told) (tell_on t.telling t.opened (lefts t.streams (ps ++ later)) (told_dues (ps ++ later) (rest ++ turns ps later)))
+
+abbrev pub Waits : Bool → Teller → List Due → List Placed → List Happening → Type 0
+Waits more t queue ps told =
+    (gone : List Turn) × (rest : List Turn) × (turns [] ps ≡ gone ++ rest) × (queue ≡ map due_of rest)
+    × ((later : List Placed) → MayFollow more ps later → Continues t rest ps told later)
+
+-- whatever follows, what stands before a limit stands before the end of the log
+abbrev pub IsLimit : Bool → Option ℕ → List Placed → Type 0
+IsLimit more limit ps =
+    (later : List Placed) → MayFollow more ps later → (n : ℕ) → AreRising n later → is_sure limit n ≡ true → is_sure (breaks_off (ps ++ later)) n ≡ true
+
+-- it ended, whatever follows
+abbrev pub IsClosed : Bool → List Placed → List Happening → Type 0
+IsClosed more ps told = (later : List Placed) → MayFollow more ps later → log_of (ps ++ later) ≡ record { told = map entry_as told; closed = true }
+
+-- it goes on
+abbrev pub IsOpen : Bool → Option ℕ → Teller → List Due → List Placed → List Happening → Type 0
+IsOpen more limit t queue ps told = Waits more t queue ps told × IsHeldBack limit queue × (is_over t.telling ≡ false)
+
+abbrev pub by_closed : Bool → Type 0 → Type 0 → Type 0
+by_closed true A B = A
+by_closed false A B = B
+
+-- what stands before a limit is told, up to the end of the connection
+abbrev pub TellsBefore : Option ℕ → Teller → List Due → List Happening → Teller → List Due → List Happening → Bool → Type 0
+TellsBefore limit old queue told new left later closed =
+    (more : Bool) (ps : List Placed) → AreRising 0 ps → MayFollow more ps [] → AreStreamsOf old.streams ps → IsLimit more limit ps → Waits more old queue ps told
+    → AreStreamsOf new.streams ps × by_closed closed (IsClosed more ps later) (IsOpen more limit new left ps later)
+
+-- A log tells what is told turn by turn, where the numbers of packets rise.
+abbrev pub LogIsTold : Type 0
+LogIsTold = (ps : List Placed) → AreRising 0 ps → (log_of ps).told ≡ tells ps

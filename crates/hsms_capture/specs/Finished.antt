@@ -1,0 +1,49 @@
+-- How what is told of a connection ends.
+use Rattle.std.specs.Prelude.{◌≡◌, ◌++◌, ◌∷◌, Bool, true, false, nat_lt, if◌then◌else◌, ℕ, List, [], map, Option, Some, None}
+use Rattle.hsms_capture.specs.declared.ending.Ending.{Ending}
+use Rattle.hsms_capture.specs.declared.ending.Ending.TheVariants as ending
+use Rattle.hsms_capture.specs.declared.streams.Due.{Due}
+use Rattle.hsms_capture.specs.declared.teller.Teller.{Teller}
+use Rattle.hsms_capture.specs.declared.telling.Happening.{Happening}
+use Rattle.hsms_capture.specs.Wire.{Placed, Turn, turns, loss, difference, earlier, breaks_off}
+use Rattle.hsms_capture.specs.Telling.{entry_as}
+use Rattle.hsms_capture.specs.Drained.{is_sure}
+use Rattle.hsms_capture.specs.Connected.{AreRising, AreStreamsOf, MayFollow, Waits, log_of}
+
+-- by the loss and the copy that differs, if there are some: the first of both
+abbrev pub broken : Option ℕ → Option ℕ → Ending
+broken None None = ending.Complete
+broken (Some j) None = ending.Lost j
+broken None (Some k) = ending.Differs k
+broken (Some j) (Some k) = if nat_lt j k then ending.Lost j else ending.Differs k
+
+-- whole, where the connection went down before that
+abbrev pub ended_by : Bool → List Placed → Ending
+ended_by true ps = ending.Complete
+ended_by false ps = broken (loss [] ps) (difference [] ps)
+
+abbrev pub ended : List Placed → Ending
+ended ps = ended_by (log_of ps).closed ps
+
+-- ---- what code does
+
+abbrev pub EachBehind : Option ℕ → List Turn → Type 0
+EachBehind limit [] = Unit {0}
+EachBehind limit (t ∷ ts) = (is_sure limit t.at.packet ≡ false) × EachBehind limit ts
+
+-- whatever follows, it breaks off at a packet, and what follows stands behind it
+abbrev pub BreaksAt : Bool → Option ℕ → Ending → List Placed → Type 0
+BreaksAt more limit e ps =
+    (later : List Placed) → MayFollow more ps later
+    → (breaks_off (ps ++ later) ≡ limit) × (e ≡ broken (loss [] (ps ++ later)) (difference [] (ps ++ later))) × EachBehind limit (turns ps later)
+
+-- whatever follows, this is all that is told, and how it ends
+abbrev pub IsEnded : Bool → List Placed → List Happening → Ending → Type 0
+IsEnded more ps told e =
+    (later : List Placed) → MayFollow more ps later → (map entry_as told ≡ (log_of (ps ++ later)).told) × (e ≡ ended (ps ++ later))
+
+-- where it breaks off by a loss and a copy, all before that is told
+abbrev pub Finishes : Option ℕ → Option ℕ → Teller → List Due → List Happening → List Happening → Ending → Type 0
+Finishes lost differs old queue told later e =
+    (more : Bool) (ps : List Placed) → AreRising 0 ps → MayFollow more ps [] → AreStreamsOf old.streams ps → BreaksAt more (earlier lost differs) (broken lost differs) ps
+    → Waits more old queue ps told → IsEnded more ps later e

@@ -1,0 +1,58 @@
+-- A connection in the midst of a capture: what it has told is the front of what the definition tells, and what is left
+-- follows from what it knows.
+use Rattle.std.specs.Prelude.{◌≡◌, ◌++◌, ◌∷◌, true, ℕ, List, [], map, Option, Some, None}
+use Rattle.hsms_capture.specs.declared.connection.Connection.{Connection}
+use Rattle.hsms_capture.specs.declared.ending.Ending.{Ending}
+use Rattle.hsms_capture.specs.declared.losses.BothEnds.{BothEnds}
+use Rattle.hsms_capture.specs.declared.packet.Segment.{Segment}
+use Rattle.hsms_capture.specs.declared.packet.Side.{Side}
+use Rattle.hsms_capture.specs.declared.packet.Side.TheVariants as side
+use Rattle.hsms_capture.specs.declared.reading.Reading.{Reading}
+use Rattle.hsms_capture.specs.declared.telling.Happening.{Happening}
+use Rattle.hsms_capture.specs.Wire.{End, Seen, places, loss, difference}
+use Rattle.hsms_capture.specs.Known.{Known, known, seen_of}
+use Rattle.hsms_capture.specs.Laws.{AreNumbered}
+use Rattle.hsms_capture.specs.Telling.{entry_as}
+use Rattle.hsms_capture.specs.Told.{Entry, tells}
+use Rattle.hsms_capture.specs.Finished.{IsEnded, ended}
+use Rattle.hsms_capture.specs.Arrived.{IsReading}
+
+abbrev pub of_side : BothEnds → Side → ℕ
+of_side b side.Active = b.active
+of_side b side.Passive = b.passive
+
+-- behind these segments: it is known what follows from them, or how it ended
+abbrev pub StandsAs : Option Ending → Known → Reading → List Happening → (End → ℕ) → List Seen → Type 0
+StandsAs None turns reading told base seen = (turns ≡ known base (places base [] seen)) × IsReading reading (places base [] seen) told
+StandsAs (Some e) turns reading told base seen = IsEnded true (places base [] seen) told e
+
+abbrev pub Stands : Connection → List Happening → (End → ℕ) → List Seen → Type 0
+Stands c told base seen = StandsAs c.ending c.turns c.reading told base seen
+
+abbrev pub Followed : Known → Reading → Segment → List ℕ → List Happening → Known → Reading → List Happening → Option Ending → Type 0
+Followed old reading segment octets told new later_reading later r =
+    (base : End → ℕ) (before : List Seen) → AreNumbered 0 (before ++ seen_of segment octets ∷ []) → StandsAs None old reading told base before
+    → StandsAs r new later_reading later base (before ++ seen_of segment octets ∷ [])
+
+-- one segment more, where the numbers of packets rise
+abbrev pub TakesOn : Connection → Seen → List Happening → Connection → List Happening → Type 0
+TakesOn old s told new later =
+    (base : End → ℕ) (before : List Seen) → AreNumbered 0 (before ++ s ∷ []) → Stands old told base before → Stands new later base (before ++ s ∷ [])
+
+-- all that the definition tells of these segments is told, and how it ends
+abbrev pub EndsAs : Connection → List Happening → List Happening → Ending → Type 0
+EndsAs c told later e =
+    (base : End → ℕ) (seen : List Seen) → AreNumbered 0 seen → Stands c told base seen
+    → (map entry_as later ≡ tells (places base [] seen)) × (e ≡ ended (places base [] seen))
+
+-- What was told at any time is the front of what is told of these segments and any more.
+abbrev pub ToldIsSure : Type 0
+ToldIsSure =
+    (c : Connection) (told : List Happening) (base : End → ℕ) (seen later : List Seen) → Stands c told base seen → AreNumbered 0 (seen ++ later)
+    → (rest : List Entry) × (tells (places base [] (seen ++ later)) ≡ map entry_as told ++ rest)
+
+-- Where these segments have no loss and no copy that differs, all that is told of them was told at the last of them.
+abbrev pub ToldAtOnce : Type 0
+ToldAtOnce =
+    (c : Connection) (told : List Happening) (base : End → ℕ) (seen : List Seen) → Stands c told base seen → AreNumbered 0 seen
+    → loss [] (places base [] seen) ≡ None → difference [] (places base [] seen) ≡ None → map entry_as told ≡ tells (places base [] seen)

@@ -1,0 +1,192 @@
+//! One connection: its segments are taken one after another, and what happens on it is told.
+
+ghost use Rattle.std.specs.Prelude.{◌≡◌, IfOk, OnOk};
+ghost use Rattle.hsms_capture.specs.Standing.{Followed, of_side};
+
+use crate::ending::{Ending, finish};
+use crate::held::{Held, HeldFault};
+use crate::losses::{BothEnds, Losses};
+use crate::packet::{Segment, Side};
+use crate::reading::{Arrival, Reading, react};
+use crate::streams::{Stream, Streams};
+use crate::teller::Teller;
+use crate::telling::{Happening, Telling};
+use crate::turns::{Turns, TurnsFault};
+use std::alloc::{AllocError, Global};
+use std::collections::VecDeque;
+
+/// Why a connection can't be followed further.
+#[derive(Clone, Copy, Debug, PartialEq, Eq)]
+pub enum ConnectionFault {
+    /// A stream has come past 2^62 octets.
+    Far,
+    /// More than 2^26 octets of a direction wait.
+    Full,
+    /// There is no memory.
+    Memory,
+}
+
+impl From<AllocError> for ConnectionFault {
+    ghost use Rattle.std.specs.Prelude.{◌≡◌};
+    ghost use Rattle.hsms_capture.specs.declared.connection.ConnectionFault.TheVariants.{Memory};
+
+    ghost from_gives = { λ _ f. f ≡ Memory };
+
+    fn from(_: AllocError) -> ConnectionFault {
+        ConnectionFault::Memory
+    }
+}
+
+impl From<TurnsFault> for ConnectionFault {
+    fn from(fault: TurnsFault) -> ConnectionFault {
+        match fault {
+            TurnsFault::Far => ConnectionFault::Far,
+            TurnsFault::Memory => ConnectionFault::Memory,
+        }
+    }
+}
+
+impl From<HeldFault> for ConnectionFault {
+    fn from(fault: HeldFault) -> ConnectionFault {
+        match fault {
+            HeldFault::Full => ConnectionFault::Full,
+            HeldFault::Memory => ConnectionFault::Memory,
+        }
+    }
+}
+
+/// A connection that begins with a SYN, in the midst of a capture. Contracts see what `Stands` says of it.
+#[derive(Drop)]
+pub struct Connection {
+    turns: Turns,
+    reading: Reading,
+    ending: Option<Ending>,
+}
+
+impl Connection {
+    ghost use Rattle.std.specs.Prelude.{[], IfOk};
+    ghost use Rattle.hsms_capture.specs.Standing.{EndsAs, Stands, TakesOn};
+    ghost use Rattle.hsms_capture.specs.Known.{bases, seen_of};
+
+    /// A connection of which nothing is read yet, by the numbers of both SYNs. Takes no memory.
+    pub fn new(alloc: Global, active: u32, passive: u32) -> Connection
+        ensures { Stands result [] (bases active passive) [] }
+    {
+        let teller = Teller {
+            streams: Streams {
+                active: Stream {
+                    held: Held::new(alloc),
+                    place: 0,
+                },
+                passive: Stream {
+                    held: Held::new(alloc),
+                    place: 0,
+                },
+            },
+            telling: Telling::Waiting(None),
+            opened: false,
+        };
+        let reading = Reading {
+            losses: Losses::new(alloc),
+            teller,
+            due: VecDeque::new(alloc),
+            differs: None,
+        };
+        Connection {
+            turns: Turns::new(alloc, active, passive),
+            reading,
+            ending: None,
+        }
+    }
+
+    /// Takes a segment with its octets, and tells what happens as soon as that is sure.
+    ///
+    /// # Errors
+    ///
+    /// `Memory`; `Far` where a stream has come past 2^62 octets; `Full` where more than 2^26 octets of a direction wait.
+    /// The connection is gone then.
+    pub fn take(
+        self,
+        alloc: Global,
+        segment: Segment,
+        octets: &[u8],
+        told: &mut Vec<Happening>,
+    ) -> Result<Connection, ConnectionFault>
+        ensures { IfOk result (λ next. TakesOn self (seen_of segment octets.now) told.old.items next told.new.items) }
+    {
+        let mut connection = self;
+        if connection.ending.is_some() {
+            return Ok(connection);
+        }
+        connection.ending = follow(
+            alloc,
+            &mut connection.turns,
+            &mut connection.reading,
+            segment,
+            octets,
+            told,
+        )?;
+        Ok(connection)
+    }
+
+    /// Tells what is left where no segment follows, and how what is told ends.
+    ///
+    /// # Errors
+    ///
+    /// `Memory`.
+    pub fn end(self, alloc: Global, told: &mut Vec<Happening>) -> Result<Ending, ConnectionFault>
+        ensures { IfOk result (λ ending. EndsAs self told.old.items told.new.items ending) }
+    {
+        let mut connection = self;
+        if let Some(ending) = connection.ending {
+            return Ok(ending);
+        }
+        let reading = &mut connection.reading;
+        let lost = reading.losses.first();
+        Ok(finish(
+            alloc,
+            &mut reading.teller,
+            &mut reading.due,
+            lost,
+            reading.differs,
+            told,
+        )?)
+    }
+}
+
+// What is said of one end.
+fn of_side(both: BothEnds, side: Side) -> u64
+    ensures { result ≡ of_side both side }
+{
+    match side {
+        Side::Active => both.active,
+        Side::Passive => both.passive,
+    }
+}
+
+// Takes a segment where it isn't ended yet.
+fn follow(
+    alloc: Global,
+    turns: &mut Turns,
+    reading: &mut Reading,
+    segment: Segment,
+    octets: &[u8],
+    told: &mut Vec<Happening>,
+) -> Result<Option<Ending>, ConnectionFault>
+    ensures { IfOk result (λ r. Followed turns.old reading.old segment octets.now told.old.items turns.new reading.new told.new.items r) }
+{
+    let acknowledged = of_side(turns.received(), segment.from);
+    let mut freed = Vec::new(alloc);
+    let Some(packet) = turns.take(segment, octets, &mut freed)? else {
+        return Ok(None);
+    };
+    let arrival = Arrival {
+        from: segment.from,
+        flags: segment.flags,
+        packet,
+        acknowledged,
+        ends: turns.ends(),
+        received: turns.received(),
+    };
+    Ok(react(alloc, reading, arrival, octets, &freed, told)?)
+}

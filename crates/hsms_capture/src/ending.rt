@@ -1,0 +1,78 @@
+//! How what is told of a connection ends.
+
+ghost use Rattle.std.specs.Prelude.{◌≡◌, Some, IfOk};
+ghost use Rattle.hsms_capture.specs.Finished.{Finishes, broken};
+ghost use Rattle.hsms_capture.specs.Wire.{earlier};
+
+use crate::streams::Due;
+use crate::teller::{Teller, tell_before};
+use crate::telling::Happening;
+use std::alloc::{AllocError, Global};
+use std::collections::VecDeque;
+
+/// How what is told of a connection ends.
+#[derive(Clone, Copy, Debug, PartialEq, Eq)]
+pub enum Ending {
+    /// All of it was told.
+    Complete,
+    /// The capture lost something: from the packet with this number on nothing is told.
+    Lost(u64),
+    /// The packet with this number brings other octets than an earlier one: from it on nothing is told.
+    Differs(u64),
+}
+
+// The lesser of two packets, if there are some.
+pub(crate) fn least(one: Option<u64>, other: Option<u64>) -> Option<u64>
+    ensures { result ≡ earlier one other }
+{
+    match one {
+        Some(first) => match other {
+            Some(second) => Some(first.min(second)),
+            None => Some(first),
+        },
+        None => other,
+    }
+}
+
+// How what is told ends that breaks off at a loss or a copy that differs.
+fn broken(lost: Option<u64>, differs: Option<u64>) -> Ending
+    ensures { result ≡ broken lost differs }
+{
+    match lost {
+        Some(packet) => match differs {
+            Some(other) => first_of(packet, other),
+            None => Ending::Lost(packet),
+        },
+        None => match differs {
+            Some(other) => Ending::Differs(other),
+            None => Ending::Complete,
+        },
+    }
+}
+
+// The same where there are both.
+fn first_of(lost: u64, differs: u64) -> Ending
+    ensures { result ≡ broken (Some lost) (Some differs) }
+{
+    if lost < differs {
+        return Ending::Lost(lost);
+    }
+    Ending::Differs(differs)
+}
+
+/// Tells what is left to be told before a loss and a copy that differs, and how it ends.
+pub(crate) fn finish(
+    alloc: Global,
+    teller: &mut Teller,
+    due: &mut VecDeque<Due>,
+    lost: Option<u64>,
+    differs: Option<u64>,
+    told: &mut Vec<Happening>,
+) -> Result<Ending, AllocError>
+    ensures { IfOk result (λ e. Finishes lost differs teller.old due.old.items told.old.items told.new.items e) }
+{
+    if tell_before(alloc, teller, due, least(lost, differs), told)? {
+        return Ok(Ending::Complete);
+    }
+    Ok(broken(lost, differs))
+}

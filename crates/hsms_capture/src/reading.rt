@@ -1,0 +1,244 @@
+//! What is known of a connection in the midst of a capture, and what is told as a packet comes.
+
+ghost use Rattle.std.specs.Prelude.{◌≡◌, ◌++◌, IfOk, OnOk, map};
+ghost use Rattle.hsms_capture.specs.Arrived.{Arrives, Brings, BringsTo, GoesOn, PassesBoth, PassesTo, Reacts, TellsSure, breaks_sure, due_as, or_differs};
+ghost use Rattle.hsms_capture.specs.Message.{cells_of};
+
+use crate::asking::Flags;
+use crate::ending::{Ending, finish, least};
+use crate::held::{Held, HeldFault};
+use crate::losses::{BothEnds, Losses};
+use crate::packet::{Packet, Side};
+use crate::streams::{Due, Stream, Streams};
+use crate::teller::{Teller, tell_before};
+use crate::telling::Happening;
+use std::alloc::{AllocError, Global};
+use std::collections::VecDeque;
+
+/// What is known of a connection, but for the turns of its packets.
+#[derive(Drop)]
+pub(crate) struct Reading {
+    pub losses: Losses,
+    pub teller: Teller,
+    pub due: VecDeque<Due>,
+    pub differs: Option<u64>,
+}
+
+/// A packet that comes: the end that sent it, what is set in it, its place, what of that end was acknowledged before it,
+/// and behind it the ends of both directions and what is acknowledged of them.
+#[derive(Clone, Copy)]
+pub(crate) struct Arrival {
+    pub from: Side,
+    pub flags: Flags,
+    pub packet: Packet,
+    pub acknowledged: u64,
+    pub ends: BothEnds,
+    pub received: BothEnds,
+}
+
+// Holds what a packet brings, and tells whether it differs from what was held.
+fn bring(
+    held: &mut Held,
+    acknowledged: u64,
+    packet: Packet,
+    flags: Flags,
+    octets: &[u8],
+) -> Result<bool, HeldFault>
+    ensures { IfOk result (λ differs. Brings held.old acknowledged packet (cells_of flags.syn octets.now flags.fin) held.new differs) }
+{
+    if packet.from == packet.to {
+        return Ok(false);
+    }
+    let differs = held.contradicts(acknowledged, packet.from, flags, octets);
+    held.put(packet.from, flags, octets)?;
+    Ok(differs)
+}
+
+// The same of both directions.
+fn bring_to(streams: &mut Streams, arrival: Arrival, octets: &[u8]) -> Result<bool, HeldFault>
+    ensures { IfOk result (λ differs. BringsTo streams.old arrival octets.now streams.new differs) }
+{
+    let Arrival {
+        from,
+        flags,
+        packet,
+        acknowledged,
+        ..
+    } = arrival;
+    match from {
+        Side::Active => bring(
+            &mut streams.active.held,
+            acknowledged,
+            packet,
+            flags,
+            octets,
+        ),
+        Side::Passive => bring(
+            &mut streams.passive.held,
+            acknowledged,
+            packet,
+            flags,
+            octets,
+        ),
+    }
+}
+
+// The first packet that differs.
+fn first_different(known: Option<u64>, differs: bool, packet: u64) -> Option<u64>
+    ensures { result ≡ or_differs known differs packet }
+{
+    if known.is_some() {
+        return known;
+    }
+    if differs {
+        return Some(packet);
+    }
+    None
+}
+
+// Puts the packets whose turn is at a packet behind the others.
+#[tactic(auto, using(crate::proofs::Arriving::queue_next, crate::proofs::Arriving::queue_all))]
+fn queue(due: &mut VecDeque<Due>, at: u64, from: Side, freed: &[Packet]) -> Result<(), AllocError>
+    ensures { OnOk result (due.new.items ≡ due.old.items ++ map (due_as at from) freed.now) }
+{
+    let mut rest = freed;
+    while let Some((packet, more)) = rest.split_first() {
+        due.push_back(Due {
+            at,
+            from,
+            packet: *packet,
+        })?;
+        rest = more;
+    }
+    Ok(())
+}
+
+// Takes what a packet brings, and the packets whose turn is at it.
+fn arrive(
+    reading: &mut Reading,
+    arrival: Arrival,
+    octets: &[u8],
+    freed: &[Packet],
+) -> Result<(), HeldFault>
+    ensures { OnOk result (Arrives arrival octets.now freed.now reading.old reading.new) }
+{
+    let number = arrival.packet.packet;
+    let differs = bring_to(&mut reading.teller.streams, arrival, octets)?;
+    reading.differs = first_different(reading.differs, differs, number);
+    queue(&mut reading.due, number, arrival.from, freed)?;
+    Ok(())
+}
+
+// Lets go of what was told and acknowledged.
+fn pass(stream: &mut Stream, acknowledged: u64)
+    ensures { PassesTo stream.old acknowledged stream.new }
+{
+    let place = stream.place;
+    stream.held.pass(acknowledged.min(place));
+}
+
+// Lets go of what was told and acknowledged in both directions.
+fn pass_both(streams: &mut Streams, received: BothEnds)
+    ensures { PassesBoth streams.old received streams.new }
+{
+    pass(&mut streams.active, received.active);
+    pass(&mut streams.passive, received.passive);
+}
+
+// Tells what is sure, where none of the packets so far is surely lost.
+fn tell_sure(
+    alloc: Global,
+    reading: &mut Reading,
+    received: BothEnds,
+    told: &mut Vec<Happening>,
+) -> Result<Option<Ending>, AllocError>
+    ensures { IfOk result (λ r. TellsSure received reading.old told.old.items reading.new told.new.items r) }
+{
+    let limit = least(reading.losses.first(), reading.differs);
+    if tell_before(alloc, &mut reading.teller, &mut reading.due, limit, told)? {
+        return Ok(Some(Ending::Complete));
+    }
+    pass_both(&mut reading.teller.streams, received);
+    Ok(None)
+}
+
+// Whether a copy differs, and no packet before it lacks anything.
+fn breaks_surely(first: Option<u64>, differs: Option<u64>) -> bool
+    ensures { result ≡ breaks_sure first differs }
+{
+    match differs {
+        Some(packet) => match first {
+            Some(lacking) => packet <= lacking,
+            None => true,
+        },
+        None => false,
+    }
+}
+
+// Tells what is sure, and ends where a copy differs and nothing before it lacks anything.
+fn settle(
+    alloc: Global,
+    reading: &mut Reading,
+    received: BothEnds,
+    told: &mut Vec<Happening>,
+) -> Result<Option<Ending>, AllocError>
+    ensures { IfOk result (λ r. TellsSure received reading.old told.old.items reading.new told.new.items r) }
+{
+    let first = reading.losses.first();
+    let differs = reading.differs;
+    if breaks_surely(first, differs) {
+        let ending = finish(
+            alloc,
+            &mut reading.teller,
+            &mut reading.due,
+            first,
+            differs,
+            told,
+        )?;
+        return Ok(Some(ending));
+    }
+    tell_sure(alloc, reading, received, told)
+}
+
+// Tells what is sure behind a packet, of which it may be known that one is lost.
+fn go_on(
+    alloc: Global,
+    reading: &mut Reading,
+    lost: Option<u64>,
+    received: BothEnds,
+    told: &mut Vec<Happening>,
+) -> Result<Option<Ending>, AllocError>
+    ensures { IfOk result (λ r. GoesOn lost received reading.old told.old.items reading.new told.new.items r) }
+{
+    let Some(packet) = lost else {
+        return settle(alloc, reading, received, told);
+    };
+    let ending = finish(
+        alloc,
+        &mut reading.teller,
+        &mut reading.due,
+        Some(packet),
+        reading.differs,
+        told,
+    )?;
+    Ok(Some(ending))
+}
+
+/// Takes a packet that comes, with its octets and the packets whose turn is at it, and tells what is sure. Gives how what
+/// is told ends, once that is sure.
+pub(crate) fn react(
+    alloc: Global,
+    reading: &mut Reading,
+    arrival: Arrival,
+    octets: &[u8],
+    freed: &[Packet],
+    told: &mut Vec<Happening>,
+) -> Result<Option<Ending>, HeldFault>
+    ensures { IfOk result (λ r. Reacts arrival octets.now freed.now reading.old told.old.items reading.new told.new.items r) }
+{
+    arrive(reading, arrival, octets, freed)?;
+    let lost = reading
+        .losses
+        .take(arrival.from, arrival.packet, arrival.ends)?;
+    Ok(go_on(alloc, reading, lost, arrival.received, told)?)
+}
