@@ -3,7 +3,7 @@
 _hsms() {
   local word=${COMP_WORDS[COMP_CWORD]} before=${COMP_WORDS[COMP_CWORD - 1]} words
   case $before in
-    --max | --depth | --device | --system | --first-system | --turns | --port | --t[35678] | --connections) return ;;
+    --max | --depth | --device | --system | --first-system | --turns | --port | --t[35678] | --connections | --linktest) return ;;
     --address | --mdln | --softrev) return ;;
     --role) mapfile -t COMPREPLY < <(compgen -W 'host equipment' -- "$word") && return ;;
     --link) mapfile -t COMPREPLY < <(compgen -W 'active passive' -- "$word") && return ;;
@@ -16,8 +16,8 @@ _hsms() {
       encode) words='--device --system --max --depth --hex --help' ;;
       audit) words='--help' ;;
       serve)
-        words='--role --link --address --port --device --t3 --t6 --t7 --t8 --max --depth --first-system --turns'
-        words+=' --mdln --softrev --send --answer --again --once --connections --t5 --help'
+        words='--role --link --address --port --device --t3 --t6 --t7 --t8 --linktest --max --depth --first-system'
+        words+=' --turns --mdln --softrev --send --answer --all-sent --again --once --connections --t5 --help'
         ;;
       help) words='show encode audit serve' ;;
       *) return ;;

@@ -23,6 +23,7 @@ from second_reading.ends import End, equipment_desk, log_of, scripted_desk
 from second_reading.inputs import Chance, random_item
 from second_reading.items import encode
 from second_reading.notation import printed
+from second_reading.serving import log_again
 from second_reading.session import Settings
 
 TOP = os.path.dirname(os.path.dirname(os.path.abspath(__file__)))
@@ -493,6 +494,211 @@ def no_reply():
     )
 
 
+# ---- tests of the link
+
+def link_is_tested_again_and_again():
+    """While nothing comes and nothing is logged an end asks after each pause; what comes puts the next test off."""
+    peers = Listening()
+    serving = Serving("host", "active", peers.port, "--linktest", "200")
+    peer = peers.accepted()
+    peer.wants(SELECT)
+    peer.send(SELECTED)
+    log = ["up", "> ffff0000000100000001", "< ffff0000000200000001"]
+    for system in (2, 3, 4):
+        peer.wants(control(5, system))
+        peer.send(control(6, system))
+        log += [f"> ffff00000005{system:08x}", f"< ffff00000006{system:08x}"]
+    peer.send(b"\0")
+    time.sleep(0.15)
+    peer.send(control(5, 9)[1:])
+    peer.wants(control(6, 9), control(5, 5))
+    peer.send(control(6, 5) + control(9, 10))
+    same(peer.rest(), b"")
+    log += ["< ffff0000000500000009", "> ffff0000000600000009", "> ffff0000000500000005", "< ffff0000000600000005"]
+    at = times(served(serving, log + ["< ffff000000090000000a", "down"]))
+    pauses = [at[place] - at[place - 1] for place in (3, 5, 7, 11)]
+    same((pauses, [200 <= pause < 400 for pause in pauses]), (pauses, 4 * [True]))
+
+
+def linktest_is_not_answered():
+    serving, peer = equipment("--linktest", "150", "--t6", "200")
+    peer.send(SELECT)
+    peer.wants(SELECTED, control(5, 1))
+    same(peer.rest(), b"")
+    log = served(
+        serving, ["up", "< ffff0000000100000001", "> ffff0000000200000001", "> ffff0000000500000001", "cut t6", "down"]
+    )
+    at = times(log)
+    same((150 <= at[3] - at[2], 200 < at[4] - at[3] < 400), (True, True))
+
+
+def link_is_tested_while_a_reply_is_awaited():
+    peers = Listening()
+    serving = Serving("host", "active", peers.port, "--linktest", "200", "--t3", "500", script=b"S1F1 W .")
+    peer = peers.accepted()
+    peer.wants(SELECT)
+    peer.send(SELECTED)
+    peer.wants(data(1, 1, 2, wait=True))
+    for system in (3, 4):
+        peer.wants(control(5, system))
+        peer.send(control(6, system))
+    same(peer.rest(), control(9, 5))
+    log = served(
+        serving,
+        ["up", "> ffff0000000100000001", "< ffff0000000200000001", "> 00008101000000000002"]
+        + ["> ffff0000000500000003", "< ffff0000000600000003", "> ffff0000000500000004", "< ffff0000000600000004"]
+        + ["t3 00000002", "> ffff0000000900000005", "down"],
+    )
+    passes(log)
+
+
+def link_is_not_tested_before_it_is_selected():
+    serving, peer = equipment("--linktest", "50", "--t7", "300")
+    same(peer.rest(), b"")
+    served(serving, ["up", "cut t7", "down"])
+
+
+def random_talks_are_tested_as_a_second_reading_does():
+    """A peer that says this and that at any moment, and answers a test of the link or doesn't."""
+    tested = 0
+    for number in range(12):
+        chance = Chance(f"linktest {number}")
+        pause = chance.one(30, 60, 100)
+        replies = talks.random_replies(chance)
+        script = "\n".join(map(printed, replies)).encode()
+        options = ["--answer", "--linktest", str(pause), "--t6", "150", "--mdln", "M", "--softrev", "1"]
+        serving, peer = equipment(*options, script=script, send=False)
+        chatter = Chatter(chance, peer)
+        chatter.talk()
+        status, log, told = serving.ended()
+        same((status, told), (0, ""))
+        passes(log)
+        given = Settings("equipment", "passive", 0, 45000, 150, 10000, 5000, 1048576, 32)
+        lines = log.rstrip("\n").split("\n")
+        same(log_again(lines, given, desk_of(replies), pause), lines)
+        tested += log.count("> ffff00000005")
+    same(tested > 20, True)
+
+
+class Chatter:
+    """A peer that is selected and then says something now and then."""
+
+    def __init__(self, chance, peer):
+        self.chance, self.peer, self.came = chance, peer, b""
+
+    def talk(self):
+        self.peer.send(SELECT)
+        self.peer.wants(SELECTED)
+        try:
+            for system in range(100, 112):
+                self.listen(self.chance.one(0, 0.02, 0.05, 0.12))
+                stream, function = self.chance.choice(talks.NAMES_OF_DATA)
+                asks = data(stream, function, system, wait=self.chance.happens(0.7))
+                self.peer.send(self.chance.one(asks, control(5, system)))
+            self.listen(self.chance.one(0, 0.3))
+            self.peer.send(control(9, 120))
+            self.peer.rest()
+        except (BrokenPipeError, ConnectionResetError):
+            pass
+        finally:
+            self.peer.close()
+
+    def listen(self, seconds):
+        """Reads what comes for so long, and answers most of the tests of the link."""
+        end = time.monotonic() + seconds
+        while (left := end - time.monotonic()) > 0:
+            if select.select([self.peer.stream], [], [], left)[0]:
+                octets = self.peer.stream.recv(65536)
+                if not octets:
+                    raise BrokenPipeError
+                self.heed(octets)
+
+    def heed(self, octets):
+        self.came += octets
+        while len(self.came) >= 14:
+            length = struct.unpack(">I", self.came[:4])[0] + 4
+            frame, self.came = self.came[:length], self.came[length:]
+            if frame[9] == 5 and self.chance.happens(0.9):
+                self.peer.send(control(6, struct.unpack(">I", frame[10:14])[0]))
+
+
+def link_is_tested_in_each_connection():
+    port = free_port()
+    serving = Serving("equipment", "passive", port, "--again", "--connections", "2", "--linktest", "100", "--t6", "150")
+    for _ in range(2):
+        peer = Peer.connected(port)
+        peer.send(SELECT)
+        same(peer.rest(), SELECTED + control(5, 1))
+    log = served_again(serving, 2)
+    same(events(log)[6:], events(log)[:6])
+    same(events(log).count("cut t6"), 2)
+
+
+# ---- what became of the script
+
+def script_ended(options, script, talk, wanted):
+    """What a host with a script ends with, with `--all-sent` and without it, opposite a peer that talks so."""
+    for all_sent, status in ((["--all-sent"], wanted), ([], 0)):
+        peers = Listening()
+        serving = Serving("host", "active", peers.port, *options, *all_sent, script=script)
+        peer = peers.accepted()
+        peer.wants(SELECT)
+        talk(peer)
+        peer.rest()
+        told = serving.ended()
+        same((told[0], told[2]), (status, ""))
+        passes(told[1])
+
+
+def script_is_not_sent():
+    """The three ways in which a connection ends well, and nothing or not all of the script was sent."""
+    script_ended(["--t7", "200"], b"S1F1 W .", lambda peer: peer.send(control(2, 1, 1)), 1)
+    script_ended(["--t6", "200"], b"S1F1 W .", lambda peer: None, 1)
+    script_ended([], b"S1F1 W .", lambda peer: peer.send(SELECTED + control(9, 7)), 1)
+    for all_sent, status in ((["--all-sent"], 1), ([], 0)):
+        port = free_port()
+        serving = Serving("host", "passive", port, "--t7", "200", *all_sent, script=b"S1F1 W .")
+        same(Peer.connected(port).rest(), b"")
+        told = serving.ended()
+        same((told[0], events(told[1]), told[2]), (status, ["up", "cut t7", "down"], ""))
+
+
+def answered(peer):
+    peer.send(SELECTED)
+    peer.wants(PRIMARY)
+    peer.send(data(1, 2, 2))
+
+
+def script_is_sent():
+    script_ended([], b"S1F1 W .", answered, 0)
+    script_ended([], b"", lambda peer: peer.send(SELECTED), 0)
+    # (a reply is no step, so the end refuses it)
+    script_ended([], b"S1F2 . S1F1 W .", answered, 1)
+
+
+def scripts_of_several_connections():
+    """With `--again` all is sent where it was in each connection."""
+    for broken, status in ((False, 0), (True, 1)):
+        peers = Listening()
+        serving = Serving(
+            "host", "active", peers.port, "--again", "--connections", "2", "--t5", "50", "--all-sent", script=b"S1F1 W ."
+        )
+        for number in range(2):
+            peer = peers.next_one()
+            peer.wants(SELECT)
+            peer.send(SELECTED)
+            peer.wants(data(1, 1, 2, wait=True))
+            if broken and number == 0:
+                peer.close()
+            else:
+                peer.send(data(1, 2, 2))
+                same(peer.rest(), control(9, 3))
+        told = serving.ended()
+        same((told[0], told[2]), (status, ""))
+        passes(told[1])
+        peers.listener.close()
+
+
 # The replies of a host to an event report, an alarm report and a request for the time, and no stream 7.
 REPLIES = b'S6F12 <B 0x00> . S5F2 <B 0x00> . S2F18 <A "2026112319210000"> . S7F0 .\n'
 TIME = b"\x41\x102026112319210000"
@@ -832,9 +1038,10 @@ def command_line_is_refused():
         ("--turns", ["4294967296"]),
         ("--connections", ["0", "4294967296"]),
         ("--t5", ["0", "3600001"]),
+        ("--linktest", ["-1", "3600001"]),
     ):
         lines += [WORDS + [option, value] for value in values]
-    lines += [WORDS + [option, "x"] for option in ("--send", "--answer")]
+    lines += [WORDS + [option, "x"] for option in ("--send", "--answer", "--all-sent")]
     lines += [WORDS + ["--send=1"], WORDS + ["--t9", "1"], WORDS + ["--mdln"], WORDS + ["x"]]
     for words in lines:
         run = subprocess.run([PROGRAM, *words], input=b"", capture_output=True, timeout=SOON)
@@ -845,7 +1052,7 @@ def help_tells_every_option():
     run = subprocess.run([PROGRAM, "serve", "--help"], capture_output=True, timeout=SOON)
     same((run.returncode, run.stderr), (0, b""))
     for word in (
-        "role link address port device t3 t6 t7 t8 max depth first-system turns mdln softrev send answer again once connections t5"
+        "role link address port device t3 t6 t7 t8 max depth first-system turns mdln softrev send answer all-sent linktest again once connections t5"
     ).split():
         same((word, f"--{word} " in run.stdout.decode()), (word, True))
 
@@ -855,7 +1062,7 @@ def every_option_is_taken():
     serving = Serving(
         "equipment", "passive", port, "--device", "32767", "--t3", "3600000", "--t6", "1", "--t7", "2", "--t8", "3",
         "--max", "256", "--depth", "100", "--first-system", "4294967295", "--turns", "4294967295", "--mdln", "\u00e9",
-        "--softrev", "", address="localhost",
+        "--softrev", "", "--linktest", "3600000", "--all-sent", address="localhost",
     )
     peer = Peer.connected(port)
     peer.rest()
@@ -1039,6 +1246,15 @@ TESTS = [
     one_octet_and_silence,
     no_answer_to_select,
     no_reply,
+    link_is_tested_again_and_again,
+    linktest_is_not_answered,
+    link_is_tested_while_a_reply_is_awaited,
+    link_is_not_tested_before_it_is_selected,
+    link_is_tested_in_each_connection,
+    random_talks_are_tested_as_a_second_reading_does,
+    script_is_not_sent,
+    script_is_sent,
+    scripts_of_several_connections,
     host_answers_by_its_script,
     equipment_answers_by_its_script,
     random_replies_are_those_of_a_second_reading,

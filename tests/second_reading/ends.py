@@ -189,6 +189,14 @@ class End:
         self.need_up()
         return self.entries_of(lambda: self.note("down"))
 
+    def test_due(self, pause: int) -> Optional[int]:
+        """From when on whoever drives the end tests its link, after so long a pause: while it is selected, no own
+        Linktest.req is open, and one more transaction may be."""
+        is_free = not self.log.sent_control and len(self.log.own_open) < MOST_OWN
+        if not self.log.is_up or not self.log.is_selected or not is_free:
+            return None
+        return max(self.heard, self.log.entries[-1].time) + pause
+
     # What is common to them.
 
     def need_up(self):

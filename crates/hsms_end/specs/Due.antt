@@ -1,7 +1,9 @@
--- The next moment at which a timer of an end runs out (SEMI E37, section 10, parameters).
-use Rattle.std.specs.Prelude.{ℕ, ◌&&◌, Option, None, if◌then◌else◌}
+-- The next moment at which a timer of an end runs out (SEMI E37, section 10, parameters), and the one at which its link
+-- is to be tested.
+use Rattle.std.specs.Prelude.{ℕ, Bool, max, nat_lt, ◌==◌, ◌&&◌, Option, None, if◌then◌else◌}
 use Rattle.hsms_machine.specs.Timer.{due_at, least_of}
-use Rattle.hsms_machine.specs.View.{next_due_of}
+use Rattle.hsms_machine.specs.Step.{is_selected}
+use Rattle.hsms_machine.specs.View.{next_due_of, own_open_of, waiting_of}
 use Rattle.hsms_end.specs.Known.{Known}
 use Rattle.hsms_end.specs.Turn.{is_up, is_pending}
 
@@ -13,3 +15,16 @@ octets_due end =
 -- the least of that and of the timers that the log shows
 abbrev pub next_due : Known → Option ℕ
 next_due end = least_of (next_due_of end.view) (octets_due end)
+
+-- the moment after which nothing came and nothing was logged
+abbrev pub quiet_since : Known → ℕ
+quiet_since end = max end.heard end.view.last_time
+
+-- the link can be tested: the session is selected, each open own transaction is a primary's, and one more may be open
+abbrev pub may_test : Known → Bool
+may_test end =
+    is_selected end.view.phase && (own_open_of end.view == waiting_of end.view) && nat_lt (own_open_of end.view) 64
+
+-- the moment from which on it is to be tested, after so long a pause
+abbrev pub test_due : ℕ → Known → Option ℕ
+test_due pause end = if may_test end then due_at pause (quiet_since end) else None

@@ -1,4 +1,4 @@
-//! When a timer runs out.
+//! When a timer runs out, and when the link is to be tested.
 
 ghost use Rattle.std.specs.Prelude.{◌≡◌};
 ghost use Rattle.hsms_machine.specs.Timer.{least_of};
@@ -7,7 +7,7 @@ use crate::state::State;
 
 impl State {
     ghost use Rattle.hsms_end.specs.Inside.{known};
-    ghost use Rattle.hsms_end.specs.Due.{octets_due, next_due};
+    ghost use Rattle.hsms_end.specs.Due.{octets_due, next_due, may_test, test_due};
 
     /// The least moment at which a timer runs out while the connection is up. Moments past
     /// 18,446,744,073,709,551,615 are left out.
@@ -15,6 +15,26 @@ impl State {
         ensures { result ≡ next_due (known self.now) }
     {
         earlier(self.tracker.next_due(), self.octets_due())
+    }
+
+    /// The moment from which on the link is to be tested, after so many milliseconds in which nothing came and nothing was
+    /// logged. None where it can't be tested, or that moment is past 18,446,744,073,709,551,615.
+    pub fn test_due(&self, pause: u64) -> Option<u64>
+        ensures { result ≡ test_due pause (known self.now) }
+    {
+        if self.may_test() {
+            self.heard.max(self.tracker.last_time()).checked_add(pause)
+        } else {
+            None
+        }
+    }
+
+    /// Whether the link can be tested.
+    fn may_test(&self) -> bool
+        ensures { result ≡ may_test (known self.now) }
+    {
+        let open = self.tracker.own_open();
+        self.is_selected() && open == self.tracker.waiting() && open < 64
     }
 
     /// When pending octets have waited for T8.

@@ -39,7 +39,7 @@ impl<D: Desk> End<D> {
     ghost use Rattle.std.specs.Prelude.{◌≡◌, MatchResult};
     ghost use Rattle.hsms_machine.specs.View.{own_open_of};
     ghost use Rattle.hsms_end.specs.Known.{untold, untold_since};
-    ghost use Rattle.hsms_end.specs.Due.{next_due};
+    ghost use Rattle.hsms_end.specs.Due.{next_due, test_due};
     ghost use Rattle.hsms_end.specs.End.{Accepts, Refuses};
     ghost use Rattle.secs_text.specs.View.{content};
     ghost use Rattle.hsms_end.specs.Turn.{start, tick, bytes, send, linktest, separate, lost};
@@ -115,6 +115,22 @@ impl<D: Desk> End<D> {
         ensures { result ≡ next_due self.now.known }
     {
         self.state.next_due()
+    }
+
+    /// Its moment, in milliseconds. Takes no memory.
+    pub fn moment(&self) -> u64
+        ensures { result ≡ self.now.known.moment }
+    {
+        self.state.moment
+    }
+
+    /// The moment, in milliseconds, from which on the link is to be tested by Linktest.req (SEMI E37, section 7, linktest
+    /// procedure): so long a pause after the last octet that came and the last entry, while the session is selected, no
+    /// Linktest.req is open, and fewer than 64 own transactions are. Takes no memory.
+    pub fn test_due(&self, pause: u64) -> Option<u64>
+        ensures { result ≡ test_due pause self.now.known }
+    {
+        self.state.test_due(pause)
     }
 
     /// The connection came up at this moment, in milliseconds, or at the end's own where that is later. An active end

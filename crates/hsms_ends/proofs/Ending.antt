@@ -1,5 +1,5 @@
 -- How serving ends.
-use Rattle.std.proofs.Common.{◌≡◌, ◌≤◌, ◌++◌, ℕ, Bool, List, [], ◌∷◌, length, Some, None, Ok, Err, true, false, inl, inr, refl, sym, ap, ◌∙◌, subst, append_assoc}
+use Rattle.std.proofs.Common.{◌≡◌, ◌≤◌, arith, ◌++◌, ℕ, List, [], length, Some, None, Ok, Err, true, false, inl, inr, refl, sym, ap, ◌∙◌, subst, append_assoc}
 use Rattle.std.specs.Prelude.{Option, Result, All}
 use Rattle.std.proofs.lemmas.List.{append-nil}
 use Rattle.std.proofs.lemmas.List.Elements.{All-append}
@@ -86,9 +86,9 @@ link_failed serve.Turns end loss log log' h = absurd h
 link_failed serve.Memory end loss log log' h = tt
 
 -- a story with what `lost` gave
-pub record Extended {D : Type 0} (answers : D → Content → Answered) (new : EndOf D) (script : List Step) (story : Story) (loss : Option (List Entry)) (end : EndOf D) : Type 0 where
+pub record Extended {D : Type 0} (answers : D → Content → Answered) (pause : Option ℕ) (new : EndOf D) (script : List Step) (story : Story) (loss : Option (List Entry)) (end : EndOf D) : Type 0 where
   pub longer : Story
-  pub is_story : IsStory answers new script longer end
+  pub is_story : IsStory answers pause new script longer end
   pub entries : entries_of story ++ lost_entries loss ≡ entries_of longer
   pub heard : heard_of story ≡ heard_of longer
   pub begun : turns_begun longer ≡ turns_begun story
@@ -100,10 +100,17 @@ module _ {D : Type 0} (answers : D → Content → Answered) where
   pub lost_goes : (end end' : EndOf D) (entries : List Entry) → Accepts answers end lost entries end' → has_gone end' ≡ true
   lost_goes end end' entries h = ap (λ (k : Known). is_gone k.view.phase) h.turn.2.1 ∙ gone_after end.known.view.phase
 
-  pub end_ok : (served : Served) (limit : ℕ) (new end : EndOf D) (script : List Step) (log log' : SinkState) (link link' : Told) (n m : ℕ)
-      → Ran answers (Ok tt) limit new end script log log' link link' n m → has_gone end ≡ true → served.entries ≡ n → served.refused ≡ m
-      → ServesEnd answers new end script limit (Ok served) log log' link link'
-  end_ok served limit new end script log log' link link' n m r gone entries refused = record {
+  pub left_itself : (fault : ServeFault) (end : EndOf D) → IsLeft (Err fault) end end
+  left_itself serve.Link end = refl
+  left_itself serve.Turns end = refl
+  left_itself serve.Log end = tt
+  left_itself serve.Memory end = tt
+
+module _ {D : Type 0} (answers : D → Content → Answered) (pause : Option ℕ) where
+  pub end_ok : (served : Served) (limit : ℕ) (new end : EndOf D) (script script' : List Step) (log log' : SinkState) (link link' : Told) (n m : ℕ)
+      → Ran answers pause (Ok tt) limit new end script script' log log' link link' n m → has_gone end ≡ true → served.entries ≡ n → served.refused ≡ m → served.left ≡ length script'
+      → ServesEnd answers pause new end script limit (Ok served) log log' link link'
+  end_ok served limit new end script script' log log' link link' n m r gone entries refused steps = record {
     story = r.story;
     last = r.end';
     is_story = r.is_story;
@@ -122,12 +129,13 @@ module _ {D : Type 0} (answers : D → Content → Answered) where
     failed_is = refl;
     lost_is = no_lost r.story r.not_lost;
     left = r.leads;
+    steps_left = omega (arith, steps, r.steps refl);
   }
 
-  pub end_turns : (limit : ℕ) (new end : EndOf D) (script : List Step) (log log' : SinkState) (link link' : Told) (n m : ℕ)
-      → Ran answers (Ok tt) limit new end script log log' link link' n m → has_gone end ≡ false
-      → ServesEnd answers new end script limit (Err serve.Turns) log log' link link'
-  end_turns limit new end script log log' link link' n m r up =
+  pub end_turns : (limit : ℕ) (new end : EndOf D) (script script' : List Step) (log log' : SinkState) (link link' : Told) (n m : ℕ)
+      → Ran answers pause (Ok tt) limit new end script script' log log' link link' n m → has_gone end ≡ false
+      → ServesEnd answers pause new end script limit (Err serve.Turns) log log' link link'
+  end_turns limit new end script script' log log' link link' n m r up =
       let here = ap (λ (e : EndOf D). has_gone e) (sym r.leads) ∙ up in
       record {
         story = r.story;
@@ -148,9 +156,10 @@ module _ {D : Type 0} (answers : D → Content → Answered) where
         failed_is = refl;
         lost_is = no_lost r.story r.not_lost;
         left = r.leads;
+        steps_left = tt;
       }
 
-  extend : (new mid end : EndOf D) (script : List Step) (story : Story) (loss : Option (List Entry)) → has_lost story ≡ false → IsStarted story → IsStory answers new script story mid → IsLost answers mid loss end → Extended answers new script story loss end
+  extend : (new mid end : EndOf D) (script : List Step) (story : Story) (loss : Option (List Entry)) → has_lost story ≡ false → IsStarted story → IsStory answers pause new script story mid → IsLost answers mid loss end → Extended answers pause new script story loss end
   extend new mid end script Unopened loss none started is h = absurd started
   extend new mid end script (Unstarted now) loss none started is h = absurd started
   extend new mid end script (Started now entries turns cut (Some more)) loss none started is h = absurd (let e : true ≡ false = none in cc)
@@ -164,16 +173,10 @@ module _ {D : Type 0} (answers : D → Content → Answered) where
     started = tt;
   }
 
-  pub left_itself : (fault : ServeFault) (end : EndOf D) → IsLeft (Err fault) end end
-  left_itself serve.Link end = refl
-  left_itself serve.Turns end = refl
-  left_itself serve.Log end = tt
-  left_itself serve.Memory end = tt
-
-  ended_link : (fault : ServeFault) (limit : ℕ) (new end end_new : EndOf D) (script : List Step) (log mid log' : SinkState) (link link' : Told) (n m : ℕ)
-      → Ran answers (Err Link) limit new end script log mid link link' n m → ClosedLink answers fault end end_new mid log'
-      → ServesEnd answers new end_new script limit (Err fault) log log' link link'
-  ended_link fault limit new end end_new script log mid log' link link' n m r h =
+  ended_link : (fault : ServeFault) (limit : ℕ) (new end end_new : EndOf D) (script script' : List Step) (log mid log' : SinkState) (link link' : Told) (n m : ℕ)
+      → Ran answers pause (Err Link) limit new end script script' log mid link link' n m → ClosedLink answers fault end end_new mid log'
+      → ServesEnd answers pause new end_new script limit (Err fault) log log' link link'
+  ended_link fault limit new end end_new script script' log mid log' link link' n m r h =
       let P : EndOf D → Type 0 = λ e. IsLost answers e h.loss h.end' in
       let x = extend new r.end' h.end' script r.story h.loss r.not_lost r.started r.is_story (subst P r.leads h.is_lost) in
       let a = entries_of r.story in
@@ -208,15 +211,16 @@ module _ {D : Type 0} (answers : D → Content → Answered) where
         failed_is = link_failed fault h.end' h.loss mid log' h.closed;
         lost_is = λ _. refl;
         left = h.left;
+        steps_left = tt;
       }
 
-  pub ended : (stop : Stop) (fault : ServeFault) (limit : ℕ) (new end end_new : EndOf D) (script : List Step) (log mid log' : SinkState) (link link' : Told) (n m : ℕ)
-      → Ran answers (Err stop) limit new end script log mid link link' n m → StoppedAs answers stop fault end end_new mid log'
-      → ServesEnd answers new end_new script limit (Err fault) log log' link link'
-  ended Link fault limit new end end_new script log mid log' link link' n m r h = ended_link fault limit new end end_new script log mid log' link link' n m r h
-  ended Memory fault limit new end end_new script log mid log' link link' n m r h =
-      let F : ServeFault → Type 0 = λ f. ServesEnd answers new end_new script limit (Err f) log log' link link' in
-      let L : SinkState → Type 0 = λ l. ServesEnd answers new end_new script limit (Err serve.Memory) log l link link' in
+  pub ended : (stop : Stop) (fault : ServeFault) (limit : ℕ) (new end end_new : EndOf D) (script script' : List Step) (log mid log' : SinkState) (link link' : Told) (n m : ℕ)
+      → Ran answers pause (Err stop) limit new end script script' log mid link link' n m → StoppedAs answers stop fault end end_new mid log'
+      → ServesEnd answers pause new end_new script limit (Err fault) log log' link link'
+  ended Link fault limit new end end_new script script' log mid log' link link' n m r h = ended_link fault limit new end end_new script script' log mid log' link link' n m r h
+  ended Memory fault limit new end end_new script script' log mid log' link link' n m r h =
+      let F : ServeFault → Type 0 = λ f. ServesEnd answers pause new end_new script limit (Err f) log log' link link' in
+      let L : SinkState → Type 0 = λ l. ServesEnd answers pause new end_new script limit (Err serve.Memory) log l link link' in
       subst F (sym h.0) (subst L (sym h.1) (record {
         story = r.story;
         last = r.end';
@@ -236,10 +240,11 @@ module _ {D : Type 0} (answers : D → Content → Answered) where
         failed_is = tt;
         lost_is = no_lost r.story r.not_lost;
         left = tt;
+        steps_left = tt;
       }))
-  ended Log fault limit new end end_new script log mid log' link link' n m r h =
-      let F : ServeFault → Type 0 = λ f. ServesEnd answers new end_new script limit (Err f) log log' link link' in
-      let L : SinkState → Type 0 = λ l. ServesEnd answers new end_new script limit (Err serve.Log) log l link link' in
+  ended Log fault limit new end end_new script script' log mid log' link link' n m r h =
+      let F : ServeFault → Type 0 = λ f. ServesEnd answers pause new end_new script limit (Err f) log log' link link' in
+      let L : SinkState → Type 0 = λ l. ServesEnd answers pause new end_new script limit (Err serve.Log) log l link link' in
       subst F (sym h.0) (subst L (sym h.1) (elim r.puts.sent [
         | inl all ↦ record {
           story = r.story;
@@ -260,6 +265,7 @@ module _ {D : Type 0} (answers : D → Content → Answered) where
           failed_is = tt;
           lost_is = no_lost r.story r.not_lost;
           left = tt;
+          steps_left = tt;
         }
         | inr part ↦ record {
           story = r.story;
@@ -280,5 +286,6 @@ module _ {D : Type 0} (answers : D → Content → Answered) where
           failed_is = tt;
           lost_is = no_lost r.story r.not_lost;
           left = tt;
+          steps_left = tt;
         }
       ]))

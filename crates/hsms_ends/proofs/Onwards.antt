@@ -1,6 +1,6 @@
 -- Connection after connection: their entries are one run, and its text is logged.
 use Rattle.std.proofs.Common.{◌≡◌, ◌≤◌, ◌<◌, ◌+◌, ◌-◌, ◌++◌, ◌==◌, ℕ, suc, max, List, [], ◌∷◌, length, cond, Ok, Err, true, false, inl, inr, refl, sym, ap, ◌∙◌, subst, arith, append_assoc, length-append}
-use Rattle.std.specs.Prelude.{Bool, Result, All}
+use Rattle.std.specs.Prelude.{Bool, ◌&&◌, Option, Result, All}
 use Rattle.std.proofs.lemmas.Bool.Decides.{nat_tests}
 use Rattle.std.proofs.lemmas.List.{append-nil, get_or-append-add}
 use Rattle.std.proofs.lemmas.List.Elements.{All-append, All-nil}
@@ -23,6 +23,8 @@ use Rattle.hsms_end.specs.Answer.{Answered}
 use Rattle.hsms_end.specs.Known.{Known, EndOf}
 use Rattle.hsms_end.specs.Turn.{opening_of}
 use Rattle.hsms_end.specs.Act.{Acts}
+use Rattle.hsms_ends.specs.declared.again.ServedAgain.{ServedAgain}
+use Rattle.hsms_ends.specs.declared.again.Went.{Went}
 use Rattle.hsms_ends.specs.declared.step.Step.{Step}
 use Rattle.hsms_ends.specs.declared.serving.Served.{Served}
 use Rattle.hsms_ends.specs.declared.fault.ServeFault.{ServeFault}
@@ -32,7 +34,7 @@ use Rattle.hsms_ends.specs.PutOut.{LogGrows, LogFails, LogStops, log_lines}
 use Rattle.hsms_ends.specs.Turning.{entries_turns}
 use Rattle.hsms_ends.specs.Serving.{Story, Unopened, Unstarted, Started, IsStory, entries_of, heard_of, entries_cut, lost_entries, ends_down, Answers, is_log_fault}
 use Rattle.hsms_ends.specs.Outcome.{IsLeft, HoldsLines}
-use Rattle.hsms_ends.specs.Again.{Connection, new_end, IsServed, entries_all, heard_all, last_time, AreServed, AnswersAgain, LogStopsLast, LogHoldsAgain, is_log_fault_again, ServesAgain}
+use Rattle.hsms_ends.specs.Again.{Connection, new_end, IsServed, entries_all, heard_all, last_time, AreServed, completes, are_complete, AnswersAgain, LogStopsLast, LogHoldsAgain, is_log_fault_again, ServesAgain}
 use Rattle.hsms_ends.specs.Onward.{Onward, NextServed, LinesHeld, ServedEach, script_at}
 use Rattle.hsms_ends.specs.Laws.{ServedAgainLogPasses}
 use Rattle.hsms_ends.proofs.Downs.{gone_of_view}
@@ -66,6 +68,18 @@ entries_snoc : (cs : List Connection) (c : Connection) → entries_all (cs ++ c 
 entries_snoc [] c = append-nil (entries_of c.story)
 entries_snoc (x ∷ cs) c = ap (λ l. entries_of x.story ++ l) (entries_snoc cs c) ∙ sym (append_assoc (entries_of x.story) (entries_all cs) (entries_of c.story))
 
+and_true : (b : Bool) → (b && true) ≡ b
+and_true true = refl
+and_true false = refl
+
+and_assoc : (a b c : Bool) → (a && (b && c)) ≡ ((a && b) && c)
+and_assoc true b c = refl
+and_assoc false b c = refl
+
+complete_snoc : (cs : List Connection) (c : Connection) → are_complete (cs ++ c ∷ []) ≡ (are_complete cs && completes c.result)
+complete_snoc [] c = and_true (completes c.result)
+complete_snoc (x ∷ cs) c = ap (λ b. completes x.result && b) (complete_snoc cs c) ∙ and_assoc (completes x.result) (are_complete cs) (completes c.result)
+
 -- the time from which the next end goes on
 abbrev pub since_at : ℕ → List Connection → ℕ
 since_at since [] = since
@@ -84,23 +98,23 @@ is_later script later n =
     let e : (suc n == 0) ≡ false = grind (arith, nat_tests) in
     ap (λ b. cond b script later) e ∙ sym (both_later (n == 0) later)
 
-module _ {D : Type 0} (answers : D → Content → Answered) (desk : D) (s : Parameters) (first_system limit : ℕ) where
+module _ {D : Type 0} (answers : D → Content → Answered) (pause : Option ℕ) (desk : D) (s : Parameters) (first_system limit : ℕ) where
   served_snoc : (script later : List Step) (since : ℕ) (cs : List Connection) (c : Connection) (link mid link' : Told)
-      → AreServed answers desk s first_system limit script later since cs link mid → c.script ≡ script_at script later (length cs) → c.since ≡ since_at since cs
-      → IsServed answers desk s first_system limit c mid link' → AreServed answers desk s first_system limit script later since (cs ++ c ∷ []) link link'
+      → AreServed answers pause desk s first_system limit script later since cs link mid → c.script ≡ script_at script later (length cs) → c.since ≡ since_at since cs
+      → IsServed answers pause desk s first_system limit c mid link' → AreServed answers pause desk s first_system limit script later since (cs ++ c ∷ []) link link'
   served_snoc script later since [] c link mid link' h script_is since_is served =
-      let P : Told → Type 0 = λ l. IsServed answers desk s first_system limit c l link' in
+      let P : Told → Type 0 = λ l. IsServed answers pause desk s first_system limit c l link' in
       (link', script_is, since_is, subst P h served, refl)
   served_snoc script later since (x ∷ cs) c link mid link' h script_is since_is served =
       (h.0, h.1, h.2, h.3, served_snoc later later (last_time (entries_of x.story)) cs c h.0 mid link' h.4 (script_is ∙ is_later script later (length cs)) since_is served)
 
-  hears_all : (script later : List Step) (since : ℕ) (cs : List Connection) (link link' : Told) → AreServed answers desk s first_system limit script later since cs link link' → Hears link link' (heard_all cs)
+  hears_all : (script later : List Step) (since : ℕ) (cs : List Connection) (link link' : Told) → AreServed answers pause desk s first_system limit script later since cs link link' → Hears link link' (heard_all cs)
   hears_all script later since [] link link' h = let P : Told → Type 0 = λ l. Hears link l nothing_heard in subst P (sym h) (hears_nothing link)
   hears_all script later since (c ∷ cs) link link' h =
       hears_then link h.0 link' (heard_of c.story) (heard_all cs) h.3.hears (hears_all later later (last_time (entries_of c.story)) cs h.0 link' h.4)
 
   -- the first entry isn't earlier than the moment before which the end doesn't start
-  first_time : (since : ℕ) (script : List Step) (story : Story) (last : EndOf D) → IsStory answers (new_end desk s first_system since) script story last → 0 < length (entries_of story) → since ≤ (entry_at (entries_of story) 0).time
+  first_time : (since : ℕ) (script : List Step) (story : Story) (last : EndOf D) → IsStory answers pause (new_end desk s first_system since) script story last → 0 < length (entries_of story) → since ≤ (entry_at (entries_of story) 0).time
   first_time since script Unopened last is some = absurd (let l : 0 < 0 = some in omega arith)
   first_time since script (Unstarted now) last is some = absurd (let l : 0 < 0 = some in omega arith)
   first_time since script (Started now started turns cut loss) last is some =
@@ -111,25 +125,27 @@ module _ {D : Type 0} (answers : D → Content → Answered) (desk : D) (s : Par
       omega (arith, e)
 
   -- what was served so far, from whose last entry the next end goes on
-  pub record SoFar (script later : List Step) (since done : ℕ) (log log' : SinkState) (link link' : Told) : Type 0 where
+  pub record SoFar (script later : List Step) (since done : ℕ) (complete : Bool) (log log' : SinkState) (link link' : Told) : Type 0 where
     pub connections : List Connection
-    pub are : AreServed answers desk s first_system limit script later 0 connections link link'
+    pub are : AreServed answers pause desk s first_system limit script later 0 connections link link'
     pub counted : done ≡ length connections
     pub run : IsRun s (entries_all connections)
     pub down : EndsDown (entries_all connections)
+    pub complete_is : complete ≡ are_complete connections
     pub last : last_time (entries_all connections) ≤ since
     pub since_is : since ≡ since_at 0 connections
     pub sized : All (λ (entry : Entry). IsDiscardSized s.max entry.event) (entries_all connections)
     pub in_range : All IsEntry (entries_all connections)
     pub logged : LogGrows log log' (log_lines (entries_all connections))
 
-  pub none_so_far : (script later : List Step) (log : SinkState) (link : Told) → SoFar script later 0 0 log log link link
+  pub none_so_far : (script later : List Step) (log : SinkState) (link : Told) → SoFar script later 0 0 true log log link link
   none_so_far script later log link = record {
     connections = [];
     are = refl;
     counted = refl;
     run = empty_run s;
     down = λ some. absurd (let l : 0 < 0 = some in omega arith);
+    complete_is = refl;
     last = omega arith;
     since_is = refl;
     sized = All-nil (λ (entry : Entry). IsDiscardSized s.max entry.event);
@@ -137,14 +153,14 @@ module _ {D : Type 0} (answers : D → Content → Answered) (desk : D) (s : Par
     logged = (grows_none log.written, refl);
   }
 
-  went : (result : Result Served ServeFault) (moment : ℕ) (story : Story) (last end_new : EndOf D) (mid log' : SinkState) (lines : List ℕ) (rest : List Entry)
-      → Onward (Ok moment) result end_new → IsLeft result last end_new → Answers limit result story → HoldsLines result mid log' lines rest
-      → (moment ≡ last.known.view.last_time) × (ends_down (entries_of story) ≡ true) × (rest ≡ []) × LogGrows mid log' lines
-  went (Ok served) moment story last end_new mid log' lines rest on left a holds = (on ∙ ap (λ (e : EndOf D). e.known.view.last_time) left, a.1, holds.0, holds.1)
-  went (Err serve.Link) moment story last end_new mid log' lines rest on left a holds = (on ∙ ap (λ (e : EndOf D). e.known.view.last_time) left, a.1, holds.0, holds.1)
-  went (Err serve.Turns) moment story last end_new mid log' lines rest on left a holds = absurd on
-  went (Err serve.Memory) moment story last end_new mid log' lines rest on left a holds = absurd on
-  went (Err serve.Log) moment story last end_new mid log' lines rest on left a holds = absurd on
+  went : (result : Result Served ServeFault) (further : Went) (story : Story) (last end_new : EndOf D) (mid log' : SinkState) (lines : List ℕ) (rest : List Entry)
+      → Onward (Ok further) result end_new → IsLeft result last end_new → Answers limit result story → HoldsLines result mid log' lines rest
+      → (further.moment ≡ last.known.view.last_time) × (ends_down (entries_of story) ≡ true) × (rest ≡ []) × LogGrows mid log' lines × (further.complete ≡ completes result)
+  went (Ok served) further story last end_new mid log' lines rest on left a holds = (on.0 ∙ ap (λ (e : EndOf D). e.known.view.last_time) left, a.1, holds.0, holds.1, on.1)
+  went (Err serve.Link) further story last end_new mid log' lines rest on left a holds = (on.0 ∙ ap (λ (e : EndOf D). e.known.view.last_time) left, a.1, holds.0, holds.1, on.1)
+  went (Err serve.Turns) further story last end_new mid log' lines rest on left a holds = absurd on
+  went (Err serve.Memory) further story last end_new mid log' lines rest on left a holds = absurd on
+  went (Err serve.Log) further story last end_new mid log' lines rest on left a holds = absurd on
 
   none_left : (result : Result Served ServeFault) (mid log' : SinkState) (lines : List ℕ) (rest : List Entry) → HoldsLines result mid log' lines rest → is_log_fault result ≡ false → rest ≡ []
   none_left (Ok served) mid log' lines rest holds fine = holds.0
@@ -168,28 +184,29 @@ module _ {D : Type 0} (answers : D → Content → Answered) (desk : D) (s : Par
   stop_answers fault result end_new front c is on = absurd on
 
   module _ (two : s.version ≡ 2) (within : IsWithinLimits s) (script later : List Step) where
-    module _ (since done : ℕ) (log mid log' : SinkState) (link between link' : Told) (steps : List Step) (steps_are : steps ≡ script_at script later done) (far : SoFar script later since done log mid link between)
-        (outcome : Result ℕ ServeFault) (n : NextServed answers desk s first_system since steps limit outcome mid log' between link') where
+    module _ (since done : ℕ) (complete : Bool) (log mid log' : SinkState) (link between link' : Told) (steps : List Step) (steps_are : steps ≡ script_at script later done) (far : SoFar script later since done complete log mid link between)
+        (outcome : Result Went ServeFault) (n : NextServed answers pause desk s first_system since steps limit outcome mid log' between link') where
       story : Story
       story = n.served.story
 
       there : IsReached s (entries_of n.served.story) n.served.last
-      there = reached answers desk s first_system since steps n.served.story n.served.last n.served.is_story
+      there = reached answers pause desk s first_system since steps n.served.story n.served.last n.served.is_story
 
       abbrev one : Connection
       one = record { since = since; script = steps; story = n.served.story; result = n.result; failed = n.served.failed; whole = n.served.whole; rest = n.served.rest }
 
       answered : Answers limit n.result n.served.story
       answered =
-          answers_by answers limit n.result n.served.story n.served.last (gone_of_view s (entries_of n.served.story) n.served.last.known.view there.seen) n.served.answer
+          answers_by answers pause limit n.result n.served.story n.served.last (gone_of_view s (entries_of n.served.story) n.served.last.known.view there.seen) n.served.answer
 
-      is_served : IsServed answers desk s first_system limit one between link'
+      is_served : IsServed answers pause desk s first_system limit one between link'
       is_served = record {
         last = n.served.last;
         is_story = n.served.is_story;
         bound = n.served.bound;
         run = there.seen.run;
         answer = answered;
+        steps_left = n.served.steps_left;
         parted = n.served.parted;
         rest_is_last = n.served.rest_is_last;
         rest_is = none_left n.result mid log' (log_lines n.served.whole) n.served.rest n.served.log_holds;
@@ -206,7 +223,7 @@ module _ {D : Type 0} (answers : D → Content → Answered) (desk : D) (s : Par
       same : entries_all far.connections ++ entries_of n.served.story ≡ entries_all all
       same = sym (entries_snoc far.connections one)
 
-      are_all : AreServed answers desk s first_system limit script later 0 all link link'
+      are_all : AreServed answers pause desk s first_system limit script later 0 all link link'
       are_all = served_snoc script later 0 far.connections one link between link' far.are (steps_are ∙ ap (script_at script later) far.counted) far.since_is is_served
 
       goes_on : GoesOn (entries_all far.connections) (entries_of n.served.story)
@@ -248,65 +265,67 @@ module _ {D : Type 0} (answers : D → Content → Answered) (desk : D) (s : Par
       count_all : length all ≡ done + 1
       count_all = omega (arith, length-append far.connections (one ∷ []), far.counted)
 
-    pub one_more : (since done moment : ℕ) (log mid log' : SinkState) (link between link' : Told) (steps : List Step) → steps ≡ script_at script later done → SoFar script later since done log mid link between
-        → NextServed answers desk s first_system since steps limit (Ok moment) mid log' between link' → SoFar script later moment (done + 1) log log' link link'
-    one_more since done moment log mid log' link between link' steps steps_are far n =
-        let c = one since done log mid log' link between link' steps steps_are far (Ok moment) n in
-        let reach = there since done log mid log' link between link' steps steps_are far (Ok moment) n in
+    pub one_more : (since done : ℕ) (complete : Bool) (further : Went) (log mid log' : SinkState) (link between link' : Told) (steps : List Step) → steps ≡ script_at script later done → SoFar script later since done complete log mid link between
+        → NextServed answers pause desk s first_system since steps limit (Ok further) mid log' between link' → SoFar script later further.moment (done + 1) (complete && further.complete) log log' link link'
+    one_more since done complete further log mid log' link between link' steps steps_are far n =
+        let c = one since done complete log mid log' link between link' steps steps_are far (Ok further) n in
+        let reach = there since done complete log mid log' link between link' steps steps_are far (Ok further) n in
         let es = entries_of n.served.story in
-        let w = went n.result moment n.served.story n.served.last n.end_new mid log' (log_lines n.served.whole) n.served.rest n.onward n.served.left
-        (answered since done log mid log' link between link' steps steps_are far (Ok moment) n) n.served.log_holds in
-        let here : moment ≡ last_time es = w.0 ∙ sym (ap (λ (v : View). v.last_time) reach.seen.seen) in
+        let w = went n.result further n.served.story n.served.last n.end_new mid log' (log_lines n.served.whole) n.served.rest n.onward n.served.left
+        (answered since done complete log mid log' link between link' steps steps_are far (Ok further) n) n.served.log_holds in
+        let here : further.moment ≡ last_time es = w.0 ∙ sym (ap (λ (v : View). v.last_time) reach.seen.seen) in
         let ends : last_time (entries_all far.connections ++ es) ≡ last_time es = ap (λ (x : Entry). x.time) (last_of (entries_all far.connections) es (some_down es w.1)) in
-        let eq = same since done log mid log' link between link' steps steps_are far (Ok moment) n in
+        let eq = same since done complete log mid log' link between link' steps steps_are far (Ok further) n in
         let Q : List Entry → Type 0 = λ l. EndsDown l in
-        let R : List Entry → Type 0 = λ l. last_time l ≤ moment in
+        let R : List Entry → Type 0 = λ l. last_time l ≤ further.moment in
         record {
           connections = far.connections ++ c ∷ [];
-          are = are_all since done log mid log' link between link' steps steps_are far (Ok moment) n;
-          counted = sym (count_all since done log mid log' link between link' steps steps_are far (Ok moment) n);
-          run = run_all since done log mid log' link between link' steps steps_are far (Ok moment) n;
+          are = are_all since done complete log mid log' link between link' steps steps_are far (Ok further) n;
+          counted = sym (count_all since done complete log mid log' link between link' steps steps_are far (Ok further) n);
+          run = run_all since done complete log mid log' link between link' steps steps_are far (Ok further) n;
           down = subst Q eq (down_all (entries_all far.connections) es w.1);
           last = subst R eq (omega (arith, ends, here));
+          complete_is = ap (λ b. b && further.complete) far.complete_is ∙ ap (λ b. are_complete far.connections && b) (w.4)
+              ∙ sym (complete_snoc far.connections c);
           since_is = here ∙ sym (since_snoc 0 far.connections c);
-          sized = sized_all since done log mid log' link between link' steps steps_are far (Ok moment) n;
-          in_range = in_range_all since done log mid log' link between link' steps steps_are far (Ok moment) n;
-          logged = grows_all since done log mid log' link between link' steps steps_are far (Ok moment) n w.2 w.3;
+          sized = sized_all since done complete log mid log' link between link' steps steps_are far (Ok further) n;
+          in_range = in_range_all since done complete log mid log' link between link' steps steps_are far (Ok further) n;
+          logged = grows_all since done complete log mid log' link between link' steps steps_are far (Ok further) n w.2 w.3;
         }
 
-    pub stopped_by : (fault : ServeFault) (most since done : ℕ) (log mid log' : SinkState) (link between link' : Told) (steps : List Step) → done < most → steps ≡ script_at script later done → SoFar script later since done log mid link between
-        → NextServed answers desk s first_system since steps limit (Err fault) mid log' between link' → ServedEach answers desk s first_system script later limit most (Err fault) log log' link link'
-    stopped_by fault most since done log mid log' link between link' steps fewer steps_are far n =
-        let c = one since done log mid log' link between link' steps steps_are far (Err fault) n in
+    pub stopped_by : (fault : ServeFault) (most since done : ℕ) (complete : Bool) (log mid log' : SinkState) (link between link' : Told) (steps : List Step) → done < most → steps ≡ script_at script later done → SoFar script later since done complete log mid link between
+        → NextServed answers pause desk s first_system since steps limit (Err fault) mid log' between link' → ServedEach answers pause desk s first_system script later limit most (Err fault) log log' link link'
+    stopped_by fault most since done complete log mid log' link between link' steps fewer steps_are far n =
+        let c = one since done complete log mid log' link between link' steps steps_are far (Err fault) n in
         let all = far.connections ++ c ∷ [] in
-        let run = run_all since done log mid log' link between link' steps steps_are far (Err fault) n in
+        let run = run_all since done complete log mid log' link between link' steps steps_are far (Err fault) n in
         record {
           connections = all;
-          are = are_all since done log mid log' link between link' steps steps_are far (Err fault) n;
-          bound = omega (arith, fewer, count_all since done log mid log' link between link' steps steps_are far (Err fault) n);
+          are = are_all since done complete log mid log' link between link' steps steps_are far (Err fault) n;
+          bound = omega (arith, fewer, count_all since done complete log mid log' link between link' steps steps_are far (Err fault) n);
           run = run;
-          text = text_of_run s (entries_all all) within run (sized_all since done log mid log' link between link' steps steps_are far (Err fault) n) (in_range_all since done log mid log' link between link' steps steps_are far (Err fault) n);
+          text = text_of_run s (entries_all all) within run (sized_all since done complete log mid log' link between link' steps steps_are far (Err fault) n) (in_range_all since done complete log mid log' link between link' steps steps_are far (Err fault) n);
           log_holds = stop_holds fault n.result n.end_new log mid log' (log_lines n.served.whole) n.served.rest all
-              (grows_all since done log mid log' link between link' steps steps_are far (Err fault) n) (stops_all since done log mid log' link between link' steps steps_are far (Err fault) n) n.onward n.served.log_holds;
+              (grows_all since done complete log mid log' link between link' steps steps_are far (Err fault) n) (stops_all since done complete log mid log' link between link' steps steps_are far (Err fault) n) n.onward n.served.log_holds;
           answer = stop_answers fault n.result n.end_new far.connections c refl n.onward;
         }
 
-    pub all_done : (most since done : ℕ) (log log' : SinkState) (link link' : Told) → done ≤ most → SoFar script later since done log log' link link'
-        → ServedEach answers desk s first_system script later limit most (Ok done) log log' link link'
-    all_done most since done log log' link link' few far = record {
+    pub all_done : (most since done : ℕ) (complete : Bool) (log log' : SinkState) (link link' : Told) → done ≤ most → SoFar script later since done complete log log' link link'
+        → ServedEach answers pause desk s first_system script later limit most (Ok (record { connections = done; complete = complete })) log log' link link'
+    all_done most since done complete log log' link link' few far = record {
       connections = far.connections;
       are = far.are;
       bound = omega (arith, few, far.counted);
       run = far.run;
       text = text_of_run s (entries_all far.connections) within far.run far.sized far.in_range;
       log_holds = far.logged;
-      answer = (far.counted, far.down);
+      answer = (far.counted, far.down, far.complete_is);
     }
 
   -- the link went over to another connection
-  pub gone_over : (script later : List Step) (since done : ℕ) (log log' : SinkState) (link between link' : Told) → link' ≡ between → SoFar script later since done log log' link between → SoFar script later since done log log' link link'
-  gone_over script later since done log log' link between link' e far =
-      let P : Told → Type 0 = λ l. SoFar script later since done log log' link l in subst P (sym e) far
+  pub gone_over : (script later : List Step) (since done : ℕ) (complete : Bool) (log log' : SinkState) (link between link' : Told) → link' ≡ between → SoFar script later since done complete log log' link between → SoFar script later since done complete log log' link link'
+  gone_over script later since done complete log log' link between link' e far =
+      let P : Told → Type 0 = λ l. SoFar script later since done complete log log' link l in subst P (sym e) far
 
   -- ---- the settings' line
 
@@ -315,7 +334,7 @@ module _ {D : Type 0} (answers : D → Content → Answered) (desk : D) (s : Par
       grows_along log log' ((settings_line s ++ 10 ∷ []) ++ log_lines entries) (written_log s entries) (append_assoc (settings_line s) (10 ∷ []) (log_lines entries))
       (log_then log mid log' (settings_line s ++ 10 ∷ []) (log_lines entries) h k)
 
-  head_then : (result : Result ℕ ServeFault) (log mid log' : SinkState) (cs : List Connection) → LogGrows log mid (settings_line s ++ 10 ∷ []) → LinesHeld result mid log' cs → LogHoldsAgain result log log' s cs
+  head_then : (result : Result ServedAgain ServeFault) (log mid log' : SinkState) (cs : List Connection) → LogGrows log mid (settings_line s ++ 10 ∷ []) → LinesHeld result mid log' cs → LogHoldsAgain result log log' s cs
   head_then (Ok n) log mid log' cs h k = grows_text log mid log' (entries_all cs) h k
   head_then (Err serve.Link) log mid log' cs h k = grows_text log mid log' (entries_all cs) h k
   head_then (Err serve.Turns) log mid log' cs h k = grows_text log mid log' (entries_all cs) h k
@@ -325,8 +344,8 @@ module _ {D : Type 0} (answers : D → Content → Answered) (desk : D) (s : Par
       let T : List ℕ → Type 0 = λ l. LogStops log log' l k.1.rest in
       inr (k.0, k.1, k.2, subst T (append_assoc (settings_line s) (10 ∷ []) lines) (stops_then log mid log' (settings_line s ++ 10 ∷ []) lines k.1.rest h k.3))
 
-  pub opened_again : (script later : List Step) (most : ℕ) (result : Result ℕ ServeFault) (log mid log' : SinkState) (link link' : Told) → LogGrows log mid (settings_line s ++ 10 ∷ [])
-      → ServedEach answers desk s first_system script later limit most result mid log' link link' → ServesAgain answers desk s first_system script later limit most result log log' link link'
+  pub opened_again : (script later : List Step) (most : ℕ) (result : Result ServedAgain ServeFault) (log mid log' : SinkState) (link link' : Told) → LogGrows log mid (settings_line s ++ 10 ∷ [])
+      → ServedEach answers pause desk s first_system script later limit most result mid log' link link' → ServesAgain answers pause desk s first_system script later limit most result log log' link link'
   opened_again script later most result log mid log' link link' grows r =
       record {
         connections = r.connections;
@@ -340,7 +359,7 @@ module _ {D : Type 0} (answers : D → Content → Answered) (desk : D) (s : Par
       }
 
   pub unopened_again : (script later : List Step) (most : ℕ) (log log' : SinkState) (link : Told) → IsWithinLimits s → LogFails log log' (settings_line s ++ 10 ∷ [])
-      → ServesAgain answers desk s first_system script later limit most (Err serve.Log) log log' link link
+      → ServesAgain answers pause desk s first_system script later limit most (Err serve.Log) log log' link link
   unopened_again script later most log log' link within fails = record {
     connections = [];
     are = refl;
@@ -354,7 +373,7 @@ module _ {D : Type 0} (answers : D → Content → Answered) (desk : D) (s : Par
 
 -- ---- the audit passes it
 
-grown_again : (result : Result ℕ ServeFault) (log log' : SinkState) (s : Parameters) (cs : List Connection) → is_log_fault_again result ≡ false → LogHoldsAgain result log log' s cs → LogGrows log log' (written_log s (entries_all cs))
+grown_again : (result : Result ServedAgain ServeFault) (log log' : SinkState) (s : Parameters) (cs : List Connection) → is_log_fault_again result ≡ false → LogHoldsAgain result log log' s cs → LogGrows log log' (written_log s (entries_all cs))
 grown_again (Ok n) log log' s cs fine h = h
 grown_again (Err serve.Link) log log' s cs fine h = h
 grown_again (Err serve.Turns) log log' s cs fine h = h
@@ -362,7 +381,7 @@ grown_again (Err serve.Memory) log log' s cs fine h = h
 grown_again (Err serve.Log) log log' s cs fine h = absurd (let e : true ≡ false = fine in cc)
 
 pub served_again_passes : {D : Type 0} (answers : D → Content → Answered) → ServedAgainLogPasses answers
-served_again_passes answers desk s first_system script later limit most result log log' link link' r fine empty =
+served_again_passes answers pause desk s first_system script later limit most result log log' link link' r fine empty =
     let entries = entries_all r.connections in
     let text = written_log s entries in (
       text,

@@ -1,6 +1,6 @@
 -- The log of a served connection is the text of a run.
-use Rattle.std.proofs.Common.{◌≡◌, ◌≤◌, ◌<◌, ◌+◌, ◌*◌, ◌++◌, ◌^◌, ℕ, List, [], ◌∷◌, length, get_or, Some, None, Ok, Err, true, false, refl, sym, ap, ◌∙◌, subst, arith, append_assoc, length-append}
-use Rattle.std.specs.Prelude.{Result, All, codes, decimal}
+use Rattle.std.proofs.Common.{◌≡◌, ◌≤◌, ◌<◌, ◌+◌, ◌*◌, ◌++◌, ◌^◌, ℕ, List, [], ◌∷◌, length, get_or, Ok, Err, true, false, refl, sym, ap, ◌∙◌, subst, arith, append_assoc, length-append}
+use Rattle.std.specs.Prelude.{Option, Result, All, codes, decimal}
 use Rattle.std.proofs.lemmas.Fmt.{length-decimal-le}
 use Rattle.std.proofs.lemmas.List.Elements.{All-append, All-nil, All-from_get_or}
 use Rattle.hex.specs.Hex.{encode_lower, lower_digits}
@@ -18,10 +18,8 @@ use Rattle.hsms_machine.specs.Settings.{Parameters, IsWithinLimits}
 use Rattle.hsms_machine.specs.Run.{IsRun}
 use Rattle.hsms_machine.specs.View.{HasView}
 use Rattle.hsms_machine.proofs.Runs.{empty_run}
-use Rattle.hsms_log.specs.declared.verdict.Verdict.TheVariants.{Pass}
 use Rattle.hsms_log.specs.Spelling.{IsEntry, entry_line, event_text, line_limit, message_octets, system_octets, settings_line}
 use Rattle.hsms_log.specs.Log.{LogText, written_log}
-use Rattle.hsms_log.specs.Verdict.{Judges, summary_of}
 use Rattle.hsms_log.proofs.WrittenLog.{log_written}
 use Rattle.hsms_end.specs.Answer.{Answered}
 use Rattle.hsms_end.specs.Known.{EndOf, untold, untold_since}
@@ -34,7 +32,7 @@ use Rattle.hsms_ends.specs.declared.fault.ServeFault.TheVariants as serve
 use Rattle.hsms_ends.specs.Link.{Told}
 use Rattle.hsms_ends.specs.PutOut.{LogGrows, LogFails, LogStops, log_lines}
 use Rattle.hsms_ends.specs.Turning.{has_gone}
-use Rattle.hsms_ends.specs.Serving.{Story, Unopened, Unstarted, Started, IsStory, entries_of, ends_down, Answers, LogStopsIn, LogHolds, is_log_fault, Serves}
+use Rattle.hsms_ends.specs.Serving.{Story, Unopened, Unstarted, Started, IsStory, entries_of, ends_down, Answers, LogStopsIn, LogHolds, is_log_fault, ServesTesting}
 use Rattle.hsms_ends.specs.Outcome.{AnswersEnd, HoldsLines, ServesEnd}
 use Rattle.hsms_ends.specs.Laws.{ServedLogPasses}
 use Rattle.hsms_ends.proofs.Along.{along_story}
@@ -106,7 +104,7 @@ pub record IsReached {D : Type 0} (s : Parameters) (before : List Entry) (end : 
   pub settings : end.known.settings ≡ s
   pub sized : All (λ (entry : Entry). IsDiscardSized s.max entry.event) before
 
-module _ {D : Type 0} (answers : D → Content → Answered) where
+module _ {D : Type 0} (answers : D → Content → Answered) (pause : Option ℕ) where
   reached_next : (s : Parameters) (before : List Entry) (end : EndOf D) (input : Input) (entries : List Entry) (end' : EndOf D)
       → IsReached s before end → Accepts answers end input entries end' → IsReached s (before ++ entries) end'
   reached_next s before end input entries end' p h =
@@ -126,10 +124,10 @@ module _ {D : Type 0} (answers : D → Content → Answered) where
       record { seen = record { run = empty_run s; seen = refl }; settings = refl; sized = All-nil (λ (entry : Entry). IsDiscardSized s.max entry.event) }
 
   pub reached : (desk : D) (s : Parameters) (first_system since : ℕ) (script : List Step) (story : Story) (last : EndOf D)
-      → IsStory answers (record { desk = desk; known = untold_since s first_system since }) script story last → IsReached s (entries_of story) last
+      → IsStory answers pause (record { desk = desk; known = untold_since s first_system since }) script story last → IsReached s (entries_of story) last
   reached desk s first_system since script story last is =
       let P : List Entry → EndOf D → Type 0 = λ before end. IsReached s before end in
-      along_story answers P (λ before end input entries end' p h. reached_next s before end input entries end' p h)
+      along_story answers pause P (λ before end input entries end' p h. reached_next s before end input entries end' p h)
       (record { desk = desk; known = untold_since s first_system since }) script story last (reached_new desk s first_system since) is
 
   pub answers_by : (limit : ℕ) (result : Result Served ServeFault) (story : Story) (last : EndOf D) → has_gone last ≡ ends_down (entries_of story) → AnswersEnd limit result story last → Answers limit result story
@@ -160,8 +158,8 @@ module _ {D : Type 0} (answers : D → Content → Answered) where
   -- the settings' line was written
   pub opened : (end_new : EndOf D) (desk : D) (s : Parameters) (first_system : ℕ) (script : List Step) (limit : ℕ) (result : Result Served ServeFault) (log mid log' : SinkState) (link link' : Told)
       → IsWithinLimits s → LogGrows log mid (settings_line s ++ 10 ∷ [])
-      → ServesEnd answers (record { desk = desk; known = untold s first_system }) end_new script limit result mid log' link link'
-      → Serves answers (record { desk = desk; known = untold s first_system }) script limit result log log' link link'
+      → ServesEnd answers pause (record { desk = desk; known = untold s first_system }) end_new script limit result mid log' link link'
+      → ServesTesting answers pause (record { desk = desk; known = untold s first_system }) script limit result log log' link link'
   opened end_new desk s first_system script limit result log mid log' link link' within grows r =
       let there = reached desk s first_system 0 script r.story r.last r.is_story in
       let H : List ℕ → Type 0 = λ l. HoldsLines result log log' l r.rest in
@@ -179,6 +177,7 @@ module _ {D : Type 0} (answers : D → Content → Answered) where
         parted = r.parted;
         rest_is_last = r.rest_is_last;
         log_holds = held_by result r.story log log' s r.whole r.rest r.parted held;
+        steps_left = r.steps_left;
         answer = answers_by limit result r.story r.last (gone_of_view s (entries_of r.story) r.last.known.view there.seen) r.answer;
         hears = r.hears;
         failed = r.failed;
@@ -191,7 +190,7 @@ module _ {D : Type 0} (answers : D → Content → Answered) where
   -- the settings' line was refused
   pub unopened : (desk : D) (s : Parameters) (first_system : ℕ) (script : List Step) (limit : ℕ) (log log' : SinkState) (link : Told)
       → IsWithinLimits s → LogFails log log' (settings_line s ++ 10 ∷ [])
-      → Serves answers (record { desk = desk; known = untold s first_system }) script limit (Err serve.Log) log log' link link
+      → ServesTesting answers pause (record { desk = desk; known = untold s first_system }) script limit (Err serve.Log) log log' link link
   unopened desk s first_system script limit log log' link within fails = record {
     story = Unopened;
     last = record { desk = desk; known = untold s first_system };
@@ -205,6 +204,7 @@ module _ {D : Type 0} (answers : D → Content → Answered) where
     rest_is_last = ([], refl);
     log_holds = fails;
     answer = tt;
+    steps_left = tt;
     hears = hears_nothing link;
     failed = false;
     took = grows_none link.taken;
@@ -224,15 +224,15 @@ module _ {D : Type 0} (answers : D → Content → Answered) where
   grown (Err serve.Log) story log log' s whole rest fine h = absurd (let e : true ≡ false = fine in cc)
   grown (Err serve.Memory) story log log' s whole rest fine h = h
 
-  pub served_passes : ServedLogPasses answers
-  served_passes new script limit result log log' link link' r fine empty =
-      let s = new.known.settings in
-      let entries = entries_of r.story in
-      let text = written_log s entries in
-      let all = grown result r.story log log' s r.whole r.rest fine r.log_holds in
-      let P : List Entry → Type 0 = λ l. LogGrows log log' (written_log s l) in
-      let logged = subst P (whole_is entries r.whole r.rest r.parted all.0) all.1 in (
-        text,
-        logged.0 [] empty,
-        (s, entries, record { spelled = r.text; run = r.run }, refl),
-      )
+pub served_passes : {D : Type 0} (answers : D → Content → Answered) → ServedLogPasses answers
+served_passes answers pause new script limit result log log' link link' r fine empty =
+    let s = new.known.settings in
+    let entries = entries_of r.story in
+    let text = written_log s entries in
+    let all = grown answers pause result r.story log log' s r.whole r.rest fine r.log_holds in
+    let P : List Entry → Type 0 = λ l. LogGrows log log' (written_log s l) in
+    let logged = subst P (whole_is entries r.whole r.rest r.parted all.0) all.1 in (
+      text,
+      logged.0 [] empty,
+      (s, entries, record { spelled = r.text; run = r.run }, refl),
+    )

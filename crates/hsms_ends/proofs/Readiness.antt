@@ -1,6 +1,6 @@
 -- An end whose log is a run stays one, and what it sends fits a length field.
-use Rattle.std.proofs.Common.{◌≡◌, ◌≤◌, ◌<◌, ◌+◌, ◌++◌, ℕ, List, [], ◌∷◌, length, get_or, None, Ok, true, false, inl, inr, refl, sym, ap, subst, arith, length-append}
-use Rattle.std.specs.Prelude.{All}
+use Rattle.std.proofs.Common.{◌≡◌, ◌≤◌, ◌<◌, ◌+◌, ◌++◌, ℕ, List, [], ◌∷◌, length, get_or, None, Ok, false, inl, inr, refl, sym, ap, subst, arith, length-append}
+use Rattle.std.specs.Prelude.{Option}
 use Rattle.std.proofs.lemmas.Bool.{cases_lt}
 use Rattle.std.proofs.lemmas.List.{get_or-append-add}
 use Rattle.std.proofs.lemmas.List.Elements.{All-from_get_or}
@@ -115,12 +115,12 @@ module _ {D : Type 0} (answers : D → Content → Answered) where
       subst P (sym h.leads) (ready_after end h.end' input h.entries ready h.takes)
 
   -- and after a whole turn
-  pub ready_turned : (end new : EndOf D) (script script' : List Step) (log log' : SinkState) (link link' : Told) (n n' refused refused' : ℕ) → IsReady end
-      → TurnTaken answers (Ok tt) end new script script' log log' link link' n n' refused refused' → IsReady new
-  ready_turned end new script script' log log' link link' n n' refused refused' ready t =
+  pub ready_turned : (pause : Option ℕ) (end new : EndOf D) (script script' : List Step) (log log' : SinkState) (link link' : Told) (n n' refused refused' : ℕ) → IsReady end
+      → TurnTaken answers pause (Ok tt) end new script script' log log' link link' n n' refused refused' → IsReady new
+  ready_turned pause end new script script' log log' link link' n n' refused refused' ready t =
       let P : EndOf D → Type 0 = λ e. IsReady e in
       let Q : List Entry → EndOf D → Type 0 = λ before e. IsReady e in
-      subst P (sym t.leads) (along_turn answers Q (λ before e input entries e' p h. ready_after e e' input entries p h) false [] end script t.turn t.end' script' ready t.is_turn)
+      subst P (sym t.leads) (along_turn answers pause Q (λ before e input entries e' p h. ready_after e e' input entries p h) false [] end script t.turn t.end' script' ready t.is_turn)
 
 -- a new end is ready
 pub ready_new : {D : Type 0} (desk : D) (s : Parameters) (first_system since : ℕ) → IsWithinLimits s → IsReady (record { desk = desk; known = untold_since s first_system since })

@@ -1,6 +1,6 @@
 -- The start, and the turns after it.
-use Rattle.std.proofs.Common.{◌≡◌, ◌≤◌, ◌+◌, ◌++◌, ◌^◌, ◌-◌, min, ℕ, List, [], ◌∷◌, length, drop, Some, None, Ok, Err, true, false, inl, inr, refl, sym, ap, ◌∙◌, subst, arith}
-use Rattle.std.specs.Prelude.{Option, Result}
+use Rattle.std.proofs.Common.{◌≡◌, ◌+◌, ◌++◌, ◌^◌, ◌-◌, min, ℕ, List, [], ◌∷◌, length, drop, Some, None, Ok, Err, true, false, inl, inr, refl, sym, ap, ◌∙◌, subst, arith}
+use Rattle.std.specs.Prelude.{Bool, Option, Result}
 use Rattle.std.proofs.lemmas.List.{append-nil}
 use Rattle.secs_text.specs.Content.{Content}
 use Rattle.hsms_frame.specs.Device.{SinkState}
@@ -13,8 +13,8 @@ use Rattle.hsms_ends.specs.declared.step.Step.{Step}
 use Rattle.hsms_ends.specs.declared.output.Stop.{Stop}
 use Rattle.hsms_ends.specs.declared.output.Stop.TheVariants.{Link, Log, Memory}
 use Rattle.hsms_ends.specs.Link.{Told, both, moment_heard}
-use Rattle.hsms_ends.specs.Turning.{Turn, AreTurns, entries_turns, last_turns, heard_turns}
-use Rattle.hsms_ends.specs.Serving.{count_after, entries_cut, last_cut, last_call, heard_cut, Unstarted, Started, IsCutTurn, entries_of, heard_of, refused_of}
+use Rattle.hsms_ends.specs.Turning.{Rest, Nothing, Stepped, Declined, Tested, Quiet, Octets, Closed, Turn, Untaken, Ticks, Continues, IsTurn, AreTurns, entries_turns, last_turns, heard_turns, steps_rest, steps_turn, steps_turns}
+use Rattle.hsms_ends.specs.Serving.{count_after, entries_cut, last_cut, last_call, heard_cut, Unstarted, Started, IsCutTurn, entries_of, heard_of, refused_of, steps_cut}
 use Rattle.hsms_ends.specs.PutOut.{IsEnding}
 use Rattle.hsms_ends.specs.Outcome.{is_cut, Counts, Handed, IsCut, TurnsTaken, StartedBy, Ran}
 use Rattle.hsms_ends.proofs.Yielding.{ending_none, counts_none, yields_then, yields_along, yields_last, yields_left}
@@ -35,24 +35,53 @@ stored a b k none h =
     let e : b ≡ min (a + k) (2 ^ 64 - 1) = h (omega (arith, none)) in
     omega (arith, e, none)
 
-module _ {D : Type 0} (answers : D → Content → Answered) where
-  is_cut_turn : (r : Result (Unit {0}) Stop) (end late : EndOf D) (script script' : List Step) (cut : Option Turn) → IsCut answers r end script cut late script' → IsCutTurn answers end script cut late
+-- ---- how many steps are left
+
+module _ {D : Type 0} (answers : D → Content → Answered) (pause : Option ℕ) where
+  steps_in_rest : (is_cut : Bool) (end : EndOf D) (script : List Step) (rest : Rest) (end' : EndOf D) (script' : List Step) → Continues answers pause is_cut end script rest end' script'
+      → length script' + steps_rest rest ≡ length script
+  steps_in_rest is_cut end script Nothing end' script' h = omega (arith, ap length h.2)
+  steps_in_rest is_cut end script (Stepped entries) end' script' h = omega (arith, ap length h.1.2)
+  steps_in_rest is_cut end script Declined end' script' h = omega (arith, ap length h.2.2)
+  steps_in_rest is_cut end script (Tested entries) end' script' h = omega (arith, ap length h.0.script_stays)
+  steps_in_rest is_cut end script Quiet end' script' h = omega (arith, ap length h.0.script_stays)
+  steps_in_rest is_cut end script (Octets octets after) end' script' h = omega (arith, ap length h.0.script_stays)
+  steps_in_rest is_cut end script (Closed after) end' script' h = omega (arith, ap length h.0.script_stays)
+
+  steps_in_turn : (end : EndOf D) (script : List Step) (turn : Turn) (end' : EndOf D) (script' : List Step) → IsTurn answers pause false end script turn end' script'
+      → length script' + steps_turn turn ≡ length script
+  steps_in_turn end script (Untaken now) end' script' h = omega (arith, ap length h.3)
+  steps_in_turn end script (Ticks now ticked rest) end' script' h = steps_in_rest false h.1.0 script rest end' script' h.1.2
+
+  steps_in_turns : (end : EndOf D) (script : List Step) (turns : List Turn) (end' : EndOf D) (script' : List Step) → AreTurns answers pause end script turns end' script'
+      → length script' + steps_turns turns ≡ length script
+  steps_in_turns end script [] end' script' h = omega (arith, ap length h.1)
+  steps_in_turns end script (turn ∷ turns) end' script' h =
+      omega (arith, steps_in_turn end script turn h.0 h.1 h.2, steps_in_turns h.0 h.1 turns end' script' h.3)
+
+  steps_uncut : (r : Result (Unit {0}) Stop) (end late : EndOf D) (script script' : List Step) (cut : Option Turn) → IsCut answers pause r end script cut late script' → is_cut r ≡ false
+      → (steps_cut cut ≡ 0) × (length script' ≡ length script)
+  steps_uncut r end late script script' None h whole = (refl, ap length h.1)
+  steps_uncut r end late script script' (Some turn) h whole = absurd (let e : true ≡ false = sym h.0 ∙ whole in cc)
+
+module _ {D : Type 0} (answers : D → Content → Answered) (pause : Option ℕ) where
+  is_cut_turn : (r : Result (Unit {0}) Stop) (end late : EndOf D) (script script' : List Step) (cut : Option Turn) → IsCut answers pause r end script cut late script' → IsCutTurn answers pause end script cut late
   is_cut_turn r end late script script' None h = h.0
   is_cut_turn r end late script script' (Some turn) h = (script', h.1)
 
-  cut_is_none : (r : Result (Unit {0}) Stop) (end late : EndOf D) (script script' : List Step) (cut : Option Turn) → IsCut answers r end script cut late script' → is_cut r ≡ false → cut ≡ None
+  cut_is_none : (r : Result (Unit {0}) Stop) (end late : EndOf D) (script script' : List Step) (cut : Option Turn) → IsCut answers pause r end script cut late script' → is_cut r ≡ false → cut ≡ None
   cut_is_none r end late script script' None h whole = refl
   cut_is_none r end late script script' (Some turn) h whole = absurd (let e : true ≡ false = sym h.0 ∙ whole in cc)
 
   pub ran_turns : (r : Result (Unit {0}) Stop) (now limit : ℕ) (new begun end : EndOf D) (script : List Step) (i j : ℕ) (log between log' : SinkState) (link midway link' : Told) (n m n' refused refused' : ℕ)
       → i ≡ 0 → n ≡ 0 → refused ≡ 0
       → Handed answers (Ok tt) new (start now) begun log between link midway (moment_heard now) n m
-      → TurnsTaken answers r limit begun end (drop i script) (drop j script) between log' midway link' m n' refused refused'
-      → Ran answers r limit new end script log log' link link' n' refused'
+      → TurnsTaken answers pause r limit begun end (drop i script) (drop j script) between log' midway link' m n' refused refused'
+      → Ran answers pause r limit new end script (drop j script) log log' link link' n' refused'
   ran_turns r now limit new begun end script i j log between log' link midway link' n m n' refused refused' at_first none none_refused h t =
       let front : drop i script ≡ script = ap (λ k. drop k script) at_first in
-      let P : EndOf D → Type 0 = λ e. AreTurns answers e (drop i script) t.turns t.mid t.left in
-      let Q : List Step → Type 0 = λ l. AreTurns answers h.end' l t.turns t.mid t.left in
+      let P : EndOf D → Type 0 = λ e. AreTurns answers pause e (drop i script) t.turns t.mid t.left in
+      let Q : List Step → Type 0 = λ l. AreTurns answers pause h.end' l t.turns t.mid t.left in
       let story = Started now h.entries t.turns t.cut None in
       let all = yields_then r log between log' link midway link' n m n' h.entries (entries_turns t.turns ++ entries_cut t.cut) h.entries (last_cut t.cut []) (moment_heard now) (both (heard_turns t.turns) (heard_cut t.cut)) h.yields t.yields in
       let same : h.entries ++ (entries_turns t.turns ++ entries_cut t.cut) ≡ entries_of story = ap (λ l. h.entries ++ (entries_turns t.turns ++ l)) (sym (append-nil (entries_cut t.cut))) in
@@ -66,6 +95,10 @@ module _ {D : Type 0} (answers : D → Content → Answered) where
         whole = λ uncut. (cut_is_none r t.mid t.end' t.left (drop j script) t.cut t.is_last uncut, refl);
         enough = t.enough;
         not_lost = refl;
+        steps = λ uncut.
+            let none = steps_uncut answers pause r t.mid t.end' t.left (drop j script) t.cut t.is_last uncut in
+            let turned = steps_in_turns answers pause begun (drop i script) t.turns t.mid t.left t.are_turns in
+            omega (arith, none.0, none.1, turned, ap length front);
         started = started_by r now h.entries t.turns t.cut;
         leads = t.leads;
         puts = told.puts;
@@ -75,10 +108,10 @@ module _ {D : Type 0} (answers : D → Content → Answered) where
         refusals = stored refused refused' (refused_of story) none_refused t.refusals;
       }
 
-  ran_started : (stop : Stop) (now limit : ℕ) (new begun : EndOf D) (script : List Step) (log log' : SinkState) (link link' : Told) (n n' refused : ℕ)
+  ran_started : (stop : Stop) (now limit : ℕ) (new begun : EndOf D) (script script' : List Step) (log log' : SinkState) (link link' : Told) (n n' refused : ℕ)
       → n ≡ 0 → refused ≡ 0 → (h : Handed answers (Err stop) new (start now) begun log log' link link' (moment_heard now) n n') → Accepts answers new (start now) h.entries h.end'
-      → Ran answers (Err stop) limit new begun script log log' link link' n' refused
-  ran_started stop now limit new begun script log log' link link' n n' refused none none_refused h turns =
+      → Ran answers pause (Err stop) limit new begun script script' log log' link link' n' refused
+  ran_started stop now limit new begun script script' log log' link link' n n' refused none none_refused h turns =
       let story = Started now h.entries [] None None in
       let same : h.entries ≡ entries_of story = sym (append-nil h.entries) in
       let told = yields_along (Err stop) log log' link link' n n' h.entries (entries_of story) h.entries (heard_of story) same h.yields in
@@ -90,6 +123,7 @@ module _ {D : Type 0} (answers : D → Content → Answered) where
         whole = λ uncut. absurd (cc);
         enough = λ uncut. absurd (cc);
         not_lost = refl;
+        steps = λ uncut. absurd (cc);
         started = started_by (Err stop) now h.entries [] None;
         leads = h.leads;
         puts = told.puts;
@@ -99,14 +133,14 @@ module _ {D : Type 0} (answers : D → Content → Answered) where
         refusals = stored refused refused 0 none_refused (counts_none refused);
       }
 
-  pub ran_cut : (stop : Stop) (now limit : ℕ) (new begun : EndOf D) (script : List Step) (log log' : SinkState) (link link' : Told) (n n' refused : ℕ)
+  pub ran_cut : (stop : Stop) (now limit : ℕ) (new begun : EndOf D) (script script' : List Step) (log log' : SinkState) (link link' : Told) (n n' refused : ℕ)
       → n ≡ 0 → refused ≡ 0 → Handed answers (Err stop) new (start now) begun log log' link link' (moment_heard now) n n'
-      → Ran answers (Err stop) limit new begun script log log' link link' n' refused
-  ran_cut Link now limit new begun script log log' link link' n n' refused none none_refused h = ran_started Link now limit new begun script log log' link link' n n' refused none none_refused h h.takes
-  ran_cut Log now limit new begun script log log' link link' n n' refused none none_refused h = ran_started Log now limit new begun script log log' link link' n n' refused none none_refused h h.takes
-  ran_cut Memory now limit new begun script log log' link link' n n' refused none none_refused h =
+      → Ran answers pause (Err stop) limit new begun script script' log log' link link' n' refused
+  ran_cut Link now limit new begun script script' log log' link link' n n' refused none none_refused h = ran_started Link now limit new begun script script' log log' link link' n n' refused none none_refused h h.takes
+  ran_cut Log now limit new begun script script' log log' link link' n n' refused none none_refused h = ran_started Log now limit new begun script script' log log' link link' n n' refused none none_refused h h.takes
+  ran_cut Memory now limit new begun script script' log log' link link' n n' refused none none_refused h =
       elim h.takes [
-        | inl turns ↦ ran_started Memory now limit new begun script log log' link link' n n' refused none none_refused h turns
+        | inl turns ↦ ran_started Memory now limit new begun script script' log log' link link' n n' refused none none_refused h turns
         | inr left ↦
             let told = yields_left log log' link link' n n' h.entries (moment_heard now) left.0 h.yields in
             record {
@@ -117,6 +151,7 @@ module _ {D : Type 0} (answers : D → Content → Answered) where
               whole = λ uncut. absurd (cc);
               enough = λ uncut. absurd (cc);
               not_lost = refl;
+              steps = λ uncut. absurd (cc);
               started = tt;
               leads = tt;
               puts = told.puts;

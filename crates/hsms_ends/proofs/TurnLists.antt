@@ -3,7 +3,6 @@ use Rattle.std.proofs.Common.{◌≡◌, ◌+◌, ◌++◌, ℕ, List, [], ◌�
 use Rattle.std.specs.Prelude.{Bool, Option}
 use Rattle.std.proofs.lemmas.List.{append-nil}
 use Rattle.secs_text.specs.Content.{Content}
-use Rattle.hsms_machine.specs.declared.entry.Entry.{Entry}
 use Rattle.hsms_end.specs.Answer.{Answered}
 use Rattle.hsms_end.specs.Known.{EndOf}
 use Rattle.hsms_ends.specs.declared.step.Step.{Step}
@@ -63,10 +62,10 @@ module _ {D : Type 0} where
   pub due_at : (end : EndOf D) (xs : List Step) (i : ℕ) → i < length xs → is_step_due end (drop i xs) ≡ is_idle end
   due_at end xs i below = let P : List Step → Type 0 = λ l. is_step_due end l ≡ is_idle end in subst P (sym (drop_next xs i Separate below)) refl
 
-module _ {D : Type 0} (answers : D → Content → Answered) where
-  pub turns_snoc : (a b c : EndOf D) (s t u : List Step) (turns : List Turn) (turn : Turn) → AreTurns answers a s turns b t → IsTurn answers false b t turn c u → AreTurns answers a s (turns ++ turn ∷ []) c u
+module _ {D : Type 0} (answers : D → Content → Answered) (pause : Option ℕ) where
+  pub turns_snoc : (a b c : EndOf D) (s t u : List Step) (turns : List Turn) (turn : Turn) → AreTurns answers pause a s turns b t → IsTurn answers pause false b t turn c u → AreTurns answers pause a s (turns ++ turn ∷ []) c u
   turns_snoc a b c s t u [] turn h k =
-      let P : EndOf D → List Step → Type 0 = λ x y. IsTurn answers false x y turn c u in
+      let P : EndOf D → List Step → Type 0 = λ x y. IsTurn answers pause false x y turn c u in
       let Q : EndOf D → Type 0 = λ x. P x s in
       let R : List Step → Type 0 = λ y. P b y in
       (c, u, subst Q h.0 (subst R h.1 k), (refl, refl))

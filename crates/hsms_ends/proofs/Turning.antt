@@ -1,6 +1,6 @@
 -- What the parts of a turn leave.
-use Rattle.std.proofs.Common.{◌≡◌, ◌≤◌, ◌<◌, ◌+◌, ◌++◌, ℕ, List, [], ◌∷◌, length, take, drop, Some, None, Ok, Err, true, false, inl, inr, refl, sym, ap, ◌∙◌, subst, arith}
-use Rattle.std.specs.Prelude.{Result}
+use Rattle.std.proofs.Common.{◌≡◌, ◌≤◌, ◌<◌, ◌+◌, ◌++◌, ℕ, List, [], ◌∷◌, take, drop, Some, None, Ok, Err, true, false, inl, inr, refl, sym, ap, ◌∙◌, subst, arith}
+use Rattle.std.specs.Prelude.{Option, Result}
 use Rattle.std.proofs.lemmas.List.{append-nil}
 use Rattle.secs_text.specs.Content.{Content}
 use Rattle.hsms_frame.specs.Count.{next_count}
@@ -10,7 +10,7 @@ use Rattle.hsms_end.specs.declared.fault.EndFault.{EndFault}
 use Rattle.hsms_end.specs.declared.fault.EndFault.TheVariants as fault
 use Rattle.hsms_end.specs.Answer.{Answered}
 use Rattle.hsms_end.specs.Known.{EndOf}
-use Rattle.hsms_end.specs.Turn.{Told as Input, tick}
+use Rattle.hsms_end.specs.Turn.{Told as Input, tick, linktest}
 use Rattle.hsms_end.specs.Fault.{Meets}
 use Rattle.hsms_end.specs.End.{Accepts, Refuses}
 use Rattle.hsms_ends.specs.declared.step.Step.{Step}
@@ -19,8 +19,7 @@ use Rattle.hsms_ends.specs.declared.link.Got.TheVariants as got
 use Rattle.hsms_ends.specs.declared.output.Stop.{Stop}
 use Rattle.hsms_ends.specs.declared.output.Stop.TheVariants.{Link, Log, Memory}
 use Rattle.hsms_ends.specs.Link.{Told, Heard, Hears, both, nothing_heard, moment_heard, octets_heard, quiet_heard, closed_heard, got_heard}
-use Rattle.hsms_ends.specs.Turning.{Refused, Ticked, Done, Rest, Nothing, Stepped, Declined, Quiet, Octets, Closed, Turn, Untaken, Ticks, HasNotGone, has_gone, is_step_due, MustWait, Heeds, Continues, IsTurn, AreTurns, entries_after, entries_rest, entries_turn, entries_turns, last_after, last_rest, last_turn, moment_after, heard_rest, heard_turn, heard_turns, refused_turn, refused_turns, input_of}
-use Rattle.hsms_ends.specs.Serving.{entries_cut, heard_cut, refused_cut}
+use Rattle.hsms_ends.specs.Turning.{Refused, Ticked, Done, Rest, Nothing, Stepped, Declined, Tested, Quiet, Octets, Closed, Untaken, Ticks, HasNotGone, has_gone, is_step_due, MustWait, MustTest, Continues, IsTurn, entries_after, entries_rest, entries_turn, entries_turns, last_after, last_rest, last_turn, moment_after, heard_rest, heard_turn, heard_turns, refused_turn, refused_turns, input_of}
 use Rattle.hsms_ends.specs.PutOut.{IsEnding}
 use Rattle.hsms_ends.specs.Outcome.{is_cut, Leads, Takes, Counts, Yields, Handed, Followed, Heeded, Continued, TurnTaken, TurnsSoFar, TurnsTaken}
 use Rattle.hsms_ends.proofs.Hearing.{both_nothing}
@@ -53,6 +52,7 @@ ending_rest : (rest : Rest) (before more : List Entry) → IsEnding more (last_r
 ending_rest Nothing before more h = ending_none before more h
 ending_rest (Stepped entries) before more h = h
 ending_rest Declined before more h = h
+ending_rest (Tested entries) before more h = h
 ending_rest Quiet before more h = h
 ending_rest (Octets octets after) before more h = h
 ending_rest (Closed after) before more h = h
@@ -137,9 +137,10 @@ module _ {D : Type 0} (answers : D → Content → Answered) where
             }
       ]
 
+module _ {D : Type 0} (answers : D → Content → Answered) (pause : Option ℕ) where
   -- the first tick ended the connection
   pub continued_gone : (end : EndOf D) (script : List Step) (log : SinkState) (link : Told) (n refused : ℕ) → has_gone end ≡ true
-      → Continued answers (Ok tt) end end script script log log link link n n refused refused
+      → Continued answers pause (Ok tt) end end script script log log link link n n refused refused
   continued_gone end script log link n refused gone = record {
     rest = Nothing;
     end' = end;
@@ -151,7 +152,7 @@ module _ {D : Type 0} (answers : D → Content → Answered) where
 
   -- memory was wanting for a step
   pub continued_memory : (end new : EndOf D) (script : List Step) (log : SinkState) (link : Told) (n refused : ℕ)
-      → Continued answers (Err Memory) end new script script log log link link n n refused refused
+      → Continued answers pause (Err Memory) end new script script log log link link n n refused refused
   continued_memory end new script log link n refused = record {
     rest = Nothing;
     end' = end;
@@ -164,7 +165,7 @@ module _ {D : Type 0} (answers : D → Content → Answered) where
   -- the wait failed
   pub continued_fault : (end : EndOf D) (script : List Step) (log : SinkState) (link link' : Told) (n refused : ℕ)
       → Hears link link' nothing_heard → Stays link.taken link'.taken → link'.failures ≡ next_count link.failures
-      → Continued answers (Err Link) end end script script log log link link' n n refused refused
+      → Continued answers pause (Err Link) end end script script log log link link' n n refused refused
   unfolding puts_fault
   continued_fault end script log link link' n refused hears stays failed = record {
     rest = Nothing;
@@ -183,8 +184,8 @@ module _ {D : Type 0} (answers : D → Content → Answered) where
   -- the wait was answered
   pub continued_got : (r : Result (Unit {0}) Stop) (into : List ℕ) (g : Got) (end end_new : EndOf D) (script : List Step) (log log' : SinkState) (link mid link' : Told) (n n' refused : ℕ)
       → Hears link mid (got_heard into g) → Stays link.taken mid.taken → mid.failures ≡ link.failures
-      → Heeded answers r into g end end_new log log' mid link' n n' → MustWait end script script
-      → Continued answers r end end_new script script log log' link link' n n' refused refused
+      → Heeded answers r into g end end_new log log' mid link' n n' → MustWait pause end script script
+      → Continued answers pause r end end_new script script log log' link link' n n' refused refused
   continued_got r into (got.Octets k) end end_new script log log' link mid link' n n' refused hears stays same h must = record {
     rest = Octets (take k into) h.after;
     end' = h.end';
@@ -212,13 +213,44 @@ module _ {D : Type 0} (answers : D → Content → Answered) where
     refusals = counts_none refused;
   }
 
+  tested_by : (r : Result (Unit {0}) Stop) (end new : EndOf D) (script : List Step) (log log' : SinkState) (link link' : Told) (n n' refused : ℕ) → MustTest pause end script script
+      → (h : Handed answers r end linktest new log log' link link' nothing_heard n n') → Accepts answers end linktest h.entries h.end'
+      → Continued answers pause r end new script script log log' link link' n n' refused refused
+  tested_by r end new script log log' link link' n n' refused must h turns = record {
+    rest = Tested h.entries;
+    end' = h.end';
+    continues = (must, turns);
+    leads = h.leads;
+    yields = h.yields;
+    refusals = counts_none refused;
+  }
+
+  -- the link was tested
+  pub continued_tested : (r : Result (Unit {0}) Stop) (end new : EndOf D) (script : List Step) (log log' : SinkState) (link link' : Told) (n n' refused : ℕ) → MustTest pause end script script
+      → Handed answers r end linktest new log log' link link' nothing_heard n n' → Continued answers pause r end new script script log log' link link' n n' refused refused
+  continued_tested (Ok u) end new script log log' link link' n n' refused must h = tested_by (Ok u) end new script log log' link link' n n' refused must h h.takes
+  continued_tested (Err Link) end new script log log' link link' n n' refused must h = tested_by (Err Link) end new script log log' link link' n n' refused must h h.takes
+  continued_tested (Err Log) end new script log log' link link' n n' refused must h = tested_by (Err Log) end new script log log' link link' n n' refused must h h.takes
+  continued_tested (Err Memory) end new script log log' link link' n n' refused must h =
+      elim h.takes [
+        | inl turns ↦ tested_by (Err Memory) end new script log log' link link' n n' refused must h turns
+        | inr left ↦ record {
+          rest = Nothing;
+          end' = end;
+          continues = (inl refl, refl, refl);
+          leads = tt;
+          yields = yields_left log log' link link' n n' h.entries nothing_heard left.0 h.yields;
+          refusals = counts_none refused;
+        }
+      ]
+
   -- the tick, and the rest of the turn
   pub turn_whole : (r : Result (Unit {0}) Stop) (now : ℕ) (end mid new : EndOf D) (script script' : List Step) (log between log' : SinkState) (link midway link' : Told) (n m n' refused refused' : ℕ)
       → HasNotGone end → Handed answers (Ok tt) end (tick now) mid log between link midway (moment_heard now) n m
-      → Continued answers r mid new script script' between log' midway link' m n' refused refused'
-      → TurnTaken answers r end new script script' log log' link link' n n' refused refused'
+      → Continued answers pause r mid new script script' between log' midway link' m n' refused refused'
+      → TurnTaken answers pause r end new script script' log log' link link' n n' refused refused'
   turn_whole r now end mid new script script' log between log' link midway link' n m n' refused refused' up h k =
-      let P : EndOf D → Type 0 = λ e. Continues answers (is_cut r) e script k.rest k.end' script' in
+      let P : EndOf D → Type 0 = λ e. Continues answers pause (is_cut r) e script k.rest k.end' script' in
       record {
         turn = Ticks now h.entries k.rest;
         end' = k.end';
@@ -232,7 +264,7 @@ module _ {D : Type 0} (answers : D → Content → Answered) where
   -- the tick was cut short after its entries
   turn_ticked : (stop : Stop) (now : ℕ) (end mid : EndOf D) (script : List Step) (log log' : SinkState) (link link' : Told) (n n' refused : ℕ)
       → HasNotGone end → (h : Handed answers (Err stop) end (tick now) mid log log' link link' (moment_heard now) n n') → Accepts answers end (tick now) h.entries h.end'
-      → TurnTaken answers (Err stop) end mid script script log log' link link' n n' refused refused
+      → TurnTaken answers pause (Err stop) end mid script script log log' link link' n n' refused refused
   turn_ticked stop now end mid script log log' link link' n n' refused up h turns = record {
     turn = Ticks now h.entries Nothing;
     end' = h.end';
@@ -244,7 +276,7 @@ module _ {D : Type 0} (answers : D → Content → Answered) where
 
   pub turn_cut : (stop : Stop) (now : ℕ) (end mid : EndOf D) (script : List Step) (log log' : SinkState) (link link' : Told) (n n' refused : ℕ)
       → HasNotGone end → Handed answers (Err stop) end (tick now) mid log log' link link' (moment_heard now) n n'
-      → TurnTaken answers (Err stop) end mid script script log log' link link' n n' refused refused
+      → TurnTaken answers pause (Err stop) end mid script script log log' link link' n n' refused refused
   turn_cut Link now end mid script log log' link link' n n' refused up h = turn_ticked Link now end mid script log log' link link' n n' refused up h h.takes
   turn_cut Log now end mid script log log' link link' n n' refused up h = turn_ticked Log now end mid script log log' link link' n n' refused up h h.takes
   turn_cut Memory now end mid script log log' link link' n n' refused up h =
@@ -264,7 +296,7 @@ module _ {D : Type 0} (answers : D → Content → Answered) where
   pub stepped : (r : Result (Unit {0}) Stop) (end new : EndOf D) (xs : List Step) (i : ℕ) (step : Step) (log log' : SinkState) (link link' : Told) (n n' refused : ℕ) (entries : List Entry)
       → HasNotGone end → is_step_due end (drop i xs) ≡ true → drop i xs ≡ step ∷ drop (i + 1) xs → Accepts answers end (input_of step) entries new
       → Yields r log log' link link' n n' entries entries nothing_heard
-      → Continued answers r end new (drop i xs) (drop (i + 1) xs) log log' link link' n n' refused refused
+      → Continued answers pause r end new (drop i xs) (drop (i + 1) xs) log log' link link' n n' refused refused
   stepped r end new xs i step log log' link link' n n' refused entries up due next turns yields = record {
     rest = Stepped entries;
     end' = new;
@@ -278,7 +310,7 @@ module _ {D : Type 0} (answers : D → Content → Answered) where
   pub declined : (end new : EndOf D) (xs : List Step) (i : ℕ) (step : Step) (reason : EndFault) (log : SinkState) (link : Told) (n refused refused' : ℕ)
       → HasNotGone end → is_step_due end (drop i xs) ≡ true → drop i xs ≡ step ∷ drop (i + 1) xs → Meets end.known (input_of step) (Some reason) → new ≡ end
       → Counts refused refused' 1
-      → Continued answers (Ok tt) end new (drop i xs) (drop (i + 1) xs) log log link link n n refused refused'
+      → Continued answers pause (Ok tt) end new (drop i xs) (drop (i + 1) xs) log log link link n n refused refused'
   declined end new xs i step reason log link n refused refused' up due next meets same more = record {
     rest = Declined;
     end' = end;
@@ -288,7 +320,7 @@ module _ {D : Type 0} (answers : D → Content → Answered) where
     refusals = more;
   }
 
-  pub none_so_far : (end : EndOf D) (script : List Step) (log : SinkState) (link : Told) (n refused : ℕ) → TurnsSoFar answers end end script script log log link link n n refused refused 0
+  pub none_so_far : (end : EndOf D) (script : List Step) (log : SinkState) (link : Told) (n refused : ℕ) → TurnsSoFar answers pause end end script script log log link link n n refused refused 0
   none_so_far end script log link n refused = record {
     turns = [];
     are_turns = (refl, refl);
@@ -298,18 +330,18 @@ module _ {D : Type 0} (answers : D → Content → Answered) where
   }
 
   pub one_more : (end mid new : EndOf D) (script left script' : List Step) (log between log' : SinkState) (link midway link' : Told) (n m n' refused between_refused refused' done : ℕ)
-      → TurnsSoFar answers end mid script left log between link midway n m refused between_refused done
-      → TurnTaken answers (Ok tt) mid new left script' between log' midway link' m n' between_refused refused'
-      → TurnsSoFar answers end new script script' log log' link link' n n' refused refused' (done + 1)
+      → TurnsSoFar answers pause end mid script left log between link midway n m refused between_refused done
+      → TurnTaken answers pause (Ok tt) mid new left script' between log' midway link' m n' between_refused refused'
+      → TurnsSoFar answers pause end new script script' log log' link link' n n' refused refused' (done + 1)
   one_more end mid new script left script' log between log' link midway link' n m n' refused between_refused refused' done s t =
-      let P : EndOf D → Type 0 = λ e. IsTurn answers false mid left t.turn e script' in
+      let P : EndOf D → Type 0 = λ e. IsTurn answers pause false mid left t.turn e script' in
       let all = yields_whole log log' link link' n n' (entries_turns s.turns ++ entries_turn t.turn) (last_turn t.turn) [] (both (heard_turns s.turns) (heard_turn t.turn))
       (yields_then (Ok tt) log between log' link midway link' n m n' (entries_turns s.turns) (entries_turn t.turn) [] (last_turn t.turn) (heard_turns s.turns) (heard_turn t.turn) s.yields t.yields) in
       let H : Heard → Type 0 = λ h. Yields (Ok tt) log log' link link' n n' (entries_turns (s.turns ++ t.turn ∷ [])) [] h in
       let R : ℕ → Type 0 = λ k. Counts refused refused' k in
       record {
         turns = s.turns ++ t.turn ∷ [];
-        are_turns = turns_snoc answers end mid new script left script' s.turns t.turn s.are_turns (subst P (sym t.leads) t.is_turn);
+        are_turns = turns_snoc answers pause end mid new script left script' s.turns t.turn s.are_turns (subst P (sym t.leads) t.is_turn);
         long = length_snoc s.turns t.turn ∙ ap (λ k. k + 1) s.long;
         yields = subst H (sym (heard_snoc s.turns t.turn))
             (yields_along (Ok tt) log log' link link' n n' (entries_turns s.turns ++ entries_turn t.turn) (entries_turns (s.turns ++ t.turn ∷ [])) []
@@ -319,8 +351,8 @@ module _ {D : Type 0} (answers : D → Content → Answered) where
 
   -- all turns were taken, or the connection went down
   pub taken_whole : (limit : ℕ) (end new : EndOf D) (script script' : List Step) (log log' : SinkState) (link link' : Told) (n n' refused refused' done : ℕ)
-      → TurnsSoFar answers end new script script' log log' link link' n n' refused refused' done → done ≤ limit → (has_gone new ≡ false → done ≡ limit)
-      → TurnsTaken answers (Ok tt) limit end new script script' log log' link link' n n' refused refused'
+      → TurnsSoFar answers pause end new script script' log log' link link' n n' refused refused' done → done ≤ limit → (has_gone new ≡ false → done ≡ limit)
+      → TurnsTaken answers pause (Ok tt) limit end new script script' log log' link link' n n' refused refused'
   taken_whole limit end new script script' log log' link link' n n' refused refused' done s within enough =
       let H : Heard → Type 0 = λ h. Yields (Ok tt) log log' link link' n n' (entries_turns s.turns ++ []) [] h in
       let R : ℕ → Type 0 = λ k. Counts refused refused' k in
@@ -342,9 +374,9 @@ module _ {D : Type 0} (answers : D → Content → Answered) where
 
   -- a fault cut the last turn short
   pub taken_cut : (stop : Stop) (limit : ℕ) (end mid new : EndOf D) (script left script' : List Step) (log between log' : SinkState) (link midway link' : Told) (n m n' refused between_refused refused' done : ℕ)
-      → TurnsSoFar answers end mid script left log between link midway n m refused between_refused done → done < limit
-      → TurnTaken answers (Err stop) mid new left script' between log' midway link' m n' between_refused refused'
-      → TurnsTaken answers (Err stop) limit end new script script' log log' link link' n n' refused refused'
+      → TurnsSoFar answers pause end mid script left log between link midway n m refused between_refused done → done < limit
+      → TurnTaken answers pause (Err stop) mid new left script' between log' midway link' m n' between_refused refused'
+      → TurnsTaken answers pause (Err stop) limit end new script script' log log' link link' n n' refused refused'
   taken_cut stop limit end mid new script left script' log between log' link midway link' n m n' refused between_refused refused' done s below t = record {
     turns = s.turns;
     cut = Some t.turn;

@@ -1,5 +1,5 @@
 -- Connections that are served one after the other, in one log (this project's own): what `serve_again` leaves.
-use Rattle.std.specs.Prelude.{false, true, ◌≡◌, ◌≤◌, ◌-◌, ◌++◌, ◌⊎◌, ℕ, Bool, List, [], ◌∷◌, length, Result, Ok, Err}
+use Rattle.std.specs.Prelude.{false, true, ◌≡◌, ◌≤◌, ◌-◌, ◌++◌, ◌&&◌, ◌⊎◌, ℕ, Bool, List, [], ◌∷◌, length, Option, Result, Ok, Err}
 use Rattle.secs_text.specs.Content.{Content}
 use Rattle.hsms_frame.specs.Device.{SinkState}
 use Rattle.hsms_machine.specs.declared.entry.Entry.{Entry}
@@ -11,13 +11,14 @@ use Rattle.hsms_log.specs.Spelling.{settings_line}
 use Rattle.hsms_log.specs.Log.{LogText, written_log}
 use Rattle.hsms_end.specs.Answer.{Answered}
 use Rattle.hsms_end.specs.Known.{EndOf, untold_since}
+use Rattle.hsms_ends.specs.declared.again.ServedAgain.{ServedAgain}
 use Rattle.hsms_ends.specs.declared.step.Step.{Step}
 use Rattle.hsms_ends.specs.declared.serving.Served.{Served}
 use Rattle.hsms_ends.specs.declared.fault.ServeFault.{ServeFault}
 use Rattle.hsms_ends.specs.declared.fault.ServeFault.TheVariants as serve
 use Rattle.hsms_ends.specs.Link.{Told, Heard, both, nothing_heard, Hears}
 use Rattle.hsms_ends.specs.PutOut.{LogGrows, LogFails, LogStops, IsEnding, sent_octets}
-use Rattle.hsms_ends.specs.Serving.{Story, IsStory, has_lost, entries_of, heard_of, last_call, turns_begun, Answers, MayHaveFailed, is_log_fault, LinkTook, failures_after}
+use Rattle.hsms_ends.specs.Serving.{Story, IsStory, has_lost, is_complete, entries_of, heard_of, last_call, turns_begun, Answers, LeavesSteps, MayHaveFailed, is_log_fault, LinkTook, failures_after}
 
 -- One of the connections: the moment before which its end doesn't start, its script, what became of it, what was
 -- answered, and whether the link failed; its entries whose lines are whole in the log, and the others.
@@ -35,12 +36,13 @@ abbrev pub new_end : {D : Type 0} → D → Parameters → ℕ → ℕ → EndOf
 new_end desk s first_system since = record { desk = desk; known = untold_since s first_system since }
 
 -- it was served, in at most so many turns: as `Serves` says of one connection
-pub record IsServed {D : Type 0} (answers : D → Content → Answered) (desk : D) (s : Parameters) (first_system limit : ℕ) (c : Connection) (link link' : Told) : Type 0 where
+pub record IsServed {D : Type 0} (answers : D → Content → Answered) (pause : Option ℕ) (desk : D) (s : Parameters) (first_system limit : ℕ) (c : Connection) (link link' : Told) : Type 0 where
   pub last : EndOf D
-  pub is_story : IsStory answers (new_end desk s first_system c.since) c.script c.story last
+  pub is_story : IsStory answers pause (new_end desk s first_system c.since) c.script c.story last
   pub bound : turns_begun c.story ≤ limit
   pub run : IsRun s (entries_of c.story)
   pub answer : Answers limit c.result c.story
+  pub steps_left : LeavesSteps c.script c.result c.story
   -- entries are left out of the log by its fault alone, and only of those that the story's last call gave
   pub parted : entries_of c.story ≡ c.whole ++ c.rest
   pub rest_is_last : IsEnding c.rest (last_call c.story)
@@ -67,19 +69,31 @@ last_time log = (entry_at log (length log - 1)).time
 
 -- The connections were served one after the other. The first one has a script, and each other one a later script. Each
 -- end but the first starts no earlier than at the time of the last entry before it.
-abbrev pub AreServed : {D : Type 0} → (D → Content → Answered) → D → Parameters → ℕ → ℕ → List Step → List Step → ℕ → List Connection → Told → Told → Type 0
-AreServed answers desk s first_system limit script later since [] link link' = link' ≡ link
-AreServed answers desk s first_system limit script later since (c ∷ cs) link link' =
-    (mid : Told) × (c.script ≡ script) × (c.since ≡ since) × IsServed answers desk s first_system limit c link mid
-    × AreServed answers desk s first_system limit later later (last_time (entries_of c.story)) cs mid link'
+abbrev pub AreServed : {D : Type 0} → (D → Content → Answered) → Option ℕ → D → Parameters → ℕ → ℕ → List Step → List Step → ℕ → List Connection → Told → Told → Type 0
+AreServed answers pause desk s first_system limit script later since [] link link' = link' ≡ link
+AreServed answers pause desk s first_system limit script later since (c ∷ cs) link link' =
+    (mid : Told) × (c.script ≡ script) × (c.since ≡ since) × IsServed answers pause desk s first_system limit c link mid
+    × AreServed answers pause desk s first_system limit later later (last_time (entries_of c.story)) cs mid link'
 
 -- the last of the connections was answered by this fault
 abbrev pub EndsBy : ServeFault → List Connection → Type 0
 EndsBy fault cs = (front : List Connection) × (c : Connection) × (cs ≡ front ++ c ∷ []) × (c.result ≡ Err fault)
 
--- which connections an answer tells of: so many, the last of them down; or a fault that isn't the link's
-abbrev pub AnswersAgain : Result ℕ ServeFault → List Connection → Type 0
-AnswersAgain (Ok n) cs = (n ≡ length cs) × EndsDown (entries_all cs)
+-- a connection was served to its end, and each step of its script was taken
+abbrev pub completes : Result Served ServeFault → Bool
+completes (Ok served) = is_complete served
+completes (Err fault) = false
+
+-- so was each of the connections
+abbrev pub are_complete : List Connection → Bool
+are_complete [] = true
+are_complete (c ∷ cs) = completes c.result && are_complete cs
+
+-- which connections an answer tells of: so many, the last of them down, and whether each was complete; or a fault that
+-- isn't the link's
+abbrev pub AnswersAgain : Result ServedAgain ServeFault → List Connection → Type 0
+AnswersAgain (Ok served) cs =
+    (served.connections ≡ length cs) × EndsDown (entries_all cs) × (served.complete ≡ are_complete cs)
 AnswersAgain (Err serve.Link) cs = ⊥
 AnswersAgain (Err serve.Turns) cs = EndsBy serve.Turns cs
 AnswersAgain (Err serve.Memory) cs = EndsBy serve.Memory cs
@@ -92,7 +106,7 @@ LogStopsLast old new text cs =
     × LogStops old new (text (entries_all front ++ c.whole)) c.rest
 
 -- what the log holds: the text of all entries, or after the log's fault a part of it from its front
-abbrev pub LogHoldsAgain : Result ℕ ServeFault → SinkState → SinkState → Parameters → List Connection → Type 0
+abbrev pub LogHoldsAgain : Result ServedAgain ServeFault → SinkState → SinkState → Parameters → List Connection → Type 0
 LogHoldsAgain (Ok n) old new s cs = LogGrows old new (written_log s (entries_all cs))
 LogHoldsAgain (Err serve.Link) old new s cs = LogGrows old new (written_log s (entries_all cs))
 LogHoldsAgain (Err serve.Turns) old new s cs = LogGrows old new (written_log s (entries_all cs))
@@ -100,17 +114,18 @@ LogHoldsAgain (Err serve.Memory) old new s cs = LogGrows old new (written_log s 
 LogHoldsAgain (Err serve.Log) old new s cs =
     ((cs ≡ []) × LogFails old new (settings_line s ++ 10 ∷ [])) ⊎ LogStopsLast old new (written_log s) cs
 
-abbrev pub is_log_fault_again : Result ℕ ServeFault → Bool
+abbrev pub is_log_fault_again : Result ServedAgain ServeFault → Bool
 is_log_fault_again (Ok n) = false
 is_log_fault_again (Err serve.Link) = false
 is_log_fault_again (Err serve.Turns) = false
 is_log_fault_again (Err serve.Memory) = false
 is_log_fault_again (Err serve.Log) = true
 
--- What `serve_again` did under the settings of several connections, in at most so many of them.
-pub record ServesAgain {D : Type 0} (answers : D → Content → Answered) (desk : D) (s : Parameters) (first_system : ℕ) (script later : List Step) (limit most : ℕ) (result : Result ℕ ServeFault) (log log' : SinkState) (link link' : Told) : Type 0 where
+-- What `serve_again` did under the settings of several connections, in at most so many of them, with tests of the link
+-- after so long a pause.
+pub record ServesAgain {D : Type 0} (answers : D → Content → Answered) (pause : Option ℕ) (desk : D) (s : Parameters) (first_system : ℕ) (script later : List Step) (limit most : ℕ) (result : Result ServedAgain ServeFault) (log log' : SinkState) (link link' : Told) : Type 0 where
   pub connections : List Connection
-  pub are : AreServed answers desk s first_system limit script later 0 connections link link'
+  pub are : AreServed answers pause desk s first_system limit script later 0 connections link link'
   pub bound : length connections ≤ most
   -- all new entries are one run of the session machine, and what is written of them is a text of that log
   pub run : IsRun s (entries_all connections)

@@ -1,5 +1,5 @@
 -- What the parts of `serve_again` leave. Private functions alone speak of this.
-use Rattle.std.specs.Prelude.{◌≡◌, ◌≤◌, ◌==◌, ℕ, List, length, Result, Ok, Err, if◌then◌else◌}
+use Rattle.std.specs.Prelude.{◌≡◌, ◌≤◌, ◌==◌, false, ℕ, List, length, Option, Result, Ok, Err, if◌then◌else◌}
 use Rattle.secs_text.specs.Content.{Content}
 use Rattle.hsms_frame.specs.Device.{SinkState}
 use Rattle.hsms_machine.specs.Settings.{Parameters}
@@ -7,12 +7,15 @@ use Rattle.hsms_machine.specs.Run.{IsRun}
 use Rattle.hsms_log.specs.Log.{LogText, written_log}
 use Rattle.hsms_end.specs.Answer.{Answered}
 use Rattle.hsms_end.specs.Known.{EndOf}
+use Rattle.hsms_ends.specs.declared.again.ServedAgain.{ServedAgain}
+use Rattle.hsms_ends.specs.declared.again.Went.{Went}
 use Rattle.hsms_ends.specs.declared.step.Step.{Step}
 use Rattle.hsms_ends.specs.declared.serving.Served.{Served}
 use Rattle.hsms_ends.specs.declared.fault.ServeFault.{ServeFault}
 use Rattle.hsms_ends.specs.declared.fault.ServeFault.TheVariants as serve
 use Rattle.hsms_ends.specs.Link.{Told}
 use Rattle.hsms_ends.specs.PutOut.{LogGrows, log_lines}
+use Rattle.hsms_ends.specs.Serving.{is_complete}
 use Rattle.hsms_ends.specs.Outcome.{ServesEnd}
 use Rattle.hsms_ends.specs.Again.{Connection, new_end, entries_all, AreServed, AnswersAgain, LogStopsLast}
 
@@ -20,25 +23,26 @@ use Rattle.hsms_ends.specs.Again.{Connection, new_end, entries_all, AreServed, A
 abbrev pub script_at : List Step → List Step → ℕ → List Step
 script_at script later done = if done == 0 then script else later
 
--- what follows the answer for a connection: the time of its last entry, from which the next one goes on, or a fault
-abbrev pub Onward : {D : Type 0} → Result ℕ ServeFault → Result Served ServeFault → EndOf D → Type 0
-Onward (Ok moment) (Ok _) end = moment ≡ end.known.view.last_time
-Onward (Ok moment) (Err serve.Link) end = moment ≡ end.known.view.last_time
-Onward (Ok moment) (Err _) end = ⊥
+-- what follows the answer for a connection: the time of its last entry, from which the next one goes on, and whether it
+-- was complete; or a fault
+abbrev pub Onward : {D : Type 0} → Result Went ServeFault → Result Served ServeFault → EndOf D → Type 0
+Onward (Ok went) (Ok served) end = (went.moment ≡ end.known.view.last_time) × (went.complete ≡ is_complete served)
+Onward (Ok went) (Err serve.Link) end = (went.moment ≡ end.known.view.last_time) × (went.complete ≡ false)
+Onward (Ok went) (Err _) end = ⊥
 Onward (Err serve.Log) (Err serve.Log) end = Unit {0}
 Onward (Err serve.Turns) (Err serve.Turns) end = Unit {0}
 Onward (Err serve.Memory) (Err serve.Memory) end = Unit {0}
 Onward _ _ end = ⊥
 
 -- one more connection was served
-pub record NextServed {D : Type 0} (answers : D → Content → Answered) (desk : D) (s : Parameters) (first_system since : ℕ) (script : List Step) (limit : ℕ) (outcome : Result ℕ ServeFault) (log log' : SinkState) (link link' : Told) : Type 0 where
+pub record NextServed {D : Type 0} (answers : D → Content → Answered) (pause : Option ℕ) (desk : D) (s : Parameters) (first_system since : ℕ) (script : List Step) (limit : ℕ) (outcome : Result Went ServeFault) (log log' : SinkState) (link link' : Told) : Type 0 where
   pub result : Result Served ServeFault
   pub end_new : EndOf D
-  pub served : ServesEnd answers (new_end desk s first_system since) end_new script limit result log log' link link'
+  pub served : ServesEnd answers pause (new_end desk s first_system since) end_new script limit result log log' link link'
   pub onward : Onward outcome result end_new
 
 -- what the log holds of the connections, but for the settings' line
-abbrev pub LinesHeld : Result ℕ ServeFault → SinkState → SinkState → List Connection → Type 0
+abbrev pub LinesHeld : Result ServedAgain ServeFault → SinkState → SinkState → List Connection → Type 0
 LinesHeld (Ok n) old new cs = LogGrows old new (log_lines (entries_all cs))
 LinesHeld (Err serve.Link) old new cs = LogGrows old new (log_lines (entries_all cs))
 LinesHeld (Err serve.Turns) old new cs = LogGrows old new (log_lines (entries_all cs))
@@ -46,9 +50,9 @@ LinesHeld (Err serve.Memory) old new cs = LogGrows old new (log_lines (entries_a
 LinesHeld (Err serve.Log) old new cs = LogStopsLast old new log_lines cs
 
 -- connection after connection was served: what `serve_again` leaves, but for the settings' line
-pub record ServedEach {D : Type 0} (answers : D → Content → Answered) (desk : D) (s : Parameters) (first_system : ℕ) (script later : List Step) (limit most : ℕ) (result : Result ℕ ServeFault) (log log' : SinkState) (link link' : Told) : Type 0 where
+pub record ServedEach {D : Type 0} (answers : D → Content → Answered) (pause : Option ℕ) (desk : D) (s : Parameters) (first_system : ℕ) (script later : List Step) (limit most : ℕ) (result : Result ServedAgain ServeFault) (log log' : SinkState) (link link' : Told) : Type 0 where
   pub connections : List Connection
-  pub are : AreServed answers desk s first_system limit script later 0 connections link link'
+  pub are : AreServed answers pause desk s first_system limit script later 0 connections link link'
   pub bound : length connections ≤ most
   pub run : IsRun s (entries_all connections)
   pub text : LogText (written_log s (entries_all connections)) s (entries_all connections)

@@ -21,7 +21,7 @@ use Rattle.hsms_ends.specs.declared.fault.ServeFault.TheVariants as serve
 use Rattle.hsms_ends.specs.Link.{Told, Heard, both, Hears, nothing_heard, moment_heard}
 use Rattle.hsms_ends.specs.PutOut.{PutsOut, LogGrows, LogStops, LogFailsIn, IsEnding, log_lines, sent_octets}
 use Rattle.hsms_ends.specs.Turning.{After, Rest, Turn, has_gone, Heeds, Continues, IsTurn, AreTurns, entries_after, entries_rest, entries_turn, entries_turns, last_after, last_rest, last_turn, moment_after, heard_rest, heard_turn, heard_turns, refused_rest, refused_turn, refused_turns}
-use Rattle.hsms_ends.specs.Serving.{Story, IsStory, IsLost, IsWhole, IsStarted, has_lost, entries_of, heard_of, refused_of, turns_begun, whole_turns, entries_cut, heard_cut, refused_cut, begun_cut, lost_entries, last_cut, last_call, count_after, MayHaveFailed, LinkTook, failures_after}
+use Rattle.hsms_ends.specs.Serving.{Story, IsStory, IsLost, IsWhole, IsStarted, has_lost, entries_of, heard_of, refused_of, turns_begun, whole_turns, entries_cut, heard_cut, refused_cut, begun_cut, lost_entries, last_cut, last_call, count_after, steps_of, LeavesSteps, MayHaveFailed, LinkTook, failures_after}
 
 -- some log is a run that has the end's view, and the settings are within their limits
 pub record IsReady {D : Type 0} (end : EndOf D) : Type 0 where
@@ -86,45 +86,45 @@ Heeded answers result into Closed end end_new log log' link link' count count' =
     Followed answers result end lost end_new log log' link link' count count'
 
 -- the rest of a turn came to pass
-pub record Continued {D : Type 0} (answers : D → Content → Answered) (result : Result (Unit {0}) Stop) (end end_new : EndOf D) (script script' : List Step) (log log' : SinkState) (link link' : Told) (count count' refused refused' : ℕ) : Type 0 where
+pub record Continued {D : Type 0} (answers : D → Content → Answered) (pause : Option ℕ) (result : Result (Unit {0}) Stop) (end end_new : EndOf D) (script script' : List Step) (log log' : SinkState) (link link' : Told) (count count' refused refused' : ℕ) : Type 0 where
   pub rest : Rest
   pub end' : EndOf D
-  pub continues : Continues answers (is_cut result) end script rest end' script'
+  pub continues : Continues answers pause (is_cut result) end script rest end' script'
   pub leads : Leads result end' end_new
   pub yields : Yields result log log' link link' count count' (entries_rest rest) (last_rest rest []) (heard_rest rest)
   pub refusals : Counts refused refused' (refused_rest rest)
 
 -- a turn came to pass
-pub record TurnTaken {D : Type 0} (answers : D → Content → Answered) (result : Result (Unit {0}) Stop) (end end_new : EndOf D) (script script' : List Step) (log log' : SinkState) (link link' : Told) (count count' refused refused' : ℕ) : Type 0 where
+pub record TurnTaken {D : Type 0} (answers : D → Content → Answered) (pause : Option ℕ) (result : Result (Unit {0}) Stop) (end end_new : EndOf D) (script script' : List Step) (log log' : SinkState) (link link' : Told) (count count' refused refused' : ℕ) : Type 0 where
   pub turn : Turn
   pub end' : EndOf D
-  pub is_turn : IsTurn answers (is_cut result) end script turn end' script'
+  pub is_turn : IsTurn answers pause (is_cut result) end script turn end' script'
   pub leads : Leads result end' end_new
   pub yields : Yields result log log' link link' count count' (entries_turn turn) (last_turn turn) (heard_turn turn)
   pub refusals : Counts refused refused' (refused_turn turn)
 
 -- whole turns came to pass so far
-pub record TurnsSoFar {D : Type 0} (answers : D → Content → Answered) (end now_end : EndOf D) (script script' : List Step) (log log' : SinkState) (link link' : Told) (count count' refused refused' done : ℕ) : Type 0 where
+pub record TurnsSoFar {D : Type 0} (answers : D → Content → Answered) (pause : Option ℕ) (end now_end : EndOf D) (script script' : List Step) (log log' : SinkState) (link link' : Told) (count count' refused refused' done : ℕ) : Type 0 where
   pub turns : List Turn
-  pub are_turns : AreTurns answers end script turns now_end script'
+  pub are_turns : AreTurns answers pause end script turns now_end script'
   pub long : length turns ≡ done
   pub yields : Yields (Ok tt) log log' link link' count count' (entries_turns turns) [] (heard_turns turns)
   pub refusals : Counts refused refused' (refused_turns turns)
 
-abbrev pub IsCut : {D : Type 0} → (D → Content → Answered) → Result (Unit {0}) Stop → EndOf D → List Step → Option Turn → EndOf D → List Step → Type 0
-IsCut answers result end script None end' script' = (end' ≡ end) × (script' ≡ script)
-IsCut answers result end script (Some turn) end' script' =
-    (is_cut result ≡ true) × IsTurn answers true end script turn end' script'
+abbrev pub IsCut : {D : Type 0} → (D → Content → Answered) → Option ℕ → Result (Unit {0}) Stop → EndOf D → List Step → Option Turn → EndOf D → List Step → Type 0
+IsCut answers pause result end script None end' script' = (end' ≡ end) × (script' ≡ script)
+IsCut answers pause result end script (Some turn) end' script' =
+    (is_cut result ≡ true) × IsTurn answers pause true end script turn end' script'
 
 -- at most so many turns came to pass, fewer only where the connection went down or a fault cut the last one short
-pub record TurnsTaken {D : Type 0} (answers : D → Content → Answered) (result : Result (Unit {0}) Stop) (limit : ℕ) (end end_new : EndOf D) (script script' : List Step) (log log' : SinkState) (link link' : Told) (count count' refused refused' : ℕ) : Type 0 where
+pub record TurnsTaken {D : Type 0} (answers : D → Content → Answered) (pause : Option ℕ) (result : Result (Unit {0}) Stop) (limit : ℕ) (end end_new : EndOf D) (script script' : List Step) (log log' : SinkState) (link link' : Told) (count count' refused refused' : ℕ) : Type 0 where
   pub turns : List Turn
   pub cut : Option Turn
   pub mid : EndOf D
   pub left : List Step
   pub end' : EndOf D
-  pub are_turns : AreTurns answers end script turns mid left
-  pub is_last : IsCut answers result mid left cut end' script'
+  pub are_turns : AreTurns answers pause end script turns mid left
+  pub is_last : IsCut answers pause result mid left cut end' script'
   pub bound : length turns + begun_cut cut ≤ limit
   pub enough : is_cut result ≡ false → has_gone end' ≡ false → length turns ≡ limit
   pub leads : Leads result end' end_new
@@ -137,15 +137,16 @@ StartedBy (Err Link) story = IsStarted story
 StartedBy (Err Log) story = IsStarted story
 StartedBy (Err Memory) story = Unit {0}
 
--- `start` and then turns came to pass, and were counted from nothing
-pub record Ran {D : Type 0} (answers : D → Content → Answered) (result : Result (Unit {0}) Stop) (limit : ℕ) (new end_new : EndOf D) (script : List Step) (log log' : SinkState) (link link' : Told) (count refused : ℕ) : Type 0 where
+-- `start` and then turns came to pass, and were counted from nothing; these steps are left
+pub record Ran {D : Type 0} (answers : D → Content → Answered) (pause : Option ℕ) (result : Result (Unit {0}) Stop) (limit : ℕ) (new end_new : EndOf D) (script script' : List Step) (log log' : SinkState) (link link' : Told) (count refused : ℕ) : Type 0 where
   pub story : Story
   pub end' : EndOf D
-  pub is_story : IsStory answers new script story end'
+  pub is_story : IsStory answers pause new script story end'
   pub bound : turns_begun story ≤ limit
   pub whole : is_cut result ≡ false → IsWhole story
   pub enough : is_cut result ≡ false → has_gone end' ≡ false → length (whole_turns story) ≡ limit
   pub not_lost : has_lost story ≡ false
+  pub steps : is_cut result ≡ false → length script' + steps_of story ≡ length script
   pub started : StartedBy result story
   pub leads : Leads result end' end_new
   pub puts : PutsOut result log log' link link' (entries_of story) (heard_of story)
@@ -210,10 +211,10 @@ HoldsLines (Err serve.Log) old new lines rest = LogStops old new lines rest
 HoldsLines (Err serve.Memory) old new lines rest = (rest ≡ []) × LogGrows old new lines
 
 -- a new end was served: what `serve` leaves, but for the settings' line
-pub record ServesEnd {D : Type 0} (answers : D → Content → Answered) (new end_new : EndOf D) (script : List Step) (limit : ℕ) (result : Result Served ServeFault) (log log' : SinkState) (link link' : Told) : Type 0 where
+pub record ServesEnd {D : Type 0} (answers : D → Content → Answered) (pause : Option ℕ) (new end_new : EndOf D) (script : List Step) (limit : ℕ) (result : Result Served ServeFault) (log log' : SinkState) (link link' : Told) : Type 0 where
   pub story : Story
   pub last : EndOf D
-  pub is_story : IsStory answers new script story last
+  pub is_story : IsStory answers pause new script story last
   pub bound : turns_begun story ≤ limit
   pub answer : AnswersEnd limit result story last
   pub in_range : All IsEntry (entries_of story)
@@ -229,3 +230,4 @@ pub record ServesEnd {D : Type 0} (answers : D → Content → Answered) (new en
   pub failed_is : MayHaveFailed result failed
   pub lost_is : has_lost story ≡ true → failed ≡ true
   pub left : IsLeft result last end_new
+  pub steps_left : LeavesSteps script result story

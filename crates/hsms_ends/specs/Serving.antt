@@ -1,5 +1,5 @@
 -- How a connection is served (this project's own): what `serve` has told the end, put out and answered.
-use Rattle.std.specs.Prelude.{◌≡◌, ◌≤◌, ◌+◌, ◌-◌, ◌^◌, ◌++◌, min, ℕ, Bool, true, false, List, [], ◌∷◌, length, Option, Some, None, Result, Ok, Err}
+use Rattle.std.specs.Prelude.{◌≡◌, ◌≤◌, ◌+◌, ◌-◌, ◌^◌, ◌++◌, ◌==◌, ◌&&◌, min, ℕ, Bool, true, false, List, [], ◌∷◌, length, Option, Some, None, Result, Ok, Err}
 use Rattle.secs_text.specs.Content.{Content}
 use Rattle.hsms_frame.specs.Count.{next_count}
 use Rattle.hsms_frame.specs.Device.{SinkState, Grows}
@@ -19,7 +19,7 @@ use Rattle.hsms_ends.specs.declared.fault.ServeFault.{ServeFault}
 use Rattle.hsms_ends.specs.declared.fault.ServeFault.TheVariants as serve
 use Rattle.hsms_ends.specs.Link.{Told, Heard, both, Hears, nothing_heard, moment_heard}
 use Rattle.hsms_ends.specs.PutOut.{GrowsByPart, LogGrows, LogFails, LogStops, IsEnding, sent_octets}
-use Rattle.hsms_ends.specs.Turning.{Turn, HasNotGone, IsTurn, AreTurns, entries_turn, entries_turns, last_turn, last_turns, heard_turn, heard_turns, refused_turn, refused_turns}
+use Rattle.hsms_ends.specs.Turning.{Turn, HasNotGone, IsTurn, AreTurns, entries_turn, entries_turns, last_turn, last_turns, heard_turn, heard_turns, refused_turn, refused_turns, steps_turn, steps_turns}
 
 -- What became of a connection: the settings line was refused; or `start` was, at this moment, for want of memory; or the
 -- end was started at a moment, which gave these entries, whole turns followed, then maybe one that a fault cut short,
@@ -31,22 +31,22 @@ pub data Story : Type 0 where
 
 -- ---- the story of an end
 
-abbrev pub IsCutTurn : {D : Type 0} → (D → Content → Answered) → EndOf D → List Step → Option Turn → EndOf D → Type 0
-IsCutTurn answers end script None end' = end' ≡ end
-IsCutTurn answers end script (Some turn) end' = (left : List Step) × IsTurn answers true end script turn end' left
+abbrev pub IsCutTurn : {D : Type 0} → (D → Content → Answered) → Option ℕ → EndOf D → List Step → Option Turn → EndOf D → Type 0
+IsCutTurn answers pause end script None end' = end' ≡ end
+IsCutTurn answers pause end script (Some turn) end' = (left : List Step) × IsTurn answers pause true end script turn end' left
 
 abbrev pub IsLost : {D : Type 0} → (D → Content → Answered) → EndOf D → Option (List Entry) → EndOf D → Type 0
 IsLost answers end None end' = end' ≡ end
 IsLost answers end (Some entries) end' = HasNotGone end × Accepts answers end lost entries end'
 
 -- the story of a new end, of this script, which leads to an end
-abbrev pub IsStory : {D : Type 0} → (D → Content → Answered) → EndOf D → List Step → Story → EndOf D → Type 0
-IsStory answers new script Unopened end' = end' ≡ new
-IsStory answers new script (Unstarted now) end' = end' ≡ new
-IsStory {D} answers new script (Started now started turns cut loss) end' =
+abbrev pub IsStory : {D : Type 0} → (D → Content → Answered) → Option ℕ → EndOf D → List Step → Story → EndOf D → Type 0
+IsStory answers pause new script Unopened end' = end' ≡ new
+IsStory answers pause new script (Unstarted now) end' = end' ≡ new
+IsStory {D} answers pause new script (Started now started turns cut loss) end' =
     (begun : EndOf D) × (mid : EndOf D) × (left : List Step) × (late : EndOf D)
-    × Accepts answers new (start now) started begun × AreTurns answers begun script turns mid left
-    × IsCutTurn answers mid left cut late × IsLost answers late loss end'
+    × Accepts answers new (start now) started begun × AreTurns answers pause begun script turns mid left
+    × IsCutTurn answers pause mid left cut late × IsLost answers late loss end'
 
 -- ---- what it adds up to
 
@@ -98,6 +98,16 @@ abbrev pub refused_of : Story → ℕ
 refused_of Unopened = 0
 refused_of (Unstarted now) = 0
 refused_of (Started now started turns cut loss) = refused_turns turns + refused_cut cut
+
+abbrev pub steps_cut : Option Turn → ℕ
+steps_cut None = 0
+steps_cut (Some turn) = steps_turn turn
+
+-- how many steps of the script were taken or refused
+abbrev pub steps_of : Story → ℕ
+steps_of Unopened = 0
+steps_of (Unstarted now) = 0
+steps_of (Started now started turns cut loss) = steps_turns turns + steps_cut cut
 
 abbrev pub begun_cut : Option Turn → ℕ
 begun_cut None = 0
@@ -153,6 +163,15 @@ Answers limit (Err serve.Link) story = IsStarted story × (ends_down (entries_of
 Answers limit (Err serve.Log) story = Unit {0}
 Answers limit (Err serve.Memory) story = Unit {0}
 
+-- each step of the script was taken, and none was refused
+abbrev pub is_complete : Served → Bool
+is_complete served = (served.refused == 0) && (served.left == 0)
+
+-- how many steps of the script are left, where the connection was served to its end
+abbrev pub LeavesSteps : List Step → Result Served ServeFault → Story → Type 0
+LeavesSteps script (Ok served) story = served.left + steps_of story ≡ length script
+LeavesSteps script (Err fault) story = Unit {0}
+
 -- the log failed: in the settings' line, or in that of the first entry of the rest, with those of `whole` before it
 abbrev pub LogStopsIn : Story → SinkState → SinkState → Parameters → List Entry → List Entry → Type 0
 LogStopsIn Unopened old new s whole rest = LogFails old new (settings_line s ++ 10 ∷ [])
@@ -191,12 +210,13 @@ abbrev pub failures_after : Bool → ℕ → ℕ
 failures_after true n = next_count n
 failures_after false n = n
 
--- What `serve` did, of a new end and a script, in at most so many turns.
-pub record Serves {D : Type 0} (answers : D → Content → Answered) (new : EndOf D) (script : List Step) (limit : ℕ) (result : Result Served ServeFault) (log log' : SinkState) (link link' : Told) : Type 0 where
+-- What `serve_testing` did, of a new end and a script, in at most so many turns, with tests of the link after so long a
+-- pause.
+pub record ServesTesting {D : Type 0} (answers : D → Content → Answered) (pause : Option ℕ) (new : EndOf D) (script : List Step) (limit : ℕ) (result : Result Served ServeFault) (log log' : SinkState) (link link' : Told) : Type 0 where
   -- the start, the turns and what the end gave for its inputs
   pub story : Story
   pub last : EndOf D
-  pub is_story : IsStory answers new script story last
+  pub is_story : IsStory answers pause new script story last
   pub bound : turns_begun story ≤ limit
   -- the new entries are a run of the session machine, and what is written of them is a text of that log
   pub run : IsRun new.known.settings (entries_of story)
@@ -209,6 +229,7 @@ pub record Serves {D : Type 0} (answers : D → Content → Answered) (new : End
   pub rest_is_last : IsEnding rest (last_call story)
   pub log_holds : LogHolds result story log log' new.known.settings whole rest
   pub answer : Answers limit result story
+  pub steps_left : LeavesSteps script result story
   -- the moments, the octets and the answers of `wait` in the story are those that the link gave
   pub hears : Hears link link' (heard_of story)
   -- of the messages that these lines say were sent the link took the octets, in order, and nothing else: a part from
@@ -219,3 +240,7 @@ pub record Serves {D : Type 0} (answers : D → Content → Answered) (new : End
   pub failed_is : MayHaveFailed result failed
   -- the end is told by `serve` that the connection was lost only after the link failed
   pub lost_is : has_lost story ≡ true → failed ≡ true
+
+-- What `serve` did: the same, without tests of the link.
+abbrev pub Serves : {D : Type 0} → (D → Content → Answered) → EndOf D → List Step → ℕ → Result Served ServeFault → SinkState → SinkState → Told → Told → Type 0
+Serves answers new script limit result log log' link link' = ServesTesting answers None new script limit result log log' link link'

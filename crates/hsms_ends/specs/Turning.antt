@@ -1,6 +1,6 @@
 -- The turns of a served connection (this project's own): what the end was told between two looks at the clock, and what
 -- the link answered.
-use Rattle.std.specs.Prelude.{◌≡◌, ◌≢◌, ◌+◌, ◌++◌, ◌||◌, ◌&&◌, ◌==◌, ◌⊎◌, ℕ, Bool, true, false, List, [], ◌∷◌, Option, Some, None}
+use Rattle.std.specs.Prelude.{◌≡◌, ◌+◌, ◌++◌, ◌&&◌, ◌==◌, ◌⊎◌, ℕ, nat_le, Bool, true, false, List, [], ◌∷◌, Option, Some, None}
 use Rattle.secs_text.specs.Content.{Content}
 use Rattle.secs_text.specs.View.{content}
 use Rattle.hsms_machine.specs.declared.entry.Entry.{Entry}
@@ -8,6 +8,7 @@ use Rattle.hsms_machine.specs.Step.{is_gone, is_selected}
 use Rattle.hsms_machine.specs.View.{own_open_of}
 use Rattle.hsms_end.specs.declared.fault.EndFault.{EndFault}
 use Rattle.hsms_end.specs.Answer.{Answered}
+use Rattle.hsms_end.specs.Due.{test_due}
 use Rattle.hsms_end.specs.Known.{EndOf}
 use Rattle.hsms_end.specs.Turn.{Told as Input, tick, bytes, send, linktest, separate, lost}
 use Rattle.hsms_end.specs.Fault.{Meets}
@@ -33,6 +34,20 @@ HasNotGone end = has_gone end ≡ false
 abbrev pub is_idle : {D : Type 0} → EndOf D → Bool
 is_idle end = is_selected end.known.view.phase && (own_open_of end.known.view == 0)
 
+-- the moment from which on the link of the end is to be tested, where that is asked for: after so long a pause
+abbrev pub test_moment : {D : Type 0} → Option ℕ → EndOf D → Option ℕ
+test_moment None end = None
+test_moment (Some pause) end = test_due pause end.known
+
+-- a moment has come, where there is one
+abbrev pub has_come : ℕ → Option ℕ → Bool
+has_come now None = false
+has_come now (Some moment) = nat_le moment now
+
+-- the link is to be tested: by the end's moment it has been quiet for that long
+abbrev pub is_test_due : {D : Type 0} → Option ℕ → EndOf D → Bool
+is_test_due pause end = has_come end.known.moment (test_moment pause end)
+
 -- What followed an answer of `wait`: the tick at a moment was refused for want of memory; or it gave these entries, and
 -- nothing followed it; or its entries, and then those of the input that the answer calls for.
 pub data After : Type 0 where
@@ -41,11 +56,12 @@ pub data After : Type 0 where
   Done : (now : ℕ) (ticked entries : List Entry) → After
 
 -- What followed the first tick of a turn: nothing; the next step of the script, which gave these entries, or which the
--- end refused; or an answer of `wait`, and what followed it.
+-- end refused; a test of the link, which gave these; or an answer of `wait`, and what followed it.
 pub data Rest : Type 0 where
   Nothing : Rest
   Stepped : (entries : List Entry) → Rest
   Declined : Rest
+  Tested : (entries : List Entry) → Rest
   Quiet : Rest
   Octets : (octets : List ℕ) (after : After) → Rest
   Closed : (after : After) → Rest
@@ -71,45 +87,55 @@ Heeds answers is_cut end input (Ticked now ticked) end' = Accepts answers end (t
 Heeds {D} answers is_cut end input (Done now ticked entries) end' =
     (mid : EndOf D) × Accepts answers end (tick now) ticked mid × HasNotGone mid × Accepts answers mid input entries end'
 
--- no step is due, so the end waits
-pub record MustWait {D : Type 0} (end : EndOf D) (script script' : List Step) : Type 0 where
+-- no step is due, and no test of the link, so the end waits
+pub record MustWait {D : Type 0} (pause : Option ℕ) (end : EndOf D) (script script' : List Step) : Type 0 where
   pub up : HasNotGone end
   pub no_step : is_step_due end script ≡ false
+  pub no_test : is_test_due pause end ≡ false
+  pub script_stays : script' ≡ script
+
+-- no step is due, and the link is to be tested
+pub record MustTest {D : Type 0} (pause : Option ℕ) (end : EndOf D) (script script' : List Step) : Type 0 where
+  pub up : HasNotGone end
+  pub no_step : is_step_due end script ≡ false
+  pub due : is_test_due pause end ≡ true
   pub script_stays : script' ≡ script
 
 -- the next step of the script was due
 abbrev pub IsNext : {D : Type 0} → EndOf D → List Step → Step → List Step → Type 0
 IsNext end script step script' = HasNotGone end × (is_step_due end script ≡ true) × (script ≡ step ∷ script')
 
--- What follows the first tick: exactly where a step is due, the next one; else an answer of `wait`. A step that the end
--- refused meets a fault, and leaves the end as it was.
-abbrev pub Continues : {D : Type 0} → (D → Content → Answered) → Bool → EndOf D → List Step → Rest → EndOf D → List Step → Type 0
-Continues answers is_cut end script Nothing end' script' = MayStop is_cut end × (end' ≡ end) × (script' ≡ script)
-Continues answers is_cut end script (Stepped entries) end' script' =
+-- What follows the first tick: exactly where a step is due, the next one; else, exactly where the link is to be tested,
+-- that; else an answer of `wait`. A step that the end refused meets a fault, and leaves the end as it was.
+abbrev pub Continues : {D : Type 0} → (D → Content → Answered) → Option ℕ → Bool → EndOf D → List Step → Rest → EndOf D → List Step → Type 0
+Continues answers pause is_cut end script Nothing end' script' = MayStop is_cut end × (end' ≡ end) × (script' ≡ script)
+Continues answers pause is_cut end script (Stepped entries) end' script' =
     (step : Step) × IsNext end script step script' × Accepts answers end (input_of step) entries end'
-Continues answers is_cut end script Declined end' script' =
+Continues answers pause is_cut end script Declined end' script' =
     (step : Step) × (fault : EndFault) × IsNext end script step script' × Meets end.known (input_of step) (Some fault)
     × (end' ≡ end)
-Continues answers is_cut end script Quiet end' script' = MustWait end script script' × (end' ≡ end)
-Continues answers is_cut end script (Octets octets after) end' script' =
-    MustWait end script script' × Heeds answers is_cut end (bytes octets) after end'
-Continues answers is_cut end script (Closed after) end' script' =
-    MustWait end script script' × Heeds answers is_cut end lost after end'
+Continues answers pause is_cut end script (Tested entries) end' script' =
+    MustTest pause end script script' × Accepts answers end linktest entries end'
+Continues answers pause is_cut end script Quiet end' script' = MustWait pause end script script' × (end' ≡ end)
+Continues answers pause is_cut end script (Octets octets after) end' script' =
+    MustWait pause end script script' × Heeds answers is_cut end (bytes octets) after end'
+Continues answers pause is_cut end script (Closed after) end' script' =
+    MustWait pause end script script' × Heeds answers is_cut end lost after end'
 
 -- a turn of an end that isn't down, and of the steps that are left: whole, or cut short by a fault
-abbrev pub IsTurn : {D : Type 0} → (D → Content → Answered) → Bool → EndOf D → List Step → Turn → EndOf D → List Step → Type 0
-IsTurn answers is_cut end script (Untaken now) end' script' =
+abbrev pub IsTurn : {D : Type 0} → (D → Content → Answered) → Option ℕ → Bool → EndOf D → List Step → Turn → EndOf D → List Step → Type 0
+IsTurn answers pause is_cut end script (Untaken now) end' script' =
     HasNotGone end × (is_cut ≡ true) × (end' ≡ end) × (script' ≡ script)
-IsTurn {D} answers is_cut end script (Ticks now ticked rest) end' script' =
+IsTurn {D} answers pause is_cut end script (Ticks now ticked rest) end' script' =
     HasNotGone end
-    × ((mid : EndOf D) × Accepts answers end (tick now) ticked mid × Continues answers is_cut mid script rest end' script')
+    × ((mid : EndOf D) × Accepts answers end (tick now) ticked mid × Continues answers pause is_cut mid script rest end' script')
 
 -- whole turns, one after the other
-abbrev pub AreTurns : {D : Type 0} → (D → Content → Answered) → EndOf D → List Step → List Turn → EndOf D → List Step → Type 0
-AreTurns answers end script [] end' script' = (end' ≡ end) × (script' ≡ script)
-AreTurns {D} answers end script (turn ∷ turns) end' script' =
-    (mid : EndOf D) × (left : List Step) × IsTurn answers false end script turn mid left
-    × AreTurns answers mid left turns end' script'
+abbrev pub AreTurns : {D : Type 0} → (D → Content → Answered) → Option ℕ → EndOf D → List Step → List Turn → EndOf D → List Step → Type 0
+AreTurns answers pause end script [] end' script' = (end' ≡ end) × (script' ≡ script)
+AreTurns {D} answers pause end script (turn ∷ turns) end' script' =
+    (mid : EndOf D) × (left : List Step) × IsTurn answers pause false end script turn mid left
+    × AreTurns answers pause mid left turns end' script'
 
 -- ---- the new entries
 
@@ -122,6 +148,7 @@ abbrev pub entries_rest : Rest → List Entry
 entries_rest Nothing = []
 entries_rest (Stepped entries) = entries
 entries_rest Declined = []
+entries_rest (Tested entries) = entries
 entries_rest Quiet = []
 entries_rest (Octets octets after) = entries_after after
 entries_rest (Closed after) = entries_after after
@@ -146,6 +173,7 @@ abbrev pub last_rest : Rest → List Entry → List Entry
 last_rest Nothing before = before
 last_rest (Stepped entries) before = entries
 last_rest Declined before = []
+last_rest (Tested entries) before = entries
 last_rest Quiet before = []
 last_rest (Octets octets after) before = last_after after
 last_rest (Closed after) before = last_after after
@@ -169,6 +197,7 @@ abbrev pub heard_rest : Rest → Heard
 heard_rest Nothing = nothing_heard
 heard_rest (Stepped entries) = nothing_heard
 heard_rest Declined = nothing_heard
+heard_rest (Tested entries) = nothing_heard
 heard_rest Quiet = quiet_heard
 heard_rest (Octets octets after) = both (octets_heard octets) (moment_heard (moment_after after))
 heard_rest (Closed after) = both closed_heard (moment_heard (moment_after after))
@@ -187,6 +216,7 @@ abbrev pub refused_rest : Rest → ℕ
 refused_rest Declined = 1
 refused_rest Nothing = 0
 refused_rest (Stepped entries) = 0
+refused_rest (Tested entries) = 0
 refused_rest Quiet = 0
 refused_rest (Octets octets after) = 0
 refused_rest (Closed after) = 0
@@ -198,3 +228,22 @@ refused_turn (Ticks now ticked rest) = refused_rest rest
 abbrev pub refused_turns : List Turn → ℕ
 refused_turns [] = 0
 refused_turns (turn ∷ turns) = refused_turn turn + refused_turns turns
+
+-- ---- how many steps were taken or refused
+
+abbrev pub steps_rest : Rest → ℕ
+steps_rest Declined = 1
+steps_rest Nothing = 0
+steps_rest (Stepped entries) = 1
+steps_rest (Tested entries) = 0
+steps_rest Quiet = 0
+steps_rest (Octets octets after) = 0
+steps_rest (Closed after) = 0
+
+abbrev pub steps_turn : Turn → ℕ
+steps_turn (Untaken now) = 0
+steps_turn (Ticks now ticked rest) = steps_rest rest
+
+abbrev pub steps_turns : List Turn → ℕ
+steps_turns [] = 0
+steps_turns (turn ∷ turns) = steps_turn turn + steps_turns turns

@@ -1,6 +1,6 @@
 //! Connection after connection, served in one log.
 
-ghost use Rattle.std.specs.Prelude.{◌≡◌, ◌==◌, if◌then◌else◌};
+ghost use Rattle.std.specs.Prelude.{◌≡◌, ◌==◌, ◌&&◌, if◌then◌else◌};
 ghost use Rattle.hsms_machine.specs.Settings.{IsWithinLimits, several_of};
 ghost use Rattle.hsms_ends.specs.declared.fault.ServeFault.{ServeFault};
 ghost use Rattle.hsms_ends.specs.Again.{ServesAgain};
@@ -39,8 +39,27 @@ impl<'a, D: Desk> Desk for Lent<'a, D> {
     }
 }
 
-/// Serves connection after connection, each as [`serve`](crate::serve) does, in one log of version 2, and says how many
-/// went down. It ends after so many connections, and where the link has no further one.
+/// What was served, connection after connection.
+#[derive(Clone, Copy, Debug, PartialEq, Eq)]
+pub struct ServedAgain {
+    /// How many connections went down.
+    pub connections: u64,
+    /// Whether each was served to its end, and each step of its script was taken, and none refused.
+    pub complete: bool,
+}
+
+/// What came of a connection that the next one follows.
+#[derive(Clone, Copy)]
+struct Went {
+    /// The time of its last entry.
+    moment: u64,
+    /// Whether it was served to its end, and each step of its script was taken, and none refused.
+    complete: bool,
+}
+
+/// Serves connection after connection, each as [`serve_testing`](crate::serve_testing) does, in one log of version 2, and
+/// says how many went down, and whether the script was taken in each. It ends after so many connections, and where the
+/// link has no further one.
 ///
 /// The first connection has the script, and each further one the later script. Each end starts no earlier than at the
 /// time of the last entry before it, so that times go on. A connection that the link's fault ended is followed by the
@@ -62,10 +81,11 @@ pub fn serve_again<L: Again, W: Sink, D: Desk + Copy>(
     first_system: u32,
     script: &[Step],
     later: &[Step],
+    pause: Option<u64>,
     turns: u64,
     connections: u64,
-) -> Result<u64, ServeFault>
-    ensures { ServesAgain D.answers desk (several_of settings) first_system script.now later.now turns connections result
+) -> Result<ServedAgain, ServeFault>
+    ensures { ServesAgain D.answers pause desk (several_of settings) first_system script.now later.now turns connections result
         (W.state log.old) (W.state log.new) (L.told link.old) (L.told link.new) }
 {
     let several = settings.several();
@@ -79,6 +99,7 @@ pub fn serve_again<L: Again, W: Sink, D: Desk + Copy>(
             first_system,
             script,
             later,
+            pause,
             turns,
             connections,
         ),
@@ -96,19 +117,24 @@ fn serve_each<L: Again, W: Sink, D: Desk + Copy>(
     first_system: u32,
     script: &[Step],
     later: &[Step],
+    pause: Option<u64>,
     turns: u64,
     connections: u64,
-) -> Result<u64, ServeFault>
+) -> Result<ServedAgain, ServeFault>
     requires within { IsWithinLimits settings }
     requires several { settings.version ≡ 2 }
-    ensures { ServedEach D.answers desk settings first_system script.now later.now turns connections result
+    ensures { ServedEach D.answers pause desk settings first_system script.now later.now turns connections result
         (W.state log.old) (W.state log.new) (L.told link.old) (L.told link.new) }
 {
     let mut done = 0;
     let mut since = 0;
+    let mut complete = true;
     while done < connections {
         if !link.again() {
-            return Ok(done);
+            return Ok(ServedAgain {
+                connections: done,
+                complete,
+            });
         }
         let steps = steps_of(script, later, done);
         match serve_next(
@@ -120,16 +146,28 @@ fn serve_each<L: Again, W: Sink, D: Desk + Copy>(
             first_system,
             since,
             steps,
+            pause,
             turns,
         ) {
-            Ok(moment) => {
-                since = moment;
+            Ok(went) => {
+                since = went.moment;
+                complete = both(complete, went.complete);
                 done += 1;
             }
             Err(fault) => return Err(fault),
         }
     }
-    Ok(done)
+    Ok(ServedAgain {
+        connections: done,
+        complete,
+    })
+}
+
+/// Whether both are so.
+fn both(one: bool, other: bool) -> bool
+    ensures { result ≡ (one && other) }
+{
+    one && other
 }
 
 /// The script of a connection: the later one, unless it is the first.
@@ -139,7 +177,7 @@ fn steps_of<'a>(script: &'a [Step], later: &'a [Step], done: u64) -> &'a [Step]
     if done == 0 { script } else { later }
 }
 
-/// Serves the next connection, and says the time of its last entry where it went down.
+/// Serves the next connection, and says the time of its last entry where it went down, and whether it was complete.
 fn serve_next<L: Again, W: Sink, D: Desk + Copy>(
     alloc: Global,
     link: &mut L,
@@ -149,25 +187,37 @@ fn serve_next<L: Again, W: Sink, D: Desk + Copy>(
     first_system: u32,
     since: u64,
     script: &[Step],
+    pause: Option<u64>,
     turns: u64,
-) -> Result<u64, ServeFault>
+) -> Result<Went, ServeFault>
     requires { IsWithinLimits settings }
-    ensures { NextServed D.answers desk settings first_system since script.now turns result
+    ensures { NextServed D.answers pause desk settings first_system since script.now turns result
         (W.state log.old) (W.state log.new) (L.told link.old) (L.told link.new) }
 {
     let mut end = End::since(alloc, settings, desk, first_system, since);
-    match serve_end(link, log, &mut end, script, turns) {
-        Ok(_) => Ok(end.last_time()),
+    match serve_end(link, log, &mut end, script, pause, turns) {
+        Ok(served) => Ok(went_after(&end, served.is_complete())),
         Err(fault) => go_on(&end, fault),
     }
 }
 
+/// What came of a connection that went down.
+fn went_after<D: Desk>(end: &End<D>, complete: bool) -> Went
+    ensures moment { result.moment ≡ end.now.known.view.last_time }
+    ensures complete { result.complete ≡ complete }
+{
+    Went {
+        moment: end.last_time(),
+        complete,
+    }
+}
+
 /// What follows a fault: after the link's the next connection.
-fn go_on<D: Desk>(end: &End<D>, fault: ServeFault) -> Result<u64, ServeFault>
+fn go_on<D: Desk>(end: &End<D>, fault: ServeFault) -> Result<Went, ServeFault>
     ensures { Onward result (Err fault) end.now }
 {
     match fault {
-        ServeFault::Link => Ok(end.last_time()),
+        ServeFault::Link => Ok(went_after(end, false)),
         ServeFault::Log => Err(ServeFault::Log),
         ServeFault::Turns => Err(ServeFault::Turns),
         ServeFault::Memory => Err(ServeFault::Memory),

@@ -27,11 +27,11 @@ mod serving;
 mod step;
 mod turns;
 
-pub use again::{Lent, serve_again};
+pub use again::{Lent, ServedAgain, serve_again};
 pub use fault::{LinkFault, ServeFault};
 pub use hsms_end::{Answer, Desk, Driven, End, EndFault, EquipmentDesk, HostDesk, Input, drive};
 pub use link::{Again, Got, Link};
 pub use scripted::Scripted;
 pub use scripted_desk::ScriptedDesk;
-pub use serving::{Served, serve};
+pub use serving::{Served, serve, serve_testing};
 pub use step::Step;

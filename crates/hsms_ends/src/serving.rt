@@ -1,10 +1,10 @@
 //! A connection, served.
 
-ghost use Rattle.std.specs.Prelude.{◌≡◌, ℕ};
+ghost use Rattle.std.specs.Prelude.{◌≡◌, ℕ, drop, length};
 ghost use Rattle.hsms_end.specs.Known.{untold};
 ghost use Rattle.hsms_end.specs.Turn.{start};
 ghost use Rattle.hsms_ends.specs.Link.{moment_heard};
-ghost use Rattle.hsms_ends.specs.Serving.{Serves};
+ghost use Rattle.hsms_ends.specs.Serving.{Serves, ServesTesting};
 ghost use Rattle.hsms_ends.specs.Outcome.{IsReady, Handed, Ran, ServesEnd, ClosedLink, RestClosed, StoppedAs};
 
 use crate::fault::ServeFault;
@@ -26,6 +26,20 @@ pub struct Served {
     pub entries: u64,
     /// How many steps the end refused.
     pub refused: u64,
+    /// How many steps of the script were left when the connection went down.
+    pub left: usize,
+}
+
+impl Served {
+    ghost use Rattle.std.specs.Prelude.{◌≡◌};
+    ghost use Rattle.hsms_ends.specs.Serving.{is_complete};
+
+    /// Whether each step of the script was taken, and none was refused.
+    pub fn is_complete(&self) -> bool
+        ensures { result ≡ is_complete self.now }
+    {
+        self.refused == 0 && self.left == 0
+    }
 }
 
 /// Serves one connection, as the end that the settings name, in at most so many turns.
@@ -63,10 +77,43 @@ pub fn serve<L: Link, W: Sink, D: Desk + Drop>(
     ensures { Serves D.answers (record { desk = desk; known = untold settings first_system }) script.now turns result
         (W.state log.old) (W.state log.new) (L.told link.old) (L.told link.new) }
 {
+    serve_testing(
+        alloc,
+        link,
+        log,
+        settings,
+        desk,
+        first_system,
+        script,
+        None,
+        turns,
+    )
+}
+
+/// Serves one connection as [`serve`] does, and tests the link: where no step is due and nothing came and nothing was
+/// logged for a pause of so many milliseconds, the end sends Linktest.req (SEMI E37, section 7, linktest procedure). It
+/// does so while the session is selected, none is open, and fewer than 64 own transactions are (`test_due` of `hsms_end`);
+/// T6 runs from there. Without a pause it is `serve`.
+///
+/// It ensures what `serve` does; each test of the link is one of the turns of its story (`MustTest`).
+pub fn serve_testing<L: Link, W: Sink, D: Desk + Drop>(
+    alloc: Global,
+    link: &mut L,
+    log: &mut W,
+    settings: Settings,
+    desk: D,
+    first_system: u32,
+    script: &[Step],
+    pause: Option<u64>,
+    turns: u64,
+) -> Result<Served, ServeFault>
+    ensures { ServesTesting D.answers pause (record { desk = desk; known = untold settings first_system }) script.now turns
+        result (W.state log.old) (W.state log.new) (L.told link.old) (L.told link.new) }
+{
     match write_settings(log, &settings) {
         Ok(()) => {
             let mut end = End::new(alloc, settings, desk, first_system);
-            serve_end(link, log, &mut end, script, turns)
+            serve_end(link, log, &mut end, script, pause, turns)
         }
         Err(_) => Err(ServeFault::Log),
     }
@@ -78,10 +125,11 @@ pub fn serve_end<L: Link, W: Sink, D: Desk>(
     log: &mut W,
     end: &mut End<D>,
     script: &[Step],
+    pause: Option<u64>,
     turns: u64,
 ) -> Result<Served, ServeFault>
     requires { IsReady end.old }
-    ensures { ServesEnd D.answers end.old end.new script.now turns result (W.state log.old) (W.state log.new)
+    ensures { ServesEnd D.answers pause end.old end.new script.now turns result (W.state log.old) (W.state log.new)
         (L.told link.old) (L.told link.new) }
 {
     let mut progress = Progress {
@@ -89,12 +137,13 @@ pub fn serve_end<L: Link, W: Sink, D: Desk>(
         entries: 0,
         refused: 0,
     };
-    match run(link, log, end, script, &mut progress, turns) {
+    match run(link, log, end, script, &mut progress, pause, turns) {
         Ok(()) => {
             if has_gone(end) {
                 Ok(Served {
                     entries: progress.entries,
                     refused: progress.refused,
+                    left: left_over(script, progress.place),
                 })
             } else {
                 Err(ServeFault::Turns)
@@ -104,6 +153,13 @@ pub fn serve_end<L: Link, W: Sink, D: Desk>(
     }
 }
 
+/// How many steps of a script are left where so many were taken or refused.
+fn left_over(script: &[Step], place: usize) -> usize
+    ensures { result ≡ length (drop place script.now) }
+{
+    script.len().saturating_sub(place)
+}
+
 /// Starts the end, and takes turns.
 fn run<L: Link, W: Sink, D: Desk>(
     link: &mut L,
@@ -111,15 +167,17 @@ fn run<L: Link, W: Sink, D: Desk>(
     end: &mut End<D>,
     script: &[Step],
     progress: &mut Progress,
+    pause: Option<u64>,
     turns: u64,
 ) -> Result<(), Stop>
     requires ready { IsReady end.old }
     requires none { progress.old ≡ record { place = 0; entries = 0; refused = 0 } }
-    ensures { Ran D.answers result turns end.old end.new script.now (W.state log.old) (W.state log.new)
-        (L.told link.old) (L.told link.new) progress.new.entries progress.new.refused }
+    ensures { Ran D.answers pause result turns end.old end.new script.now (drop progress.new.place script.now)
+        (W.state log.old) (W.state log.new) (L.told link.old) (L.told link.new)
+        progress.new.entries progress.new.refused }
 {
     match begin(link, log, end, &mut progress.entries) {
-        Ok(()) => take_turns(link, log, end, script, progress, turns),
+        Ok(()) => take_turns(link, log, end, script, progress, pause, turns),
         Err(stop) => Err(stop),
     }
 }

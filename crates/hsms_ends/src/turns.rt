@@ -1,11 +1,11 @@
 //! The turns of a served connection.
 
-ghost use Rattle.std.specs.Prelude.{◌≡◌, ◌<◌, ℕ, List, drop, length, true, MatchResult};
-ghost use Rattle.hsms_end.specs.Turn.{tick as ticks, bytes, lost};
+ghost use Rattle.std.specs.Prelude.{◌≡◌, ◌<◌, ℕ, List, Option, drop, length, true, MatchResult};
+ghost use Rattle.hsms_end.specs.Turn.{tick as ticks, bytes, linktest, lost};
 ghost use Rattle.hsms_end.specs.End.{Accepts, Refuses};
 ghost use Rattle.hsms_ends.specs.Link.{Asks, IsGot, moment_heard, nothing_heard};
 ghost use Rattle.hsms_ends.specs.PutOut.{AllFitLengthField};
-ghost use Rattle.hsms_ends.specs.Turning.{HasNotGone, MustWait, has_gone as is_down, is_idle as is_free, is_step_due as step_due, input_of};
+ghost use Rattle.hsms_ends.specs.Turning.{HasNotGone, MustWait, MustTest, has_gone as is_down, is_idle as is_free, is_step_due as step_due, input_of, is_test_due as test_due, test_moment as moment_of_test};
 ghost use Rattle.hsms_ends.specs.Outcome.{IsReady, Yields, Handed, Followed, Heeded, Continued, TurnTaken, TurnsTaken};
 
 use crate::link::{Got, Link};
@@ -129,6 +129,24 @@ fn hand_lost<L: Link, W: Sink, D: Desk>(
     }
 }
 
+/// Asks by Linktest.req whether the other end is still there.
+fn hand_linktest<L: Link, W: Sink, D: Desk>(
+    link: &mut L,
+    log: &mut W,
+    end: &mut End<D>,
+    count: &mut u64,
+) -> Result<(), Stop>
+    requires { IsReady end.old }
+    ensures { Handed D.answers result end.old linktest end.new (W.state log.old) (W.state log.new)
+        (L.told link.old) (L.told link.new) nothing_heard count.old count.new }
+{
+    let answer = end.linktest();
+    match answer {
+        Ok(entries) => deliver(link, log, &entries, count),
+        Err(_) => Err(Stop::Memory),
+    }
+}
+
 /// Tells the end a step.
 fn tell<D: Desk>(end: &mut End<D>, step: &Step) -> Result<Vec<Entry>, EndFault>
     ensures { MatchResult result
@@ -154,7 +172,7 @@ fn take_step<L: Link, W: Sink, D: Desk>(
     requires up { HasNotGone end.old }
     requires due { step_due end.old (drop progress.old.place script.now) ≡ true }
     requires within { progress.old.place < length script.now }
-    ensures { Continued D.answers result end.old end.new
+    ensures { (pause : Option ℕ) → Continued D.answers pause result end.old end.new
         (drop progress.old.place script.now) (drop progress.new.place script.now)
         (W.state log.old) (W.state log.new) (L.told link.old) (L.told link.new)
         progress.old.entries progress.new.entries progress.old.refused progress.new.refused }
@@ -230,15 +248,16 @@ fn wait_once<L: Link, W: Sink, D: Desk>(
     link: &mut L,
     log: &mut W,
     end: &mut End<D>,
+    pause: Option<u64>,
     count: &mut u64,
 ) -> Result<(), Stop>
     requires { IsReady end.old }
-    ensures { (script : List Step) (refused : ℕ) → MustWait end.old script script
-        → Continued D.answers result end.old end.new script script (W.state log.old) (W.state log.new)
+    ensures { (script : List Step) (refused : ℕ) → MustWait pause end.old script script
+        → Continued D.answers pause result end.old end.new script script (W.state log.old) (W.state log.new)
         (L.told link.old) (L.told link.new) count.old count.new refused refused }
 {
     let mut into = [0u8; ROOM];
-    let until = until(end);
+    let until = until(end, pause);
     match link.wait(until, &mut into) {
         Ok(got) => heed(link, log, end, got, &into, count),
         Err(_) => Err(Stop::Link),
@@ -266,11 +285,17 @@ fn heed<L: Link, W: Sink, D: Desk>(
     }
 }
 
-// Until when to wait: past the moment at which the next timer is due, since only then it has run out.
-fn until<D: Desk>(end: &End<D>) -> Option<u64> {
-    match end.next_due() {
+// Until when to wait: until the link is to be tested, or past the moment at which the next timer is due, since only then
+// it has run out.
+fn until<D: Desk>(end: &End<D>, pause: Option<u64>) -> Option<u64> {
+    let expiry = match end.next_due() {
         Some(due) => due.checked_add(1),
         None => None,
+    };
+    match (expiry, test_moment(end, pause)) {
+        (Some(expiry), Some(test)) => Some(expiry.min(test)),
+        (Some(expiry), None) => Some(expiry),
+        (None, test) => test,
     }
 }
 
@@ -281,30 +306,32 @@ fn turn<L: Link, W: Sink, D: Desk>(
     end: &mut End<D>,
     script: &[Step],
     progress: &mut Progress,
+    pause: Option<u64>,
 ) -> Result<(), Stop>
     requires ready { IsReady end.old }
     requires up { HasNotGone end.old }
-    ensures { TurnTaken D.answers result end.old end.new
+    ensures { TurnTaken D.answers pause result end.old end.new
         (drop progress.old.place script.now) (drop progress.new.place script.now)
         (W.state log.old) (W.state log.new) (L.told link.old) (L.told link.new)
         progress.old.entries progress.new.entries progress.old.refused progress.new.refused }
 {
     match tick(link, log, end, &mut progress.entries) {
-        Ok(()) => continue_turn(link, log, end, script, progress),
+        Ok(()) => continue_turn(link, log, end, script, progress, pause),
         Err(stop) => Err(stop),
     }
 }
 
-/// The rest of a turn: the next step of the script where it is due, else a wait.
+/// The rest of a turn: the next step of the script where it is due, a test of the link where that is, else a wait.
 fn continue_turn<L: Link, W: Sink, D: Desk>(
     link: &mut L,
     log: &mut W,
     end: &mut End<D>,
     script: &[Step],
     progress: &mut Progress,
+    pause: Option<u64>,
 ) -> Result<(), Stop>
     requires { IsReady end.old }
-    ensures { Continued D.answers result end.old end.new
+    ensures { Continued D.answers pause result end.old end.new
         (drop progress.old.place script.now) (drop progress.new.place script.now)
         (W.state log.old) (W.state log.new) (L.told link.old) (L.told link.new)
         progress.old.entries progress.new.entries progress.old.refused progress.new.refused }
@@ -314,8 +341,10 @@ fn continue_turn<L: Link, W: Sink, D: Desk>(
     }
     if step_is_due(end, script, progress.place) {
         take_step(link, log, end, script, progress)
+    } else if test_is_due(end, pause) {
+        hand_linktest(link, log, end, &mut progress.entries)
     } else {
-        wait_once(link, log, end, &mut progress.entries)
+        wait_once(link, log, end, pause, &mut progress.entries)
     }
 }
 
@@ -327,6 +356,26 @@ fn step_is_due<D: Desk>(end: &End<D>, script: &[Step], place: usize) -> bool
     place < script.len() && is_idle(end)
 }
 
+/// Whether the link is to be tested now, after so long a pause.
+fn test_is_due<D: Desk>(end: &End<D>, pause: Option<u64>) -> bool
+    ensures { result ≡ test_due pause end.now }
+{
+    match test_moment(end, pause) {
+        Some(moment) => moment <= end.moment(),
+        None => false,
+    }
+}
+
+/// The moment from which on the link is to be tested.
+fn test_moment<D: Desk>(end: &End<D>, pause: Option<u64>) -> Option<u64>
+    ensures { result ≡ moment_of_test pause end.now }
+{
+    match pause {
+        Some(pause) => end.test_due(pause),
+        None => None,
+    }
+}
+
 /// At most so many turns, while the connection isn't down.
 pub fn take_turns<L: Link, W: Sink, D: Desk>(
     link: &mut L,
@@ -334,17 +383,18 @@ pub fn take_turns<L: Link, W: Sink, D: Desk>(
     end: &mut End<D>,
     script: &[Step],
     progress: &mut Progress,
+    pause: Option<u64>,
     turns: u64,
 ) -> Result<(), Stop>
     requires { IsReady end.old }
-    ensures { TurnsTaken D.answers result turns end.old end.new
+    ensures { TurnsTaken D.answers pause result turns end.old end.new
         (drop progress.old.place script.now) (drop progress.new.place script.now)
         (W.state log.old) (W.state log.new) (L.told link.old) (L.told link.new)
         progress.old.entries progress.new.entries progress.old.refused progress.new.refused }
 {
     let mut done = 0;
     while done < turns && !has_gone(end) {
-        match turn(link, log, end, script, progress) {
+        match turn(link, log, end, script, progress, pause) {
             Ok(()) => done += 1,
             Err(stop) => return Err(stop),
         }

@@ -89,10 +89,10 @@ service_asked name rows (Err fault) is asks = tt
 
 -- what has to be given isn't there
 pub no_terms : (rows : List Row) (text : List ℕ) (fault : ToolFault)
-    → ((settings : Parameters) (address : List ℕ) (port first_system turns : ℕ) (repeat : Repeat) → HasTerms rows settings address port first_system turns repeat → ⊥)
+    → ((settings : Parameters) (address : List ℕ) (port first_system turns linktest : ℕ) (repeat : Repeat) → HasTerms rows settings address port first_system turns linktest repeat → ⊥)
     → IsRefusedAs text fault → IsRefusedFor ((service : Service) → AsksToServe rows service → ⊥) text fault
 no_terms rows text (Refused given) none told =
-    (told, (λ service asks. none service.settings (string_bytes service.address) service.port service.first_system service.turns service.repeat asks.0))
+    (told, (λ service asks. none service.settings (string_bytes service.address) service.port service.first_system service.turns service.linktest service.repeat asks.0))
 no_terms rows text (Device given) none told = told
 no_terms rows text Memory none told = tt
 

@@ -28,6 +28,10 @@ t7_number = time_number (codes "t7") 10000
 abbrev pub t8_number : Number
 t8_number = time_number (codes "t8") 5000
 
+-- after how long a pause an end tests its link, in milliseconds; 0 is never
+abbrev pub linktest_number : Number
+linktest_number = record { name = codes "linktest"; least = 0; greatest = 3600000; left_out = Some 0 }
+
 -- a TCP port, which has to be given
 abbrev pub port_number : Number
 port_number = record { name = codes "port"; least = 1; greatest = 65535; left_out = None }
@@ -62,13 +66,13 @@ connection_rules =
 
 abbrev pub limit_rules : List Rule
 limit_rules =
-    option_of t3_number ∷ option_of t6_number ∷ option_of t7_number ∷ option_of t8_number ∷ option_of max_number
-    ∷ option_of depth_number ∷ []
+    option_of t3_number ∷ option_of t6_number ∷ option_of t7_number ∷ option_of t8_number ∷ option_of linktest_number
+    ∷ option_of max_number ∷ option_of depth_number ∷ []
 
 abbrev pub desk_rules : List Rule
 desk_rules =
     option_of first_system_number ∷ option_of turns_number ∷ text_option (codes "mdln") ∷ text_option (codes "softrev")
-    ∷ flag_option (codes "send") ∷ flag_option (codes "answer") ∷ []
+    ∷ flag_option (codes "send") ∷ flag_option (codes "answer") ∷ flag_option (codes "all-sent") ∷ []
 
 abbrev pub again_rules : List Rule
 again_rules =
@@ -116,17 +120,18 @@ HasRepeat rows repeat =
     IsFlag (codes "again") rows repeat.again × IsFlag (codes "once") rows repeat.once
     × (number_in connections_number rows ≡ Some repeat.connections) × (number_in t5_number rows ≡ Some repeat.t5)
 
--- the matches have these settings, address, port, first system bytes and turns, and say so of connections
-abbrev pub HasTerms : List Row → Parameters → Text → ℕ → ℕ → ℕ → Repeat → Type 0
-HasTerms rows settings address port first_system turns repeat =
+-- the matches have these settings, address, port, first system bytes, turns and pause, and say so of connections
+abbrev pub HasTerms : List Row → Parameters → Text → ℕ → ℕ → ℕ → ℕ → Repeat → Type 0
+HasTerms rows settings address port first_system turns linktest repeat =
     HasSettings rows settings × (first_of (codes "address") rows ≡ Some address) × (number_in port_number rows ≡ Some port)
     × (number_in first_system_number rows ≡ Some first_system) × (number_in turns_number rows ≡ Some turns)
-    × HasRepeat rows repeat
+    × (number_in linktest_number rows ≡ Some linktest) × HasRepeat rows repeat
 
 -- the matches ask for this service
 abbrev pub AsksToServe : List Row → Service → Type 0
 AsksToServe rows service =
     HasTerms rows service.settings (string_bytes service.address) service.port service.first_system service.turns
-    service.repeat
+    service.linktest service.repeat
     × (string_bytes service.mdln ≡ text_in (codes "mdln") rows) × (string_bytes service.softrev ≡ text_in (codes "softrev") rows)
     × IsFlag (codes "send") rows service.send × IsFlag (codes "answer") rows service.answer
+    × IsFlag (codes "all-sent") rows service.all_sent

@@ -16,7 +16,8 @@ const SHOW_HELP: &str = "Example: hsms show < capture.bin\n\n\
     Statuses: 0 every message is shown; 2 the command line or the input is refused (TooShort, TooLong, CutOff; with\n\
     --hex NoHex, NoMessage); 3 the input can't be read (Read), the output can't be written (Write), there are more\n\
     than 4294967295 messages or lines (Endless), or memory is wanting (Memory). What was shown before a fault stays\n\
-    shown.";
+    shown.\n\n\
+    With -v a fault is told in words too.";
 
 const AUDIT_USAGE: &str = "hsms audit [OPTIONS] < LOG";
 
@@ -45,12 +46,14 @@ const AUDIT_HELP: &str =
     A log of version 2 may hold several connections: an `up` directly after a `down` begins the next one.\n\n\
     Example: hsms audit < session.log\n\n\
     Statuses: 0 the log passes; 1 it fails; 2 the command line is refused; 3 the log can't be read (Read), the verdict\n\
-    can't be written (Write), there are more than 4294967295 reads (Endless), or memory is wanting (Memory).";
+    can't be written (Write), there are more than 4294967295 reads (Endless), or memory is wanting (Memory).\n\n\
+    With -v a fault is told in words too.";
 
 const ENCODE_HELP: &str = "Example: echo 'S1F13 W <L> .' | hsms encode > message.bin\n\n\
     Statuses: 0 every message is encoded; 2 the command line is refused, or the input (Input, Syntax, Number, Count,\n\
     Deep, TooLarge, TooLong); 3 the input can't be read (Read), the output can't be written (Write), or memory is\n\
-    wanting (Memory). Nothing is written where the input is refused.";
+    wanting (Memory). Nothing is written where the input is refused.\n\n\
+    With -v a fault is told in words too.";
 
 const VERSION: &str = "0.2 (session logs of versions 1 and 2)";
 

@@ -5,7 +5,7 @@ ghost use Rattle.clap.specs.Words.{app_of, rule_of};
 ghost use Rattle.clap.specs.declared.builder.value_parser.ValueParser.TheVariants.{Signed};
 ghost use Rattle.hsms_options.specs.Number.{option_of};
 ghost use Rattle.hsms_options.specs.Options.{serve_command};
-ghost use Rattle.hsms_options.specs.Service.{again_rules, connection_rules, connections_number, desk_rules, limit_rules, needed_option, port_number, text_option, with_rules};
+ghost use Rattle.hsms_options.specs.Service.{again_rules, connection_rules, connections_number, desk_rules, limit_rules, linktest_number, needed_option, port_number, text_option, with_rules};
 
 use crate::describing_options::{depth_option, device_option, flag, max_option};
 use crate::limits::{GREATEST_PORT, LEAST_PORT};
@@ -19,9 +19,10 @@ const SERVE_USAGE: &str =
 const SERVE_HELP: &str =
     "Each end answers Select, Linktest, S1F1, S1F13 and S2F25, and rejects or aborts what it may not take.\n\n\
     Example: hsms serve --role equipment --link passive --address 127.0.0.1 --port 5000 > equipment.log\n\n\
-    Statuses: 0 the connection was served to its end; 2 the command line or the script is refused (Input, Syntax,\n\
-    Number, Count, Deep); 3 there is no connection, or it broke (Link), the log can't be written (Log), all turns are\n\
-    used (Turns), standard input can't be read (Read), or memory is wanting (Memory).";
+    Statuses: 0 the connection was served to its end; 1 not all was sent, with --all-sent; 2 the command line or the\n\
+    script is refused (Input, Syntax, Number, Count, Deep); 3 there is no connection, or it broke (Link), the log can't\n\
+    be written (Log), all turns are used (Turns), standard input can't be read (Read), or memory is wanting (Memory).\n\n\
+    With -v a fault is told in words too.";
 
 /// The subcommand `serve`.
 pub fn serve_command<'a>(alloc: Global) -> Result<Command<'a>, AllocError>
@@ -84,6 +85,7 @@ fn with_limits<'a>(alloc: Global, command: Command<'a>) -> Result<Command<'a>, A
             "t8",
             "Longest time between octets of a message, in ms: 1 to 3600000 [default: 5000]",
         ))?
+        .arg(linktest_option(alloc))?
         .arg(max_option(alloc))?
         .arg(depth_option(alloc))
 }
@@ -118,6 +120,11 @@ fn with_desk<'a>(alloc: Global, command: Command<'a>) -> Result<Command<'a>, All
             alloc,
             "answer",
             "Reply by those of standard input that have even functions, and send the others",
+        ))?
+        .arg(flag(
+            alloc,
+            "all-sent",
+            "End with status 1 where not all messages of standard input were sent",
         ))
 }
 
@@ -174,6 +181,17 @@ fn time_option<'a>(alloc: Global, name: &'a str, help: &'a str) -> Arg<'a>
         .value_name("N")
         .help(help)
         .value_parser(value_parser!(u32).range(i64::from(LEAST_TIME)..=i64::from(GREATEST_TIME)))
+}
+
+fn linktest_option<'a>(alloc: Global) -> Arg<'a>
+    ensures rule { rule_of result ≡ option_of linktest_number }
+    ensures local { result.global ≡ false }
+{
+    Arg::new(alloc, "linktest")
+        .long("linktest")
+        .value_name("N")
+        .help("Test the link after so long a pause, in ms: 1 to 3600000, or 0 for never [default: 0]")
+        .value_parser(value_parser!(u32).range(0..=i64::from(GREATEST_TIME)))
 }
 
 fn count_option<'a>(alloc: Global, name: &'a str, help: &'a str) -> Arg<'a>

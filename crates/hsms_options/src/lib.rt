@@ -20,6 +20,7 @@ mod repeating;
 mod service;
 mod values;
 
+pub use describing::command;
 pub use fault::{ToolFault, exit_status, no_request, refused};
 pub use options::{Form, Request, Task, parse};
 pub use repeating::Repeat;

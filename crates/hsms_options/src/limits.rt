@@ -24,6 +24,9 @@ pub const DEFAULT_T7: u32 = 10_000;
 /// The longest time between octets of a message, in milliseconds (SEMI E37, T8).
 pub const DEFAULT_T8: u32 = 5_000;
 
+/// After how long a pause an end tests its link, in milliseconds: never.
+pub const DEFAULT_LINKTEST: u32 = 0;
+
 /// How long an end waits before it connects again, in milliseconds (SEMI E37, T5).
 pub const DEFAULT_T5: u32 = 10_000;
 

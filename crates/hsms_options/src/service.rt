@@ -13,8 +13,8 @@ ghost use Rattle.hsms_options.specs.declared.service.Service.{Service};
 
 use crate::fault::{ToolFault, no_request};
 use crate::limits::{
-    DEFAULT_SYSTEM, DEFAULT_T3, DEFAULT_T6, DEFAULT_T7, DEFAULT_T8, DEFAULT_TURNS, GREATEST_PORT,
-    LEAST_PORT,
+    DEFAULT_LINKTEST, DEFAULT_SYSTEM, DEFAULT_T3, DEFAULT_T6, DEFAULT_T7, DEFAULT_T8, DEFAULT_TURNS,
+    GREATEST_PORT, LEAST_PORT,
 };
 use crate::repeating::{Repeat, repeat_of};
 use crate::values::{depth_of, device_of, flag_of, max_of, number_of, text_of};
@@ -35,6 +35,8 @@ pub struct Service {
     pub first_system: u32,
     /// How many turns it takes at most.
     pub turns: u32,
+    /// After how long a pause it tests its link by Linktest.req, in milliseconds (SEMI E37, section 7); 0 is never.
+    pub linktest: u32,
     /// The model that equipment tells of itself.
     pub mdln: String,
     /// The software revision that equipment tells of itself.
@@ -43,6 +45,8 @@ pub struct Service {
     pub send: bool,
     /// Whether the messages of standard input that have an even function are replies of its desk.
     pub answer: bool,
+    /// Whether it isn't well where a step of the script was refused, or was left when the connection ended.
+    pub all_sent: bool,
     /// Whether connections are served one after the other, and which.
     pub repeat: Repeat,
 }
@@ -55,6 +59,7 @@ struct Terms<'a> {
     port: u16,
     first_system: u32,
     turns: u32,
+    linktest: u32,
     repeat: Repeat,
 }
 
@@ -85,10 +90,12 @@ pub fn asked_to_serve(alloc: Global, options: &ArgMatches<'_>) -> Result<Service
             port: terms.port,
             first_system: terms.first_system,
             turns: terms.turns,
+            linktest: terms.linktest,
             mdln: String::from_str(alloc, text_or_none(options, "mdln"))?,
             softrev: String::from_str(alloc, text_or_none(options, "softrev"))?,
             send: flag_of(options, "send"),
             answer: flag_of(options, "answer"),
+            all_sent: flag_of(options, "all-sent"),
             repeat: terms.repeat,
         }),
         None => Err(no_request(alloc)),
@@ -98,16 +105,18 @@ pub fn asked_to_serve(alloc: Global, options: &ArgMatches<'_>) -> Result<Service
 fn terms_of<'a>(options: &ArgMatches<'a>) -> Option<Terms<'a>>
     ensures asks { IfSome result (λ terms.
         HasTerms (rows_of (found_of options.now)) terms.settings terms.address.now terms.port terms.first_system terms.turns
-        terms.repeat) }
+        terms.linktest terms.repeat) }
     ensures port { IfSome result (λ terms. (1 ≤ terms.port) × (terms.port ≤ 65535)) }
-    ensures none { result ≡ None → (settings : Parameters) (address : List ℕ) (port first_system turns : ℕ) (repeat : Repeat)
-        → HasTerms (rows_of (found_of options.now)) settings address port first_system turns repeat → ⊥ }
+    ensures none { result ≡ None → (settings : Parameters) (address : List ℕ) (port first_system turns linktest : ℕ)
+        (repeat : Repeat)
+        → HasTerms (rows_of (found_of options.now)) settings address port first_system turns linktest repeat → ⊥ }
 {
     let settings = settings_of(options)?;
     let address = text_of(options, "address")?;
     let port = port_of(options)?;
     let first_system = number_of(options, "first-system", 0, u32::MAX, Some(DEFAULT_SYSTEM))?;
     let turns = number_of(options, "turns", 0, u32::MAX, Some(DEFAULT_TURNS))?;
+    let linktest = number_of(options, "linktest", 0, GREATEST_TIME, Some(DEFAULT_LINKTEST))?;
     let repeat = repeat_of(options)?;
     Some(Terms {
         settings,
@@ -115,6 +124,7 @@ fn terms_of<'a>(options: &ArgMatches<'a>) -> Option<Terms<'a>>
         port,
         first_system,
         turns,
+        linktest,
         repeat,
     })
 }

@@ -1,5 +1,5 @@
 -- What `hsms serve` serves a connection with, and how it tells what came of it.
-use Rattle.std.specs.Prelude.{◌≡◌, ℕ, Bool, true, List, codes, string_bytes, Option, Some, None, Result, Ok, Err}
+use Rattle.std.specs.Prelude.{◌≡◌, ◌==◌, ◌||◌, not, ℕ, Bool, true, List, codes, string_bytes, Option, Some, None, Result, Ok, Err, if◌then◌else◌}
 use Rattle.secs_text.specs.declared.message.Message.{Message}
 use Rattle.secs_text.specs.Content.{Content}
 use Rattle.hsms_end.specs.Answer.{Answered}
@@ -9,11 +9,12 @@ use Rattle.hsms_frame.specs.Device.{SinkState}
 use Rattle.hsms_machine.specs.declared.settings.Role.TheVariants as role
 use Rattle.hsms_ends.specs.declared.fault.ServeFault.{ServeFault}
 use Rattle.hsms_ends.specs.declared.fault.ServeFault.TheVariants as serve
+use Rattle.hsms_ends.specs.declared.again.ServedAgain.{ServedAgain}
 use Rattle.hsms_ends.specs.declared.serving.Served.{Served}
 use Rattle.hsms_ends.specs.declared.step.Step.{Step}
 use Rattle.hsms_ends.specs.Link.{Told}
 use Rattle.hsms_ends.specs.Scripted.{scripted_answer}
-use Rattle.hsms_ends.specs.Serving.{Serves}
+use Rattle.hsms_ends.specs.Serving.{ServesTesting, is_complete}
 use Rattle.hsms_tool.specs.declared.desks.OwnDesk.{OwnDesk}
 use Rattle.hsms_tool.specs.declared.desks.OwnDesk.TheVariants.{Host, Equipment}
 use Rattle.hsms_options.specs.declared.fault.ToolFault.{ToolFault}
@@ -46,26 +47,31 @@ TellsServe fault (Refused words) = ⊥
 TellsServe fault (Device word) = IsWordOf fault word.now
 TellsServe fault Memory = fault ≡ serve.Memory
 
--- what came of serving, as the command tells it
-abbrev pub TellsServed : Result Served ServeFault → Result Bool ToolFault → Type 0
-TellsServed (Ok served) (Ok well) = well ≡ true
-TellsServed (Ok served) (Err told) = ⊥
-TellsServed (Err fault) (Ok well) = ⊥
-TellsServed (Err fault) (Err told) = TellsServe fault told
+-- what came of serving, as the command tells it: where all is to be sent, it is well where each step of the script was
+-- taken and none refused
+abbrev pub TellsServed : Bool → Result Served ServeFault → Result Bool ToolFault → Type 0
+TellsServed all_sent (Ok served) (Ok well) = well ≡ (not all_sent || is_complete served)
+TellsServed all_sent (Ok served) (Err told) = ⊥
+TellsServed all_sent (Err fault) (Ok well) = ⊥
+TellsServed all_sent (Err fault) (Err told) = TellsServe fault told
 
--- it is well, unless a connection is wanting
-abbrev pub TellsWanting : Option ServeFault → Result Bool ToolFault → Type 0
-TellsWanting None (Ok well) = well ≡ true
-TellsWanting None (Err told) = ⊥
-TellsWanting (Some fault) (Ok well) = ⊥
-TellsWanting (Some fault) (Err told) = TellsServe fault told
+-- it is well or not, unless a connection is wanting
+abbrev pub TellsWanting : Bool → Option ServeFault → Result Bool ToolFault → Type 0
+TellsWanting is_well None (Ok well) = well ≡ is_well
+TellsWanting is_well None (Err told) = ⊥
+TellsWanting is_well (Some fault) (Ok well) = ⊥
+TellsWanting is_well (Some fault) (Err told) = TellsServe fault told
 
 -- what came of serving connections one after the other, as the command tells it
-abbrev pub TellsServedAgain : Result ℕ ServeFault → Option ServeFault → Result Bool ToolFault → Type 0
-TellsServedAgain (Ok n) wanting told = TellsWanting wanting told
-TellsServedAgain (Err fault) wanting told = TellsWanting (Some fault) told
+abbrev pub TellsServedAgain : Bool → Result ServedAgain ServeFault → Option ServeFault → Result Bool ToolFault → Type 0
+TellsServedAgain all_sent (Ok served) wanting told = TellsWanting (not all_sent || served.complete) wanting told
+TellsServedAgain all_sent (Err fault) wanting told = TellsWanting true (Some fault) told
+
+-- after how long a pause the link is tested, where 0 is never
+abbrev pub pause_for : ℕ → Option ℕ
+pause_for linktest = if linktest == 0 then None else Some linktest
 
 -- a new end served a connection with this desk, as the service asks
 abbrev pub ServesTo : Service → OwnDesk → List Step → Result Served ServeFault → SinkState → SinkState → Told → Told → Type 0
 ServesTo service desk script result log log' link link' =
-    Serves own_answer (record { desk = desk; known = untold service.settings service.first_system }) script service.turns result log log' link link'
+    ServesTesting own_answer (pause_for service.linktest) (record { desk = desk; known = untold service.settings service.first_system }) script service.turns result log log' link link'

@@ -1,12 +1,14 @@
 //! `hsms serve`: one connection, served.
 
-ghost use Rattle.std.specs.Prelude.{◌≡◌, if◌then◌else◌, []};
+ghost use Rattle.std.specs.Prelude.{◌≡◌, ◌||◌, not, if◌then◌else◌, []};
 ghost use Rattle.hsms_machine.specs.Settings.{several_of};
 ghost use Rattle.hsms_ends.specs.Again.{ServesAgain};
-ghost use Rattle.hsms_tool.specs.Serving.{ServesTo, TellsServe, TellsServed, TellsServedAgain, TellsWanting, own_answer};
+ghost use Rattle.hsms_tool.specs.Serving.{ServesTo, TellsServe, TellsServed, TellsServedAgain, TellsWanting, own_answer, pause_for};
 
 use crate::desks::OwnDesk;
-use hsms_ends::{Again, Lent, Link, ServeFault, Served, Step, serve, serve_again};
+use hsms_ends::{
+    Again, Lent, Link, ServeFault, Served, ServedAgain, Step, serve_again, serve_testing,
+};
 use hsms_frame::Sink;
 use hsms_options::{Service, ToolFault};
 use std::alloc::Global;
@@ -33,7 +35,8 @@ pub fn serve_to<L: Link, W: Sink>(
         (L.told link.old) (L.told link.new) }
 {
     let turns = u64::from(service.turns);
-    serve(
+    let pause = pause_of(service.linktest);
+    serve_testing(
         alloc,
         link,
         log,
@@ -41,8 +44,20 @@ pub fn serve_to<L: Link, W: Sink>(
         desk,
         service.first_system,
         script,
+        pause,
         turns,
     )
+}
+
+// After how many milliseconds of quiet the link is tested, if it is.
+fn pause_of(linktest: u32) -> Option<u64>
+    ensures { result ≡ pause_for linktest }
+{
+    if linktest == 0 {
+        None
+    } else {
+        Some(u64::from(linktest))
+    }
 }
 
 /// Serves connection after connection as a service asks, and writes one log of them.
@@ -59,13 +74,15 @@ pub fn serve_again_to<L: Again, W: Sink>(
     service: &Service,
     desk: Lent<'_, OwnDesk>,
     script: &[Step],
-) -> Result<u64, ServeFault>
-    ensures { ServesAgain (λ lent. own_answer lent.desk.now) desk.entry (several_of service.now.settings)
+) -> Result<ServedAgain, ServeFault>
+    ensures { ServesAgain (λ lent. own_answer lent.desk.now) (pause_for service.now.linktest) desk.entry
+        (several_of service.now.settings)
         service.now.first_system script.now (if service.now.repeat.once then [] else script.now) service.now.turns
         service.now.repeat.connections result (W.state log.old) (W.state log.new) (L.told link.old) (L.told link.new) }
 {
     let turns = u64::from(service.turns);
     let connections = u64::from(service.repeat.connections);
+    let pause = pause_of(service.linktest);
     let later = later_steps(script, service.repeat.once);
     let system = service.first_system;
     serve_again(
@@ -77,6 +94,7 @@ pub fn serve_again_to<L: Again, W: Sink>(
         system,
         script,
         later,
+        pause,
         turns,
         connections,
     )
@@ -89,39 +107,49 @@ fn later_steps<'a>(script: &'a [Step], once: bool) -> &'a [Step]
     if once { &script[..0] } else { script }
 }
 
-/// What came of serving connections one after the other, as the command tells it. Another one may be wanting.
+/// What came of serving connections one after the other, as the command tells it. Another one may be wanting. Where all is
+/// to be sent, it is well only where each connection was complete.
 pub fn told_again(
-    served: Result<u64, ServeFault>,
+    all_sent: bool,
+    served: Result<ServedAgain, ServeFault>,
     wanting: Option<ServeFault>,
 ) -> Result<bool, ToolFault>
-    ensures { TellsServedAgain served wanting result }
+    ensures { TellsServedAgain all_sent served wanting result }
 {
     match served {
-        Ok(_) => told_wanting(wanting),
+        Ok(served) => told_wanting(is_well(all_sent, served.complete), wanting),
         Err(fault) => Err(fault_told(fault)),
     }
 }
 
-fn told_wanting(wanting: Option<ServeFault>) -> Result<bool, ToolFault>
-    ensures { TellsWanting wanting result }
+fn told_wanting(well: bool, wanting: Option<ServeFault>) -> Result<bool, ToolFault>
+    ensures { TellsWanting well wanting result }
 {
     match wanting {
         Some(fault) => Err(fault_told(fault)),
-        None => Ok(true),
+        None => Ok(well),
     }
 }
 
-/// What came of serving, as the command tells it: `Device` with the name of a fault, but for `Memory`.
-pub fn told(served: Result<Served, ServeFault>) -> Result<bool, ToolFault>
-    ensures { TellsServed served result }
+/// What came of serving, as the command tells it: `Device` with the name of a fault, but for `Memory`. Where all is to be
+/// sent, it is well only where each step of the script was taken, and none refused.
+pub fn told(all_sent: bool, served: Result<Served, ServeFault>) -> Result<bool, ToolFault>
+    ensures { TellsServed all_sent served result }
 {
     match served {
-        Ok(_) => Ok(true),
+        Ok(served) => Ok(is_well(all_sent, served.is_complete())),
         Err(fault) => Err(fault_told(fault)),
     }
 }
 
-fn fault_told(fault: ServeFault) -> ToolFault
+fn is_well(all_sent: bool, complete: bool) -> bool
+    ensures { result ≡ (not all_sent || complete) }
+{
+    !all_sent || complete
+}
+
+/// A fault of serving, as the command tells it.
+pub fn fault_told(fault: ServeFault) -> ToolFault
     ensures { TellsServe fault result }
 {
     match fault {

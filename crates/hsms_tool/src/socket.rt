@@ -68,18 +68,16 @@ impl<'a, C: Clock, S: Read + Write + OpenStream + Drop> Link for SocketLink<'a, 
 ///
 /// # Errors
 ///
-/// `Link`, where none could be had, and `Memory`.
+/// What the system says, where none could be had.
 pub fn connected<'a, R: Clock + Net>(
     rt: &'a R,
     service: &Service,
-) -> Result<SocketLink<'a, R, R::Stream>, ServeFault> {
-    match stream_of(rt, service) {
-        Ok(stream) => Ok(SocketLink::new(rt, stream)),
-        Err(error) => Err(unconnected(error.kind())),
-    }
+) -> io::Result<SocketLink<'a, R, R::Stream>> {
+    let stream = stream_of(rt, service)?;
+    Ok(SocketLink::new(rt, stream))
 }
 
-/// There is no connection, or memory is wanting for it.
+/// The fault where there is no connection: `Link`, or `Memory` where that is wanting for it.
 pub fn unconnected(kind: ErrorKind) -> ServeFault {
     if kind == ErrorKind::OutOfMemory {
         ServeFault::Memory

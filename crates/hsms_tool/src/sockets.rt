@@ -3,8 +3,8 @@
 ghost use Rattle.std.specs.Prelude.{◌≡◌};
 ghost use Rattle.hsms_tool.specs.Calls.{told_of};
 
-use crate::socket::{SocketLink, accepted, dialled, listening, unconnected};
-use hsms_ends::{Again, Got, Link, LinkFault, ServeFault};
+use crate::socket::{SocketLink, accepted, dialled, listening};
+use hsms_ends::{Again, Got, Link, LinkFault};
 use hsms_machine::Side;
 use hsms_options::Service;
 use std::io;
@@ -24,14 +24,14 @@ pub struct SocketsLink<'a, R: Clock + Net> {
     failures: u64,
     // Whether the connection is the first one, which no end was served with yet.
     is_new: bool,
-    // Why there is no further connection.
-    fault: Option<ServeFault>,
+    // Why there is no further connection, as the system says.
+    fault: Option<ErrorKind>,
 }
 
 impl<'a, R: Clock + Net> SocketsLink<'a, R> {
     /// What served the connections has ended: the last one is closed, and the answer is why there is no further one,
     /// where one was asked for.
-    pub fn end(mut self) -> Option<ServeFault> {
+    pub fn end(mut self) -> Option<ErrorKind> {
         if self.fault.is_none() {
             self.hang_up();
         }
@@ -85,7 +85,7 @@ impl<'a, R: Clock + Net> Again for SocketsLink<'a, R> {
                 true
             }
             Err(error) => {
-                self.fault = Some(unconnected(error.kind()));
+                self.fault = Some(error.kind());
                 false
             }
         }
@@ -96,19 +96,11 @@ impl<'a, R: Clock + Net> Again for SocketsLink<'a, R> {
 ///
 /// # Errors
 ///
-/// `Link`, where it can't listen, and `Memory`.
+/// What the system says, where it can't listen, or memory is wanting.
 pub fn connected_again<'a, R: Clock + Net>(
     rt: &'a R,
     service: &'a Service,
-) -> Result<SocketsLink<'a, R>, ServeFault> {
-    match first_of(rt, service) {
-        Ok(link) => Ok(link),
-        Err(error) => Err(unconnected(error.kind())),
-    }
-}
-
-// Listens, where it is passive, and gets the first connection.
-fn first_of<'a, R: Clock + Net>(rt: &'a R, service: &'a Service) -> io::Result<SocketsLink<'a, R>> {
+) -> io::Result<SocketsLink<'a, R>> {
     let listener = match service.settings.link() {
         Side::Active => None,
         Side::Passive => Some(listening(rt, service)?),

@@ -32,10 +32,12 @@ fn service(alloc: Global, role: Role, link: Side) -> Result<Service, Fail> {
         port: 1,
         first_system: 1,
         turns: 1000,
+        linktest: 0,
         mdln: String::from_str(alloc, "M")?,
         softrev: String::from_str(alloc, "1")?,
         send: false,
         answer: false,
+        all_sent: false,
         repeat: Repeat {
             again: false,
             once: false,

@@ -70,6 +70,7 @@ fn assert_whole(rt: &impl Abort, answer: Served, link: &Scripted, log: &Store) {
     let whole = Served {
         entries: 7,
         refused: 0,
+        left: 0,
     };
     assert_eq!(rt; answer, whole);
     assert_octets(rt, log.written(), WHOLE_LOG.as_bytes(), "a whole log");

@@ -2,7 +2,7 @@
 
 use super::connection::{audited, log_of, settings_of};
 use super::{Abort, Fail, Global, Role, assert_octets, equipment, octets_of};
-use hsms_ends::{HostDesk, Lent, Scripted, ServeFault, Step, serve_again};
+use hsms_ends::{HostDesk, Lent, Scripted, ServeFault, ServedAgain, Step, serve_again};
 use secs_text::read;
 
 /// A link whose clock goes back after the first connection. Each wait gives the octets of one message.
@@ -17,10 +17,18 @@ fn link_of(alloc: Global, moments: &[u64], messages: &[&'static str]) -> Result<
 }
 
 /// Want of memory is handed up.
-fn assert_served(rt: &impl Abort, answer: Result<u64, ServeFault>, want: u64) -> Result<(), Fail> {
+fn assert_served(
+    rt: &impl Abort,
+    answer: Result<ServedAgain, ServeFault>,
+    connections: u64,
+) -> Result<(), Fail> {
     match answer {
         Err(ServeFault::Memory) => Err(ServeFault::Memory.into()),
         _ => {
+            let want = ServedAgain {
+                connections,
+                complete: true,
+            };
             assert_eq!(rt; answer, Ok(want));
             Ok(())
         }
@@ -67,6 +75,7 @@ fn a_tool_is_selected_twice(rt: HostRuntime) -> Result<(), Fail> {
         1,
         &[],
         &[],
+        None,
         100,
         2,
     );
@@ -105,6 +114,7 @@ fn a_host_connects_again(rt: HostRuntime) -> Result<(), Fail> {
         1,
         &script,
         &[],
+        None,
         100,
         3,
     );

@@ -47,6 +47,7 @@ const PASSIVE: Connection = Connection {
     answer: Ok(Served {
         entries: 7,
         refused: 0,
+        left: 0,
     }),
     until: Some(10001),
     log: "0 up
@@ -85,6 +86,7 @@ const ACTIVE: Connection = Connection {
     answer: Ok(Served {
         entries: 7,
         refused: 1,
+        left: 0,
     }),
     until: Some(45001),
     log: HOST_LOG,
@@ -147,6 +149,7 @@ const CONNECTIONS: &[Connection] = &[
         answer: Ok(Served {
             entries: 3,
             refused: 0,
+            left: 0,
         }),
         until: Some(10001),
         log: "0 up\n10001 cut t7\n10001 down\n",
@@ -160,6 +163,7 @@ const CONNECTIONS: &[Connection] = &[
         answer: Ok(Served {
             entries: 2,
             refused: 0,
+            left: 0,
         }),
         until: Some(10001),
         log: "0 up\n0 down\n",
@@ -174,6 +178,7 @@ const CONNECTIONS: &[Connection] = &[
         answer: Ok(Served {
             entries: 3,
             refused: 0,
+            left: 0,
         }),
         until: Some(10001),
         log: "0 up\n10001 cut t7\n10001 down\n",
@@ -188,6 +193,7 @@ const CONNECTIONS: &[Connection] = &[
         answer: Ok(Served {
             entries: 3,
             refused: 0,
+            left: 0,
         }),
         until: Some(10001),
         log: "0 up\n10001 cut t7\n10001 down\n",
@@ -200,6 +206,7 @@ const CONNECTIONS: &[Connection] = &[
         answer: Ok(Served {
             entries: 8,
             refused: 1,
+            left: 0,
         }),
         log: "0 up
 0 > ffff0000000100000001

@@ -20,7 +20,7 @@ returns-in-Ok g c =
     let script = c.args.script.now in
     let before = c.args.progress.now in
     let after = c.continue_turn.new.progress in
-    turn_whole g.D.Desk.answers c.continue_turn.result c.in-Ok.ensures.0 c.args.end.now c.tick.new.end c.continue_turn.new.end (drop before.place script) (drop after.place script) log mid log' (told c.args.link.now) (told c.tick.new.link) (told c.continue_turn.new.link)
+    turn_whole g.D.Desk.answers c.args.pause c.continue_turn.result c.in-Ok.ensures.0 c.args.end.now c.tick.new.end c.continue_turn.new.end (drop before.place script) (drop after.place script) log mid log' (told c.args.link.now) (told c.tick.new.link) (told c.continue_turn.new.link)
     before.entries c.tick.new.count after.entries before.refused after.refused c.requires.up c.in-Ok.ensures.1 c.continue_turn.ensures
 
 pub returns-in-Err : goal.returns-in-Err
@@ -29,5 +29,5 @@ returns-in-Err g c =
     let log : SinkState = g.W.Sink.state c.args.log.now in
     let log' : SinkState = g.W.Sink.state c.tick.new.log in
     let before = c.args.progress.now in
-    turn_cut g.D.Desk.answers c.in-Err.stop c.in-Err.ensures.0 c.args.end.now c.tick.new.end (drop before.place c.args.script.now) log log' (told c.args.link.now) (told c.tick.new.link) before.entries c.tick.new.count before.refused
+    turn_cut g.D.Desk.answers c.args.pause c.in-Err.stop c.in-Err.ensures.0 c.args.end.now c.tick.new.end (drop before.place c.args.script.now) log log' (told c.args.link.now) (told c.tick.new.link) before.entries c.tick.new.count before.refused
     c.requires.up c.in-Err.ensures.1

@@ -1,0 +1,178 @@
+//! Words for people: what a fault says, and what to do about it.
+
+use crate::front::FRONT;
+use crate::place::{column_of, line_of, underlined};
+use hsms_options::ToolFault;
+use std::alloc::{AllocError, Global};
+use std::io::ErrorKind;
+
+/// What is known of a fault besides its name.
+#[derive(Debug, Drop)]
+pub enum Known {
+    /// Nothing more.
+    Nothing,
+    /// What is wrong with the command line, in a sentence.
+    Line(String),
+    /// So many of the first octets of the input, which isn't notation.
+    Octets {
+        octets: [u8; FRONT],
+        count: usize,
+    },
+    /// The input, which is to be notation.
+    Notation(Vec<u8>),
+    /// No connection was had at this address and port, where the system said so.
+    Link {
+        address: String,
+        port: u16,
+        kind: ErrorKind,
+    },
+}
+
+/// Why the command ends before its work is done, and what is known of it.
+#[derive(Debug, Drop)]
+pub struct Failure {
+    pub fault: ToolFault,
+    pub known: Known,
+}
+
+impl From<ToolFault> for Failure {
+    fn from(fault: ToolFault) -> Failure {
+        Failure {
+            fault,
+            known: Known::Nothing,
+        }
+    }
+}
+
+impl From<AllocError> for Failure {
+    fn from(_: AllocError) -> Failure {
+        Failure::from(ToolFault::Memory)
+    }
+}
+
+// The file of a packet capture begins so: pcap in either order of octets, in micro- and nanoseconds, and pcapng.
+const CAPTURES: [[u8; FRONT]; 5] = [
+    [0xd4, 0xc3, 0xb2, 0xa1],
+    [0xa1, 0xb2, 0xc3, 0xd4],
+    [0x4d, 0x3c, 0xb2, 0xa1],
+    [0xa1, 0xb2, 0x3c, 0x4d],
+    [0x0a, 0x0d, 0x0d, 0x0a],
+];
+
+/// The words for a fault: what happened, and what to do. They may be several lines.
+pub fn words_for(alloc: Global, failure: &Failure) -> Result<String, AllocError> {
+    let name = failure.fault.to_string(alloc)?;
+    match &failure.known {
+        Known::Line(sentence) => format!(in alloc; "{sentence}"),
+        Known::Link {
+            address,
+            port,
+            kind,
+        } => link_words(alloc, address.as_str(), *port, *kind),
+        Known::Notation(input) => notation_words(alloc, name.as_str(), input),
+        Known::Octets { octets, count } => {
+            let words = if *count == FRONT && is_capture(octets) {
+                "this is a pcap file, a capture of packets: docs/CAPTURES.md tells how its messages are had"
+            } else {
+                sentence(name.as_str())
+            };
+            String::from_str(alloc, words)
+        }
+        Known::Nothing => String::from_str(alloc, sentence(name.as_str())),
+    }
+}
+
+// Whether a file of packets begins with these octets.
+fn is_capture(octets: &[u8; FRONT]) -> bool {
+    CAPTURES.iter().any(|mark| mark == octets)
+}
+
+// The words for a fault of a notation: with the place, where the fault has one, the line and the column, and the line
+// itself with a mark below the place.
+fn notation_words(alloc: Global, name: &str, input: &[u8]) -> Result<String, AllocError> {
+    let what = sentence(name);
+    match place_in(name) {
+        Some(at) => {
+            let line = line_of(input, at);
+            let column = column_of(input, at);
+            let shown = underlined(alloc, input, at)?;
+            format!(in alloc; "line {line}, column {column}: {what}\n{shown}")
+        }
+        None => String::from_str(alloc, what),
+    }
+}
+
+// The place that a fault of a notation has.
+fn place_in(name: &str) -> Option<usize> {
+    let (_, number) = name.split_once(" at=")?;
+    number.parse().ok()
+}
+
+// Why there is no connection.
+fn link_words(
+    alloc: Global,
+    address: &str,
+    port: u16,
+    kind: ErrorKind,
+) -> Result<String, AllocError> {
+    match kind {
+        ErrorKind::ConnectionRefused => format!(in alloc;
+            "connection refused by {address}:{port}: nobody listens there. Start the other end first, or see --address and --port"
+        ),
+        ErrorKind::AddrInUse => format!(in alloc;
+            "port {port} is in use: another program listens there. End it, or take another --port"
+        ),
+        ErrorKind::Uncategorized | ErrorKind::InvalidInput => format!(in alloc;
+            "no such host: {address}. See --address, an IP address or a name that this machine can look up"
+        ),
+        ErrorKind::AddrNotAvailable => format!(in alloc;
+            "{address} is no address of this machine, where a passive end listens: see --address"
+        ),
+        ErrorKind::PermissionDenied => format!(in alloc;
+            "the system doesn't allow port {port}: take one from 1024 on"
+        ),
+        ErrorKind::TimedOut | ErrorKind::HostUnreachable | ErrorKind::NetworkUnreachable =>
+            format!(in alloc;
+                "no answer from {address}:{port}: see --address, the network, and what stands between"
+            ),
+        _ => format!(in alloc; "no connection with {address}:{port}: see --address and --port"),
+    }
+}
+
+/// What a fault of this name says, and what to do. It is the one table of these words.
+fn sentence(name: &str) -> &'static str {
+    let word = match name.split_once(' ') {
+        Some((word, _)) => word,
+        None => name,
+    };
+    match word {
+        "command" => "see hsms --help, and --help behind a command",
+        "TooShort" =>
+            "a message's length is below 10, so these aren't HSMS messages, or some octets are missing before it",
+        "TooLong" =>
+            "a message is longer than --max: give a greater one, or see whether the input is what it should be",
+        "CutOff" => "the input ends within a message: its last octets are missing",
+        "NoHex" =>
+            "this line isn't octets in hexadecimal digits: without --hex the input is read as octets",
+        "NoMessage" =>
+            "this line isn't one message within --max: lines of a log have no length, and ask for --bare too",
+        "Input" => "the input is longer than 67108864 octets: give it in parts",
+        "Syntax" =>
+            "this can't stand here; a message is S1F1 W <A \"text\"> ., its end is a full stop",
+        "Number" => "this is no value of its type, or out of its range",
+        "Count" => "the number in these brackets isn't how many values follow",
+        "Deep" => "lists are nested deeper here than --depth: give a greater one, or fewer lists",
+        "TooLarge" => "a value or a list of a message has more than 16777215 octets or elements",
+        "Endless" => "there is more than the command counts: give the input in parts",
+        "Read" => "standard input can't be read: see that it is open, and no folder",
+        "Write" =>
+            "standard output can't be written: see that the disk isn't full, and that its reader goes on",
+        "Log" =>
+            "the log can't be written: see that standard output is open, the disk isn't full, and its reader goes on",
+        "Link" =>
+            "the connection broke: the other end reset it, or took nothing for T8. The log tells how far it came",
+        "Turns" => "all turns are used, and the connection was up: give more --turns",
+        "Memory" => "memory is wanting: give the command more, or a smaller input",
+        _ => "see docs/FORMATS.md",
+    }
+}

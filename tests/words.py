@@ -1,0 +1,219 @@
+#!/usr/bin/env python3
+"""Tells each fault of the command, without words and with them: by `-v`, and by HSMS_VERBOSE in the environment.
+
+Without them standard error has one line, the fault's name. With them the words follow, which docs/FORMATS.md shows in
+its table, and nothing else changes. It runs what `rt ci` has built, or the program that it is given. The last line is
+`N passed, M failed`.
+"""
+import os
+import subprocess
+import sys
+import threading
+from dataclasses import dataclass, field
+from typing import List
+
+sys.dont_write_bytecode = True
+
+from loopback import HERE, Listening, PROGRAM, SOON, free_port, same
+
+TOP = os.path.dirname(os.path.dirname(os.path.abspath(__file__)))
+END = ["serve", "--role", "host", "--link", "active"]
+LISTENS = ["serve", "--role", "host", "--link", "passive"]
+HERE_AT = [*END, "--address", HERE, "--port"]
+OPTIONS = "--role ROLE --link LINK --address A --port P [OPTIONS] [--send < NOTATION] > LOG"
+
+
+@dataclass
+class Case:
+    """What is run, and what is told: a status, the fault's name, and the words, of which each line is one of a list."""
+
+    words: List[str]
+    status: int
+    fault: str
+    told: List[str]
+    octets: bytes = b""
+    how: dict = field(default_factory=dict)
+
+
+def notation(octets, fault, told, *options):
+    """A notation that both `encode` and `serve --send` refuse."""
+    yield Case(["encode", *options], 2, fault, told, octets)
+    yield Case([*HERE_AT, "1", "--send", *options], 2, fault, told, octets)
+
+
+def cases_of_words():
+    usage = "Usage: hsms <COMMAND>"
+    no_command = "'hsms' requires a subcommand but one was not provided [subcommands: show, audit, encode, serve, help]"
+    yield Case([], 2, "command line", [f"{no_command}. {usage}"])
+    yield Case(["shwo"], 2, "command line", [f"unrecognized subcommand 'shwo'. {usage}"])
+    needed = "the following required arguments were not provided: --port <P>"
+    yield Case([*END, "--address", HERE], 2, "command line", [f"{needed}. Usage: hsms serve {OPTIONS}"])
+    value = "invalid value '1' for '--max <N>': 1 is not in 256..=33554432"
+    yield Case(["audit", "--max"], 2, "command line", ["unexpected argument '--max' found. Usage: hsms audit [OPTIONS] < LOG"])
+    yield Case(["show", "--max", "1"], 2, "command line", [value])
+    own = "--role is host or equipment, --link is active or passive, and --bare goes with --hex alone"
+    yield Case(["show", "--bare"], 2, "command line", [own])
+    yield Case([*HERE_AT, "1", "--role", "both"][:2] + ["both", *HERE_AT[3:], "1"], 2, "command line", [own])
+
+
+def cases_of_inputs():
+    syntax = 'this can\'t stand here; a message is S1F1 W <A "text"> ., its end is a full stop'
+    yield from notation(b"S1F1 W .\nS1F1 W", "Syntax at=15", [f"line 2, column 7: {syntax}", "S1F1 W", "      ^"])
+    yield from notation(b"\tS1F1 \xff .\n", "Syntax at=6", [f"line 1, column 7: {syntax}", " S1F1 ? .", "      ^"])
+    # (of a long line 60 octets before the place are shown, and 40 from there on)
+    long = b"S1F1 <A " + 60 * b"0x41 " + b"? >." + 60 * b" "
+    shown = (60 * "0x41 ")[-60:] + ("? >." + 60 * " ")[:40]
+    yield from notation(long, "Syntax at=308", [f"line 1, column 309: {syntax}", shown, 60 * " " + "^"])
+    number = "this is no value of its type, or out of its range"
+    yield from notation(
+        b"S1F3 W <U1 256> .", "Number at=11", [f"line 1, column 12: {number}", "S1F3 W <U1 256> .", 11 * " " + "^"]
+    )
+    count = "the number in these brackets isn't how many values follow"
+    yield from notation(
+        b"\n\nS1F1 <B [2] 0x00> .", "Count at=10", [f"line 3, column 9: {count}", "S1F1 <B [2] 0x00> .", 8 * " " + "^"]
+    )
+    deep = "lists are nested deeper here than --depth: give a greater one, or fewer lists"
+    yield from notation(
+        b"S1F1 <L <L>> .", "Deep at=8", [f"line 1, column 9: {deep}", "S1F1 <L <L>> .", 8 * " " + "^"], "--depth", "1"
+    )
+    yield from notation(b" " * 67108865, "Input", ["the input is longer than 67108864 octets: give it in parts"])
+    large = "a value or a list of a message has more than 16777215 octets or elements"
+    yield Case(["encode"], 2, "TooLarge", [large], b'S1F1 <A "' + (1 << 24) * b"x" + b'"> .')
+    greater = "a message is longer than --max: give a greater one, or see whether the input is what it should be"
+    yield Case(["encode", "--max", "256"], 2, "TooLong length=313", [greater], b'S1F1 <A "' + 300 * b"x" + b'"> .')
+    yield Case(["show"], 2, "TooLong length=1633837924", [greater], b"abcdefghijklmnopqrstuvw")
+    capture = "this is a pcap file, a capture of packets: docs/CAPTURES.md tells how its messages are had"
+    with open(f"{TOP}/examples/late-reply.pcap", "rb") as file:
+        yield Case(["show"], 2, "TooLong length=3569595041", [capture], file.read())
+    for front, length in (("a1b2c3d4", 2712847316), ("4d3cb2a1", 1295823521), ("a1b23c4d", 2712812621)):
+        yield Case(["show"], 2, f"TooLong length={length}", [capture], bytes.fromhex(front) + 20 * b"\0")
+    yield Case(["show"], 2, "TooLong length=168627466", [capture], bytes.fromhex("0a0d0d0a") + 24 * b"\0")
+    short = "a message's length is below 10, so these aren't HSMS messages, or some octets are missing before it"
+    yield Case(["show"], 2, "TooShort length=9", [short], b"\0\0\0\x09")
+    yield Case(["show"], 2, "CutOff", ["the input ends within a message: its last octets are missing"], b"\0\0\0\x0a\0")
+    digits = "this line isn't octets in hexadecimal digits: without --hex the input is read as octets"
+    yield Case(["show", "--hex"], 2, "NoHex line=2", [digits], b"\nxyz\n")
+    bare = "this line isn't one message within --max: lines of a log have no length, and ask for --bare too"
+    yield Case(["show", "--hex"], 2, "NoMessage line=1", [bare], b"ffff0000000100000001\n")
+
+
+def cases_of_devices():
+    read = "standard input can't be read: see that it is open, and no folder"
+    folder = {"stdin": os.open("/", os.O_RDONLY)}
+    for words in (["show"], ["audit"], ["encode"], [*HERE_AT, "1", "--send"]):
+        yield Case(words, 3, "Read", [read], how=folder)
+    write = "standard output can't be written: see that the disk isn't full, and that its reader goes on"
+    full = {"stdout": os.open("/dev/full", os.O_WRONLY)}
+    yield Case(["encode"], 3, "Write", [write], b"S1F1 .", full)
+    log = "the log can't be written: see that standard output is open, the disk isn't full, and its reader goes on"
+    yield Case([*LISTENS, "--address", HERE, "--port", str(free_port())], 3, "Log", [log], how=full)
+
+
+def cases_of_links():
+    port = free_port()
+    refused = f"connection refused by {HERE}:{port}: nobody listens there."
+    refused += " Start the other end first, or see --address and --port"
+    yield Case([*HERE_AT, str(port)], 3, "Link", [refused])
+    peers = Listening()
+    in_use = f"port {peers.port} is in use: another program listens there. End it, or take another --port"
+    for options in ([], ["--again"]):
+        yield Case([*LISTENS, "--address", HERE, "--port", str(peers.port), *options], 3, "Link", [in_use])
+    no_host = "no such host: {}. See --address, an IP address or a name that this machine can look up"
+    for name in ("no.such.host.invalid", "256.256.256.256"):
+        yield Case([*END, "--address", name, "--port", "5000"], 3, "Link", [no_host.format(name)])
+    foreign = "192.0.2.1 is no address of this machine, where a passive end listens: see --address"
+    yield Case([*LISTENS, "--address", "192.0.2.1", "--port", str(port)], 3, "Link", [foreign])
+    turns = "all turns are used, and the connection was up: give more --turns"
+    waits = Listening()
+    yield Case([*HERE_AT, str(waits.port), "--turns", "0", "--t8", "10"], 3, "Turns", [turns])
+    waits.listener.close()
+    broke = "the connection broke: the other end reset it, or took nothing for T8. The log tells how far it came"
+    with ResettingPeer() as resets:
+        yield Case([*HERE_AT, str(resets.port)], 3, "Link", [broke])
+    peers.listener.close()
+
+
+class ResettingPeer:
+    """A peer that resets each connection."""
+
+    def __enter__(self):
+        self.peers = Listening()
+        self.port = self.peers.port
+        threading.Thread(target=self.reset_all, daemon=True).start()
+        return self
+
+    def reset_all(self):
+        try:
+            while True:
+                self.peers.next_one().reset()
+        except OSError:
+            pass
+
+    def __exit__(self, *_):
+        self.peers.listener.close()
+
+
+def told_by(case, words, env):
+    """The status, and what is told on standard error, of a run whose words are these."""
+    how = {"stdout": subprocess.PIPE, **case.how}
+    if "stdin" not in how:
+        how["input"] = case.octets
+    run = subprocess.run([PROGRAM, *words], stderr=subprocess.PIPE, timeout=SOON, env={**os.environ, **env}, **how)
+    return run.returncode, run.stderr.decode()
+
+
+def tell(case):
+    fault = f"hsms: {case.fault}\n"
+    worded = fault + "".join(f"{line}\n" for line in case.told)
+    same(told_by(case, case.words, {"HSMS_VERBOSE": ""}), (case.status, fault))
+    same(told_by(case, ["-v", *case.words], {}), (case.status, worded))
+    same(told_by(case, [*case.words, "-v"], {}), (case.status, worded))
+    same(told_by(case, case.words, {"HSMS_VERBOSE": "1"}), (case.status, worded))
+
+
+def judged(told):
+    """What is no fault is the same with words and without."""
+    log = "hsms-log 1 host active 0 45000 6000 10000 5000 1048576 32\n0 up\n0 up\n"
+    for words, octets in ((["audit"], log), (["encode", "--hex"], "S1F1 W ."), (["show"], ""), (["--version"], "")):
+        runs = [
+            subprocess.run([PROGRAM, *words, *more], input=octets.encode(), capture_output=True, timeout=SOON)
+            for more in ([], ["-v"])
+        ]
+        same(*[(run.returncode, run.stdout, run.stderr) for run in runs])
+        told.append(words)
+
+
+def documented(cases):
+    """Each sentence stands in the table of docs/FORMATS.md, but for what is the user's in it."""
+    with open(f"{TOP}/docs/FORMATS.md", encoding="utf-8") as file:
+        page = " ".join(file.read().split())
+    for case in cases:
+        sentence = case.told[0].split(": ", 1)[1] if case.told[0].startswith("line ") else case.told[0]
+        if case.fault not in ("command line", "Link") and sentence not in page:
+            raise AssertionError(f"docs/FORMATS.md lacks {sentence!r}")
+
+
+def main():
+    passed, failed, cases, told = 0, 0, [], []
+    for made in (cases_of_words, cases_of_inputs, cases_of_devices, cases_of_links):
+        for case in made():
+            cases.append(case)
+            try:
+                tell(case)
+                passed += 1
+            except (AssertionError, OSError, subprocess.TimeoutExpired) as error:
+                failed += 1
+                print(f"{case.words}: {error!r}"[:600])
+    for check in (lambda: judged(told), lambda: documented(cases)):
+        try:
+            check()
+            passed += 1
+        except AssertionError as error:
+            failed += 1
+            print(f"{error!r}"[:600])
+    print(f"{passed} passed, {failed} failed")
+    return 1 if failed else 0
+
+
+if __name__ == "__main__":
+    sys.exit(main())
