@@ -128,6 +128,18 @@ counted number size o numbers within last = record {
   parts = sym (take-append-drop size o) ∙ ap (λ r. take size o ++ r) (drop_more o size 0 within ∙ ap (λ c. c ∷ drop (size + 1) o) last);
 }
 
+pub counted_by_one : (number : ℕ) (o : List ℕ) → 2 ≤ length o → is_digit (get_or o 0 0) ≡ true → get_or o 1 0 ≡ 0x5D → number ≡ get_or o 0 0 - 48 → get_or o 0 0 ≤ 57 → IsCounted number 1 o
+counted_by_one number o le digit last is high =
+    let value = one_digit (get_or o 0 0) digit in
+    record {
+      digits = get_or o 0 0 ∷ [];
+      rest = drop 2 o;
+      numbers = below (2 ^ 64) number (get_or o 0 0 ∷ []) value.0 (value.1 ∙ sym is) (omega arith);
+      word = numeral_word (get_or o 0 0 ∷ []) value.0;
+      sized = refl;
+      parts = two_of o le ∙ ap (λ c. get_or o 0 0 ∷ c ∷ drop 2 o) last;
+    }
+
 pub opening_taken : (at size number count : ℕ) (f : Format) (text octets behind_name : List ℕ) → octets ≡ drop at text → NamesType f size octets → behind_name ≡ drop (size + 2) octets → IsCounted number count behind_name
     → IsOpening f (record { at = at + size + 1; number = number }) (tokens_from at (drop at text)) (tokens_from (at + (size + count + 3)) (drop (at + (size + count + 3)) text))
 opening_taken at size number count f text octets behind_name left names name_left is =

@@ -31,6 +31,18 @@ fn count_front(octets: &[u8]) -> Option<(u64, usize)>
     ensures counts { IfSome result (λ n. IsCounted n.0 n.1 octets.now) }
     ensures within { IfSome result (λ n. n.1 < length octets.now) }
 {
+    match octets {
+        [digit, b']', ..] if is_digit(*digit) => Some((u64::from(*digit - b'0'), 1)),
+        _ => long_count_front(octets),
+    }
+}
+
+/// The same, whatever number of digits it is.
+#[inline(never)]
+fn long_count_front(octets: &[u8]) -> Option<(u64, usize)>
+    ensures counts { IfSome result (λ n. IsCounted n.0 n.1 octets.now) }
+    ensures within { IfSome result (λ n. n.1 < length octets.now) }
+{
     let (number, size) = leading_numeral(octets)?;
     if size == octets.len() || octets[size] != b']' {
         return None;

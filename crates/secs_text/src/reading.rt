@@ -44,6 +44,7 @@ pub fn head(first: Placed) -> Result<(u8, u8), TextFault>
 }
 
 /// Reads the `W`, if there is one, and the token after it.
+#[inline(always)]
 pub fn optional_wait<'a>(tokens: &mut Tokens<'a>) -> (bool, Placed<'a>)
     ensures reads { (rules : Rules) (ms : List Content) (m : Content) → m.wait ≡ false
         → walk rules (after_head ms m) (left tokens.old)

@@ -1,7 +1,6 @@
 use Rattle.std.proofs.Common.{rules}
-use Rattle.secs_text.proofs.AsPrinted.{counted}
+use Rattle.secs_text.proofs.AsPrinted.{counted_by_one}
 use Rattle.secs_text.proofs.as_printed.count_front.Goals as goal
 
-pub returns-clause-counts : goal.returns-clause-counts
-returns-clause-counts c =
-    counted c.in_ok-number.number c.in_ok-number.size c.args.octets.now c.in_ok-number.ensures.value (search rules) (search rules)
+pub returns-in-93-clause-counts : goal.returns-in-93-clause-counts
+returns-in-93-clause-counts c = counted_by_one c.from.result c.args.octets.now (search rules) (search rules) (search rules) (search rules) (search rules)
