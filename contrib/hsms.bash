@@ -9,17 +9,17 @@ _hsms() {
     --link) mapfile -t COMPREPLY < <(compgen -W 'active passive' -- "$word") && return ;;
   esac
   if [ "$COMP_CWORD" = 1 ]; then
-    words='show encode audit serve help --help --version'
+    words='show encode audit explain serve help --help --version'
   else
     case ${COMP_WORDS[1]} in
       show) words='--max --depth --hex --bare --help' ;;
       encode) words='--device --system --max --depth --hex --help' ;;
-      audit) words='--help' ;;
+      audit | explain) words='--help' ;;
       serve)
         words='--role --link --address --port --device --t3 --t6 --t7 --t8 --linktest --max --depth --first-system'
         words+=' --turns --mdln --softrev --send --answer --all-sent --again --once --connections --t5 --help'
         ;;
-      help) words='show encode audit serve' ;;
+      help) words='show encode audit explain serve' ;;
       *) return ;;
     esac
   fi

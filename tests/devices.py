@@ -33,6 +33,7 @@ SMALL = [
     (["encode", "--hex"], "examples/report.txt"),
     (["audit"], "examples/session.log"),
     (["audit"], "examples/late-reply.log"),
+    (["explain"], "examples/late-reply.log"),
     (["show"], "examples/cut-off.bin"),
 ]
 

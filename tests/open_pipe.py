@@ -1,6 +1,7 @@
 #!/usr/bin/env python3
 """Audits logs over a pipe that is held open: a failing line has to be named while its writer may still write. Shows
-messages that come in pieces, each of which is there before the next is written.
+messages that come in pieces, each of which is there before the next is written, and explains lines while the pipe is
+open.
 
 It runs what `rt ci` has built. The last line is `N passed, M failed`.
 """
@@ -70,6 +71,21 @@ HEX_SHOWN = [([HEX[:at], HEX[at:]], LINES) for at in range(1, len(HEX), 7)]
 HEX_LONG = LONG.hex().encode()
 HEX_SHOWN.append(([HEX + HEX_LONG[:200_000], HEX_LONG[200_000:] + b"\n" + HEX], LINES + LONG_LINE + LINES))
 
+# A log of which a line fails, and what is told of it.
+LATE = FRONT + b"5 < ffff0000000200000001\n10 > 00008101000000000002\n46000 down\n"
+LATE_TOLD = b"""\
+     1         hsms-log 1 host active 0 45000 6000 10000 5000 1048576 32
+     2       0 up
+     3       0 > select.req ffff 00000001
+     4       5 < select.rsp ffff 00000001 0
+       answers line 3 after 5 ms
+     5      10 > data 0000 00000002 S1F1 W .
+     6   46000 down
+       FAIL T3Overdue: a reply is overdue, and no `t3` says so
+            concerns line 5
+            goes on as if `45010 t3 00000002` stood before it
+"""
+
 # How long a piece is given to be read by itself, in seconds.
 A_MOMENT = 0.03
 
@@ -83,9 +99,9 @@ def shown_in_pieces(pieces, *options):
         return show.communicate(None, SOON)[0]
 
 
-def shown_while_open(octets, length, *options):
+def shown_while_open(octets, length, *options, command="show"):
     """What is shown of these octets, so many octets of it, while the pipe is open."""
-    with started("show", *options) as show:
+    with started(command, *options) as show:
         given(show, octets)
         shown = b""
         while len(shown) < length and select.select([show.stdout], [], [], SOON)[0]:
@@ -133,6 +149,8 @@ def main():
     answers += [(shown_in_pieces(pieces, "--hex"), wanted) for pieces, wanted in HEX_SHOWN]
     answers += [(shown_while_open(HEX + rest, len(LINES), "--hex"), LINES) for rest in (b"", HEX[:28])]
     answers += [(shown_while_open(MESSAGES + rest, len(LINES)), LINES) for rest in (b"", MESSAGES[:17])]
+    told_late = [shown_while_open(LATE + rest, len(LATE_TOLD), command="explain") for rest in (b"", b"46001 up")]
+    answers += [(told, LATE_TOLD) for told in told_late]
     differing = [(told, wanted) for told, wanted in answers if told != wanted]
     for told, wanted in differing:
         print(f"wanted {wanted!r}, told {told!r}")

@@ -88,6 +88,7 @@ EXAMPLES = [
     (["encode"], "examples/session.txt"),
     (["encode", "--max", "256"], "examples/long.txt"),
     (["audit"], "examples/expired.log"),
+    (["explain"], "examples/late-reply.log"),
     (["serve", *NOBODY_THERE], "examples/session.txt"),
     (["serve", *NOBODY_THERE, "--send"], "examples/session.txt"),
     (["serve", *NOBODY_THERE, "--answer"], "examples/session.txt"),

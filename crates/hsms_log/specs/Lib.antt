@@ -12,5 +12,6 @@ pub mod Digits
 pub mod Fields
 pub mod Counters
 pub mod Auditing
+pub mod Auditor
 pub mod Writing
 pub mod Laws

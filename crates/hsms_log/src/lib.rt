@@ -20,6 +20,7 @@
 #![tactic(auto)]
 
 mod auditing;
+mod auditor;
 mod digits;
 mod fault;
 mod judging;
@@ -38,8 +39,10 @@ mod whole;
 mod writing;
 
 pub use auditing::{audit, audit_within};
+pub use auditor::Auditor;
 pub use fault::{AuditFault, LineFault, LogFault};
-pub use reading::{Line, read_line};
+pub use line::{split_at_first, without_carriage_return};
+pub use reading::{FrameLine, Line, read_frame_line, read_line};
 pub use settings_line::read_settings;
 pub use verdict::{Summary, Verdict, Why};
 pub use whole::judge;

@@ -28,6 +28,9 @@ show_command = record (named (codes "show")) {
 abbrev pub audit_command : Shape
 audit_command = named (codes "audit")
 
+abbrev pub explain_command : Shape
+explain_command = named (codes "explain")
+
 abbrev pub encode_command : Shape
 encode_command = record (named (codes "encode")) {
   rules = option_of device_number ∷ option_of system_number ∷ option_of max_number ∷ option_of depth_number ∷ flag_option (codes "hex") ∷ [];
@@ -36,11 +39,11 @@ encode_command = record (named (codes "encode")) {
 abbrev pub serve_command : Shape
 serve_command = record (named (codes "serve")) { rules = serve_rules }
 
--- the command, which wants one of the four subcommands, and has a version
+-- the command, which wants one of the five subcommands, and has a version
 abbrev pub command_line : App
 command_line = record {
   top = record (named (codes "hsms")) { is_leaf = false; subcommand_required = true; has_version = true };
-  subs = show_command ∷ audit_command ∷ encode_command ∷ serve_command ∷ [];
+  subs = show_command ∷ audit_command ∷ explain_command ∷ encode_command ∷ serve_command ∷ [];
 }
 
 -- ---- what is asked for
@@ -69,6 +72,7 @@ AsksForTask name rows (asked.Encode device system max depth hex) =
 -- what a subcommand of this name asks for, with these matches
 abbrev pub AsksFor : Text → List Row → Request → Type 0
 AsksFor name rows (request.Task task) = AsksForTask name rows task
+AsksFor name rows request.Explain = name ≡ codes "explain"
 AsksFor name rows (request.Serve service) = (name ≡ codes "serve") × AsksToServe rows service
 
 -- the request to serve what is asked for
@@ -98,6 +102,7 @@ SpellsTask words (asked.Encode device system max depth hex) = SpellsWork words (
 -- the words ask for this, or may call for help or for the version
 abbrev pub Spells : List Text → Request → Type 0
 Spells words (request.Task task) = SpellsTask words task
+Spells words request.Explain = SpellsWork words request.Explain
 Spells words (request.Serve service) = SpellsWork words (request.Serve service)
 
 -- the words ask for no work, and nothing says that they call for help alone, or for the version alone
@@ -117,6 +122,7 @@ IsTaskWithinLimits (asked.Encode device system max depth hex) =
 -- each number of a request is within its limits; those of settings are by their type
 abbrev pub IsWithinLimits : Request → Type 0
 IsWithinLimits (request.Task task) = IsTaskWithinLimits task
+IsWithinLimits request.Explain = Unit {0}
 IsWithinLimits (request.Serve service) = (1 ≤ service.port) × (service.port ≤ 65535)
 
 -- a text is to be printed
@@ -128,4 +134,5 @@ IsHelpText (asked.Encode device system max depth hex) = ⊥
 
 abbrev pub IsHelp : Request → Type 0
 IsHelp (request.Task task) = IsHelpText task
+IsHelp request.Explain = ⊥
 IsHelp (request.Serve service) = ⊥

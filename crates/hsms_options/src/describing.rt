@@ -2,7 +2,7 @@
 
 ghost use Rattle.std.specs.Prelude.{◌≡◌, IfOk, []};
 ghost use Rattle.clap.specs.Words.{app_of};
-ghost use Rattle.hsms_options.specs.Options.{audit_command, command_line, encode_command, show_command};
+ghost use Rattle.hsms_options.specs.Options.{audit_command, command_line, encode_command, explain_command, show_command};
 
 use crate::describing_options::{
     bare_option, depth_option, device_option, hex_input_option, hex_option, max_option,
@@ -49,6 +49,17 @@ const AUDIT_HELP: &str =
     can't be written (Write), there are more than 4294967295 reads (Endless), or memory is wanting (Memory).\n\n\
     With -v a fault is told in words too.";
 
+const EXPLAIN_USAGE: &str = "hsms explain [OPTIONS] < LOG";
+
+const EXPLAIN_HELP: &str =
+    "Each line is told with its number, a frame as `hsms show` shows it. Below stands what it has to do with others, as\n\
+    the line that it answers, and why it fails: the rule, the line that it concerns, and how the log is gone on with, so\n\
+    that later failures are told too. The last line is the verdict that `hsms audit` tells.\n\n\
+    Example: hsms explain < session.log\n\n\
+    Statuses: 0 the log passes; 1 it fails; 2 the command line is refused; 3 the log can't be read (Read), what is told\n\
+    can't be written (Write), there are more than 4294967295 reads (Endless), or memory is wanting (Memory). What was told\n\
+    before a fault stays told.";
+
 const ENCODE_HELP: &str = "Example: echo 'S1F13 W <L> .' | hsms encode > message.bin\n\n\
     Statuses: 0 every message is encoded; 2 the command line is refused, or the input (Input, Syntax, Number, Count,\n\
     Deep, TooLarge, TooLong); 3 the input can't be read (Read), the output can't be written (Write), or memory is\n\
@@ -57,7 +68,7 @@ const ENCODE_HELP: &str = "Example: echo 'S1F13 W <L> .' | hsms encode > message
 
 const VERSION: &str = "0.2 (session logs of versions 1 and 2)";
 
-/// The command `hsms`, which wants one of four subcommands.
+/// The command `hsms`, which wants one of five subcommands.
 pub fn command<'a>(alloc: Global) -> Result<Command<'a>, AllocError>
     ensures { IfOk result (λ command. app_of command ≡ command_line) }
 {
@@ -68,6 +79,7 @@ pub fn command<'a>(alloc: Global) -> Result<Command<'a>, AllocError>
         .subcommand_required(true);
     let hsms = hsms.subcommand(show_command(alloc)?)?;
     let hsms = hsms.subcommand(audit_command(alloc))?;
+    let hsms = hsms.subcommand(explain_command(alloc))?;
     let hsms = hsms.subcommand(encode_command(alloc)?)?;
     hsms.subcommand(serve_command(alloc)?)
 }
@@ -91,6 +103,15 @@ fn audit_command<'a>(alloc: Global) -> Command<'a>
         .about("Audits the session log of standard input")
         .override_usage(AUDIT_USAGE)
         .after_help(AUDIT_HELP)
+}
+
+fn explain_command<'a>(alloc: Global) -> Command<'a>
+    ensures { app_of result ≡ record { top = explain_command; subs = [] } }
+{
+    Command::new(alloc, "explain")
+        .about("Shows a session log, what its lines answer, and each of its failures")
+        .override_usage(EXPLAIN_USAGE)
+        .after_help(EXPLAIN_HELP)
 }
 
 fn encode_command<'a>(alloc: Global) -> Result<Command<'a>, AllocError>

@@ -17,6 +17,7 @@ mod fault;
 mod limits;
 mod options;
 mod repeating;
+mod sentences;
 mod service;
 mod values;
 
@@ -24,4 +25,5 @@ pub use describing::command;
 pub use fault::{ToolFault, exit_status, no_request, refused};
 pub use options::{Form, Request, Task, parse};
 pub use repeating::Repeat;
+pub use sentences::sentence;
 pub use service::Service;

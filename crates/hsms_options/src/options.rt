@@ -22,6 +22,8 @@ use std::alloc::Global;
 pub enum Request {
     /// A task between standard input and standard output.
     Task(Task),
+    /// The log of standard input is to be explained.
+    Explain,
     /// A connection is to be served.
     Serve(Service),
 }
@@ -100,6 +102,7 @@ fn asked_by(alloc: Global, name: &str, options: &ArgMatches<'_>) -> Result<Reque
 {
     match name {
         "audit" => Ok(Request::Task(Task::Audit)),
+        "explain" => Ok(Request::Explain),
         "show" => of_task(alloc, asked_to_show(options)),
         "encode" => of_task(alloc, asked_to_encode(options)),
         "serve" => of_service(asked_to_serve(alloc, options)),

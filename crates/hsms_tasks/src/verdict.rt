@@ -84,7 +84,8 @@ fn push_count(words: &mut String, name: &str, count: u64) -> Result<(), AllocErr
     write!(words, "{count}")
 }
 
-fn name(rule: Rule) -> &'static str
+/// The name of a rule, as a verdict tells it.
+pub fn name(rule: Rule) -> &'static str
     ensures { result.now ≡ rule_name rule }
 {
     match rule {

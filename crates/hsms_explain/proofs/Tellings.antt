@@ -1,0 +1,161 @@
+-- What was told of an input.
+use Rattle.std.proofs.Common.{◌≡◌, ◌++◌, ℕ, Bool, List, [], Some, Ok, Err, refl, sym, ◌∙◌, ap, subst, take, drop, append_assoc, take-append-drop, codes, inl, inr, get_or, arith, ◌≢◌}
+use Rattle.std.specs.Prelude.{Option, Result, IfOk, IfErr, OnErr}
+use Rattle.std.proofs.lemmas.List.{append-nil}
+use Rattle.hsms_frame.specs.Device.{WhereTold, Takes, Grows, GrowsByFront, IsAtEnd, Stays}
+use Rattle.hsms_log.specs.declared.auditor.Auditor.{Auditor}
+use Rattle.hsms_log.specs.Auditor.{HasHeard}
+use Rattle.hsms_log.specs.declared.verdict.Verdict.{Verdict}
+use Rattle.hsms_options.specs.declared.fault.ToolFault.{ToolFault}
+use Rattle.hsms_options.specs.declared.fault.ToolFault.TheVariants.{Refused, Device, Memory}
+use Rattle.hsms_tasks.specs.Show.{CountsFailure, LeavesPart, IsReadWriteOrEndless, IsWrite}
+use Rattle.hsms_tasks.specs.Verdict.{verdict_line_of}
+use Rattle.hsms_explain.specs.Explain.{GrowsBySome, EndsWithVerdict, Concludes, ExplainsTo, IsOfTelling}
+
+-- ---- what was written
+
+pub none_more : (old : Option (List ℕ)) → GrowsBySome old old
+none_more old octets is = ([], is ∙ ap Some (sym (append-nil octets)))
+
+pub all_more : (old new : Option (List ℕ)) (text : List ℕ) → Grows old new text → GrowsBySome old new
+all_more old new text grows octets is = (text, grows octets is)
+
+pub front_more : (old new : Option (List ℕ)) (text : List ℕ) → GrowsByFront old new text → GrowsBySome old new
+front_more old new text grows octets is = let n = grows octets is in (take n.0 text, n.2)
+
+pub some_more : (old mid new : Option (List ℕ)) → GrowsBySome old mid → GrowsBySome mid new → GrowsBySome old new
+some_more old mid new before behind octets is =
+    let one = before octets is in
+    let two = behind (octets ++ one.0) one.1 in
+    (one.0 ++ two.0, two.1 ∙ ap Some (append_assoc octets one.0 two.0))
+
+pub verdict_last : (old mid new : Option (List ℕ)) (line : List ℕ) (verdict : Verdict) → GrowsBySome old mid → Grows mid new line
+    → line ≡ verdict_line_of verdict → EndsWithVerdict old new verdict
+verdict_last old mid new line verdict before behind is octets told =
+    let one = before octets told in (
+      one.0,
+      behind (octets ++ one.0) one.1 ∙ ap (λ l. Some (octets ++ one.0 ++ l)) is,
+    )
+
+ends_behind : (old mid new : Option (List ℕ)) (verdict : Verdict) → GrowsBySome old mid → EndsWithVerdict mid new verdict → EndsWithVerdict old new verdict
+ends_behind old mid new verdict before behind octets told =
+    let one = before octets told in
+    let two = behind (octets ++ one.0) one.1 in
+    let line = verdict_line_of verdict in (
+      one.0 ++ two.0,
+      two.1 ∙ ap (λ l. Some (l ++ line)) (append_assoc octets one.0 two.0),
+    )
+
+pub concludes_behind : (text : List ℕ) (passes : Bool) (old mid new : Option (List ℕ)) → GrowsBySome old mid → Concludes text passes mid new
+    → Concludes text passes old new
+concludes_behind text passes old mid new before told = (told.0, told.1, told.2, ends_behind old mid new told.0 before told.3)
+
+-- where the answer is a fault, and else too
+pub on_err : {T E : Type 0} (X : Type 0) (r : Result T E) → X → OnErr r X
+on_err X (Ok _) fact = tt
+on_err X (Err _) fact = fact
+
+-- ---- what was read
+
+-- what was read of an input is the text that was heard
+abbrev pub HasRead : Option (List ℕ) → Auditor → Option (List ℕ) → Type 0
+HasRead old auditor new =
+    WhereTold old (λ input. (text rest : List ℕ) × (input ≡ text ++ rest) × (new ≡ Some rest) × HasHeard auditor text)
+
+pub none_read : (old : Option (List ℕ)) (auditor : Auditor) → HasHeard auditor [] → HasRead old auditor old
+none_read old auditor heard input told = ([], input, refl, told, heard)
+
+-- one read more
+pub read_on : (old mid new : Option (List ℕ)) (n : ℕ) (buffer : List ℕ) (auditor next : Auditor) → HasRead old auditor mid
+    → Takes mid new n buffer → ((text : List ℕ) → HasHeard auditor text → HasHeard next (text ++ take n buffer)) → HasRead old next new
+read_on old mid new n buffer auditor next so_far takes on input told =
+    let before = so_far input told in
+    let text = before.0 in
+    let rest = before.1 in
+    let step = takes rest before.3 in (
+      text ++ take n buffer,
+      drop n rest,
+      before.2 ∙ ap (λ l. text ++ l) (sym (take-append-drop n rest)) ∙ ap (λ l. text ++ (l ++ drop n rest)) (sym step.1)
+          ∙ sym (append_assoc text (take n buffer) (drop n rest)),
+      step.2,
+      on text before.4,
+    )
+
+-- a part of the input is left
+pub part_left : (old new : Option (List ℕ)) (auditor : Auditor) → HasRead old auditor new → WhereTold old (λ input. LeavesPart input new)
+part_left old new auditor so_far input told =
+    let before = so_far input told in (before.0, before.1, before.2, before.3)
+
+-- and after one read more, whatever was heard of it
+pub less_left : (old mid new : Option (List ℕ)) (n : ℕ) (buffer : List ℕ) (auditor : Auditor) → HasRead old auditor mid
+    → Takes mid new n buffer → WhereTold old (λ input. LeavesPart input new)
+less_left old mid new n buffer auditor so_far takes input told =
+    let before = so_far input told in
+    let text = before.0 in
+    let rest = before.1 in
+    let step = takes rest before.3 in (
+      text ++ take n rest,
+      drop n rest,
+      before.2 ∙ ap (λ l. text ++ l) (sym (take-append-drop n rest)) ∙ sym (append_assoc text (take n rest) (drop n rest)),
+      step.2,
+    )
+
+-- or after one that failed
+pub same_left : (old mid new : Option (List ℕ)) (auditor : Auditor) → HasRead old auditor mid → Stays mid new → WhereTold old (λ input. LeavesPart input new)
+same_left old mid new auditor so_far same input told =
+    let before = so_far input told in (before.0, before.1, before.2, same before.1 before.3)
+
+-- the end was found
+pub all_read : (old mid new : Option (List ℕ)) (n : ℕ) (buffer : List ℕ) (auditor : Auditor) → HasRead old auditor mid
+    → Takes mid new n buffer → n ≡ 0 → IsAtEnd mid → WhereTold old (λ input. HasHeard auditor input × (new ≡ Some []))
+all_read old mid new n buffer auditor so_far takes none at_end input told =
+    let before = so_far input told in
+    let text = before.0 in
+    let rest = before.1 in
+    let rest_is : rest ≡ [] = at_end rest before.3 in
+    let step = takes rest before.3 in
+    let whole : text ≡ input = sym (before.2 ∙ ap (λ l. text ++ l) rest_is ∙ append-nil text) in
+    let P : List ℕ → Type 0 = λ l. HasHeard auditor l in
+    (subst P whole before.4, step.2 ∙ ap (λ k. Some (drop k rest)) none ∙ ap (λ l. Some l) rest_is)
+
+-- ---- the answers
+
+pub stops_early : (input : List ℕ) (fault : ToolFault) (left : Option (List ℕ)) (ended : Type 0) (old new : Option (List ℕ))
+    → IsOfTelling fault → LeavesPart input left → GrowsBySome old new → ExplainsTo input (Err fault) left ended old new
+stops_early input (Refused words) left ended old new fault part some = fault
+stops_early input (Device word) left ended old new fault part some = (part, some)
+stops_early input Memory left ended old new fault part some = (part, some)
+
+pub of_write : (fault : ToolFault) → IsWrite fault → IsOfTelling fault
+of_write (Refused words) word = word
+of_write (Device word) is = is
+of_write Memory word = tt
+
+pub wider : (fault : ToolFault) → IsOfTelling fault → IsReadWriteOrEndless fault
+wider (Refused words) word = absurd word
+wider (Device word) is = inr (inl is)
+wider Memory word = tt
+
+-- what is told behind the lines, at the end of the input
+pub concluded : (input : List ℕ) (r : Result Bool ToolFault) (auditor : Auditor) (left : Option (List ℕ)) (ended : Type 0) (old mid new : Option (List ℕ))
+    → HasHeard auditor input → left ≡ Some [] → ended → GrowsBySome old mid
+    → IfOk r (λ passes. (text : List ℕ) → HasHeard auditor text → Concludes text passes mid new)
+    → OnErr r (GrowsBySome mid new) → IfErr r IsOfTelling → ExplainsTo input r left ended old new
+concluded input (Ok passes) auditor left ended old mid new heard none found before told some fault =
+    (concludes_behind input passes old mid new before (told input heard), none, found)
+concluded input (Err fault_is) auditor left ended old mid new heard none found before told some fault =
+    stops_early input fault_is left ended old new fault (input, [], sym (append-nil input), none) (some_more old mid new before some)
+
+pub fault_wider : (r : Result Bool ToolFault) → IfErr r IsOfTelling → IfErr r IsReadWriteOrEndless
+fault_wider (Ok passes) fault = tt
+fault_wider (Err given) fault = wider given fault
+
+write_is_no_read : (given : List ℕ) → given ≡ codes "Write" → given ≢ codes "Read"
+write_is_no_read given w e = let first : ◌≡◌ {A = ℕ} 87 82 = ap (λ xs. get_or xs 0 0) (sym w ∙ e) in absurd (omega arith)
+
+-- no read failed
+pub reads_none : (r : Result Bool ToolFault) (n : ℕ) → IfErr r IsOfTelling → CountsFailure (codes "Read") r n n
+reads_none (Ok passes) n fault = refl
+reads_none (Err (Refused words)) n fault = refl
+reads_none (Err (Device word)) n fault = inr (write_is_no_read word.now fault, refl)
+reads_none (Err Memory) n fault = refl

@@ -1,0 +1,139 @@
+//! A session as it is gone on with.
+
+use hsms_machine::{EntryRef, Places, Remedy, Rule, Settings, Tracker};
+use std::alloc::{AllocError, Global};
+use std::marker::Model;
+
+/// Where an open transaction was opened: the number of its line, and its time in ms.
+#[derive(Clone, Copy, Debug)]
+pub struct Opening {
+    pub line: u64,
+    pub time: u64,
+}
+
+/// A rule that an entry breaks, the line that it concerns, and how the log is gone on with.
+#[derive(Clone, Copy, Debug)]
+pub struct Failure {
+    pub rule: Rule,
+    pub concerns: Option<u64>,
+    pub remedy: Remedy,
+}
+
+/// What became of an entry: it is taken in, and closes the transaction that was opened there, or it breaks a rule.
+#[derive(Clone, Copy, Debug)]
+pub enum Judged {
+    Lawful(Option<Opening>),
+    Broken(Failure),
+}
+
+/// The judge of a log that is gone on with behind each failure: a tracker, and for what is open the lines and the times
+/// of its opening. It is told the entries of a line, and then that the next line follows.
+#[derive(Drop)]
+pub struct Course {
+    tracker: Tracker,
+    lines: Places,
+    times: Places,
+    line: u64,
+}
+
+impl Model for Course {
+    ghost use Rattle.std.specs.Prelude.{◌≤◌};
+    ghost use Rattle.hsms_explain.specs.Course.{Standing};
+
+    ghost Value = { Standing };
+
+    ghost view = { λ c. record { tracker = c.tracker; lines = c.lines; times = c.times; line = c.line } };
+
+    ghost invariant = { λ c. (c.lines.last_time ≤ c.line) × (c.times.last_time ≤ c.tracker.last_time) };
+}
+
+impl Course {
+    ghost use Rattle.std.specs.Prelude.{◌≡◌, ◌+◌, ◌-◌, ◌^◌, min, [], Some, None, IfOk, IfSome, length};
+    ghost use Rattle.hsms_machine.specs.declared.rule.Rule.{Rule};
+    ghost use Rattle.hsms_machine.specs.View.{IsBrokenAfter, IfLawful};
+    ghost use Rattle.hsms_machine.specs.Repair.{remedy_of};
+    ghost use Rattle.hsms_explain.specs.Course.{HasCourse, CourseLeadsTo, Closes, Concerns, JudgesAs};
+
+    /// The course of a log of which the first line was read.
+    pub fn new(alloc: Global, settings: Settings) -> Course
+        ensures { HasCourse settings [] [] result }
+    {
+        Course {
+            tracker: Tracker::new(alloc, settings),
+            lines: Places::new(alloc, settings),
+            times: Places::new(alloc, settings),
+            line: 1,
+        }
+    }
+
+    /// The number of the line, from 1.
+    pub fn line(&self) -> u64
+        ensures { result ≡ self.now.line }
+    {
+        self.line
+    }
+
+    /// How many sent primaries with the W bit wait for a reply.
+    pub fn waiting(&self) -> usize {
+        self.tracker.waiting()
+    }
+
+    /// Goes to the next line.
+    pub fn next_line(&mut self)
+        ensures { self.new ≡ record self.old { line = min (self.old.line + 1) (2 ^ 64 - 1) } }
+    {
+        self.line = self.line.saturating_add(1);
+    }
+
+    /// Judges an entry of the line. Where it is lawful it is taken in; else nothing is changed.
+    pub fn judge(&mut self, entry: &EntryRef<'_>) -> Result<Judged, AllocError>
+        ensures { IfOk result (JudgesAs self.old entry.now self.new) }
+    {
+        let closed = self.closed_by(entry);
+        match self.step(entry)? {
+            None => Ok(Judged::Lawful(closed)),
+            Some(rule) => Ok(Judged::Broken(Failure {
+                rule,
+                concerns: self.concerned(rule, entry),
+                remedy: self.tracker.remedy(rule, entry),
+            })),
+        }
+    }
+
+    /// Where the transaction was opened that the entry closes.
+    fn closed_by(&self, entry: &EntryRef<'_>) -> Option<Opening>
+        ensures { Closes self.now entry.now.event result }
+    {
+        match (self.lines.closes(entry), self.times.closes(entry)) {
+            (Some(line), Some(time)) => Some(Opening { line, time }),
+            (None, _) | (Some(_), None) => None,
+        }
+    }
+
+    /// The line of an open transaction that the failure of an entry concerns.
+    fn concerned(&self, rule: Rule, entry: &EntryRef<'_>) -> Option<u64>
+        ensures { IfSome result (Concerns self.now entry.now.event rule) }
+    {
+        if rule == Rule::T3Overdue {
+            self.lines.oldest_data()
+        } else if rule == Rule::SystemInUse {
+            self.lines.in_use(entry)
+        } else {
+            None
+        }
+    }
+
+    /// Takes an entry in, or says which rule it breaks first.
+    fn step(&mut self, entry: &EntryRef<'_>) -> Result<Option<Rule>, AllocError>
+        ensures answer { IfOk result (λ answer. IsBrokenAfter self.old.tracker entry.now answer) }
+        ensures broken { IfOk result (λ answer. (rule : Rule) → answer ≡ Some rule → self.new ≡ self.old) }
+        ensures lawful { IfLawful result (CourseLeadsTo self.old entry.now self.new) }
+    {
+        let broken = self.tracker.step_ref(entry)?;
+        if broken.is_none() {
+            self.lines.note(self.line, entry)?;
+            self.times.note(self.tracker.last_time(), entry)?;
+        }
+        Ok(broken)
+    }
+}

@@ -1,0 +1,106 @@
+//! `hsms explain`: what the lines of a log have to do with each other, and why they fail.
+
+ghost use Rattle.std.specs.Prelude.{◌≡◌, List, ℕ, [], IfOk, IfErr, OnErr, codes};
+ghost use Rattle.hsms_frame.specs.Device.{WhereTold};
+ghost use Rattle.hsms_log.specs.Auditing.{HasEnded};
+ghost use Rattle.hsms_log.specs.Auditor.{HasHeard, HasRoom};
+ghost use Rattle.hsms_tasks.specs.Audit.{is_pass};
+ghost use Rattle.hsms_tasks.specs.Show.{CountsFailure, IsReadWriteOrEndless};
+ghost use Rattle.hsms_explain.specs.Explain.{Concludes, ExplainsTo, GrowsBySome, IsOfTelling};
+
+use crate::explainer::Explainer;
+use hsms_frame::{Sink, Source};
+use hsms_log::{Auditor, Verdict};
+use hsms_options::ToolFault;
+use hsms_tasks::{put, verdict_line};
+use std::alloc::Global;
+
+// The octets that one read takes at most.
+const BLOCK: usize = 4096;
+
+/// Tells each line of a log: its number, its time, and a frame as `hsms show` shows it; below it the line that it
+/// answers, rejects or says to have expired, and each rule that it breaks, with the line that this concerns and the way
+/// in which the log is gone on with. Behind the lines stands how often each rule was broken, and at the end the line of
+/// the verdict that `hsms audit` tells. It says whether the log passes.
+///
+/// The log is read once, to its end, in blocks. What is told of a block is written before the next read, which may
+/// wait, so that a line is told when it has come. Of the log no more is held than a block, a line that goes on and the
+/// octets of a frame; and of what is told, that of a block and of the line that ends in it.
+///
+/// # Errors
+///
+/// - `Device`: `Read` or `Write`, where a device failed in this call, and `Endless`, where 4,294,967,295 reads didn't
+///   find the end. What was told before is written; after a failed write a part of it.
+/// - `Memory`. What was told before is written.
+pub fn explain_to<R: Source, W: Sink>(
+    alloc: Global,
+    source: &mut R,
+    sink: &mut W,
+) -> Result<bool, ToolFault>
+    ensures told { WhereTold (R.state source.old).left (λ input. ExplainsTo input result (R.state source.new).left
+        (HasEnded (R.state source.old).ends (R.state source.new).ends)
+        (W.state sink.old).written (W.state sink.new).written) }
+    ensures word { IfErr result IsReadWriteOrEndless }
+    ensures reads { CountsFailure (codes "Read") result (R.state source.old).failures (R.state source.new).failures }
+    ensures writes { CountsFailure (codes "Write") result (W.state sink.old).failures (W.state sink.new).failures }
+{
+    let mut auditor = Auditor::new(alloc);
+    let mut explainer = Explainer::new(alloc)?;
+    let mut block = [0u8; BLOCK];
+    for _ in 0..u32::MAX {
+        let count = match source.pull(&mut block) {
+            Ok(count) => count,
+            Err(_) => return Err(ToolFault::Device("Read")),
+        };
+        if count == 0 {
+            return conclude(alloc, sink, auditor, explainer);
+        }
+        auditor.take(alloc, &block[..count])?;
+        explainer.take(alloc, &block[..count])?;
+        write_told(sink, &mut explainer)?;
+    }
+    Err(ToolFault::Device("Endless"))
+}
+
+// Tells what comes behind the lines, and the verdict.
+fn conclude<W: Sink>(
+    alloc: Global,
+    sink: &mut W,
+    auditor: Auditor,
+    mut explainer: Explainer,
+) -> Result<bool, ToolFault>
+    requires { HasRoom auditor [] }
+    ensures told { IfOk result (λ passes. (text : List ℕ) → HasHeard auditor text
+        → Concludes text passes (W.state sink.old).written (W.state sink.new).written) }
+    ensures some { OnErr result (GrowsBySome (W.state sink.old).written (W.state sink.new).written) }
+    ensures fault { IfErr result IsOfTelling }
+    ensures writes { CountsFailure (codes "Write") result (W.state sink.old).failures (W.state sink.new).failures }
+{
+    let verdict = auditor.finish(alloc)?;
+    explainer.finish(alloc)?;
+    write_told(sink, &mut explainer)?;
+    let line = verdict_line(alloc, verdict)?;
+    put(sink, line.as_bytes())?;
+    Ok(passes(verdict))
+}
+
+fn passes(verdict: Verdict) -> bool
+    ensures { result ≡ is_pass verdict }
+{
+    match verdict {
+        Verdict::Pass(_) => true,
+        Verdict::Fail { .. } => false,
+    }
+}
+
+// Writes what is told.
+fn write_told<W: Sink>(sink: &mut W, explainer: &mut Explainer) -> Result<(), ToolFault>
+    ensures some { GrowsBySome (W.state sink.old).written (W.state sink.new).written }
+    ensures fault { IfErr result IsOfTelling }
+    ensures writes { CountsFailure (codes "Write") result (W.state sink.old).failures (W.state sink.new).failures }
+{
+    let told = explainer.told()?;
+    put(sink, told)?;
+    explainer.let_go();
+    Ok(())
+}

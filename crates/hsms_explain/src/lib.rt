@@ -1,0 +1,25 @@
+//! `hsms explain`: from a verdict on a session log to its cause.
+//!
+//! [`explain_to`] reads a log once, and tells each line with its number, a frame as `hsms show` shows it; below it what
+//! it has to do with lines before it, and each rule that it breaks, with the way in which the log is gone on with. Its
+//! last line is the verdict of the audit:
+//!
+//! ```
+//! let passes = explain_to(alloc, &mut source, &mut sink)?;
+//! ```
+#![tactic(auto)]
+
+mod course;
+mod explainer;
+mod explaining;
+mod judging;
+mod mending;
+mod page;
+mod step;
+mod tally;
+mod words;
+
+pub use explaining::explain_to;
+
+#[cfg(test)]
+mod tests;

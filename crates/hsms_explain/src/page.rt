@@ -1,0 +1,85 @@
+//! What is told, until it is written.
+
+ghost use Rattle.std.specs.Prelude.{◌≤◌};
+
+use hsms_frame::Header;
+use hsms_tasks::give_line;
+use itoa::Buffer;
+use secs_text::{Block, Output};
+use std::alloc::{AllocError, Global};
+
+/// Octets in memory, as an output. Where memory was refused it takes nothing any more.
+#[derive(Drop)]
+struct Memory {
+    octets: Vec<u8>,
+    is_refused: bool,
+}
+
+impl Output for Memory {
+    ghost Given = { λ out given. ⊥ };
+
+    fn give(&mut self, octets: &[u8]) {
+        if !self.is_refused {
+            self.is_refused = self.octets.extend_from_slice(octets).is_err();
+        }
+    }
+}
+
+/// What is told and not written yet: in memory, and behind it in a block.
+#[derive(Drop)]
+pub struct Page {
+    told: Memory,
+    block: Block,
+}
+
+impl Page {
+    /// An empty page.
+    pub fn new(alloc: Global) -> Result<Page, AllocError> {
+        let told = Memory {
+            octets: Vec::new(alloc),
+            is_refused: false,
+        };
+        let block = Block::new(alloc)?;
+        Ok(Page { told, block })
+    }
+
+    /// Lays octets.
+    pub fn lay(&mut self, octets: &[u8]) {
+        self.block.lay(&mut self.told, octets);
+    }
+
+    /// Lays a number in decimal, behind blanks where it has fewer digits than this.
+    pub fn lay_number(&mut self, number: u64, width: usize) {
+        let mut buffer = Buffer::new();
+        let digits = buffer.format(number);
+        for _ in digits.len()..width {
+            self.lay(b" ");
+        }
+        self.lay(digits.as_bytes());
+    }
+
+    /// Lays the line of a message, with its end, as `hsms show` shows it.
+    pub fn lay_message(&mut self, header: Header, text: &[u8], depth: u8)
+        requires { depth ≤ 100 }
+    {
+        give_line(&mut self.told, &mut self.block, header, text, depth);
+    }
+
+    /// All that is told.
+    ///
+    /// # Errors
+    ///
+    /// Where memory was refused to it.
+    pub fn octets(&mut self) -> Result<&[u8], AllocError> {
+        self.block.give_all(&mut self.told);
+        if self.told.is_refused {
+            return Err(AllocError);
+        }
+        Ok(&self.told.octets)
+    }
+
+    /// Lets all go that is told.
+    pub fn clear(&mut self) {
+        self.told.octets.clear();
+    }
+}

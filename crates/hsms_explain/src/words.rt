@@ -1,0 +1,95 @@
+//! The words that stand below a line.
+
+ghost use Rattle.std.specs.Prelude.{◌≡◌, Some, codes};
+ghost use Rattle.hsms_explain.specs.Words.{cause_word, closing_text, concern_text, tie_word};
+
+use hsms_machine::{Cause, Remedy};
+use std::fmt;
+
+/// What an entry is to the transaction that it closes.
+#[derive(Clone, Copy, Debug, PartialEq, Eq)]
+pub enum Tie {
+    Answers,
+    Rejects,
+    Expires,
+}
+
+fn word_of(tie: Tie) -> &'static str
+    ensures { result.now ≡ tie_word tie }
+{
+    match tie {
+        Tie::Answers => "answers",
+        Tie::Rejects => "rejects",
+        Tie::Expires => "expires",
+    }
+}
+
+/// That an entry closes the transaction which a line opened, so many ms after it.
+#[derive(Clone, Copy, Debug)]
+pub struct Closing {
+    pub tie: Tie,
+    pub line: u64,
+    pub after: u64,
+}
+
+impl fmt::Display for Closing {
+    ghost output = { λ closing. Some (closing_text closing) };
+
+    fn fmt<W: fmt::Write>(&self, f: &mut fmt::Formatter<W>) -> fmt::Result {
+        let tie = word_of(self.tie);
+        let line = self.line;
+        let after = self.after;
+        write!(f, "{tie} line {line} after {after} ms")
+    }
+}
+
+/// That a failure concerns a line.
+#[derive(Clone, Copy, Debug)]
+pub struct Concern {
+    pub line: u64,
+}
+
+impl fmt::Display for Concern {
+    ghost output = { λ concern. Some (concern_text concern) };
+
+    fn fmt<W: fmt::Write>(&self, f: &mut fmt::Formatter<W>) -> fmt::Result {
+        let line = self.line;
+        write!(f, "concerns line {line}")
+    }
+}
+
+/// How the log is gone on with behind a failure.
+#[derive(Clone, Copy, Debug)]
+pub struct GoingOn {
+    pub remedy: Remedy,
+}
+
+impl fmt::Display for GoingOn {
+    fn fmt<W: fmt::Write>(&self, f: &mut fmt::Formatter<W>) -> fmt::Result {
+        match self.remedy {
+            Remedy::Raise(time) => write!(f, "goes on as if its time were {time}"),
+            Remedy::Discard => write!(f, "goes on as if it were thrown away"),
+            Remedy::ExpireFirst(time, system) => {
+                write!(f, "goes on as if `{time} t3 {system:08x}` stood before it")
+            }
+            Remedy::CutFirst(time, cause) => {
+                let cause = word(cause);
+                write!(f, "goes on as if `{time} cut {cause}` stood before it")
+            }
+            Remedy::DownFirst(time) => write!(f, "goes on as if `{time} down` stood before it"),
+            Remedy::LeaveOut => write!(f, "goes on without it"),
+        }
+    }
+}
+
+/// The word of a cause, as in a log.
+pub fn word(cause: Cause) -> &'static str
+    ensures { result.now ≡ cause_word cause }
+{
+    match cause {
+        Cause::T6 => "t6",
+        Cause::T7 => "t7",
+        Cause::T8 => "t8",
+        Cause::Length => "length",
+    }
+}

@@ -1,0 +1,61 @@
+//! An audit that is told its text in pieces.
+
+ghost use Rattle.std.specs.Prelude.{◌+◌, ◌++◌, [], List, ℕ, IfOk, OnOk, length};
+ghost use Rattle.hsms_log.specs.Verdict.{Judges};
+ghost use Rattle.hsms_log.specs.Auditor.{HasHeard, HasAtMost, HasRoom};
+
+use crate::line_reader::LineReader;
+use crate::verdict::Verdict;
+use std::alloc::{AllocError, Global};
+
+/// Audits a text that comes in pieces, to its end: for whoever does something else with the pieces besides. It holds no
+/// more of them than [`audit`](crate::audit) does.
+#[derive(Drop)]
+pub struct Auditor {
+    reader: LineReader,
+    found: Option<Verdict>,
+}
+
+impl Auditor {
+    /// The audit of a text of which nothing is told.
+    pub fn new(alloc: Global) -> Auditor
+        ensures heard { HasHeard result [] }
+        ensures lines { HasAtMost 0 result }
+    {
+        Auditor {
+            reader: LineReader::new(alloc),
+            found: None,
+        }
+    }
+
+    /// Takes the next octets in.
+    ///
+    /// # Errors
+    ///
+    /// Where memory is refused. Of an audit that goes on then nothing is said.
+    pub fn take(&mut self, alloc: Global, octets: &[u8]) -> Result<(), AllocError>
+        requires room { HasRoom self.old octets.now }
+        ensures heard { OnOk result ((text : List ℕ) → HasHeard self.old text → HasHeard self.new (text ++ octets.now)) }
+        ensures lines { OnOk result ((n : ℕ) → HasAtMost n self.old → HasAtMost (n + length octets.now) self.new) }
+    {
+        if self.found.is_none() {
+            self.found = self.reader.take(alloc, octets)?;
+        }
+        Ok(())
+    }
+
+    /// The verdict on the text, which ends here: that of [`audit`](crate::audit).
+    ///
+    /// # Errors
+    ///
+    /// Where memory is refused.
+    pub fn finish(self, alloc: Global) -> Result<Verdict, AllocError>
+        requires { HasRoom self [] }
+        ensures { IfOk result (λ verdict. (text : List ℕ) → HasHeard self text → Judges text verdict) }
+    {
+        match self.found {
+            Some(verdict) => Ok(verdict),
+            None => self.reader.finish(alloc),
+        }
+    }
+}

@@ -1,0 +1,66 @@
+#!/usr/bin/env python3
+"""Compares what `hsms explain` tells with a second reading, its last line with what `hsms audit` tells, and the words
+of each rule with `hsms audit --help`.
+
+Use: tests/explained.py [LOGS] [SEED]. LOGS is the number of random logs, 500 if left out; those of examples/ and the
+logs at edges and corners come besides. SEED is 1 if left out. It runs what `rt ci` has built. The shortest log that is
+told otherwise is written in hexadecimal. The last line is `N passed, M failed`.
+"""
+import glob
+import sys
+from concurrent.futures import ThreadPoolExecutor
+from typing import List, Optional
+
+# The modules below leave no compiled files in the repository.
+sys.dont_write_bytecode = True
+
+from command import LONGEST_SHOWN, TOP, answer_of
+from second_reading import corners, explaining, walks
+from second_reading.inputs import Chance
+
+WORKERS = 2
+
+
+def example_logs() -> List[bytes]:
+    found = []
+    for path in sorted(glob.glob(f"{TOP}/examples/**/*.log", recursive=True)):
+        with open(path, "rb") as file:
+            found.append(file.read())
+    return found
+
+
+def difference(log: bytes) -> Optional[str]:
+    """What is told of a log and what it should be, where they differ."""
+    told, audited = answer_of(["explain"], log), answer_of(["audit"], log)
+    wanted = explaining.explain(log)
+    if (told.status, told.error) == (audited.status, b"") and told.output == wanted and wanted.endswith(audited.output):
+        return None
+    shown = f"log: {log[:LONGEST_SHOWN].hex()}\nsecond reading: {wanted.decode('latin-1')}"
+    return f"{shown}\ncommand: {told}\naudit: {audited}"
+
+
+def help_of_rules() -> Optional[str]:
+    """The help of the audit, where a rule has other words there."""
+    told = answer_of(["audit", "--help"], b"").output.decode()
+    rows = [f"  {rule:<13}  {words}\n" for rule, words in explaining.SENTENCES.items() if rule != "unreadable"]
+    return None if all(row in told for row in rows) else told
+
+
+def main() -> int:
+    count, seed = int(sys.argv[1]) if len(sys.argv) > 1 else 500, sys.argv[2] if len(sys.argv) > 2 else "1"
+    random = [walks.random_log(Chance(f"{seed} explain {number}")) for number in range(count)]
+    logs = [*example_logs(), *walks.logs_at_edges(), *corners.logs(), *random]
+    with ThreadPoolExecutor(WORKERS) as pool:
+        differences = [(len(log), told) for log, told in zip(logs, pool.map(difference, logs)) if told]
+    if differences:
+        print(min(differences)[1])
+    words = help_of_rules()
+    if words:
+        print(words)
+    failed = len(differences) + bool(words)
+    print(f"{len(logs) + 1 - failed} passed, {failed} failed")
+    return 1 if failed else 0
+
+
+if __name__ == "__main__":
+    sys.exit(main())
