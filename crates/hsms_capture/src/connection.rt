@@ -20,7 +20,7 @@ use std::collections::VecDeque;
 pub enum ConnectionFault {
     /// A stream has come past 2^62 octets.
     Far,
-    /// More than 2^26 octets of a direction wait.
+    /// More than 2^26 octets of a direction wait to be told, or to be acknowledged.
     Full,
     /// There is no memory.
     Memory,
@@ -55,7 +55,8 @@ impl From<HeldFault> for ConnectionFault {
     }
 }
 
-/// A connection that begins with a SYN, in the midst of a capture. Contracts see what `Stands` says of it.
+/// A connection that begins with a SYN, in the midst of a capture. The numbers of its packets rise, from 1 on. Contracts
+/// see what `Stands` says of it.
 #[derive(Drop)]
 pub struct Connection {
     turns: Turns,
@@ -103,8 +104,8 @@ impl Connection {
     ///
     /// # Errors
     ///
-    /// `Memory`; `Far` where a stream has come past 2^62 octets; `Full` where more than 2^26 octets of a direction wait.
-    /// The connection is gone then.
+    /// `Memory`; `Far` where a stream has come past 2^62 octets; `Full` where a packet ends past 2^26 places behind the
+    /// first octet of its direction that isn't told or isn't acknowledged. The connection is gone then.
     pub fn take(
         self,
         alloc: Global,

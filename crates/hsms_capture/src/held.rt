@@ -143,8 +143,8 @@ impl Held {
         differs_in(&self.cells, self.place, acknowledged, place, flags, octets)
     }
 
-    /// How many cells the message has that begins in a place: four octets of a length and as many octets as it says; a SYN
-    /// and a FIN end it. None where it isn't there whole, or ends past another place.
+    /// How many cells the message has that begins in a place: four octets of a length and as many octets as it says; a
+    /// SYN and a FIN end it. None where it isn't there whole, or ends past another place.
     #[tactic(auto, using(crate::proofs::Whole::front_none, crate::proofs::Whole::front_past, crate::proofs::Whole::front_whole))]
     pub fn front(&self, place: u64, upto: u64) -> Option<u64>
         ensures front { IsFront self.now place upto result }

@@ -37,15 +37,15 @@ pub fn turns_tell_the_log()
     ensures { LogIsTold }
 {}
 
-/// What a [`Connection`](crate::Connection) has told, wherever its capture is cut, is the front of what is told of these
-/// segments and any more.
+/// What a [`Connection`](crate::Connection) has told, wherever its capture is cut, is the front of what is told of
+/// these segments and any more.
 #[tactic(auto, using(crate::proofs::Connecting::told_sure))]
 pub fn what_was_told_is_sure()
     ensures { ToldIsSure }
 {}
 
-/// Nothing is held back where nothing is lacking: where the segments so far have no loss and no copy that differs, all that
-/// is told of them was told at the last of them.
+/// Nothing is held back where nothing is lacking: where the segments so far have no loss and no copy that differs, all
+/// that is told of them was told at the last of them.
 #[tactic(auto, using(crate::proofs::Connecting::told_at_once))]
 pub fn what_is_sure_is_told()
     ensures { ToldAtOnce }

@@ -3,12 +3,12 @@
 //! The definitions are in `specs/Wire.antt`: which octets of both directions are held, where the turn of each packet is,
 //! where something was lost, and which messages each end sent, in the order of cause. [`laws`] says what holds of them.
 //!
-//! [`Connection`] takes the segments of one connection, one after another, and tells what happens on it, as soon as that
-//! is sure, and how that ends. It stands on [`Turns`], which tells whose turn it is, on [`Losses`], which tells where the
-//! capture lost something, by places and the ends behind each, and on [`Held`], which holds the cells of a direction by
-//! their places, of two copies the first, and tells a later copy that differs and the message in a place. Turns stand on
-//! the places of octets ([`numbered_place`], [`acknowledged_place`]) and on octets that hold nothing ([`only_asks`]);
-//! [`end_behind`] is the end of what is there without a gap, where octets wait.
+//! [`Connection`] takes the segments of one connection, one after another, and tells what happens on it, as soon as
+//! that is sure, and how that ends. It stands on [`Turns`], which tells whose turn it is, on [`Losses`], which tells
+//! where the capture lost something, by places and the ends behind each, and on [`Held`], which holds the cells of a
+//! direction by their places, of two copies the first, and tells a later copy that differs and the message in a place.
+//! Turns stand on the places of octets ([`numbered_place`], [`acknowledged_place`]) and on octets that hold nothing
+//! ([`only_asks`]); [`end_behind`] is the end of what is there without a gap, where octets wait.
 #![tactic(auto)]
 
 mod asking;
