@@ -8,8 +8,8 @@ worked inputs and on examples. A test has to end with want of memory where an al
 that up; or to pass, where it looks at the answer itself and at what stands after it. Where no allocation was refused,
 it has to pass. A test of answers that need no memory may ask for none, but for what it makes beforehand. An end has to
 answer as ever up to the call that tells want of memory, and from then on that it is spent. The command has to answer
-with status 3 and `hsms: Memory`, and what it wrote then has to be nothing, or of `show` whole lines of what it writes
-with ample memory; as ever, where no allocation was refused, and there as the worked inputs say.
+with status 3 and `hsms: Memory`, and what it wrote then has to be nothing, or of `show` and `explain` whole lines of
+what it writes with ample memory; as ever, where no allocation was refused, and there as the worked inputs say.
 
 No program may take memory but by the calls that are refused, nor call the system past the C library. It runs what
 `rt ci` has built. The last line is `N passed, M failed`.
@@ -216,7 +216,7 @@ def judge_of(row, collections):
     """What a run of the command has to do. Std can do without the room that it asks for as it begins to collect the words,
     to part the messages of a script into replies and others, or to collect its steps: so often the command may answer
     as ever although memory was refused."""
-    parts = fronts(row.answer.output) if row.words[:1] == ("show",) else {b""}
+    parts = fronts(row.answer.output) if row.words[:1] in (("show",), ("explain",)) else {b""}
     done_without = []
 
     def is_well(ended, was_refused):
