@@ -190,7 +190,9 @@ fn linktest_option<'a>(alloc: Global) -> Arg<'a>
     Arg::new(alloc, "linktest")
         .long("linktest")
         .value_name("N")
-        .help("Test the link after so long a pause, in ms: 1 to 3600000, or 0 for never [default: 0]")
+        .help(
+            "Test the link after so long a pause, in ms: 1 to 3600000, or 0 for never [default: 0]",
+        )
         .value_parser(value_parser!(u32).range(0..=i64::from(GREATEST_TIME)))
 }
 

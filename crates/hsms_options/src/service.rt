@@ -13,8 +13,8 @@ ghost use Rattle.hsms_options.specs.declared.service.Service.{Service};
 
 use crate::fault::{ToolFault, no_request};
 use crate::limits::{
-    DEFAULT_LINKTEST, DEFAULT_SYSTEM, DEFAULT_T3, DEFAULT_T6, DEFAULT_T7, DEFAULT_T8, DEFAULT_TURNS,
-    GREATEST_PORT, LEAST_PORT,
+    DEFAULT_LINKTEST, DEFAULT_SYSTEM, DEFAULT_T3, DEFAULT_T6, DEFAULT_T7, DEFAULT_T8,
+    DEFAULT_TURNS, GREATEST_PORT, LEAST_PORT,
 };
 use crate::repeating::{Repeat, repeat_of};
 use crate::values::{depth_of, device_of, flag_of, max_of, number_of, text_of};
@@ -116,7 +116,13 @@ fn terms_of<'a>(options: &ArgMatches<'a>) -> Option<Terms<'a>>
     let port = port_of(options)?;
     let first_system = number_of(options, "first-system", 0, u32::MAX, Some(DEFAULT_SYSTEM))?;
     let turns = number_of(options, "turns", 0, u32::MAX, Some(DEFAULT_TURNS))?;
-    let linktest = number_of(options, "linktest", 0, GREATEST_TIME, Some(DEFAULT_LINKTEST))?;
+    let linktest = number_of(
+        options,
+        "linktest",
+        0,
+        GREATEST_TIME,
+        Some(DEFAULT_LINKTEST),
+    )?;
     let repeat = repeat_of(options)?;
     Some(Terms {
         settings,
