@@ -93,7 +93,9 @@ def main() -> int:
             failing += len(wrongs)
             for wrong in wrongs:
                 print(wrong, flush=True)
-    to_reach = [what for what in talks.TO_REACH if not what.startswith("!")] + crowds.TO_REACH + tables.TO_REACH
+    # why a message is thrown away isn't told to a list, and `hsms_drive` has no desk that replies from a script
+    of_talks = [what for what in talks.TO_REACH if not what.startswith("!") and not what.endswith(" of a script")]
+    to_reach = of_talks + crowds.TO_REACH + tables.TO_REACH
     missed = [what for what in to_reach if not reached[what]]
     missed = missed if told.count >= ENOUGH else []
     for what in missed:
