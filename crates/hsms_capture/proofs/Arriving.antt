@@ -27,13 +27,13 @@ use Rattle.hsms_capture.proofs.Turned.{at_itself, turns_more}
 
 -- ---- the queue
 
-pub queue_next : (at : ℕ) (from : Side) (queue next goal : List Due) (p : Packet) (rest more : List Packet) → rest ≡ p ∷ more
+pub queue_next : (at : Packet) (from : Side) (queue next goal : List Due) (p : Packet) (rest more : List Packet) → rest ≡ p ∷ more
     → queue ++ map (due_as at from) rest ≡ goal → next ≡ queue ++ due_as at from p ∷ [] → next ++ map (due_as at from) more ≡ goal
 queue_next at from queue next goal p rest more e h n =
     ap (λ (z : List Due). z ++ map (due_as at from) more) n ∙ append_assoc queue (due_as at from p ∷ []) (map (due_as at from) more)
     ∙ ap (λ (z : List Packet). queue ++ map (due_as at from) z) (sym e) ∙ h
 
-pub queue_all : (at : ℕ) (from : Side) (queue goal : List Due) (rest : List Packet) → rest ≡ [] → queue ++ map (due_as at from) rest ≡ goal → queue ≡ goal
+pub queue_all : (at : Packet) (from : Side) (queue goal : List Due) (rest : List Packet) → rest ≡ [] → queue ++ map (due_as at from) rest ≡ goal → queue ≡ goal
 queue_all at from queue goal rest e h = sym (append-nil queue) ∙ ap (λ (z : List Packet). queue ++ map (due_as at from) z) (sym e) ∙ h
 
 -- ---- what is held
@@ -165,14 +165,14 @@ difference_on before (x ∷ xs) p =
 
 -- ---- what is still to be told
 
-due_is : (t : Turn) (p : Placed) → t.at ≡ p → t.own.from ≡ p.from → due_as p.packet (side_of p.from) (packet_of t.own) ≡ due_of t
-due_is t p e f = ap (λ (q : Placed). due_as q.packet (side_of p.from) (packet_of t.own)) (sym e) ∙ ap (λ (d : End). due_as t.at.packet (side_of d) (packet_of t.own)) (sym f)
+due_is : (t : Turn) (p : Placed) → t.at ≡ p → t.own.from ≡ p.from → due_as (packet_of p) (side_of p.from) (packet_of t.own) ≡ due_of t
+due_is t p e f = ap (λ (q : Placed). due_as (packet_of q) (side_of p.from) (packet_of t.own)) (sym e) ∙ ap (λ (d : End). due_as (packet_of t.at) (side_of d) (packet_of t.own)) (sym f)
 
 dues_are : (ts : List Turn) (p : Placed) → Each (λ (t : Turn). t.at ≡ p) ts → Each (λ (t : Turn). t.own.from ≡ p.from) ts
-    → map (due_as p.packet (side_of p.from)) (map own_packet ts) ≡ map due_of ts
+    → map (due_as (packet_of p) (side_of p.from)) (map own_packet ts) ≡ map due_of ts
 dues_are [] p f g = refl
 dues_are (t ∷ ts) p f g =
-    ap (λ (d : Due). d ∷ map (due_as p.packet (side_of p.from)) (map own_packet ts)) (due_is t p f.0 g.0) ∙ ap (λ (ds : List Due). due_of t ∷ ds) (dues_are ts p f.1 g.1)
+    ap (λ (d : Due). d ∷ map (due_as (packet_of p) (side_of p.from)) (map own_packet ts)) (due_is t p f.0 g.0) ∙ ap (λ (ds : List Due). due_of t ∷ ds) (dues_are ts p f.1 g.1)
 
 one_turn : (ps : List Placed) (p : Placed) → turns ps (p ∷ []) ≡ turns_at ps p
 unfolding turns
@@ -209,14 +209,14 @@ waits_on old new queue next ps p told telling opened a b more w =
 
 pub arrived : (a : Arrival) (octets : List ℕ) (freed : List Packet) (old new : Reading) (differs : Bool) → BringsTo old.teller.streams a octets new.teller.streams differs
     → new.teller.telling ≡ old.teller.telling → new.teller.opened ≡ old.teller.opened → new.losses ≡ old.losses → new.differs ≡ or_differs old.differs differs a.packet.packet
-    → new.due.items ≡ old.due.items ++ map (due_as a.packet.packet a.from) freed → Arrives a octets freed old new
+    → new.due.items ≡ old.due.items ++ map (due_as a.packet a.from) freed → Arrives a octets freed old new
 arrived a octets freed old new differs brings telling opened losses first queue ps p is known streams =
     let got = brings ps p is.0 is.1 is.2 is.3 streams in
     let number : a.packet.packet ≡ p.packet = ap (λ (q : Packet). q.packet) is.0 in
     let ts = turns_at ps p in
-    let dues : map (due_as a.packet.packet a.from) freed ≡ map due_of ts =
-    ap (λ (n : ℕ). map (due_as n a.from) freed) number ∙ ap (λ (s : Side). map (due_as p.packet s) freed) is.1
-    ∙ ap (map (due_as p.packet (side_of p.from))) (is.4 ∙ ap (λ (us : List Turn). map own_packet us) (one_turn ps p))
+    let dues : map (due_as a.packet a.from) freed ≡ map due_of ts =
+    ap (λ (q : Packet). map (due_as q a.from) freed) is.0 ∙ ap (λ (s : Side). map (due_as (packet_of p) s) freed) is.1
+    ∙ ap (map (due_as (packet_of p) (side_of p.from))) (is.4 ∙ ap (λ (us : List Turn). map own_packet us) (one_turn ps p))
     ∙ dues_are ts p (at_itself ps p) (turns_own ps p) in (
       difference_on [] ps p ∙ ap (λ (o : Option ℕ). or_differs o (differs_by ps p) p.packet) known
           ∙ ap (λ (b : Bool). or_differs old.differs b p.packet) (sym got.0) ∙ ap (or_differs old.differs differs) (sym number) ∙ sym first,

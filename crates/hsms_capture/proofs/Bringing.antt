@@ -47,17 +47,17 @@ no_reset opened t s a e =
 
 -- ---- what is delivered
 
-pub delivered_active : (s : Side) (upto n place later : ℕ) (h : Store) (p : Stream) (a c : List Happening) (t u : Telling) → s ≡ side.Active
+pub delivered_active : (s : Side) (upto n at place later : ℕ) (h : Store) (p : Stream) (a c : List Happening) (t u : Telling) → s ≡ side.Active
     → Cuts h (end_at s) n upto place a t later c u
-    → Delivers (record { of = s; upto = upto; packet = n }) (record { active = record { held = h; place = place }; passive = p }) a t (record { active = record { held = h; place = later }; passive = p }) c u
-delivered_active side.Active upto n place later h p a c t u e cut fits b left = let r = cut b.active left.0 fits in (r.0, (r.1, left.1))
-delivered_active side.Passive upto n place later h p a c t u e cut fits b left = absurd cc
+    → Delivers (record { of = s; upto = upto; packet = n; time = at }) (record { active = record { held = h; place = place }; passive = p }) a t (record { active = record { held = h; place = later }; passive = p }) c u
+delivered_active side.Active upto n at place later h p a c t u e cut fits b left = let r = cut b.active left.0 fits in (r.0, (r.1, left.1))
+delivered_active side.Passive upto n at place later h p a c t u e cut fits b left = absurd cc
 
-pub delivered_passive : (s : Side) (upto n place later : ℕ) (h : Store) (p : Stream) (a c : List Happening) (t u : Telling) → s ≡ side.Passive
+pub delivered_passive : (s : Side) (upto n at place later : ℕ) (h : Store) (p : Stream) (a c : List Happening) (t u : Telling) → s ≡ side.Passive
     → Cuts h (end_at s) n upto place a t later c u
-    → Delivers (record { of = s; upto = upto; packet = n }) (record { active = p; passive = record { held = h; place = place } }) a t (record { active = p; passive = record { held = h; place = later } }) c u
-delivered_passive side.Active upto n place later h p a c t u e cut fits b left = absurd cc
-delivered_passive side.Passive upto n place later h p a c t u e cut fits b left = let r = cut b.passive left.1 fits in (r.0, (left.0, r.1))
+    → Delivers (record { of = s; upto = upto; packet = n; time = at }) (record { active = p; passive = record { held = h; place = place } }) a t (record { active = p; passive = record { held = h; place = later } }) c u
+delivered_passive side.Active upto n at place later h p a c t u e cut fits b left = absurd cc
+delivered_passive side.Passive upto n at place later h p a c t u e cut fits b left = let r = cut b.passive left.1 fits in (r.0, (left.0, r.1))
 
 twice : (s : Side) → other_side (other_side s) ≡ s
 twice side.Active = refl
@@ -70,13 +70,13 @@ none_acked t s a u e = (
 )
 
 pub some_acked : (t : Due) (s r : Streams) (a c : List Happening) (u v : Telling) (n : ℕ) → t.packet.acknowledged ≡ Some n
-    → Delivers (record { of = other_side t.from; upto = n; packet = t.at }) s a u r c v → Acknowledges t s a u r c v
+    → Delivers (record { of = other_side t.from; upto = n; packet = t.at; time = t.time }) s a u r c v → Acknowledges t s a u r c v
 some_acked t s r a c u v n e d le b left =
     subst (λ (o : Option ℕ). unwrap_or o 0 ≤ reach (stream_at s (other_side t.from)) → Hears (hears u (by_ack t o b).entries) a v c × AreLeft r (by_ack t o b).both) (sym e)
     (λ le. d le b left) le
 
 pub some_moves : (t : Due) (s r : Streams) (n : ℕ) → t.packet.acknowledged ≡ Some n
-    → Moves (record { of = other_side t.from; upto = n; packet = t.at }) s r → AckMoves t s r
+    → Moves (record { of = other_side t.from; upto = n; packet = t.at; time = t.time }) s r → AckMoves t s r
 some_moves t s r n e m = (
   subst (λ (o : Option ℕ). MovesTo (stream_at s (other_side t.from)) (unwrap_or o 0) (stream_at r (other_side t.from))) (sym e) m.0,
   subst (λ (d : Side). stream_at r d ≡ stream_at s d) (twice t.from) m.1,
@@ -91,7 +91,7 @@ hears_two t u v xs ys a b c x y =
 
 pub turned : (opened : Bool) (t : Due) (old mid new : Streams) (a0 a1 a2 a3 a4 : List Happening) (u0 u1 u2 u3 u4 : Telling)
     → Hears (hears u0 (answer_entries t)) a0 u1 a1 → Acknowledges t old a1 u1 mid a2 u2 → AckMoves t old mid
-    → Delivers (record { of = t.from; upto = t.packet.to; packet = t.at }) mid a2 u2 new a3 u3 → Moves (record { of = t.from; upto = t.packet.to; packet = t.at }) mid new
+    → Delivers (record { of = t.from; upto = t.packet.to; packet = t.at; time = t.time }) mid a2 u2 new a3 u3 → Moves (record { of = t.from; upto = t.packet.to; packet = t.at; time = t.time }) mid new
     → Hears (hears u3 (reset_entry opened t)) a3 u4 a4 → TakesTurn opened t old a0 u0 new a4 u4
 turned opened t old mid new a0 a1 a2 a3 a4 u0 u1 u2 u3 u4 first_up ack ack_moves own own_moves goes all =
     let here : t.packet.to ≤ reach (stream_at mid t.from) = subst (λ (s : Stream). t.packet.to ≤ reach s) (sym ack_moves.1) all.1 in (

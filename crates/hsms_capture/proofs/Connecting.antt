@@ -14,7 +14,7 @@ use Rattle.hsms_capture.specs.declared.streams.Due.{Due}
 use Rattle.hsms_capture.specs.declared.teller.Teller.{Teller}
 use Rattle.hsms_capture.specs.declared.telling.Happening.{Happening}
 use Rattle.hsms_capture.specs.declared.telling.Telling.TheVariants as telling
-use Rattle.hsms_capture.specs.Wire.{End, active, passive, other, Seen, Placed, Turn, places, place_of, ack_place, placed_at, asks_only, end_of, received, turns, loss, difference, earlier}
+use Rattle.hsms_capture.specs.Wire.{End, active, passive, other, Seen, Placed, Turn, places, place_of, ack_place, placed_at, timed, asks_only, end_of, received, turns, loss, difference, earlier}
 use Rattle.hsms_capture.specs.Held.{Store, IsStoreOf}
 use Rattle.hsms_capture.specs.Known.{GoesOn, Known, end_at, known, packet_of, placed_as, placed_behind, seen_of}
 use Rattle.hsms_capture.specs.Laws.{AreNumbered}
@@ -39,7 +39,7 @@ side_back : (s : Side) → s ≡ side_of (end_at s)
 side_back side.Active = refl
 side_back side.Passive = refl
 
-placed_one : (acked : ℕ) (s : Seen) (o ack : Option ℕ) (packet : Packet) → option_to_list (Some packet) ≡ map packet_of (placed_at acked s o ack)
+pub placed_one : (acked : ℕ) (s : Seen) (o ack : Option ℕ) (packet : Packet) → option_to_list (Some packet) ≡ map packet_of (placed_at acked s o ack)
     → (p : Placed) × (placed_at acked s o ack ≡ p ∷ []) × (packet ≡ packet_of p) × (p.from ≡ s.from) × BringsCells p s.cells
 placed_one acked s None ack packet e = absurd cc
 placed_one acked s (Some place) ack packet e =
@@ -55,7 +55,7 @@ placed_none : (acked : ℕ) (s : Seen) (o ack : Option ℕ) → [] ≡ map packe
 placed_none acked s None ack e = refl
 placed_none acked s (Some place) ack e = absurd cc
 
-all_rise : (base : End → ℕ) (seen : List Seen) → AreNumbered 0 seen → AreRising 0 (places base [] seen)
+pub all_rise : (base : End → ℕ) (seen : List Seen) → AreNumbered 0 seen → AreRising 0 (places base [] seen)
 all_rise base seen h = let r = places_rise base [] 0 seen h in subst (AreRising 0) (sym r.1) r.2
 
 stands_by : (end : Option Ending) (turns : Known) (r : Reading) (told : List Happening) (base : End → ℕ) (seen : List Seen) → turns ≡ known base (places base [] seen)
@@ -70,7 +70,7 @@ followed_none old new r segment octets told freed goes base before numbered stan
     let ps = places base [] before in
     let g = goes base before stands.0 in
     let none : placed_behind base ps s ≡ [] =
-    placed_none (received ps s.from) s (place_of (end_of ps s.from) (base s.from) s.number) (ack_place ps base (other s.from) s.acknowledged) g.2 in
+    placed_none (received ps s.from) (timed ps s) (place_of (end_of ps s.from) (base s.from) s.number) (ack_place ps base (other s.from) s.acknowledged) g.2 in
     let now : places base [] (before ++ s ∷ []) ≡ ps = one_more base before s ∙ ap (λ (z : List Placed). ps ++ z) none ∙ append-nil ps in
     (g.0, subst (λ (z : List Placed). IsReading r z told) (sym now) stands.1)
 
@@ -93,7 +93,7 @@ followed_some old new r next segment octets told later freed packet acked before
     let s = seen_of segment octets in
     let ps = places base [] before in
     let g = goes base before stands.0 in
-    let one = placed_one (received ps s.from) s (place_of (end_of ps s.from) (base s.from) s.number) (ack_place ps base (other s.from) s.acknowledged) packet g.2 in
+    let one = placed_one (received ps s.from) (timed ps s) (place_of (end_of ps s.from) (base s.from) s.number) (ack_place ps base (other s.from) s.acknowledged) packet g.2 in
     let p = one.0 in
     let now : places base [] (before ++ s ∷ []) ≡ ps ++ p ∷ [] = one_more base before s ∙ ap (λ (z : List Placed). ps ++ z) one.1 in
     let knows : new ≡ known base (ps ++ p ∷ []) = g.0 ∙ ap (known base) now in

@@ -4,6 +4,7 @@ mod Asked
 mod Awaited
 mod Behind
 mod Bringing
+mod Clocked
 mod Connecting
 mod CutOff
 mod Differing
@@ -26,6 +27,7 @@ mod SmallCaptures
 mod Stepped
 mod Sure
 mod Tells
+mod Timing
 mod Turned
 mod Waited
 mod Watched

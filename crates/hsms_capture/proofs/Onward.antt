@@ -42,17 +42,17 @@ cut_tail (suc k) upto l cs e =
     by_size None h = e
     by_size (Some n) h = by_late (nat_lt upto (l.place + n)) n (h n)
 
-given_tails : (s : Side) (upto n : ℕ) (b : Both) (x y : List Cell) → AreTails x y b → AreTails x y (given (record { of = s; upto = upto; packet = n }) b).both
-given_tails side.Active upto n b x y h = (cut_tail (length b.active.cells) upto b.active x h.0, h.1)
-given_tails side.Passive upto n b x y h = (h.0, cut_tail (length b.passive.cells) upto b.passive y h.1)
+given_tails : (s : Side) (upto n at : ℕ) (b : Both) (x y : List Cell) → AreTails x y b → AreTails x y (given (record { of = s; upto = upto; packet = n; time = at }) b).both
+given_tails side.Active upto n at b x y h = (cut_tail (length b.active.cells) upto b.active x h.0, h.1)
+given_tails side.Passive upto n at b x y h = (h.0, cut_tail (length b.passive.cells) upto b.passive y h.1)
 
 ack_tails : (t : Due) (o : Option ℕ) (b : Both) (x y : List Cell) → AreTails x y b → AreTails x y (by_ack t o b).both
 ack_tails t None b x y h = h
-ack_tails t (Some n) b x y h = given_tails (other_side t.from) n t.at b x y h
+ack_tails t (Some n) b x y h = given_tails (other_side t.from) n t.at t.time b x y h
 
 turn_tails : (t : Due) (b : Both) (x y : List Cell) → AreTails x y b → AreTails x y (delivers t b).both
 turn_tails t b x y h =
-    given_tails t.from t.packet.to t.at (by_ack t t.packet.acknowledged b).both x y (ack_tails t t.packet.acknowledged b x y h)
+    given_tails t.from t.packet.to t.at t.time (by_ack t t.packet.acknowledged b).both x y (ack_tails t t.packet.acknowledged b x y h)
 
 -- ---- the streams span to the same places
 

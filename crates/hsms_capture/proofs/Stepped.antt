@@ -4,10 +4,10 @@ use Rattle.std.proofs.lemmas.Bool.{le-leb, lt-ltb, ltb-true, cases_lt}
 use Rattle.std.proofs.lemmas.List.{append-nil}
 use Rattle.std.specs.Option.{option_to_list, unwrap_or}
 use Rattle.hsms_capture.specs.declared.packet.Packet.{Packet}
-use Rattle.hsms_capture.specs.Wire.{End, active, passive, other, same_end, Seen, Placed, Turn, acknowledged_at, acknowledges, end_of, greatest_acknowledged, ack_place, place_of, placed_at, places, received, bound, run, turns, turns_at}
+use Rattle.hsms_capture.specs.Wire.{End, active, passive, other, same_end, Seen, Placed, Turn, acknowledged_at, acknowledges, end_of, greatest_acknowledged, ack_place, place_of, placed_at, places, latest, timed, received, bound, run, turns, turns_at}
 use Rattle.hsms_capture.specs.Laws.{absorb, insert_behind, left_waiting, reached, waits, waiting_in}
 use Rattle.hsms_capture.specs.Early.{IsStopped, Drained, drained, put_behind, acked}
-use Rattle.hsms_capture.specs.Known.{Flow, GoesOn, Known, Step, flow_of, packet_of, placed_as, placed_behind, step, step_at, step_by, told_behind}
+use Rattle.hsms_capture.specs.Known.{Flow, GoesOn, Known, Step, flow_of, latest_behind, packet_of, placed_as, placed_behind, step, step_at, step_by, told_behind}
 use Rattle.hsms_capture.proofs.Absorbed.{absorbed}
 use Rattle.hsms_capture.proofs.Draining.{stops}
 use Rattle.hsms_capture.proofs.Fronts.{places_more}
@@ -216,8 +216,9 @@ step_by_place base before s (Some place) =
     let one = step_one base before (placed_as (received before s.from) s place (acknowledged_at (end_of before (other s.from)) (base (other s.from)) s.acknowledged)) in
     (one.0, one.1, one.2, refl)
 
-step_is : (base : End → ℕ) (before : List Placed) (s : Seen) → Stepped base before (before ++ placed_behind base before s) s (step (flow_of base before s.from) (flow_of base before (other s.from)) s)
-step_is base before s = step_by_place base before s (place_of (end_of before s.from) (base s.from) s.number)
+step_is : (base : End → ℕ) (before : List Placed) (s : Seen)
+    → Stepped base before (before ++ placed_behind base before s) s (step (flow_of base before s.from) (flow_of base before (other s.from)) (timed before s))
+step_is base before s = step_by_place base before (timed before s) (place_of (end_of before s.from) (base s.from) s.number)
 
 -- ---- of both directions
 
@@ -231,44 +232,83 @@ Behind base before s d r =
     × (r.told ≡ told_behind base (places base [] before) s) × (option_to_list r.placed ≡ map packet_of (placed_behind base (places base [] before) s))
 
 behind_is : (base : End → ℕ) (before : List Seen) (s : Seen) (d : End) → s.from ≡ d
-    → Behind base before s d (step (flow_of base (places base [] before) d) (flow_of base (places base [] before) (other d)) s)
+    → Behind base before s d (step (flow_of base (places base [] before) d) (flow_of base (places base [] before) (other d)) (timed (places base [] before) s))
 behind_is base before s d e =
     let ps = places base [] before in
     let stepped = step_is base ps s in
     let now = ap (λ (qs : List Placed). flow_of base qs s.from) (one_more base before s) in
     let peer = ap (λ (qs : List Placed). flow_of base qs (other s.from)) (one_more base before s) in
-    subst (λ (d : End). Behind base before s d (step (flow_of base (places base [] before) d) (flow_of base (places base [] before) (other d)) s)) e
+    subst (λ (d : End). Behind base before s d (step (flow_of base ps d) (flow_of base ps (other d)) (timed ps s))) e
     (stepped.0 ∙ sym now, stepped.1 ∙ sym peer, stepped.2, stepped.3)
 
-pub known_is : (a b c d : Flow) → a ≡ b → c ≡ d → ◌≡◌ {A = Known} (record { active = a; passive = c }) (record { active = b; passive = d })
-known_is a b c d e f = rw (e, f) refl
+pub known_is : (a b c d : Flow) (m n : ℕ) → a ≡ b → c ≡ d → m ≡ n
+    → ◌≡◌ {A = Known} (record { active = a; passive = c; latest = m }) (record { active = b; passive = d; latest = n })
+known_is a b c d m n e f g = rw (e, f, g) refl
 
-pub active_goes : (old : Known) (told : List Packet) (s : Seen) (own peer : Flow) (later : List Packet) (placed : Option Packet) → s.from ≡ active
-    → own ≡ (step old.active old.passive s).own → peer ≡ (step old.active old.passive s).peer → later ≡ told ++ (step old.active old.passive s).told
-    → placed ≡ (step old.active old.passive s).placed → GoesOn old told s (record { active = own; passive = peer }) later placed
-active_goes old told s own peer later placed from f g h k base before e =
+-- ---- the greatest time
+
+latest_more : (xs ys : List Placed) → latest (xs ++ ys) ≡ max (latest xs) (latest ys)
+latest_more [] ys = omega arith
+latest_more (x ∷ xs) ys = let later = latest_more xs ys in rw later (omega arith)
+
+latest_by : (before : List Placed) (acked : ℕ) (s : Seen) (o ack : Option ℕ) (placed : Option Packet)
+    → option_to_list placed ≡ map packet_of (placed_at acked (timed before s) o ack) → latest_behind (latest before) placed ≡ latest (before ++ placed_at acked (timed before s) o ack)
+latest_by before acked s None ack None e = ap latest (sym (append-nil before))
+latest_by before acked s None ack (Some p) e = absurd cc
+latest_by before acked s (Some place) ack None e = absurd cc
+latest_by before acked s (Some place) ack (Some p) e =
+    let q = placed_as acked (timed before s) place ack in
+    let same : p ≡ packet_of q = cc in
+    let time : p.time ≡ max (latest before) s.time = ap (λ (z : Packet). z.time) same in
+    let more : latest (before ++ q ∷ []) ≡ max (latest before) (max (max (latest before) s.time) 0) = latest_more before (q ∷ []) in
+    omega (arith, time, more)
+
+latest_is : (base : End → ℕ) (before : List Seen) (s : Seen) (placed : Option Packet)
+    → option_to_list placed ≡ map packet_of (placed_behind base (places base [] before) s)
+    → latest_behind (latest (places base [] before)) placed ≡ latest (places base [] (before ++ (s ∷ [])))
+latest_is base before s placed e =
+    let ps = places base [] before in
+    latest_by ps (received ps s.from) s (place_of (end_of ps s.from) (base s.from) s.number) (ack_place ps base (other s.from) s.acknowledged) placed e
+    ∙ sym (ap latest (one_more base before s))
+
+-- with the greatest time so far
+abbrev pub raised : Known → Seen → Seen
+raised k s = record s { time = max k.latest s.time }
+
+pub active_goes : (old : Known) (told : List Packet) (s t : Seen) (own peer : Flow) (now : ℕ) (later : List Packet) (placed : Option Packet) → t ≡ raised old s → s.from ≡ active
+    → own ≡ (step old.active old.passive t).own → peer ≡ (step old.active old.passive t).peer → later ≡ told ++ (step old.active old.passive t).told
+    → placed ≡ (step old.active old.passive t).placed → now ≡ latest_behind old.latest placed
+    → GoesOn old told s (record { active = own; passive = peer; latest = now }) later placed
+active_goes old told s t own peer clock later placed is from f g h k l base before e =
     let ps = places base [] before in
     let now = places base [] (before ++ (s ∷ [])) in
-    let r = step (flow_of base ps active) (flow_of base ps passive) s in
+    let r = step (flow_of base ps active) (flow_of base ps passive) (timed ps s) in
     let behind : Behind base before s active r = behind_is base before s active from in
-    let same : step old.active old.passive s ≡ r = ap (λ (k : Known). step k.active k.passive s) e in (
-      known_is own (flow_of base now active) peer (flow_of base now passive) (f ∙ ap (λ (z : Step). z.own) same ∙ behind.0) (g ∙ ap (λ (z : Step). z.peer) same ∙ behind.1),
+    let same : step old.active old.passive t ≡ r = ap (step old.active old.passive) is ∙ ap (λ (k : Known). step k.active k.passive (raised k s)) e in
+    let places_it : option_to_list placed ≡ map packet_of (placed_behind base ps s) = ap option_to_list (k ∙ ap (λ (z : Step). z.placed) same) ∙ behind.3 in
+    let clocks : clock ≡ latest now = l ∙ ap (λ (k : Known). latest_behind k.latest placed) e ∙ latest_is base before s placed places_it in (
+      known_is own (flow_of base now active) peer (flow_of base now passive) clock (latest now)
+          (f ∙ ap (λ (z : Step). z.own) same ∙ behind.0) (g ∙ ap (λ (z : Step). z.peer) same ∙ behind.1) clocks,
       h ∙ ap (λ (z : Step). told ++ z.told) same ∙ ap (λ (z : List Packet). told ++ z) behind.2,
-      ap option_to_list (k ∙ ap (λ (z : Step). z.placed) same) ∙ behind.3,
+      places_it,
     )
 
-pub passive_goes : (old : Known) (told : List Packet) (s : Seen) (own peer : Flow) (later : List Packet) (placed : Option Packet) → s.from ≡ passive
-    → own ≡ (step old.passive old.active s).own → peer ≡ (step old.passive old.active s).peer → later ≡ told ++ (step old.passive old.active s).told
-    → placed ≡ (step old.passive old.active s).placed → GoesOn old told s (record { active = peer; passive = own }) later placed
-passive_goes old told s own peer later placed from f g h k base before e =
+pub passive_goes : (old : Known) (told : List Packet) (s t : Seen) (own peer : Flow) (now : ℕ) (later : List Packet) (placed : Option Packet) → t ≡ raised old s → s.from ≡ passive
+    → own ≡ (step old.passive old.active t).own → peer ≡ (step old.passive old.active t).peer → later ≡ told ++ (step old.passive old.active t).told
+    → placed ≡ (step old.passive old.active t).placed → now ≡ latest_behind old.latest placed
+    → GoesOn old told s (record { active = peer; passive = own; latest = now }) later placed
+passive_goes old told s t own peer clock later placed is from f g h k l base before e =
     let ps = places base [] before in
     let now = places base [] (before ++ (s ∷ [])) in
-    let r = step (flow_of base ps passive) (flow_of base ps active) s in
+    let r = step (flow_of base ps passive) (flow_of base ps active) (timed ps s) in
     let behind : Behind base before s passive r = behind_is base before s passive from in
-    let same : step old.passive old.active s ≡ r = ap (λ (k : Known). step k.passive k.active s) e in (
-      known_is peer (flow_of base now active) own (flow_of base now passive) (g ∙ ap (λ (z : Step). z.peer) same ∙ behind.1) (f ∙ ap (λ (z : Step). z.own) same ∙ behind.0),
+    let same : step old.passive old.active t ≡ r = ap (step old.passive old.active) is ∙ ap (λ (k : Known). step k.passive k.active (raised k s)) e in
+    let places_it : option_to_list placed ≡ map packet_of (placed_behind base ps s) = ap option_to_list (k ∙ ap (λ (z : Step). z.placed) same) ∙ behind.3 in
+    let clocks : clock ≡ latest now = l ∙ ap (λ (k : Known). latest_behind k.latest placed) e ∙ latest_is base before s placed places_it in (
+      known_is peer (flow_of base now active) own (flow_of base now passive) clock (latest now)
+          (g ∙ ap (λ (z : Step). z.peer) same ∙ behind.1) (f ∙ ap (λ (z : Step). z.own) same ∙ behind.0) clocks,
       h ∙ ap (λ (z : Step). told ++ z.told) same ∙ ap (λ (z : List Packet). told ++ z) behind.2,
-      ap option_to_list (k ∙ ap (λ (z : Step). z.placed) same) ∙ behind.3,
+      places_it,
     )
 
 -- nothing is known before the first segment

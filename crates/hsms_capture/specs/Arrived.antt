@@ -54,8 +54,8 @@ PassesTo old acknowledged new =
 
 -- ---- whose turn is at it
 
-abbrev pub due_as : ℕ → Side → Packet → Due
-due_as at from packet = record { at = at; from = from; packet = packet }
+abbrev pub due_as : Packet → Side → Packet → Due
+due_as at from packet = record { at = at.packet; time = at.time; from = from; packet = packet }
 
 abbrev pub own_packet : Turn → Packet
 own_packet t = packet_of t.own

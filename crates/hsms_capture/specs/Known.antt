@@ -1,11 +1,11 @@
 -- What a reader knows of a connection in the midst of a capture, and what more it tells at each segment.
-use Rattle.std.specs.Prelude.{◌≡◌, ◌+◌, ◌++◌, ◌∷◌, ℕ, if◌then◌else◌, List, [], length, map, Option, Some, None}
+use Rattle.std.specs.Prelude.{◌≡◌, ◌+◌, ◌++◌, ◌∷◌, ℕ, max, if◌then◌else◌, List, [], length, map, Option, Some, None}
 use Rattle.std.specs.Option.{option_to_list}
 use Rattle.hsms_capture.specs.declared.packet.Packet.{Packet}
 use Rattle.hsms_capture.specs.declared.packet.Segment.{Segment}
 use Rattle.hsms_capture.specs.declared.packet.Side.{Side}
 use Rattle.hsms_capture.specs.declared.packet.Side.TheVariants as side
-use Rattle.hsms_capture.specs.Wire.{End, active, passive, other, Seen, Placed, Turn, end_of, received, places, placed_at, place_of, ack_place, acknowledged_at, asks_only, turns}
+use Rattle.hsms_capture.specs.Wire.{End, active, passive, other, Seen, Placed, Turn, end_of, received, latest, timed, places, placed_at, place_of, ack_place, acknowledged_at, asks_only, turns}
 use Rattle.hsms_capture.specs.Message.{cells_of}
 use Rattle.hsms_capture.specs.Early.{Drained, put_behind, drained, acked}
 use Rattle.hsms_capture.specs.Laws.{waiting_in}
@@ -39,15 +39,17 @@ pub record Flow : Type 0 where
   pub acknowledged : ℕ
   pub waiting : List Packet
 
+-- both directions, and the greatest time of the packets
 pub record Known : Type 0 where
   pub active : Flow
   pub passive : Flow
+  pub latest : ℕ
 
 abbrev pub flow_of : (End → ℕ) → List Placed → End → Flow
 flow_of base before d = record { base = base d; end = end_of before d; acknowledged = received before d; waiting = map packet_of (waiting_in before d) }
 
 abbrev pub known : (End → ℕ) → List Placed → Known
-known base before = record { active = flow_of base before active; passive = flow_of base before passive }
+known base before = record { active = flow_of base before active; passive = flow_of base before passive; latest = latest before }
 
 -- ---- one segment more
 
@@ -88,6 +90,11 @@ step_at own peer s (Some place) = step_by own peer (packet_of (placed_as own.ack
 abbrev pub step : Flow → Flow → Seen → Step
 step own peer s = step_at own peer s (place_of own.end own.base s.number)
 
+-- the greatest time behind a packet, if there is one
+abbrev pub latest_behind : ℕ → Option Packet → ℕ
+latest_behind n None = n
+latest_behind n (Some p) = p.time
+
 -- ---- behind all segments so far
 
 -- the numbers of both SYNs
@@ -98,7 +105,7 @@ bases a p passive = p
 -- a segment by its place, behind these packets: none where its place is too far
 abbrev pub placed_behind : (End → ℕ) → List Placed → Seen → List Placed
 placed_behind base before s =
-    placed_at (received before s.from) s (place_of (end_of before s.from) (base s.from) s.number) (ack_place before base (other s.from) s.acknowledged)
+    placed_at (received before s.from) (timed before s) (place_of (end_of before s.from) (base s.from) s.number) (ack_place before base (other s.from) s.acknowledged)
 
 -- the packets whose turn is at this segment, in their order
 abbrev pub told_behind : (End → ℕ) → List Placed → Seen → List Packet

@@ -10,6 +10,7 @@ pub mod Connected
 pub mod Finished
 pub mod Arrived
 pub mod Standing
+pub mod Time
 pub mod Held
 pub mod Early
 pub mod Laws

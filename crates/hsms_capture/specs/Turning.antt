@@ -20,7 +20,7 @@ use Rattle.hsms_capture.specs.Telling.{Hears, hears, cut_entries, cut_to, IsLeft
 -- ---- a turn, by what is kept of it
 
 abbrev pub due_of : Turn → Due
-due_of t = record { at = t.at.packet; from = side_of t.own.from; packet = packet_of t.own }
+due_of t = record { at = t.at.packet; time = t.at.time; from = side_of t.own.from; packet = packet_of t.own }
 
 abbrev pub other_side : Side → Side
 other_side side.Active = side.Passive
@@ -62,10 +62,10 @@ given d b =
 
 abbrev pub by_ack : Due → Option ℕ → Both → Given
 by_ack t None b = record { entries = []; both = b }
-by_ack t (Some n) b = given (record { of = other_side t.from; upto = n; packet = t.at }) b
+by_ack t (Some n) b = given (record { of = other_side t.from; upto = n; packet = t.at; time = t.time }) b
 
 abbrev pub brought : Due → Both → Given
-brought t b = given (record { of = t.from; upto = t.packet.to; packet = t.at }) b
+brought t b = given (record { of = t.from; upto = t.packet.to; packet = t.at; time = t.time }) b
 
 abbrev pub and_given : Given → (Both → Given) → Given
 and_given g f = record { entries = g.entries ++ (f g.both).entries; both = (f g.both).both }

@@ -43,7 +43,8 @@ pub record Seen : Type 0 where
   pub pushed : Bool
   pub reset : Bool
 
--- the same by places: where its first cell stands, and behind which cell of the other direction everything was received
+-- The same by places: where its first cell stands, and behind which cell of the other direction everything was received.
+-- Its time is the greatest of the packets up to it.
 pub record Placed : Type 0 where
   pub from : End
   pub packet : ℕ
@@ -173,11 +174,20 @@ placed_at acknowledged s (Some place) ack =
       reset = s.reset;
     } ∷ []
 
+-- the greatest time of these packets
+abbrev pub latest : List Placed → ℕ
+latest [] = 0
+latest (p ∷ ps) = max p.time (latest ps)
+
+-- The clock of a capture may go back, and time doesn't: a segment's time is the greatest of the packets up to it.
+abbrev pub timed : List Placed → Seen → Seen
+timed before s = record s { time = max (latest before) s.time }
+
 -- `base` is the number of each end's SYN
 unfoldable pub places : (End → ℕ) → List Placed → List Seen → List Placed
 places base before [] = before
 places base before (s ∷ ss) =
-    places base (before ++ placed_at (received before s.from) s (place_of (end_of before s.from) (base s.from) s.number)
+    places base (before ++ placed_at (received before s.from) (timed before s) (place_of (end_of before s.from) (base s.from) s.number)
     (ack_place before base (other s.from) s.acknowledged)) ss
 
 -- ---- loss

@@ -2,6 +2,7 @@
 
 ghost use Rattle.std.specs.Prelude.{◌≡◌, IfOk, OnOk};
 ghost use Rattle.hsms_capture.specs.Standing.{Followed, of_side};
+ghost use Rattle.hsms_capture.specs.Time.{FollowsInTime};
 
 use crate::ending::{Ending, finish};
 use crate::held::{Held, HeldFault};
@@ -65,13 +66,15 @@ pub struct Connection {
 }
 
 impl Connection {
-    ghost use Rattle.std.specs.Prelude.{[], IfOk};
+    ghost use Rattle.std.specs.Prelude.{[], IfOk, OnOk};
     ghost use Rattle.hsms_capture.specs.Standing.{EndsAs, Stands, TakesOn};
     ghost use Rattle.hsms_capture.specs.Known.{bases, seen_of};
+    ghost use Rattle.hsms_capture.specs.Time.{EndsInTime, IsInTime, TakesInTime};
 
     /// A connection of which nothing is read yet, by the numbers of both SYNs. Takes no memory.
     pub fn new(alloc: Global, active: u32, passive: u32) -> Connection
-        ensures { Stands result [] (bases active passive) [] }
+        ensures told { Stands result [] (bases active passive) [] }
+        ensures times { IsInTime result [] (bases active passive) [] }
     {
         let teller = Teller {
             streams: Streams {
@@ -113,7 +116,8 @@ impl Connection {
         octets: &[u8],
         told: &mut Vec<Happening>,
     ) -> Result<Connection, ConnectionFault>
-        ensures { IfOk result (λ next. TakesOn self (seen_of segment octets.now) told.old.items next told.new.items) }
+        ensures told { IfOk result (λ next. TakesOn self (seen_of segment octets.now) told.old.items next told.new.items) }
+        ensures times { IfOk result (λ next. TakesInTime self (seen_of segment octets.now) told.old.items next told.new.items) }
     {
         let mut connection = self;
         if connection.ending.is_some() {
@@ -136,7 +140,8 @@ impl Connection {
     ///
     /// `Memory`.
     pub fn end(self, alloc: Global, told: &mut Vec<Happening>) -> Result<Ending, ConnectionFault>
-        ensures { IfOk result (λ ending. EndsAs self told.old.items told.new.items ending) }
+        ensures told { IfOk result (λ ending. EndsAs self told.old.items told.new.items ending) }
+        ensures times { OnOk result (EndsInTime self told.old.items told.new.items) }
     {
         let mut connection = self;
         if let Some(ending) = connection.ending {
@@ -174,7 +179,8 @@ fn follow(
     octets: &[u8],
     told: &mut Vec<Happening>,
 ) -> Result<Option<Ending>, ConnectionFault>
-    ensures { IfOk result (λ r. Followed turns.old reading.old segment octets.now told.old.items turns.new reading.new told.new.items r) }
+    ensures told { IfOk result (λ r. Followed turns.old reading.old segment octets.now told.old.items turns.new reading.new told.new.items r) }
+    ensures times { OnOk result (FollowsInTime turns.old reading.old segment octets.now told.old.items reading.new told.new.items) }
 {
     let acknowledged = of_side(turns.received(), segment.from);
     let mut freed = Vec::new(alloc);

@@ -1,7 +1,8 @@
 //! How what is told of a connection ends.
 
-ghost use Rattle.std.specs.Prelude.{◌≡◌, Some, IfOk};
+ghost use Rattle.std.specs.Prelude.{◌≡◌, Some, IfOk, OnOk};
 ghost use Rattle.hsms_capture.specs.Finished.{Finishes, broken};
+ghost use Rattle.hsms_capture.specs.Time.{TellsInTime};
 ghost use Rattle.hsms_capture.specs.Wire.{earlier};
 
 use crate::streams::Due;
@@ -69,7 +70,8 @@ pub(crate) fn finish(
     differs: Option<u64>,
     told: &mut Vec<Happening>,
 ) -> Result<Ending, AllocError>
-    ensures { IfOk result (λ e. Finishes lost differs teller.old due.old.items told.old.items told.new.items e) }
+    ensures told { IfOk result (λ e. Finishes lost differs teller.old due.old.items told.old.items told.new.items e) }
+    ensures times { OnOk result (TellsInTime due.old.items told.old.items due.new.items told.new.items) }
 {
     if tell_before(alloc, teller, due, least(lost, differs), told)? {
         return Ok(Ending::Complete);

@@ -3,6 +3,7 @@
 ghost use Rattle.std.specs.Prelude.{◌≡◌, ◌++◌, IfOk, OnOk, map};
 ghost use Rattle.hsms_capture.specs.Arrived.{Arrives, Brings, BringsTo, GoesOn, PassesBoth, PassesTo, Reacts, TellsSure, breaks_sure, due_as, or_differs};
 ghost use Rattle.hsms_capture.specs.Message.{cells_of};
+ghost use Rattle.hsms_capture.specs.Time.{QueuesInTime, ReactsInTime, TellsInTime};
 
 use crate::asking::Flags;
 use crate::ending::{Ending, finish, least};
@@ -96,15 +97,21 @@ fn first_different(known: Option<u64>, differs: bool, packet: u64) -> Option<u64
     None
 }
 
-// Puts the packets whose turn is at a packet behind the others.
+// Puts the packets whose turn is at a packet, and at its time, behind the others.
 #[tactic(auto, using(crate::proofs::Arriving::queue_next, crate::proofs::Arriving::queue_all))]
-fn queue(due: &mut VecDeque<Due>, at: u64, from: Side, freed: &[Packet]) -> Result<(), AllocError>
+fn queue(
+    due: &mut VecDeque<Due>,
+    at: Packet,
+    from: Side,
+    freed: &[Packet],
+) -> Result<(), AllocError>
     ensures { OnOk result (due.new.items ≡ due.old.items ++ map (due_as at from) freed.now) }
 {
     let mut rest = freed;
     while let Some((packet, more)) = rest.split_first() {
         due.push_back(Due {
-            at,
+            at: at.packet,
+            time: at.time,
             from,
             packet: *packet,
         })?;
@@ -120,12 +127,13 @@ fn arrive(
     octets: &[u8],
     freed: &[Packet],
 ) -> Result<(), HeldFault>
-    ensures { OnOk result (Arrives arrival octets.now freed.now reading.old reading.new) }
+    ensures known { OnOk result (Arrives arrival octets.now freed.now reading.old reading.new) }
+    ensures times { OnOk result (QueuesInTime arrival.packet reading.old.due.items reading.new.due.items) }
 {
-    let number = arrival.packet.packet;
+    let packet = arrival.packet;
     let differs = bring_to(&mut reading.teller.streams, arrival, octets)?;
-    reading.differs = first_different(reading.differs, differs, number);
-    queue(&mut reading.due, number, arrival.from, freed)?;
+    reading.differs = first_different(reading.differs, differs, packet.packet);
+    queue(&mut reading.due, packet, arrival.from, freed)?;
     Ok(())
 }
 
@@ -152,7 +160,8 @@ fn tell_sure(
     received: BothEnds,
     told: &mut Vec<Happening>,
 ) -> Result<Option<Ending>, AllocError>
-    ensures { IfOk result (λ r. TellsSure received reading.old told.old.items reading.new told.new.items r) }
+    ensures told { IfOk result (λ r. TellsSure received reading.old told.old.items reading.new told.new.items r) }
+    ensures times { OnOk result (TellsInTime reading.old.due.items told.old.items reading.new.due.items told.new.items) }
 {
     let limit = least(reading.losses.first(), reading.differs);
     if tell_before(alloc, &mut reading.teller, &mut reading.due, limit, told)? {
@@ -182,7 +191,8 @@ fn settle(
     received: BothEnds,
     told: &mut Vec<Happening>,
 ) -> Result<Option<Ending>, AllocError>
-    ensures { IfOk result (λ r. TellsSure received reading.old told.old.items reading.new told.new.items r) }
+    ensures told { IfOk result (λ r. TellsSure received reading.old told.old.items reading.new told.new.items r) }
+    ensures times { OnOk result (TellsInTime reading.old.due.items told.old.items reading.new.due.items told.new.items) }
 {
     let first = reading.losses.first();
     let differs = reading.differs;
@@ -208,7 +218,8 @@ fn go_on(
     received: BothEnds,
     told: &mut Vec<Happening>,
 ) -> Result<Option<Ending>, AllocError>
-    ensures { IfOk result (λ r. GoesOn lost received reading.old told.old.items reading.new told.new.items r) }
+    ensures told { IfOk result (λ r. GoesOn lost received reading.old told.old.items reading.new told.new.items r) }
+    ensures times { OnOk result (TellsInTime reading.old.due.items told.old.items reading.new.due.items told.new.items) }
 {
     let Some(packet) = lost else {
         return settle(alloc, reading, received, told);
@@ -234,7 +245,8 @@ pub(crate) fn react(
     freed: &[Packet],
     told: &mut Vec<Happening>,
 ) -> Result<Option<Ending>, HeldFault>
-    ensures { IfOk result (λ r. Reacts arrival octets.now freed.now reading.old told.old.items reading.new told.new.items r) }
+    ensures told { IfOk result (λ r. Reacts arrival octets.now freed.now reading.old told.old.items reading.new told.new.items r) }
+    ensures times { OnOk result (ReactsInTime arrival.packet reading.old told.old.items reading.new told.new.items) }
 {
     arrive(reading, arrival, octets, freed)?;
     let lost = reading

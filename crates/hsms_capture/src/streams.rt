@@ -3,6 +3,7 @@
 ghost use Rattle.std.specs.Prelude.{◌≡◌, IfOk, OnOk};
 ghost use Rattle.hsms_capture.specs.Telling.{Hears, hears};
 ghost use Rattle.hsms_capture.specs.Turning.{AckMoves, Acknowledges, Delivers, Moves, TakesTurn, acked_by, answer_entries, answers, opens, other_side, reset_entry, resets};
+ghost use Rattle.hsms_capture.specs.Time.{KeepsTimes};
 
 use crate::cutting::{Delivery, cut};
 use crate::held::Held;
@@ -10,10 +11,11 @@ use crate::packet::{Packet, Side};
 use crate::telling::{Happening, Telling};
 use std::alloc::{AllocError, Global};
 
-/// A packet whose turn is at a packet.
+/// A packet whose turn is at a packet, and at a time.
 #[derive(Clone, Copy)]
 pub(crate) struct Due {
     pub at: u64,
+    pub time: u64,
     pub from: Side,
     pub packet: Packet,
 }
@@ -92,26 +94,30 @@ pub(crate) fn resets(opened: bool, due: Due) -> bool
 }
 
 // Tells that the connection comes up, if it acknowledges the SYN of the passive end.
+#[tactic(auto, using(crate::proofs::Timing::keeps_none))]
 fn answer(due: Due, telling: &mut Telling, told: &mut Vec<Happening>) -> Result<(), AllocError>
-    ensures { OnOk result (Hears (hears telling.old (answer_entries due)) told.old.items telling.new told.new.items) }
+    ensures told { OnOk result (Hears (hears telling.old (answer_entries due)) told.old.items telling.new told.new.items) }
+    ensures times { OnOk result (KeepsTimes due.at due.time told.old.items told.new.items) }
 {
     if answers(due) {
-        return telling.come_up(due.at, told);
+        return telling.come_up(due.at, due.time, told);
     }
     Ok(())
 }
 
 // Tells that the connection goes down, if it is reset.
+#[tactic(auto, using(crate::proofs::Timing::keeps_none))]
 fn reset(
     opened: bool,
     due: Due,
     telling: &mut Telling,
     told: &mut Vec<Happening>,
 ) -> Result<(), AllocError>
-    ensures { OnOk result (Hears (hears telling.old (reset_entry opened due)) told.old.items telling.new told.new.items) }
+    ensures told { OnOk result (Hears (hears telling.old (reset_entry opened due)) told.old.items telling.new told.new.items) }
+    ensures times { OnOk result (KeepsTimes due.at due.time told.old.items told.new.items) }
 {
     if resets(opened, due) {
-        return telling.go_down(due.at, told);
+        return telling.go_down(due.at, due.time, told);
     }
     Ok(())
 }
@@ -126,6 +132,7 @@ fn deliver(
 ) -> Result<(), AllocError>
     ensures told { OnOk result (Delivers delivery streams.old told.old.items telling.old streams.new told.new.items telling.new) }
     ensures moves { OnOk result (Moves delivery streams.old streams.new) }
+    ensures times { OnOk result (KeepsTimes delivery.packet delivery.time told.old.items told.new.items) }
 {
     match delivery.of {
         Side::Active => {
@@ -141,6 +148,7 @@ fn deliver(
 }
 
 // Tells what a packet acknowledges.
+#[tactic(auto, using(crate::proofs::Timing::keeps_none))]
 fn acknowledge(
     alloc: Global,
     streams: &mut Streams,
@@ -150,6 +158,7 @@ fn acknowledge(
 ) -> Result<(), AllocError>
     ensures told { OnOk result (Acknowledges due streams.old told.old.items telling.old streams.new told.new.items telling.new) }
     ensures moves { OnOk result (AckMoves due streams.old streams.new) }
+    ensures times { OnOk result (KeepsTimes due.at due.time told.old.items told.new.items) }
 {
     let Some(upto) = due.packet.acknowledged else {
         return Ok(());
@@ -158,6 +167,7 @@ fn acknowledge(
         of: other_side(due.from),
         upto,
         packet: due.at,
+        time: due.time,
     };
     deliver(alloc, streams, delivery, telling, told)
 }
@@ -171,7 +181,8 @@ pub(crate) fn turn(
     telling: &mut Telling,
     told: &mut Vec<Happening>,
 ) -> Result<(), AllocError>
-    ensures { OnOk result (TakesTurn opened due streams.old told.old.items telling.old streams.new told.new.items telling.new) }
+    ensures told { OnOk result (TakesTurn opened due streams.old told.old.items telling.old streams.new told.new.items telling.new) }
+    ensures times { OnOk result (KeepsTimes due.at due.time told.old.items told.new.items) }
 {
     answer(due, telling, told)?;
     acknowledge(alloc, streams, due, telling, told)?;
@@ -179,6 +190,7 @@ pub(crate) fn turn(
         of: due.from,
         upto: due.packet.to,
         packet: due.at,
+        time: due.time,
     };
     deliver(alloc, streams, delivery, telling, told)?;
     reset(opened, due, telling, told)

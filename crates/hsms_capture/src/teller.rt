@@ -4,6 +4,7 @@ ghost use Rattle.std.specs.Prelude.{◌≡◌, ◌+◌, ◌∷◌, ◌||◌, tru
 ghost use Rattle.std.specs.VecDeque.{deque_len};
 ghost use Rattle.hsms_capture.specs.Drained.{Drains, IsHeldBack, is_sure};
 ghost use Rattle.hsms_capture.specs.Connected.{TellsBefore};
+ghost use Rattle.hsms_capture.specs.Time.{KeepsTimes, TellsInTime};
 ghost use Rattle.hsms_capture.specs.Turning.{TakesTurn, is_over, opens, resets};
 
 use crate::streams::{Due, Streams, opens, resets, turn};
@@ -28,6 +29,7 @@ fn tell_turn(
 ) -> Result<bool, AllocError>
     ensures told { OnOk result (TakesTurn teller.old.opened due teller.old.streams told.old.items teller.old.telling teller.new.streams told.new.items teller.new.telling) }
     ensures opened { OnOk result (teller.new.opened ≡ (teller.old.opened || opens due)) }
+    ensures times { OnOk result (KeepsTimes due.at due.time told.old.items told.new.items) }
     ensures reset { IfOk result (λ is_reset. is_reset ≡ resets teller.old.opened due) }
 {
     let opened = teller.opened;
@@ -70,7 +72,7 @@ fn is_sure(limit: Option<u64>, packet: u64) -> bool
 }
 
 /// Tells the turns at the front that are at packets before a limit, up to a reset. Gives whether there was one.
-#[tactic(auto, using(crate::proofs::Onward::drained_none))]
+#[tactic(auto, using(crate::proofs::Onward::drained_none, crate::proofs::Timing::tells_none))]
 pub(crate) fn drain(
     alloc: Global,
     teller: &mut Teller,
@@ -79,6 +81,7 @@ pub(crate) fn drain(
     told: &mut Vec<Happening>,
 ) -> Result<bool, AllocError>
     ensures told { IfOk result (λ closed. Drains limit due.old.items teller.old told.old.items due.new.items teller.new told.new.items closed) }
+    ensures times { OnOk result (TellsInTime due.old.items told.old.items due.new.items told.new.items) }
     ensures back { IfOk result (λ closed. closed ≡ false → IsHeldBack limit due.new.items) }
 {
     while let Some(first) = take_sure(due, limit) {
@@ -109,7 +112,8 @@ pub(crate) fn tell_before(
     limit: Option<u64>,
     told: &mut Vec<Happening>,
 ) -> Result<bool, AllocError>
-    ensures { IfOk result (λ closed. TellsBefore limit teller.old due.old.items told.old.items teller.new due.new.items told.new.items closed) }
+    ensures told { IfOk result (λ closed. TellsBefore limit teller.old due.old.items told.old.items teller.new due.new.items told.new.items closed) }
+    ensures times { OnOk result (TellsInTime due.old.items told.old.items due.new.items told.new.items) }
 {
     if drain(alloc, teller, due, limit, told)? {
         return Ok(true);

@@ -25,11 +25,14 @@ pub enum Event {
     Down,
 }
 
-/// What happens on a connection, with the packet at which it does.
+/// What happens on a connection, with the packet at which it does, and when.
 #[derive(Drop)]
 pub struct Happening {
     /// The number of the packet.
     pub packet: u64,
+    /// The greatest time at which a packet of the connection up to this one was captured, in milliseconds since 1970. It
+    /// is never below that of what happened before.
+    pub time: u64,
     /// What happens.
     pub event: Event,
 }
@@ -46,20 +49,25 @@ pub(crate) enum Telling {
 impl Telling {
     ghost use Rattle.std.specs.Prelude.{OnOk};
     ghost use Rattle.hsms_capture.specs.Telling.{Hears, comes_up, goes_down, says, says_first};
+    ghost use Rattle.hsms_capture.specs.Time.{KeepsTimes};
 
     // The SYN of the passive end is acknowledged at a packet, or the first message is there.
+    #[tactic(auto, using(crate::proofs::Timing::keeps_none, crate::proofs::Timing::keeps_one, crate::proofs::Timing::keeps_both))]
     pub(crate) fn come_up(
         &mut self,
         packet: u64,
+        time: u64,
         told: &mut Vec<Happening>,
     ) -> Result<(), AllocError>
-        ensures { OnOk result (Hears (comes_up self.old packet) told.old.items self.new told.new.items) }
+        ensures told { OnOk result (Hears (comes_up self.old packet) told.old.items self.new told.new.items) }
+        ensures times { OnOk result (KeepsTimes packet time told.old.items told.new.items) }
     {
         let Telling::Waiting(early) = *self else {
             return Ok(());
         };
         told.push(Happening {
             packet,
+            time,
             event: Event::Up,
         })?;
         if early != Some(packet) {
@@ -68,6 +76,7 @@ impl Telling {
         }
         told.push(Happening {
             packet,
+            time,
             event: Event::Down,
         })?;
         *self = Telling::Over;
@@ -75,12 +84,15 @@ impl Telling {
     }
 
     // An end ends its stream at a packet, or resets the connection.
+    #[tactic(auto, using(crate::proofs::Timing::keeps_none, crate::proofs::Timing::keeps_one))]
     pub(crate) fn go_down(
         &mut self,
         packet: u64,
+        time: u64,
         told: &mut Vec<Happening>,
     ) -> Result<(), AllocError>
-        ensures { OnOk result (Hears (goes_down self.old packet) told.old.items self.new told.new.items) }
+        ensures told { OnOk result (Hears (goes_down self.old packet) told.old.items self.new told.new.items) }
+        ensures times { OnOk result (KeepsTimes packet time told.old.items told.new.items) }
     {
         match *self {
             Telling::Waiting(_) => {
@@ -90,6 +102,7 @@ impl Telling {
             Telling::Running(_) => {
                 told.push(Happening {
                     packet,
+                    time,
                     event: Event::Down,
                 })?;
                 *self = Telling::Over;
@@ -103,25 +116,30 @@ impl Telling {
     pub(crate) fn say(
         &mut self,
         packet: u64,
+        time: u64,
         from: Side,
         octets: Vec<u8>,
         told: &mut Vec<Happening>,
     ) -> Result<(), AllocError>
-        ensures { OnOk result (Hears (says_first self.old packet from octets.items) told.old.items self.new told.new.items) }
+        ensures told { OnOk result (Hears (says_first self.old packet from octets.items) told.old.items self.new told.new.items) }
+        ensures times { OnOk result (KeepsTimes packet time told.old.items told.new.items) }
     {
-        self.come_up(packet, told)?;
-        self.say_up(packet, from, octets, told)
+        self.come_up(packet, time, told)?;
+        self.say_up(packet, time, from, octets, told)
     }
 
     // The same where it came up before.
+    #[tactic(auto, using(crate::proofs::Timing::keeps_none, crate::proofs::Timing::keeps_one))]
     fn say_up(
         &mut self,
         packet: u64,
+        time: u64,
         from: Side,
         octets: Vec<u8>,
         told: &mut Vec<Happening>,
     ) -> Result<(), AllocError>
-        ensures { OnOk result (Hears (says self.old packet from octets.items) told.old.items self.new told.new.items) }
+        ensures told { OnOk result (Hears (says self.old packet from octets.items) told.old.items self.new told.new.items) }
+        ensures times { OnOk result (KeepsTimes packet time told.old.items told.new.items) }
     {
         let Telling::Running(separated) = *self else {
             return Ok(());
@@ -132,6 +150,7 @@ impl Telling {
         let by = separated_by(separated, from, &octets);
         told.push(Happening {
             packet,
+            time,
             event: Event::Message { from, octets },
         })?;
         *self = Telling::Running(by);

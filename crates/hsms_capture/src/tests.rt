@@ -237,12 +237,12 @@ fn kind_of(event: &Event) -> u8 {
     }
 }
 
-// Both SYNs have the number 1000. What happens is told by packets and kinds.
+// Both SYNs have the number 1000. What happens is told by packets, times and kinds.
 fn happens(
     rt: &impl Abort,
     alloc: Global,
     segments: &[(Segment, &[u8])],
-    wanted: &[(u64, u8)],
+    wanted: &[(u64, u64, u8)],
     ending: Ending,
 ) -> Result<(), ConnectionFault> {
     let mut connection = Connection::new(alloc, 1000, 1000);
@@ -253,23 +253,27 @@ fn happens(
     let found = connection.end(alloc, &mut told)?;
     assert!(rt; found == ending);
     assert!(rt; told.len() == wanted.len());
-    for (happening, (packet, kind)) in told.iter().zip(wanted.iter()) {
+    for (happening, (packet, time, kind)) in told.iter().zip(wanted.iter()) {
         assert!(rt; happening.packet == *packet);
+        assert!(rt; happening.time == *time);
         assert!(rt; kind_of(&happening.event) == *kind);
     }
     Ok(())
 }
 
-// The SYN and ACK is captured behind the Select.req; what crosses a Separate is left out; a reset ends it.
+// The SYN and ACK is captured behind the Select.req, whose time is past that of the packets behind it; what crosses a
+// Separate is left out; a reset ends it.
 #[test]
 fn a_whole_connection(rt: std::rt::HostRuntime) -> Result<(), ConnectionFault> {
     let none: &[u8] = [].as_slice();
     let mut resets = sent(Side::Passive, 9, 1029, Some(1029));
     resets.reset = true;
+    let mut ahead = sent(Side::Active, 3, 1001, Some(1001));
+    ahead.time = 7;
     let segments = [
         (sent(Side::Active, 1, 1000, None), none),
         (sent(Side::Active, 2, 1001, Some(1001)), none),
-        (sent(Side::Active, 3, 1001, Some(1001)), SELECT.as_slice()),
+        (ahead, SELECT.as_slice()),
         (sent(Side::Passive, 4, 1000, Some(1001)), none),
         (
             sent(Side::Passive, 5, 1001, Some(1015)),
@@ -283,7 +287,7 @@ fn a_whole_connection(rt: std::rt::HostRuntime) -> Result<(), ConnectionFault> {
         (sent(Side::Active, 8, 1029, Some(1029)), none),
         (resets, none),
     ];
-    let wanted = [(2, 100), (3, 1), (5, 2), (6, 9), (9, 200)];
+    let wanted = [(2, 2, 100), (3, 7, 1), (5, 7, 2), (6, 7, 9), (9, 9, 200)];
     happens(
         &rt,
         rt.alloc(),
@@ -305,7 +309,7 @@ fn a_lost_reply(rt: std::rt::HostRuntime) -> Result<(), ConnectionFault> {
         (sent(Side::Active, 5, 1015, Some(1015)), none),
         (sent(Side::Active, 6, 1015, Some(1015)), SEPARATE.as_slice()),
     ];
-    let wanted = [(3, 100), (4, 1)];
+    let wanted = [(3, 3, 100), (4, 4, 1)];
     happens(
         &rt,
         rt.alloc(),
@@ -330,7 +334,7 @@ fn a_copy_that_differs(rt: std::rt::HostRuntime) -> Result<(), ConnectionFault> 
             SELECTED.as_slice(),
         ),
     ];
-    let wanted = [(3, 100), (4, 1)];
+    let wanted = [(3, 3, 100), (4, 4, 1)];
     happens(
         &rt,
         rt.alloc(),

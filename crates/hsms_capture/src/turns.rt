@@ -1,7 +1,7 @@
 //! Packets of one connection by their places, and the turn of each.
 
-ghost use Rattle.std.specs.Prelude.{◌≡◌, ◌≤◌, ◌<◌, ◌+◌, ◌^◌, ◌++◌, IfOk, OnOk, OnErr, None, length};
-ghost use Rattle.hsms_capture.specs.Known.{Step, packet_of, placed_as, seen_of, step, step_by};
+ghost use Rattle.std.specs.Prelude.{◌≡◌, ◌≤◌, ◌<◌, ◌+◌, ◌^◌, ◌++◌, IfOk, OnOk, OnErr, None, length, max};
+ghost use Rattle.hsms_capture.specs.Known.{Step, latest_behind, packet_of, placed_as, seen_of, step, step_by};
 
 use crate::asking::only_asks;
 use crate::early::{free, put};
@@ -74,11 +74,13 @@ impl Direction {
 }
 
 /// What is known of both directions of a connection: where the end is of what is there without a gap, what was
-/// acknowledged, and which packets wait behind a gap. Contracts see what `known` says.
+/// acknowledged, and which packets wait behind a gap; and the greatest time of its packets. Contracts see what `known`
+/// says.
 #[derive(Drop)]
 pub struct Turns {
     active: Direction,
     passive: Direction,
+    latest: u64,
 }
 
 impl Model for Turns {
@@ -86,7 +88,7 @@ impl Model for Turns {
 
     ghost Value = { Known };
 
-    ghost view = { λ t. record { active = t.active; passive = t.passive } };
+    ghost view = { λ t. record { active = t.active; passive = t.passive; latest = t.latest } };
 }
 
 impl Turns {
@@ -101,12 +103,13 @@ impl Turns {
         Turns {
             active: Direction::new(alloc, active),
             passive: Direction::new(alloc, passive),
+            latest: 0,
         }
     }
 
     /// Takes a segment with these octets, and tells the packets whose turn is at it, in their order: none where it stands
     /// behind a gap or is too far away; else itself, and then those that it frees. Gives the segment by its place, if it
-    /// isn't too far away.
+    /// isn't too far away, with the greatest time of the packets up to it.
     ///
     /// # Errors
     ///
@@ -124,15 +127,18 @@ impl Turns {
         if self.active.end.max(self.passive.end) >= FAR {
             return Err(TurnsFault::Far);
         }
+        let timed = raised(self.latest, segment);
         match segment.from {
-            Side::Active => Ok(follow(&mut self.active, &mut self.passive, segment, octets, told)?),
-            Side::Passive => Ok(follow(
-                &mut self.passive,
-                &mut self.active,
-                segment,
-                octets,
-                told,
-            )?),
+            Side::Active => {
+                let placed = follow(&mut self.active, &mut self.passive, timed, octets, told)?;
+                self.latest = latest_behind(self.latest, placed);
+                Ok(placed)
+            }
+            Side::Passive => {
+                let placed = follow(&mut self.passive, &mut self.active, timed, octets, told)?;
+                self.latest = latest_behind(self.latest, placed);
+                Ok(placed)
+            }
         }
     }
 
@@ -154,6 +160,26 @@ impl Turns {
             active: self.active.acknowledged,
             passive: self.passive.acknowledged,
         }
+    }
+}
+
+// A segment with the greatest time of the packets up to it.
+fn raised(latest: u64, segment: Segment) -> Segment
+    ensures { result ≡ record segment { time = max latest segment.time } }
+{
+    Segment {
+        time: latest.max(segment.time),
+        ..segment
+    }
+}
+
+// The greatest time behind a packet, if it has a place.
+fn latest_behind(latest: u64, placed: Option<Packet>) -> u64
+    ensures { result ≡ latest_behind latest placed }
+{
+    match placed {
+        Some(packet) => packet.time,
+        None => latest,
     }
 }
 

@@ -3,10 +3,11 @@ use Rattle.hsms_capture.specs.declared.packet.Packet.{Packet}
 use Rattle.hsms_capture.specs.Arrived.{Reacts}
 use Rattle.hsms_capture.specs.Known.{GoesOn, seen_of}
 use Rattle.hsms_capture.proofs.Connecting.{followed_none, followed_some}
+use Rattle.hsms_capture.proofs.Clocked.{followed_in_none, followed_in_some}
 use Rattle.hsms_capture.proofs.connection.follow.Goals as goal
 
-pub returns-in_default : goal.returns-in_default
-returns-in_default c =
+pub returns-in_default-clause-told : goal.returns-in_default-clause-told
+returns-in_default-clause-told c =
     let s = seen_of c.args.segment c.args.octets.now in
     let freed = c.take.new.told.items in
     let none : c.in_ok-packet.field-0 ≡ None = (let e = c.in_default.is in cc) in
@@ -14,8 +15,8 @@ returns-in_default c =
     (subst (λ (o : Option Packet). GoesOn c.args.turns.now [] s c.take.new.self freed o) none
     (subst (λ (ps : List Packet). GoesOn c.args.turns.now ps s c.take.new.self freed c.in_ok-packet.field-0) c.new-freed.ensures.items c.in_ok-packet.ensures.ok))
 
-pub returns : goal.returns
-returns c =
+pub returns-clause-told : goal.returns-clause-told
+returns-clause-told c =
     let s = seen_of c.args.segment c.args.octets.now in
     let freed = c.take.new.told.items in
     let some : c.in_ok-packet.field-0 ≡ Some c.in-Some.packet = (let e = c.in-Some.is in cc) in
@@ -32,4 +33,18 @@ returns c =
       ends = c.ends.result;
       received = c.received-2.result;
     }) c.args.octets.now ps c.args.reading.now c.args.told.now.items c.react.new.reading c.react.new.told.items c.in_ok-react.field-0)
-    (let e = c.deref.ensures.value in cc) c.in_ok-react.ensures)
+    (let e = c.deref.ensures.value in cc) c.in_ok-react.ensures.told)
+
+pub returns-in_default-clause-times : goal.returns-in_default-clause-times
+returns-in_default-clause-times c = followed_in_none c.args.turns.now c.args.reading.now c.args.segment c.args.octets.now c.args.told.now.items
+
+pub returns-clause-times : goal.returns-clause-times
+returns-clause-times c =
+    let s = seen_of c.args.segment c.args.octets.now in
+    let freed = c.take.new.told.items in
+    let some : c.in_ok-packet.field-0 ≡ Some c.in-Some.packet = (let e = c.in-Some.is in cc) in
+    followed_in_some c.args.turns.now c.take.new.self c.args.reading.now c.react.new.reading c.args.segment c.args.octets.now c.args.told.now.items c.react.new.told.items freed
+    c.in-Some.packet
+    (subst (λ (o : Option Packet). GoesOn c.args.turns.now [] s c.take.new.self freed o) some
+    (subst (λ (ps : List Packet). GoesOn c.args.turns.now ps s c.take.new.self freed c.in_ok-packet.field-0) c.new-freed.ensures.items c.in_ok-packet.ensures.ok))
+    c.in_ok-react.ensures.times

@@ -4,6 +4,7 @@ use Rattle.hsms_capture.specs.Told.{entry_of}
 use Rattle.hsms_capture.specs.Held.{piece_from}
 use Rattle.hsms_capture.specs.Telling.{hears, entries_as}
 use Rattle.hsms_capture.proofs.Slicing.{cut_none, cut_one, heard_as}
+use Rattle.hsms_capture.proofs.Timing.{keeps_both}
 use Rattle.hsms_capture.proofs.cutting.cut.Goals as goal
 
 pub loop-count-preserved : goal.loop-count-preserved
@@ -21,10 +22,11 @@ loop-count-preserved c =
           c.in-Some.ensures.piece fits.1
           (λ low le. heard_as (hears t (entries_as d n c.in_ok-piece.piece)) (hears t (entry_of d n [] (take count (piece_from s place))))
           c.loop-count.told.items c.tell.new.told.items c.tell.new.telling
-          (ap (hears t) (sym (c.in_ok-piece.ensures low le d n))) c.in_ok-tell.ensures)
+          (ap (hears t) (sym (c.in_ok-piece.ensures low le d n))) c.in_ok-tell.ensures.told)
           h),
       omega (arith, inv.1),
       omega (arith, inv.2, fits.1),
+      keeps_both n c.args.delivery.time c.args.told.now.items c.loop-count.told.items c.tell.new.told.items inv.3 c.in_ok-tell.ensures.times,
     )
 
 pub returns-clause-told : goal.returns-clause-told

@@ -14,6 +14,6 @@ returns-clause-told c =
     on_ok_weaker c.deliver.result
     (λ d. some_acked c.args.due c.args.streams.now c.deliver.new.streams c.args.told.now.items c.deliver.new.told.items c.args.telling.now c.deliver.new.telling c.in-Some.upto
     (let e = c.in-Some.is in cc)
-    (subst (λ (s : Side). Delivers (record { of = s; upto = c.in-Some.upto; packet = c.args.due.at }) c.args.streams.now c.args.told.now.items c.args.telling.now
+    (subst (λ (s : Side). Delivers (record { of = s; upto = c.in-Some.upto; packet = c.args.due.at; time = c.args.due.time }) c.args.streams.now c.args.told.now.items c.args.telling.now
     c.deliver.new.streams c.deliver.new.told.items c.deliver.new.telling) c.other_side.ensures d))
     c.deliver.ensures.told

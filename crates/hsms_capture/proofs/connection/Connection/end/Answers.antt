@@ -1,10 +1,17 @@
 use Rattle.hsms_capture.proofs.Connecting.{ends_before, ends_now}
+use Rattle.hsms_capture.proofs.Clocked.{ends_in_time, ends_later}
 use Rattle.hsms_capture.proofs.connection.Connection.end.Goals as goal
 
-pub returns-in-Some : goal.returns-in-Some
-returns-in-Some c = ends_before c.args.self c.args.told.now.items c.in-Some.ending (let e = c.in-Some.is in cc)
+pub returns-in-Some-clause-told : goal.returns-in-Some-clause-told
+returns-in-Some-clause-told c = ends_before c.args.self c.args.told.now.items c.in-Some.ending (let e = c.in-Some.is in cc)
 
-pub returns : goal.returns
-returns c =
+pub returns-clause-told : goal.returns-clause-told
+returns-clause-told c =
     ends_now c.args.self c.first-lost.result c.args.told.now.items c.finish.new.told.items c.in_ok-finish.field-0 (let e = c.in_default.is in cc) c.first-lost.ensures.loss
-    c.in_ok-finish.ensures
+    c.in_ok-finish.ensures.told
+
+pub returns-in-Some-clause-times : goal.returns-in-Some-clause-times
+returns-in-Some-clause-times c = ends_in_time c.args.self c.args.told.now.items
+
+pub returns-clause-times : goal.returns-clause-times
+returns-clause-times c = ends_later c.args.self c.args.told.now.items c.finish.new.told.items c.finish.new.due.items c.in_ok-finish.ensures.times

@@ -1,7 +1,18 @@
+use Rattle.hsms_capture.specs.declared.connection.Connection.{Connection}
 use Rattle.hsms_capture.specs.Known.{seen_of}
 use Rattle.hsms_capture.proofs.Connecting.{stays}
+use Rattle.hsms_capture.proofs.Clocked.{goes_in_time, stays_in_time}
 use Rattle.hsms_capture.proofs.connection.Connection.take.Goals as goal
 
-pub returns-then-is_some : goal.returns-then-is_some
-returns-then-is_some c =
+pub returns-then-is_some-clause-told : goal.returns-then-is_some-clause-told
+returns-then-is_some-clause-told c =
     stays c.args.self (seen_of c.args.segment c.args.octets.now) c.args.told.now.items (let e = c.is_some.ensures in let f = c.if-is_some.true in cc)
+
+pub returns-then-is_some-clause-times : goal.returns-then-is_some-clause-times
+returns-then-is_some-clause-times c = stays_in_time c.args.self (seen_of c.args.segment c.args.octets.now) c.args.told.now.items
+
+pub returns-clause-times : goal.returns-clause-times
+returns-clause-times c =
+    let next : Connection = record { turns = c.follow.new.turns; reading = c.follow.new.reading; ending = c.in_ok-connection.field-0 } in
+    goes_in_time c.args.self next c.args.segment c.args.octets.now c.args.told.now.items c.follow.new.told.items (let e = c.is_some.ensures in let f = c.if-is_some.false in cc)
+    c.in_ok-connection.ensures.times

@@ -1,0 +1,105 @@
+-- When what is told happened, whatever follows.
+use Rattle.std.proofs.Common.{◌≡◌, ◌<◌, ◌==◌, ◌++◌, ◌∷◌, ℕ, Bool, true, false, cond, List, [], Option, Some, None, is_some, refl, sym, ap, subst, ◌∙◌, arith}
+use Rattle.std.proofs.lemmas.Bool.{eq-eqb, eqb-true}
+use Rattle.std.proofs.lemmas.List.{append-nil, append_assoc}
+use Rattle.hsms_capture.specs.declared.connection.Connection.{Connection}
+use Rattle.hsms_capture.specs.declared.ending.Ending.{Ending}
+use Rattle.hsms_capture.specs.declared.packet.Packet.{Packet}
+use Rattle.hsms_capture.specs.declared.packet.Segment.{Segment}
+use Rattle.hsms_capture.specs.declared.reading.Reading.{Reading}
+use Rattle.hsms_capture.specs.declared.streams.Due.{Due}
+use Rattle.hsms_capture.specs.declared.telling.Happening.{Happening}
+use Rattle.hsms_capture.specs.Wire.{End, Placed, Seen, ack_place, end_of, other, place_of, places, received, timed}
+use Rattle.hsms_capture.specs.Known.{GoesOn, Known, packet_of, placed_behind, seen_of}
+use Rattle.hsms_capture.specs.Laws.{AreNumbered}
+use Rattle.hsms_capture.specs.Connected.{AreRising}
+use Rattle.hsms_capture.specs.Standing.{StandsAs}
+use Rattle.hsms_capture.specs.Time.{AreDueTimed, AreTimed, EndsInTime, FollowsInTime, IsInTimeOf, ReactsInTime, TakesInTime, TellsInTime, time_at}
+use Rattle.hsms_capture.proofs.Connecting.{all_rise, placed_one}
+use Rattle.hsms_capture.proofs.Stepped.{one_more}
+use Rattle.hsms_capture.proofs.Sure.{nothing_follows}
+
+-- ---- the time of a packet stays, whatever follows
+
+greater : (n : ℕ) (ps : List Placed) (p : Placed) (later : List Placed) → AreRising n (ps ++ p ∷ later) → n < p.packet
+greater n [] p later h = h.0
+greater n (q ∷ ps) p later h = let a = h.0 in let b = greater q.packet ps p later h.1 in omega (arith, a, b)
+
+pub time_is : (n : ℕ) (ps : List Placed) (p : Placed) (later : List Placed) → AreRising n (ps ++ p ∷ later) → time_at (ps ++ p ∷ later) p.packet ≡ p.time
+unfolding time_at
+time_is n [] p later h = rw (eq-eqb p.packet p.packet refl) refl
+time_is n (q ∷ ps) p later h = by_test (q.packet == p.packet) refl (greater q.packet ps p later h.1) (time_is q.packet ps p later h.1)
+  where
+    by_test : (b : Bool) → (q.packet == p.packet) ≡ b → q.packet < p.packet → time_at (ps ++ p ∷ later) p.packet ≡ p.time
+        → cond b q.time (time_at (ps ++ p ∷ later) p.packet) ≡ p.time
+    by_test true e lt later_is = let same = eqb-true q.packet p.packet e in absurd (omega (arith, same, lt))
+    by_test false e lt later_is = later_is
+
+abbrev TimedBy : Reading → List Happening → List Placed → Type 0
+TimedBy r told all = AreDueTimed (time_at all) r.due.items × AreTimed (time_at all) told
+
+in_time_more : (r : Reading) (told : List Happening) (ps qs : List Placed) → IsInTimeOf r told ps → IsInTimeOf r told (ps ++ qs)
+in_time_more r told ps qs h later rises =
+    let whole : (ps ++ qs) ++ later ≡ ps ++ (qs ++ later) = append_assoc ps qs later in
+    subst (TimedBy r told) (sym whole) (h (qs ++ later) (subst (AreRising 0) whole rises))
+
+in_time_next : (r next : Reading) (told later : List Happening) (ps : List Placed) (p : Placed) → IsInTimeOf r told ps → ReactsInTime (packet_of p) r told next later
+    → IsInTimeOf next later (ps ++ p ∷ [])
+in_time_next r next told later ps p h reacts more rises =
+    let whole : (ps ++ p ∷ []) ++ more ≡ ps ++ p ∷ more = append_assoc ps (p ∷ []) more in
+    let all : AreRising 0 (ps ++ p ∷ more) = subst (AreRising 0) whole rises in
+    let g = h (p ∷ more) all in
+    subst (TimedBy next later) (sym whole) (reacts (time_at (ps ++ p ∷ more)) (time_is 0 ps p more all) g.0 g.1)
+
+-- ---- a segment more
+
+stays_by : (r : Reading) (told : List Happening) (base : End → ℕ) (before : List Seen) (s : Seen) → IsInTimeOf r told (places base [] before)
+    → IsInTimeOf r told (places base [] (before ++ s ∷ []))
+stays_by r told base before s h =
+    let ps = places base [] before in
+    subst (IsInTimeOf r told) (sym (one_more base before s)) (in_time_more r told ps (placed_behind base ps s) h)
+
+pub followed_in_none : (turns : Known) (r : Reading) (segment : Segment) (octets : List ℕ) (told : List Happening) → FollowsInTime turns r segment octets told r told
+followed_in_none turns r segment octets told base before stands h = stays_by r told base before (seen_of segment octets) h
+
+pub followed_in_some : (old new : Known) (r next : Reading) (segment : Segment) (octets : List ℕ) (told later : List Happening) (freed : List Packet) (packet : Packet)
+    → GoesOn old [] (seen_of segment octets) new freed (Some packet) → ReactsInTime packet r told next later → FollowsInTime old r segment octets told next later
+followed_in_some old new r next segment octets told later freed packet goes reacts base before stands h =
+    let s = seen_of segment octets in
+    let ps = places base [] before in
+    let g = goes base before stands.0 in
+    let one = placed_one (received ps s.from) (timed ps s) (place_of (end_of ps s.from) (base s.from) s.number) (ack_place ps base (other s.from) s.acknowledged) packet g.2 in
+    let now : places base [] (before ++ s ∷ []) ≡ ps ++ one.0 ∷ [] = one_more base before s ∙ ap (λ (z : List Placed). ps ++ z) one.1 in
+    subst (IsInTimeOf next later) (sym now)
+    (in_time_next r next told later ps one.0 h (subst (λ (q : Packet). ReactsInTime q r told next later) one.2 reacts))
+
+pub stays_in_time : (c : Connection) (s : Seen) (told : List Happening) → TakesInTime c s told c told
+stays_in_time c s told base before stands h = stays_by c.reading told base before s h
+
+not_ended : (o : Option Ending) → is_some o ≡ false → o ≡ None
+not_ended None e = refl
+not_ended (Some x) e = absurd cc
+
+pub goes_in_time : (c next : Connection) (segment : Segment) (octets : List ℕ) (told later : List Happening) → is_some c.ending ≡ false
+    → FollowsInTime c.turns c.reading segment octets told next.reading later → TakesInTime c (seen_of segment octets) told next later
+goes_in_time c next segment octets told later e followed base before stands h =
+    followed base before (subst (λ (o : Option Ending). StandsAs o c.turns c.reading told base before) (not_ended c.ending e) stands) h
+
+-- ---- the beginning and the end
+
+pub begins_in_time : (r : Reading) (base : End → ℕ) → r.due.items ≡ [] → IsInTimeOf r [] (places base [] [])
+unfolding places
+begins_in_time r base none later rises = (subst (AreDueTimed (time_at later)) (sym none) tt, tt)
+
+in_time_now : (r : Reading) (told : List Happening) (base : End → ℕ) (seen : List Seen) → AreNumbered 0 seen → IsInTimeOf r told (places base [] seen) → TimedBy r told (places base [] seen)
+in_time_now r told base seen numbered h =
+    let ps = places base [] seen in
+    subst (TimedBy r told) (append-nil ps) (h [] (nothing_follows ps (all_rise base seen numbered)))
+
+pub ends_in_time : (c : Connection) (told : List Happening) → EndsInTime c told told
+ends_in_time c told base seen numbered h = (in_time_now c.reading told base seen numbered h).1
+
+pub ends_later : (c : Connection) (told later : List Happening) (left : List Due) → TellsInTime c.reading.due.items told left later → EndsInTime c told later
+ends_later c told later left tells base seen numbered h =
+    let now = in_time_now c.reading told base seen numbered h in
+    (tells (time_at (places base [] seen)) now.0 now.1).1

@@ -1,0 +1,69 @@
+-- When what is told happened: at the greatest time at which a packet of the connection up to its own was captured.
+use Rattle.std.specs.Prelude.{◌≡◌, ◌==◌, ◌++◌, ◌∷◌, if◌then◌else◌, ℕ, List, [], None}
+use Rattle.hsms_capture.specs.declared.connection.Connection.{Connection}
+use Rattle.hsms_capture.specs.declared.packet.Packet.{Packet}
+use Rattle.hsms_capture.specs.declared.packet.Segment.{Segment}
+use Rattle.hsms_capture.specs.declared.reading.Reading.{Reading}
+use Rattle.hsms_capture.specs.declared.streams.Due.{Due}
+use Rattle.hsms_capture.specs.declared.telling.Happening.{Happening}
+use Rattle.hsms_capture.specs.Wire.{End, Placed, Seen, places}
+use Rattle.hsms_capture.specs.Known.{Known, seen_of}
+use Rattle.hsms_capture.specs.Laws.{AreNumbered}
+use Rattle.hsms_capture.specs.Connected.{AreRising}
+use Rattle.hsms_capture.specs.Drained.{EachDue}
+use Rattle.hsms_capture.specs.Standing.{Stands, StandsAs}
+
+-- The time of the packet with a number: no packet has one that is less than that of a packet before it.
+unfoldable pub time_at : List Placed → ℕ → ℕ
+time_at [] n = 0
+time_at (p ∷ ps) n = if p.packet == n then p.time else time_at ps n
+
+-- each happened at the time of its packet
+abbrev pub AreTimed : (ℕ → ℕ) → List Happening → Type 0
+AreTimed time [] = Unit {0}
+AreTimed time (h ∷ hs) = (h.time ≡ time h.packet) × AreTimed time hs
+
+-- ---- what code does
+
+abbrev pub AreDueTimed : (ℕ → ℕ) → List Due → Type 0
+AreDueTimed time dues = EachDue (λ t. time t.at ≡ t.time) dues
+
+-- what more is told is told at a packet and its time
+abbrev pub KeepsTimes : ℕ → ℕ → List Happening → List Happening → Type 0
+KeepsTimes packet at told later = (time : ℕ → ℕ) → time packet ≡ at → AreTimed time told → AreTimed time later
+
+-- what more is told is told at the times of the turns that wait, of which others wait still
+abbrev pub TellsInTime : List Due → List Happening → List Due → List Happening → Type 0
+TellsInTime dues told left later = (time : ℕ → ℕ) → AreDueTimed time dues → AreTimed time told → AreDueTimed time left × AreTimed time later
+
+-- the turns at a packet wait with its time
+abbrev pub QueuesInTime : Packet → List Due → List Due → Type 0
+QueuesInTime p dues later = (time : ℕ → ℕ) → time p.packet ≡ p.time → AreDueTimed time dues → AreDueTimed time later
+
+-- as a packet comes
+abbrev pub ReactsInTime : Packet → Reading → List Happening → Reading → List Happening → Type 0
+ReactsInTime p old told new later =
+    (time : ℕ → ℕ) → time p.packet ≡ p.time → AreDueTimed time old.due.items → AreTimed time told → AreDueTimed time new.due.items × AreTimed time later
+
+-- whatever follows, what was told, and what waits to be told, has the time of its packet
+abbrev pub IsInTimeOf : Reading → List Happening → List Placed → Type 0
+IsInTimeOf r told ps =
+    (later : List Placed) → AreRising 0 (ps ++ later) → AreDueTimed (time_at (ps ++ later)) r.due.items × AreTimed (time_at (ps ++ later)) told
+
+abbrev pub IsInTime : Connection → List Happening → (End → ℕ) → List Seen → Type 0
+IsInTime c told base seen = IsInTimeOf c.reading told (places base [] seen)
+
+abbrev pub FollowsInTime : Known → Reading → Segment → List ℕ → List Happening → Reading → List Happening → Type 0
+FollowsInTime turns old segment octets told new later =
+    (base : End → ℕ) (before : List Seen) → StandsAs None turns old told base before → IsInTimeOf old told (places base [] before)
+    → IsInTimeOf new later (places base [] (before ++ seen_of segment octets ∷ []))
+
+-- one segment more
+abbrev pub TakesInTime : Connection → Seen → List Happening → Connection → List Happening → Type 0
+TakesInTime old s told new later =
+    (base : End → ℕ) (before : List Seen) → Stands old told base before → IsInTime old told base before → IsInTime new later base (before ++ s ∷ [])
+
+-- what is told of these segments has the times of its packets
+abbrev pub EndsInTime : Connection → List Happening → List Happening → Type 0
+EndsInTime c told later =
+    (base : End → ℕ) (seen : List Seen) → AreNumbered 0 seen → IsInTime c told base seen → AreTimed (time_at (places base [] seen)) later
