@@ -1,6 +1,6 @@
 -- When what is told happened, whatever follows.
-use Rattle.std.proofs.Common.{◌≡◌, ◌<◌, ◌==◌, ◌++◌, ◌∷◌, ℕ, Bool, true, false, cond, List, [], Option, Some, None, is_some, refl, sym, ap, subst, ◌∙◌, arith}
-use Rattle.std.proofs.lemmas.Bool.{eq-eqb, eqb-true}
+use Rattle.std.proofs.Common.{◌≡◌, ◌<◌, ◌≤◌, ◌++◌, ◌∷◌, ℕ, Bool, true, false, max, List, [], Option, Some, None, is_some, refl, sym, ap, subst, ◌∙◌, arith}
+use Rattle.std.proofs.lemmas.Bool.{le-leb, lt-leb}
 use Rattle.std.proofs.lemmas.List.{append-nil, append_assoc}
 use Rattle.hsms_capture.specs.declared.connection.Connection.{Connection}
 use Rattle.hsms_capture.specs.declared.ending.Ending.{Ending}
@@ -9,7 +9,7 @@ use Rattle.hsms_capture.specs.declared.packet.Segment.{Segment}
 use Rattle.hsms_capture.specs.declared.reading.Reading.{Reading}
 use Rattle.hsms_capture.specs.declared.streams.Due.{Due}
 use Rattle.hsms_capture.specs.declared.telling.Happening.{Happening}
-use Rattle.hsms_capture.specs.Wire.{End, Placed, Seen, ack_place, end_of, other, place_of, places, received, timed}
+use Rattle.hsms_capture.specs.Wire.{End, Placed, Seen, ack_place, end_of, latest, other, place_of, places, received, timed}
 use Rattle.hsms_capture.specs.Known.{GoesOn, Known, packet_of, placed_behind, seen_of}
 use Rattle.hsms_capture.specs.Laws.{AreNumbered}
 use Rattle.hsms_capture.specs.Connected.{AreRising}
@@ -25,15 +25,18 @@ greater : (n : ℕ) (ps : List Placed) (p : Placed) (later : List Placed) → Ar
 greater n [] p later h = h.0
 greater n (q ∷ ps) p later h = let a = h.0 in let b = greater q.packet ps p later h.1 in omega (arith, a, b)
 
-pub time_is : (n : ℕ) (ps : List Placed) (p : Placed) (later : List Placed) → AreRising n (ps ++ p ∷ later) → time_at (ps ++ p ∷ later) p.packet ≡ p.time
+none_later : (m n : ℕ) (ps : List Placed) → n ≤ m → AreRising m ps → time_at ps n ≡ 0
 unfolding time_at
-time_is n [] p later h = rw (eq-eqb p.packet p.packet refl) refl
-time_is n (q ∷ ps) p later h = by_test (q.packet == p.packet) refl (greater q.packet ps p later h.1) (time_is q.packet ps p later h.1)
-  where
-    by_test : (b : Bool) → (q.packet == p.packet) ≡ b → q.packet < p.packet → time_at (ps ++ p ∷ later) p.packet ≡ p.time
-        → cond b q.time (time_at (ps ++ p ∷ later) p.packet) ≡ p.time
-    by_test true e lt later_is = let same = eqb-true q.packet p.packet e in absurd (omega (arith, same, lt))
-    by_test false e lt later_is = later_is
+none_later m n [] le h = refl
+none_later m n (p ∷ ps) le h = let lt = h.0 in rw (lt-leb p.packet n (omega (arith, lt, le))) (none_later p.packet n ps (omega (arith, lt, le)) h.1)
+
+time_is : (n : ℕ) (ps : List Placed) (p : Placed) (later : List Placed) → AreRising n (ps ++ p ∷ later) → latest ps ≤ p.time → time_at (ps ++ p ∷ later) p.packet ≡ p.time
+unfolding time_at
+time_is n [] p later h low = rw (le-leb p.packet p.packet (omega arith), none_later p.packet p.packet later (omega arith) h.1) (omega arith)
+time_is n (q ∷ ps) p later h low =
+    let lt = greater q.packet ps p later h.1 in
+    let rest = time_is q.packet ps p later h.1 (omega (arith, low)) in
+    rw (le-leb q.packet p.packet (omega (arith, lt)), rest) (omega (arith, low))
 
 abbrev TimedBy : Reading → List Happening → List Placed → Type 0
 TimedBy r told all = AreDueTimed (time_at all) r.due.items × AreTimed (time_at all) told
@@ -43,13 +46,13 @@ in_time_more r told ps qs h later rises =
     let whole : (ps ++ qs) ++ later ≡ ps ++ (qs ++ later) = append_assoc ps qs later in
     subst (TimedBy r told) (sym whole) (h (qs ++ later) (subst (AreRising 0) whole rises))
 
-in_time_next : (r next : Reading) (told later : List Happening) (ps : List Placed) (p : Placed) → IsInTimeOf r told ps → ReactsInTime (packet_of p) r told next later
+in_time_next : (r next : Reading) (told later : List Happening) (ps : List Placed) (p : Placed) → latest ps ≤ p.time → IsInTimeOf r told ps → ReactsInTime (packet_of p) r told next later
     → IsInTimeOf next later (ps ++ p ∷ [])
-in_time_next r next told later ps p h reacts more rises =
+in_time_next r next told later ps p low h reacts more rises =
     let whole : (ps ++ p ∷ []) ++ more ≡ ps ++ p ∷ more = append_assoc ps (p ∷ []) more in
     let all : AreRising 0 (ps ++ p ∷ more) = subst (AreRising 0) whole rises in
     let g = h (p ∷ more) all in
-    subst (TimedBy next later) (sym whole) (reacts (time_at (ps ++ p ∷ more)) (time_is 0 ps p more all) g.0 g.1)
+    subst (TimedBy next later) (sym whole) (reacts (time_at (ps ++ p ∷ more)) (time_is 0 ps p more all low) g.0 g.1)
 
 -- ---- a segment more
 
@@ -69,9 +72,10 @@ followed_in_some old new r next segment octets told later freed packet goes reac
     let ps = places base [] before in
     let g = goes base before stands.0 in
     let one = placed_one (received ps s.from) (timed ps s) (place_of (end_of ps s.from) (base s.from) s.number) (ack_place ps base (other s.from) s.acknowledged) packet g.2 in
+    let time : one.0.time ≡ max (latest ps) s.time = one.5 in
     let now : places base [] (before ++ s ∷ []) ≡ ps ++ one.0 ∷ [] = one_more base before s ∙ ap (λ (z : List Placed). ps ++ z) one.1 in
     subst (IsInTimeOf next later) (sym now)
-    (in_time_next r next told later ps one.0 h (subst (λ (q : Packet). ReactsInTime q r told next later) one.2 reacts))
+    (in_time_next r next told later ps one.0 (omega (arith, time)) h (subst (λ (q : Packet). ReactsInTime q r told next later) one.2 reacts))
 
 pub stays_in_time : (c : Connection) (s : Seen) (told : List Happening) → TakesInTime c s told c told
 stays_in_time c s told base before stands h = stays_by c.reading told base before s h

@@ -40,12 +40,12 @@ side_back side.Active = refl
 side_back side.Passive = refl
 
 pub placed_one : (acked : ℕ) (s : Seen) (o ack : Option ℕ) (packet : Packet) → option_to_list (Some packet) ≡ map packet_of (placed_at acked s o ack)
-    → (p : Placed) × (placed_at acked s o ack ≡ p ∷ []) × (packet ≡ packet_of p) × (p.from ≡ s.from) × BringsCells p s.cells
+    → (p : Placed) × (placed_at acked s o ack ≡ p ∷ []) × (packet ≡ packet_of p) × (p.from ≡ s.from) × BringsCells p s.cells × (p.time ≡ s.time)
 placed_one acked s None ack packet e = absurd cc
 placed_one acked s (Some place) ack packet e =
     let p = placed_as acked s place ack in
     let same : packet ≡ packet_of p = cc in
-    (p, refl, same, refl, by_test (asks_only acked place s.pushed s.cells))
+    (p, refl, same, refl, by_test (asks_only acked place s.pushed s.cells), refl)
   where
     by_test : (b : Bool) → (cond b [] s.cells ≡ []) ⊎ (cond b [] s.cells ≡ s.cells)
     by_test true = inl refl

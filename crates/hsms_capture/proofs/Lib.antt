@@ -14,6 +14,7 @@ mod Finishing
 mod Fronts
 mod Kept
 mod Laid
+mod Later
 mod Lists
 mod Longer
 mod Nearest

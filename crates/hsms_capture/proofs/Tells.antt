@@ -267,11 +267,11 @@ no_message o (t ∷ ts) = by_reset (t.own.reset && (o || is_open t)) (no_message
 
 -- ---- their packets rise
 
-abbrev Rise : ℕ → List Entry → Type 0
+abbrev pub Rise : ℕ → List Entry → Type 0
 Rise m [] = Unit {0}
 Rise m (e ∷ es) = (m ≤ e.packet) × Rise e.packet es
 
-rise_lower : (m n : ℕ) (es : List Entry) → m ≤ n → Rise n es → Rise m es
+pub rise_lower : (m n : ℕ) (es : List Entry) → m ≤ n → Rise n es → Rise m es
 rise_lower m n [] le h = tt
 rise_lower m n (e ∷ es) le h = (omega (arith, le, h.0), h.1)
 
@@ -394,7 +394,7 @@ last_at : (n : ℕ) (a : Option ℕ) → ((k : ℕ) → a ≡ Some k → n ≤ k
 last_at n None g = refl
 last_at n (Some k) g = let le = g k refl in let same : min k n ≡ n = omega (arith, le) in rw same refl
 
-abbrev from : ℕ → List Entry → List Entry
+abbrev pub from : ℕ → List Entry → List Entry
 from k es = filter (λ (e : Entry). nat_le k e.packet) es
 
 all_from : (n : ℕ) (es : List Entry) → Rise n es → from n (no_ups es) ≡ no_ups es
@@ -523,3 +523,22 @@ tells_all ps h =
     ∙ ap (λ (o : Option ℕ). behind_up (earlier o (first_message (no_ups s))) (no_ups s)) (signs_up false b kept)
     ∙ ap (λ (z : List Entry). behind_up (earlier (answered_at ts) (first_message z)) z) rest
     ∙ ap (λ (o : Option ℕ). behind_up (earlier (answered_at ts) o) (es ++ reset_entries false ts)) (append_message es (reset_entries false ts) (no_message false ts))
+
+-- ---- and its packets rise
+
+rise_no_ups : (m : ℕ) (es : List Entry) → Rise m es → Rise m (no_ups es)
+unfolding no_ups
+rise_no_ups m [] h = tt
+rise_no_ups m (e ∷ es) h = by_up (is_up e.told) (rise_no_ups e.packet es h.1)
+  where
+    by_up : (b : Bool) → Rise e.packet (no_ups es) → Rise m (cond b (no_ups es) (e ∷ no_ups es))
+    by_up true later = rise_lower m e.packet (no_ups es) h.0 later
+    by_up false later = (h.0, later)
+
+pub entries_rise : (ps : List Placed) → AreRising 0 ps → Rise 0 (shown_entries (shows_of message_size ps) ++ reset_entries false (told_turns ps))
+entries_rise ps h =
+    let kept = filter (is_before (breaks_off ps)) (turns [] ps) in
+    let b = both_streams ps in
+    let s = signs false b kept in
+    let rise = signs_rise 0 false b kept (kept_ordered (breaks_off ps) (turns [] ps) (turns_ordered 0 [] ps h)) (each_zero kept) in
+    subst (Rise 0) (signs_rest false b kept) (rise_no_ups 0 s rise)

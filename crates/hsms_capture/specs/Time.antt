@@ -1,5 +1,5 @@
 -- When what is told happened: at the greatest time at which a packet of the connection up to its own was captured.
-use Rattle.std.specs.Prelude.{◌≡◌, ◌==◌, ◌++◌, ◌∷◌, if◌then◌else◌, ℕ, List, [], None}
+use Rattle.std.specs.Prelude.{◌≡◌, ◌≤◌, ◌++◌, ◌∷◌, max, map, nat_le, if◌then◌else◌, ℕ, List, [], None}
 use Rattle.hsms_capture.specs.declared.connection.Connection.{Connection}
 use Rattle.hsms_capture.specs.declared.packet.Packet.{Packet}
 use Rattle.hsms_capture.specs.declared.packet.Segment.{Segment}
@@ -12,16 +12,25 @@ use Rattle.hsms_capture.specs.Laws.{AreNumbered}
 use Rattle.hsms_capture.specs.Connected.{AreRising}
 use Rattle.hsms_capture.specs.Drained.{EachDue}
 use Rattle.hsms_capture.specs.Standing.{Stands, StandsAs}
+use Rattle.hsms_capture.specs.Told.{tells}
 
--- The time of the packet with a number: no packet has one that is less than that of a packet before it.
+-- the greatest time of the packets up to a number
 unfoldable pub time_at : List Placed → ℕ → ℕ
 time_at [] n = 0
-time_at (p ∷ ps) n = if p.packet == n then p.time else time_at ps n
+time_at (p ∷ ps) n = if nat_le p.packet n then max p.time (time_at ps n) else time_at ps n
 
 -- each happened at the time of its packet
 abbrev pub AreTimed : (ℕ → ℕ) → List Happening → Type 0
 AreTimed time [] = Unit {0}
 AreTimed time (h ∷ hs) = (h.time ≡ time h.packet) × AreTimed time hs
+
+abbrev pub AreInOrder : ℕ → List ℕ → Type 0
+AreInOrder last [] = Unit {0}
+AreInOrder last (t ∷ ts) = (last ≤ t) × AreInOrder t ts
+
+-- The times of what is told of packets whose numbers rise never go back.
+abbrev pub TimesNeverGoBack : Type 0
+TimesNeverGoBack = (ps : List Placed) → AreRising 0 ps → AreInOrder 0 (map (λ e. time_at ps e.packet) (tells ps))
 
 -- ---- what code does
 

@@ -4,6 +4,7 @@ ghost use Rattle.hsms_capture.specs.Connected.{LogIsTold};
 ghost use Rattle.hsms_capture.specs.Known.{TurnsGoOn};
 ghost use Rattle.hsms_capture.specs.Laws.{AbsorbGivesTheEnd, EndGoesOn, EndIsEnd, FrontOfCapture, LossIsSure, MessagesHaveSizes, NearestIsFound, NearestIsNear, NothingBehindALoss, OneEnd, QueueGoesOn, QueueStays, QueueTakes, SettledIsSure, StreamsAreKept};
 ghost use Rattle.hsms_capture.specs.Standing.{ToldAtOnce, ToldIsSure};
+ghost use Rattle.hsms_capture.specs.Time.{TimesNeverGoBack};
 
 /// Spans that wait in the order of their places give the end of what is there.
 pub fn waiting_gives_the_end()
@@ -49,6 +50,13 @@ pub fn what_was_told_is_sure()
 #[tactic(auto, using(crate::proofs::Connecting::told_at_once))]
 pub fn what_is_sure_is_told()
     ensures { ToldAtOnce }
+{}
+
+/// The times of what is told, one after another, never go back: each is the greatest at which a packet up to its own was
+/// captured.
+#[tactic(auto, using(crate::proofs::Later::times_never_go_back))]
+pub fn times_never_go_back()
+    ensures { TimesNeverGoBack }
 {}
 
 /// The messages of a direction are a front of its stream: none is left out, none made up.
