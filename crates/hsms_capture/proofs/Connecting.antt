@@ -35,7 +35,7 @@ use Rattle.hsms_capture.proofs.Watched.{tells_loss}
 
 -- ---- a segment by its place
 
-side_back : (s : Side) → s ≡ side_of (end_at s)
+pub side_back : (s : Side) → s ≡ side_of (end_at s)
 side_back side.Active = refl
 side_back side.Passive = refl
 
@@ -129,7 +129,7 @@ stays_by (Some x) turns r told base before s e h =
 pub stays : (c : Connection) (s : Seen) (told : List Happening) → is_some c.ending ≡ true → TakesOn c s told c told
 stays c s told e base before numbered stands = stays_by c.ending c.turns c.reading told base before s e stands
 
-not_ended : (o : Option Ending) → is_some o ≡ false → o ≡ None
+pub not_ended : (o : Option Ending) → is_some o ≡ false → o ≡ None
 not_ended None e = refl
 not_ended (Some x) e = absurd cc
 

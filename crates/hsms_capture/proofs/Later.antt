@@ -1,10 +1,9 @@
 -- Times that never go back.
-use Rattle.std.proofs.Common.{◌≡◌, ◌<◌, ◌≤◌, ◌++◌, ◌∷◌, ℕ, Bool, true, false, cond, max, nat_le, List, [], map, filter, Option, Some, None, refl, arith, inl, inr}
+use Rattle.std.proofs.Common.{◌≡◌, ◌≤◌, ◌++◌, ◌∷◌, ℕ, Bool, true, false, cond, max, nat_le, List, [], map, Option, Some, None, refl, arith, inl, inr}
 use Rattle.std.proofs.lemmas.Bool.{le-leb, lt-leb, leb-true, cases_lt}
 use Rattle.hsms_capture.specs.Wire.{End, Placed, earlier, told_turns, shows_of}
 use Rattle.hsms_capture.specs.Message.{message_size}
 use Rattle.hsms_capture.specs.Told.{Told, up, message, down, Entry, and_later, answered_at, behind_up, first_message, is_left_out, is_separate, reset_entries, separated_by, shown_entries, tells, up_to_down}
-use Rattle.hsms_capture.specs.Connected.{AreRising}
 use Rattle.hsms_capture.specs.Time.{AreInOrder, TimesNeverGoBack, time_at}
 use Rattle.hsms_capture.proofs.Tells.{Rise, entries_rise, from, rise_lower}
 

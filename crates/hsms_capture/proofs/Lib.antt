@@ -26,6 +26,7 @@ mod Sizes
 mod Slicing
 mod SmallCaptures
 mod Stepped
+mod Stopped
 mod Sure
 mod Tells
 mod Timing

@@ -1,5 +1,5 @@
 -- What a reader knows of a connection in the midst of a capture, and what more it tells at each segment.
-use Rattle.std.specs.Prelude.{◌≡◌, ◌+◌, ◌++◌, ◌∷◌, ℕ, max, if◌then◌else◌, List, [], length, map, Option, Some, None}
+use Rattle.std.specs.Prelude.{◌≡◌, ◌+◌, ◌++◌, ◌∷◌, ℕ, if◌then◌else◌, List, [], length, map, Option, Some, None}
 use Rattle.std.specs.Option.{option_to_list}
 use Rattle.hsms_capture.specs.declared.packet.Packet.{Packet}
 use Rattle.hsms_capture.specs.declared.packet.Segment.{Segment}

@@ -10,7 +10,9 @@ pub mod Connected
 pub mod Finished
 pub mod Arrived
 pub mod Standing
+pub mod Near
 pub mod Time
+pub mod Stopping
 pub mod Held
 pub mod Early
 pub mod Laws

@@ -1,7 +1,8 @@
 //! One connection: its segments are taken one after another, and what happens on it is told.
 
-ghost use Rattle.std.specs.Prelude.{◌≡◌, IfOk, OnOk};
+ghost use Rattle.std.specs.Prelude.{◌≡◌, IfErr, IfOk, OnOk};
 ghost use Rattle.hsms_capture.specs.Standing.{Followed, of_side};
+ghost use Rattle.hsms_capture.specs.Stopping.{GoesAt, StopsAt};
 ghost use Rattle.hsms_capture.specs.Time.{FollowsInTime};
 
 use crate::ending::{Ending, finish};
@@ -39,6 +40,11 @@ impl From<AllocError> for ConnectionFault {
 }
 
 impl From<TurnsFault> for ConnectionFault {
+    ghost use Rattle.std.specs.Prelude.{◌≡◌};
+    ghost use Rattle.hsms_capture.specs.Stopping.{of_turns};
+
+    ghost from_gives = { λ fault f. f ≡ of_turns fault };
+
     fn from(fault: TurnsFault) -> ConnectionFault {
         match fault {
             TurnsFault::Far => ConnectionFault::Far,
@@ -48,6 +54,11 @@ impl From<TurnsFault> for ConnectionFault {
 }
 
 impl From<HeldFault> for ConnectionFault {
+    ghost use Rattle.std.specs.Prelude.{◌≡◌};
+    ghost use Rattle.hsms_capture.specs.Stopping.{of_held};
+
+    ghost from_gives = { λ fault f. f ≡ of_held fault };
+
     fn from(fault: HeldFault) -> ConnectionFault {
         match fault {
             HeldFault::Full => ConnectionFault::Full,
@@ -66,9 +77,11 @@ pub struct Connection {
 }
 
 impl Connection {
-    ghost use Rattle.std.specs.Prelude.{[], IfOk, OnOk};
+    ghost use Rattle.std.specs.Prelude.{◌≡◌, [], IfErr, IfOk, OnOk};
+    ghost use Rattle.hsms_capture.specs.declared.connection.ConnectionFault.TheVariants.{Memory};
     ghost use Rattle.hsms_capture.specs.Standing.{EndsAs, Stands, TakesOn};
     ghost use Rattle.hsms_capture.specs.Known.{bases, seen_of};
+    ghost use Rattle.hsms_capture.specs.Stopping.{GoesBy, StopsBy};
     ghost use Rattle.hsms_capture.specs.Time.{EndsInTime, IsInTime, TakesInTime};
 
     /// A connection of which nothing is read yet, by the numbers of both SYNs. Takes no memory.
@@ -107,8 +120,8 @@ impl Connection {
     ///
     /// # Errors
     ///
-    /// `Memory`; `Far` where a stream has come past 2^62 octets; `Full` where a packet ends past 2^26 places behind the
-    /// first octet of its direction that isn't told or isn't acknowledged. The connection is gone then.
+    /// `Far` where a stream has come past 2^62 octets; `Full` where a packet ends past 2^26 places behind the first octet
+    /// of its direction that isn't told or isn't acknowledged; and `Memory`. The connection is gone then.
     pub fn take(
         self,
         alloc: Global,
@@ -118,6 +131,8 @@ impl Connection {
     ) -> Result<Connection, ConnectionFault>
         ensures told { IfOk result (λ next. TakesOn self (seen_of segment octets.now) told.old.items next told.new.items) }
         ensures times { IfOk result (λ next. TakesInTime self (seen_of segment octets.now) told.old.items next told.new.items) }
+        ensures stops { IfErr result (λ fault. StopsBy self told.old.items (seen_of segment octets.now) fault) }
+        ensures goes { OnOk result (GoesBy self told.old.items (seen_of segment octets.now)) }
     {
         let mut connection = self;
         if connection.ending.is_some() {
@@ -142,6 +157,7 @@ impl Connection {
     pub fn end(self, alloc: Global, told: &mut Vec<Happening>) -> Result<Ending, ConnectionFault>
         ensures told { IfOk result (λ ending. EndsAs self told.old.items told.new.items ending) }
         ensures times { OnOk result (EndsInTime self told.old.items told.new.items) }
+        ensures stops { IfErr result (λ fault. fault ≡ Memory) }
     {
         let mut connection = self;
         if let Some(ending) = connection.ending {
@@ -181,6 +197,8 @@ fn follow(
 ) -> Result<Option<Ending>, ConnectionFault>
     ensures told { IfOk result (λ r. Followed turns.old reading.old segment octets.now told.old.items turns.new reading.new told.new.items r) }
     ensures times { OnOk result (FollowsInTime turns.old reading.old segment octets.now told.old.items reading.new told.new.items) }
+    ensures stops { IfErr result (λ fault. StopsAt turns.old reading.old segment octets.now told.old.items fault) }
+    ensures goes { OnOk result (GoesAt turns.old reading.old segment octets.now told.old.items) }
 {
     let acknowledged = of_side(turns.received(), segment.from);
     let mut freed = Vec::new(alloc);

@@ -70,6 +70,7 @@ impl Model for Held {
 impl Held {
     ghost use Rattle.std.specs.Prelude.{◌≡◌, ◌<◌, ◌≤◌, ◌+◌, ◌-◌, ◌^◌, List, [], max, Err, IfOk, IfSome, OnOk, OnErr, length};
     ghost use Rattle.hsms_capture.specs.Held.{CellIs, EndsFar, IsFront, IsPiece, IsStoreOf, PutsIn, TellsOther};
+    ghost use Rattle.hsms_capture.specs.Near.{StaysNear};
     ghost use Rattle.hsms_capture.specs.Telling.{Tells};
     ghost use Rattle.hsms_capture.specs.Wire.{End, Placed};
     ghost use Rattle.hsms_capture.specs.Message.{cells_of};
@@ -99,6 +100,7 @@ impl Held {
         ensures ok { OnOk result (PutsIn self.old place (cells_of flags.syn octets.now flags.fin) self.new) }
         ensures few { OnOk result (length self.new.cells ≤ max (length self.old.cells) (2 ^ 26)) }
         ensures full { result ≡ Err Full → EndsFar self.old.place place (cells_of flags.syn octets.now flags.fin) }
+        ensures near { OnOk result (StaysNear self.old.place place (cells_of flags.syn octets.now flags.fin)) }
         ensures err { OnErr result (self.new ≡ self.old) }
     {
         let count = count_of(flags, octets);

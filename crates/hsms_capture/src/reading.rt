@@ -1,8 +1,9 @@
 //! What is known of a connection in the midst of a capture, and what is told as a packet comes.
 
-ghost use Rattle.std.specs.Prelude.{◌≡◌, ◌++◌, IfOk, OnOk, map};
+ghost use Rattle.std.specs.Prelude.{◌≡◌, ◌++◌, IfErr, IfOk, OnOk, map};
 ghost use Rattle.hsms_capture.specs.Arrived.{Arrives, Brings, BringsTo, GoesOn, PassesBoth, PassesTo, Reacts, TellsSure, breaks_sure, due_as, or_differs};
 ghost use Rattle.hsms_capture.specs.Message.{cells_of};
+ghost use Rattle.hsms_capture.specs.Stopping.{FullIf, IsFull, IsFullAt, IsNear, IsNearAt};
 ghost use Rattle.hsms_capture.specs.Time.{QueuesInTime, ReactsInTime, TellsInTime};
 
 use crate::asking::Flags;
@@ -45,7 +46,9 @@ fn bring(
     flags: Flags,
     octets: &[u8],
 ) -> Result<bool, HeldFault>
-    ensures { IfOk result (λ differs. Brings held.old acknowledged packet (cells_of flags.syn octets.now flags.fin) held.new differs) }
+    ensures held { IfOk result (λ differs. Brings held.old acknowledged packet (cells_of flags.syn octets.now flags.fin) held.new differs) }
+    ensures full { IfErr result (λ f. FullIf f (IsFull held.old packet (cells_of flags.syn octets.now flags.fin))) }
+    ensures near { OnOk result (IsNear held.old packet (cells_of flags.syn octets.now flags.fin)) }
 {
     if packet.from == packet.to {
         return Ok(false);
@@ -57,7 +60,9 @@ fn bring(
 
 // The same of both directions.
 fn bring_to(streams: &mut Streams, arrival: Arrival, octets: &[u8]) -> Result<bool, HeldFault>
-    ensures { IfOk result (λ differs. BringsTo streams.old arrival octets.now streams.new differs) }
+    ensures held { IfOk result (λ differs. BringsTo streams.old arrival octets.now streams.new differs) }
+    ensures full { IfErr result (λ f. FullIf f (IsFullAt streams.old arrival octets.now)) }
+    ensures near { OnOk result (IsNearAt streams.old arrival octets.now) }
 {
     let Arrival {
         from,
@@ -129,6 +134,8 @@ fn arrive(
 ) -> Result<(), HeldFault>
     ensures known { OnOk result (Arrives arrival octets.now freed.now reading.old reading.new) }
     ensures times { OnOk result (QueuesInTime arrival.packet reading.old.due.items reading.new.due.items) }
+    ensures full { IfErr result (λ f. FullIf f (IsFullAt reading.old.teller.streams arrival octets.now)) }
+    ensures near { OnOk result (IsNearAt reading.old.teller.streams arrival octets.now) }
 {
     let packet = arrival.packet;
     let differs = bring_to(&mut reading.teller.streams, arrival, octets)?;
@@ -247,6 +254,8 @@ pub(crate) fn react(
 ) -> Result<Option<Ending>, HeldFault>
     ensures told { IfOk result (λ r. Reacts arrival octets.now freed.now reading.old told.old.items reading.new told.new.items r) }
     ensures times { OnOk result (ReactsInTime arrival.packet reading.old told.old.items reading.new told.new.items) }
+    ensures full { IfErr result (λ f. FullIf f (IsFullAt reading.old.teller.streams arrival octets.now)) }
+    ensures near { OnOk result (IsNearAt reading.old.teller.streams arrival octets.now) }
 {
     arrive(reading, arrival, octets, freed)?;
     let lost = reading

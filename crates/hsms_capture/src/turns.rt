@@ -92,7 +92,7 @@ impl Model for Turns {
 }
 
 impl Turns {
-    ghost use Rattle.std.specs.Prelude.{◌≡◌, ◌≤◌, ◌^◌, [], max, Err, IfOk, OnErr};
+    ghost use Rattle.std.specs.Prelude.{◌≡◌, ◌≤◌, ◌<◌, ◌^◌, [], max, Err, IfOk, IsOk, OnErr};
     ghost use Rattle.hsms_capture.specs.declared.turns.TurnsFault.TheVariants.{Far};
     ghost use Rattle.hsms_capture.specs.Known.{GoesOn, bases, known, seen_of};
 
@@ -123,6 +123,7 @@ impl Turns {
         ensures ok { IfOk result (GoesOn self.old told.old.items (seen_of segment octets.now) self.new told.new.items) }
         ensures err { OnErr result ((self.new ≡ self.old) × (told.new.items ≡ told.old.items)) }
         ensures far { result ≡ Err Far → 2 ^ 62 ≤ max self.old.active.end self.old.passive.end }
+        ensures near { IsOk result → max self.old.active.end self.old.passive.end < 2 ^ 62 }
     {
         if self.active.end.max(self.passive.end) >= FAR {
             return Err(TurnsFault::Far);

@@ -1,8 +1,10 @@
-use Rattle.std.proofs.Common.{◌≡◌, List, [], Option, Some, None, subst}
+use Rattle.std.proofs.lemmas.Result.{err_from_is_err_and}
+use Rattle.std.proofs.Common.{◌≡◌, List, [], Option, Some, None, refl, subst}
 use Rattle.hsms_capture.specs.declared.packet.Packet.{Packet}
 use Rattle.hsms_capture.specs.Arrived.{Reacts}
 use Rattle.hsms_capture.specs.Known.{GoesOn, seen_of}
 use Rattle.hsms_capture.proofs.Connecting.{followed_none, followed_some}
+use Rattle.hsms_capture.proofs.Stopped.{goes_none, goes_some, stops_full}
 use Rattle.hsms_capture.proofs.Clocked.{followed_in_none, followed_in_some}
 use Rattle.hsms_capture.proofs.connection.follow.Goals as goal
 
@@ -48,3 +50,35 @@ returns-clause-times c =
     (subst (λ (o : Option Packet). GoesOn c.args.turns.now [] s c.take.new.self freed o) some
     (subst (λ (ps : List Packet). GoesOn c.args.turns.now ps s c.take.new.self freed c.in_ok-packet.field-0) c.new-freed.ensures.items c.in_ok-packet.ensures.ok))
     c.in_ok-react.ensures.times
+
+pub returns-in_default-clause-goes : goal.returns-in_default-clause-goes
+returns-in_default-clause-goes c =
+    let s = seen_of c.args.segment c.args.octets.now in
+    let freed = c.take.new.told.items in
+    let none : c.in_ok-packet.field-0 ≡ None = (let e = c.in_default.is in cc) in
+    goes_none c.args.turns.now c.take.new.self c.args.reading.now c.args.segment c.args.octets.now c.args.told.now.items freed (c.take.ensures.near (let e = c.in_ok-packet.was in rw e refl))
+    (subst (λ (o : Option Packet). GoesOn c.args.turns.now [] s c.take.new.self freed o) none
+    (subst (λ (ps : List Packet). GoesOn c.args.turns.now ps s c.take.new.self freed c.in_ok-packet.field-0) c.new-freed.ensures.items c.in_ok-packet.ensures.ok))
+
+pub returns-clause-goes : goal.returns-clause-goes
+returns-clause-goes c =
+    let s = seen_of c.args.segment c.args.octets.now in
+    let freed = c.take.new.told.items in
+    let some : c.in_ok-packet.field-0 ≡ Some c.in-Some.packet = (let e = c.in-Some.is in cc) in
+    goes_some c.args.turns.now c.take.new.self c.args.reading.now c.args.segment c.args.octets.now c.args.told.now.items freed c.in-Some.packet
+    (c.take.ensures.near (let e = c.in_ok-packet.was in rw e refl))
+    (subst (λ (o : Option Packet). GoesOn c.args.turns.now [] s c.take.new.self freed o) some
+    (subst (λ (ps : List Packet). GoesOn c.args.turns.now ps s c.take.new.self freed c.in_ok-packet.field-0) c.new-freed.ensures.items c.in_ok-packet.ensures.ok))
+    c.in_ok-react.ensures.near
+
+pub returns-in_err-react-clause-stops : goal.returns-in_err-react-clause-stops
+returns-in_err-react-clause-stops c =
+    let s = seen_of c.args.segment c.args.octets.now in
+    let freed = c.take.new.told.items in
+    let some : c.in_ok-packet.field-0 ≡ Some c.in-Some.packet = (let e = c.in-Some.is in cc) in
+    let p = err_from_is_err_and c.from_residual-in_err-react.result c.from_residual-in_err-react.ensures.1 in
+    rw (p.1, p.2)
+    (stops_full c.in_err-react.field-0.0 c.args.turns.now c.take.new.self c.args.reading.now c.args.segment c.args.octets.now c.args.told.now.items freed c.in-Some.packet
+    (subst (λ (o : Option Packet). GoesOn c.args.turns.now [] s c.take.new.self freed o) some
+    (subst (λ (ps : List Packet). GoesOn c.args.turns.now ps s c.take.new.self freed c.in_ok-packet.field-0) c.new-freed.ensures.items c.in_ok-packet.ensures.ok))
+    c.in_err-react.ensures.full)

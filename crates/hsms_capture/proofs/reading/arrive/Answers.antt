@@ -10,7 +10,7 @@ returns-clause-known c =
     let old = c.args.reading.now in
     let teller : Teller = record { streams = c.bring_to.new.streams; telling = old.teller.telling; opened = old.teller.opened } in
     let new : Reading = record { losses = old.losses; teller = teller; due = c.queue.new.due; differs = c.first_different-reading.result } in
-    arrived c.args.arrival c.args.octets.now c.args.freed.now old new c.in_ok-differs.differs c.in_ok-differs.ensures refl refl refl
+    arrived c.args.arrival c.args.octets.now c.args.freed.now old new c.in_ok-differs.differs c.in_ok-differs.ensures.held refl refl refl
     c.first_different-reading.ensures c.in_ok-queue.ensures
 
 pub returns-clause-times : goal.returns-clause-times

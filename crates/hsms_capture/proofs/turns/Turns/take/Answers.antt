@@ -1,4 +1,4 @@
-use Rattle.std.proofs.Common.{◌≡◌, ◌∙◌, ℕ, max, ap, subst}
+use Rattle.std.proofs.Common.{◌∙◌, ℕ, max, ap, subst}
 use Rattle.hsms_capture.specs.declared.packet.Segment.{Segment}
 use Rattle.hsms_capture.specs.Known.{GoesOn, Known, end_at, seen_of}
 use Rattle.hsms_capture.proofs.Stepped.{active_goes, passive_goes}

@@ -1,0 +1,127 @@
+-- When a connection is given up.
+use Rattle.std.proofs.Common.{◌≡◌, ◌<◌, ◌^◌, ◌∷◌, ◌+◌, ℕ, max, List, [], length, map, Option, Some, None, is_some, sym, ap, subst, ◌∙◌, arith, inl, inr, true, false}
+use Rattle.std.proofs.lemmas.Bool.{cases_lt}
+use Rattle.hsms_capture.specs.declared.connection.Connection.{Connection}
+use Rattle.hsms_capture.specs.declared.connection.ConnectionFault.{ConnectionFault}
+use Rattle.hsms_capture.specs.declared.ending.Ending.{Ending}
+use Rattle.hsms_capture.specs.declared.held.HeldFault.{HeldFault}
+use Rattle.hsms_capture.specs.declared.held.HeldFault.TheVariants as held
+use Rattle.hsms_capture.specs.declared.packet.Packet.{Packet}
+use Rattle.hsms_capture.specs.declared.packet.Segment.{Segment}
+use Rattle.hsms_capture.specs.declared.packet.Side.{Side}
+use Rattle.hsms_capture.specs.declared.reading.Reading.{Reading}
+use Rattle.hsms_capture.specs.declared.telling.Happening.{Happening}
+use Rattle.hsms_capture.specs.Wire.{End, active, passive, Cell, Placed, Seen, ack_place, end_of, other, place_of, places, received, timed}
+use Rattle.hsms_capture.specs.Held.{EndsFar}
+use Rattle.hsms_capture.specs.Known.{GoesOn, Known, known, packet_of, placed_behind, seen_of}
+use Rattle.hsms_capture.specs.Losses.{side_of}
+use Rattle.hsms_capture.specs.Turning.{stream_at}
+use Rattle.hsms_capture.specs.Arrived.{BringsCells}
+use Rattle.hsms_capture.specs.Standing.{StandsAs}
+use Rattle.hsms_capture.specs.Stopping.{FullIf, GoesAt, GoesBy, IsFar, IsFull, IsNear, StopsAt, StopsBy, of_held}
+use Rattle.hsms_capture.proofs.Connecting.{not_ended, placed_one, side_back}
+
+-- ---- too far
+
+near_far : (k : Known) (base : End → ℕ) (ps : List Placed) → k ≡ known base ps → max k.active.end k.passive.end < 2 ^ 62 → IsFar ps → ⊥
+near_far k base ps e lt far =
+    let a : k.active.end ≡ end_of ps active = ap (λ (z : Known). z.active.end) e in
+    let p : k.passive.end ≡ end_of ps passive = ap (λ (z : Known). z.passive.end) e in
+    omega (arith, a, p, lt, far)
+
+-- ---- too much
+
+-- a packet that brings something brings these cells
+brings_all : (p : Placed) (cells : List Cell) → BringsCells p cells → 0 < length p.cells → p.cells ≡ cells
+brings_all p cells (inl none) lt = let e : length p.cells ≡ 0 = ap length none in absurd (omega (arith, e, lt))
+brings_all p cells (inr same) lt = same
+
+some_cells : (p : Placed) (packet : Packet) → packet ≡ packet_of p → (packet.from ≡ packet.to → ⊥) → 0 < length p.cells
+some_cells p packet e other =
+    let from : packet.from ≡ p.place = ap (λ (q : Packet). q.from) e in
+    let to : packet.to ≡ p.place + length p.cells = ap (λ (q : Packet). q.to) e in
+    elim (cases_lt 0 (length p.cells)) [
+      | inl lt ↦ lt
+      | inr ge ↦ absurd (other (omega (arith, from, to, ge)))
+    ]
+
+own_side : (p : Placed) (s : Side) (d : End) → s ≡ side_of d → p.from ≡ d → s ≡ side_of p.from
+own_side p s d e f = e ∙ ap side_of (sym f)
+
+pub stops_full : (fault : HeldFault) (old new : Known) (r : Reading) (segment : Segment) (octets : List ℕ) (told : List Happening) (freed : List Packet) (packet : Packet)
+    → GoesOn old [] (seen_of segment octets) new freed (Some packet)
+    → FullIf fault (IsFull (stream_at r.teller.streams segment.from).held packet (seen_of segment octets).cells) → StopsAt old r segment octets told (of_held fault)
+stops_full held.Memory old new r segment octets told freed packet goes full base before stands = tt
+stops_full held.Full old new r segment octets told freed packet goes full base before stands =
+    let s = seen_of segment octets in
+    let ps = places base [] before in
+    let g = goes base before stands.0 in
+    let one = placed_one (received ps s.from) (timed ps s) (place_of (end_of ps s.from) (base s.from) s.number) (ack_place ps base (other s.from) s.acknowledged) packet g.2 in
+    let p = one.0 in
+    let some = some_cells p packet one.2 full.0 in
+    let from : packet.from ≡ p.place = ap (λ (q : Packet). q.from) one.2 in
+    let far : EndsFar (stream_at r.teller.streams segment.from).held.place p.place s.cells =
+    subst (λ (n : ℕ). EndsFar (stream_at r.teller.streams segment.from).held.place n s.cells) from full.1 in
+    let cells : EndsFar (stream_at r.teller.streams segment.from).held.place p.place p.cells =
+    subst (EndsFar (stream_at r.teller.streams segment.from).held.place p.place) (sym (brings_all p s.cells one.4 some)) far in (
+      p,
+      one.1,
+      (some, subst (λ (d : Side). EndsFar (stream_at r.teller.streams d).held.place p.place p.cells) (own_side p segment.from s.from (side_back segment.from) one.3) cells),
+    )
+
+pub goes_none : (old new : Known) (r : Reading) (segment : Segment) (octets : List ℕ) (told : List Happening) (freed : List Packet)
+    → max old.active.end old.passive.end < 2 ^ 62 → GoesOn old [] (seen_of segment octets) new freed None → GoesAt old r segment octets told
+goes_none old new r segment octets told freed lt goes base before stands =
+    let ps = places base [] before in
+    let g = goes base before stands.0 in (
+      near_far old base ps stands.0 lt,
+      λ past. none_placed (placed_behind base ps (seen_of segment octets)) past.0 g.2 past.1,
+    )
+  where
+    none_placed : (qs : List Placed) (p : Placed) → [] ≡ map packet_of qs → qs ≡ p ∷ [] → ⊥
+    none_placed [] p e f = absurd cc
+    none_placed (q ∷ qs) p e f = absurd cc
+
+pub goes_some : (old new : Known) (r : Reading) (segment : Segment) (octets : List ℕ) (told : List Happening) (freed : List Packet) (packet : Packet)
+    → max old.active.end old.passive.end < 2 ^ 62 → GoesOn old [] (seen_of segment octets) new freed (Some packet)
+    → IsNear (stream_at r.teller.streams segment.from).held packet (seen_of segment octets).cells → GoesAt old r segment octets told
+goes_some old new r segment octets told freed packet lt goes near base before stands =
+    let s = seen_of segment octets in
+    let ps = places base [] before in
+    let g = goes base before stands.0 in
+    let one = placed_one (received ps s.from) (timed ps s) (place_of (end_of ps s.from) (base s.from) s.number) (ack_place ps base (other s.from) s.acknowledged) packet g.2 in
+    let p = one.0 in
+    let from : packet.from ≡ p.place = ap (λ (q : Packet). q.from) one.2 in
+    let to : packet.to ≡ p.place + length p.cells = ap (λ (q : Packet). q.to) one.2 in (
+      near_far old base ps stands.0 lt,
+      λ past.
+          let same : past.0 ≡ p = first_same past.0 p (sym past.1 ∙ one.1) in
+          let h = subst (λ (q : Placed). (0 < length q.cells) × EndsFar (stream_at r.teller.streams (side_of q.from)).held.place q.place q.cells) same past.2 in
+          let some = h.0 in
+          let cells = brings_all p s.cells one.4 some in
+          let long : length p.cells ≡ length s.cells = ap length cells in
+          let far : EndsFar (stream_at r.teller.streams segment.from).held.place p.place p.cells =
+          subst (λ (d : Side). EndsFar (stream_at r.teller.streams d).held.place p.place p.cells) (sym (own_side p segment.from s.from (side_back segment.from) one.3)) h.1 in
+          let none : length s.cells ≡ 0 =
+          near (λ e. omega (arith, e, from, to, some))
+          (subst (λ (n : ℕ). EndsFar (stream_at r.teller.streams segment.from).held.place n s.cells) (sym from)
+          (subst (EndsFar (stream_at r.teller.streams segment.from).held.place p.place) cells far)) in
+          omega (arith, long, none, some),
+    )
+  where
+    first_same : (q p : Placed) → ◌≡◌ {A = List Placed} (q ∷ []) (p ∷ []) → q ≡ p
+    first_same q p e = cc
+
+-- ---- of a connection
+
+pub stops_by : (fault : ConnectionFault) (c : Connection) (segment : Segment) (octets : List ℕ) (told : List Happening) → is_some c.ending ≡ false
+    → StopsAt c.turns c.reading segment octets told fault → StopsBy c told (seen_of segment octets) fault
+stops_by fault c segment octets told e stops =
+    let none = not_ended c.ending e in
+    (none, λ base before stands. stops base before (subst (λ (o : Option Ending). StandsAs o c.turns c.reading told base before) none stands))
+
+pub goes_by : (c : Connection) (segment : Segment) (octets : List ℕ) (told : List Happening) → GoesAt c.turns c.reading segment octets told → GoesBy c told (seen_of segment octets)
+goes_by c segment octets told goes none base before stands = goes base before (subst (λ (o : Option Ending). StandsAs o c.turns c.reading told base before) none stands)
+
+pub ended_goes : (c : Connection) (s : Seen) (told : List Happening) → is_some c.ending ≡ true → GoesBy c told s
+ended_goes c s told e none base before stands = absurd (let f : is_some c.ending ≡ false = ap is_some none in cc)

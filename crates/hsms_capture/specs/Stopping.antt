@@ -1,0 +1,91 @@
+-- When a connection is given up: a stream has come too far, or more than is held of it waits.
+use Rattle.std.specs.Prelude.{◌≡◌, ◌<◌, ◌≤◌, ◌^◌, ◌∷◌, ℕ, List, [], length, max, None}
+use Rattle.hsms_capture.specs.declared.connection.Connection.{Connection}
+use Rattle.hsms_capture.specs.declared.connection.ConnectionFault.{ConnectionFault}
+use Rattle.hsms_capture.specs.declared.connection.ConnectionFault.TheVariants as stop
+use Rattle.hsms_capture.specs.declared.held.HeldFault.{HeldFault}
+use Rattle.hsms_capture.specs.declared.held.HeldFault.TheVariants as held
+use Rattle.hsms_capture.specs.declared.packet.Packet.{Packet}
+use Rattle.hsms_capture.specs.declared.packet.Segment.{Segment}
+use Rattle.hsms_capture.specs.declared.reading.Arrival.{Arrival}
+use Rattle.hsms_capture.specs.declared.reading.Reading.{Reading}
+use Rattle.hsms_capture.specs.declared.streams.Streams.{Streams}
+use Rattle.hsms_capture.specs.declared.telling.Happening.{Happening}
+use Rattle.hsms_capture.specs.declared.turns.TurnsFault.{TurnsFault}
+use Rattle.hsms_capture.specs.declared.turns.TurnsFault.TheVariants as turns
+use Rattle.hsms_capture.specs.Wire.{End, active, passive, Cell, Placed, Seen, end_of, places}
+use Rattle.hsms_capture.specs.Held.{EndsFar, Store}
+use Rattle.hsms_capture.specs.Near.{StaysNear}
+use Rattle.hsms_capture.specs.Known.{Known, placed_behind, seen_of}
+use Rattle.hsms_capture.specs.Losses.{side_of}
+use Rattle.hsms_capture.specs.Turning.{stream_at}
+use Rattle.hsms_capture.specs.Arrived.{arrival_cells}
+use Rattle.hsms_capture.specs.Standing.{Stands, StandsAs}
+
+-- a stream has come past 2^62 cells
+abbrev pub IsFar : List Placed → Type 0
+IsFar ps = 2 ^ 62 ≤ max (end_of ps active) (end_of ps passive)
+
+-- a packet brings cells, and ends past 2^26 places behind the first of its direction that is held still: what is told and
+-- acknowledged isn't held
+abbrev pub IsPast : Reading → Placed → Type 0
+IsPast r p = (0 < length p.cells) × EndsFar (stream_at r.teller.streams (side_of p.from)).held.place p.place p.cells
+
+-- so is the packet of a segment that isn't too far away
+abbrev pub EndsPast : Reading → (End → ℕ) → List Placed → Seen → Type 0
+EndsPast r base ps s = (p : Placed) × (placed_behind base ps s ≡ p ∷ []) × IsPast r p
+
+abbrev pub StopsFor : ConnectionFault → Reading → (End → ℕ) → List Placed → Seen → Type 0
+StopsFor stop.Far r base ps s = IsFar ps
+StopsFor stop.Full r base ps s = EndsPast r base ps s
+StopsFor stop.Memory r base ps s = Unit {0}
+
+-- a connection that hasn't ended is given up for this
+abbrev pub StopsBy : Connection → List Happening → Seen → ConnectionFault → Type 0
+StopsBy c told s fault =
+    (c.ending ≡ None) × ((base : End → ℕ) (before : List Seen) → Stands c told base before → StopsFor fault c.reading base (places base [] before) s)
+
+-- and it is given up wherever there is such a reason
+abbrev pub GoesBy : Connection → List Happening → Seen → Type 0
+GoesBy c told s =
+    c.ending ≡ None
+    → (base : End → ℕ) (before : List Seen) → Stands c told base before
+    → (IsFar (places base [] before) → ⊥) × (EndsPast c.reading base (places base [] before) s → ⊥)
+
+-- ---- what code does
+
+abbrev pub of_turns : TurnsFault → ConnectionFault
+of_turns turns.Far = stop.Far
+of_turns turns.Memory = stop.Memory
+
+abbrev pub of_held : HeldFault → ConnectionFault
+of_held held.Full = stop.Full
+of_held held.Memory = stop.Memory
+
+-- what a packet brings ends too far
+abbrev pub IsFull : Store → Packet → List Cell → Type 0
+IsFull s packet cells = (packet.from ≡ packet.to → ⊥) × EndsFar s.place packet.from cells
+
+abbrev pub IsFullAt : Streams → Arrival → List ℕ → Type 0
+IsFullAt s a octets = IsFull (stream_at s a.from).held a.packet (arrival_cells a octets)
+
+abbrev pub FullIf : HeldFault → Type 0 → Type 0
+FullIf held.Full A = A
+FullIf held.Memory A = Unit {0}
+
+-- one that is brought doesn't
+abbrev pub IsNear : Store → Packet → List Cell → Type 0
+IsNear s packet cells = (packet.from ≡ packet.to → ⊥) → StaysNear s.place packet.from cells
+
+abbrev pub IsNearAt : Streams → Arrival → List ℕ → Type 0
+IsNearAt s a octets = IsNear (stream_at s a.from).held a.packet (arrival_cells a octets)
+
+abbrev pub StopsAt : Known → Reading → Segment → List ℕ → List Happening → ConnectionFault → Type 0
+StopsAt turns r segment octets told fault =
+    (base : End → ℕ) (before : List Seen) → StandsAs None turns r told base before
+    → StopsFor fault r base (places base [] before) (seen_of segment octets)
+
+abbrev pub GoesAt : Known → Reading → Segment → List ℕ → List Happening → Type 0
+GoesAt turns r segment octets told =
+    (base : End → ℕ) (before : List Seen) → StandsAs None turns r told base before
+    → (IsFar (places base [] before) → ⊥) × (EndsPast r base (places base [] before) (seen_of segment octets) → ⊥)
