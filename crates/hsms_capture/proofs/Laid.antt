@@ -128,7 +128,7 @@ held_length syns fins octets =
 
 -- ---- what is held then
 
-abbrev cell_from : ℕ → List HeldCell → ℕ → Option HeldCell
+abbrev pub cell_from : ℕ → List HeldCell → ℕ → Option HeldCell
 cell_from place cs n = cond (nat_le place n) (slice_get cs (n - place)) None
 
 or_none : (x : Option HeldCell) → x ≡ or_else x None
@@ -159,7 +159,7 @@ from_later place n c cs lt =
     let at : n - place ≡ suc (n - (place + 1)) = omega (arith, lt) in
     rw (le-leb place n (omega (arith, lt)), le-leb (place + 1) n (omega (arith, lt)), at) refl
 
-laid_held : (base place i : ℕ) (cs : List HeldCell) (ss : List (Option HeldCell)) → place + length cs ≤ base + length ss
+pub laid_held : (base place i : ℕ) (cs : List HeldCell) (ss : List (Option HeldCell)) → place + length cs ≤ base + length ss
     → get_or (laid_all base place cs ss) i None ≡ or_else (get_or ss i None) (cell_from place cs (base + i))
 unfolding laid_all
 laid_held base place i [] ss le = or_none (get_or ss i None) ∙ ap (or_else (get_or ss i None)) (sym (none_from place (base + i)))
@@ -283,7 +283,7 @@ one_gone left old new rest lt e h =
     let all : 1 + (left - 1) ≡ left = omega (arith, lt) in
     ap (drop (left - 1)) e ∙ drop-drop (left - 1) 1 old ∙ ap (λ (n : ℕ). drop n old) all ∙ h
 
-gone : (ss : List (Option HeldCell)) (k i : ℕ) → get_or (drop (min k (length ss)) ss) i None ≡ get_or ss (k + i) None
+pub gone : (ss : List (Option HeldCell)) (k i : ℕ) → get_or (drop (min k (length ss)) ss) i None ≡ get_or ss (k + i) None
 gone ss k i =
     get_or-drop (min k (length ss)) ss i None
     ∙ elim (cases_lt (length ss) k) [

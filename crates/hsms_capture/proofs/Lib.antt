@@ -18,6 +18,7 @@ mod Later
 mod Lists
 mod Longer
 mod Nearest
+mod Octets
 mod Onward
 mod Numbered
 mod Pieces

@@ -11,6 +11,7 @@ pub mod Finished
 pub mod Arrived
 pub mod Standing
 pub mod Near
+pub mod Plain
 pub mod Time
 pub mod Stopping
 pub mod Held

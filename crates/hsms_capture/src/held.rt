@@ -1,9 +1,10 @@
 //! The cells of one direction by their places.
 
-ghost use Rattle.std.specs.Prelude.{◌≡◌, ◌≤◌, ◌<◌, ◌+◌, ◌^◌, ◌⊎◌, IfSome, IfOk, None, OnOk, OnErr, drop, get_or, length};
+ghost use Rattle.std.specs.Prelude.{◌≡◌, ◌≤◌, ◌<◌, ◌+◌, ◌^◌, ◌⊎◌, true, IfSome, IfOk, None, OnOk, OnErr, drop, get_or, length};
 ghost use Rattle.std.specs.VecDeque.{deque_len, deque_capacity};
 ghost use Rattle.hsms_capture.specs.Held.{SameCells, differs, differs_at, flag_of, further, held_of, in_piece, is_another, laid_all, laid_at, octet_in, octets_of, wire_cell};
 ghost use Rattle.hsms_capture.specs.Message.{cells_to, message_size};
+ghost use Rattle.hsms_capture.specs.Plain.{HeadSays, IsLonger, flags_end};
 ghost use Rattle.hsms_capture.specs.Telling.{PieceTells};
 ghost use Rattle.hsms_capture.specs.Wire.{same_cell};
 
@@ -29,6 +30,15 @@ pub(crate) enum Piece {
     Message(Vec<u8>),
     Opens,
     Closes,
+}
+
+// What the first four cells of a message say of its size: some are missing; one of them ends it; or it has so many octets
+// behind them.
+#[derive(Clone, Copy)]
+enum Head {
+    Missing,
+    Ends(u64),
+    Length(u64),
 }
 
 /// Why cells aren't held.
@@ -57,14 +67,19 @@ impl From<AllocError> for HeldFault {
 pub struct Held {
     place: u64,
     cells: VecDeque<Option<Cell>>,
+    // No SYN and no FIN is held from this place on.
+    octets_from: u64,
 }
 
 impl Model for Held {
     ghost use Rattle.hsms_capture.specs.Held.{Store};
+    ghost use Rattle.hsms_capture.specs.Plain.{AreOctetsFrom};
 
     ghost Value = { Store };
 
     ghost view = { λ h. record { place = h.place; cells = h.cells.items } };
+
+    ghost invariant = { λ h. AreOctetsFrom h.octets_from h.place h.cells.items };
 }
 
 impl Held {
@@ -85,6 +100,7 @@ impl Held {
         Held {
             place: 0,
             cells: VecDeque::new(alloc),
+            octets_from: 0,
         }
     }
 
@@ -116,6 +132,7 @@ impl Held {
         }
         widen(&mut self.cells, wanted as usize)?;
         lay_all(&mut self.cells, self.place, place, flags, octets);
+        self.octets_from = self.octets_from.max(flags_end(flags, end));
         Ok(())
     }
 
@@ -156,10 +173,15 @@ impl Held {
         let Some(first) = place.checked_sub(self.place) else {
             return None;
         };
-        let Some(count) = size_of(&self.cells, first) else {
+        let head = head_of(&self.cells, first);
+        let room = upto.saturating_sub(place);
+        if self.octets_from <= place && is_longer(head, room) {
+            return None;
+        }
+        let Some(count) = size_of(&self.cells, first, head) else {
             return None;
         };
-        if upto.saturating_sub(place) < count {
+        if room < count {
             return None;
         }
         Some(count)
@@ -442,25 +464,61 @@ fn is_same(one: Cell, other: Cell) -> bool
     }
 }
 
-// How many cells the message has that begins at an index, if it is there whole.
-#[tactic(auto, using(crate::proofs::Whole::size_none, crate::proofs::Whole::size_end, crate::proofs::Whole::next_kept, crate::proofs::Whole::size_done, crate::proofs::Whole::size_begins))]
-fn size_of(cells: &VecDeque<Option<Cell>>, first: u64) -> Option<u64>
+// The place behind a packet with a SYN or a FIN.
+fn flags_end(flags: Flags, end: u64) -> u64
+    ensures { result ≡ flags_end flags.syn flags.fin end }
+{
+    if flags.syn {
+        return end;
+    }
+    if flags.fin {
+        return end;
+    }
+    0
+}
+
+// Whether a message of octets alone has more cells than there is room for.
+fn is_longer(head: Head, room: u64) -> bool
+    ensures { result ≡ true → IsLonger room head }
+{
+    match head {
+        Head::Missing => false,
+        Head::Ends(_) => false,
+        Head::Length(count) => room.saturating_sub(4) < count,
+    }
+}
+
+// How many cells the message has that begins at an index, if it is there whole, by what its first cells say.
+fn size_of(cells: &VecDeque<Option<Cell>>, first: u64, head: Head) -> Option<u64>
+    requires { HeadSays (drop first cells.now.items) head }
     ensures size { result ≡ message_size (in_piece (drop first cells.now.items)) }
     ensures some { IfSome result (λ count. 0 < count) }
+{
+    match head {
+        Head::Missing => None,
+        Head::Ends(count) => Some(count),
+        Head::Length(count) => size_behind(cells, first, 4, count),
+    }
+}
+
+// What the first cells of a message say that begins at an index.
+#[tactic(auto, using(crate::proofs::Whole::size_none, crate::proofs::Whole::size_end, crate::proofs::Whole::next_kept, crate::proofs::Whole::size_done, crate::proofs::Whole::size_begins))]
+fn head_of(cells: &VecDeque<Option<Cell>>, first: u64) -> Head
+    ensures { HeadSays (drop first cells.now.items) result }
 {
     let mut value = 0;
     let mut index = 0;
     while index < 4 {
         let Some(cell) = cell_behind(cells, first, index) else {
-            return None;
+            return Head::Missing;
         };
         index += 1;
         let Some(octet) = octet_of(cell) else {
-            return Some(index);
+            return Head::Ends(index);
         };
         value = value * 256 + u64::from(octet);
     }
-    size_behind(cells, first, 4, value)
+    Head::Length(value)
 }
 
 // How many cells stand before an index and, so many of them, behind it, up to one that is no octet.

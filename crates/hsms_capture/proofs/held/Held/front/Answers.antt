@@ -1,6 +1,7 @@
 use Rattle.std.proofs.Common.{None, Some, subst, arith, sym, ◌∙◌}
-use Rattle.hsms_capture.specs.Held.{IsFront, Store}
+use Rattle.hsms_capture.specs.Held.{IsFront, IsPiece, Store}
 use Rattle.hsms_capture.proofs.Whole.{front_none, front_past, front_stands, front_whole}
+use Rattle.hsms_capture.proofs.Octets.{front_longer}
 use Rattle.hsms_capture.proofs.held.Held.front.Goals as goal
 
 pub returns-in_default-size_of-clause-front : goal.returns-in_default-size_of-clause-front
@@ -10,13 +11,13 @@ returns-in_default-size_of-clause-front c =
     (front_stands s c.args.place c.args.upto None
     (front_none s c.args.place c.args.upto c.in-Some.first (omega (arith, c.in-Some.ensures)) (sym c.in_default-size_of.is ∙ c.size_of.ensures.size)))
 
-pub returns-then-saturating_sub-count-clause-front : goal.returns-then-saturating_sub-count-clause-front
-returns-then-saturating_sub-count-clause-front c =
+pub returns-then-room-count-clause-front : goal.returns-then-room-count-clause-front
+returns-then-room-count-clause-front c =
     let s : Store = record { place = c.self.inside.place; cells = c.self.inside.cells.items } in
     subst (λ (s : Store). IsFront s c.args.place c.args.upto None) c.self.view_is
     (front_stands s c.args.place c.args.upto None
     (front_past s c.args.place c.args.upto c.in-Some.first c.in-Some-size_of.count (omega (arith, c.in-Some.ensures)) (sym c.in-Some-size_of.is ∙ c.size_of.ensures.size)
-    (omega (arith, c.saturating_sub.ensures, c.if-saturating_sub-count.true))))
+    (omega (arith, c.saturating_sub-room.ensures, c.if-room-count.true))))
 
 pub returns-clause-front : goal.returns-clause-front
 returns-clause-front c =
@@ -24,4 +25,19 @@ returns-clause-front c =
     subst (λ (s : Store). IsFront s c.args.place c.args.upto (Some c.in-Some-size_of.count)) c.self.view_is
     (front_stands s c.args.place c.args.upto (Some c.in-Some-size_of.count)
     (front_whole s c.args.place c.args.upto c.in-Some.first c.in-Some-size_of.count (omega (arith, c.in-Some.ensures)) (sym c.in-Some-size_of.is ∙ c.size_of.ensures.size)
-    (omega (arith, c.saturating_sub.ensures, c.if-saturating_sub-count.false, c.in-Some-size_of.ensures.some))))
+    (omega (arith, c.saturating_sub-room.ensures, c.if-room-count.false, c.in-Some-size_of.ensures.some))))
+
+pub returns-then-is_longer-clause-piece : goal.returns-then-is_longer-clause-piece
+returns-then-is_longer-clause-piece c =
+    let s : Store = record { place = c.self.inside.place; cells = c.self.inside.cells.items } in
+    subst (λ (s : Store). IsPiece s c.args.place c.args.upto None) c.self.view_is
+    (front_longer s c.self.inside.octets_from c.args.place c.args.upto c.in-Some.first c.saturating_sub-room.result c.head_of-head.result (omega (arith, c.in-Some.ensures))
+    (omega (arith, c.in-Some.ensures)) c.saturating_sub-room.ensures c.if-self-place.true c.self.invariant c.head_of-head.ensures (c.is_longer.ensures (let e = c.if-is_longer.true in cc)))
+
+pub returns-then-is_longer-clause-front : goal.returns-then-is_longer-clause-front
+returns-then-is_longer-clause-front c =
+    let s : Store = record { place = c.self.inside.place; cells = c.self.inside.cells.items } in
+    subst (λ (s : Store). IsFront s c.args.place c.args.upto None) c.self.view_is
+    (front_stands s c.args.place c.args.upto None
+    (front_longer s c.self.inside.octets_from c.args.place c.args.upto c.in-Some.first c.saturating_sub-room.result c.head_of-head.result (omega (arith, c.in-Some.ensures))
+    (omega (arith, c.in-Some.ensures)) c.saturating_sub-room.ensures c.if-self-place.true c.self.invariant c.head_of-head.ensures (c.is_longer.ensures (let e = c.if-is_longer.true in cc))))

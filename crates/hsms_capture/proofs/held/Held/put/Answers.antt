@@ -1,7 +1,8 @@
-use Rattle.std.proofs.Common.{subst, arith}
+use Rattle.std.proofs.Common.{◌∙◌, ap, max, subst, arith}
 use Rattle.hsms_capture.specs.Held.{PutsIn, Store}
 use Rattle.hsms_capture.specs.Message.{cells_of}
 use Rattle.hsms_capture.proofs.Laid.{puts_in, puts_none}
+use Rattle.hsms_capture.proofs.Octets.{octets_stay}
 use Rattle.hsms_capture.proofs.held.Held.put.Goals as goal
 
 pub returns-then-count-eq0-clause-ok : goal.returns-then-count-eq0-clause-ok
@@ -15,3 +16,10 @@ returns-clause-ok c =
     (puts_in c.self.inside.place c.args.place c.args.flags.syn c.args.flags.fin c.args.octets.now c.self.inside.cells.items c.widen.new.cells.items c.lay_all.new.cells.items
     c.in_ok-widen.ensures.ok c.lay_all.ensures.items
     (omega (arith, c.in_ok-widen.ensures.room, c.widen.new.cells.ok.0, c.count_of-count.ensures, c.in-Some.ensures, c.saturating_sub-wanted.ensures)))
+
+pub invariant_of-self-2 : goal.invariant_of-self-2
+invariant_of-self-2 c =
+    octets_stay c.self.inside.octets_from c.self.inside.place c.args.place c.args.flags.syn c.args.flags.fin c.args.octets.now c.self.inside.cells.items c.widen.new.cells.items
+    c.lay_all.new.cells.items c.max-self-inside.result c.in-Some.end c.in_ok-widen.ensures.ok c.lay_all.ensures.items
+    (omega (arith, c.in_ok-widen.ensures.room, c.widen.new.cells.ok.0, c.count_of-count.ensures, c.in-Some.ensures, c.saturating_sub-wanted.ensures))
+    (omega (arith, c.count_of-count.ensures, c.in-Some.ensures)) (c.max-self-inside.ensures ∙ ap (max c.self.inside.octets_from) c.flags_end.ensures) c.self.invariant

@@ -1,7 +1,7 @@
 use Rattle.std.proofs.Common.{◌≡◌, ◌<◌, ◌≤◌, ◌-◌, ◌^◌, drop}
 use Rattle.hsms_capture.specs.Held.{further, in_piece}
 use Rattle.hsms_capture.specs.Message.{message_size, size_by}
-use Rattle.hsms_capture.proofs.held.size_of.Given as goal
+use Rattle.hsms_capture.proofs.held.head_of.Given as goal
 
 abbrev pub invariant-loop-index : goal.invariant-loop-index
 invariant-loop-index l =

@@ -2,7 +2,7 @@ use Rattle.std.proofs.Common.{sym, ◌∙◌, drop, arith}
 use Rattle.hsms_capture.specs.Message.{message_size}
 use Rattle.hsms_capture.specs.Held.{in_piece}
 use Rattle.hsms_capture.proofs.Whole.{next_kept, small}
-use Rattle.hsms_capture.proofs.held.size_of.Goals as goal
+use Rattle.hsms_capture.proofs.held.head_of.Goals as goal
 
 pub loop-index-preserved : goal.loop-index-preserved
 loop-index-preserved c =
