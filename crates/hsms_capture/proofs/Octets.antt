@@ -1,5 +1,5 @@
 -- Octets that stand without a SYN or a FIN among them.
-use Rattle.std.proofs.Common.{◌≡◌, ◌<◌, ◌≤◌, ◌+◌, ◌-◌, ◌++◌, ◌∷◌, ◌||◌, ℕ, zero, suc, Bool, true, false, cond, nat_le, List, [], length, max, min, drop, get_or, slice_get, Option, Some, None, refl, sym, ap, subst, ◌∙◌, arith}
+use Rattle.std.proofs.Common.{◌≡◌, ◌<◌, ◌≤◌, ◌+◌, ◌-◌, ◌∷◌, ℕ, zero, suc, Bool, true, false, cond, nat_le, List, [], length, max, min, drop, get_or, slice_get, Option, Some, None, refl, sym, ap, subst, ◌∙◌, arith}
 use Rattle.std.proofs.lemmas.Bool.{le-leb, lt-ltb}
 use Rattle.std.proofs.lemmas.List.{append-nil, get_or-drop}
 use Rattle.hsms_capture.specs.declared.held.Cell.{Cell as HeldCell}
