@@ -3,11 +3,12 @@
 
     bench/serve.py [EXCHANGES] [--timers MS..]
 
-It runs what `rt ci` or the first use of `hsms` has built. It tells exchanges a second, of a host that sends a script to an equipment,
-of a plain Python host with that equipment, and of two plain Python ends that hand the same octets back and forth; and
-the most memory that each `hsms serve` held. Where strace is installed, it tells the calls of the system that an exchange
-takes at each end. At last it tells how late timers run out: ends with these T7, all at the same time. Those of `--timers`
-may be up to 3,600,000 ms.
+It runs what `rt ci` or the first use of `hsms` has built. It tells exchanges a second, of a host that sends a script
+to an equipment, of a plain Python host with that equipment, and of two plain Python ends that hand the same octets
+back and forth; and the most memory that each `hsms serve` held. Where strace is installed, it tells the calls of the
+system that an exchange takes at each end; where valgrind is, the instructions that it takes of the equipment. At last
+it tells how late timers run out: ends with these T7, all at the same time. Those of `--timers` may be up to 3,600,000
+ms. With 0 EXCHANGES nothing but timers is measured.
 """
 import argparse
 import os
@@ -174,6 +175,26 @@ def calls_per_exchange(few=200, many=1200):
         print(f"{role}: calls of the system for an exchange: {shown}{read}")
 
 
+def instructions(count):
+    """How many instructions an equipment takes for so many exchanges, and for its beginning and end."""
+    port = free_port()
+    counter = ["valgrind", "--tool=cachegrind", "--cache-sim=no", "--cachegrind-out-file=/dev/null"]
+    words = ["--role", "equipment", "--link", "passive", "--address", HERE, "--port", str(port), "--mdln", "M"]
+    run = subprocess.Popen(
+        [*counter, PROGRAM, "serve", *words, "--softrev", "1"],
+        stdin=subprocess.DEVNULL, stdout=subprocess.DEVNULL, stderr=subprocess.PIPE,
+    )
+    asked(port, count)
+    told = run.communicate()[1]
+    return int(re.search(rb"I\s+refs:\s+([\d,]+)", told)[1].replace(b",", b""))
+
+
+def instructions_per_exchange(few=100, many=1100):
+    """What the equipment takes for one exchange more."""
+    each = (instructions(many) - instructions(few)) / (many - few)
+    print(f"equipment: {each:,.0f} instructions for an exchange")
+
+
 def late(milliseconds, port):
     """How much later than it is due the T7 of an end runs out, in milliseconds, by its own clock."""
     words = ["--role", "equipment", "--link", "passive", "--address", HERE, "--port", str(port)]
@@ -196,12 +217,8 @@ def timers(milliseconds):
         print(f"T7 of {each:,} ms: at most {most} ms late")
 
 
-def main():
-    options = argparse.ArgumentParser(description=__doc__.split("\n")[0])
-    options.add_argument("exchanges", nargs="?", type=int, default=10000)
-    options.add_argument("--timers", nargs="+", type=int, default=[1, 10, 50, 250, 300, 1000, 2500, 5000])
-    asked_for = options.parse_args()
-    count = asked_for.exchanges
+def exchanges(count):
+    """How many exchanges pass in a second, and what each one calls of the system."""
     for name, run in (
         ("hsms host, hsms equipment", two_processes),
         ("Python host, hsms equipment", plain_host),
@@ -211,6 +228,17 @@ def main():
         print(f"{name}: {count / seconds:,.0f} exchanges a second, MB held {held}")
     if shutil.which("strace"):
         calls_per_exchange()
+    if shutil.which("valgrind"):
+        instructions_per_exchange()
+
+
+def main():
+    options = argparse.ArgumentParser(description=__doc__.split("\n")[0])
+    options.add_argument("exchanges", nargs="?", type=int, default=10000)
+    options.add_argument("--timers", nargs="+", type=int, default=[1, 10, 50, 250, 300, 1000, 2500, 5000])
+    asked_for = options.parse_args()
+    if asked_for.exchanges > 0:
+        exchanges(asked_for.exchanges)
     timers(asked_for.timers)
 
 

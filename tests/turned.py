@@ -5,8 +5,9 @@ Use: tests/turned.py [--workers N] [--share N] [MODULE[:LINE]..]. A definition t
 code is wrong with it. What stands against that is the second reading, so far as its inputs reach what was turned. Here
 the reading itself is turned: a definition and a code that were both turned so would answer as it does, and the gate
 would notice where it answers one of the gate's inputs otherwise. Without words each module of the reading is turned
-(items, messages, notation, session, ends). SHARE is the part of the gate's random inputs that are asked, a tenth if
-left out; those at edges, corners and in tables are asked all.
+(items, messages, notation, session, ends, serving). SHARE is the part of the gate's random inputs that are asked, a
+tenth if left out; those at edges, corners and in tables are asked all. What the gate asks of `--linktest` is as the
+clock had it, so logs of ends stand for it here, of which every second one has a test too soon or too late.
 
 Numbers go up and down by one. Comparisons go to their neighbours. Conditions are left out, as a whole or in part, and
 hold always or never. What is listed is left out, and what stands in an order changes places. Annotations, words and
@@ -41,7 +42,8 @@ KINDS_OF = {
     "messages": ["show", "encode", "audit", "driven"],
     "notation": ["encode", "show", "driven"],
     "session": ["audit", "driven"],
-    "ends": ["driven"],
+    "ends": ["driven", "tested"],
+    "serving": ["tested"],
 }
 
 # How long a turned reading may take over all inputs, in seconds.
@@ -188,6 +190,8 @@ def turned_module(module: str, place: int, number: int) -> None:
 
 def answer(kind: str, given) -> object:
     """What the reading answers to an input."""
+    if kind == "tested":
+        return tested_again(given)
     messages, session, lists = (importlib.import_module(f"{PACKAGE}.{name}") for name in ("messages", "session", "lists"))
     if kind == "audit":
         return session.audit(given).verdict
@@ -197,11 +201,20 @@ def answer(kind: str, given) -> object:
     return output, fault and fault.words()
 
 
+def tested_again(given) -> object:
+    """The log that an end writes again which tests its link, or why it can't."""
+    serving, ends = (importlib.import_module(f"{PACKAGE}.{name}") for name in ("serving", "ends"))
+    try:
+        return serving.log_again(given.lines, given.settings, ends.equipment_desk(b"M", b"1"), given.pause)
+    except serving.Amiss as amiss:
+        return str(amiss)
+
+
 def inputs_of(share: float) -> List[Tuple[str, object, object]]:
     """Each input of the gate: its kind, what is given, and what the reading answers as it stands."""
-    corners, damage, inputs, lists, messages, tables, walks = (
+    corners, damage, inputs, lists, messages, pauses, tables, walks = (
         importlib.import_module(f"{PACKAGE}.{name}")
-        for name in ("corners", "damage", "inputs", "lists", "messages", "tables", "walks")
+        for name in ("corners", "damage", "inputs", "lists", "messages", "pauses", "tables", "walks")
     )
     made = [("audit", log) for log in corners.logs() + walks.logs_at_edges()]
     made += [("encode", notation) for notation in inputs.notations_at_edges()]
@@ -209,6 +222,7 @@ def inputs_of(share: float) -> List[Tuple[str, object, object]]:
     made += [("audit", walks.random_log(inputs.Chance(f"1 audit {at}"))) for at in range(int(4000 * share))]
     made += [("show", inputs.random_stream(inputs.Chance(f"1 show {at}"))) for at in range(int(4000 * share))]
     made += [("encode", inputs.random_notation(inputs.Chance(f"1 encode {at}"))) for at in range(int(4000 * share))]
+    made += [("tested", pauses.paused(number)) for number in range(int(4000 * share))]
     plain = messages.Options()
     for at in range(int(6000 * share)):
         case = damage.case("1", at)

@@ -2,10 +2,12 @@
 """Tells each fault of the command, without words and with them: by `-v`, and by HSMS_VERBOSE in the environment.
 
 Without them standard error has one line, the fault's name. With them the words follow, which docs/FORMATS.md shows in
-its table, and nothing else changes. It runs what `rt ci` has built, or the program that it is given. The last line is
-`N passed, M failed`.
+its table, and nothing else changes. `Endless` isn't tried: it takes 4,294,967,295 messages or reads. It runs what `rt
+ci` has built, or the program that it is given. The last line is `N passed, M failed`.
 """
+import ctypes
 import os
+import resource
 import subprocess
 import sys
 import threading
@@ -109,6 +111,41 @@ def cases_of_devices():
     yield Case([*LISTENS, "--address", HERE, "--port", str(free_port())], 3, "Log", [log], how=full)
 
 
+def little_memory():
+    """What a process has that is about to be a program with 48 MB of memory."""
+    resource.setrlimit(resource.RLIMIT_AS, (48 << 20, 48 << 20))
+
+
+def cases_of_memory():
+    memory = "memory is wanting: give the command more, or a smaller input"
+    long = b'S1F1 <A "' + (24 << 20) * b"x" + b'"> .'
+    little = {"preexec_fn": little_memory}
+    for words in (["encode"], [*HERE_AT, "1", "--send"]):
+        yield Case(words, 3, "Memory", [memory], long, little)
+    message = (33554432).to_bytes(4, "big") + 33554432 * b"\0"
+    yield Case(["show", "--max", "33554432"], 3, "Memory", [memory], message, little)
+
+
+LIBRARY = ctypes.CDLL(None, use_errno=True)
+DROP_BOUND, BIND_LOW_PORTS = 24, 10
+
+
+def no_low_ports():
+    """What a process has that is about to be a program which may not listen below port 1024, as root may."""
+    LIBRARY.prctl(DROP_BOUND, BIND_LOW_PORTS, 0, 0, 0)
+
+
+def cases_of_ways():
+    """Links that the system doesn't allow, or knows no way to."""
+    no_answer = "no answer from 224.0.0.1:5000: see --address, the network, and what stands between"
+    yield Case([*END, "--address", "224.0.0.1", "--port", "5000"], 3, "Link", [no_answer])
+    with open("/proc/sys/net/ipv4/ip_unprivileged_port_start", encoding="ascii") as file:
+        are_low_ports_kept = int(file.read()) > 1
+    if are_low_ports_kept:
+        kept = "the system doesn't allow port 1: take one from 1024 on"
+        yield Case([*LISTENS, "--address", HERE, "--port", "1"], 3, "Link", [kept], how={"preexec_fn": no_low_ports})
+
+
 def cases_of_links():
     port = free_port()
     refused = f"connection refused by {HERE}:{port}: nobody listens there."
@@ -195,7 +232,7 @@ def documented(cases):
 
 def main():
     passed, failed, cases, told = 0, 0, [], []
-    for made in (cases_of_words, cases_of_inputs, cases_of_devices, cases_of_links):
+    for made in (cases_of_words, cases_of_inputs, cases_of_devices, cases_of_memory, cases_of_ways, cases_of_links):
         for case in made():
             cases.append(case)
             try:

@@ -18,7 +18,7 @@ use Rattle.hsms_end.specs.Drive.{octets_in}
 use Rattle.hsms_end.specs.Frame.{linktest_req, separate_req, message_frame}
 use Rattle.hsms_end.specs.Reaction.{reaction}
 use Rattle.hsms_end.specs.Turn.{is_pending, opening_of, cut_by, expiries, received_as, Handles, warns_too_long, Rests, is_down, waits, too_short, too_long, Receives, with_octets, Told, start, tick, bytes, send, linktest, separate, lost, Turn}
-use Rattle.hsms_end.proofs.Kept.{receipt, receipts, reaction_none, opening_none, expiries_none, too_long_none}
+use Rattle.hsms_end.proofs.Kept.{receipts, reaction_none, opening_none, expiries_none, too_long_none}
 
 -- header and text of a discarded message are within the limit
 abbrev pub IsDiscardSized : ℕ → Event → Type 0

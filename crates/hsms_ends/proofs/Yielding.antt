@@ -1,6 +1,6 @@
 -- What came of entries, in stretches that follow one another.
 use Rattle.std.proofs.Common.{◌≡◌, ◌+◌, ◌++◌, ◌^◌, ◌-◌, min, ℕ, List, [], ◌∷◌, length, Ok, Err, refl, sym, ap, ◌∙◌, subst, arith, length-append}
-use Rattle.std.specs.Prelude.{Result, All}
+use Rattle.std.specs.Prelude.{Result}
 use Rattle.std.proofs.lemmas.List.{append-nil}
 use Rattle.std.proofs.lemmas.List.Elements.{All-append, All-nil}
 use Rattle.hsms_frame.specs.Device.{SinkState, Stays}
@@ -11,7 +11,7 @@ use Rattle.hsms_ends.specs.declared.output.Stop.TheVariants.{Memory}
 use Rattle.hsms_ends.specs.Link.{Told, Heard, Hears, Asks, both, nothing_heard, moment_heard}
 use Rattle.hsms_ends.specs.PutOut.{IsEnding}
 use Rattle.hsms_ends.specs.Outcome.{Counts, Yields}
-use Rattle.hsms_ends.proofs.Puttings.{puts_then, puts_along, puts_heard, puts_nothing, puts_memory, asked_then}
+use Rattle.hsms_ends.proofs.Puttings.{puts_then, puts_heard, puts_nothing, puts_memory, asked_then}
 
 -- what ends nothing is nothing, so it ends anything
 pub ending_none : (entries rest : List Entry) → IsEnding rest [] → IsEnding rest entries

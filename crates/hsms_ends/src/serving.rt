@@ -19,6 +19,9 @@ use hsms_log::write_settings;
 use hsms_machine::{Entry, Settings};
 use std::alloc::Global;
 
+// The octets that one wait takes at most.
+const ROOM: usize = 4096;
+
 /// What was served.
 #[derive(Clone, Copy, Debug, PartialEq, Eq)]
 pub struct Served {
@@ -176,8 +179,9 @@ fn run<L: Link, W: Sink, D: Desk>(
         (W.state log.old) (W.state log.new) (L.told link.old) (L.told link.new)
         progress.new.entries progress.new.refused }
 {
+    let mut room = [0u8; ROOM];
     match begin(link, log, end, &mut progress.entries) {
-        Ok(()) => take_turns(link, log, end, script, progress, pause, turns),
+        Ok(()) => take_turns(link, log, end, script, progress, pause, turns, &mut room),
         Err(stop) => Err(stop),
     }
 }

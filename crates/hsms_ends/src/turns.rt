@@ -16,9 +16,6 @@ use hsms_end::{Desk, End, EndFault};
 use hsms_frame::Sink;
 use hsms_machine::{Entry, Phase};
 
-// The octets that one wait takes at most.
-const ROOM: usize = 4096;
-
 /// How far serving has come.
 #[derive(Clone, Copy, Debug)]
 pub struct Progress {
@@ -243,23 +240,25 @@ fn hear_closed<L: Link, W: Sink, D: Desk>(
     }
 }
 
-/// Waits once, and tells the end what came of it.
+/// Waits once, into a slice that isn't empty, and tells the end what came of it.
 fn wait_once<L: Link, W: Sink, D: Desk>(
     link: &mut L,
     log: &mut W,
     end: &mut End<D>,
     pause: Option<u64>,
+    into: &mut [u8],
     count: &mut u64,
 ) -> Result<(), Stop>
-    requires { IsReady end.old }
-    ensures { (script : List Step) (refused : ℕ) → MustWait pause end.old script script
+    requires ready { IsReady end.old }
+    requires room { 0 < length into.old }
+    ensures continued { (script : List Step) (refused : ℕ) → MustWait pause end.old script script
         → Continued D.answers pause result end.old end.new script script (W.state log.old) (W.state log.new)
         (L.told link.old) (L.told link.new) count.old count.new refused refused }
+    ensures len { length into.new ≡ length into.old }
 {
-    let mut into = [0u8; ROOM];
     let until = until(end, pause);
-    match link.wait(until, &mut into) {
-        Ok(got) => heed(link, log, end, got, &into, count),
+    match link.wait(until, into) {
+        Ok(got) => heed(link, log, end, got, into, count),
         Err(_) => Err(Stop::Link),
     }
 }
@@ -307,16 +306,19 @@ fn turn<L: Link, W: Sink, D: Desk>(
     script: &[Step],
     progress: &mut Progress,
     pause: Option<u64>,
+    into: &mut [u8],
 ) -> Result<(), Stop>
     requires ready { IsReady end.old }
     requires up { HasNotGone end.old }
-    ensures { TurnTaken D.answers pause result end.old end.new
+    requires room { 0 < length into.old }
+    ensures taken { TurnTaken D.answers pause result end.old end.new
         (drop progress.old.place script.now) (drop progress.new.place script.now)
         (W.state log.old) (W.state log.new) (L.told link.old) (L.told link.new)
         progress.old.entries progress.new.entries progress.old.refused progress.new.refused }
+    ensures len { length into.new ≡ length into.old }
 {
     match tick(link, log, end, &mut progress.entries) {
-        Ok(()) => continue_turn(link, log, end, script, progress, pause),
+        Ok(()) => continue_turn(link, log, end, script, progress, pause, into),
         Err(stop) => Err(stop),
     }
 }
@@ -329,12 +331,15 @@ fn continue_turn<L: Link, W: Sink, D: Desk>(
     script: &[Step],
     progress: &mut Progress,
     pause: Option<u64>,
+    into: &mut [u8],
 ) -> Result<(), Stop>
-    requires { IsReady end.old }
-    ensures { Continued D.answers pause result end.old end.new
+    requires ready { IsReady end.old }
+    requires room { 0 < length into.old }
+    ensures continued { Continued D.answers pause result end.old end.new
         (drop progress.old.place script.now) (drop progress.new.place script.now)
         (W.state log.old) (W.state log.new) (L.told link.old) (L.told link.new)
         progress.old.entries progress.new.entries progress.old.refused progress.new.refused }
+    ensures len { length into.new ≡ length into.old }
 {
     if has_gone(end) {
         return Ok(());
@@ -344,7 +349,7 @@ fn continue_turn<L: Link, W: Sink, D: Desk>(
     } else if test_is_due(end, pause) {
         hand_linktest(link, log, end, &mut progress.entries)
     } else {
-        wait_once(link, log, end, pause, &mut progress.entries)
+        wait_once(link, log, end, pause, into, &mut progress.entries)
     }
 }
 
@@ -376,7 +381,7 @@ fn test_moment<D: Desk>(end: &End<D>, pause: Option<u64>) -> Option<u64>
     }
 }
 
-/// At most so many turns, while the connection isn't down.
+/// At most so many turns, while the connection isn't down. What comes is read into a slice that isn't empty.
 pub fn take_turns<L: Link, W: Sink, D: Desk>(
     link: &mut L,
     log: &mut W,
@@ -385,8 +390,10 @@ pub fn take_turns<L: Link, W: Sink, D: Desk>(
     progress: &mut Progress,
     pause: Option<u64>,
     turns: u64,
+    into: &mut [u8],
 ) -> Result<(), Stop>
-    requires { IsReady end.old }
+    requires ready { IsReady end.old }
+    requires room { 0 < length into.old }
     ensures { TurnsTaken D.answers pause result turns end.old end.new
         (drop progress.old.place script.now) (drop progress.new.place script.now)
         (W.state log.old) (W.state log.new) (L.told link.old) (L.told link.new)
@@ -394,7 +401,7 @@ pub fn take_turns<L: Link, W: Sink, D: Desk>(
 {
     let mut done = 0;
     while done < turns && !has_gone(end) {
-        match turn(link, log, end, script, progress, pause) {
+        match turn(link, log, end, script, progress, pause, into) {
             Ok(()) => done += 1,
             Err(stop) => return Err(stop),
         }

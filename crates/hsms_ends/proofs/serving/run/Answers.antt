@@ -5,8 +5,8 @@ use Rattle.hsms_ends.proofs.Readiness.{ready_handed}
 use Rattle.hsms_ends.proofs.Running.{ran_turns, ran_cut}
 use Rattle.hsms_ends.proofs.serving.run.Goals as goal
 
-pub take_turns-requires : goal.take_turns-requires
-take_turns-requires g c =
+pub take_turns-requires-clause-ready : goal.take_turns-requires-clause-ready
+take_turns-requires-clause-ready g c =
     let told = g.L.Link.told in
     let log : SinkState = g.W.Sink.state c.args.log.now in
     ready_handed g.D.Desk.answers c.args.end.now c.begin.new.end (start c.in-Ok.ensures.0) log (g.W.Sink.state c.begin.new.log) (told c.args.link.now) (told c.begin.new.link) _ c.args.progress.now.entries c.begin.new.count c.requires.ready c.in-Ok.ensures.1

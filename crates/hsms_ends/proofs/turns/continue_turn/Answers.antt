@@ -3,14 +3,14 @@ use Rattle.hsms_frame.specs.Device.{SinkState}
 use Rattle.hsms_ends.proofs.Turning.{continued_gone, continued_tested}
 use Rattle.hsms_ends.proofs.turns.continue_turn.Goals as goal
 
-pub returns-then-has_gone : goal.returns-then-has_gone
-returns-then-has_gone g c =
+pub returns-then-has_gone-clause-continued : goal.returns-then-has_gone-clause-continued
+returns-then-has_gone-clause-continued g c =
     let log : SinkState = g.W.Sink.state c.args.log.now in
     let before = c.args.progress.now in
     continued_gone g.D.Desk.answers c.args.pause c.args.end.now (drop before.place c.args.script.now) log (g.L.Link.told c.args.link.now) before.entries before.refused (sym c.has_gone.ensures ∙ c.if-has_gone.true)
 
-pub returns-then-test_is_due : goal.returns-then-test_is_due
-returns-then-test_is_due g c =
+pub returns-then-test_is_due-clause-continued : goal.returns-then-test_is_due-clause-continued
+returns-then-test_is_due-clause-continued g c =
     let told = g.L.Link.told in
     let log : SinkState = g.W.Sink.state c.args.log.now in
     let log' : SinkState = g.W.Sink.state c.hand_linktest.new.log in

@@ -1,4 +1,4 @@
-use Rattle.std.proofs.Common.{[], Ok, Err, inr, refl, sym, subst}
+use Rattle.std.proofs.Common.{[], inr, refl, sym, subst}
 use Rattle.std.specs.Prelude.{List}
 use Rattle.hsms_frame.specs.Device.{SinkState}
 use Rattle.hsms_machine.specs.declared.entry.Entry.{Entry}

@@ -1,8 +1,6 @@
-use Rattle.std.proofs.Common.{Ok, Err, sym, ◌∙◌, subst}
+use Rattle.std.proofs.Common.{sym, ◌∙◌}
 use Rattle.hsms_frame.specs.Device.{SinkState}
-use Rattle.hsms_end.specs.Known.{EndOf}
 use Rattle.hsms_end.specs.Turn.{tick as ticks, lost}
-use Rattle.hsms_ends.specs.Outcome.{IsReady}
 use Rattle.hsms_ends.proofs.Readiness.{ready_handed}
 use Rattle.hsms_ends.proofs.Turning.{followed_gone, followed_cut, followed}
 use Rattle.hsms_ends.proofs.turns.hear_closed.Goals as goal

@@ -11,7 +11,7 @@ loop-done-init g c =
     let told = g.L.Link.told in
     let log : SinkState = g.W.Sink.state c.args.log.now in
     let first = c.args.progress.now in
-    (omega arith, c.requires, none_so_far g.D.Desk.answers c.args.pause c.args.end.now (drop first.place c.args.script.now) log (told c.args.link.now) first.entries first.refused)
+    (omega arith, c.requires.ready, none_so_far g.D.Desk.answers c.args.pause c.args.end.now (drop first.place c.args.script.now) log (told c.args.link.now) first.entries first.refused, c.requires.room)
 
 pub loop-done-preserved : goal.loop-done-preserved
 loop-done-preserved g c =
@@ -25,9 +25,10 @@ loop-done-preserved g c =
     let log' : SinkState = g.W.Sink.state c.turn.new.log in (
       omega arith,
       ready_turned g.D.Desk.answers c.args.pause c.loop-done.end c.turn.new.end (drop now.place script) (drop after.place script) mid log' (told c.loop-done.link) (told c.turn.new.link)
-          now.entries after.entries now.refused after.refused c.loop-done.invariant.1 c.in-Ok.ensures,
+          now.entries after.entries now.refused after.refused c.loop-done.invariant.1 c.in-Ok.ensures.taken,
       one_more g.D.Desk.answers c.args.pause c.args.end.now c.loop-done.end c.turn.new.end (drop first.place script) (drop now.place script) (drop after.place script) log mid log' (told c.args.link.now) (told c.loop-done.link) (told c.turn.new.link)
-          first.entries now.entries after.entries first.refused now.refused after.refused c.loop-done.done c.loop-done.invariant.2 c.in-Ok.ensures,
+          first.entries now.entries after.entries first.refused now.refused after.refused c.loop-done.done c.loop-done.invariant.2 c.in-Ok.ensures.taken,
+      omega (arith, c.in-Ok.ensures.len, c.loop-done.invariant.3),
     )
 
 pub returns-in-Err : goal.returns-in-Err
@@ -41,7 +42,7 @@ returns-in-Err g c =
     let after = c.turn.new.progress in
     let log' : SinkState = g.W.Sink.state c.turn.new.log in
     taken_cut g.D.Desk.answers c.args.pause c.in-Err.stop c.args.turns c.args.end.now c.loop-done.end c.turn.new.end (drop first.place script) (drop now.place script) (drop after.place script) log mid log' (told c.args.link.now) (told c.loop-done.link) (told c.turn.new.link)
-    first.entries now.entries after.entries first.refused now.refused after.refused c.loop-done.done c.loop-done.invariant.2 (omega arith) c.in-Err.ensures
+    first.entries now.entries after.entries first.refused now.refused after.refused c.loop-done.done c.loop-done.invariant.2 (omega arith) c.in-Err.ensures.taken
 
 pub returns-else-not-has_gone : goal.returns-else-not-has_gone
 returns-else-not-has_gone g c =

@@ -5,14 +5,14 @@ use Rattle.hsms_ends.proofs.Readiness.{ready_handed}
 use Rattle.hsms_ends.proofs.Turning.{turn_whole, turn_cut}
 use Rattle.hsms_ends.proofs.turns.turn.Goals as goal
 
-pub continue_turn-requires : goal.continue_turn-requires
-continue_turn-requires g c =
+pub continue_turn-requires-clause-ready : goal.continue_turn-requires-clause-ready
+continue_turn-requires-clause-ready g c =
     let told = g.L.Link.told in
     let log : SinkState = g.W.Sink.state c.args.log.now in
     ready_handed g.D.Desk.answers c.args.end.now c.tick.new.end (ticks c.in-Ok.ensures.0) log (g.W.Sink.state c.tick.new.log) (told c.args.link.now) (told c.tick.new.link) _ c.args.progress.now.entries c.tick.new.count c.requires.ready c.in-Ok.ensures.1
 
-pub returns-in-Ok : goal.returns-in-Ok
-returns-in-Ok g c =
+pub returns-in-Ok-clause-taken : goal.returns-in-Ok-clause-taken
+returns-in-Ok-clause-taken g c =
     let told = g.L.Link.told in
     let log : SinkState = g.W.Sink.state c.args.log.now in
     let mid : SinkState = g.W.Sink.state c.tick.new.log in
@@ -21,10 +21,10 @@ returns-in-Ok g c =
     let before = c.args.progress.now in
     let after = c.continue_turn.new.progress in
     turn_whole g.D.Desk.answers c.args.pause c.continue_turn.result c.in-Ok.ensures.0 c.args.end.now c.tick.new.end c.continue_turn.new.end (drop before.place script) (drop after.place script) log mid log' (told c.args.link.now) (told c.tick.new.link) (told c.continue_turn.new.link)
-    before.entries c.tick.new.count after.entries before.refused after.refused c.requires.up c.in-Ok.ensures.1 c.continue_turn.ensures
+    before.entries c.tick.new.count after.entries before.refused after.refused c.requires.up c.in-Ok.ensures.1 c.continue_turn.ensures.continued
 
-pub returns-in-Err : goal.returns-in-Err
-returns-in-Err g c =
+pub returns-in-Err-clause-taken : goal.returns-in-Err-clause-taken
+returns-in-Err-clause-taken g c =
     let told = g.L.Link.told in
     let log : SinkState = g.W.Sink.state c.args.log.now in
     let log' : SinkState = g.W.Sink.state c.tick.new.log in

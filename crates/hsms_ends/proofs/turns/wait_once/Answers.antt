@@ -2,8 +2,8 @@ use Rattle.hsms_frame.specs.Device.{SinkState}
 use Rattle.hsms_ends.proofs.Turning.{continued_fault, continued_got}
 use Rattle.hsms_ends.proofs.turns.wait_once.Goals as goal
 
-pub returns-in-Ok : goal.returns-in-Ok
-returns-in-Ok g c script refused must =
+pub returns-in-Ok-clause-continued : goal.returns-in-Ok-clause-continued
+returns-in-Ok-clause-continued g c script refused must =
     let told = g.L.Link.told in
     let log : SinkState = g.W.Sink.state c.args.log.now in
     let log' : SinkState = g.W.Sink.state c.heed.new.log in
@@ -11,8 +11,8 @@ returns-in-Ok g c script refused must =
     continued_got g.D.Desk.answers c.args.pause c.heed.result _ c.in-Ok.got c.args.end.now c.heed.new.end script log log' (told c.args.link.now) (told c.wait.new.self) (told c.heed.new.link) c.args.count.now c.heed.new.count refused
     waits.1 waits.2 waits.3 c.heed.ensures must
 
-pub returns-in-Err : goal.returns-in-Err
-returns-in-Err g c script refused must =
+pub returns-in-Err-clause-continued : goal.returns-in-Err-clause-continued
+returns-in-Err-clause-continued g c script refused must =
     let told = g.L.Link.told in
     let log : SinkState = g.W.Sink.state c.args.log.now in
     let waits = c.in-Err.ensures in
