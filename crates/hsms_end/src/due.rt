@@ -1,9 +1,9 @@
 //! When a timer runs out, and when the link is to be tested.
 
 ghost use Rattle.std.specs.Prelude.{◌≡◌};
-ghost use Rattle.hsms_machine.specs.Timer.{least_of};
 
 use crate::state::State;
+use hsms_machine::earlier;
 
 impl State {
     ghost use Rattle.hsms_end.specs.Inside.{known};
@@ -46,16 +46,5 @@ impl State {
         } else {
             None
         }
-    }
-}
-
-/// The earlier of two moments, or the one that there is.
-fn earlier(one: Option<u64>, other: Option<u64>) -> Option<u64>
-    ensures { result ≡ least_of one other }
-{
-    match (one, other) {
-        (Some(one), Some(other)) => Some(one.min(other)),
-        (Some(one), None) => Some(one),
-        (None, other) => other,
     }
 }

@@ -4,6 +4,7 @@ ghost use Rattle.std.specs.Prelude.{◌≡◌, ◌≢◌, ◌<◌, ◌≤◌, �
 ghost use Rattle.hsms_ends.specs.Script.{given_of, left_of, pass_over, wait_octets};
 
 use crate::link::Got;
+use hsms_frame::copy_front;
 use std::marker::Model;
 
 /// What a peer says, a wait after the other.
@@ -153,15 +154,4 @@ fn give(
         Some(octets) => Some(copy_front(&octets[within..], into, piece)),
         None => None,
     }
-}
-
-/// Copies what fits of the front of a slice, at most `piece` octets, and says how many.
-fn copy_front(from: &[u8], into: &mut [u8], piece: usize) -> usize
-    ensures count { result ≡ min (min (length from.now) (length into.old)) piece }
-    ensures front { take result into.new ≡ take result from.now }
-    ensures len { length into.new ≡ length into.old }
-{
-    let count = from.len().min(into.len()).min(piece);
-    into[..count].copy_from_slice(&from[..count]);
-    count
 }

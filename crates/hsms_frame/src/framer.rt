@@ -162,13 +162,3 @@ pub fn front(octets: &[u8], max: u32) -> Result<Option<(Header, usize)>, FrameFa
     }
     Ok(Some((header, size)))
 }
-
-// Takes octets away from the front.
-fn drop_front(octets: &mut Vec<u8>, count: usize)
-    requires { count ≤ vec_len octets.old }
-    ensures { octets.new.items ≡ drop count octets.old.items }
-{
-    let rest = octets.len() - count;
-    octets.copy_within(count.., 0);
-    octets.truncate(rest);
-}

@@ -5,6 +5,7 @@ ghost use Rattle.hsms_frame.specs.Device.{Takes, IsAtEnd, Stays, Grows, CountsPu
 ghost use Rattle.hsms_frame.specs.Memory.{source_of, sink_of};
 
 use crate::device::{Failed, Sink, Source};
+use crate::octets::copy_front;
 use crate::tally::Tally;
 use std::marker::Model;
 
@@ -179,17 +180,6 @@ impl Sink for Store {
         self.place += count;
         Ok(count)
     }
-}
-
-// Copies what fits of the front of a slice, at most `piece` octets, and says how many.
-fn copy_front(from: &[u8], into: &mut [u8], piece: usize) -> usize
-    ensures count { result ≡ min (min (length from.now) (length into.old)) piece }
-    ensures front { take result into.new ≡ take result from.now }
-    ensures after { into.new ≡ take result from.now ++ drop result into.old }
-{
-    let count = from.len().min(into.len()).min(piece);
-    into[..count].copy_from_slice(&from[..count]);
-    count
 }
 
 // Copies what fits of the front of a slice over the room from a place on, and says how many octets.

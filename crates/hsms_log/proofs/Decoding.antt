@@ -1,7 +1,7 @@
 -- Hexadecimal digits, read sixteen at once.
-use Rattle.std.proofs.Common.{◌≡◌, ◌<◌, ◌≤◌, ◌+◌, ◌-◌, ◌*◌, ◌%◌, ◌^◌, ◌++◌, ℕ, zero, suc, Bool, true, false, cond, leb, eqb, T, List, [], ◌∷◌, length, take, drop, get_or, map, replicate, Fits, w8, inl, inr, Some, None, Ok, refl, sym, ap, ap₂, ◌∙◌, subst, arith}
-use Rattle.std.specs.Prelude.{Option, unwrap_or}
-use Rattle.std.proofs.lemmas.Bool.{agree_below, agree_below_at, leb-true, leb-false, eqb-true, cases_lt, cases_Bool}
+use Rattle.std.proofs.Common.{◌≡◌, ◌<◌, ◌≤◌, ◌+◌, ◌-◌, ◌*◌, ◌%◌, ◌^◌, ◌++◌, ℕ, zero, suc, max, not, Bool, true, false, cond, leb, ltb, eqb, T, List, [], ◌∷◌, length, take, drop, get_or, map, replicate, Fits, w8, inl, inr, Some, None, Ok, refl, sym, ap, ap₂, ◌∙◌, subst, arith}
+use Rattle.std.specs.Prelude.{◌⊎◌, Option, unwrap_or}
+use Rattle.std.proofs.lemmas.Bool.{agree_below, agree_below_at, leb-true, leb-false, ltb-true, ltb-false, eqb-true, not-true, cases_lt, cases_Bool}
 use Rattle.std.proofs.lemmas.List.{set-get_or, get_or-map, length-map}
 use Rattle.std.proofs.lemmas.List.Elements.{All-get_or}
 use Rattle.std.proofs.lemmas.Simd.{length-chunk, get_or-chunk, map-map, mask_l-mod, get_or-zip2, get_or-replicate, pick_l_left}
@@ -10,26 +10,13 @@ use Rattle.hex.specs.Hex.{decode_pairs, hex_digit_value, is_hex_digit, pair_valu
 use Rattle.hex.proofs.Pairs.{prepend, decode_start, decode_step, decode_done}
 use Rattle.hex.proofs.HexLemmas.{decode_of-ok, decode_of-even}
 use Rattle.hsms_log.specs.Spelling.{IsHexOf}
-use Rattle.hsms_log.specs.Digits.{value_or_none, IsPair, AreRead}
+use Rattle.hsms_log.specs.Digits.{value_or_none, IsPair, IsValueOf, AreSmall, AreRead}
 
 -- ---- from octets to the definition
 
 value_some : (o : Option ℕ) → unwrap_or o 255 < 16 → o ≡ Some (unwrap_or o 255)
 value_some (Some v) small = refl
 value_some None small = absurd (omega arith)
-
-pub value_none : (c : ℕ) → 16 ≤ value_or_none c → is_hex_digit c ≡ false
-value_none c large = grind (arith)
-
-value_small : (c : ℕ) → value_or_none c < 128 → value_or_none c < 16
-value_small c less = grind (arith)
-
--- values that lack the high bit are those of digits
-pub all_digits : (digits values : List ℕ) (place : ℕ) → ((k : ℕ) → k < 16 → get_or values k 0 ≡ value_or_none (get_or digits (place + k) 0))
-    → ((k : ℕ) → k < 16 → get_or values k 0 < 128) → (k : ℕ) → k < 16 → get_or values k 0 < 16
-all_digits digits values place told small k less =
-    let c = get_or digits (place + k) 0 in
-    subst (λ n. n < 16) (sym (told k less)) (value_small c (subst (λ n. n < 128) (told k less) (small k less)))
 
 -- two digits are the octet of their values
 pair_is : (a b v i : ℕ) → IsPair a b v → pair_value a b i ≡ Ok v
@@ -64,7 +51,7 @@ undecoded digits k fits other spelled hex =
 
 -- eight octets more are read
 pub read_on : (digits values old new : List ℕ) (place passed : ℕ) → place ≤ passed → AreRead digits old passed
-    → ((k : ℕ) → k < 16 → get_or values k 0 ≡ value_or_none (get_or digits (2 * place + k) 0)) → ((k : ℕ) → k < 16 → get_or values k 0 < 16)
+    → ((k : ℕ) → k < 16 → IsValueOf (get_or digits (2 * place + k) 0) (get_or values k 0)) → AreSmall values
     → ((k : ℕ) → k < place → get_or new k 0 ≡ get_or old k 0)
     → ((k : ℕ) → k < 8 → get_or new (place + k) 0 ≡ get_or values (2 * k) 0 * 16 + get_or values (2 * k + 1) 0)
     → AreRead digits new (place + 8)
@@ -78,9 +65,9 @@ read_on digits values old new place passed within read told small before joined 
           let first : 2 * place + 2 * j ≡ 2 * k = omega arith in
           let second : 2 * place + (2 * j + 1) ≡ 2 * k + 1 = omega arith in
           let high : get_or values (2 * j) 0 ≡ value_or_none (get_or digits (2 * k) 0) =
-          told (2 * j) (omega arith) ∙ ap (λ n. value_or_none (get_or digits n 0)) first in
+          (told (2 * j) (omega arith)).0 (small (2 * j) (omega arith)) ∙ ap (λ n. value_or_none (get_or digits n 0)) first in
           let low : get_or values (2 * j + 1) 0 ≡ value_or_none (get_or digits (2 * k + 1) 0) =
-          told (2 * j + 1) (omega arith) ∙ ap (λ n. value_or_none (get_or digits n 0)) second in
+          (told (2 * j + 1) (omega arith)).0 (small (2 * j + 1) (omega arith)) ∙ ap (λ n. value_or_none (get_or digits n 0)) second in
           let octet : get_or new k 0 ≡ get_or values (2 * j) 0 * 16 + get_or values (2 * j + 1) 0 =
           ap (λ n. get_or new n 0) (sym here) ∙ joined j (omega arith) in (
             subst (λ n. n < 16) high (small (2 * j) (omega arith)),
@@ -106,6 +93,9 @@ pub lanes_loaded : (v : List ℕ) → v ≡ map (λ x. x) v
 lanes_loaded [] = refl
 lanes_loaded (x ∷ xs) = ap (λ r. x ∷ r) (lanes_loaded xs)
 
+pub lanes_of_each : (h f : ℕ → ℕ) (v : List ℕ) {a : List ℕ} → a ≡ map f v → map h a ≡ map (λ x. h (f x)) v
+lanes_of_each h f v p = ap (map h) p ∙ map-map h f v
+
 sel-map : (h f g : ℕ → ℕ) (xs : List ℕ) → sel_l (map (top 7) (map h xs)) (map f xs) (map g xs) ≡ map (λ x. cond (top 7 (h x)) (f x) (g x)) xs
 sel-map h f g [] = refl
 sel-map h f g (x ∷ xs) = ap (λ r. cond (top 7 (h x)) (f x) (g x) ∷ r) (sel-map h f g xs)
@@ -120,16 +110,64 @@ pub lanes_chosen : (h f g : ℕ → ℕ) (v : List ℕ) {m a b : List ℕ} → m
     → sel_l (map (top 7) m) a b ≡ map (λ x. cond (top 7 (h x)) (f x) (g x)) v
 lanes_chosen h f g v m_is p q = chosen h f g v _ _ _ m_is p q
 
--- what is computed of sixteen octets is their values, where it is that for each octet that there is
+pub lanes_as_many : (f : ℕ → ℕ) (v : List ℕ) {values : List ℕ} {n : ℕ} → values ≡ map f v → length v ≡ n → length values ≡ n
+lanes_as_many f v is long = ap length is ∙ length-map v f ∙ long
+
+-- whether a number stands for an octet
+abbrev pub stands_for : ℕ → ℕ → Bool
+stands_for c v = cond (leb 16 v) (not (is_hex_digit c)) (eqb v (value_or_none c))
+
+stands : (c v : ℕ) → stands_for c v ≡ true → IsValueOf c v
+stands c v e = go (leb 16 v) refl e
+  where
+    go : (t : Bool) → leb 16 v ≡ t → cond t (not (is_hex_digit c)) (eqb v (value_or_none c)) ≡ true → IsValueOf c v
+    go true p q = (let large = leb-true 16 v p in λ small. absurd (omega (arith, large, small)), λ _. not-true _ q)
+    go false p q = (λ _. eqb-true v (value_or_none c) q, let small = leb-false 16 v p in λ large. absurd (omega (arith, large, small)))
+
+-- what is computed of sixteen octets stands for them, where it does for each octet that there is
 pub values_told : (f : ℕ → ℕ) (digits values : List ℕ) (place : ℕ) → place + 16 ≤ length digits → ((k : ℕ) → Fits w8 (get_or digits k 0))
-    → values ≡ map f (chunk place 16 digits) → agree_below (λ c. eqb (f c) (value_or_none c)) (λ _. true) 256 ≡ true
-    → (k : ℕ) → k < 16 → get_or values k 0 ≡ value_or_none (get_or digits (place + k) 0)
+    → values ≡ map f (chunk place 16 digits) → agree_below (λ c. stands_for c (f c)) (λ _. true) 256 ≡ true
+    → (k : ℕ) → k < 16 → IsValueOf (get_or digits (place + k) 0) (get_or values k 0)
 values_told f digits values place room fits is all k less =
     let v = chunk place 16 digits in
     let long = length-chunk place 16 digits room in
     let c = get_or digits (place + k) 0 in
-    ap (λ l. get_or l k 0) is ∙ get_or-map f v k 0 0 (omega (arith, long)) ∙ ap f (get_or-chunk place 16 digits k 0 less)
-    ∙ eqb-true (f c) (value_or_none c) (agree_below_at (λ c. eqb (f c) (value_or_none c)) (λ _. true) 256 c all (fits (place + k)).fits)
+    let same = ap (λ l. get_or l k 0) is ∙ get_or-map f v k 0 0 (omega (arith, long)) ∙ ap f (get_or-chunk place 16 digits k 0 less) in
+    subst (λ n. IsValueOf c n) (sym same) (stands c (f c) (agree_below_at (λ c. stands_for c (f c)) (λ _. true) 256 c all (fits (place + k)).fits))
+
+-- ---- the greater of lanes
+
+abbrev pub greater : List ℕ → List ℕ → List ℕ
+greater a b = sel_l (map (top 7) (zip2 (λ x y. cond (ltb x y) 255 0) a b)) b a
+
+greater_of : (x y : ℕ) → cond (top 7 (cond (ltb x y) 255 0)) y x ≡ max x y
+greater_of x y = go (ltb x y) refl
+  where
+    go : (t : Bool) → ltb x y ≡ t → cond (top 7 (cond t 255 0)) y x ≡ max x y
+    go true p = let less = ltb-true x y p in omega arith
+    go false p = let more = ltb-false x y p in omega arith
+
+greater_at : (a b : List ℕ) (k : ℕ) → length a ≡ length b → k < length a → get_or (greater a b) k 0 ≡ max (get_or a k 0) (get_or b k 0)
+greater_at [] b k same less = absurd (omega arith)
+greater_at (x ∷ xs) [] k same less = absurd (omega arith)
+greater_at (x ∷ xs) (y ∷ ys) zero same less = greater_of x y
+greater_at (x ∷ xs) (y ∷ ys) (suc k) same less = greater_at xs ys k (omega arith) (omega arith)
+
+-- where the greater is small, so are both
+pub greater_small : (a b : List ℕ) → length a ≡ 16 → length b ≡ 16 → AreSmall (greater a b) → AreSmall a × AreSmall b
+greater_small a b left right small = (λ k less. omega (arith, both k less, small k less), λ k less. omega (arith, both k less, small k less))
+  where
+    both : (k : ℕ) → k < 16 → get_or (greater a b) k 0 ≡ max (get_or a k 0) (get_or b k 0)
+    both k less = greater_at a b k (left ∙ sym right) (omega (arith, left))
+
+-- where the greater isn't, one of them isn't
+pub greater_large : (a b : List ℕ) (k : ℕ) → length a ≡ 16 → length b ≡ 16 → k < 16 → 16 ≤ get_or (greater a b) k 0 → (16 ≤ get_or a k 0) ⊎ (16 ≤ get_or b k 0)
+greater_large a b k left right less large =
+    let both : get_or (greater a b) k 0 ≡ max (get_or a k 0) (get_or b k 0) = greater_at a b k (left ∙ sym right) (omega (arith, left)) in
+    elim (cases_lt (get_or a k 0) 16) [
+      | inl small ↦ inr (omega (arith, both, large, small))
+      | inr here ↦ inl here
+    ]
 
 -- ---- the mask of a comparison
 
@@ -155,31 +193,31 @@ mask_some p (x ∷ xs) some =
     ]
 
 abbrev is_large : ℕ → Bool
-is_large x = top 7 (cond (leb 128 x) 255 0)
+is_large x = top 7 (cond (leb 16 x) 255 0)
 
-large_true : (x : ℕ) → is_large x ≡ true → 128 ≤ x
-large_true x e = go (leb 128 x) refl e
+large_true : (x : ℕ) → is_large x ≡ true → 16 ≤ x
+large_true x e = go (leb 16 x) refl e
   where
-    go : (t : Bool) → leb 128 x ≡ t → top 7 (cond t 255 0) ≡ true → 128 ≤ x
-    go true p q = leb-true 128 x p
+    go : (t : Bool) → leb 16 x ≡ t → top 7 (cond t 255 0) ≡ true → 16 ≤ x
+    go true p q = leb-true 16 x p
     go false p q = cc q
 
-large_false : (x : ℕ) → is_large x ≡ false → x < 128
-large_false x e = go (leb 128 x) refl e
+large_false : (x : ℕ) → is_large x ≡ false → x < 16
+large_false x e = go (leb 16 x) refl e
   where
-    go : (t : Bool) → leb 128 x ≡ t → top 7 (cond t 255 0) ≡ false → x < 128
+    go : (t : Bool) → leb 16 x ≡ t → top 7 (cond t 255 0) ≡ false → x < 16
     go true p q = cc q
-    go false p q = leb-false 128 x p
+    go false p q = leb-false 16 x p
 
 mask_is : (values : List ℕ) → length values ≡ 16
-    → mask_l (map (top 7) (zip2 (λ a b. cond (leb a b) 255 0) (replicate 16 128) values)) % 2 ^ 64 ≡ mask_l (map is_large values)
+    → mask_l (map (top 7) (zip2 (λ a b. cond (leb a b) 255 0) (replicate 16 16) values)) % 2 ^ 64 ≡ mask_l (map is_large values)
 mask_is values long =
-    let lanes = lanes_of_two (λ a b. cond (leb a b) 255 0) (λ _. 128) (λ x. x) values (lanes_of_one values 16 128 long) (lanes_loaded values) in
-    ap (λ l. mask_l l % 2 ^ 64) (ap (map (top 7)) lanes ∙ map-map (top 7) (λ x. cond (leb 128 x) 255 0) values)
+    let lanes = lanes_of_two (λ a b. cond (leb a b) 255 0) (λ _. 16) (λ x. x) values (lanes_of_one values 16 16 long) (lanes_loaded values) in
+    ap (λ l. mask_l l % 2 ^ 64) (ap (map (top 7)) lanes ∙ map-map (top 7) (λ x. cond (leb 16 x) 255 0) values)
     ∙ mask_l-mod (map is_large values) 64 (omega (arith, length-map values is_large, long))
 
 pub all_small : (values : List ℕ) → length values ≡ 16
-    → mask_l (map (top 7) (zip2 (λ a b. cond (leb a b) 255 0) (replicate 16 128) values)) % 2 ^ 64 ≡ 0 → (k : ℕ) → k < 16 → get_or values k 0 < 128
+    → mask_l (map (top 7) (zip2 (λ a b. cond (leb a b) 255 0) (replicate 16 16) values)) % 2 ^ 64 ≡ 0 → (k : ℕ) → k < 16 → get_or values k 0 < 16
 all_small values long empty k less =
     large_false (get_or values k 0) (mask_none is_large values (sym (mask_is values long) ∙ empty) k (omega (arith, long)))
 
@@ -188,7 +226,7 @@ mask_one zero none = cc none
 mask_one (suc n) none = omega arith
 
 pub one_large : (values : List ℕ) → length values ≡ 16
-    → 0 < mask_l (map (top 7) (zip2 (λ a b. cond (leb a b) 255 0) (replicate 16 128) values)) % 2 ^ 64 → (k : ℕ) × (k < 16) × (128 ≤ get_or values k 0)
+    → 0 < mask_l (map (top 7) (zip2 (λ a b. cond (leb a b) 255 0) (replicate 16 16) values)) % 2 ^ 64 → (k : ℕ) × (k < 16) × (16 ≤ get_or values k 0)
 one_large values long some =
     let found = mask_some is_large values (subst (λ n. 0 < n) (mask_is values long) some) in
     (found.0, omega (arith, found.1, long), large_true (get_or values found.0 0) found.2)
@@ -219,7 +257,7 @@ abbrev pub joined : List ℕ → List ℕ
 joined values =
     zip2 (λ a b. (a + b) % 2 ^ 8) (zip2 (λ a b. a * b % 2 ^ 8) (picked values evens) (replicate 8 16)) (picked values odds)
 
-pub joined_at : (values : List ℕ) → length values ≡ 16 → ((k : ℕ) → k < 16 → get_or values k 0 < 16) → (k : ℕ) → k < 8
+pub joined_at : (values : List ℕ) → length values ≡ 16 → AreSmall values → (k : ℕ) → k < 8
     → get_or (joined values) k 0 ≡ get_or values (2 * k) 0 * 16 + get_or values (2 * k + 1) 0
 joined_at values long small k less =
     let x = get_or values (2 * k) 0 in

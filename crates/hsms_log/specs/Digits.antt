@@ -1,10 +1,18 @@
 -- Hexadecimal digits that are read many at once, for private contracts.
-use Rattle.std.specs.Prelude.{◌≡◌, ℕ, ◌+◌, ◌*◌, ◌<◌, List, length, slice_index, unwrap_or, false}
+use Rattle.std.specs.Prelude.{◌≡◌, ℕ, ◌+◌, ◌*◌, ◌<◌, ◌≤◌, List, length, slice_index, unwrap_or, false}
 use Rattle.hex.specs.Hex.{hex_digit_value, is_hex_digit}
 
 -- the value of a digit, and 255 of another octet
 abbrev pub value_or_none : ℕ → ℕ
 value_or_none c = unwrap_or (hex_digit_value c) 255
+
+-- this stands for an octet: the value of a digit, and a number from 16 on where it is none
+abbrev pub IsValueOf : ℕ → ℕ → Type 0
+IsValueOf c v = (v < 16 → v ≡ value_or_none c) × (16 ≤ v → is_hex_digit c ≡ false)
+
+-- sixteen of which each is the value of a digit
+abbrev pub AreSmall : List ℕ → Type 0
+AreSmall values = (k : ℕ) → k < 16 → slice_index values k < 16
 
 -- two digits spell an octet
 abbrev pub IsPair : ℕ → ℕ → ℕ → Type 0

@@ -41,19 +41,30 @@ impl Judge {
         ensures fails { IfOk result (λ answer. IfSome answer (λ why. (before : List (List ℕ)) → Follows self.old before → FailsAfter before line.now why)) }
     {
         match &mut self.session {
-            None => match read_settings(line) {
-                None => Ok(Some(Why::Unreadable)),
-                Some(settings) => {
-                    self.session = Some(Session {
-                        settings,
-                        tracker: Tracker::new(alloc, settings),
-                    });
-                    self.tally.count_line();
-                    Ok(None)
-                }
-            },
+            None => Ok(self.first_line(alloc, line)),
             Some(session) => { later_line(session, &mut self.tally, &mut self.octets, alloc, line) }
         }
+    }
+
+    /// Judges the first line, and says why it fails.
+    #[inline(never)]
+    fn first_line(&mut self, alloc: Global, line: &[u8]) -> Option<Why>
+        requires first { self.old.session ≡ None }
+        requires room { self.old.tally.lines < 2 ^ 64 - 1 }
+        ensures follows { result ≡ None → (before : List (List ℕ)) → Follows self.old before → Follows self.new (before ++ line.now ∷ []) }
+        ensures number { result ≡ None → self.new.tally.lines ≡ self.old.tally.lines + 1 }
+        ensures same { IsSome result → self.new.tally.lines ≡ self.old.tally.lines }
+        ensures fails { IfSome result (λ why. (before : List (List ℕ)) → Follows self.old before → FailsAfter before line.now why) }
+    {
+        let Some(settings) = read_settings(line) else {
+            return Some(Why::Unreadable);
+        };
+        self.session = Some(Session {
+            settings,
+            tracker: Tracker::new(alloc, settings),
+        });
+        self.tally.count_line();
+        None
     }
 
     /// The verdict where the next line fails.

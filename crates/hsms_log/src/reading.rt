@@ -12,7 +12,7 @@ ghost use Rattle.hsms_log.specs.FrameLine.{IsSpelled, mark_word};
 use crate::digits::decode;
 use crate::fault::LineFault;
 use crate::number::{after_prefix, number_at};
-use hsms_frame::{Frame, HEADER_LENGTH, Header};
+use hsms_frame::{Frame, HEADER_LENGTH, Header, drop_front};
 use hsms_machine::{Cause, Entry, Event, Mark};
 use std::alloc::{AllocError, Global};
 
@@ -154,16 +154,6 @@ fn read_message(alloc: Global, digits: &[u8]) -> Result<Frame, LineFault>
         header,
         text: octets,
     })
-}
-
-/// Takes octets away from the front.
-fn drop_front(octets: &mut Vec<u8>, count: usize)
-    requires { count ≤ vec_len octets.old }
-    ensures { octets.new.items ≡ drop count octets.old.items }
-{
-    let rest = octets.len() - count;
-    octets.copy_within(count.., 0);
-    octets.truncate(rest);
 }
 
 /// Reads a message from hexadecimal digits, and gives its header, or None where they spell no message. `octets` holds

@@ -34,6 +34,7 @@ mod tracker;
 mod view;
 
 pub use entry::{Cause, Entry, EntryRef, Event, Mark};
+pub use open::earlier;
 pub use phase::Phase;
 pub use places::Places;
 pub use remedy::Remedy;

@@ -1,5 +1,8 @@
 //! Transactions that are open, of one direction and kind.
 
+ghost use Rattle.std.specs.Prelude.{◌≡◌};
+ghost use Rattle.hsms_machine.specs.Timer.{least_of};
+
 use crate::message::{Message, answers, concludes};
 use hsms_frame::Header;
 use indexmap::IndexMap;
@@ -44,7 +47,7 @@ impl Transactions {
     ghost use Rattle.std.specs.Prelude.{◌≡◌, ◌-◌, ◌^◌, ◌<◌, ◌==◌, ◌&&◌, not, [], ◌∷◌, ◌++◌, length, filter, remove, true, false, nat_lt, nat_le, OnOk, OnErr, IfSome, IfNone};
     ghost use Rattle.std.specs.List.{list_any, find};
     ghost use Rattle.std.specs.Option.{option_map};
-    ghost use Rattle.hsms_machine.specs.Timer.{least_in, due_times, due_at, least_of};
+    ghost use Rattle.hsms_machine.specs.Timer.{least_in, due_times, due_at};
     ghost use Rattle.hsms_machine.specs.Transaction.{answers as is_answer, concludes as is_conclusion};
     ghost use Rattle.hsms_machine.specs.View.{oldest_of};
     ghost use Rattle.hsms_machine.specs.Ordered.{AreInOrder, AreApart, AreUntil, uses, first_of};
@@ -216,17 +219,6 @@ impl Transactions {
         time.checked_add(u64::from(limit))
     }
 
-    /// The earlier of two moments, or the one that there is.
-    pub fn earlier(one: Option<u64>, other: Option<u64>) -> Option<u64>
-        ensures { result ≡ least_of one other }
-    {
-        match (one, other) {
-            (Some(one), Some(other)) => Some(one.min(other)),
-            (Some(one), None) => Some(one),
-            (None, other) => other,
-        }
-    }
-
     /// The place of the transaction that the message, which goes in the other direction, answers or rejects.
     #[inline(always)]
     fn place_concluded(&self, other: Message) -> Option<usize>
@@ -296,5 +288,16 @@ impl Transactions {
         ensures { self.new ≡ filter (λ opened. not (opened.header.system == system)) self.old }
     {
         self.items.shift_remove(&system);
+    }
+}
+
+/// The earlier of two moments, or the one that there is.
+pub fn earlier(one: Option<u64>, other: Option<u64>) -> Option<u64>
+    ensures { result ≡ least_of one other }
+{
+    match (one, other) {
+        (Some(one), Some(other)) => Some(one.min(other)),
+        (Some(one), None) => Some(one),
+        (None, other) => other,
     }
 }

@@ -4,7 +4,7 @@ use crate::entry::Act;
 use crate::message::{
     Message, establishes, is_control_request, is_data_request, may_conclude, separates,
 };
-use crate::open::{Transaction, Transactions};
+use crate::open::{Transaction, Transactions, earlier};
 use crate::phase::Phase;
 use crate::settings::Settings;
 use std::alloc::{AllocError, Global};
@@ -62,10 +62,10 @@ impl View {
     {
         let data = self.sent_data.first_due(self.settings.t3());
         let control = self.sent_control.first_due(self.settings.t6());
-        let requests = Transactions::earlier(data, control);
+        let requests = earlier(data, control);
         let selection = Transactions::due_at(self.up_time, self.settings.t7());
         match self.phase {
-            Phase::NotSelected => Transactions::earlier(requests, selection),
+            Phase::NotSelected => earlier(requests, selection),
             Phase::Selected => requests,
             Phase::Before | Phase::Over | Phase::Gone => None,
         }

@@ -29,12 +29,12 @@ mod part;
 mod value;
 
 pub use decode::{decode_front, decode_text, item_of_values};
-pub use encoding::{body_octets, encode};
+pub use encoding::{MAX_LENGTH, body_octets, encode};
 pub use fault::ItemFault;
 pub use format::Format;
 pub use header::{Header, read_header};
 pub use item::{Item, nesting};
-pub use measure::{measure_front, measure_text};
+pub use measure::{MAX_DEPTH, measure_front, measure_text};
 pub use value::octets_known;
 
 #[cfg(test)]

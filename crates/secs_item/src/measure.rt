@@ -9,10 +9,10 @@ ghost use Rattle.secs_item.specs.Spelling.{IsAtFront, IsText};
 ghost use Rattle.secs_item.specs.Item.{Value};
 
 use crate::fault::ItemFault;
-use crate::part::read_part;
+use crate::part::{pass_values, read_part};
 
 /// How deep lists may be nested at most.
-const MAX_DEPTH: usize = 100;
+pub const MAX_DEPTH: usize = 100;
 
 /// The place after the `count` elements of a list. Its body begins at `place`, and where its header stands lists may be
 /// nested `depth` deep. `counts` has, for each list that isn't at its end, how many elements are still to come.
@@ -28,7 +28,9 @@ fn end_of_elements(octets: &[u8], place: usize, count: usize, depth: u8) -> Resu
     let mut end = place;
     while lists > 0 {
         let innermost = usize::from(lists) - 1;
-        let left = counts[innermost];
+        let (place, left) = pass_values(octets, end, counts[innermost]);
+        end = place;
+        counts[innermost] = left;
         if left == 0 {
             lists -= 1;
             continue;
@@ -49,6 +51,10 @@ fn end_of_item(octets: &[u8], depth: u8) -> Result<usize, ItemFault>
     requires { depth ≤ 100 }
     ensures { result ≡ end_from 0 (item_at depth octets.now) }
 {
+    let (end, left) = pass_values(octets, 0, 1);
+    if left == 0 {
+        return Ok(end);
+    }
     let part = read_part(octets, 0, depth)?;
     if part.elements > 0 {
         return end_of_elements(octets, part.end, part.elements, depth);

@@ -6,11 +6,8 @@ ghost use Rattle.secs_item.specs.Short.{framed, field_of};
 ghost use Rattle.secs_item.specs.Spelling.{header};
 ghost use Rattle.secs_text.specs.Spellings.{Lays};
 
-use secs_item::Format;
+use secs_item::{Format, MAX_LENGTH};
 use std::alloc::AllocError;
-
-/// The greatest number that three length octets hold.
-const MAX_LENGTH: usize = 0xff_ffff;
 
 /// The format octet, without the count of the length octets.
 fn format_octet(format: Format) -> u8

@@ -16,10 +16,7 @@ use crate::formats::{Floats, Octets, Signed, Truths, Unsigned, WordFormat};
 use crate::laying::{lay_byte, lay_number, lay_small, lay_word};
 use crate::printing::values::{put_text, put_words};
 use crate::type_name::opening_word;
-use secs_item::{Format, Header, read_header};
-
-/// How deep lists nest at most.
-const MAX_DEPTH: usize = 100;
+use secs_item::{Format, Header, MAX_DEPTH, read_header};
 
 /// Lays a number.
 #[inline(always)]

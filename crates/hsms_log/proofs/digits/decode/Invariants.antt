@@ -1,7 +1,11 @@
-use Rattle.std.proofs.Common.{◌≡◌, ◌*◌, length}
-use Rattle.hsms_log.specs.Digits.{AreRead}
+use Rattle.std.proofs.Common.{◌≡◌, ◌≤◌, ◌<◌, ◌*◌, ℕ, get_or, length}
+use Rattle.hsms_log.specs.Digits.{AreRead, AreSmall, HasOther}
 use Rattle.hsms_log.proofs.digits.decode.Given as goal
 
--- the octets before this place are read
+-- the octets before this place are read, if all that stands for digits is small; else there is another octet
 abbrev pub invariant-loop-i : goal.invariant-loop-i
-invariant-loop-i l = (length l.octets ≡ length l.initial.octets) × AreRead l.digits l.octets (8 * l.i)
+invariant-loop-i l = record {
+  len : length l.octets ≡ length l.initial.octets;
+  read : AreSmall l.greatest → AreRead l.digits l.octets (8 * l.i);
+  other : (k : ℕ) → k < 16 → 16 ≤ get_or l.greatest k 0 → HasOther l.digits;
+}

@@ -8,5 +8,5 @@ returns-clause-before c = λ k early. get_or-put_chunk_below c.args.place c.args
 
 pub returns-clause-joined : goal.returns-clause-joined
 returns-clause-joined c =
-    λ k less. get_or-put_chunk_at c.args.place c.args.octets.now (joined c.args.values) k 0 less c.requires.room
-    ∙ joined_at c.args.values c.fits-values.0 c.requires.small k less
+    λ small k less. get_or-put_chunk_at c.args.place c.args.octets.now (joined c.args.values) k 0 less c.requires
+    ∙ joined_at c.args.values c.fits-values.0 small k less

@@ -1,0 +1,7 @@
+use Rattle.hsms_log.proofs.JudgeLaws.{first_follows}
+use Rattle.hsms_log.proofs.judging.Judge.first_line.Goals as goal
+
+pub returns-clause-follows : goal.returns-clause-follows
+returns-clause-follows c =
+    λ e before. first_follows c.args.self.now (record { settings = c.in-Some.settings; tracker = c.new.result }) c.count_line.new.self before c.args.line.now c.requires.first
+    c.in-Some.ensures.found c.new.ensures c.count_line.ensures
