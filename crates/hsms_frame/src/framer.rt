@@ -6,6 +6,7 @@ ghost use Rattle.hsms_frame.specs.Framing.{FramesAs, FrontAs, IsPushed, rest_aft
 use crate::fault::FrameFault;
 use crate::frame::Frame;
 use crate::header::{HEADER_LENGTH, Header};
+use crate::leading::drop_front;
 use std::alloc::{AllocError, Global};
 use std::marker::Model;
 

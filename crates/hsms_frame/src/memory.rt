@@ -5,7 +5,7 @@ ghost use Rattle.hsms_frame.specs.Device.{Takes, IsAtEnd, Stays, Grows, CountsPu
 ghost use Rattle.hsms_frame.specs.Memory.{source_of, sink_of};
 
 use crate::device::{Failed, Sink, Source};
-use crate::octets::copy_front;
+use crate::leading::copy_front;
 use crate::tally::Tally;
 use std::marker::Model;
 
