@@ -62,7 +62,7 @@ LONG = {"walks_of_two_ends"}
 # The tests that judge each refusal themselves, or try again: those of these modules, and those whose names begin with
 # `refused`. Of the second ones what they take for themselves may be refused too.
 JUDGE = ("hsms_judged tests::",)
-TRY_AGAIN = ("hsms_frame tests::framing::",)
+TRY_AGAIN = ("hsms_framed tests::framing::",)
 
 # Tests of calls that ask for no memory, and how often those do that make something for them beforehand.
 WITHOUT_GROWTH = "no_growth"

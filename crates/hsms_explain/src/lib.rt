@@ -20,6 +20,3 @@ mod tally;
 mod words;
 
 pub use explaining::explain_to;
-
-#[cfg(test)]
-mod tests;

@@ -59,6 +59,3 @@ pub use read::read_frame;
 pub use standard::{Reader, Writer};
 pub use transfer::{fill, give_all};
 pub use write::{encode_frame, front_octets, write_frame};
-
-#[cfg(test)]
-mod tests;

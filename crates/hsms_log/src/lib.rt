@@ -47,6 +47,3 @@ pub use settings_line::read_settings;
 pub use verdict::{Summary, Verdict, Why};
 pub use whole::judge;
 pub use writing::{write_entry, write_settings};
-
-#[cfg(test)]
-mod tests;

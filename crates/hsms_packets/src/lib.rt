@@ -30,6 +30,3 @@ pub use number::Order;
 pub use packets::{Packets, Step};
 pub use reader::{Format, Opening, Reader, format_of, octets_of};
 pub use segment::{Address, Reason, Segment, Shown, segment_of};
-
-#[cfg(test)]
-mod tests;

@@ -36,6 +36,3 @@ pub use header::{Header, read_header};
 pub use item::{Item, nesting};
 pub use measure::{MAX_DEPTH, measure_front, measure_text};
 pub use value::octets_known;
-
-#[cfg(test)]
-mod tests;

@@ -42,6 +42,3 @@ pub use parsing::{Receiver, spell_all};
 pub use printing::messages::{Head, print_text};
 pub use printing::print;
 pub use reading::{read, read_all};
-
-#[cfg(test)]
-mod tests;

@@ -1,8 +1,8 @@
 use super::assert_octets;
 use super::connections::{ROWS, Row};
-use crate::auditing::audit_to;
 use hsms_frame::{Feed, Store};
 use hsms_options::ToolFault;
+use hsms_tasks::audit_to;
 use std::alloc::{AllocError, Global};
 use std::process::Abort;
 use std::test::Fail;

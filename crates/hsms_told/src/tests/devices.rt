@@ -2,11 +2,9 @@
 
 use super::auditing::{LOG, PASS};
 use super::{Run, SELECT, assert_octets};
-use crate::auditing::audit_to;
-use crate::encoding::encode_all;
-use crate::showing::show;
 use hsms_frame::{Feed, Sink, Store, Writer};
 use hsms_options::ToolFault;
+use hsms_tasks::{audit_to, encode_all, show};
 use std::alloc::{AllocError, Global};
 use std::io;
 use std::io::Write;

@@ -1,8 +1,8 @@
 ghost use Rattle.std.specs.Prelude.{◌<◌};
 
 use super::{Run, assert_done, assert_refused};
-use crate::showing_hex::show_hex;
 use hsms_frame::{Feed, Store};
+use hsms_tasks::show_hex;
 use std::alloc::{AllocError, Global};
 use std::process::Abort;
 use std::test::Fail;

@@ -1,5 +1,7 @@
-use super::*;
 use secs_item::{Item, ItemFault};
+use secs_text::{
+    Block, Head, Message, Output, Receiver, TextFault, print, print_text, read, read_all, spell_all,
+};
 use std::alloc::{AllocError, Global};
 use std::process::Abort;
 use std::test::Fail;

@@ -3,7 +3,10 @@ mod framing;
 mod reading_ahead;
 mod writing;
 
-use super::*;
+use hsms_frame::{
+    Feed, Frame, FrameFault, Header, Kind, ReadFault, Reader, Sink, Store, Writer, front, give_all,
+    kind, read_frame,
+};
 use std::alloc::{AllocError, Global};
 use std::process::Abort;
 use std::test::Fail;

@@ -1,8 +1,8 @@
 //! Blocks of the other kinds, and numbers at their greatest.
 
 use super::{behind, is_syn, opened, packet_at, segment_in};
-use crate::front::pcapng_front;
-use crate::*;
+use hsms_packets::{CaptureFault, Format, Front, Interface, Order, Reader, Record};
+use std::alloc::Global;
 use std::process::Abort;
 
 // A section of pcapng: an interface that counts 1,024 ticks a second from 1,700,000,000 seconds on and holds 40 octets of
@@ -84,25 +84,49 @@ fn the_longest_of_each(rt: std::rt::HostRuntime) -> Result<(), CaptureFault> {
 }
 
 #[test]
-fn resolutions(rt: std::rt::HostRuntime) {
-    has_time(&rt, 0x13, Ok(Some(1_700_000_000_000)));
-    has_time(&rt, 0x14, Err(CaptureFault::Resolution));
-    has_time(&rt, 0x7f, Err(CaptureFault::Resolution));
-    has_time(&rt, 0x80, Ok(Some(1_700_001_536_000)));
-    has_time(&rt, 0xbf, Ok(Some(1_700_000_000_000)));
-    has_time(&rt, 0xc0, Err(CaptureFault::Resolution));
+fn resolutions(rt: std::rt::HostRuntime) -> Result<(), CaptureFault> {
+    for (resolution, want) in [
+        (0x13, Ok(Some(1_700_000_000_000))),
+        (0x14, Err(CaptureFault::Resolution)),
+        (0x7f, Err(CaptureFault::Resolution)),
+        (0x80, Ok(Some(1_700_001_536_000))),
+        (0xbf, Ok(Some(1_700_000_000_000))),
+        (0xc0, Err(CaptureFault::Resolution)),
+    ] {
+        judge_resolution(&rt, rt.alloc(), resolution, want)?;
+    }
+    Ok(())
 }
 
-// The time of the old block, or its fault, where its interface has this resolution.
-fn has_time(rt: &impl Abort, resolution: u8, want: Result<Option<u128>, CaptureFault>) {
+// The time of the old block, or its fault, behind an interface that has this resolution.
+fn judge_resolution(
+    rt: &impl Abort,
+    alloc: Global,
+    resolution: u8,
+    want: Result<Option<u128>, CaptureFault>,
+) -> Result<(), CaptureFault> {
+    let blocks = Format::Pcapng {
+        order: Order::Little,
+    };
+    let mut reader = Reader::new(alloc, blocks, 0);
     let interface = Interface {
         link: 101,
         snap: 0,
         resolution,
         offset: 1_700_000_000,
     };
+    reader.pass(Front::Described(interface, 0))?;
     let (_, old) = OLD.as_slice().split_at(72);
-    match pcapng_front(Order::Little, [interface].as_slice(), old) {
+    has_time(rt, reader.front(old), want);
+    Ok(())
+}
+
+fn has_time(
+    rt: &impl Abort,
+    front: Result<Front, CaptureFault>,
+    want: Result<Option<u128>, CaptureFault>,
+) {
+    match front {
         Ok(Front::Packet(record)) => assert!(rt; want == Ok(record.time)),
         Ok(_) => panic!(rt; "no packet"),
         Err(fault) => assert!(rt; want == Err(fault)),

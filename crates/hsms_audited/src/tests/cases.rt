@@ -1,6 +1,6 @@
 //! Logs and their verdicts.
 
-use crate::{Summary, Verdict, Why};
+use hsms_log::{Summary, Verdict, Why};
 use hsms_machine::Rule;
 
 pub const FIRST: &str = "hsms-log 1 host active 0 45000 6000 10000 5000 1048576 32\n";

@@ -3,8 +3,8 @@
 ghost use Rattle.std.specs.Prelude.{◌<◌};
 
 use super::{REFUSED, SECTION, is_reset, is_syn};
-use crate::*;
 use hsms_frame::Feed;
+use hsms_packets::{CaptureFault, FileFault, Packets, Segment, Shown, Step, segment_of};
 use std::alloc::Global;
 use std::process::Abort;
 

@@ -1,6 +1,6 @@
 //! Logs of several connections, and their verdicts.
 
-use crate::{Summary, Verdict, Why};
+use hsms_log::{Summary, Verdict, Why};
 use hsms_machine::Rule;
 
 const SEVERAL: &str = "hsms-log 2 host active 0 45000 6000 10000 5000 1048576 32\n";

@@ -1,5 +1,5 @@
 use super::assert_octets;
-use crate::{Ahead, AheadFault, Feed};
+use hsms_frame::{Ahead, AheadFault, Feed};
 use std::alloc::AllocError;
 use std::test::Fail;
 

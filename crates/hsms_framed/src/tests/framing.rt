@@ -1,5 +1,5 @@
 use super::{DATA, LONG, SELECT, assert_octets};
-use crate::{Frame, FrameFault, Framer, encode_frame};
+use hsms_frame::{Frame, FrameFault, Framer, encode_frame};
 use std::alloc::Global;
 use std::process::Abort;
 use std::test::Fail;

@@ -3,10 +3,13 @@ mod connections;
 
 ghost use Rattle.std.specs.Prelude.{◌<◌};
 
-use super::*;
 use cases::{CASES, Case, ENTRIES, FIRST_LINES, NO_LINES, REPLY, SELECTED, WRITTEN};
 use connections::{TEXTS, Text};
 use hsms_frame::{Feed, Store};
+use hsms_log::{
+    AuditFault, Line, LineFault, LogFault, Summary, Verdict, Why, audit, audit_within, judge,
+    read_line, read_settings, write_entry, write_settings,
+};
 use hsms_machine::{Entry, Rule, Settings};
 use std::alloc::{AllocError, Global};
 use std::process::Abort;

@@ -5,7 +5,10 @@ ghost use Rattle.std.specs.Prelude.{◌≤◌, ◌+◌, length, IfOk};
 mod blocks;
 mod kinds;
 
-use super::*;
+use hsms_packets::{
+    Address, CaptureFault, Front, Opening, Reader, Reason, Record, Segment, Shown, format_of,
+    octets_of, segment_of,
+};
 use std::alloc::Global;
 use std::process::Abort;
 

@@ -1,5 +1,5 @@
 use super::{DATA, SELECT, assert_octets};
-use crate::{
+use hsms_frame::{
     Frame, FrameFault, Header, Store, WriteFault, data_header, encode_frame, linktest_req,
     linktest_rsp, reject_of, select_req, select_rsp, separate, write_frame,
 };

@@ -1,4 +1,4 @@
-use crate::{Failed, Reader, Sink, Source, Writer};
+use hsms_frame::{Failed, Reader, Sink, Source, Writer};
 use std::io;
 use std::io::{ErrorKind, Read, Write};
 

@@ -1,7 +1,7 @@
 use super::{Run, assert_done, assert_octets, assert_refused};
-use crate::encoding::encode_all;
 use hsms_frame::{Feed, Store};
 use hsms_options::ToolFault;
+use hsms_tasks::encode_all;
 use std::alloc::{AllocError, Global};
 use std::process::Abort;
 use std::test::Fail;

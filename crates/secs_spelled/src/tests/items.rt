@@ -1,6 +1,9 @@
 ghost use Rattle.std.specs.Prelude.{◌≤◌};
 
-use super::*;
+use secs_item::{
+    Format, Item, ItemFault, body_octets, decode_front, decode_text, encode, item_of_values,
+    measure_front, measure_text, nesting,
+};
 use std::alloc::{AllocError, Global};
 use std::process::Abort;
 use std::test::Fail;
@@ -184,7 +187,10 @@ fn assert_no_text(rt: &impl Abort, item: Option<&Item>) {
 }
 
 fn assert_text_lists(rt: &impl Abort, item: Option<&Item>) {
-    assert_eq!(rt; item.map(nesting), Some(2));
+    match item {
+        Some(item) => assert_eq!(rt; nesting(item), 2),
+        None => panic!(rt; "a text that is an item"),
+    }
 }
 
 fn assert_measured_text(

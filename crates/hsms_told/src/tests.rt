@@ -2,13 +2,14 @@ mod auditing;
 mod connections;
 mod devices;
 mod encoding;
+mod explaining;
 mod hex_lines;
 
 ghost use Rattle.std.specs.Prelude.{◌<◌};
 
-use crate::showing::show;
 use hsms_frame::{Feed, Store};
 use hsms_options::ToolFault;
+use hsms_tasks::show;
 use std::alloc::{AllocError, Global};
 use std::process::Abort;
 use std::test::Fail;

@@ -1,4 +1,4 @@
-use crate::explaining::explain_to;
+use hsms_explain::explain_to;
 use hsms_frame::{Feed, Store};
 use hsms_options::ToolFault;
 use std::alloc::{AllocError, Global};

@@ -1,0 +1,6 @@
+//! Capture files and packets whose octets are written out: tests of `hsms_packets`, in a crate of their own, since a crate
+//! is proved once more with its tests.
+#![tactic(auto)]
+
+#[cfg(test)]
+mod tests;
