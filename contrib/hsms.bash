@@ -3,6 +3,8 @@
 _hsms() {
   local word=${COMP_WORDS[COMP_CWORD]} before=${COMP_WORDS[COMP_CWORD - 1]} words
   case $before in
+    --only) mapfile -t COMPREPLY < <(compgen -W 'failures' -- "$word") && return ;;
+    --around | --from | --to) return ;;
     --max | --depth | --device | --system | --first-system | --turns | --port | --t[35678] | --connections | --linktest) return ;;
     --address | --mdln | --softrev) return ;;
     --role) mapfile -t COMPREPLY < <(compgen -W 'host equipment' -- "$word") && return ;;
@@ -14,7 +16,8 @@ _hsms() {
     case ${COMP_WORDS[1]} in
       show) words='--max --depth --hex --bare --help' ;;
       encode) words='--device --system --max --depth --hex --help' ;;
-      audit | explain) words='--help' ;;
+      audit) words='--help' ;;
+      explain) words='--only --around --from --to --help' ;;
       serve)
         words='--role --link --address --port --device --t3 --t6 --t7 --t8 --linktest --max --depth --first-system'
         words+=' --turns --mdln --softrev --send --answer --all-sent --again --once --connections --t5 --help'

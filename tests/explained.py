@@ -1,6 +1,6 @@
 #!/usr/bin/env python3
-"""Compares what `hsms explain` tells with a second reading, its last line with what `hsms audit` tells, and the words
-of each rule with `hsms audit --help`.
+"""Compares what `hsms explain` tells, of all lines and of an excerpt, with a second reading, its last line with what
+`hsms audit` tells, and the words of each rule with `hsms audit --help`.
 
 Use: tests/explained.py [LOGS] [SEED]. LOGS is the number of random logs, 500 if left out; those of examples/ and the
 logs at edges and corners come besides. SEED is 1 if left out. It runs what `rt ci` has built. The shortest log that is
@@ -8,6 +8,7 @@ told otherwise is written in hexadecimal. The last line is `N passed, M failed`.
 """
 import glob
 import sys
+import zlib
 from concurrent.futures import ThreadPoolExecutor
 from typing import List, Optional
 
@@ -16,6 +17,7 @@ sys.dont_write_bytecode = True
 
 from command import LONGEST_SHOWN, TOP, answer_of
 from second_reading import corners, explaining, walks
+from second_reading.explaining import WHOLE, Excerpt
 from second_reading.inputs import Chance
 
 WORKERS = 2
@@ -29,14 +31,27 @@ def example_logs() -> List[bytes]:
     return found
 
 
+def excerpt_of(log: bytes) -> Excerpt:
+    """An excerpt, drawn by the log: mostly of failures, and within some of its lines."""
+    chance = Chance(f"excerpt {zlib.crc32(log)}")
+    lines = log.count(b"\n") + 2
+    around = chance.one(0, 1, 2, 5) if chance.happens(0.75) else None
+    first = chance.randint(1, lines) if chance.happens(0.5) else 1
+    last = chance.randint(1, lines) if chance.happens(0.5) else None
+    return Excerpt(around, first, last)
+
+
 def difference(log: bytes) -> Optional[str]:
     """What is told of a log and what it should be, where they differ."""
-    told, audited = answer_of(["explain"], log), answer_of(["audit"], log)
-    wanted = explaining.explain(log)
-    if (told.status, told.error) == (audited.status, b"") and told.output == wanted and wanted.endswith(audited.output):
-        return None
-    shown = f"log: {log[:LONGEST_SHOWN].hex()}\nsecond reading: {wanted.decode('latin-1')}"
-    return f"{shown}\ncommand: {told}\naudit: {audited}"
+    audited = answer_of(["audit"], log)
+    for excerpt in (WHOLE, excerpt_of(log)):
+        words = ["explain", *excerpt.words()] if excerpt != WHOLE else ["explain"]
+        told, wanted = answer_of(words, log), explaining.explain(log, excerpt)
+        is_same = (told.status, told.error, told.output) == (audited.status, b"", wanted)
+        if not (is_same and wanted.endswith(audited.output)):
+            shown = f"log: {log[:LONGEST_SHOWN].hex()}\nsecond reading: {wanted.decode('latin-1')}"
+            return f"{' '.join(words)}\n{shown}\ncommand: {told}\naudit: {audited}"
+    return None
 
 
 def help_of_rules() -> Optional[str]:

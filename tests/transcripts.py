@@ -4,7 +4,7 @@
 A block that begins ```console has commands, each on a line that begins with `$ ` and on those that follow a backslash at
 its end, and below each what it writes on standard output and standard error. They run at the top of the repository, with `hsms` on the path. Before that, `rt ci`
 has to have built the command. The logs of docs/RULES.md are audited too: each is the example of its rule, and has the
-verdict that the page tells; contrib/failures.py begins with the same. The last line is `N passed, M failed`.
+verdict that the page tells. The last line is `N passed, M failed`.
 """
 import glob
 import os
@@ -39,7 +39,6 @@ def catalogue(text):
         if " .. (" not in whole:
             yield f"cat examples/rules/{name}.log", whole.rstrip("\n")
         yield f"hsms audit < examples/rules/{name}.log", verdict
-        yield f"contrib/failures.py examples/rules/{name}.log | sed -n 1p", verdict
 
 
 def wrote(command):

@@ -53,8 +53,10 @@ def cases_of_words():
     value = "invalid value '1' for '--max <N>': 1 is not in 256..=33554432"
     yield Case(["audit", "--max"], 2, "command line", ["unexpected argument '--max' found. Usage: hsms audit [OPTIONS] < LOG"])
     yield Case(["show", "--max", "1"], 2, "command line", [value])
-    own = "--role is host or equipment, --link is active or passive, and --bare goes with --hex alone"
+    own = "--role is host or equipment, --link is active or passive, --only is failures, "
+    own += "and --bare goes with --hex alone"
     yield Case(["show", "--bare"], 2, "command line", [own])
+    yield Case(["explain", "--only", "all"], 2, "command line", [own])
     yield Case([*HERE_AT, "1", "--role", "both"][:2] + ["both", *HERE_AT[3:], "1"], 2, "command line", [own])
 
 

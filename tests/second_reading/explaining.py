@@ -3,13 +3,16 @@
 The open transactions and the rules are those of `session`, read off the whole list of the entries that the log is gone
 on with. The text is this project's own.
 """
-from typing import Dict, List, Optional, Tuple
+from typing import Dict, List, NamedTuple, Optional, Set, Tuple
 
 from second_reading import messages, session
 from second_reading.session import DISCARDED, SENT, TAKEN, Before, Entry, Settings, Unreadable
 
 # The deepest nesting that is told in notation.
 DEEPEST = 100
+
+# What stands in place of lines that are left out.
+GAP = b"       ..\n"
 
 SENTENCES = {
     "unreadable": "it can't be read",
@@ -91,6 +94,45 @@ def remedy_words(entry: Entry, remedy: Remedy) -> str:
     return f"goes on as if its time were {other.time}"
 
 
+class Line:
+    """A line of the log: its number, and what is told of it."""
+
+    def __init__(self, number: int, told: bytes):
+        self.number, self.told, self.fails = number, [told], False
+
+
+class Excerpt(NamedTuple):
+    """Which lines are told: with `around` those that fail, with so many before and behind them."""
+
+    around: Optional[int] = None
+    first: int = 1
+    last: Optional[int] = None
+
+    def words(self) -> List[str]:
+        only = [] if self.around is None else ["--only", "failures", "--around", str(self.around)]
+        last = [] if self.last is None else ["--to", str(self.last)]
+        return [*only, "--from", str(self.first), *last]
+
+    def numbers(self, lines: List[Line]) -> Set[int]:
+        found = {line.number for line in lines if line.number >= self.first and (self.last is None or line.number <= self.last)}
+        if self.around is None:
+            return found
+        failing = [line.number for line in lines if line.fails and line.number in found]
+        return found & {number for at in failing for number in range(at - self.around, at + self.around + 1)}
+
+    def shown(self, lines: List[Line]) -> bytes:
+        """The lines that are told. Two dots stand in place of lines between them, before and behind them."""
+        numbers, told, last = self.numbers(lines), [], 0
+        for line in lines:
+            if line.number in numbers:
+                told += [GAP] * (line.number > last + 1) + line.told
+                last = line.number
+        return b"".join(told + [GAP] * (len(lines) > last))
+
+
+WHOLE = Excerpt()
+
+
 class Telling:
     """The log as it is gone on with, each entry with the number of its line, and what is told."""
 
@@ -99,7 +141,7 @@ class Telling:
         self.entries: List[Entry] = []
         self.places: List[int] = []
         self.failures: Dict[str, int] = {}
-        self.told: List[bytes] = []
+        self.lines: List[Line] = []
         self.judged = 0
 
     def tell(self, line: bytes, number: int):
@@ -107,24 +149,25 @@ class Telling:
         try:
             entry = session.entry_of(line, self.settings)
         except Unreadable:
-            self.told.append(plain(number, line, limit))
+            self.lines.append(Line(number, plain(number, line, limit)))
             self.tell_rule("unreadable")
             return
         if entry is None:
-            self.told.append(plain(number, line, limit))
+            self.lines.append(Line(number, plain(number, line, limit)))
             return
         words = f"{entry.event} {messages.shown(entry.frame, DEEPEST)}" if entry.frame else None
         shown = words.encode() if words else line.split(b" ", 1)[1]
-        self.told.append(b"%6d %7d %s\n" % (number, entry.time, shown))
+        self.lines.append(Line(number, b"%6d %7d %s\n" % (number, entry.time, shown)))
         self.judged += 1
         self.judge(entry, number)
 
     def tell_rule(self, rule: str):
         self.failures[rule] = self.failures.get(rule, 0) + 1
+        self.lines[-1].fails = True
         self.below(f"FAIL {rule}: {SENTENCES[rule]}")
 
     def below(self, words: str, indent: int = 7):
-        self.told.append(f"{' ' * indent}{words}\n".encode())
+        self.lines[-1].told.append(f"{' ' * indent}{words}\n".encode())
 
     def judge(self, entry: Entry, number: int):
         pending = [entry]
@@ -166,25 +209,30 @@ class Telling:
                 self.below(f"concerns line {self.places[at]}", 12)
                 return
 
-    def end(self):
-        if not self.judged:
-            self.told.append(b"nothing was judged: the log has no entry\n")
+    def end(self) -> bytes:
+        nothing = b"" if self.judged else b"nothing was judged: the log has no entry\n"
         counts = "".join(f" {rule}={count}" for rule, count in self.failures.items())
-        self.told.append(f"failures={sum(self.failures.values())}{counts}\n".encode())
+        return nothing + f"failures={sum(self.failures.values())}{counts}\n".encode()
 
 
-def explain(log: bytes) -> bytes:
+def unjudged(lines: List[bytes], excerpt: Excerpt) -> bytes:
+    """What is told of the lines of a log whose first one can't be read."""
+    told = [Line(number, plain(number, line, session.LONGEST_FIRST_LINE)) for number, line in enumerate(lines, 1)]
+    for line in told[:1]:
+        line.told.append(f"       FAIL unreadable: {SENTENCES['unreadable']}\n".encode())
+        line.fails = True
+    return excerpt.shown(told) + b"nothing was judged: line 1 can't be read\n"
+
+
+def explain(log: bytes, excerpt: Excerpt = WHOLE) -> bytes:
     """All that is told of a log."""
     lines = session.lines_of(log)
     verdict = session.audit(log).verdict.encode() + b"\n"
     try:
         telling = Telling(session.settings_of(lines[0] if lines else b""))
     except Unreadable:
-        told = [plain(number, line, session.LONGEST_FIRST_LINE) for number, line in enumerate(lines, 1)]
-        told[1:1] = [f"       FAIL unreadable: {SENTENCES['unreadable']}\n".encode()] if lines else []
-        return b"".join(told) + b"nothing was judged: line 1 can't be read\n" + verdict
-    telling.told.append(plain(1, lines[0], session.LONGEST_FIRST_LINE))
+        return unjudged(lines, excerpt) + verdict
+    telling.lines.append(Line(1, plain(1, lines[0], session.LONGEST_FIRST_LINE)))
     for number, line in enumerate(lines[1:], 2):
         telling.tell(line, number)
-    telling.end()
-    return b"".join(telling.told) + verdict
+    return excerpt.shown(telling.lines) + telling.end() + verdict

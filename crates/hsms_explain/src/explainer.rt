@@ -3,43 +3,31 @@
 ghost use Rattle.std.specs.Prelude.{◌≤◌};
 
 use crate::course::Course;
-use crate::mending::{judge_entry, tell_rule};
+use crate::mending::judge_entry;
+use crate::note::{Failing, Note};
 use crate::page::Page;
-use crate::step::{Step, What};
 use crate::tally::Tally;
-use hsms_frame::HEADER_LENGTH;
-use hsms_log::{
-    FrameLine, Line, LineFault, Why, read_frame_line, read_line, read_settings, split_at_first,
-    without_carriage_return,
-};
-use hsms_machine::{Entry, Event, GREATEST_DEPTH, Mark};
+use crate::told::{Carried, SETTINGS_LIMIT, Told, carried_by, limit_of};
+use crate::window::Window;
+use hsms_log::{Why, read_settings, split_at_first, without_carriage_return};
+use hsms_options::Excerpt;
 use std::alloc::{AllocError, Global};
 
-// How many octets the line of the settings has at most, without its end.
-const SETTINGS_LIMIT: usize = 256;
-
-// How wide the number of a line is, and its time.
-const NUMBER: usize = 6;
-
-const TIME: usize = 7;
-
-// The words for a line that can't be read.
-const UNREADABLE: &str = "it can't be read";
-
 /// Tells a log that comes in pieces. Of a line that goes on no more octets are held than a line may have.
-#[derive(Drop)]
 pub struct Explainer {
     held: Vec<u8>,
     stage: Stage,
-    notes: Notes,
+    octets: Vec<u8>,
+    report: Report,
 }
 
-// What is told, and memory for the octets of a frame.
+// What is told, which lines are, and what is noted of the line at hand.
 #[derive(Drop)]
-struct Notes {
+struct Report {
     page: Page,
     tally: Tally,
-    octets: Vec<u8>,
+    window: Window,
+    notes: Vec<Note>,
 }
 
 // Whether the log is judged: not before its first line, and not where that can't be read. The number is that of the
@@ -57,17 +45,35 @@ struct Known {
     course: Course,
 }
 
+// Written out: a proof over one that is dropped has one step for it, not one for each of its parts.
+impl Drop for Explainer {
+    fn drop(self) {
+        let Explainer {
+            held,
+            stage,
+            octets,
+            report,
+        } = self;
+        drop(held);
+        drop(stage);
+        drop(octets);
+        drop(report);
+    }
+}
+
 impl Explainer {
     /// What is told of a log of which nothing was read: nothing.
-    pub fn new(alloc: Global) -> Result<Explainer, AllocError> {
+    pub fn new(alloc: Global, excerpt: Excerpt) -> Result<Explainer, AllocError> {
         let page = Page::new(alloc)?;
         Ok(Explainer {
             held: Vec::new(alloc),
             stage: Stage::Unjudged(0),
-            notes: Notes {
+            octets: Vec::new(alloc),
+            report: Report {
                 page,
                 tally: Tally::new(alloc),
-                octets: Vec::new(alloc),
+                window: Window::new(alloc, excerpt),
+                notes: Vec::new(alloc),
             },
         })
     }
@@ -88,7 +94,8 @@ impl Explainer {
             return tell_line(
                 alloc,
                 &mut self.stage,
-                &mut self.notes,
+                &mut self.octets,
+                &mut self.report,
                 without_carriage_return(part),
             );
         }
@@ -101,7 +108,8 @@ impl Explainer {
         let told = tell_line(
             alloc,
             &mut self.stage,
-            &mut self.notes,
+            &mut self.octets,
+            &mut self.report,
             without_carriage_return(&self.held),
         );
         self.held.clear();
@@ -120,14 +128,15 @@ impl Explainer {
         if !self.held.is_empty() {
             self.tell_held(alloc)?;
         }
+        self.report.tell_gap(self.stage.lines());
         match &self.stage {
             Stage::Unjudged(_) => {
-                self.notes
+                self.report
                     .page
                     .lay(b"nothing was judged: line 1 can't be read\n");
                 Ok(())
             }
-            Stage::Judged(_) => self.notes.tell_end(alloc),
+            Stage::Judged(_) => self.report.tell_end(alloc),
         }
     }
 
@@ -137,16 +146,21 @@ impl Explainer {
     ///
     /// Where memory was refused to it.
     pub fn told(&mut self) -> Result<&[u8], AllocError> {
-        self.notes.page.octets()
+        self.report.page.octets()
     }
 
     /// Lets go what is told.
     pub fn let_go(&mut self) {
-        self.notes.page.clear();
+        self.report.page.clear();
     }
 }
 
-impl Notes {
+impl Report {
+    // Tells that lines are left out at the end of so many.
+    fn tell_gap(&mut self, lines: u64) {
+        self.window.finish(&mut self.page, lines);
+    }
+
     // Tells the failures behind a log that was judged.
     fn tell_end(&mut self, alloc: Global) -> Result<(), AllocError> {
         if self.tally.is_empty() {
@@ -158,10 +172,42 @@ impl Notes {
         Ok(())
     }
 
-    // Tells that a line can't be read.
-    fn tell_unreadable(&mut self) -> Result<(), AllocError> {
-        self.tally.count(Why::Unreadable)?;
-        tell_rule(&mut self.page, "unreadable", UNREADABLE);
+    // Tells a line, and what is noted of it, in a log whose frames have at most so many octets.
+    fn tell(&mut self, alloc: Global, told: Told<'_, '_>, max: u32) -> Result<(), AllocError> {
+        for note in self.notes.iter() {
+            if let Note::Fails(failing) = note {
+                self.tally.count(failing.why)?;
+            }
+        }
+        self.window
+            .take(alloc, &mut self.page, told, &self.notes, max)
+    }
+
+    // Judges what a line carries, and notes what it closes and why it fails.
+    fn judge(
+        &mut self,
+        alloc: Global,
+        course: &mut Course,
+        carried: Carried<'_>,
+    ) -> Result<(), AllocError> {
+        self.notes.clear();
+        match carried {
+            Carried::Entry(step, text) => {
+                self.tally.count_entry();
+                judge_entry(alloc, course, step, text, &mut self.notes)
+            }
+            Carried::Nothing => Ok(()),
+            Carried::Unreadable => self.note_unreadable(),
+        }
+    }
+
+    // Notes that a line can't be read.
+    fn note_unreadable(&mut self) -> Result<(), AllocError> {
+        self.notes.push(Note::Fails(Failing {
+            why: Why::Unreadable,
+            concerns: None,
+            remedy: None,
+        }))?;
         Ok(())
     }
 }
@@ -176,27 +222,29 @@ impl Stage {
             Stage::Judged(known) => limit_of(known.max),
         }
     }
-}
 
-// The greatest length of a line that isn't the first, without its end.
-fn limit_of(max: u32) -> usize
-    ensures { result ≤ 8589934654 }
-{
-    2 * max as usize + 64
+    // How many lines there were.
+    fn lines(&self) -> u64 {
+        match self {
+            Stage::Unjudged(lines) => *lines,
+            Stage::Judged(known) => known.course.line(),
+        }
+    }
 }
 
 // Tells a line.
 fn tell_line(
     alloc: Global,
     stage: &mut Stage,
-    notes: &mut Notes,
+    octets: &mut Vec<u8>,
+    report: &mut Report,
     line: &[u8],
 ) -> Result<(), AllocError> {
     match stage {
-        Stage::Judged(known) => later_line(alloc, known, notes, line),
+        Stage::Judged(known) => later_line(alloc, known, octets, report, line),
         Stage::Unjudged(before) => {
             let number = before.saturating_add(1);
-            *stage = unjudged_line(alloc, notes, number, line)?;
+            *stage = unjudged_line(alloc, report, number, line)?;
             Ok(())
         }
     }
@@ -205,23 +253,32 @@ fn tell_line(
 // Tells the first line, or one behind a first line that can't be read.
 fn unjudged_line(
     alloc: Global,
-    notes: &mut Notes,
+    report: &mut Report,
     number: u64,
     line: &[u8],
 ) -> Result<Stage, AllocError> {
-    tell_plain(&mut notes.page, number, line, SETTINGS_LIMIT);
-    if number > 1 {
-        return Ok(Stage::Unjudged(number));
+    let settings = if number > 1 {
+        None
+    } else {
+        read_settings(line)
+    };
+    report.notes.clear();
+    if number == 1 && settings.is_none() {
+        report.note_unreadable()?;
     }
-    match read_settings(line) {
+    let told = Told {
+        number,
+        octets: line,
+        limit: SETTINGS_LIMIT,
+        carried: Carried::Nothing,
+    };
+    report.tell(alloc, told, 0)?;
+    match settings {
         Some(settings) => Ok(Stage::Judged(Known {
             max: settings.max(),
             course: Course::new(alloc, settings),
         })),
-        None => {
-            notes.tell_unreadable()?;
-            Ok(Stage::Unjudged(number))
-        }
+        None => Ok(Stage::Unjudged(number)),
     }
 }
 
@@ -229,146 +286,18 @@ fn unjudged_line(
 fn later_line(
     alloc: Global,
     known: &mut Known,
-    notes: &mut Notes,
+    octets: &mut Vec<u8>,
+    report: &mut Report,
     line: &[u8],
 ) -> Result<(), AllocError> {
     known.course.next_line();
-    if line.len() > limit_of(known.max) {
-        return unreadable_line(known, notes, line);
-    }
-    match read_frame_line(line, &mut notes.octets)? {
-        Some(frame) => {
-            let (_, text) = notes.octets.split_at(HEADER_LENGTH);
-            frame_line(
-                alloc,
-                &mut known.course,
-                &mut notes.page,
-                &mut notes.tally,
-                frame,
-                text,
-            )
-        }
-        None => other_line(alloc, known, notes, line),
-    }
-}
-
-// Tells a line that can't be read.
-fn unreadable_line(known: &Known, notes: &mut Notes, line: &[u8]) -> Result<(), AllocError> {
-    tell_plain(
-        &mut notes.page,
-        known.course.line(),
-        line,
-        limit_of(known.max),
-    );
-    notes.tell_unreadable()
-}
-
-// Tells a line with a frame.
-fn frame_line(
-    alloc: Global,
-    course: &mut Course,
-    page: &mut Page,
-    tally: &mut Tally,
-    frame: FrameLine,
-    text: &[u8],
-) -> Result<(), AllocError> {
-    let FrameLine { time, mark, header } = frame;
-    tell_front(page, course.line(), time);
-    page.lay(mark_word(mark));
-    page.lay_message(header, text, GREATEST_DEPTH);
-    let what = What::Frame(mark, header);
-    judge_entry(alloc, course, page, tally, Step { time, what }, text)
-}
-
-fn mark_word(mark: Mark) -> &'static [u8] {
-    match mark {
-        Mark::Sent => b"> ",
-        Mark::Taken => b"< ",
-        Mark::Discarded => b"! ",
-    }
-}
-
-// Tells a line without a frame.
-fn other_line(
-    alloc: Global,
-    known: &mut Known,
-    notes: &mut Notes,
-    line: &[u8],
-) -> Result<(), AllocError> {
-    match read_line(alloc, line, known.max) {
-        Ok(Line::Entry(entry)) => entry_line(alloc, known, notes, &entry, line),
-        Ok(Line::Nothing) => {
-            tell_plain(
-                &mut notes.page,
-                known.course.line(),
-                line,
-                limit_of(known.max),
-            );
-            Ok(())
-        }
-        Err(LineFault::Unreadable) => unreadable_line(known, notes, line),
-        Err(LineFault::Memory) => Err(AllocError),
-    }
-}
-
-// Tells the line of an entry without a frame.
-fn entry_line(
-    alloc: Global,
-    known: &mut Known,
-    notes: &mut Notes,
-    entry: &Entry,
-    line: &[u8],
-) -> Result<(), AllocError> {
-    let time = entry.time;
-    let (what, text) = match &entry.event {
-        Event::Up => (What::Up, b"".as_slice()),
-        Event::Sent(frame) => (What::Frame(Mark::Sent, frame.header), frame.text.as_slice()),
-        Event::Taken(frame) => (
-            What::Frame(Mark::Taken, frame.header),
-            frame.text.as_slice(),
-        ),
-        Event::Discarded(frame) => (
-            What::Frame(Mark::Discarded, frame.header),
-            frame.text.as_slice(),
-        ),
-        Event::T3(system) => (What::T3(*system), b"".as_slice()),
-        Event::Cut(cause) => (What::Cut(*cause), b"".as_slice()),
-        Event::Down => (What::Down, b"".as_slice()),
+    let carried = carried_by(alloc, line, known.max, octets)?;
+    report.judge(alloc, &mut known.course, carried)?;
+    let told = Told {
+        number: known.course.line(),
+        octets: line,
+        limit: limit_of(known.max),
+        carried,
     };
-    tell_front(&mut notes.page, known.course.line(), time);
-    notes.page.lay(behind_time(line));
-    notes.page.lay(b"\n");
-    judge_entry(
-        alloc,
-        &mut known.course,
-        &mut notes.page,
-        &mut notes.tally,
-        Step { time, what },
-        text,
-    )
-}
-
-// What a line says behind its time.
-fn behind_time(line: &[u8]) -> &[u8] {
-    match split_at_first(line, b' ') {
-        Some((_, words)) => words,
-        None => line,
-    }
-}
-
-// Tells a line as it is, behind its number, up to the greatest length of a line.
-fn tell_plain(page: &mut Page, number: u64, line: &[u8], limit: usize) {
-    let shown = line.len().min(limit);
-    page.lay_number(number, NUMBER);
-    page.lay(b"         ");
-    page.lay(&line[..shown]);
-    page.lay(b"\n");
-}
-
-// Tells the number of a line, and its time.
-fn tell_front(page: &mut Page, number: u64, time: u64) {
-    page.lay_number(number, NUMBER);
-    page.lay(b" ");
-    page.lay_number(time, TIME);
-    page.lay(b" ");
+    report.tell(alloc, told, known.max)
 }

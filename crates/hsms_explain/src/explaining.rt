@@ -11,7 +11,7 @@ ghost use Rattle.hsms_explain.specs.Explain.{Concludes, ExplainsTo, GrowsBySome,
 use crate::explainer::Explainer;
 use hsms_frame::{Sink, Source};
 use hsms_log::{Auditor, Verdict};
-use hsms_options::ToolFault;
+use hsms_options::{Excerpt, ToolFault};
 use hsms_tasks::{put, verdict_line};
 use std::alloc::Global;
 
@@ -21,7 +21,8 @@ const BLOCK: usize = 4096;
 /// Tells each line of a log: its number, its time, and a frame as `hsms show` shows it; below it the line that it
 /// answers, rejects or says to have expired, and each rule that it breaks, with the line that this concerns and the way
 /// in which the log is gone on with. Behind the lines stands how often each rule was broken, and at the end the line of
-/// the verdict that `hsms audit` tells. It says whether the log passes.
+/// the verdict that `hsms audit` tells. It says whether the log passes. Lines that the excerpt leaves out are judged and
+/// not told.
 ///
 /// The log is read once, to its end, in blocks. What is told of a block is written before the next read, which may
 /// wait, so that a line is told when it has come. Of the log no more is held than a block, a line that goes on and the
@@ -34,6 +35,7 @@ const BLOCK: usize = 4096;
 /// - `Memory`. What was told before is written.
 pub fn explain_to<R: Source, W: Sink>(
     alloc: Global,
+    excerpt: Excerpt,
     source: &mut R,
     sink: &mut W,
 ) -> Result<bool, ToolFault>
@@ -45,7 +47,7 @@ pub fn explain_to<R: Source, W: Sink>(
     ensures writes { CountsFailure (codes "Write") result (W.state sink.old).failures (W.state sink.new).failures }
 {
     let mut auditor = Auditor::new(alloc);
-    let mut explainer = Explainer::new(alloc)?;
+    let mut explainer = Explainer::new(alloc, excerpt)?;
     let mut block = [0u8; BLOCK];
     for _ in 0..u32::MAX {
         let count = match source.pull(&mut block) {

@@ -5,7 +5,7 @@
 //! last line is the verdict of the audit:
 //!
 //! ```
-//! let passes = explain_to(alloc, &mut source, &mut sink)?;
+//! let passes = explain_to(alloc, excerpt, &mut source, &mut sink)?;
 //! ```
 #![tactic(auto)]
 
@@ -14,9 +14,13 @@ mod explainer;
 mod explaining;
 mod judging;
 mod mending;
+mod note;
 mod page;
 mod step;
 mod tally;
+mod text;
+mod told;
+mod window;
 mod words;
 
 pub use explaining::explain_to;

@@ -1,4 +1,5 @@
 pub mod Number
+pub mod Excerpt
 pub mod Options
 pub mod Sentence
 pub mod Service

@@ -12,6 +12,7 @@ use Rattle.hsms_options.specs.declared.options.Task.{Task}
 use Rattle.hsms_options.specs.declared.options.Task.TheVariants as asked
 use Rattle.hsms_options.specs.declared.service.Service.{Service}
 use Rattle.hsms_options.specs.Number.{IsFlag, depth_number, device_number, flag_in, flag_option, max_number, number_in, option_of, system_number}
+use Rattle.hsms_options.specs.Excerpt.{HasExcerpt, IsExcerptWithinLimits, explain_rules}
 use Rattle.hsms_options.specs.Service.{AsksToServe, serve_rules}
 
 -- ---- the command that is described to `clap`
@@ -29,7 +30,7 @@ abbrev pub audit_command : Shape
 audit_command = named (codes "audit")
 
 abbrev pub explain_command : Shape
-explain_command = named (codes "explain")
+explain_command = record (named (codes "explain")) { rules = explain_rules }
 
 abbrev pub encode_command : Shape
 encode_command = record (named (codes "encode")) {
@@ -72,7 +73,7 @@ AsksForTask name rows (asked.Encode device system max depth hex) =
 -- what a subcommand of this name asks for, with these matches
 abbrev pub AsksFor : Text → List Row → Request → Type 0
 AsksFor name rows (request.Task task) = AsksForTask name rows task
-AsksFor name rows request.Explain = name ≡ codes "explain"
+AsksFor name rows (request.Explain excerpt) = (name ≡ codes "explain") × HasExcerpt rows excerpt
 AsksFor name rows (request.Serve service) = (name ≡ codes "serve") × AsksToServe rows service
 
 -- the request to serve what is asked for
@@ -102,7 +103,7 @@ SpellsTask words (asked.Encode device system max depth hex) = SpellsWork words (
 -- the words ask for this, or may call for help or for the version
 abbrev pub Spells : List Text → Request → Type 0
 Spells words (request.Task task) = SpellsTask words task
-Spells words request.Explain = SpellsWork words request.Explain
+Spells words (request.Explain excerpt) = SpellsWork words (request.Explain excerpt)
 Spells words (request.Serve service) = SpellsWork words (request.Serve service)
 
 -- the words ask for no work, and nothing says that they call for help alone, or for the version alone
@@ -122,7 +123,7 @@ IsTaskWithinLimits (asked.Encode device system max depth hex) =
 -- each number of a request is within its limits; those of settings are by their type
 abbrev pub IsWithinLimits : Request → Type 0
 IsWithinLimits (request.Task task) = IsTaskWithinLimits task
-IsWithinLimits request.Explain = Unit {0}
+IsWithinLimits (request.Explain excerpt) = IsExcerptWithinLimits excerpt
 IsWithinLimits (request.Serve service) = (1 ≤ service.port) × (service.port ≤ 65535)
 
 -- a text is to be printed
@@ -134,5 +135,5 @@ IsHelpText (asked.Encode device system max depth hex) = ⊥
 
 abbrev pub IsHelp : Request → Type 0
 IsHelp (request.Task task) = IsHelpText task
-IsHelp request.Explain = ⊥
+IsHelp (request.Explain excerpt) = ⊥
 IsHelp (request.Serve service) = ⊥

@@ -5,8 +5,8 @@ ghost use Rattle.clap.specs.Words.{app_of};
 ghost use Rattle.hsms_options.specs.Options.{audit_command, command_line, encode_command, explain_command, show_command};
 
 use crate::describing_options::{
-    bare_option, depth_option, device_option, hex_input_option, hex_option, max_option,
-    system_option,
+    around_option, bare_option, depth_option, device_option, from_option, hex_input_option,
+    hex_option, max_option, only_option, system_option, to_option,
 };
 use crate::describing_serve::serve_command;
 use clap::Command;
@@ -79,7 +79,7 @@ pub fn command<'a>(alloc: Global) -> Result<Command<'a>, AllocError>
         .subcommand_required(true);
     let hsms = hsms.subcommand(show_command(alloc)?)?;
     let hsms = hsms.subcommand(audit_command(alloc))?;
-    let hsms = hsms.subcommand(explain_command(alloc))?;
+    let hsms = hsms.subcommand(explain_command(alloc)?)?;
     let hsms = hsms.subcommand(encode_command(alloc)?)?;
     hsms.subcommand(serve_command(alloc)?)
 }
@@ -105,13 +105,17 @@ fn audit_command<'a>(alloc: Global) -> Command<'a>
         .after_help(AUDIT_HELP)
 }
 
-fn explain_command<'a>(alloc: Global) -> Command<'a>
-    ensures { app_of result ≡ record { top = explain_command; subs = [] } }
+fn explain_command<'a>(alloc: Global) -> Result<Command<'a>, AllocError>
+    ensures { IfOk result (λ command. app_of command ≡ record { top = explain_command; subs = [] }) }
 {
     Command::new(alloc, "explain")
         .about("Shows a session log, what its lines answer, and each of its failures")
         .override_usage(EXPLAIN_USAGE)
         .after_help(EXPLAIN_HELP)
+        .arg(only_option(alloc))?
+        .arg(around_option(alloc))?
+        .arg(from_option(alloc))?
+        .arg(to_option(alloc))
 }
 
 fn encode_command<'a>(alloc: Global) -> Result<Command<'a>, AllocError>

@@ -2,8 +2,11 @@
 
 ghost use Rattle.std.specs.Prelude.{◌≡◌, codes, false};
 ghost use Rattle.clap.specs.Words.{rule_of};
+ghost use Rattle.hsms_options.specs.Excerpt.{around_number, from_number, to_number};
+ghost use Rattle.hsms_options.specs.Service.{text_option};
 ghost use Rattle.hsms_options.specs.Number.{depth_number, device_number, flag_option, max_number, option_of, system_number};
 
+use crate::limits::{FIRST_LINE, GREATEST_AROUND};
 use clap::{Arg, ArgAction, value_parser};
 use hsms_machine::{GREATEST_DEPTH, GREATEST_DEVICE, GREATEST_MAX, LEAST_DEPTH, LEAST_MAX};
 use std::alloc::Global;
@@ -84,6 +87,53 @@ pub fn bare_option<'a>(alloc: Global) -> Arg<'a>
         "bare",
         "With --hex: lines of header and text alone, as the hexadecimal of a log's lines",
     )
+}
+
+/// The option `--only`.
+pub fn only_option<'a>(alloc: Global) -> Arg<'a>
+    ensures rule { rule_of result ≡ text_option (codes "only") }
+    ensures local { result.global ≡ false }
+{
+    Arg::new(alloc, "only")
+        .long("only")
+        .value_name("failures")
+        .help("Tell only the lines that fail, and those around them")
+}
+
+/// The option `--around`.
+pub fn around_option<'a>(alloc: Global) -> Arg<'a>
+    ensures rule { rule_of result ≡ option_of around_number }
+    ensures local { result.global ≡ false }
+{
+    Arg::new(alloc, "around")
+        .long("around")
+        .value_name("N")
+        .help("With --only: lines told before each of them, and behind it: 0 to 1000 [default: 5]")
+        .value_parser(value_parser!(u32).range(0..=i64::from(GREATEST_AROUND)))
+}
+
+/// The option `--from`.
+pub fn from_option<'a>(alloc: Global) -> Arg<'a>
+    ensures rule { rule_of result ≡ option_of from_number }
+    ensures local { result.global ≡ false }
+{
+    Arg::new(alloc, "from")
+        .long("from")
+        .value_name("N")
+        .help("First line that is told; the log is judged from line 1 on [default: 1]")
+        .value_parser(value_parser!(u32).range(i64::from(FIRST_LINE)..))
+}
+
+/// The option `--to`.
+pub fn to_option<'a>(alloc: Global) -> Arg<'a>
+    ensures rule { rule_of result ≡ option_of to_number }
+    ensures local { result.global ≡ false }
+{
+    Arg::new(alloc, "to")
+        .long("to")
+        .value_name("N")
+        .help("Last line that is told; the log is judged to its end [default: the last one]")
+        .value_parser(value_parser!(u32).range(i64::from(FIRST_LINE)..))
 }
 
 /// An option without a value.

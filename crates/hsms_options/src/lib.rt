@@ -13,6 +13,7 @@
 mod describing;
 mod describing_options;
 mod describing_serve;
+mod excerpt;
 mod fault;
 mod limits;
 mod options;
@@ -22,6 +23,7 @@ mod service;
 mod values;
 
 pub use describing::command;
+pub use excerpt::{Excerpt, Lines};
 pub use fault::{ToolFault, exit_status, no_request, refused};
 pub use options::{Form, Request, Task, parse};
 pub use repeating::Repeat;

@@ -30,6 +30,18 @@ pub const DEFAULT_LINKTEST: u32 = 0;
 /// How long an end waits before it connects again, in milliseconds (SEMI E37, T5).
 pub const DEFAULT_T5: u32 = 10_000;
 
+/// How many lines are told before one that fails, and behind it.
+pub const DEFAULT_AROUND: u32 = 5;
+
+/// How many of them may be asked for.
+pub const GREATEST_AROUND: u32 = 1_000;
+
+/// The number of the first line of a log.
+pub const FIRST_LINE: u32 = 1;
+
+/// The number that stands for the last line of a log.
+pub const LAST_LINE: u32 = u32::MAX;
+
 /// How many connections are served at most, one after the other.
 pub const DEFAULT_CONNECTIONS: u32 = u32::MAX;
 

@@ -10,6 +10,7 @@ ghost use Rattle.hsms_options.specs.declared.options.Request.TheVariants as requ
 ghost use Rattle.hsms_options.specs.declared.options.Task.{Task};
 
 use crate::describing::command;
+use crate::excerpt::{Excerpt, excerpt_of};
 use crate::fault::{ToolFault, no_request};
 use crate::service::{Service, asked_to_serve};
 use crate::values::{depth_of, device_of, flag_of, max_of, system_of};
@@ -22,8 +23,8 @@ use std::alloc::Global;
 pub enum Request {
     /// A task between standard input and standard output.
     Task(Task),
-    /// The log of standard input is to be explained.
-    Explain,
+    /// The log of standard input is to be explained, and this is to be told of it.
+    Explain(Excerpt),
     /// A connection is to be served.
     Serve(Service),
 }
@@ -102,7 +103,7 @@ fn asked_by(alloc: Global, name: &str, options: &ArgMatches<'_>) -> Result<Reque
 {
     match name {
         "audit" => Ok(Request::Task(Task::Audit)),
-        "explain" => Ok(Request::Explain),
+        "explain" => of_excerpt(alloc, excerpt_of(options)),
         "show" => of_task(alloc, asked_to_show(options)),
         "encode" => of_task(alloc, asked_to_encode(options)),
         "serve" => of_service(asked_to_serve(alloc, options)),
@@ -116,6 +117,16 @@ fn of_task(alloc: Global, asked: Option<Task>) -> Result<Request, ToolFault>
 {
     match asked {
         Some(task) => Ok(Request::Task(task)),
+        None => Err(no_request(alloc)),
+    }
+}
+
+fn of_excerpt(alloc: Global, asked: Option<Excerpt>) -> Result<Request, ToolFault>
+    ensures some { IfSome asked (λ excerpt. result ≡ Ok (request.Explain excerpt)) }
+    ensures none { asked ≡ None → IsErrAnd result (IsRefusedAs (codes "command line")) }
+{
+    match asked {
+        Some(excerpt) => Ok(Request::Explain(excerpt)),
         None => Err(no_request(alloc)),
     }
 }

@@ -1,9 +1,17 @@
 use hsms_explain::explain_to;
 use hsms_frame::{Feed, Store};
-use hsms_options::ToolFault;
+use hsms_options::{Excerpt, Lines, ToolFault};
 use std::alloc::{AllocError, Global};
 use std::process::Abort;
 use std::test::Fail;
+
+// Each line.
+const WHOLE: Excerpt = Excerpt {
+    lines: Lines::All,
+    around: 5,
+    from: 1,
+    to: u32::MAX,
+};
 
 // The reply comes a millisecond too late, and no line says that the wait for it was given up.
 const LATE: &[u8] = b"hsms-log 1 host active 0 45000 6000 10000 5000 1048576 32\n\
@@ -93,10 +101,16 @@ impl Run {
     }
 }
 
-fn explained(alloc: Global, log: &[u8], reads: u64, writes: u64) -> Result<Run, AllocError> {
+fn explained(
+    alloc: Global,
+    excerpt: Excerpt,
+    log: &[u8],
+    reads: u64,
+    writes: u64,
+) -> Result<Run, AllocError> {
     let mut source = Feed::new(Vec::from_slice(alloc, log)?, 100, reads);
     let mut sink = Store::new(vec![in alloc; 0u8; 2048]?, 100, writes);
-    let result = explain_to(alloc, &mut source, &mut sink);
+    let result = explain_to(alloc, excerpt, &mut source, &mut sink);
     let written = Vec::from_slice(alloc, sink.written())?;
     Ok(Run { result, written })
 }
@@ -109,11 +123,12 @@ fn assert_told(rt: &impl Abort, run: &Run, passes: bool, told: &[u8]) {
 fn judge_log(
     rt: &impl Abort,
     alloc: Global,
+    excerpt: Excerpt,
     log: &[u8],
     passes: bool,
     told: &[u8],
 ) -> Result<(), Fail> {
-    let run = explained(alloc, log, u64::MAX, u64::MAX)?.or_want_of_memory()?;
+    let run = explained(alloc, excerpt, log, u64::MAX, u64::MAX)?.or_want_of_memory()?;
     assert_told(rt, &run, passes, told);
     Ok(())
 }
@@ -121,15 +136,58 @@ fn judge_log(
 #[test]
 fn tells_each_failure(rt: HostRuntime) -> Result<(), Fail> {
     let alloc = rt.alloc();
-    judge_log(&rt, alloc, LATE, false, LATE_TOLD)?;
-    judge_log(&rt, alloc, CUT, false, CUT_TOLD)
+    judge_log(&rt, alloc, WHOLE, LATE, false, LATE_TOLD)?;
+    judge_log(&rt, alloc, WHOLE, CUT, false, CUT_TOLD)
 }
 
 #[test]
 fn tells_that_nothing_was_judged(rt: HostRuntime) -> Result<(), Fail> {
     let alloc = rt.alloc();
-    judge_log(&rt, alloc, NOTHING, true, NOTHING_TOLD)?;
-    judge_log(&rt, alloc, b"0 up\n0 down\n", false, NO_LOG_TOLD)
+    judge_log(&rt, alloc, WHOLE, NOTHING, true, NOTHING_TOLD)?;
+    judge_log(&rt, alloc, WHOLE, b"0 up\n0 down\n", false, NO_LOG_TOLD)
+}
+
+// Failures alone, with a line around them.
+const FAILURES: Excerpt = Excerpt {
+    lines: Lines::Failures,
+    around: 1,
+    from: 1,
+    to: u32::MAX,
+};
+
+const LATE_FAILURES_TOLD: &[u8] = b"       ..\n     \
+    5    1000 > data 0000 00000002 S1F1 W .\n     \
+    6   46001 < data 0000 00000002 S1F2 <L [2] <A [1] \"A\"> <A [1] \"B\">> .\n       \
+    FAIL T3Overdue: a reply is overdue, and no `t3` says so\n            \
+    concerns line 5\n            \
+    goes on as if `46000 t3 00000002` stood before it\n       \
+    FAIL NoTransaction: it answers nothing that is open\n            \
+    goes on as if it were thrown away\n\
+    failures=2 T3Overdue=1 NoTransaction=1\n\
+    fail line=6 rule=T3Overdue\n";
+
+// Lines 2 to 4, of which the last one closes what line 3 opened.
+const FRONT: Excerpt = Excerpt {
+    lines: Lines::All,
+    around: 5,
+    from: 2,
+    to: 4,
+};
+
+const LATE_FRONT_TOLD: &[u8] = b"       ..\n     \
+    2       0 up\n     \
+    3       0 > select.req ffff 00000001\n     \
+    4       5 < select.rsp ffff 00000001 0\n       \
+    answers line 3 after 5 ms\n       \
+    ..\n\
+    failures=2 T3Overdue=1 NoTransaction=1\n\
+    fail line=6 rule=T3Overdue\n";
+
+#[test]
+fn tells_an_excerpt(rt: HostRuntime) -> Result<(), Fail> {
+    let alloc = rt.alloc();
+    judge_log(&rt, alloc, FAILURES, LATE, false, LATE_FAILURES_TOLD)?;
+    judge_log(&rt, alloc, FRONT, LATE, false, LATE_FRONT_TOLD)
 }
 
 fn assert_stopped(rt: &impl Abort, run: &Run, word: &str, told: &[u8]) {
@@ -147,9 +205,9 @@ fn assert_stopped(rt: &impl Abort, run: &Run, word: &str, told: &[u8]) {
 fn tells_until_a_device_fails(rt: HostRuntime) -> Result<(), Fail> {
     let alloc = rt.alloc();
     for calls in [0, 1, 2] {
-        let run = explained(alloc, LATE, calls, u64::MAX)?.or_want_of_memory()?;
+        let run = explained(alloc, WHOLE, LATE, calls, u64::MAX)?.or_want_of_memory()?;
         assert_stopped(&rt, &run, "Read", LATE_TOLD);
-        let run = explained(alloc, LATE, u64::MAX, calls)?.or_want_of_memory()?;
+        let run = explained(alloc, WHOLE, LATE, u64::MAX, calls)?.or_want_of_memory()?;
         assert_stopped(&rt, &run, "Write", LATE_TOLD);
     }
     Ok(())

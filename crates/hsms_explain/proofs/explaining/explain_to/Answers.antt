@@ -65,3 +65,8 @@ loop-preserved g c =
       some_more _ _ _ inv.4 c.in_ok-write_told.ensures.some,
       c.in_ok-write_told.ensures.writes ∙ inv.5,
     )
+
+pub returns-then-count-eq0-clause-reads : goal.returns-then-count-eq0-clause-reads
+returns-then-count-eq0-clause-reads g c =
+    let same = c.in-Ok.ensures.counts.failures ∙ c.loop.invariant.3 in
+    rw same (reads_none c.conclude.result _ c.conclude.ensures.fault)

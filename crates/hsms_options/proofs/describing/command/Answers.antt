@@ -17,8 +17,8 @@ returns c =
     ∙ ap₂ with_subcommand hsms_is (ap (λ (a : App). a.top) c.in_ok-show_command.ensures) in
     let with_audit = c.in_ok-hsms-2.ensures.shape (third_fails _ _ _ _ (ap (λ (a : App). a.top.is_plain) c.audit_command.ensures))
     ∙ ap₂ with_subcommand with_show (ap (λ (a : App). a.top) c.audit_command.ensures) in
-    let with_explain = c.in_ok-hsms-3.ensures.shape (third_fails _ _ _ _ (ap (λ (a : App). a.top.is_plain) c.explain_command.ensures))
-    ∙ ap₂ with_subcommand with_audit (ap (λ (a : App). a.top) c.explain_command.ensures) in
+    let with_explain = c.in_ok-hsms-3.ensures.shape (third_fails _ _ _ _ (ap (λ (a : App). a.top.is_plain) c.in_ok-explain_command.ensures))
+    ∙ ap₂ with_subcommand with_audit (ap (λ (a : App). a.top) c.in_ok-explain_command.ensures) in
     let with_encode = c.in_ok-hsms-4.ensures.shape (third_fails _ _ _ _ (ap (λ (a : App). a.top.is_plain) c.in_ok-encode_command.ensures))
     ∙ ap₂ with_subcommand with_explain (ap (λ (a : App). a.top) c.in_ok-encode_command.ensures) in
     IfOk-weaker c.subcommand-5.result _ _ (λ command adds. adds.shape (third_fails _ _ _ _ (ap (λ (a : App). a.top.is_plain) c.in_ok-serve_command.ensures))

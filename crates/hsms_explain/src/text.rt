@@ -1,0 +1,152 @@
+//! A line and its notes, as text.
+
+use crate::note::{Failing, Note};
+use crate::page::Page;
+use crate::step::{Step, What};
+use crate::told::{Carried, Told};
+use crate::words::{Concern, GoingOn};
+use hsms_log::{Why, split_at_first};
+use hsms_machine::{GREATEST_DEPTH, Mark};
+use hsms_options::sentence;
+use hsms_tasks::rule_name;
+use std::alloc::{AllocError, Global};
+use std::fmt;
+
+// How wide the number of a line is, and its time.
+const NUMBER: usize = 6;
+
+const TIME: usize = 7;
+
+// What stands before the words below a line.
+const BELOW: &[u8] = b"       ";
+
+// The words for a line that can't be read.
+const UNREADABLE: &str = "it can't be read";
+
+/// Writes a line, and below it the notes.
+pub fn write_line(
+    alloc: Global,
+    page: &mut Page,
+    told: Told<'_, '_>,
+    notes: &[Note],
+) -> Result<(), AllocError> {
+    write_said(page, told);
+    for note in notes {
+        write_note(alloc, page, note)?;
+    }
+    Ok(())
+}
+
+/// Writes that lines are left out.
+pub fn write_gap(page: &mut Page) {
+    page.lay(BELOW);
+    page.lay(b"..\n");
+}
+
+// Writes what a line says.
+fn write_said(page: &mut Page, told: Told<'_, '_>) {
+    match told.carried {
+        Carried::Entry(step, text) => write_entry(page, told, step, text),
+        Carried::Nothing | Carried::Unreadable => write_plain(page, told),
+    }
+}
+
+// Writes an entry: a frame as `hsms show` shows it, the words of another one.
+fn write_entry(page: &mut Page, told: Told<'_, '_>, step: Step, text: &[u8]) {
+    page.lay_number(told.number, NUMBER);
+    page.lay(b" ");
+    page.lay_number(step.time, TIME);
+    page.lay(b" ");
+    match step.what {
+        What::Frame(mark, header) => {
+            page.lay(mark_word(mark));
+            page.lay_message(header, text, GREATEST_DEPTH);
+        }
+        What::Up | What::T3(_) | What::Cut(_) | What::Down => {
+            page.lay(behind_time(told.octets));
+            page.lay(b"\n");
+        }
+    }
+}
+
+fn mark_word(mark: Mark) -> &'static [u8] {
+    match mark {
+        Mark::Sent => b"> ",
+        Mark::Taken => b"< ",
+        Mark::Discarded => b"! ",
+    }
+}
+
+// What a line says behind its time.
+fn behind_time(line: &[u8]) -> &[u8] {
+    match split_at_first(line, b' ') {
+        Some((_, words)) => words,
+        None => line,
+    }
+}
+
+// Writes a line as it is, behind its number.
+fn write_plain(page: &mut Page, told: Told<'_, '_>) {
+    let shown = told.octets.len().min(told.limit);
+    page.lay_number(told.number, NUMBER);
+    page.lay(b"         ");
+    page.lay(&told.octets[..shown]);
+    page.lay(b"\n");
+}
+
+fn write_note(alloc: Global, page: &mut Page, note: &Note) -> Result<(), AllocError> {
+    match note {
+        Note::Closes(closing) => write_below(alloc, page, closing),
+        Note::Fails(failing) => write_failing(alloc, page, failing),
+    }
+}
+
+fn write_failing(alloc: Global, page: &mut Page, failing: &Failing) -> Result<(), AllocError> {
+    write_why(page, failing.why);
+    if let Some(line) = failing.concerns {
+        write_further(alloc, page, &Concern { line })?;
+    }
+    if let Some(remedy) = failing.remedy {
+        write_further(alloc, page, &GoingOn { remedy })?;
+    }
+    Ok(())
+}
+
+fn write_why(page: &mut Page, why: Why) {
+    match why {
+        Why::Unreadable => write_rule(page, "unreadable", UNREADABLE),
+        Why::Broken(rule) => write_rule(page, rule_name(rule), sentence(rule)),
+    }
+}
+
+fn write_rule(page: &mut Page, name: &str, sentence: &str) {
+    page.lay(BELOW);
+    page.lay(b"FAIL ");
+    page.lay(name.as_bytes());
+    page.lay(b": ");
+    page.lay(sentence.as_bytes());
+    page.lay(b"\n");
+}
+
+// Writes words below a line.
+fn write_below<D: fmt::Display>(
+    alloc: Global,
+    page: &mut Page,
+    words: &D,
+) -> Result<(), AllocError> {
+    let words = words.to_string(alloc)?;
+    page.lay(BELOW);
+    page.lay(words.as_bytes());
+    page.lay(b"\n");
+    Ok(())
+}
+
+// Writes words below those of a failure.
+fn write_further<D: fmt::Display>(
+    alloc: Global,
+    page: &mut Page,
+    words: &D,
+) -> Result<(), AllocError> {
+    page.lay(b"     ");
+    write_below(alloc, page, words)
+}

@@ -1,0 +1,206 @@
+//! Which lines of a log are told, and when.
+
+use crate::note::{Note, closing_in, has_failure};
+use crate::page::Page;
+use crate::text::{write_gap, write_line};
+use crate::told::{Carried, Told, carried_by};
+use crate::words::Closing;
+use hsms_options::{Excerpt, Lines};
+use std::alloc::{AllocError, Global};
+use std::collections::VecDeque;
+
+/// The lines of an excerpt. Where failures alone are told, the lines before the next one are held, no more of them than
+/// are told around it.
+pub struct Window {
+    excerpt: Excerpt,
+    held: VecDeque<Held>,
+    // How many lines are told behind the last failure yet.
+    behind: u32,
+    // The number of the last line that was told.
+    last: u64,
+    // The octets of a frame.
+    octets: Vec<u8>,
+}
+
+// A line that is held: its number, its octets as far as they are told, whether they are an entry, and what this closes.
+#[derive(Drop)]
+struct Held {
+    number: u64,
+    octets: Vec<u8>,
+    is_entry: bool,
+    closing: Option<Closing>,
+}
+
+// Written out: a proof over one that is dropped has one step for it, not one for each of its parts.
+impl Drop for Window {
+    fn drop(self) {
+        let Window {
+            excerpt: _excerpt,
+            held,
+            behind: _behind,
+            last: _last,
+            octets,
+        } = self;
+        drop(held);
+        drop(octets);
+    }
+}
+
+impl Held {
+    fn new(alloc: Global) -> Held {
+        Held {
+            number: 0,
+            octets: Vec::new(alloc),
+            is_entry: false,
+            closing: None,
+        }
+    }
+
+    // What the line carries. The octets of its frame are put in place of what `octets` holds.
+    fn carried<'a>(
+        &self,
+        alloc: Global,
+        max: u32,
+        octets: &'a mut Vec<u8>,
+    ) -> Result<Carried<'a>, AllocError> {
+        if !self.is_entry {
+            return Ok(Carried::Nothing);
+        }
+        carried_by(alloc, &self.octets, max, octets)
+    }
+}
+
+impl Window {
+    /// No line was told yet.
+    pub fn new(alloc: Global, excerpt: Excerpt) -> Window {
+        Window {
+            excerpt,
+            held: VecDeque::new(alloc),
+            behind: 0,
+            last: 0,
+            octets: Vec::new(alloc),
+        }
+    }
+
+    /// Tells a line of a log whose frames have at most `max` octets, holds it, or passes it over.
+    pub fn take(
+        &mut self,
+        alloc: Global,
+        page: &mut Page,
+        told: Told<'_, '_>,
+        notes: &[Note],
+        max: u32,
+    ) -> Result<(), AllocError> {
+        if !self.excerpt.has_line(told.number) {
+            return Ok(());
+        }
+        if self.is_told(notes) {
+            self.tell_held(alloc, page, max)?;
+            self.tell(alloc, page, told, notes)
+        } else {
+            self.hold(alloc, told, notes)
+        }
+    }
+
+    // Whether the line of these notes is told at once.
+    fn is_told(&mut self, notes: &[Note]) -> bool {
+        if self.excerpt.lines == Lines::All {
+            return true;
+        }
+        if has_failure(notes) {
+            self.behind = self.excerpt.around;
+            return true;
+        }
+        let is_behind = self.behind > 0;
+        self.behind = self.behind.saturating_sub(1);
+        is_behind
+    }
+
+    fn tell(
+        &mut self,
+        alloc: Global,
+        page: &mut Page,
+        told: Told<'_, '_>,
+        notes: &[Note],
+    ) -> Result<(), AllocError> {
+        self.go_to(page, told.number);
+        write_line(alloc, page, told, notes)
+    }
+
+    // Holds a line in place of the oldest one that is held.
+    fn hold(
+        &mut self,
+        alloc: Global,
+        told: Told<'_, '_>,
+        notes: &[Note],
+    ) -> Result<(), AllocError> {
+        if self.excerpt.around == 0 {
+            return Ok(());
+        }
+        let mut held = self.vacant(alloc);
+        held.number = told.number;
+        held.is_entry = matches!(told.carried, Carried::Entry(_, _));
+        held.closing = closing_in(notes);
+        held.octets.clear();
+        let shown = told.octets.len().min(told.limit);
+        held.octets.extend_from_slice(&told.octets[..shown])?;
+        self.held.push_back(held)?;
+        Ok(())
+    }
+
+    // The oldest line that is held, where as many are as are told before a failure.
+    fn vacant(&mut self, alloc: Global) -> Held {
+        if self.held.len() < self.excerpt.around as usize {
+            return Held::new(alloc);
+        }
+        match self.held.pop_front() {
+            Some(held) => held,
+            None => Held::new(alloc),
+        }
+    }
+
+    fn tell_held(&mut self, alloc: Global, page: &mut Page, max: u32) -> Result<(), AllocError> {
+        for _ in 0..self.held.len() {
+            if let Some(held) = self.held.pop_front() {
+                self.tell_one(alloc, page, &held, max)?;
+            }
+        }
+        Ok(())
+    }
+
+    fn tell_one(
+        &mut self,
+        alloc: Global,
+        page: &mut Page,
+        held: &Held,
+        max: u32,
+    ) -> Result<(), AllocError> {
+        self.go_to(page, held.number);
+        let carried = held.carried(alloc, max, &mut self.octets)?;
+        let told = Told {
+            number: held.number,
+            octets: &held.octets,
+            limit: held.octets.len(),
+            carried,
+        };
+        match held.closing {
+            Some(closing) => write_line(alloc, page, told, &[Note::Closes(closing)]),
+            None => write_line(alloc, page, told, &[]),
+        }
+    }
+
+    // Tells that lines are left out before this one, where it doesn't follow the last one that was told.
+    fn go_to(&mut self, page: &mut Page, number: u64) {
+        if number > self.last.saturating_add(1) {
+            write_gap(page);
+        }
+        self.last = number;
+    }
+
+    /// Tells that lines are left out behind the last one that was told, of so many lines.
+    pub fn finish(&self, page: &mut Page, lines: u64) {
+        if lines > self.last {
+            write_gap(page);
+        }
+    }
+}

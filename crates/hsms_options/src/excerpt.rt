@@ -1,0 +1,75 @@
+//! The options of `hsms explain`: which lines of a log are told.
+
+ghost use Rattle.std.specs.Prelude.{◌≡◌, IfSome, None, codes};
+ghost use Rattle.clap.specs.Words.{first_of, found_of, rows_of};
+ghost use Rattle.hsms_options.specs.Excerpt.{HasExcerpt, IsExcerptWithinLimits, only_word};
+ghost use Rattle.hsms_options.specs.declared.excerpt.Excerpt.{Excerpt};
+ghost use Rattle.hsms_options.specs.declared.excerpt.Lines.{Lines};
+
+use crate::limits::{DEFAULT_AROUND, FIRST_LINE, GREATEST_AROUND, LAST_LINE};
+use crate::values::{number_of, text_of};
+use clap::ArgMatches;
+
+/// Which kind of lines is told.
+#[derive(Clone, Copy, Debug, PartialEq, Eq)]
+pub enum Lines {
+    /// Each line.
+    All,
+    /// Those that fail, and some around them.
+    Failures,
+}
+
+/// What is told of a log.
+#[derive(Clone, Copy, Debug)]
+pub struct Excerpt {
+    /// Which kind of lines is told.
+    pub lines: Lines,
+    /// With `Failures`: how many lines are told before each of them and behind it, at most 1,000.
+    pub around: u32,
+    /// The number of the first line that may be told, from 1.
+    pub from: u32,
+    /// The number of the last line that may be told; 4,294,967,295 stands for the last one of the log.
+    pub to: u32,
+}
+
+impl Excerpt {
+    ghost use Rattle.std.specs.Prelude.{◌≡◌};
+    ghost use Rattle.hsms_options.specs.Excerpt.{is_between};
+
+    /// Whether the line of this number, from 1, lies between the first and the last one that may be told.
+    pub fn has_line(&self, number: u64) -> bool
+        ensures { result ≡ is_between self.now number }
+    {
+        u64::from(self.from) <= number && (self.to == LAST_LINE || number <= u64::from(self.to))
+    }
+}
+
+/// What the options of `hsms explain` ask for, if they have values that they may have.
+pub fn excerpt_of(options: &ArgMatches<'_>) -> Option<Excerpt>
+    ensures asks { IfSome result (HasExcerpt (rows_of (found_of options.now))) }
+    ensures within { IfSome result IsExcerptWithinLimits }
+    ensures none { result ≡ None → (excerpt : Excerpt) → HasExcerpt (rows_of (found_of options.now)) excerpt → ⊥ }
+{
+    let lines = lines_of(options)?;
+    let around = number_of(options, "around", 0, GREATEST_AROUND, Some(DEFAULT_AROUND))?;
+    let from = number_of(options, "from", FIRST_LINE, LAST_LINE, Some(FIRST_LINE))?;
+    let to = number_of(options, "to", FIRST_LINE, LAST_LINE, Some(LAST_LINE))?;
+    Some(Excerpt {
+        lines,
+        around,
+        from,
+        to,
+    })
+}
+
+fn lines_of(options: &ArgMatches<'_>) -> Option<Lines>
+    ensures some { IfSome result (λ lines. first_of (codes "only") (rows_of (found_of options.now)) ≡ only_word lines) }
+    ensures none { result ≡ None → (lines : Lines)
+        → first_of (codes "only") (rows_of (found_of options.now)) ≡ only_word lines → ⊥ }
+{
+    match text_of(options, "only") {
+        Some("failures") => Some(Lines::Failures),
+        Some(_) => None,
+        None => Some(Lines::All),
+    }
+}
