@@ -5,11 +5,16 @@ on with. The text is this project's own.
 """
 from typing import Dict, List, NamedTuple, Optional, Set, Tuple
 
-from second_reading import messages, session
-from second_reading.session import DISCARDED, SENT, TAKEN, Before, Entry, Settings, Unreadable
+from second_reading import items, messages, session
+from second_reading.items import Fault
+from second_reading.messages import Frame
+from second_reading.session import DISCARDED, OTHER_DIRECTION, SENT, TAKEN, Before, Entry, Settings, Unreadable
 
 # The deepest nesting that is told in notation.
 DEEPEST = 100
+
+# How many requests of each direction, and how many of their closings, are known where it is told what was expected.
+KEPT = 256
 
 # What stands in place of lines that are left out.
 GAP = b"       ..\n"
@@ -36,6 +41,25 @@ SENTENCES = {
     "SelectStatus": "a Select.rsp with status 0 while the session is selected",
     "NoCause": "nothing is wrong with a frame that was thrown away",
 }
+
+
+def sentence_of(entry: Entry, rule: str) -> str:
+    if rule == "WBit" and entry.frame.kind == "primary":
+        return "a primary of stream 9 that asks for a reply"
+    return SENTENCES[rule]
+
+
+def reply_to(primary: Frame) -> str:
+    """The reply that a primary awaits besides that with function 0."""
+    return f"S{primary.stream}F{(primary.function + 1) % 256}"
+
+
+def fault_of(text: bytes, depth: int) -> Optional[Fault]:
+    try:
+        items.decode_text(text, depth)
+    except Fault as fault:
+        return fault
+    return None
 
 
 def plain(number: int, line: bytes, limit: int) -> bytes:
@@ -140,6 +164,8 @@ class Telling:
         self.settings = settings
         self.entries: List[Entry] = []
         self.places: List[int] = []
+        # Of each entry the direction of the frame that opened what it closes.
+        self.closed: List[Optional[str]] = []
         self.failures: Dict[str, int] = {}
         self.lines: List[Line] = []
         self.judged = 0
@@ -150,7 +176,7 @@ class Telling:
             entry = session.entry_of(line, self.settings)
         except Unreadable:
             self.lines.append(Line(number, plain(number, line, limit)))
-            self.tell_rule("unreadable")
+            self.tell_rule("unreadable", SENTENCES["unreadable"])
             return
         if entry is None:
             self.lines.append(Line(number, plain(number, line, limit)))
@@ -161,10 +187,10 @@ class Telling:
         self.judged += 1
         self.judge(entry, number)
 
-    def tell_rule(self, rule: str):
+    def tell_rule(self, rule: str, sentence: str):
         self.failures[rule] = self.failures.get(rule, 0) + 1
         self.lines[-1].fails = True
-        self.below(f"FAIL {rule}: {SENTENCES[rule]}")
+        self.below(f"FAIL {rule}: {sentence}")
 
     def below(self, words: str, indent: int = 7):
         self.lines[-1].told.append(f"{' ' * indent}{words}\n".encode())
@@ -177,28 +203,110 @@ class Telling:
             before = Before(self.settings, self.entries)
             rule = session.broken_rule(before, step)
             if rule is None:
-                if is_own:
-                    self.tell_closing(step)
+                opener = self.opener_of(step)
+                if is_own and opener is not None:
+                    self.tell_closing(step, opener)
+                self.closed.append(None if opener is None else self.entries[opener].event)
                 self.entries.append(step)
                 self.places.append(number)
                 continue
             remedy = remedy_of(before, step, rule)
             if is_own:
-                self.tell_rule(rule)
+                self.tell_rule(rule, sentence_of(step, rule))
                 self.tell_concern(step, rule)
+                self.tell_expected(before, step, rule)
                 self.below(remedy_words(step, remedy), 12)
             pending += [one for one in remedy if one is not None]
 
     def open(self) -> List[int]:
         return [at for at in range(len(self.entries)) if session.is_open(self.entries, at, len(self.entries))]
 
-    def tell_closing(self, entry: Entry):
-        for at in self.open():
-            opener = self.entries[at]
-            if session.closes(opener, entry):
-                tie = "expires" if entry.event == "t3" else "rejects" if entry.frame.kind == "reject" else "answers"
-                self.below(f"{tie} line {self.places[at]} after {entry.time - opener.time} ms")
-                return
+    def opener_of(self, entry: Entry) -> Optional[int]:
+        """The position of the entry that opened what an entry closes."""
+        return next((at for at in self.open() if session.closes(self.entries[at], entry)), None)
+
+    def tell_closing(self, entry: Entry, opener: int):
+        tie = {"answered by": "answers", "rejected by": "rejects", "expired at": "expires"}[self.tie_of(entry)]
+        self.below(f"{tie} line {self.places[opener]} after {entry.time - self.entries[opener].time} ms")
+
+    @staticmethod
+    def tie_of(entry: Entry) -> str:
+        if entry.event == "t3":
+            return "expired at"
+        return "rejected by" if entry.frame.kind == "reject" else "answered by"
+
+    def positions(self) -> List[int]:
+        """Those of the entries of the last connection."""
+        count = len(self.entries)
+        return list(range(count - len(session.connection_of(self.entries)), count))
+
+    def requests(self, direction: str) -> List[int]:
+        """The positions of the last requests of a direction on the connection, also of such as were thrown away."""
+        events = (TAKEN, DISCARDED) if direction == TAKEN else (SENT,)
+        kinds = ("primary", "select.req", "linktest.req")
+        entries = self.entries
+        found = [at for at in self.positions() if entries[at].event in events and entries[at].frame.kind in kinds]
+        return found[-KEPT:]
+
+    def closings(self, direction: str) -> List[int]:
+        return [at for at in self.positions() if self.closed[at] == direction][-KEPT:]
+
+    def tell_expected(self, before: Before, entry: Entry, rule: str):
+        words = self.expected(before, entry, rule)
+        if words:
+            self.below(words, 12)
+
+    def expected(self, before: Before, entry: Entry, rule: str) -> Optional[str]:
+        frame, settings = entry.frame, self.settings
+        if rule == "Ended":
+            is_end = [at for at in self.positions() if Before(settings, [self.entries[at]]).is_over]
+            return f"over since line {self.places[is_end[-1]]}"
+        if rule == "Session":
+            return f"session {settings.device if frame.is_data else 0xFFFF:04x} expected, {frame.session:04x} came"
+        if rule == "NotSelected":
+            entries = self.entries
+            asked = [at for at in self.positions() if entries[at].frame and entries[at].frame.kind == "select.req"]
+            if asked:
+                return f"no select.rsp with status 0 answers line {self.places[asked[-1]]}"
+            return "its connection has no select.req yet"
+        if rule == "Text":
+            return f"{fault_of(frame.text, settings.depth).words()} of its text"
+        return self.expected_answer(before, entry) if rule == "NoTransaction" else None
+
+    def expected_answer(self, before: Before, entry: Entry) -> Optional[str]:
+        peer, frame, entries = OTHER_DIRECTION[entry.event], entry.frame, self.entries
+        known = self.requests(peer)
+        namesakes = [at for at in self.open() if entries[at].event == peer and entries[at].frame.system == frame.system]
+        for at in namesakes:
+            request = entries[at].frame
+            if at in known and request.kind == "primary" and frame.kind == "reply":
+                came = f"S{frame.stream}F{frame.function}"
+                return f"{reply_to(request)} expected by line {self.places[at]}, {came} came"
+            return None
+        same = [at for at in known if entries[at].frame.system == frame.system]
+        return self.no_longer_open(same[-1]) if same else self.only_one(before, entry)
+
+    def no_longer_open(self, at: int) -> Optional[str]:
+        request, front = self.entries[at], f"line {self.places[at]} has its system bytes, and"
+        if request.event == DISCARDED:
+            return f"{front} was thrown away"
+        if not session.opens(request):
+            return f"{front} asks for no reply"
+        for later in self.closings(request.event):
+            if later > at and session.closes(request, self.entries[later]):
+                was = "" if self.entries[later].event == "t3" else "was "
+                return f"{front} {was}{self.tie_of(self.entries[later])} line {self.places[later]}"
+        return None
+
+    def only_one(self, before: Before, entry: Entry) -> Optional[str]:
+        if entry.event != TAKEN or entry.frame.kind != "reply" or len(before.sent_data) != 1:
+            return None
+        [opener] = before.sent_data
+        at = next(at for at in self.open() if self.entries[at] is opener)
+        if at not in self.requests(SENT):
+            return None
+        frame = opener.frame
+        return f"line {self.places[at]} alone awaits a reply: {reply_to(frame)} {frame.system:08x}"
 
     def tell_concern(self, entry: Entry, rule: str):
         for at in self.open():

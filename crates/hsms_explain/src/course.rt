@@ -49,7 +49,9 @@ impl Model for Course {
 
 impl Course {
     ghost use Rattle.std.specs.Prelude.{◌≡◌, ◌+◌, ◌-◌, ◌^◌, min, [], Some, None, IfOk, IfSome, length};
+    ghost use Rattle.hsms_machine.specs.declared.entry.Event.{Event};
     ghost use Rattle.hsms_machine.specs.declared.rule.Rule.{Rule};
+    ghost use Rattle.hsms_machine.specs.declared.rule.Rule.TheVariants.{SystemInUse, T3Overdue};
     ghost use Rattle.hsms_machine.specs.View.{IsBrokenAfter, IfLawful};
     ghost use Rattle.hsms_machine.specs.Repair.{remedy_of};
     ghost use Rattle.hsms_explain.specs.Course.{HasCourse, CourseLeadsTo, Closes, Concerns, JudgesAs};
@@ -117,9 +119,26 @@ impl Course {
         if rule == Rule::T3Overdue {
             self.lines.oldest_data()
         } else if rule == Rule::SystemInUse {
-            self.lines.in_use(entry)
+            self.in_use(entry)
         } else {
             None
+        }
+    }
+
+    /// The line of the open transaction that has the direction and the system bytes of this sent or taken frame.
+    pub fn in_use(&self, entry: &EntryRef<'_>) -> Option<u64>
+        ensures { IfSome result (Concerns self.now entry.now.event SystemInUse) }
+    {
+        self.lines.in_use(entry)
+    }
+
+    /// The line of the sent primary with the W bit that waits for a reply, where one alone does.
+    pub fn only_primary(&self) -> Option<u64>
+        ensures { IfSome result (λ line. (event : Event) → Concerns self.now event T3Overdue line) }
+    {
+        match self.waiting() {
+            1 => self.lines.oldest_data(),
+            _ => None,
         }
     }
 

@@ -2,14 +2,14 @@
 
 ghost use Rattle.std.specs.Prelude.{◌≤◌};
 
-use crate::course::Course;
+use crate::known::Known;
 use crate::mending::judge_entry;
 use crate::note::{Failing, Note};
 use crate::page::Page;
 use crate::tally::Tally;
 use crate::told::{Carried, SETTINGS_LIMIT, Told, carried_by, limit_of};
 use crate::window::Window;
-use hsms_log::{Why, read_settings, split_at_first, without_carriage_return};
+use hsms_log::{read_settings, split_at_first, without_carriage_return};
 use hsms_options::Excerpt;
 use std::alloc::{AllocError, Global};
 
@@ -36,13 +36,6 @@ struct Report {
 enum Stage {
     Unjudged(u64),
     Judged(Known),
-}
-
-// What the first line says of the greatest size, and the judge.
-#[derive(Drop)]
-struct Known {
-    max: u32,
-    course: Course,
 }
 
 // Written out: a proof over one that is dropped has one step for it, not one for each of its parts.
@@ -187,14 +180,14 @@ impl Report {
     fn judge(
         &mut self,
         alloc: Global,
-        course: &mut Course,
+        known: &mut Known,
         carried: Carried<'_>,
     ) -> Result<(), AllocError> {
         self.notes.clear();
         match carried {
             Carried::Entry(step, text) => {
                 self.tally.count_entry();
-                judge_entry(alloc, course, step, text, &mut self.notes)
+                judge_entry(alloc, known, step, text, &mut self.notes)
             }
             Carried::Nothing => Ok(()),
             Carried::Unreadable => self.note_unreadable(),
@@ -203,11 +196,7 @@ impl Report {
 
     // Notes that a line can't be read.
     fn note_unreadable(&mut self) -> Result<(), AllocError> {
-        self.notes.push(Note::Fails(Failing {
-            why: Why::Unreadable,
-            concerns: None,
-            remedy: None,
-        }))?;
+        self.notes.push(Note::Fails(Failing::unreadable()))?;
         Ok(())
     }
 }
@@ -219,7 +208,7 @@ impl Stage {
     {
         match self {
             Stage::Unjudged(_) => SETTINGS_LIMIT,
-            Stage::Judged(known) => limit_of(known.max),
+            Stage::Judged(known) => limit_of(known.settings.max()),
         }
     }
 
@@ -274,10 +263,7 @@ fn unjudged_line(
     };
     report.tell(alloc, told, 0)?;
     match settings {
-        Some(settings) => Ok(Stage::Judged(Known {
-            max: settings.max(),
-            course: Course::new(alloc, settings),
-        })),
+        Some(settings) => Ok(Stage::Judged(Known::new(alloc, settings))),
         None => Ok(Stage::Unjudged(number)),
     }
 }
@@ -290,14 +276,15 @@ fn later_line(
     report: &mut Report,
     line: &[u8],
 ) -> Result<(), AllocError> {
+    let max = known.settings.max();
     known.course.next_line();
-    let carried = carried_by(alloc, line, known.max, octets)?;
-    report.judge(alloc, &mut known.course, carried)?;
+    let carried = carried_by(alloc, line, max, octets)?;
+    report.judge(alloc, known, carried)?;
     let told = Told {
         number: known.course.line(),
         octets: line,
-        limit: limit_of(known.max),
+        limit: limit_of(max),
         carried,
     };
-    report.tell(alloc, told, known.max)
+    report.tell(alloc, told, max)
 }

@@ -10,12 +10,15 @@
 #![tactic(auto)]
 
 mod course;
+mod expecting;
 mod explainer;
 mod explaining;
 mod judging;
+mod known;
 mod mending;
 mod note;
 mod page;
+mod past;
 mod step;
 mod tally;
 mod text;

@@ -1,13 +1,16 @@
 //! An entry of the log, judged again and again until it is taken in or left out.
 
-use crate::course::{Course, Failure, Judged, Opening};
+use crate::course::{Failure, Judged, Opening};
+use crate::expecting::expected_of;
 use crate::judging::judge_step;
+use crate::known::Known;
 use crate::note::{Failing, Note};
 use crate::step::{Step, What};
-use crate::words::{Closing, Tie};
+use crate::words::Closing;
 use hsms_frame::{Kind, kind};
 use hsms_log::Why;
-use hsms_machine::{Mark, Remedy};
+use hsms_machine::{Mark, Remedy, Rule};
+use hsms_options::sentence;
 use std::alloc::{AllocError, Global};
 
 // How many steps an entry takes at most, besides two for each primary that waits: it is raised, thrown away, put behind
@@ -17,65 +20,82 @@ const STEPS: usize = 16;
 /// Judges the entry of a line, notes what it closes and each failure, and goes on by the remedies.
 pub fn judge_entry(
     alloc: Global,
-    course: &mut Course,
+    known: &mut Known,
     entry: Step,
     text: &[u8],
     notes: &mut Vec<Note>,
 ) -> Result<(), AllocError> {
     let mut pending = Vec::new(alloc);
     pending.push(entry)?;
-    let steps = course.waiting().saturating_mul(2).saturating_add(STEPS);
+    let steps = known
+        .course
+        .waiting()
+        .saturating_mul(2)
+        .saturating_add(STEPS);
     for _ in 0..steps {
         let Some(step) = pending.pop() else {
             return Ok(());
         };
-        let judged = judge_step(course, step, text)?;
+        let judged = judge_step(&mut known.course, step, text)?;
         if pending.is_empty() {
-            note(step, judged, notes)?;
+            note(known, step, text, judged, notes)?;
         }
-        if let Judged::Broken(failure) = judged {
-            go_on(&mut pending, step, failure.remedy)?;
+        match judged {
+            Judged::Lawful(closed) => {
+                let line = known.course.line();
+                known.past.note(line, step, closed.is_some())?;
+            }
+            Judged::Broken(failure) => go_on(&mut pending, step, failure.remedy)?,
         }
     }
     Ok(())
 }
 
 // Notes what became of the entry of a line.
-fn note(step: Step, judged: Judged, notes: &mut Vec<Note>) -> Result<(), AllocError> {
+fn note(
+    known: &Known,
+    step: Step,
+    text: &[u8],
+    judged: Judged,
+    notes: &mut Vec<Note>,
+) -> Result<(), AllocError> {
     match judged {
         Judged::Lawful(None) => {}
         Judged::Lawful(Some(opening)) => notes.push(Note::Closes(closing(step, opening)))?,
-        Judged::Broken(failure) => notes.push(Note::Fails(failing(failure)))?,
+        Judged::Broken(failure) => notes.push(Note::Fails(failing(known, step, text, failure)))?,
     }
     Ok(())
 }
 
 fn closing(step: Step, opening: Opening) -> Closing {
     Closing {
-        tie: tie_of(step.what),
+        tie: step.what.tie(),
         line: opening.line,
         after: step.time.saturating_sub(opening.time),
     }
 }
 
-fn failing(failure: Failure) -> Failing {
+fn failing(known: &Known, step: Step, text: &[u8], failure: Failure) -> Failing {
     Failing {
         why: Why::Broken(failure.rule),
+        sentence: sentence_of(step.what, failure.rule),
         concerns: failure.concerns,
+        expected: expected_of(known, step, text, failure.rule),
         remedy: Some(failure.remedy),
     }
 }
 
-fn tie_of(what: What) -> Tie {
+// The rule in a few words. Besides replies those primaries may ask for no reply by which equipment tells of errors.
+fn sentence_of(what: What, rule: Rule) -> &'static str {
     match what {
         What::Frame(_, header) => {
-            if kind(header) == Kind::Reject {
-                Tie::Rejects
+            if rule == Rule::WBit && kind(header) == Kind::Primary {
+                "a primary of stream 9 that asks for a reply"
             } else {
-                Tie::Answers
+                sentence(rule)
             }
         }
-        What::Up | What::T3(_) | What::Cut(_) | What::Down => Tie::Expires,
+        What::Up | What::T3(_) | What::Cut(_) | What::Down => sentence(rule),
     }
 }
 

@@ -54,7 +54,8 @@ impl Tally {
     }
 }
 
-fn name_of(why: Why) -> &'static str {
+/// The name of the rule.
+pub fn name_of(why: Why) -> &'static str {
     match why {
         Why::Unreadable => "unreadable",
         Why::Broken(rule) => rule_name(rule),

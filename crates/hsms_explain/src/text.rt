@@ -3,12 +3,11 @@
 use crate::note::{Failing, Note};
 use crate::page::Page;
 use crate::step::{Step, What};
+use crate::tally::name_of;
 use crate::told::{Carried, Told};
 use crate::words::{Concern, GoingOn};
-use hsms_log::{Why, split_at_first};
+use hsms_log::split_at_first;
 use hsms_machine::{GREATEST_DEPTH, Mark};
-use hsms_options::sentence;
-use hsms_tasks::rule_name;
 use std::alloc::{AllocError, Global};
 use std::fmt;
 
@@ -19,9 +18,6 @@ const TIME: usize = 7;
 
 // What stands before the words below a line.
 const BELOW: &[u8] = b"       ";
-
-// The words for a line that can't be read.
-const UNREADABLE: &str = "it can't be read";
 
 /// Writes a line, and below it the notes.
 pub fn write_line(
@@ -102,21 +98,17 @@ fn write_note(alloc: Global, page: &mut Page, note: &Note) -> Result<(), AllocEr
 }
 
 fn write_failing(alloc: Global, page: &mut Page, failing: &Failing) -> Result<(), AllocError> {
-    write_why(page, failing.why);
+    write_rule(page, name_of(failing.why), failing.sentence);
     if let Some(line) = failing.concerns {
         write_further(alloc, page, &Concern { line })?;
+    }
+    if let Some(expected) = failing.expected {
+        write_further(alloc, page, &expected)?;
     }
     if let Some(remedy) = failing.remedy {
         write_further(alloc, page, &GoingOn { remedy })?;
     }
     Ok(())
-}
-
-fn write_why(page: &mut Page, why: Why) {
-    match why {
-        Why::Unreadable => write_rule(page, "unreadable", UNREADABLE),
-        Why::Broken(rule) => write_rule(page, rule_name(rule), sentence(rule)),
-    }
 }
 
 fn write_rule(page: &mut Page, name: &str, sentence: &str) {

@@ -33,6 +33,7 @@ const LATE_TOLD: &[u8] =
     concerns line 5\n            \
     goes on as if `46000 t3 00000002` stood before it\n       \
     FAIL NoTransaction: it answers nothing that is open\n            \
+    line 5 has its system bytes, and expired at line 6\n            \
     goes on as if it were thrown away\n\
     failures=2 T3Overdue=1 NoTransaction=1\n\
     fail line=6 rule=T3Overdue\n";
@@ -162,6 +163,7 @@ const LATE_FAILURES_TOLD: &[u8] = b"       ..\n     \
     concerns line 5\n            \
     goes on as if `46000 t3 00000002` stood before it\n       \
     FAIL NoTransaction: it answers nothing that is open\n            \
+    line 5 has its system bytes, and expired at line 6\n            \
     goes on as if it were thrown away\n\
     failures=2 T3Overdue=1 NoTransaction=1\n\
     fail line=6 rule=T3Overdue\n";

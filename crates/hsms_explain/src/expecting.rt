@@ -1,0 +1,235 @@
+//! What would have been right in place of an entry that fails, and what came.
+
+use crate::known::Known;
+use crate::past::{Closed, Request, Requests};
+use crate::step::{Step, What};
+use crate::words::Tie;
+use hsms_frame::{CONTROL_SESSION, Header, Kind, kind};
+use hsms_machine::{EntryRef, Mark, Rule, Settings};
+use secs_item::{ItemFault, measure_text};
+use std::fmt;
+
+/// A stream and a function of SECS-II.
+#[derive(Clone, Copy, Debug)]
+pub struct Function {
+    pub stream: u8,
+    pub function: u8,
+}
+
+impl Function {
+    fn of(header: Header) -> Function {
+        Function {
+            stream: header.stream(),
+            function: header.function(),
+        }
+    }
+
+    // That of the reply to a primary. Past 255 there is none but 0, which aborts.
+    fn of_reply_to(primary: Header) -> Function {
+        Function {
+            stream: primary.stream(),
+            function: primary.function().checked_add(1).unwrap_or(0),
+        }
+    }
+}
+
+/// What would have been right in place of an entry that fails, as far as that is known, or why it may not stand there.
+#[derive(Clone, Copy, Debug)]
+pub enum Expected {
+    /// The open primary of the line, which has its system bytes, awaits another function.
+    Function {
+        line: u64,
+        expected: Function,
+        came: Function,
+    },
+    /// The primary of the line has its system bytes, and no W.
+    NoWait(u64),
+    /// The request of the line has its system bytes, and was thrown away.
+    ThrownAway(u64),
+    /// The transaction of the line has its system bytes, and was closed.
+    Closed {
+        line: u64,
+        tie: Tie,
+        by: u64,
+    },
+    /// The primary of the line is the only one that was sent and waits, and has other system bytes.
+    OnlyOne {
+        line: u64,
+        expected: Function,
+        system: u32,
+    },
+    /// Another session ID.
+    Session {
+        expected: u16,
+        came: u16,
+    },
+    /// The text has this fault, at this place from 0.
+    Text {
+        fault: &'static str,
+        at: usize,
+    },
+    /// The Select.req of the line wasn't answered with status 0, or there was none.
+    Selected(Option<u64>),
+    /// The session is over since the line.
+    Over(u64),
+}
+
+/// What is known of why a step breaks a rule, whose frame has this text.
+pub fn expected_of(known: &Known, step: Step, text: &[u8], rule: Rule) -> Option<Expected> {
+    if rule == Rule::Ended {
+        return over_since(known.past.over);
+    }
+    let What::Frame(mark, header) = step.what else {
+        return None;
+    };
+    match rule {
+        Rule::Session => Some(session(known.settings, header)),
+        Rule::NotSelected => Some(Expected::Selected(known.past.select)),
+        Rule::Text => text_fault(known.settings, text),
+        Rule::NoTransaction => transaction(known, mark, header),
+        _ => None,
+    }
+}
+
+fn over_since(over: Option<u64>) -> Option<Expected> {
+    match over {
+        Some(line) => Some(Expected::Over(line)),
+        None => None,
+    }
+}
+
+fn session(settings: Settings, header: Header) -> Expected {
+    let expected = match kind(header) {
+        Kind::Primary | Kind::Reply => settings.device(),
+        _ => CONTROL_SESSION,
+    };
+    Expected::Session {
+        expected,
+        came: header.session,
+    }
+}
+
+fn text_fault(settings: Settings, text: &[u8]) -> Option<Expected> {
+    let (fault, at) = match measure_text(text, settings.depth()) {
+        Ok(()) => return None,
+        Err(ItemFault::NoLength { at }) => ("NoLength", at),
+        Err(ItemFault::Format { at }) => ("Format", at),
+        Err(ItemFault::Deep { at }) => ("Deep", at),
+        Err(ItemFault::Ragged { at }) => ("Ragged", at),
+        Err(ItemFault::Truncated { at }) => ("Truncated", at),
+        Err(ItemFault::Trailing { at }) => ("Trailing", at),
+        Err(ItemFault::TooLarge) | Err(ItemFault::Memory) => return None,
+    };
+    Some(Expected::Text { fault, at })
+}
+
+// Why a frame that has to answer something answers nothing.
+fn transaction(known: &Known, mark: Mark, header: Header) -> Option<Expected> {
+    let (peer, requests) = match mark {
+        Mark::Sent => (Mark::Taken, &known.past.received),
+        Mark::Taken => (Mark::Sent, &known.past.sent),
+        Mark::Discarded => return None,
+    };
+    let namesake = EntryRef::of_frame(0, peer, header, &[]);
+    match known.course.in_use(&namesake) {
+        Some(line) => other_function(requests.opened_at(line), header),
+        None => match requests.last_of(header.system) {
+            Some(request) => no_longer_open(requests, request),
+            None => other_system(known, mark, header),
+        },
+    }
+}
+
+// The open request awaits another function, where both are data.
+fn other_function(open: Option<Request>, header: Header) -> Option<Expected> {
+    let request = open?;
+    if kind(request.header) != Kind::Primary || kind(header) != Kind::Reply {
+        return None;
+    }
+    Some(Expected::Function {
+        line: request.line,
+        expected: Function::of_reply_to(request.header),
+        came: Function::of(header),
+    })
+}
+
+// Why the request isn't open.
+fn no_longer_open(requests: &Requests, request: Request) -> Option<Expected> {
+    let line = request.line;
+    if request.is_discarded {
+        return Some(Expected::ThrownAway(line));
+    }
+    if kind(request.header) == Kind::Primary && !request.header.wait() {
+        return Some(Expected::NoWait(line));
+    }
+    let Closed { tie, line: by, .. } = requests.closing_of(request)?;
+    Some(Expected::Closed { line, tie, by })
+}
+
+// A reply that was received, where one primary alone awaits one.
+fn other_system(known: &Known, mark: Mark, header: Header) -> Option<Expected> {
+    if mark != Mark::Taken || kind(header) != Kind::Reply {
+        return None;
+    }
+    let line = known.course.only_primary()?;
+    let request = known.past.sent.opened_at(line)?;
+    Some(Expected::OnlyOne {
+        line,
+        expected: Function::of_reply_to(request.header),
+        system: request.header.system,
+    })
+}
+
+impl fmt::Display for Function {
+    fn fmt<W: fmt::Write>(&self, f: &mut fmt::Formatter<W>) -> fmt::Result {
+        let Function { stream, function } = *self;
+        write!(f, "S{stream}F{function}")
+    }
+}
+
+impl fmt::Display for Expected {
+    fn fmt<W: fmt::Write>(&self, f: &mut fmt::Formatter<W>) -> fmt::Result {
+        match *self {
+            Expected::Function {
+                line,
+                expected,
+                came,
+            } => write!(f, "{expected} expected by line {line}, {came} came"),
+            Expected::NoWait(line) => {
+                write!(f, "line {line} has its system bytes, and asks for no reply")
+            }
+            Expected::ThrownAway(line) => {
+                write!(f, "line {line} has its system bytes, and was thrown away")
+            }
+            Expected::Closed { line, tie, by } => {
+                let tie = closed_word(tie);
+                write!(f, "line {line} has its system bytes, and {tie} line {by}")
+            }
+            Expected::OnlyOne {
+                line,
+                expected,
+                system,
+            } => write!(
+                f,
+                "line {line} alone awaits a reply: {expected} {system:08x}"
+            ),
+            Expected::Session { expected, came } => {
+                write!(f, "session {expected:04x} expected, {came:04x} came")
+            }
+            Expected::Text { fault, at } => write!(f, "{fault} at={at} of its text"),
+            Expected::Selected(Some(line)) => {
+                write!(f, "no select.rsp with status 0 answers line {line}")
+            }
+            Expected::Selected(None) => write!(f, "its connection has no select.req yet"),
+            Expected::Over(line) => write!(f, "over since line {line}"),
+        }
+    }
+}
+
+fn closed_word(tie: Tie) -> &'static str {
+    match tie {
+        Tie::Answers => "was answered by",
+        Tie::Rejects => "was rejected by",
+        Tie::Expires => "expired at",
+    }
+}

@@ -1,0 +1,25 @@
+//! What is known of a log so far.
+
+use crate::course::Course;
+use crate::past::Past;
+use hsms_machine::Settings;
+use std::alloc::Global;
+
+/// The settings of a log, its judge, and what its connection showed.
+#[derive(Drop)]
+pub struct Known {
+    pub settings: Settings,
+    pub course: Course,
+    pub past: Past,
+}
+
+impl Known {
+    /// What is known of a log of which the first line was read.
+    pub fn new(alloc: Global, settings: Settings) -> Known {
+        Known {
+            settings,
+            course: Course::new(alloc, settings),
+            past: Past::new(alloc),
+        }
+    }
+}
