@@ -18,9 +18,10 @@ its contract alone. A body is refused where the check names a goal of the functi
 function's own proof that no longer fits, and not where only a function that it calls isn't proved. What such a check
 doesn't name is tried again among others, and at last alone. The last line is `N passed, M failed`.
 
-Use: tests/edits.py [CRATE..] tries all edits and twins of these crates, or of each. What they stand on is built first,
-by ./build, where it isn't. tests/edits.py --one CRATE NAME [BODY] tries one edit and writes what the check says, and
-tests/edits.py --twins NAME.. tries some twins.
+Use: tests/edits.py [CRATE..] tries all edits and twins of these crates, or of each that has a folder in
+tests/must-fail/. The edits of the others stand in crates/CRATE/must-fail/, where `rt ci` tries each file as one edit.
+What they stand on is built first, by ./build, where it isn't. tests/edits.py --one CRATE NAME [BODY] tries one edit and writes what the check says,
+and tests/edits.py --twins NAME.. tries some twins.
 """
 import argparse
 import os
@@ -135,9 +136,15 @@ def names_in(folder):
     return sorted(it[:-5] for it in os.listdir(folder) if it.endswith(".edit")) if os.path.isdir(folder) else []
 
 
+def folder_of(crate):
+    """Where the edits of a crate stand: in the folder of its name, or with the crate, where `rt ci` tries each file."""
+    folder = f"{EDITS}/{crate}"
+    return folder if os.path.isdir(folder) else f"{TOP}/crates/{crate}/must-fail"
+
+
 def bodies_of(crate):
     """The wrong bodies of a crate."""
-    folder = f"{EDITS}/{crate}"
+    folder = folder_of(crate)
     return [edit for name in names_in(folder) for edit in edits_in(f"{folder}/{name}.edit", crate, name)]
 
 
@@ -155,8 +162,8 @@ def without_a_fellow(crates, twins):
     alone = {
         name: crate
         for crate in crates
-        for name in names_in(f"{EDITS}/{crate}")
-        if text_of(f"{EDITS}/{crate}/{name}.edit").startswith(WRONG_BODY)
+        for name in names_in(folder_of(crate))
+        if text_of(f"{folder_of(crate)}/{name}.edit").startswith(WRONG_BODY)
     }
     crate_of = {it.name: it.crate for it in twins}
     told = {name: "it has no twin" for name in alone if crate_of.get(name) != alone[name]}
@@ -343,7 +350,7 @@ def tried(crate, bodies, twins):
 
 def try_one(crate, name, body):
     """Tries one edit, and writes what the check says of it."""
-    path = f"{EDITS}/{crate}/{name}.edit"
+    path = f"{folder_of(crate)}/{name}.edit"
     if not os.path.isfile(path):
         print(f"there is no {os.path.relpath(path, TOP)}")
         return 2
@@ -394,7 +401,7 @@ def main():
         twins = [it for it in twins if it.name in asked.names]
         crates, wrong, bodies = sorted({it.crate for it in twins}), {}, {}
     else:
-        crates = [it for it in every if not asked.names or it in asked.names]
+        crates = [it for it in every if it in (asked.names or os.listdir(EDITS))]
         bodies = {crate: bodies_of(crate) for crate in crates}
     if not is_built_below(crates):
         return 1
