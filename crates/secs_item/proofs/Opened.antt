@@ -11,7 +11,7 @@ use Rattle.secs_item.specs.Format.{is_list}
 use Rattle.secs_item.specs.Header.{Reason, Head, header_at}
 use Rattle.secs_item.specs.Item.{Value}
 use Rattle.secs_item.specs.Reading.{Fault, elements_by, item_at}
-use Rattle.secs_item.specs.Measure.{header_from, part_from, values_until, end_from, ends_by, and_from_there, end_of_lists}
+use Rattle.secs_item.specs.Measure.{header_from, part_from, end_from, and_from_there, end_of_lists}
 use Rattle.secs_item.proofs.Lengths.{first_is, first_fails, item_fails, item_of_values, item_of_elements, empty_list}
 
 -- ---- parts as headers
@@ -86,28 +86,6 @@ same_after : (r : Result ℕ ItemFault) (f g : ℕ → Result ℕ ItemFault) →
 same_after (Ok end) f g same = same end
 same_after (Err e) f g same = refl
 
--- an element of values passed, the others are to come from its end on
-pub value_passed : (depth : ℕ) (octets : List ℕ) (count left place end : ℕ) → count ≡ suc left → Ok (values_until end) ≡ part_from place (header_at depth (drop place octets))
-    → ends_by depth octets count place ≡ ends_by depth octets left end
-value_passed depth octets count left place end more is =
-    let after = λ (at : ℕ). end_from at (elements_by (item_at depth) left (drop at octets)) in
-    ap (λ (n : ℕ). ends_by depth octets n place) more ∙ elements_then (item_at depth) octets place left
-    ∙ ap (λ (r : Result ℕ ItemFault). and_from_there r after) (sym (part_is_whole place depth octets (values_until end) is refl))
-
--- no element ends where it begins
-pub no_element : (depth : ℕ) (octets : List ℕ) (count place : ℕ) → count ≡ 0 → Ok place ≡ ends_by depth octets count place
-unfolding elements_by
-no_element depth octets count place none = rw none (ap (λ (n : ℕ). Ok n) (sym (add-zero place)))
-
--- a single element ends where its item does
-pub single_element : (depth : ℕ) (octets : List ℕ) (place : ℕ) → ends_by depth octets 1 place ≡ end_from place (item_at depth (drop place octets))
-unfolding elements_by
-single_element depth octets place =
-    let at_end = λ (end : ℕ). end_from end (elements_by (item_at depth) 0 (drop end octets)) in
-    elements_then (item_at depth) octets place 0
-    ∙ same_after (end_from place (item_at depth (drop place octets))) at_end (λ end. Ok end) (λ end. ap (λ (n : ℕ). Ok n) (add-zero end))
-    ∙ nothing_more (end_from place (item_at depth (drop place octets)))
-
 -- counts further in say nothing of the lists further out
 further_in : (counts : List ℕ) (depth : ℕ) (octets : List ℕ) (lists i count place : ℕ) → lists ≤ i → end_of_lists (set counts i count) depth octets lists place ≡ end_of_lists counts depth octets lists place
 unfolding end_of_lists
@@ -156,47 +134,31 @@ list_closes counts depth octets lists i place total lists_is none so_far =
     let ended : end_of_lists counts depth octets (suc i) place ≡ end_of_lists counts depth octets i place = rw none (ap (end_of_lists counts depth octets i) (add-zero place)) in
     ap (λ (n : ℕ). end_of_lists counts depth octets n place) less ∙ sym ended ∙ rw lists_is at so_far
 
--- elements of values were passed
-pub values_passed : (counts : List ℕ) (depth : ℕ) (octets : List ℕ) (lists i place : ℕ) (total : Result ℕ ItemFault) (next left : ℕ) → lists ≡ suc i → i < length counts
-    → ends_by (depth - lists) octets (get_or counts i 0) place ≡ ends_by (depth - lists) octets left next
-    → end_of_lists counts depth octets lists place ≡ total → end_of_lists (set counts i left) depth octets lists next ≡ total
-unfolding end_of_lists
-values_passed counts depth octets lists i place total next left lists_is within same so_far =
-    let one = item_at (depth - suc i) in
-    let outer = end_of_lists counts depth octets i in
-    let same' : ends_by (depth - suc i) octets (get_or counts i 0) place ≡ ends_by (depth - suc i) octets left next = rw lists_is at same in
-    let got : get_or (set counts i left) i 0 ≡ left = get_or-set_same counts i left 0 within in
-    let passed : end_of_lists (set counts i left) depth octets (suc i) next ≡ end_of_lists counts depth octets (suc i) place =
-    ap (λ (n : ℕ). and_from_there (end_from next (elements_by one n (drop next octets))) (end_of_lists (set counts i left) depth octets i)) got
-    ∙ same_after (end_from next (elements_by one left (drop next octets))) (end_of_lists (set counts i left) depth octets i) outer (λ end. further_in counts depth octets i i left end (omega arith))
-    ∙ ap (λ (r : Result ℕ ItemFault). and_from_there r outer) (sym same') in
-    rw lists_is (passed ∙ rw lists_is at so_far)
-
 -- the next element is read
-module _ (counts : List ℕ) (depth : ℕ) (octets : List ℕ) (lists i place : ℕ) (total : Result ℕ ItemFault) (lists_is : lists ≡ suc i) (within : i < length counts) (left : ℕ) (left_is : get_or counts i 0 ≡ left) (some : left ≡ 0 → ⊥) (so_far : end_of_lists counts depth octets lists place ≡ total) where
-  element_next : and_from_there (end_from place (item_at (depth - lists) (drop place octets))) (end_of_lists (set counts i (left - 1)) depth octets lists) ≡ total
+module _ (counts : List ℕ) (depth : ℕ) (octets : List ℕ) (lists i place : ℕ) (total : Result ℕ ItemFault) (lists_is : lists ≡ suc i) (within : i < length counts) (some : get_or counts i 0 ≡ 0 → ⊥) (so_far : end_of_lists counts depth octets lists place ≡ total) where
+  element_next : and_from_there (end_from place (item_at (depth - lists) (drop place octets))) (end_of_lists (set counts i (get_or counts i 0 - 1)) depth octets lists) ≡ total
   element_next =
-      let more : left ≡ suc (left - 1) = omega arith in
-      rw lists_is (sym (next_element counts depth octets i (left - 1) place within (left_is ∙ more)) ∙ rw lists_is at so_far)
+      let left : get_or counts i 0 ≡ suc (get_or counts i 0 - 1) = omega arith in
+      rw lists_is (sym (next_element counts depth octets i (get_or counts i 0 - 1) place within left) ∙ rw lists_is at so_far)
 
   pub element_fails : (e : ItemFault) → Err e ≡ part_from place (header_at (depth - lists) (drop place octets)) → Err e ≡ total
   element_fails e is =
-      ap (λ (r : Result ℕ ItemFault). and_from_there r (end_of_lists (set counts i (left - 1)) depth octets lists)) (part_fails place (depth - lists) octets e is) ∙ element_next
+      ap (λ (r : Result ℕ ItemFault). and_from_there r (end_of_lists (set counts i (get_or counts i 0 - 1)) depth octets lists)) (part_fails place (depth - lists) octets e is) ∙ element_next
 
   pub element_whole : (p : Part) → Ok p ≡ part_from place (header_at (depth - lists) (drop place octets)) → p.elements ≡ 0
-      → end_of_lists (set counts i (left - 1)) depth octets lists p.end ≡ total
+      → end_of_lists (set counts i (get_or counts i 0 - 1)) depth octets lists p.end ≡ total
   element_whole p is none =
-      ap (λ (r : Result ℕ ItemFault). and_from_there r (end_of_lists (set counts i (left - 1)) depth octets lists)) (part_is_whole place (depth - lists) octets p is none) ∙ element_next
+      ap (λ (r : Result ℕ ItemFault). and_from_there r (end_of_lists (set counts i (get_or counts i 0 - 1)) depth octets lists)) (part_is_whole place (depth - lists) octets p is none) ∙ element_next
 
   pub element_opens : (p : Part) (j : ℕ) → Ok p ≡ part_from place (header_at (depth - lists) (drop place octets)) → 0 < p.elements → 0 < depth - lists → j ≡ lists → lists < length counts
-      → end_of_lists (set (set counts i (left - 1)) j p.elements) depth octets (lists + 1) p.end ≡ total
+      → end_of_lists (set (set counts i (get_or counts i 0 - 1)) j p.elements) depth octets (lists + 1) p.end ≡ total
   unfolding end_of_lists
   element_opens p j is some_elements deep j_is room =
-      let counts' = set counts i (left - 1) in
+      let counts' = set counts i (get_or counts i 0 - 1) in
       let one = item_at (depth - lists - 1) in
       let inner : depth - suc lists ≡ depth - lists - 1 = omega arith in
       let more : lists + 1 ≡ suc lists = omega arith in
-      let room' : lists < length (set counts i (left - 1)) = rw length-set room in
+      let room' : lists < length (set counts i (get_or counts i 0 - 1)) = rw length-set room in
       let got : get_or (set counts' lists p.elements) lists 0 ≡ p.elements = get_or-set_same counts' lists p.elements 0 room' in
       rw (j_is, more, inner, got)
       (same_after (end_from p.end (elements_by one p.elements (drop p.end octets))) (end_of_lists (set counts' lists p.elements) depth octets lists) (end_of_lists counts' depth octets lists) (λ end. further_in counts' depth octets lists lists p.elements end (omega arith))

@@ -36,14 +36,6 @@ abbrev pub end_from : {A : Type 0} → ℕ → Result (A × ℕ) Fault → Resul
 end_from place (Ok x) = Ok (place + x.1)
 end_from place (Err f) = Err (fault_at (place + f.at) f.reason)
 
--- an item of values that ends here
-abbrev pub values_until : ℕ → Part
-values_until end = record { end = end; elements = 0 }
-
--- where so many elements end of which the first begins at a place
-abbrev pub ends_by : ℕ → List ℕ → ℕ → ℕ → Result ℕ ItemFault
-ends_by depth octets count place = end_from place (elements_by (item_at depth) count (drop place octets))
-
 -- what follows where an end was found
 abbrev pub and_from_there : Result ℕ ItemFault → (ℕ → Result ℕ ItemFault) → Result ℕ ItemFault
 and_from_there (Ok end) next = next end

@@ -9,7 +9,7 @@ ghost use Rattle.secs_item.specs.Spelling.{IsAtFront, IsText};
 ghost use Rattle.secs_item.specs.Item.{Value};
 
 use crate::fault::ItemFault;
-use crate::part::{pass_values, read_part};
+use crate::part::read_part;
 
 /// How deep lists may be nested at most.
 pub const MAX_DEPTH: usize = 100;
@@ -28,9 +28,7 @@ fn end_of_elements(octets: &[u8], place: usize, count: usize, depth: u8) -> Resu
     let mut end = place;
     while lists > 0 {
         let innermost = usize::from(lists) - 1;
-        let (place, left) = pass_values(octets, end, counts[innermost]);
-        end = place;
-        counts[innermost] = left;
+        let left = counts[innermost];
         if left == 0 {
             lists -= 1;
             continue;
@@ -51,10 +49,6 @@ fn end_of_item(octets: &[u8], depth: u8) -> Result<usize, ItemFault>
     requires { depth ≤ 100 }
     ensures { result ≡ end_from 0 (item_at depth octets.now) }
 {
-    let (end, left) = pass_values(octets, 0, 1);
-    if left == 0 {
-        return Ok(end);
-    }
     let part = read_part(octets, 0, depth)?;
     if part.elements > 0 {
         return end_of_elements(octets, part.end, part.elements, depth);

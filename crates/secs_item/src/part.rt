@@ -1,9 +1,9 @@
 //! One step of measuring: an item of values, or a list's header.
 
-ghost use Rattle.std.specs.Prelude.{◌≡◌, ◌≤◌, ◌<◌, ◌/◌, ℕ, Ok, length, drop, IfOk, IfSome};
+ghost use Rattle.std.specs.Prelude.{◌≡◌, ◌≤◌, ◌/◌, length, drop, IfOk, IfSome};
 ghost use Rattle.secs_item.specs.Format.{format_with_code};
 ghost use Rattle.secs_item.specs.Header.{header_at};
-ghost use Rattle.secs_item.specs.Measure.{mask_for, part_from, values_until, ends_by, LiesIn};
+ghost use Rattle.secs_item.specs.Measure.{mask_for, part_from, LiesIn};
 
 use crate::fault::ItemFault;
 use crate::format::Format;
@@ -38,15 +38,23 @@ fn mask_of(first: u8) -> u8
     MASKS[usize::from(first / 4)]
 }
 
-/// The place after the item of values at `place`; None where none stands there whole, its header has a fault, or more
-/// than one length octet, which is rare.
+/// The part at `place`; None where its header may have a fault, or has more than one length octet, which is rare.
 #[inline(always)]
-fn end_of_values(octets: &[u8], place: usize) -> Option<usize>
+fn quick_part(octets: &[u8], place: usize, depth: u8) -> Option<Part>
     requires { place ≤ length octets.now }
-    ensures read { (depth : ℕ) → IfSome result (λ end. Ok (values_until end) ≡ part_from place (header_at depth (drop place octets.now))) }
-    ensures within { IfSome result (λ end. (place < end) × (end ≤ length octets.now)) }
+    ensures read { IfSome result (λ p. Ok p ≡ part_from place (header_at depth (drop place octets.now))) }
+    ensures within { IfSome result (LiesIn depth place (length octets.now)) }
 {
     let (&first, rest) = octets[place..].split_first()?;
+    if first == SHORT_LIST {
+        if rest.is_empty() || depth == 0 {
+            return None;
+        }
+        return Some(Part {
+            end: place + 2,
+            elements: read_length(rest, 1),
+        });
+    }
     let field = usize::from(first % 4);
     if field != 1 || rest.len() < field {
         return None;
@@ -59,43 +67,9 @@ fn end_of_values(octets: &[u8], place: usize) -> Option<usize>
     if length & usize::from(mask) != 0 || rest.len() - field < length {
         return None;
     }
-    Some(place + 1 + field + length)
-}
-
-/// Passes items of values at `place`, at most `count` of them. Gives the place after them, and how many are left.
-#[inline(always)]
-pub fn pass_values(octets: &[u8], place: usize, count: usize) -> (usize, usize)
-    requires { place ≤ length octets.now }
-    ensures same { (depth : ℕ) → ends_by depth octets.now count place ≡ ends_by depth octets.now result.1 result.0 }
-    ensures within { (place ≤ result.0) × (result.0 ≤ length octets.now) }
-    ensures fewer { result.1 ≤ count }
-{
-    let mut end = place;
-    let mut left = count;
-    while left > 0 {
-        let Some(next) = end_of_values(octets, end) else {
-            break;
-        };
-        end = next;
-        left -= 1;
-    }
-    (end, left)
-}
-
-/// The list at `place`, where its header has one length octet and no fault.
-#[inline(always)]
-fn short_list_part(octets: &[u8], place: usize, depth: u8) -> Option<Part>
-    requires { place ≤ length octets.now }
-    ensures read { IfSome result (λ p. Ok p ≡ part_from place (header_at depth (drop place octets.now))) }
-    ensures within { IfSome result (LiesIn depth place (length octets.now)) }
-{
-    let (&first, rest) = octets[place..].split_first()?;
-    if first != SHORT_LIST || rest.is_empty() || depth == 0 {
-        return None;
-    }
     Some(Part {
-        end: place + 2,
-        elements: read_length(rest, 1),
+        end: place + 1 + field + length,
+        elements: 0,
     })
 }
 
@@ -120,15 +94,15 @@ fn part_or_fault(octets: &[u8], place: usize, depth: u8) -> Result<Part, ItemFau
     })
 }
 
-/// Reads the part at `place`; an item of values is there whole. Mostly it is a short list, since what else is short was
-/// passed before.
+/// Reads the part at `place`; an item of values is there whole. Only where the quick way finds no part is it looked for
+/// which fault there is.
 #[inline(always)]
 pub fn read_part(octets: &[u8], place: usize, depth: u8) -> Result<Part, ItemFault>
     requires { place ≤ length octets.now }
     ensures read { result ≡ part_from place (header_at depth (drop place octets.now)) }
     ensures within { IfOk result (LiesIn depth place (length octets.now)) }
 {
-    if let Some(part) = short_list_part(octets, place, depth) {
+    if let Some(part) = quick_part(octets, place, depth) {
         return Ok(part);
     }
     let part = part_or_fault(octets, place, depth)?;

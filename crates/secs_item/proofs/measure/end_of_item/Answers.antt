@@ -1,6 +1,6 @@
-use Rattle.std.proofs.Common.{◌∙◌, sym, arith}
+use Rattle.std.proofs.Common.{◌∙◌, arith}
 use Rattle.std.proofs.lemmas.Result.{err_from_is_err_and}
-use Rattle.secs_item.proofs.Opened.{part_fails, part_is_whole, part_of_list, single_element, no_element}
+use Rattle.secs_item.proofs.Opened.{part_fails, part_is_whole, part_of_list}
 use Rattle.secs_item.proofs.measure.end_of_item.Goals as goal
 
 pub returns-in_err-part : goal.returns-in_err-part
@@ -14,8 +14,3 @@ returns-then-part-gt0 c =
 
 pub returns : goal.returns
 returns c = part_is_whole 0 c.args.depth c.args.octets.now c.in_ok-part.part c.in_ok-part.ensures.read (omega arith)
-
-pub returns-then-left-eq0 : goal.returns-then-left-eq0
-returns-then-left-eq0 c =
-    let p = c.pass_values-end.result in
-    no_element c.args.depth c.args.octets.now p.1 p.0 c.if-left-eq0.true ∙ sym (c.pass_values-end.ensures.same c.args.depth) ∙ single_element c.args.depth c.args.octets.now 0
