@@ -48,11 +48,12 @@ impl Model for Course {
 }
 
 impl Course {
-    ghost use Rattle.std.specs.Prelude.{◌≡◌, ◌+◌, ◌-◌, ◌^◌, min, [], Some, None, IfOk, IfSome, length};
+    ghost use Rattle.std.specs.Prelude.{◌≡◌, ◌+◌, ◌-◌, ◌^◌, min, [], Some, None, IfOk, IfSome, IfNone, IsSome, length};
     ghost use Rattle.hsms_machine.specs.declared.entry.Event.{Event};
     ghost use Rattle.hsms_machine.specs.declared.rule.Rule.{Rule};
     ghost use Rattle.hsms_machine.specs.declared.rule.Rule.TheVariants.{SystemInUse, T3Overdue};
-    ghost use Rattle.hsms_machine.specs.View.{IsBrokenAfter, IfLawful};
+    ghost use Rattle.hsms_machine.specs.View.{IsBrokenAfter, IfLawful, waiting_of};
+    ghost use Rattle.hsms_machine.specs.Placed.{IsNotInUse};
     ghost use Rattle.hsms_machine.specs.Repair.{remedy_of};
     ghost use Rattle.hsms_explain.specs.Course.{HasCourse, CourseLeadsTo, Closes, Concerns, JudgesAs};
 
@@ -76,7 +77,9 @@ impl Course {
     }
 
     /// How many sent primaries with the W bit wait for a reply.
-    pub fn waiting(&self) -> usize {
+    pub fn waiting(&self) -> usize
+        ensures { result ≡ waiting_of self.now.tracker }
+    {
         self.tracker.waiting()
     }
 
@@ -127,14 +130,16 @@ impl Course {
 
     /// The line of the open transaction that has the direction and the system bytes of this sent or taken frame.
     pub fn in_use(&self, entry: &EntryRef<'_>) -> Option<u64>
-        ensures { IfSome result (Concerns self.now entry.now.event SystemInUse) }
+        ensures concerns { IfSome result (Concerns self.now entry.now.event SystemInUse) }
+        ensures none { IfNone result (IsNotInUse self.now.lines entry.now.event) }
     {
         self.lines.in_use(entry)
     }
 
     /// The line of the sent primary with the W bit that waits for a reply, where one alone does.
     pub fn only_primary(&self) -> Option<u64>
-        ensures { IfSome result (λ line. (event : Event) → Concerns self.now event T3Overdue line) }
+        ensures concerns { IfSome result (λ line. (event : Event) → Concerns self.now event T3Overdue line) }
+        ensures alone { IsSome result → waiting_of self.now.tracker ≡ 1 }
     {
         match self.waiting() {
             1 => self.lines.oldest_data(),
