@@ -7,22 +7,23 @@ _hsms() {
     --around | --from | --to) return ;;
     --max | --depth | --device | --system | --first-system | --turns | --port | --t[35678] | --connections | --linktest) return ;;
     --address | --mdln | --softrev) return ;;
-    --role) mapfile -t COMPREPLY < <(compgen -W 'host equipment' -- "$word") && return ;;
+    --role | --active | --log) mapfile -t COMPREPLY < <(compgen -W 'host equipment' -- "$word") && return ;;
     --link) mapfile -t COMPREPLY < <(compgen -W 'active passive' -- "$word") && return ;;
   esac
   if [ "$COMP_CWORD" = 1 ]; then
-    words='show encode audit explain serve help --help --version'
+    words='show encode audit explain capture serve help --help --version'
   else
     case ${COMP_WORDS[1]} in
       show) words='--max --depth --hex --bare --help' ;;
       encode) words='--device --system --max --depth --hex --help' ;;
       audit) words='--help' ;;
       explain) words='--only --around --from --to --help' ;;
+      capture) words='--port --active --log --device --t3 --t6 --t7 --t8 --max --depth --help' ;;
       serve)
         words='--role --link --address --port --device --t3 --t6 --t7 --t8 --linktest --max --depth --first-system'
         words+=' --turns --mdln --softrev --send --answer --all-sent --again --once --connections --t5 --help'
         ;;
-      help) words='show encode audit explain serve' ;;
+      help) words='show encode audit explain capture serve' ;;
       *) return ;;
     esac
   fi

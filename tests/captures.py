@@ -13,145 +13,23 @@ the capture that the documents show.
 import os
 import random
 import re
-import struct
 import subprocess
 import sys
 import tempfile
+
+# The modules below leave no compiled files in the repository.
+sys.dont_write_bytecode = True
+
+from made_captures import (
+    ACK, ACTIVE, BEGIN, FIN, FORMS, LINKS, PASSIVE, PUSH, RST, SELECT, Capture, Talk, message, pieces,
+)
 
 TOP = os.path.dirname(os.path.dirname(os.path.abspath(__file__)))
 PROGRAM = f"{TOP}/crates/hsms_tool/out/hsms_tool"
 SCRIPT = f"{TOP}/contrib/wire2log.py"
 SETTINGS = "hsms-log 1 {} {} 0 45000 6000 10000 5000 1048576 32"
-FIN, SYN, RST, PUSH, ACK = 1, 2, 4, 8, 16
-BEGIN = 1_700_000_000_000_000  # microseconds
-ACTIVE, PASSIVE = 0, 1
 RANDOM = 60
 LOSSY = 150
-
-SELECT = [(ACTIVE, "ffff0000000100000001"), (PASSIVE, "ffff0000000200000001")]
-LINKS = {"ethernet": 1, "vlan": 1, "cooked": 113, "cooked2": 276, "raw": 101, "loopback": 0}
-FORMS = ["pcap<", "pcap>", "nanoseconds<", "nanoseconds>"]
-FORMS += ["pcapng<", "pcapng>", "pcapng-nanoseconds<", "pcapng-binary>"]
-
-
-class Capture:
-    """A capture file in one of the forms and link types, to which packets are added."""
-
-    def __init__(self, form="pcap<", link="ethernet", is_ipv6=False, ports=(40000, 5000)):
-        self.form, self.order, self.link, self.is_ipv6, self.ports = form[:-1], form[-1], link, is_ipv6, ports
-        if self.form.startswith("pcapng"):
-            options = {"pcapng-nanoseconds": b"\x09", "pcapng-binary": b"\x9e"}.get(self.form, b"")
-            options = self.pack("HH", 9, 1) + options + bytes(3) + self.pack("HH", 0, 0) if options else b""
-            self.octets = self.block(0x0A0D0D0A, self.pack("IHHq", 0x1A2B3C4D, 1, 0, -1))
-            self.octets += self.block(1, self.pack("HHI", LINKS[link], 0, 0) + options)
-            self.octets += self.block(5, self.pack("III", 0, 0, 0))  # statistics, which are passed over
-        else:
-            magic = 0xA1B23C4D if self.form == "nanoseconds" else 0xA1B2C3D4
-            self.octets = self.pack("IHHiIII", magic, 2, 4, 0, 0, 262144, LINKS[link])
-
-    def pack(self, form, *values):
-        return struct.pack(self.order + form, *values)
-
-    def block(self, kind, body):
-        length = 12 + (len(body) + 3) // 4 * 4
-        return self.pack("II", kind, length) + body.ljust(length - 12, b"\0") + self.pack("I", length)
-
-    def packet(self, when, octets, kept=None):
-        """Adds a packet at a time in microseconds, of which the first octets are kept, or all."""
-        kept = octets[:kept]
-        counts = len(kept), len(octets)
-        if self.form.startswith("pcapng"):
-            per_second = {"pcapng-nanoseconds": 10**9, "pcapng-binary": 2**30}.get(self.form, 10**6)
-            ticks = -(-when * per_second // 10**6)
-            self.octets += self.block(6, self.pack("IIIII", 0, ticks >> 32, ticks & 0xFFFFFFFF, *counts) + kept)
-        else:
-            part = when % 10**6 * (1000 if self.form == "nanoseconds" else 1)
-            self.octets += self.pack("IIII", when // 10**6, part, *counts) + kept
-
-    def segment(self, when, way, sequence, flags, data=b"", acknowledged=0, kept=None):
-        ports = self.ports if way == ACTIVE else self.ports[::-1]
-        tcp = struct.pack(">HHIIBBHHH", *ports, sequence % 2**32, acknowledged % 2**32, 8 << 4, flags, 65535, 0, 0)
-        tcp += bytes([1] * 12) + data
-        hosts = (1, 2) if way == ACTIVE else (2, 1)
-        if self.is_ipv6:
-            addresses = b"".join(bytes([0xFE, 0x80]) + bytes(13) + bytes([host]) for host in hosts)
-            ip = struct.pack(">IHBB", 6 << 28, len(tcp), 6, 64) + addresses + tcp
-        else:
-            addresses = b"".join(bytes([10, 0, 0, host]) for host in hosts)
-            ip = struct.pack(">BBHHHBBH", 0x45, 0, 20 + len(tcp), 0, 0x4000, 64, 6, 0) + addresses + tcp
-        self.packet(when, self.link_header() + ip + (bytes(6) if self.link == "ethernet" else b""), kept)
-
-    def link_header(self):
-        protocol = b"\x86\xdd" if self.is_ipv6 else b"\x08\x00"
-        return {
-            "ethernet": bytes(12) + protocol,
-            "vlan": bytes(12) + b"\x81\x00\x00\x05" + protocol,
-            "cooked": bytes(14) + protocol,
-            "cooked2": protocol + bytes(18),
-            "raw": b"",
-            "loopback": self.pack("I", 30 if self.is_ipv6 else 2),
-        }[self.link]
-
-
-class Talk:
-    """A connection in a capture: its sequence numbers and its clock, in microseconds."""
-
-    def __init__(self, capture, firsts=(1000, 2000), when=BEGIN, shakes_hands=True):
-        self.capture, self.next, self.when, self.zero = capture, list(firsts), when, when
-        if shakes_hands:
-            self.segment(ACTIVE, 0, SYN)
-            self.next[ACTIVE] += 1
-            self.when = when + 300
-            self.segment(PASSIVE, 0, SYN | ACK)
-            self.next[PASSIVE] += 1
-            self.when = self.zero = when + 500
-            self.segment(ACTIVE, 0, ACK)
-
-    def segment(self, way, place, flags, data=b"", **more):
-        """A segment of one end, which acknowledges what the other one has said."""
-        acknowledged = self.next[1 - way] if flags & ACK else 0
-        self.capture.segment(self.when, way, self.next[way] + place, flags, data, acknowledged, **more)
-
-    def at(self, milliseconds):
-        self.when = self.zero + milliseconds * 1000
-
-    def milliseconds(self):
-        return (self.when - self.zero) // 1000
-
-    def say(self, milliseconds, way, *frames, **more):
-        """Frames in one segment."""
-        self.at(milliseconds)
-        data = b"".join(map(message, frames))
-        self.segment(way, 0, PUSH | ACK, data, **more)
-        self.next[way] += len(data)
-
-    def end(self, milliseconds, way=ACTIVE, flags=FIN | ACK):
-        self.at(milliseconds)
-        self.segment(way, 0, flags)
-
-
-def message(frame):
-    octets = bytes.fromhex(frame)
-    return struct.pack(">I", len(octets)) + octets
-
-
-def pieces(rng, stream):
-    """A stream as segments, each its place and octets: cut anywhere, some again, swapped or overlapping."""
-    cuts = [0]
-    while cuts[-1] < len(stream):
-        cuts.append(min(len(stream), cuts[-1] + rng.choice([1, 3, 4, 14, 200, 1448, 1448, 9000])))
-    found = [(begin, stream[begin:end]) for begin, end in zip(cuts, cuts[1:])]
-    if rng.random() < 0.4:
-        place = rng.randrange(len(found))
-        found.insert(min(len(found), place + rng.randrange(1, 4)), found[place])
-    if rng.random() < 0.3 and len(found) > 1:
-        place = rng.randrange(len(found) - 1)
-        found[place], found[place + 1] = found[place + 1], found[place]
-    if rng.random() < 0.2 and len(found) > 1:
-        place = rng.randrange(1, len(found))
-        begin, data = found[place]
-        found[place] = (begin - 1, stream[begin - 1:begin] + data) if begin else (begin, data)
-    return found
 
 
 def random_frames(rng):

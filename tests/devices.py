@@ -5,7 +5,7 @@ Standard output is a full device, a file that may not grow past each length in t
 in turn, with SIGPIPE as ever and ignored, or closed from the beginning; each write fails in turn, once. Then the status
 is 3, standard error is the one line `hsms: Write`, and what was written is a front of what is written otherwise, with
 nothing behind the write that failed. Standard input is a folder, or closed; each read fails in turn, once. Then the
-line is `hsms: Read`, and what was written is whole lines of `show` and `explain`, else nothing.
+line is `hsms: Read`, and what was written is whole lines of `show`, `explain` and `capture`, else nothing.
 
 It runs what `rt ci` has built. The last line is `N passed, M failed`.
 """
@@ -34,6 +34,8 @@ SMALL = [
     (["audit"], "examples/session.log"),
     (["audit"], "examples/late-reply.log"),
     (["explain"], "examples/late-reply.log"),
+    (["capture", "--t3", "1000"], "examples/late-reply.pcap"),
+    (["capture", "--log", "equipment"], "examples/late-reply.pcap"),
     (["show"], "examples/cut-off.bin"),
 ]
 
@@ -172,8 +174,8 @@ def calls_that_fail(run, room, library):
 
 
 def fronts(run):
-    """What may be written before a read fails: whole lines of `show` and `explain`, else nothing."""
-    lines = run.ample.output.splitlines(keepends=True) if run.words[0] in ("show", "explain") else []
+    """What may be written before a read fails: whole lines of `show`, `explain` and `capture`, else nothing."""
+    lines = run.ample.output.splitlines(keepends=True) if run.words[0] in ("show", "explain", "capture") else []
     return [b"".join(lines[:count]) for count in range(len(lines) + 1)]
 
 

@@ -2,8 +2,8 @@
 """Compares what `hsms explain` tells, of all lines and of an excerpt, with a second reading, its last line with what
 `hsms audit` tells, and the words of each rule with `hsms audit --help`.
 
-Use: tests/explained.py [LOGS] [SEED]. LOGS is the number of random logs, 500 if left out; those of examples/ and the
-logs at edges and corners come besides. SEED is 1 if left out. It runs what `rt ci` has built. The shortest log that is
+Use: tests/explained.py [LOGS] [SEED]. LOGS is the number of random logs, 500 if left out, each also with some of its
+lines several times; those of examples/ and the logs at edges and corners come besides. SEED is 1 if left out. It runs what `rt ci` has built. The shortest log that is
 told otherwise is written in hexadecimal. The last line is `N passed, M failed`.
 """
 import glob
@@ -22,6 +22,9 @@ from second_reading.inputs import Chance
 
 WORKERS = 2
 
+# The first line of a log.
+EMPTY = b"hsms-log 1 host active 0 45000 6000 10000 5000 1048576 32\n"
+
 
 def example_logs() -> List[bytes]:
     found = []
@@ -29,6 +32,35 @@ def example_logs() -> List[bytes]:
         with open(path, "rb") as file:
             found.append(file.read())
     return found
+
+
+def repeated(log: bytes) -> bytes:
+    """The log with some of its lines several times, which fail alike then."""
+    chance = Chance(f"repeated {zlib.crc32(log)}")
+    first, *lines = log.split(b"\n")
+    return b"\n".join([first, *(line for line in lines for _ in range(chance.one(1, 1, 1, 2, 6)))])
+
+
+def many_sorts() -> bytes:
+    """More kinds of failures than are told apart, of each kind five."""
+    kinds = [(stream, function) for function in range(16) for stream in range(17)]
+    frames = [b"2 < 0001%02x%02x0000%08x\n" % (stream, function, at) for at, (stream, function) in enumerate(kinds)]
+    return EMPTY + b"0 up\n0 > ffff0000000100000001\n1 < ffff0000000200000001\n" + b"".join(frames) * 5
+
+
+def many_kinds() -> bytes:
+    """More kinds of primaries than are told of apart, in both directions, some of whose replies take long."""
+    lines, now = [b"0 up\n0 > ffff0000000100000001\n1 < ffff0000000200000001\n"], 1
+    for at in range(200):
+        mark, reply = (b">", b"<") if at % 3 else (b"<", b">")
+        stream, function, after = at % 40, at // 80 * 2 + 1, 2 ** (at % (16 if at % 3 else 40)) * 11 // 8
+        header = b"%02x0000%08x" % (function, at)
+        lines.append(b"%d %s 0000%02x%s\n" % (now, mark, stream + 128, header))
+        now += after
+        if at % 7:
+            header = b"%02x0000%08x" % (0 if at % 11 == 0 else function + 1, at)
+            lines.append(b"%d %s 0000%02x%s\n" % (now, reply, stream, header))
+    return EMPTY + b"".join(lines)
 
 
 def excerpt_of(log: bytes) -> Excerpt:
@@ -65,6 +97,7 @@ def main() -> int:
     count, seed = int(sys.argv[1]) if len(sys.argv) > 1 else 500, sys.argv[2] if len(sys.argv) > 2 else "1"
     random = [walks.random_log(Chance(f"{seed} explain {number}")) for number in range(count)]
     logs = [*example_logs(), *walks.logs_at_edges(), *corners.logs(), *random]
+    logs += [many_sorts(), many_kinds(), *(repeated(log) for log in random + example_logs())]
     with ThreadPoolExecutor(WORKERS) as pool:
         differences = [(len(log), told) for log, told in zip(logs, pool.map(difference, logs)) if told]
     if differences:

@@ -735,6 +735,40 @@ def host_answers_by_its_script():
     )
 
 
+# Three replies to an event report, two to an alarm report, and what such primaries get one after the other, in turn.
+SEVERAL = b"S6F12 <B 0x00> . S5F2 <B 0x01> . S6F12 <B 0x02> . S6F12 . S5F2 <B 0x03> .\n"
+IN_TURN = [
+    (6, 11, b"\x21\x01\x00"),
+    (6, 11, b"\x21\x01\x02"),
+    (5, 1, b"\x21\x01\x01"),
+    (6, 11, b""),
+    (6, 11, b""),
+    (5, 1, b"\x21\x01\x03"),
+    (5, 1, b"\x21\x01\x03"),
+    (6, 11, b""),
+]
+
+
+def replies_are_given_in_turn():
+    """Whether the primaries come one by one or all at once, and in each connection anew."""
+    peers = Listening()
+    options = ["--again", "--connections", "2", "--t5", "50", "--answer"]
+    serving = Serving("host", "active", peers.port, *options, script=SEVERAL, send=False)
+    numbered = list(enumerate(IN_TURN, start=100))
+    asked = [data(stream, function, system, wait=True) for system, (stream, function, _) in numbered]
+    replies = [data(stream, function + 1, system, text) for system, (stream, function, text) in numbered]
+    for count in (1, len(asked)):
+        peer = peers.next_one()
+        peer.send(SELECTED)
+        peer.wants(SELECT)
+        for start in range(0, len(asked), count):
+            peer.send(*asked[start : start + count])
+            peer.wants(*replies[start : start + count])
+        peer.send(control(9, 200))
+        same(peer.rest(), b"")
+    served_again(serving, 2)
+
+
 def equipment_answers_by_its_script():
     port = free_port()
     equipment = Serving("equipment", "passive", port, "--answer", script=b'S7F0 . S2F18 <A "T"> . S2F32 <B 0x00> .', send=False)
@@ -1256,6 +1290,7 @@ TESTS = [
     script_is_sent,
     scripts_of_several_connections,
     host_answers_by_its_script,
+    replies_are_given_in_turn,
     equipment_answers_by_its_script,
     random_replies_are_those_of_a_second_reading,
     steps_stand_between_replies,

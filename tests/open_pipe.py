@@ -1,7 +1,7 @@
 #!/usr/bin/env python3
 """Audits logs over a pipe that is held open: a failing line has to be named while its writer may still write. Shows
-messages that come in pieces, each of which is there before the next is written, and explains lines while the pipe is
-open.
+messages that come in pieces, each of which is there before the next is written, and explains lines and judges captures
+while the pipe is open: the verdict on a connection has to be there as soon as it is over.
 
 It runs what `rt ci` has built. The last line is `N passed, M failed`.
 """
@@ -10,6 +10,11 @@ import select
 import subprocess
 import sys
 import time
+
+# The module below leaves no compiled file in the repository.
+sys.dont_write_bytecode = True
+
+from made_captures import ACTIVE, SELECT, Capture, Talk
 
 TOP = os.path.dirname(os.path.dirname(os.path.abspath(__file__)))
 PROGRAM = f"{TOP}/crates/hsms_tool/out/hsms_tool"
@@ -86,6 +91,32 @@ LATE_TOLD = b"""\
             goes on as if `45010 t3 00000002` stood before it
 """
 
+# A connection of a capture that goes on, and the verdicts on it; and the log of its host.
+ENDS = ("10.0.0.1:40000 10.0.0.2:5000 host active: ", "10.0.0.1:40000 10.0.0.2:5000 equipment passive: ")
+OVER = "".join(f"{end}pass entries=4 sent=1 taken=1 discarded=0 expired=0 waiting=0\n" for end in ENDS).encode()
+LOGGED = b"""\
+hsms-log 2 host active 0 45000 6000 10000 5000 1048576 32
+# packet 3
+1700000000000 up
+# packet 4
+1700000000001 > ffff0000000100000001
+# packet 5
+1700000000002 < ffff0000000200000001
+# packet 6
+1700000000003 down
+"""
+
+
+def capture_of(form):
+    """A capture of a connection that is over, and its last packet."""
+    talk = Talk(Capture(form))
+    talk.say(1, *SELECT[0])
+    talk.say(2, *SELECT[1])
+    before = len(talk.capture.octets)
+    talk.end(3, ACTIVE)
+    return talk.capture.octets, talk.capture.octets[before:]
+
+
 # How long a piece is given to be read by itself, in seconds.
 A_MOMENT = 0.03
 
@@ -151,6 +182,11 @@ def main():
     answers += [(shown_while_open(MESSAGES + rest, len(LINES)), LINES) for rest in (b"", MESSAGES[:17])]
     told_late = [shown_while_open(LATE + rest, len(LATE_TOLD), command="explain") for rest in (b"", b"46001 up")]
     answers += [(told, LATE_TOLD) for told in told_late]
+    for form in ("pcap<", "pcapng>"):
+        capture, packet = capture_of(form)
+        for rest in (b"", packet[:10], packet[:-1]):
+            answers.append((shown_while_open(capture + rest, len(OVER), command="capture"), OVER))
+            answers.append((shown_while_open(capture + rest, len(LOGGED), "--log", "host", command="capture"), LOGGED))
     differing = [(told, wanted) for told, wanted in answers if told != wanted]
     for told, wanted in differing:
         print(f"wanted {wanted!r}, told {told!r}")

@@ -8,8 +8,8 @@ worked inputs and on examples. A test has to end with want of memory where an al
 that up; or to pass, where it looks at the answer itself and at what stands after it. Where no allocation was refused,
 it has to pass. A test of answers that need no memory may ask for none, but for what it makes beforehand. An end has to
 answer as ever up to the call that tells want of memory, and from then on that it is spent. The command has to answer
-with status 3 and `hsms: Memory`, and what it wrote then has to be nothing, or of `show` and `explain` whole lines of
-what it writes with ample memory; as ever, where no allocation was refused, and there as the worked inputs say.
+with status 3 and `hsms: Memory`, and what it wrote then has to be nothing, or of `show`, `explain` and `capture` whole
+lines of what it writes with ample memory; as ever, where no allocation was refused, and there as the worked inputs say.
 
 No program may take memory but by the calls that are refused, nor call the system past the C library. It runs what
 `rt ci` has built. The last line is `N passed, M failed`.
@@ -89,6 +89,9 @@ EXAMPLES = [
     (["encode", "--max", "256"], "examples/long.txt"),
     (["audit"], "examples/expired.log"),
     (["explain"], "examples/late-reply.log"),
+    (["capture", "--t3", "1000"], "examples/late-reply.pcap"),
+    (["capture", "--log", "equipment"], "examples/late-reply.pcap"),
+    (["capture", "--help"], "examples/select.bin"),
     (["serve", *NOBODY_THERE], "examples/session.txt"),
     (["serve", *NOBODY_THERE, "--send"], "examples/session.txt"),
     (["serve", *NOBODY_THERE, "--answer"], "examples/session.txt"),
@@ -218,7 +221,8 @@ def judge_of(row, collections):
     to part the messages of a script into replies and others, or to collect its steps. Where memory is wanting to ask the
     environment for HSMS_VERBOSE, or to keep the address of a link that failed for words, no words are told. So often
     the command may answer as ever although memory was refused."""
-    parts = fronts(row.answer.output) if row.words[:1] in (("show",), ("explain",)) else {b""}
+    tells_lines = row.words[:1] in (("show",), ("explain",), ("capture",))
+    parts = fronts(row.answer.output) if tells_lines else {b""}
     done_without = []
 
     def is_well(ended, was_refused):

@@ -2,8 +2,9 @@
 """Tells each fault of the command, without words and with them: by `-v`, and by HSMS_VERBOSE in the environment.
 
 Without them standard error has one line, the fault's name. With them the words follow, which docs/FORMATS.md shows in
-its table, and nothing else changes. `Endless` isn't tried: it takes 4,294,967,295 messages or reads. It runs what `rt
-ci` has built, or the program that it is given. The last line is `N passed, M failed`.
+its table, and nothing else changes. `Endless` isn't tried: it takes 4,294,967,295 messages or reads; nor is `Full`, which
+takes 64 MB that wait. It runs what `rt ci` has built, or the program that it is given. The last line is `N passed, M
+failed`.
 """
 import ctypes
 import os
@@ -16,6 +17,7 @@ from typing import List
 
 sys.dont_write_bytecode = True
 
+import captures
 from loopback import HERE, Listening, PROGRAM, SOON, free_port, same
 
 TOP = os.path.dirname(os.path.dirname(os.path.abspath(__file__)))
@@ -45,7 +47,7 @@ def notation(octets, fault, told, *options):
 
 def cases_of_words():
     usage = "Usage: hsms <COMMAND>"
-    no_command = "'hsms' requires a subcommand but one was not provided [subcommands: show, audit, explain, encode, serve, help]"
+    no_command = "'hsms' requires a subcommand but one was not provided [subcommands: show, audit, explain, capture, encode, serve, help]"
     yield Case([], 2, "command line", [f"{no_command}. {usage}"])
     yield Case(["shwo"], 2, "command line", [f"unrecognized subcommand 'shwo'. {usage}"])
     needed = "the following required arguments were not provided: --port <P>"
@@ -53,10 +55,14 @@ def cases_of_words():
     value = "invalid value '1' for '--max <N>': 1 is not in 256..=33554432"
     yield Case(["audit", "--max"], 2, "command line", ["unexpected argument '--max' found. Usage: hsms audit [OPTIONS] < LOG"])
     yield Case(["show", "--max", "1"], 2, "command line", [value])
-    own = "--role is host or equipment, --link is active or passive, --only is failures, "
+    own = "--role, --active and --log are host or equipment, --link is active or passive, --only is failures, "
     own += "and --bare goes with --hex alone"
     yield Case(["show", "--bare"], 2, "command line", [own])
     yield Case(["explain", "--only", "all"], 2, "command line", [own])
+    for option in ("--active", "--log"):
+        yield Case(["capture", option, "both"], 2, "command line", [own])
+    port = "invalid value '0' for '--port <N>': 0 is not in 1..=65535"
+    yield Case(["capture", "--port", "0"], 2, "command line", [port])
     yield Case([*HERE_AT, "1", "--role", "both"][:2] + ["both", *HERE_AT[3:], "1"], 2, "command line", [own])
 
 
@@ -86,7 +92,7 @@ def cases_of_inputs():
     greater = "a message is longer than --max: give a greater one, or see whether the input is what it should be"
     yield Case(["encode", "--max", "256"], 2, "TooLong length=313", [greater], b'S1F1 <A "' + 300 * b"x" + b'"> .')
     yield Case(["show"], 2, "TooLong length=1633837924", [greater], b"abcdefghijklmnopqrstuvw")
-    capture = "this is a pcap file, a capture of packets: docs/CAPTURES.md tells how its messages are had"
+    capture = "this is a pcap file, a capture of packets: hsms capture reads it, and docs/CAPTURES.md tells more"
     with open(f"{TOP}/examples/late-reply.pcap", "rb") as file:
         yield Case(["show"], 2, "TooLong length=3569595041", [capture], file.read())
     for front, length in (("a1b2c3d4", 2712847316), ("4d3cb2a1", 1295823521), ("a1b23c4d", 2712812621)):
@@ -101,14 +107,79 @@ def cases_of_inputs():
     yield Case(["show", "--hex"], 2, "NoMessage line=1", [bare], b"ffff0000000100000001\n")
 
 
+class Timeless(captures.Capture):
+    """A capture whose packets have no time."""
+
+    def packet(self, when, octets, kept=None):
+        self.octets += self.block(3, self.pack("I", len(octets)) + octets)
+
+
+def one_timeless():
+    talk = captures.Talk(Timeless("pcapng<"))
+    return talk.capture
+
+
+def differing():
+    """Octets that come again as others."""
+    talk = captures.Talk(captures.Capture())
+    data = captures.message(captures.SELECT[0][1])
+    for octets in (data, data[:-1] + b"\x07"):
+        talk.at(1)
+        talk.segment(captures.ACTIVE, 0, captures.PUSH | captures.ACK, octets)
+    return talk.capture
+
+
+def two_at_once():
+    """Two connections of the same addresses, of which none goes down."""
+    capture = captures.Capture()
+    captures.Talk(capture)
+    capture.ports = (40001, 5000)
+    captures.Talk(capture, when=captures.BEGIN + 10**6)
+    return capture
+
+
+def two_pairs():
+    """A connection, and then one of other addresses."""
+    capture = captures.Capture()
+    captures.Talk(capture).end(1)
+    capture.is_ipv6 = True
+    captures.Talk(capture, when=captures.BEGIN + 10**6)
+    return capture
+
+
+def cases_of_captures():
+    cut = "the capture ends within a packet, or is empty: end the program that writes it first, or see what cut it off"
+    yield Case(["capture"], 2, "CutOff", [cut])
+    yield Case(["capture"], 2, "CutOff", [cut], captures.half_a_packet().octets)
+    other = "here the file isn't one of pcap or pcapng: give the one that tcpdump, tshark or Wireshark wrote, unpacked"
+    yield Case(["capture"], 2, "Capture Unknown octet=0", [other], captures.other_octets().octets + bytes(24))
+    none = "no connection came up at --port: is this the port of HSMS, and does the capture begin before the connection does?"
+    yield Case(["capture"], 2, "NoConnection", [none], captures.no_connection().octets)
+    yield Case(["capture", "--port", "5001"], 2, "NoConnection", [none], captures.late_reply().octets)
+    lost = "octets are missing from this packet on: capture again at the end itself, whole packets (-s 0), and none dropped"
+    yield Case(["capture"], 2, "Lost packet=7", [lost], captures.gap().octets)
+    length = "a message is shorter than 10 octets or longer than --max: is this the port of HSMS? Else give a greater --max"
+    yield Case(["capture"], 2, "Length packet=6", [length], captures.wrong_length().octets)
+    differs = "what this packet brings again isn't what came first: capture nearer to the end, where one device alone sends it"
+    yield Case(["capture"], 2, "Differs packet=5", [differs], differing().octets)
+    time = "this packet has no time, or none that a log can have: capture again with times, or leave the packet out"
+    yield Case(["capture"], 2, "Time packet=1", [time], one_timeless().octets)
+    over = "here a connection comes up while another one is up, and a log has one at a time: without --log each is judged"
+    yield Case(["capture", "--log", "host"], 2, "Overlap packet=6", [over], two_at_once().octets)
+    peer = "this connection is one of other addresses: take those of two alone, as tcpdump -r FILE -w PART host A and host B"
+    yield Case(["capture", "--log", "host"], 2, "Peer packet=7", [peer], two_pairs().octets)
+
+
 def cases_of_devices():
     read = "standard input can't be read: see that it is open, and no folder"
     folder = {"stdin": os.open("/", os.O_RDONLY)}
-    for words in (["show"], ["audit"], ["encode"], [*HERE_AT, "1", "--send"]):
+    for words in (["show"], ["audit"], ["encode"], ["capture"], [*HERE_AT, "1", "--send"]):
         yield Case(words, 3, "Read", [read], how=folder)
     write = "standard output can't be written: see that the disk isn't full, and that its reader goes on"
     full = {"stdout": os.open("/dev/full", os.O_WRONLY)}
     yield Case(["encode"], 3, "Write", [write], b"S1F1 .", full)
+    for words in (["capture"], ["capture", "--log", "host"]):
+        yield Case(words, 3, "Write", [write], captures.late_reply().octets, full)
     log = "the log can't be written: see that standard output is open, the disk isn't full, and its reader goes on"
     yield Case([*LISTENS, "--address", HERE, "--port", str(free_port())], 3, "Log", [log], how=full)
 
@@ -234,7 +305,8 @@ def documented(cases):
 
 def main():
     passed, failed, cases, told = 0, 0, [], []
-    for made in (cases_of_words, cases_of_inputs, cases_of_devices, cases_of_memory, cases_of_ways, cases_of_links):
+    inputs = cases_of_words, cases_of_inputs, cases_of_captures
+    for made in (*inputs, cases_of_devices, cases_of_memory, cases_of_ways, cases_of_links):
         for case in made():
             cases.append(case)
             try:

@@ -2,6 +2,7 @@
 
 What may be taken is asked of the rules in `session`. An end here never runs out of memory.
 """
+from collections import Counter
 from dataclasses import dataclass
 from typing import Callable, List, Optional, Sequence
 
@@ -29,7 +30,8 @@ class Answer:
     item: Optional[Item] = None
 
 
-Desk = Callable[[Message], Answer]
+# It is asked about a primary, and told how many of its stream and function came before on the connection.
+Desk = Callable[[Message, int], Answer]
 
 
 def list_of(*elements: Item) -> Item:
@@ -39,7 +41,7 @@ def list_of(*elements: Item) -> Item:
 def desk_with(identity: Item, nine: str) -> Desk:
     """A desk that tells an identity in S1F2 and S1F14, and says this to stream 9."""
 
-    def answer(message: Message) -> Answer:
+    def answer(message: Message, _before: int) -> Answer:
         name = (message.stream, message.function)
         if name == (1, 1):
             return Answer("reply", identity)
@@ -65,18 +67,19 @@ def host_desk() -> Desk:
 
 def obliging_desk() -> Desk:
     """A desk that answers each primary by a reply without an item."""
-    return lambda message: Answer("reply")
+    return lambda message, _before: Answer("reply")
 
 
 def scripted_desk(replies: Sequence[Message], own: Desk) -> Desk:
-    """A desk that gives the item of the first of the replies to a primary, or aborts it where one of its stream says so."""
+    """A desk that gives the items of the replies to a primary in turn, the last one again and again, or aborts it where
+    one of its stream says so."""
 
-    def answer(message: Message) -> Answer:
+    def answer(message: Message, before: int) -> Answer:
         of_stream = [reply for reply in replies if reply.stream == message.stream]
         given = [reply for reply in of_stream if reply.function == message.function + 1]
         if given:
-            return Answer("reply", given[0].item)
-        return Answer("quiet") if any(reply.function == 0 for reply in of_stream) else own(message)
+            return Answer("reply", given[min(before, len(given) - 1)].item)
+        return Answer("quiet") if any(reply.function == 0 for reply in of_stream) else own(message, before)
 
     return answer
 
@@ -136,6 +139,7 @@ class End:
         self.next_number = first_system
         self.pending = b""
         self.heard = 0
+        self.asked: Counter = Counter()
 
     # What it is told.
 
@@ -319,7 +323,10 @@ class End:
             self.note("down")
         elif frame.kind == "primary":
             item = decode_text(frame.text, self.settings.depth)
-            self.after_primary(frame, self.desk(Message(frame.stream, frame.function, frame.wait, item)))
+            name = (frame.stream, frame.function)
+            answer = self.desk(Message(*name, frame.wait, item), self.asked[name])
+            self.asked[name] += 1
+            self.after_primary(frame, answer)
 
     def after_primary(self, frame: Frame, answer: Answer):
         functions = {"no stream": 3, "no function": 5, "illegal": 7}

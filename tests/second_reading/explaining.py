@@ -16,6 +16,13 @@ DEEPEST = 100
 # How many requests of each direction, and how many of their closings, are known where it is told what was expected.
 KEPT = 256
 
+# How many failures that are alike are told whole, and of how many groups it is known what they have in common.
+TOLD_WHOLE = 3
+GROUPS = 256
+
+# How many kinds of primaries are told of apart.
+KINDS = 64
+
 # What stands in place of lines that are left out.
 GAP = b"       ..\n"
 
@@ -74,6 +81,20 @@ def words_of(entry: Entry) -> str:
     return f"{entry.time} {entry.event} {entry.cause}".rstrip()
 
 
+# What is alike in failures.
+Sort = Tuple[object, ...]
+
+
+def sort_of(entry: Entry, rule: str) -> Sort:
+    """The rule, and what fails: of a frame its direction, whether it was thrown away, its session ID and its kind, of
+    data with stream, function and W."""
+    frame = entry.frame
+    if frame is None:
+        return rule, entry.event, entry.cause
+    detail = (frame.stream, frame.function, frame.wait) if frame.kind in ("primary", "reply") else ()
+    return (rule, entry.event, frame.session, frame.kind, *detail)
+
+
 # What is done about a failure: the entry that stands in place of the failing one, and one that is put before it.
 Remedy = Tuple[Optional[Entry], Optional[Entry]]
 
@@ -118,11 +139,78 @@ def remedy_words(entry: Entry, remedy: Remedy) -> str:
     return f"goes on as if its time were {other.time}"
 
 
-class Line:
-    """A line of the log: its number, and what is told of it."""
+class Note:
+    """What is told below a line; of a failure also its rule, and what is alike in such failures."""
 
-    def __init__(self, number: int, told: bytes):
-        self.number, self.told, self.fails = number, [told], False
+    def __init__(self, words: str, rule: Optional[str] = None, sort: Sort = ()):
+        self.words, self.rule, self.sort = [below(words)], rule, sort
+
+
+class Line:
+    """A line of the log: its number, what it says, and what is told below it."""
+
+    def __init__(self, number: int, said: bytes):
+        self.number, self.said = number, said
+        self.notes: List[Note] = []
+
+
+class Group:
+    """Failures that are alike: their rule and their lines."""
+
+    def __init__(self, rule: str):
+        self.rule = rule
+        self.lines: List[int] = []
+
+    def rest(self) -> bytes:
+        more = len(self.lines) - TOLD_WHOLE
+        if more <= 0:
+            return b""
+        return f"{self.rule}: and {more} more like line {self.lines[0]}, up to line {self.lines[-1]}\n".encode()
+
+
+class Groups:
+    """The failures of an excerpt, line by line."""
+
+    def __init__(self):
+        self.groups: Dict[Sort, Group] = {}
+
+    def like(self, note: Note, number: int) -> Optional[int]:
+        """The line of the first failure that is like this one, where it isn't told whole."""
+        if note.sort not in self.groups and len(self.groups) == GROUPS:
+            return None
+        lines = self.groups.setdefault(note.sort, Group(note.rule)).lines
+        lines.append(number)
+        return lines[0] if len(lines) > TOLD_WHOLE else None
+
+    def told(self, line: Line) -> Tuple[bytes, bool]:
+        """What is told of a line, and whether a failure is told whole."""
+        told, is_whole, alike = [line.said], False, []
+        for note in line.notes:
+            like = self.like(note, line.number) if note.rule else None
+            if like is None:
+                is_whole = is_whole or note.rule is not None
+                told, alike = told + alike_words(alike) + note.words, []
+            elif alike and alike[-1] != (note.rule, like):
+                told, alike = told + alike_words(alike), [(note.rule, like)]
+            else:
+                alike.append((note.rule, like))
+        return b"".join(told + alike_words(alike)), is_whole
+
+    def rests(self) -> bytes:
+        return b"".join(group.rest() for group in self.groups.values())
+
+
+def alike_words(alike: List[Tuple[str, int]]) -> List[bytes]:
+    """The line for failures one behind another that are told by the same line."""
+    if not alike:
+        return []
+    rule, line = alike[0]
+    times = f", {len(alike)} times" if len(alike) > 1 else ""
+    return [below(f"FAIL {rule}: like line {line}{times}")]
+
+
+def below(words: str, indent: int = 7) -> bytes:
+    return f"{' ' * indent}{words}\n".encode()
 
 
 class Excerpt(NamedTuple):
@@ -137,21 +225,23 @@ class Excerpt(NamedTuple):
         last = [] if self.last is None else ["--to", str(self.last)]
         return [*only, "--from", str(self.first), *last]
 
-    def numbers(self, lines: List[Line]) -> Set[int]:
-        found = {line.number for line in lines if line.number >= self.first and (self.last is None or line.number <= self.last)}
-        if self.around is None:
-            return found
-        failing = [line.number for line in lines if line.fails and line.number in found]
-        return found & {number for at in failing for number in range(at - self.around, at + self.around + 1)}
+    def has(self, number: int) -> bool:
+        return number >= self.first and (self.last is None or number <= self.last)
 
-    def shown(self, lines: List[Line]) -> bytes:
-        """The lines that are told. Two dots stand in place of lines between them, before and behind them."""
-        numbers, told, last = self.numbers(lines), [], 0
-        for line in lines:
-            if line.number in numbers:
-                told += [GAP] * (line.number > last + 1) + line.told
-                last = line.number
-        return b"".join(told + [GAP] * (len(lines) > last))
+    def shown(self, lines: List[Line]) -> Tuple[bytes, bytes]:
+        """The lines that are told, and what is told of failures that aren't told whole. Two dots stand in place of lines
+        between those that are told, before and behind them."""
+        groups = Groups()
+        within = {line.number: groups.told(line) for line in lines if self.has(line.number)}
+        numbers = set(within)
+        if self.around is not None:
+            failing = [number for number, (_, is_whole) in within.items() if is_whole]
+            numbers &= {number for at in failing for number in range(at - self.around, at + self.around + 1)}
+        told, last = [], 0
+        for number in sorted(numbers):
+            told += [GAP] * (number > last + 1) + [within[number][0]]
+            last = number
+        return b"".join(told + [GAP] * (len(lines) > last)), groups.rests()
 
 
 WHOLE = Excerpt()
@@ -166,6 +256,7 @@ class Telling:
         self.places: List[int] = []
         # Of each entry the direction of the frame that opened what it closes.
         self.closed: List[Optional[str]] = []
+        self.openers: List[Optional[int]] = []
         self.failures: Dict[str, int] = {}
         self.lines: List[Line] = []
         self.judged = 0
@@ -176,7 +267,7 @@ class Telling:
             entry = session.entry_of(line, self.settings)
         except Unreadable:
             self.lines.append(Line(number, plain(number, line, limit)))
-            self.tell_rule("unreadable", SENTENCES["unreadable"])
+            self.tell_rule("unreadable", SENTENCES["unreadable"], ("unreadable",))
             return
         if entry is None:
             self.lines.append(Line(number, plain(number, line, limit)))
@@ -187,13 +278,13 @@ class Telling:
         self.judged += 1
         self.judge(entry, number)
 
-    def tell_rule(self, rule: str, sentence: str):
+    def tell_rule(self, rule: str, sentence: str, sort: Sort):
         self.failures[rule] = self.failures.get(rule, 0) + 1
-        self.lines[-1].fails = True
-        self.below(f"FAIL {rule}: {sentence}")
+        self.lines[-1].notes.append(Note(f"FAIL {rule}: {sentence}", rule, sort))
 
-    def below(self, words: str, indent: int = 7):
-        self.lines[-1].told.append(f"{' ' * indent}{words}\n".encode())
+    def further(self, words: str):
+        """Tells more of the last failure."""
+        self.lines[-1].notes[-1].words.append(below(words, 12))
 
     def judge(self, entry: Entry, number: int):
         pending = [entry]
@@ -207,15 +298,16 @@ class Telling:
                 if is_own and opener is not None:
                     self.tell_closing(step, opener)
                 self.closed.append(None if opener is None else self.entries[opener].event)
+                self.openers.append(opener)
                 self.entries.append(step)
                 self.places.append(number)
                 continue
             remedy = remedy_of(before, step, rule)
             if is_own:
-                self.tell_rule(rule, sentence_of(step, rule))
+                self.tell_rule(rule, sentence_of(step, rule), sort_of(step, rule))
                 self.tell_concern(step, rule)
                 self.tell_expected(before, step, rule)
-                self.below(remedy_words(step, remedy), 12)
+                self.further(remedy_words(step, remedy))
             pending += [one for one in remedy if one is not None]
 
     def open(self) -> List[int]:
@@ -227,7 +319,8 @@ class Telling:
 
     def tell_closing(self, entry: Entry, opener: int):
         tie = {"answered by": "answers", "rejected by": "rejects", "expired at": "expires"}[self.tie_of(entry)]
-        self.below(f"{tie} line {self.places[opener]} after {entry.time - self.entries[opener].time} ms")
+        words = f"{tie} line {self.places[opener]} after {entry.time - self.entries[opener].time} ms"
+        self.lines[-1].notes.append(Note(words))
 
     @staticmethod
     def tie_of(entry: Entry) -> str:
@@ -254,7 +347,7 @@ class Telling:
     def tell_expected(self, before: Before, entry: Entry, rule: str):
         words = self.expected(before, entry, rule)
         if words:
-            self.below(words, 12)
+            self.further(words)
 
     def expected(self, before: Before, entry: Entry, rule: str) -> Optional[str]:
         frame, settings = entry.frame, self.settings
@@ -314,22 +407,75 @@ class Telling:
             is_oldest = rule == "T3Overdue" and opener.event == SENT and opener.frame.is_data
             is_meant = rule == "SystemInUse" and opener.event == entry.event
             if is_oldest or is_meant and opener.frame.system == entry.frame.system:
-                self.below(f"concerns line {self.places[at]}", 12)
+                self.further(f"concerns line {self.places[at]}")
                 return
 
-    def end(self) -> bytes:
+    def end(self, rests: bytes) -> bytes:
         nothing = b"" if self.judged else b"nothing was judged: the log has no entry\n"
         counts = "".join(f" {rule}={count}" for rule, count in self.failures.items())
-        return nothing + f"failures={sum(self.failures.values())}{counts}\n".encode()
+        return nothing + rests + f"failures={sum(self.failures.values())}{counts}\n".encode() + self.outcomes()
+
+    def outcomes(self) -> bytes:
+        """What became of the primaries with W, by direction and function."""
+        kinds: Dict[Tuple[str, str], List[int]] = {}
+        for at, entry in enumerate(self.entries):
+            if entry.event in (SENT, TAKEN) and entry.frame.kind == "primary" and entry.frame.wait:
+                kind = (f"S{entry.frame.stream}F{entry.frame.function}", entry.event)
+                if kind not in kinds and len(kinds) >= KINDS:
+                    kind = ("others", entry.event)
+                kinds.setdefault(kind, []).append(at)
+        closings = {opener: at for at, opener in enumerate(self.openers) if opener is not None}
+        still_open = set(self.open())
+        return b"".join(self.outcome(kind, at, closings, still_open) for kind, at in kinds.items())
+
+    def outcome(self, kind: Tuple[str, str], places: List[int], closings: Dict[int, int], still_open: Set[int]) -> bytes:
+        name, event = kind
+        counts = dict.fromkeys(("answered", "aborted", "expired", "rejected", "ended", "waiting"), 0)
+        times: List[Tuple[int, int]] = []
+        for at in places:
+            end = closings.get(at)
+            if end is None:
+                counts["waiting" if at in still_open else "ended"] += 1
+                continue
+            closing = self.entries[end]
+            fate = {"expired at": "expired", "rejected by": "rejected", "answered by": "answered"}[self.tie_of(closing)]
+            if fate == "answered" and closing.frame.function == 0:
+                fate = "aborted"
+            counts[fate] += 1
+            if fate == "answered":
+                times.append((closing.time - self.entries[at].time, self.places[end]))
+        words = "".join(f" {fate}={count}" for fate, count in counts.items() if count)
+        way = "sent" if event == SENT else "received"
+        return f"{name} W {way}={len(places)}{words}{time_words(times)}\n".encode()
+
+
+def time_words(times: List[Tuple[int, int]]) -> str:
+    """How long replies took, each with its line, in the order of the log."""
+    if not times:
+        return ""
+    ranked = sorted(time for time, _ in times)
+    least, greatest = ranked[0], ranked[-1]
+    line = [line for time, line in times if time == greatest][-1]
+    # The least times that half of the replies, and 99 of 100, don't exceed.
+    median, most = (max(least, rounded(ranked[-(-len(ranked) * share // 100) - 1])) for share in (50, 99))
+    if len(ranked) < 100:
+        most = greatest
+    return f" least={least} median={median} p99={most} greatest={greatest} line={line}"
+
+
+def rounded(time: int) -> int:
+    """A time down to its eight highest binary digits. One of 2^32 or more is taken for the greatest below."""
+    time = min(time, 2**32 - 1)
+    places = max(0, time.bit_length() - 8)
+    return time >> places << places
 
 
 def unjudged(lines: List[bytes], excerpt: Excerpt) -> bytes:
     """What is told of the lines of a log whose first one can't be read."""
     told = [Line(number, plain(number, line, session.LONGEST_FIRST_LINE)) for number, line in enumerate(lines, 1)]
     for line in told[:1]:
-        line.told.append(f"       FAIL unreadable: {SENTENCES['unreadable']}\n".encode())
-        line.fails = True
-    return excerpt.shown(told) + b"nothing was judged: line 1 can't be read\n"
+        line.notes.append(Note(f"FAIL unreadable: {SENTENCES['unreadable']}", "unreadable", ("unreadable",)))
+    return excerpt.shown(told)[0] + b"nothing was judged: line 1 can't be read\n"
 
 
 def explain(log: bytes, excerpt: Excerpt = WHOLE) -> bytes:
@@ -343,4 +489,5 @@ def explain(log: bytes, excerpt: Excerpt = WHOLE) -> bytes:
     telling.lines.append(Line(1, plain(1, lines[0], session.LONGEST_FIRST_LINE)))
     for number, line in enumerate(lines[1:], 2):
         telling.tell(line, number)
-    return excerpt.shown(telling.lines) + telling.end() + verdict
+    shown, rests = excerpt.shown(telling.lines)
+    return shown + telling.end(rests) + verdict

@@ -149,6 +149,13 @@ impl Connection {
         Ok(connection)
     }
 
+    /// How what is told ends, where that is sure: nothing more is told then.
+    pub fn ending(&self) -> Option<Ending>
+        ensures { result ≡ self.now.ending }
+    {
+        self.ending
+    }
+
     /// Tells what is left where no segment follows, and how what is told ends.
     ///
     /// # Errors

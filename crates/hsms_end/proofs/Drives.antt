@@ -20,7 +20,7 @@ use Rattle.hsms_end.proofs.Doings.{settings_of}
 use Rattle.hsms_end.proofs.Kept.{drive_keeps_octets}
 
 -- one input more
-drives_more : (desk : Content → Answered) (inputs : List Told) (end middle : Known) (accepted : List Told) (entries : List Entry) (input : Told) (one : List Told) (first : List Entry) (next : Known) → Drives desk end inputs accepted entries middle → Responds desk middle input one first next → Drives desk end (inputs ++ input ∷ []) (accepted ++ one) (entries ++ first) next
+drives_more : (desk : ℕ → Content → Answered) (inputs : List Told) (end middle : Known) (accepted : List Told) (entries : List Entry) (input : Told) (one : List Told) (first : List Entry) (next : Known) → Drives desk end inputs accepted entries middle → Responds desk middle input one first next → Drives desk end (inputs ++ input ∷ []) (accepted ++ one) (entries ++ first) next
 drives_more desk [] end middle accepted entries input one first next h response = (
   next,
   one,
@@ -48,7 +48,7 @@ empty_run : (settings : Parameters) → IsRun settings []
 unfolding IsRun
 empty_run settings = λ i lt. absurd (omega arith)
 
-pub undriven : {D : Type 0} (answers : D → Content → Answered) (settings : Parameters) (desk : D) (first_system : ℕ) (entries : List Entry) (end : EndOf D) → entries ≡ [] → end ≡ record { desk = desk; known = untold settings first_system } → HasDriven answers settings desk first_system [] entries end
+pub undriven : {D : Type 0} (answers : D → ℕ → Content → Answered) (settings : Parameters) (desk : D) (first_system : ℕ) (entries : List Entry) (end : EndOf D) → entries ≡ [] → end ≡ record { desk = desk; known = untold settings first_system } → HasDriven answers settings desk first_system [] entries end
 undriven {D} answers settings desk first_system entries end none is =
     subst (λ (es : List Entry). HasDriven answers settings desk first_system [] es end) (sym none)
     (subst (λ (e : EndOf D). HasDriven answers settings desk first_system [] [] e) (sym is)
@@ -60,7 +60,7 @@ undriven {D} answers settings desk first_system entries end none is =
     }))
 
 -- an input that was accepted
-pub one_accepted : {D : Type 0} (answers : D → Content → Answered) (settings : Parameters) (desk : D) (first_system : ℕ) (inputs : List Told) (entries more : List Entry) (end end' : EndOf D) (input : Told) (new : List Entry) → HasDriven answers settings desk first_system inputs entries end → Accepts answers end input new end' → more ≡ entries ++ new → HasDriven answers settings desk first_system (inputs ++ input ∷ []) more end'
+pub one_accepted : {D : Type 0} (answers : D → ℕ → Content → Answered) (settings : Parameters) (desk : D) (first_system : ℕ) (inputs : List Told) (entries more : List Entry) (end end' : EndOf D) (input : Told) (new : List Entry) → HasDriven answers settings desk first_system inputs entries end → Accepts answers end input new end' → more ≡ entries ++ new → HasDriven answers settings desk first_system (inputs ++ input ∷ []) more end'
 one_accepted {D} answers settings desk first_system inputs entries more end end' input new h a added =
     let same : settings ≡ end.known.view.settings = settings_of settings entries end.known.view h.seen in
     let turn : Turn (answers desk) end.known input new end'.known =
@@ -89,7 +89,7 @@ refused end end' input TooDeep n h = h
 refused end end' input Memory n h = absurd (n refl)
 
 -- an input that was refused
-pub one_refused : {D : Type 0} (answers : D → Content → Answered) (settings : Parameters) (desk : D) (first_system : ℕ) (inputs : List Told) (entries : List Entry) (end end' : EndOf D) (input : Told) (fault : EndFault) → HasDriven answers settings desk first_system inputs entries end → Refuses end input fault end' → (fault ≡ Memory → ⊥) → HasDriven answers settings desk first_system (inputs ++ input ∷ []) entries end'
+pub one_refused : {D : Type 0} (answers : D → ℕ → Content → Answered) (settings : Parameters) (desk : D) (first_system : ℕ) (inputs : List Told) (entries : List Entry) (end end' : EndOf D) (input : Told) (fault : EndFault) → HasDriven answers settings desk first_system inputs entries end → Refuses end input fault end' → (fault ≡ Memory → ⊥) → HasDriven answers settings desk first_system (inputs ++ input ∷ []) entries end'
 one_refused {D} answers settings desk first_system inputs entries end end' input fault h r n =
     let is = refused end end' input fault n r in
     subst (λ (e : EndOf D). HasDriven answers settings desk first_system (inputs ++ input ∷ []) entries e) (sym is.1)
@@ -111,7 +111,7 @@ next_told inputs i item lt is =
 pub told_all : (inputs : List Input) (i : ℕ) → length inputs ≤ i → map told (take i inputs) ≡ map told inputs
 told_all inputs i le = ap (λ xs. map told xs) (take_all i inputs le)
 
-pub driven : {D : Type 0} (answers : D → Content → Answered) (settings : Parameters) (desk : D) (first_system : ℕ) (inputs : List Told) (entries : List Entry) (pending : List ℕ) (end : EndOf D) → HasDriven answers settings desk first_system inputs entries end → pending ≡ end.known.pending → IsDriven (answers desk) (untold settings first_system) inputs entries pending
+pub driven : {D : Type 0} (answers : D → ℕ → Content → Answered) (settings : Parameters) (desk : D) (first_system : ℕ) (inputs : List Told) (entries : List Entry) (pending : List ℕ) (end : EndOf D) → HasDriven answers settings desk first_system inputs entries end → pending ≡ end.known.pending → IsDriven (answers desk) (untold settings first_system) inputs entries pending
 driven answers settings desk first_system inputs entries pending end h left =
     record {
       accepted = h.accepted;

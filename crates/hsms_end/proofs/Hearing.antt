@@ -35,7 +35,7 @@ heard_sound end end' octets is sound =
           });
     })
 
-pub heard_all : (desk : Content → Answered) (start mid end : State) (before entries : List Entry) → mid ≡ start → HasReceivedAll desk mid before end entries → HasReceivedAll desk start before end entries
+pub heard_all : (desk : ℕ → Content → Answered) (start mid end : State) (before entries : List Entry) → mid ≡ start → HasReceivedAll desk mid before end entries → HasReceivedAll desk start before end entries
 heard_all desk start mid end before entries is h = subst (λ (s : State). HasReceivedAll desk s before end entries) is h
 
 pub bytes_not_up : (spent : Bool) (end : State) (octets : List ℕ) → spent ≡ false → is_up end.tracker.phase ≡ false → Meets (known_of end spent) (bytes octets) (Some NotUp)
@@ -47,7 +47,7 @@ unfolding Meets
 bytes_meets spent end octets s u =
     inr (not_spent spent s, inr (up_is_up (is_up end.tracker.phase) u, inr ((λ b. b), inr ((λ b. b), inr ((λ b. b), inr ((λ b. let d : false ≡ true = b.0 in cc), inr ((λ b. b), inr ((λ b. b), refl))))))))
 
-pub bytes_accepted : {D : Type 0} (answers : D → Content → Answered) (desk : D) (end end' : State) (spent : Bool) (at : EndOf D) (octets : List ℕ) (first entries : List Entry) → spent ≡ false → inside_of desk end spent ≡ at → first ≡ [] → is_up end.tracker.phase ≡ true → HasReceivedAll (answers desk) (after_octets end octets) first end' entries → Accepts answers at (bytes octets) entries (inside_of desk end' false)
+pub bytes_accepted : {D : Type 0} (answers : D → ℕ → Content → Answered) (desk : D) (end end' : State) (spent : Bool) (at : EndOf D) (octets : List ℕ) (first entries : List Entry) → spent ≡ false → inside_of desk end spent ≡ at → first ≡ [] → is_up end.tracker.phase ≡ true → HasReceivedAll (answers desk) (after_octets end octets) first end' entries → Accepts answers at (bytes octets) entries (inside_of desk end' false)
 bytes_accepted answers desk end end' spent at octets first entries fresh is empty up h =
     let new_is : h.new ≡ entries = sym (h.added ∙ ap (λ (es : List Entry). es ++ h.new) empty) in
     accepted_at answers desk end end' spent at (bytes octets) entries fresh is (bytes_meets spent end octets fresh up)

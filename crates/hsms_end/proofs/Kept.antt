@@ -23,7 +23,7 @@ use Rattle.hsms_end.specs.Known.{Known}
 use Rattle.hsms_end.specs.Frame.{warning, abort_of, reply_of, linktest_req, separate_req, message_frame}
 use Rattle.hsms_end.specs.Act.{Act, logs, asks, Acts, with_event, with_number}
 use Rattle.hsms_end.specs.Reaction.{is_equipment, warns, aborts, rejects, is_control_response, answers_primary, answers_taken, answers_discarded, reaction}
-use Rattle.hsms_end.specs.Turn.{opening_of, expiry, expiry_warning, cut_by, after_expiries, expiries, expired_at, overdue_cause, received_as, Handles, warns_too_long, Rests, is_down, waits, too_short, too_long, Receives, with_octets, Told, start, tick, bytes, send, linktest, separate, lost, Turn}
+use Rattle.hsms_end.specs.Turn.{opening_of, expiry, expiry_warning, cut_by, after_expiries, expiries, expired_at, overdue_cause, received_as, with_asked, Handles, warns_too_long, Rests, is_down, waits, too_short, too_long, Receives, with_octets, Told, start, tick, bytes, send, linktest, separate, lost, Turn}
 use Rattle.hsms_end.specs.Drive.{Responds, is_refused, is_accepted, Drives, octets_of, octets_told, octets_in, octets_received}
 
 -- ---- what acts receive
@@ -158,10 +158,10 @@ received_frame frame None = refl
 received_frame frame (Some broken) = refl
 
 -- a frame that is handled is received, and leaves what is pending
-handled_keeps : (desk : Content → Answered) (end : Known) (frame : Frame) (entries : List Entry) (end' : Known) → Handles desk end frame entries end' → (octets_received entries ≡ frame_octets frame) × (end'.pending ≡ end.pending)
+handled_keeps : (desk : ℕ → Content → Answered) (end : Known) (frame : Frame) (entries : List Entry) (end' : Known) → Handles desk end frame entries end' → (octets_received entries ≡ frame_octets frame) × (end'.pending ≡ end.pending)
 handled_keeps desk end frame entries end' h =
     let broken : Option Rule = h.0 in
-    let received = acts_receive (logs (received_as frame broken) ∷ reaction end.settings (is_selected end.view.phase) frame.header broken h.1) end entries end' h.4 in (
+    let received = acts_receive (logs (received_as frame broken) ∷ reaction end.settings (is_selected end.view.phase) frame.header broken h.1) (with_asked end frame broken) entries end' h.4 in (
       received.0
           ∙ ap (λ xs. octets_in (received_as frame broken) ++ xs) (reaction_none end.settings (is_selected end.view.phase) frame.header broken h.1)
           ∙ append-nil (octets_in (received_as frame broken)) ∙ received_frame frame broken,
@@ -174,7 +174,7 @@ received_append (entry ∷ entries) more =
     ap (λ xs. octets_in entry.event ++ xs) (received_append entries more)
     ∙ sym (append_assoc (octets_in entry.event) (octets_received entries) (octets_received more))
 
-receives_keep : (desk : Content → Answered) (end : Known) (frames : List Frame) (entries : List Entry) (end' : Known) → Receives desk end frames entries end' → end.pending ≡ octets_received entries ++ end'.pending
+receives_keep : (desk : ℕ → Content → Answered) (end : Known) (frames : List Frame) (entries : List Entry) (end' : Known) → Receives desk end frames entries end' → end.pending ≡ octets_received entries ++ end'.pending
 receives_keep desk end [] entries end' h = rests_keep end entries end' h
 receives_keep desk end (frame ∷ frames) entries end' h =
     let off : Known = h.0 in
@@ -197,7 +197,7 @@ receives_keep desk end (frame ∷ frames) entries end' h =
 quiet_turn : (acts : List Act) (end from : Known) (entries : List Entry) (end' : Known) → receipts acts ≡ [] → Acts from acts entries end' → from.pending ≡ end.pending → end.pending ++ [] ≡ octets_received entries ++ end'.pending
 quiet_turn acts end from entries end' none h same = append-nil end.pending ∙ sym same ∙ kept_by acts from entries end' none h
 
-pub turn_keeps_octets : (desk : Content → Answered) (end : Known) (input : Told) (entries : List Entry) (end' : Known) → Turn desk end input entries end' → end.pending ++ octets_of input ≡ octets_received entries ++ end'.pending
+pub turn_keeps_octets : (desk : ℕ → Content → Answered) (end : Known) (input : Told) (entries : List Entry) (end' : Known) → Turn desk end input entries end' → end.pending ++ octets_of input ≡ octets_received entries ++ end'.pending
 turn_keeps_octets desk end (start now) entries end' h =
     quiet_turn (opening_of end.settings.link) end (record end { moment = max end.moment now }) entries end' (opening_none end.settings.link) h refl
 turn_keeps_octets desk end (tick now) entries end' h =
@@ -217,14 +217,14 @@ told_append (input ∷ inputs) more =
     ap (λ xs. octets_of input ++ xs) (told_append inputs more)
     ∙ sym (append_assoc (octets_of input) (octets_told inputs) (octets_told more))
 
-response_keeps : (desk : Content → Answered) (end : Known) (input : Told) (accepted : List Told) (entries : List Entry) (end' : Known) → Responds desk end input accepted entries end' → end.pending ++ octets_told accepted ≡ octets_received entries ++ end'.pending
+response_keeps : (desk : ℕ → Content → Answered) (end : Known) (input : Told) (accepted : List Told) (entries : List Entry) (end' : Known) → Responds desk end input accepted entries end' → end.pending ++ octets_told accepted ≡ octets_received entries ++ end'.pending
 response_keeps desk end input accepted entries end' (is_refused fault meets none empty same) =
     ap (λ xs. end.pending ++ octets_told xs) none ∙ append-nil end.pending ∙ ap (λ (k : Known). k.pending) (sym same)
     ∙ ap (λ es. octets_received es ++ end'.pending) (sym empty)
 response_keeps desk end input accepted entries end' (is_accepted meets turn one) =
     ap (λ xs. end.pending ++ octets_told xs) one ∙ ap (λ xs. end.pending ++ xs) (append-nil (octets_of input)) ∙ turn_keeps_octets desk end input entries end' turn
 
-pub drive_keeps_octets : (desk : Content → Answered) (end : Known) (inputs accepted : List Told) (entries : List Entry) (end' : Known) → Drives desk end inputs accepted entries end' → end.pending ++ octets_told accepted ≡ octets_received entries ++ end'.pending
+pub drive_keeps_octets : (desk : ℕ → Content → Answered) (end : Known) (inputs accepted : List Told) (entries : List Entry) (end' : Known) → Drives desk end inputs accepted entries end' → end.pending ++ octets_told accepted ≡ octets_received entries ++ end'.pending
 drive_keeps_octets desk end [] accepted entries end' h =
     ap (λ xs. end.pending ++ octets_told xs) h.0 ∙ append-nil end.pending ∙ ap (λ (k : Known). k.pending) (sym h.2)
     ∙ ap (λ es. octets_received es ++ end'.pending) (sym h.1)

@@ -21,11 +21,12 @@ use Rattle.hsms_machine.specs.Settings.{Parameters}
 use Rattle.hsms_machine.specs.Rule.{FrameBreaks, IsFirst, format_rules, transaction_rules}
 use Rattle.hsms_machine.specs.Step.{facts_of, is_selected}
 use Rattle.hsms_end.specs.Answer.{Answered}
+use Rattle.hsms_end.specs.Asked.{name_in, times}
 use Rattle.hsms_end.specs.Known.{Known}
 use Rattle.hsms_end.specs.Frame.{linktest_req, separate_req, message_frame, message_of}
 use Rattle.hsms_end.specs.Act.{Act, logs, asks, Acts}
 use Rattle.hsms_end.specs.Reaction.{answers_primary, answers_taken, reaction}
-use Rattle.hsms_end.specs.Turn.{is_up, opening_of, cut_by, expiries, BreaksAsTaken, received_as, IsAnswerOf, Handles, warns_too_long, Rests, is_down, waits, too_short, too_long, TakesOff, Receives, with_octets, Told, start, tick, bytes, send, linktest, separate, lost, Turn}
+use Rattle.hsms_end.specs.Turn.{is_up, opening_of, cut_by, expiries, BreaksAsTaken, received_as, IsAnswerOf, with_asked, Handles, warns_too_long, Rests, is_down, waits, too_short, too_long, TakesOff, Receives, with_octets, Told, start, tick, bytes, send, linktest, separate, lost, Turn}
 use Rattle.hsms_end.specs.Drive.{Responds, is_refused, is_accepted, Drives}
 use Rattle.hsms_end.proofs.Single.{one_fault_is_met, acts_have_one_outcome}
 
@@ -152,12 +153,12 @@ module _ (one_answer : OneAnswerToPending) where
       let frames : ◌≡◌ {A = Answer} (Ok (Some one)) (Ok (Some other)) = same.0 in
       ((let e : one ≡ other = cc in e), h.off ∙ ap (λ rest. record end { pending = rest }) same.1 ∙ sym k.off)
 
-module _ (one_answer : OneAnswerToPending) (one_text : OneText) (desk : Content → Answered) where
-  answer_is_one : (depth : ℕ) (frame : Frame) (broken : Option Rule) (one other : Answered) → IsAnswerOf desk depth frame broken one → IsAnswerOf desk depth frame broken other → broken ≡ None → kind_of frame.header ≡ kind.Primary → one ≡ other
-  answer_is_one depth frame broken one other h k none primary =
+module _ (one_answer : OneAnswerToPending) (one_text : OneText) (desk : ℕ → Content → Answered) where
+  answer_is_one : (before depth : ℕ) (frame : Frame) (broken : Option Rule) (one other : Answered) → IsAnswerOf (desk before) depth frame broken one → IsAnswerOf (desk before) depth frame broken other → broken ≡ None → kind_of frame.header ≡ kind.Primary → one ≡ other
+  answer_is_one before depth frame broken one other h k none primary =
       let p = h none primary in
       let q = k none primary in
-      p.2 ∙ ap (λ item. desk (message_of frame.header item)) (one_text depth frame.text p.0 q.0 p.1 q.1) ∙ sym q.2
+      p.2 ∙ ap (λ item. desk before (message_of frame.header item)) (one_text depth frame.text p.0 q.0 p.1 q.1) ∙ sym q.2
 
   abbrev acts_of : Known → Frame → Option Rule → Answered → List Act
   acts_of end frame broken answer = logs (received_as frame broken) ∷ reaction end.settings (is_selected end.view.phase) frame.header broken answer
@@ -165,11 +166,12 @@ module _ (one_answer : OneAnswerToPending) (one_text : OneText) (desk : Content 
   handles_one : (end : Known) (frame : Frame) (one other : List Entry) (end' end'' : Known) → Handles desk end frame one end' → Handles desk end frame other end'' → (one ≡ other) × (end' ≡ end'')
   handles_one end frame one other end' end'' h k =
       let same : k.0 ≡ h.0 = broken_rule_is_one end.view frame k.0 h.0 k.2 h.2 in
-      let answered : IsAnswerOf desk end.settings.depth frame h.0 k.1 = subst (λ broken. IsAnswerOf desk end.settings.depth frame broken k.1) same k.3 in
-      let acts : Acts end (acts_of end frame h.0 k.1) other end'' = subst (λ broken. Acts end (acts_of end frame broken k.1) other end'') same k.4 in
-      let alike = reaction_alike end.settings (is_selected end.view.phase) frame.header h.0 k.1 h.1 (answer_is_one end.settings.depth frame h.0 k.1 h.1 answered h.3) in
-      acts_have_one_outcome end (acts_of end frame h.0 h.1) one other end' end'' h.4
-      (subst (λ later. Acts end (logs (received_as frame h.0) ∷ later) other end'') alike acts)
+      let before = times (name_in frame.header) end.asked in
+      let answered : IsAnswerOf (desk before) end.settings.depth frame h.0 k.1 = subst (λ broken. IsAnswerOf (desk before) end.settings.depth frame broken k.1) same k.3 in
+      let acts : Acts (with_asked end frame h.0) (acts_of end frame h.0 k.1) other end'' = subst (λ broken. Acts (with_asked end frame broken) (acts_of end frame broken k.1) other end'') same k.4 in
+      let alike = reaction_alike end.settings (is_selected end.view.phase) frame.header h.0 k.1 h.1 (answer_is_one before end.settings.depth frame h.0 k.1 h.1 answered h.3) in
+      acts_have_one_outcome (with_asked end frame h.0) (acts_of end frame h.0 h.1) one other end' end'' h.4
+      (subst (λ later. Acts (with_asked end frame h.0) (logs (received_as frame h.0) ∷ later) other end'') alike acts)
 
   receives_one : (end : Known) (frames others : List Frame) (one other : List Entry) (end' end'' : Known) → Receives desk end frames one end' → Receives desk end others other end'' → (one ≡ other) × (end' ≡ end'')
   receives_one end [] [] one other end' end'' h k = rests_one one_answer end one other end' end'' h k
@@ -187,7 +189,7 @@ module _ (one_answer : OneAnswerToPending) (one_text : OneText) (desk : Content 
 -- ---- a turn
 
 module _ (one_answer : OneAnswerToPending) (one_text : OneText) where
-  pub turn_has_one_outcome : (desk : Content → Answered) (end : Known) (input : Told) (one other : List Entry) (end' end'' : Known) → Turn desk end input one end' → Turn desk end input other end'' → (one ≡ other) × (end' ≡ end'')
+  pub turn_has_one_outcome : (desk : ℕ → Content → Answered) (end : Known) (input : Told) (one other : List Entry) (end' end'' : Known) → Turn desk end input one end' → Turn desk end input other end'' → (one ≡ other) × (end' ≡ end'')
   turn_has_one_outcome desk end (start now) one other end' end'' h k =
       acts_have_one_outcome (record end { moment = max end.moment now }) (opening_of end.settings.link) one other end' end'' h k
   turn_has_one_outcome desk end (tick now) one other end' end'' h k =
@@ -206,7 +208,7 @@ module _ (one_answer : OneAnswerToPending) (one_text : OneText) where
 
   -- ---- a list of inputs
 
-  responds_one : (desk : Content → Answered) (end : Known) (input : Told) (accepted others : List Told) (one other : List Entry) (end' end'' : Known) → Responds desk end input accepted one end' → Responds desk end input others other end'' → (accepted ≡ others) × (one ≡ other) × (end' ≡ end'')
+  responds_one : (desk : ℕ → Content → Answered) (end : Known) (input : Told) (accepted others : List Told) (one other : List Entry) (end' end'' : Known) → Responds desk end input accepted one end' → Responds desk end input others other end'' → (accepted ≡ others) × (one ≡ other) × (end' ≡ end'')
   responds_one desk end input accepted others one other end' end'' (is_refused fault meets none empty same) (is_refused fault' meets' none' empty' same') =
       (none ∙ sym none', empty ∙ sym empty', same ∙ sym same')
   responds_one desk end input accepted others one other end' end'' (is_refused fault meets none empty same) (is_accepted meets' turn' single') =
@@ -217,7 +219,7 @@ module _ (one_answer : OneAnswerToPending) (one_text : OneText) where
       let same = turn_has_one_outcome desk end input one other end' end'' turn turn' in
       (single ∙ sym single', same.0, same.1)
 
-  pub drive_has_one_outcome : (desk : Content → Answered) (end : Known) (inputs accepted others : List Told) (one other : List Entry) (end' end'' : Known) → Drives desk end inputs accepted one end' → Drives desk end inputs others other end'' → (accepted ≡ others) × (one ≡ other) × (end' ≡ end'')
+  pub drive_has_one_outcome : (desk : ℕ → Content → Answered) (end : Known) (inputs accepted others : List Told) (one other : List Entry) (end' end'' : Known) → Drives desk end inputs accepted one end' → Drives desk end inputs others other end'' → (accepted ≡ others) × (one ≡ other) × (end' ≡ end'')
   drive_has_one_outcome desk end [] accepted others one other end' end'' h k = (h.0 ∙ sym k.0, h.1 ∙ sym k.1, h.2 ∙ sym k.2)
   drive_has_one_outcome desk end (input ∷ inputs) accepted others one other end' end'' h k =
       let same = responds_one desk end input h.1 k.1 h.3 k.3 h.0 k.0 h.5 k.5 in

@@ -23,7 +23,7 @@ use Rattle.hsms_end.proofs.Doings.{extends_then}
 extends_none : (view : View) → Extends view [] view
 extends_none view = λ log has. subst (λ es. HasView view.settings es view) (sym (append-nil log)) has
 
-pub begun : (desk : Content → Answered) (end : State) (before : List Entry) → HasReceived desk end before end before
+pub begun : (desk : ℕ → Content → Answered) (end : State) (before : List Entry) → HasReceived desk end before end before
 begun desk end before =
     record {
       new = [];
@@ -39,7 +39,7 @@ within_max end result rest sound front = subst (λ max. FramesAs max end.framer.
 abbrev pub off_of : State → List ℕ → State
 off_of end rest = record end { framer = record end.framer { pending = rest } }
 
-pub one_more : (desk : Content → Answered) (start end end' : State) (before entries more : List Entry) (frame : Frame) (rest : List ℕ) → HasReceived desk start before end entries → is_up end.tracker.phase ≡ true → FramesAs end.settings.max end.framer.pending (Ok (Some frame)) rest → HasHandled desk (off_of end rest) entries frame end' more → HasReceived desk start before end' more
+pub one_more : (desk : ℕ → Content → Answered) (start end end' : State) (before entries more : List Entry) (frame : Frame) (rest : List ℕ) → HasReceived desk start before end entries → is_up end.tracker.phase ≡ true → FramesAs end.settings.max end.framer.pending (Ok (Some frame)) rest → HasHandled desk (off_of end rest) entries frame end' more → HasReceived desk start before end' more
 one_more desk start end end' before entries more frame rest h up front one =
     let off : TakesOff (known end) frame (known (off_of end rest)) = record { up = up; rest = rest; front = front; off = refl } in
     record {
@@ -51,11 +51,11 @@ one_more desk start end end' before entries more frame rest h up front one =
       run = extends_then start.tracker end.tracker end'.tracker h.new one.new h.run one.run;
     }
 
-pub one_more_at : (desk : Content → Answered) (start end off end' : State) (before entries more : List Entry) (frame : Frame) (rest : List ℕ) → HasReceived desk start before end entries → is_up end.tracker.phase ≡ true → FramesAs end.settings.max end.framer.pending (Ok (Some frame)) rest → off ≡ off_of end rest → HasHandled desk off entries frame end' more → HasReceived desk start before end' more
+pub one_more_at : (desk : ℕ → Content → Answered) (start end off end' : State) (before entries more : List Entry) (frame : Frame) (rest : List ℕ) → HasReceived desk start before end entries → is_up end.tracker.phase ≡ true → FramesAs end.settings.max end.framer.pending (Ok (Some frame)) rest → off ≡ off_of end rest → HasHandled desk off entries frame end' more → HasReceived desk start before end' more
 one_more_at desk start end off end' before entries more frame rest h up front is one =
     one_more desk start end end' before entries more frame rest h up front (subst (λ (s : State). HasHandled desk s entries frame end' more) is one)
 
-pub at_rest : (desk : Content → Answered) (start end end' : State) (before entries more rest : List Entry) → HasReceived desk start before end entries → Rests (known end) rest (known end') → more ≡ entries ++ rest → Extends end.tracker rest end'.tracker → HasReceivedAll desk start before end' more
+pub at_rest : (desk : ℕ → Content → Answered) (start end end' : State) (before entries more rest : List Entry) → HasReceived desk start before end entries → Rests (known end) rest (known end') → more ≡ entries ++ rest → Extends end.tracker rest end'.tracker → HasReceivedAll desk start before end' more
 at_rest desk start end end' before entries more rest h rests added run =
     let all = h.onward [] rest (known end') rests in
     record {
@@ -66,17 +66,17 @@ at_rest desk start end end' before entries more rest h rests added run =
       run = extends_then start.tracker end.tracker end'.tracker h.new rest h.run run;
     }
 
-pub went_down : (desk : Content → Answered) (start end : State) (before entries : List Entry) → HasReceived desk start before end entries → is_up end.tracker.phase ≡ false → HasReceivedAll desk start before end entries
+pub went_down : (desk : ℕ → Content → Answered) (start end : State) (before entries : List Entry) → HasReceived desk start before end entries → is_up end.tracker.phase ≡ false → HasReceivedAll desk start before end entries
 went_down desk start end before entries h down = at_rest desk start end end before entries entries [] h (is_down down refl refl) (sym (append-nil entries)) (extends_none end.tracker)
 
-pub waits_for_more : (desk : Content → Answered) (start end end' : State) (before entries : List Entry) → HasReceived desk start before end entries → is_up end.tracker.phase ≡ true → FramesAs end.settings.max end.framer.pending (Ok None) end.framer.pending → end' ≡ end → HasReceivedAll desk start before end' entries
+pub waits_for_more : (desk : ℕ → Content → Answered) (start end end' : State) (before entries : List Entry) → HasReceived desk start before end entries → is_up end.tracker.phase ≡ true → FramesAs end.settings.max end.framer.pending (Ok None) end.framer.pending → end' ≡ end → HasReceivedAll desk start before end' entries
 waits_for_more desk start end end' before entries h up front is =
     at_rest desk start end end' before entries entries [] h (waits up front refl (ap (λ (s : State). known s) is)) (sym (append-nil entries)) (subst (λ (s : State). Extends end.tracker [] s.tracker) (sym is) (extends_none end.tracker))
 
-pub is_too_short : (desk : Content → Answered) (start end end' : State) (before entries more : List Entry) (n : ℕ) → HasReceived desk start before end entries → is_up end.tracker.phase ≡ true → FramesAs end.settings.max end.framer.pending (Err (TooShort n)) end.framer.pending → Does end entries (cut_by Length) end' more → HasReceivedAll desk start before end' more
+pub is_too_short : (desk : ℕ → Content → Answered) (start end end' : State) (before entries more : List Entry) (n : ℕ) → HasReceived desk start before end entries → is_up end.tracker.phase ≡ true → FramesAs end.settings.max end.framer.pending (Err (TooShort n)) end.framer.pending → Does end entries (cut_by Length) end' more → HasReceivedAll desk start before end' more
 is_too_short desk start end end' before entries more n h up front cut = at_rest desk start end end' before entries more cut.new h (too_short n up front cut.done) cut.added cut.run
 
-pub is_too_long : (desk : Content → Answered) (start end end' : State) (before entries more : List Entry) (n : ℕ) (header : Header) → HasReceived desk start before end entries → is_up end.tracker.phase ≡ true → FramesAs end.settings.max end.framer.pending (Err (TooLong n header)) end.framer.pending → Does end entries (warns_too_long (known end) header ++ cut_by Length) end' more → HasReceivedAll desk start before end' more
+pub is_too_long : (desk : ℕ → Content → Answered) (start end end' : State) (before entries more : List Entry) (n : ℕ) (header : Header) → HasReceived desk start before end entries → is_up end.tracker.phase ≡ true → FramesAs end.settings.max end.framer.pending (Err (TooLong n header)) end.framer.pending → Does end entries (warns_too_long (known end) header ++ cut_by Length) end' more → HasReceivedAll desk start before end' more
 is_too_long desk start end end' before entries more n header h up front cut = at_rest desk start end end' before entries more cut.new h (too_long n header up front cut.done) cut.added cut.run
 
 -- the framer is as it was

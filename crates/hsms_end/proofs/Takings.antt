@@ -1,5 +1,5 @@
 -- What holds of an end after a frame was taken or discarded.
-use Rattle.std.proofs.Common.{◌≡◌, ◌==◌, Bool, true, false, ◌&&◌, ◌||◌, List, [], ◌∷◌, ◌++◌, option_to_list, Option, Some, None, refl, sym, ap, subst, ◌∙◌, inl, inr, ◌⊎◌, arith, if◌then◌else◌}
+use Rattle.std.proofs.Common.{◌≡◌, ◌==◌, ℕ, Bool, true, false, ◌&&◌, ◌||◌, List, [], ◌∷◌, ◌++◌, option_to_list, Option, Some, None, refl, sym, ap, subst, ◌∙◌, inl, inr, ◌⊎◌, arith, if◌then◌else◌}
 use Rattle.secs_text.specs.Content.{Content}
 use Rattle.secs_item.specs.Spelling.{IsText}
 use Rattle.hsms_frame.specs.declared.header.Header.{Header}
@@ -25,9 +25,10 @@ use Rattle.hsms_machine.specs.Step.{facts_of, phase_after, is_selected, is_gone,
 use Rattle.hsms_end.specs.declared.state.State.{State}
 use Rattle.hsms_end.specs.Answer.{Answered, quiet}
 use Rattle.hsms_end.specs.Act.{Act, logs}
-use Rattle.hsms_end.specs.Inside.{after_event}
+use Rattle.hsms_end.specs.Asked.{name_in, times, once_more}
+use Rattle.hsms_end.specs.Inside.{after_event, after_asking}
 use Rattle.hsms_end.specs.Reaction.{reaction, answers_taken, answers_discarded}
-use Rattle.hsms_end.specs.Turn.{is_up, BreaksAsTaken, received_as, IsAnswerOf}
+use Rattle.hsms_end.specs.Turn.{is_up, BreaksAsTaken, received_as, IsAnswerOf, asked_with}
 use Rattle.hsms_end.specs.Doing.{Does, IsLawful}
 use Rattle.hsms_end.specs.Sound.{IsSound}
 use Rattle.hsms_end.specs.Receiving.{HasHandled}
@@ -205,15 +206,68 @@ module _ (end : State) (frame : Frame) (can : CanTake end frame) where
 
 -- ---- what was handled
 
-handled_as : (desk : Content → Answered) (end end' : State) (before entries : List Entry) (frame : Frame) (broken : Option Rule) (answer : Answered) → BreaksAsTaken end.tracker frame broken → IsAnswerOf desk end.settings.depth frame broken answer → Does end before (logs (received_as frame broken) ∷ reaction end.settings (is_selected end.tracker.phase) frame.header broken answer) end' entries → HasHandled desk end before frame end' entries
+-- the end when the desk has been asked so often
+abbrev asked_so : State → List (ℕ × ℕ) → State
+asked_so end asked = record end { asked = asked }
+
+-- the desk has no part in what may be taken
+can_take_asked : (end : State) (frame : Frame) (asked : List (ℕ × ℕ)) → CanTake end frame → CanTake (asked_so end asked) frame
+unfolding IsLawful
+can_take_asked end frame asked can =
+    record {
+      owing = record {
+        settings = can.owing.settings;
+        within = can.owing.within;
+        limit = can.owing.limit;
+        up = can.owing.up;
+        calm = record { not_past = can.owing.calm.not_past; data_in_time = can.owing.calm.data_in_time; control_in_time = can.owing.calm.control_in_time; selected_in_time = can.owing.calm.selected_in_time };
+        taken_data = can.owing.taken_data;
+        taken_control = can.owing.taken_control;
+        few = can.owing.few;
+        unselected = can.owing.unselected;
+      };
+      lawful = can.lawful;
+      broken = can.broken;
+    }
+
+pub can_take_later : (end mid : State) (frame : Frame) (header : Header) → mid ≡ after_asking end header → CanTake end frame → CanTake mid frame
+can_take_later end mid frame header is can =
+    subst (λ (s : State). CanTake s frame) (sym is) (can_take_asked end frame (once_more (name_in header) end.asked) can)
+
+handled_as : (desk : ℕ → Content → Answered) (end end' : State) (before entries : List Entry) (frame : Frame) (broken : Option Rule) (answer : Answered) → BreaksAsTaken end.tracker frame broken → IsAnswerOf (desk (times (name_in frame.header) end.asked)) end.settings.depth frame broken answer → Does (asked_so end (asked_with (kind_of frame.header) broken (name_in frame.header) end.asked)) before (logs (received_as frame broken) ∷ reaction end.settings (is_selected end.tracker.phase) frame.header broken answer) end' entries → HasHandled desk end before frame end' entries
 handled_as desk end end' before entries frame broken answer is answers does =
     record { new = does.new; added = does.added; handled = (broken, answer, is, answers, does.done); run = does.run }
 
 -- a taken frame of this kind
-pub handled_kind : (desk : Content → Answered) (end end' : State) (before entries : List Entry) (frame : Frame) (kind : Kind) (answer : Answered) → BreaksAsTaken end.tracker frame None → kind_of frame.header ≡ kind → (kind ≡ Primary → IsAnsweredBy desk end.settings.depth frame answer) → Does end before (logs (Taken frame) ∷ answers_taken end.settings (is_selected end.tracker.phase) kind frame.header answer) end' entries → HasHandled desk end before frame end' entries
+pub handled_kind : (desk : ℕ → Content → Answered) (end end' : State) (before entries : List Entry) (frame : Frame) (kind : Kind) (answer : Answered) → BreaksAsTaken end.tracker frame None → kind_of frame.header ≡ kind → (kind ≡ Primary → IsAnsweredBy (desk (times (name_in frame.header) end.asked)) end.settings.depth frame answer) → Does (asked_so end (asked_with kind None (name_in frame.header) end.asked)) before (logs (Taken frame) ∷ answers_taken end.settings (is_selected end.tracker.phase) kind frame.header answer) end' entries → HasHandled desk end before frame end' entries
 handled_kind desk end end' before entries frame kind answer is kind_is answers does =
     handled_as desk end end' before entries frame None answer is (λ e primary. answers (sym kind_is ∙ primary))
-    (subst (λ k. Does end before (logs (Taken frame) ∷ answers_taken end.settings (is_selected end.tracker.phase) k frame.header answer) end' entries) (sym kind_is) does)
+    (subst (λ k. Does (asked_so end (asked_with k None (name_in frame.header) end.asked)) before (logs (Taken frame) ∷ answers_taken end.settings (is_selected end.tracker.phase) k frame.header answer) end' entries) (sym kind_is) does)
+
+-- about such a message the desk isn't asked
+silent_asks : (kind : Kind) (name : ℕ) (asked : List (ℕ × ℕ)) → is_silent kind ≡ true → asked_with kind None name asked ≡ asked
+silent_asks Primary name asked s = absurd (let d : false ≡ true = s in cc)
+silent_asks Reply name asked s = refl
+silent_asks SelectReq name asked s = refl
+silent_asks SelectRsp name asked s = refl
+silent_asks LinktestReq name asked s = refl
+silent_asks LinktestRsp name asked s = refl
+silent_asks Reject name asked s = refl
+silent_asks Separate name asked s = refl
+silent_asks OtherSType name asked s = refl
+silent_asks OtherPType name asked s = refl
+
+discarded_asks : (kind : Kind) (rule : Rule) (name : ℕ) (asked : List (ℕ × ℕ)) → asked_with kind (Some rule) name asked ≡ asked
+discarded_asks Primary rule name asked = refl
+discarded_asks Reply rule name asked = refl
+discarded_asks SelectReq rule name asked = refl
+discarded_asks SelectRsp rule name asked = refl
+discarded_asks LinktestReq rule name asked = refl
+discarded_asks LinktestRsp rule name asked = refl
+discarded_asks Reject rule name asked = refl
+discarded_asks Separate rule name asked = refl
+discarded_asks OtherSType rule name asked = refl
+discarded_asks OtherPType rule name asked = refl
 
 silent_kind : (settings : Parameters) (selected : Bool) (kind : Kind) (header : Header) → is_silent kind ≡ true → answers_taken settings selected kind header quiet ≡ []
 silent_kind settings selected Primary header s = absurd (let d : false ≡ true = s in cc)
@@ -230,14 +284,16 @@ silent_kind settings selected OtherPType header s = refl
 silent_answers : (kind : Kind) → is_silent kind ≡ true → kind ≡ Primary → ⊥
 silent_answers kind s e = let d : false ≡ true = ap is_silent (sym e) ∙ s in cc
 
-pub handled_silent : (desk : Content → Answered) (end end' : State) (before entries : List Entry) (frame : Frame) → BreaksAsTaken end.tracker frame None → is_silent (kind_of frame.header) ≡ true → Does end before (logs (Taken frame) ∷ []) end' entries → HasHandled desk end before frame end' entries
+pub handled_silent : (desk : ℕ → Content → Answered) (end end' : State) (before entries : List Entry) (frame : Frame) → BreaksAsTaken end.tracker frame None → is_silent (kind_of frame.header) ≡ true → Does end before (logs (Taken frame) ∷ []) end' entries → HasHandled desk end before frame end' entries
 handled_silent desk end end' before entries frame is silent does =
     handled_kind desk end end' before entries frame (kind_of frame.header) quiet is refl (λ e. absurd (silent_answers (kind_of frame.header) silent e))
-    (subst (λ (acts : List Act). Does end before (logs (Taken frame) ∷ acts) end' entries) (sym (silent_kind end.settings (is_selected end.tracker.phase) (kind_of frame.header) frame.header silent)) does)
+    (subst (λ asked. Does (asked_so end asked) before (logs (Taken frame) ∷ answers_taken end.settings (is_selected end.tracker.phase) (kind_of frame.header) frame.header quiet) end' entries) (sym (silent_asks (kind_of frame.header) (name_in frame.header) end.asked silent))
+    (subst (λ (acts : List Act). Does end before (logs (Taken frame) ∷ acts) end' entries) (sym (silent_kind end.settings (is_selected end.tracker.phase) (kind_of frame.header) frame.header silent)) does))
 
-pub handled_discarded : (desk : Content → Answered) (end end' : State) (before entries : List Entry) (frame : Frame) (rule : Rule) → BreaksAsTaken end.tracker frame (Some rule) → Does end before (logs (Discarded frame) ∷ reaction end.settings (is_selected end.tracker.phase) frame.header (Some rule) quiet) end' entries → HasHandled desk end before frame end' entries
+pub handled_discarded : (desk : ℕ → Content → Answered) (end end' : State) (before entries : List Entry) (frame : Frame) (rule : Rule) → BreaksAsTaken end.tracker frame (Some rule) → Does end before (logs (Discarded frame) ∷ reaction end.settings (is_selected end.tracker.phase) frame.header (Some rule) quiet) end' entries → HasHandled desk end before frame end' entries
 handled_discarded desk end end' before entries frame rule is does =
-    handled_as desk end end' before entries frame (Some rule) quiet is (λ e primary. absurd (let d : ◌≡◌ {A = Option Rule} (Some rule) None = e in cc)) does
+    handled_as desk end end' before entries frame (Some rule) quiet is (λ e primary. absurd (let d : ◌≡◌ {A = Option Rule} (Some rule) None = e in cc))
+    (subst (λ asked. Does (asked_so end asked) before (logs (Discarded frame) ∷ reaction end.settings (is_selected end.tracker.phase) frame.header (Some rule) quiet) end' entries) (sym (discarded_asks (kind_of frame.header) rule (name_in frame.header) end.asked)) does)
 
 -- ---- a frame that is judged
 

@@ -73,7 +73,7 @@ after_no_t3 : (settings : Parameters) (xs : List Transaction) (cause : Option Ca
 after_no_t3 settings xs (Some cause) end entries end' h = ap has_t3 (cut_entries cause end entries end' h)
 after_no_t3 settings xs None end entries end' h = warned_if (is_equipment settings.role) settings xs end entries end' h
 
-module _ (desk : Content → Answered) (end : Known) (now : ℕ) (entries : List Entry) (end' : Known) (h : Turn desk end (tick now) entries end') where
+module _ (desk : ℕ → Content → Answered) (end : Known) (now : ℕ) (entries : List Entry) (end' : Known) (h : Turn desk end (tick now) entries end') where
   abbrev ticked : Known
   ticked = record end { moment = max end.moment now }
 

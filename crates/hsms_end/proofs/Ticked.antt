@@ -28,6 +28,6 @@ unfolding Meets
 tick_meets spent end now s u =
     inr (not_true spent s, inr (not_false (is_up end.tracker.phase) u, inr ((λ b. b), inr ((λ b. b), inr ((λ b. b), inr ((λ b. let d : false ≡ true = b.0 in cc), inr ((λ b. b), inr ((λ b. b), refl))))))))
 
-pub ticked : {D : Type 0} (answers : D → Content → Answered) (desk : D) (end end' : State) (spent : Bool) (at : EndOf D) (now : ℕ) (first entries : List Entry) → spent ≡ false → inside_of desk end spent ≡ at → first ≡ [] → is_up end.tracker.phase ≡ true → Does (at_later end now) first (expiries (known (at_later end now))) end' entries → Accepts answers at (tick now) entries (inside_of desk end' false)
+pub ticked : {D : Type 0} (answers : D → ℕ → Content → Answered) (desk : D) (end end' : State) (spent : Bool) (at : EndOf D) (now : ℕ) (first entries : List Entry) → spent ≡ false → inside_of desk end spent ≡ at → first ≡ [] → is_up end.tracker.phase ≡ true → Does (at_later end now) first (expiries (known (at_later end now))) end' entries → Accepts answers at (tick now) entries (inside_of desk end' false)
 ticked answers desk end end' spent at now first entries fresh is empty up h =
     accepted answers desk end (at_later end now) end' spent at (tick now) (expiries (known (at_later end now))) first entries fresh is empty (tick_meets spent end now fresh up) refl (λ es k h. h) h

@@ -10,7 +10,7 @@ use Rattle.hsms_end.specs.Turn.{Told}
 use Rattle.hsms_end.specs.Drive.{Drives}
 
 -- the inputs so far gave these entries, which are a run, and led to this end
-pub record HasDriven {D : Type 0} (answers : D → Content → Answered) (settings : Parameters) (desk : D) (first_system : ℕ) (inputs : List Told) (entries : List Entry) (end : EndOf D) : Type 0 where
+pub record HasDriven {D : Type 0} (answers : D → ℕ → Content → Answered) (settings : Parameters) (desk : D) (first_system : ℕ) (inputs : List Told) (entries : List Entry) (end : EndOf D) : Type 0 where
   pub accepted : List Told
   pub drives : Drives (answers desk) (untold settings first_system) inputs accepted entries end.known
   pub seen : HasView settings entries end.known.view

@@ -1,5 +1,5 @@
 -- What a call of an end answers (this project's own).
-use Rattle.std.specs.Prelude.{◌≡◌, ◌⊎◌, true, List, ◌++◌, Some, None}
+use Rattle.std.specs.Prelude.{◌≡◌, ◌⊎◌, ℕ, true, List, ◌++◌, Some, None}
 use Rattle.secs_text.specs.Content.{Content}
 use Rattle.hsms_machine.specs.declared.entry.Entry.{Entry}
 use Rattle.hsms_machine.specs.declared.view.View.{View}
@@ -16,7 +16,7 @@ abbrev pub Extends : View → List Entry → View → Type 0
 Extends view entries later = ForEachRun view (λ log. HasView view.settings (log ++ entries) later)
 
 -- The input meets no fault: its turn is taken, and each run that has the end's view goes on to one by the new entries.
-pub record Accepts {D : Type 0} (answers : D → Content → Answered) (end : EndOf D) (input : Told) (entries : List Entry) (end' : EndOf D) : Type 0 where
+pub record Accepts {D : Type 0} (answers : D → ℕ → Content → Answered) (end : EndOf D) (input : Told) (entries : List Entry) (end' : EndOf D) : Type 0 where
   pub meets : Meets end.known input None
   pub turn : Turn (answers end.desk) end.known input entries end'.known
   pub run : Extends end.known.view entries end'.known.view

@@ -1,11 +1,13 @@
 -- What is inside an end, beside its desk. Private functions alone speak of this.
 use Rattle.std.specs.Prelude.{ℕ, ◌+◌, ◌^◌, ◌%◌, ◌++◌, Bool, false, List, max}
+use Rattle.hsms_frame.specs.declared.header.Header.{Header}
 use Rattle.hsms_frame.specs.Frame.{Frame}
 use Rattle.hsms_machine.specs.declared.entry.Entry.{Entry}
 use Rattle.hsms_machine.specs.declared.entry.Event.{Event}
 use Rattle.hsms_machine.specs.declared.entry.Event.TheVariants.{Sent}
 use Rattle.hsms_machine.specs.Step.{view_after}
 use Rattle.hsms_end.specs.declared.state.State.{State}
+use Rattle.hsms_end.specs.Asked.{name_in, once_more}
 use Rattle.hsms_end.specs.Known.{Known}
 use Rattle.hsms_end.specs.Turn.{heard_at}
 
@@ -18,6 +20,7 @@ known_of end spent = record {
   moment = end.moment;
   next = end.next;
   heard = end.heard;
+  asked = end.asked;
   spent = spent;
 }
 
@@ -42,6 +45,10 @@ after_octets end octets =
       framer = record end.framer { pending = end.framer.pending ++ octets };
       heard = heard_at octets end.moment end.heard;
     }
+
+-- the end when the desk has been asked about a primary
+abbrev pub after_asking : State → Header → State
+after_asking end header = record end { asked = once_more (name_in header) end.asked }
 
 abbrev pub at_later : State → ℕ → State
 at_later end now = record end { moment = max end.moment now }

@@ -24,14 +24,14 @@ use Rattle.hsms_end.specs.Drive.{Drives, octets_of, octets_told, octets_received
 -- the octets that were pending and those that come are the frames of the new entries, in order, then what is pending
 abbrev pub TurnKeepsOctets : Type 0
 TurnKeepsOctets =
-    (desk : Content → Answered) (end : Known) (input : Told) (entries : List Entry) (end' : Known)
+    (desk : ℕ → Content → Answered) (end : Known) (input : Told) (entries : List Entry) (end' : Known)
     → Turn desk end input entries end'
     → end.pending ++ octets_of input ≡ octets_received entries ++ end'.pending
 
 -- so it is with the accepted ones of a list of inputs
 abbrev pub DriveKeepsOctets : Type 0
 DriveKeepsOctets =
-    (desk : Content → Answered) (end : Known) (inputs accepted : List Told) (entries : List Entry) (end' : Known)
+    (desk : ℕ → Content → Answered) (end : Known) (inputs accepted : List Told) (entries : List Entry) (end' : Known)
     → Drives desk end inputs accepted entries end'
     → end.pending ++ octets_told accepted ≡ octets_received entries ++ end'.pending
 
@@ -51,13 +51,13 @@ ActsHaveOneOutcome =
 -- a turn gives the same entries and leads to the same end, whenever it is taken
 abbrev pub TurnHasOneOutcome : Type 0
 TurnHasOneOutcome =
-    (desk : Content → Answered) (end : Known) (input : Told) (one other : List Entry) (end' end'' : Known)
+    (desk : ℕ → Content → Answered) (end : Known) (input : Told) (one other : List Entry) (end' end'' : Known)
     → Turn desk end input one end' → Turn desk end input other end'' → (one ≡ other) × (end' ≡ end'')
 
 -- so it is with a list of inputs, and the same ones are accepted
 abbrev pub DriveHasOneOutcome : Type 0
 DriveHasOneOutcome =
-    (desk : Content → Answered) (end : Known) (inputs accepted others : List Told) (one other : List Entry)
+    (desk : ℕ → Content → Answered) (end : Known) (inputs accepted others : List Told) (one other : List Entry)
     (end' end'' : Known)
     → Drives desk end inputs accepted one end' → Drives desk end inputs others other end''
     → (accepted ≡ others) × (one ≡ other) × (end' ≡ end'')
@@ -99,7 +99,7 @@ expiries_at end moment = map (expiry_at moment) (expired_at end.view moment)
 -- a tick logs all expiries first; what is behind them, any S9F9 too, is no expiry
 abbrev pub AllExpiriesAreLoggedBeforeAnyS9F9 : Type 0
 AllExpiriesAreLoggedBeforeAnyS9F9 =
-    (desk : Content → Answered) (end : Known) (now : ℕ) (entries : List Entry) (end' : Known)
+    (desk : ℕ → Content → Answered) (end : Known) (now : ℕ) (entries : List Entry) (end' : Known)
     → Turn desk end (tick now) entries end'
     → (later : List Entry) × (entries ≡ expiries_at end (max end.moment now) ++ later)
     × (list_any (λ entry. is_t3 entry.event) later ≡ false)
@@ -107,7 +107,7 @@ AllExpiriesAreLoggedBeforeAnyS9F9 =
 -- where a timer of the link is overdue, a tick logs the expiries, a cut, the end of the connection, and nothing else
 abbrev pub OverdueLinkTimerLeavesS9F9Out : Type 0
 OverdueLinkTimerLeavesS9F9Out =
-    (desk : Content → Answered) (end : Known) (now : ℕ) (entries : List Entry) (end' : Known) (cause : Cause)
+    (desk : ℕ → Content → Answered) (end : Known) (now : ℕ) (entries : List Entry) (end' : Known) (cause : Cause)
     → overdue_cause (record end { moment = max end.moment now }) ≡ Some cause
     → Turn desk end (tick now) entries end'
     → entries

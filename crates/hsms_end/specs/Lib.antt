@@ -1,3 +1,4 @@
+pub mod Asked
 pub mod Known
 pub mod Answer
 pub mod Desk

@@ -1,5 +1,5 @@
 -- What a part of the call `bytes` has done. Private functions alone speak of this.
-use Rattle.std.specs.Prelude.{◌≡◌, List, ◌++◌}
+use Rattle.std.specs.Prelude.{◌≡◌, ℕ, List, ◌++◌}
 use Rattle.secs_text.specs.Content.{Content}
 use Rattle.hsms_frame.specs.Frame.{Frame}
 use Rattle.hsms_machine.specs.declared.entry.Entry.{Entry}
@@ -11,14 +11,14 @@ use Rattle.hsms_end.specs.Turn.{Handles, Receives}
 use Rattle.hsms_end.specs.End.{Extends}
 
 -- a frame that was handled: its entry and its reaction are added to the entries of the call
-pub record HasHandled (desk : Content → Answered) (end : State) (before : List Entry) (frame : Frame) (end' : State) (entries : List Entry) : Type 0 where
+pub record HasHandled (desk : ℕ → Content → Answered) (end : State) (before : List Entry) (frame : Frame) (end' : State) (entries : List Entry) : Type 0 where
   pub new : List Entry
   pub added : entries ≡ before ++ new
   pub handled : Handles desk (known end) frame new (known end')
   pub run : Extends end.tracker new end'.tracker
 
 -- The messages that were received so far. Whatever the messages behind them lead to, all of them lead to.
-pub record HasReceived (desk : Content → Answered) (end : State) (before : List Entry) (end' : State) (entries : List Entry) : Type 0 where
+pub record HasReceived (desk : ℕ → Content → Answered) (end : State) (before : List Entry) (end' : State) (entries : List Entry) : Type 0 where
   pub new : List Entry
   pub added : entries ≡ before ++ new
   pub onward : (frames : List Frame) (later : List Entry) (end'' : Known) → Receives desk (known end') frames later end''
@@ -26,7 +26,7 @@ pub record HasReceived (desk : Content → Answered) (end : State) (before : Lis
   pub run : Extends end.tracker new end'.tracker
 
 -- all messages at the front were received
-pub record HasReceivedAll (desk : Content → Answered) (end : State) (before : List Entry) (end' : State) (entries : List Entry) : Type 0 where
+pub record HasReceivedAll (desk : ℕ → Content → Answered) (end : State) (before : List Entry) (end' : State) (entries : List Entry) : Type 0 where
   pub new : List Entry
   pub added : entries ≡ before ++ new
   pub frames : List Frame

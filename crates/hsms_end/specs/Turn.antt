@@ -8,6 +8,7 @@ use Rattle.secs_text.specs.Content.{Content}
 use Rattle.hsms_frame.specs.declared.header.Header.{Header}
 use Rattle.hsms_frame.specs.Frame.{Frame}
 use Rattle.hsms_frame.specs.declared.fault.FrameFault.TheVariants.{TooShort, TooLong}
+use Rattle.hsms_frame.specs.declared.kinds.Kind.{Kind}
 use Rattle.hsms_frame.specs.declared.kinds.Kind.TheVariants.{Primary}
 use Rattle.hsms_frame.specs.Header.{kind_of}
 use Rattle.hsms_frame.specs.Framing.{FramesAs}
@@ -29,6 +30,7 @@ use Rattle.hsms_machine.specs.Rule.{FrameBreaks, IsFirst, format_rules, transact
 use Rattle.hsms_machine.specs.Step.{facts_of, is_selected}
 use Rattle.hsms_end.specs.Known.{Known}
 use Rattle.hsms_end.specs.Answer.{Answered}
+use Rattle.hsms_end.specs.Asked.{name_in, times, once_more}
 use Rattle.hsms_end.specs.Frame.{select_req, linktest_req, separate_req, message_frame, message_of, warning, fitting_text}
 use Rattle.hsms_end.specs.Act.{Act, logs, asks, Acts}
 use Rattle.hsms_end.specs.Reaction.{reaction, warns, is_equipment}
@@ -117,13 +119,23 @@ IsAnswerOf desk depth frame broken answer =
     broken ≡ None → kind_of frame.header ≡ Primary
     → (item : Option Value) × IsTextOf depth frame.text item × (answer ≡ desk (message_of frame.header item))
 
--- a received frame: its entry, and its reaction at once
-abbrev pub Handles : (Content → Answered) → Known → Frame → List Entry → Known → Type 0
+-- how often the desk was asked, with a frame of this kind: a primary that is taken is asked about
+abbrev pub asked_with : Kind → Option Rule → ℕ → List (ℕ × ℕ) → List (ℕ × ℕ)
+asked_with Primary None name asked = once_more name asked
+asked_with _ _ name asked = asked
+
+-- the end when the desk has been asked about a frame
+abbrev pub with_asked : Known → Frame → Option Rule → Known
+with_asked end frame broken =
+    record end { asked = asked_with (kind_of frame.header) broken (name_in frame.header) end.asked }
+
+-- a received frame: its entry, and its reaction at once, with the answer of a desk that was asked so often before
+abbrev pub Handles : (ℕ → Content → Answered) → Known → Frame → List Entry → Known → Type 0
 Handles desk end frame entries end' =
     (broken : Option Rule) × (answer : Answered)
     × BreaksAsTaken end.view frame broken
-    × IsAnswerOf desk end.settings.depth frame broken answer
-    × Acts end
+    × IsAnswerOf (desk (times (name_in frame.header) end.asked)) end.settings.depth frame broken answer
+    × Acts (with_asked end frame broken)
     (logs (received_as frame broken) ∷ reaction end.settings (is_selected end.view.phase) frame.header broken answer)
     entries end'
 
@@ -156,7 +168,7 @@ pub record TakesOff (end : Known) (frame : Frame) (end' : Known) : Type 0 where
   pub off : end' ≡ record end { pending = rest }
 
 -- the messages at the front of the pending octets, one after the other, and what each leads to
-abbrev pub Receives : (Content → Answered) → Known → List Frame → List Entry → Known → Type 0
+abbrev pub Receives : (ℕ → Content → Answered) → Known → List Frame → List Entry → Known → Type 0
 Receives desk end [] entries end' = Rests end entries end'
 Receives desk end (frame ∷ frames) entries end' =
     (off : Known) × (next : Known) × (first : List Entry) × (later : List Entry)
@@ -191,7 +203,7 @@ Sends end message entries end' =
     × Acts end (asks (message_frame end.settings message text) ∷ []) entries end'
 
 -- the input gives these new entries, and leads from one end to the other
-abbrev pub Turn : (Content → Answered) → Known → Told → List Entry → Known → Type 0
+abbrev pub Turn : (ℕ → Content → Answered) → Known → Told → List Entry → Known → Type 0
 Turn desk end (start now) entries end' =
     Acts (record end { moment = max end.moment now }) (opening_of end.settings.link) entries end'
 Turn desk end (tick now) entries end' =

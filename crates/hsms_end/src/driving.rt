@@ -27,7 +27,8 @@ pub struct Driven {
 /// **For every settings, desk, first number and list of inputs, the entries are a run of the session machine.** In it:
 ///
 /// - *settings*: those of the end and of the run (`Parameters` of `hsms_machine`).
-/// - *desk*: what answers messages. Its answer is a function of the desk and the message (`Desk::answers`).
+/// - *desk*: what answers messages. Its answer is a function of the desk, of how many messages of the same stream and
+///   function came before, and of the message (`Desk::answers`).
 /// - *first number*: the system bytes from which own ones are tried (`untold`, `IsFirstFree`).
 /// - *inputs*: what the end is told, in order (`Told`): any moments, any octets in any pieces, any messages.
 /// - *entries*: the new entries of the `Turn` of each input that isn't refused, in order (`Drives`, `Responds`). An

@@ -1,6 +1,7 @@
 //! One end of a session.
 
 use crate::answer::Desk;
+use crate::asked::Asked;
 use crate::fault::EndFault;
 use crate::state::State;
 use hsms_frame::Framer;
@@ -74,6 +75,7 @@ impl<D: Desk> End<D> {
                 moment,
                 next: first_system,
                 heard: 0,
+                asked: Asked::new(alloc),
             },
             spent: false,
         }

@@ -22,6 +22,7 @@
 #![tactic(auto)]
 
 mod answer;
+mod asked;
 mod desk;
 mod driving;
 mod due;

@@ -14,7 +14,7 @@ use secs_text::Message;
 use std::alloc::{AllocError, Global};
 
 impl State {
-    ghost use Rattle.std.specs.Prelude.{◌++◌, [], ◌&&◌, OnOk, IfOk, if◌then◌else◌};
+    ghost use Rattle.std.specs.Prelude.{ℕ, ◌++◌, [], ◌&&◌, OnOk, IfOk, if◌then◌else◌};
     ghost use Rattle.secs_text.specs.Content.{Content};
     ghost use Rattle.secs_item.specs.Spelling.{IsText};
     ghost use Rattle.hsms_frame.specs.declared.kinds.Kind.TheVariants.{Primary, SelectReq, LinktestReq, Separate};
@@ -23,6 +23,8 @@ impl State {
     ghost use Rattle.hsms_machine.specs.declared.rule.Rule.TheVariants.{Text};
     ghost use Rattle.hsms_machine.specs.Step.{is_selected as is_selected_phase};
     ghost use Rattle.hsms_end.specs.Answer.{Answered, answered};
+    ghost use Rattle.hsms_end.specs.Asked.{name_in, times};
+    ghost use Rattle.hsms_end.specs.Inside.{after_asking};
     ghost use Rattle.hsms_end.specs.Act.{logs};
     ghost use Rattle.hsms_end.specs.Reaction.{rejects, warns, answers_discarded};
     ghost use Rattle.hsms_end.specs.Doing.{Does};
@@ -33,13 +35,14 @@ impl State {
     /// The desk's answer to a primary. Its text is readable, since it was taken.
     fn ask<D: Desk>(&self, alloc: Global, desk: &D, frame: &Frame) -> Result<Answer, AllocError>
         requires { ¬ ¬ IsText self.now.settings.depth frame.now.text }
-        ensures { IfOk result (λ answer. IsAnsweredBy (D.answers desk.now) self.now.settings.depth frame.now (answered answer)) }
+        ensures { IfOk result (λ answer. IsAnsweredBy (D.answers desk.now (times (name_in frame.now.header) self.now.asked)) self.now.settings.depth frame.now (answered answer)) }
     {
         match decode_text(alloc, frame.text.as_slice(), self.settings.depth()) {
             Ok(item) => {
                 let header = frame.header;
+                let before = self.asked.times(header.stream(), header.function());
                 let message = Message::new(header.stream(), header.function(), header.wait(), item);
-                let answer = desk.answer(alloc, &message)?;
+                let answer = desk.answer_after(alloc, &message, before)?;
                 Ok(answer)
             }
             Err(fault) => {
@@ -49,6 +52,14 @@ impl State {
                 Err(AllocError)
             }
         }
+    }
+
+    /// Counts a primary that the desk was asked about.
+    fn count(&mut self, header: Header) -> Result<(), AllocError>
+        ensures { OnOk result (self.new ≡ after_asking self.old header) }
+    {
+        self.asked.count(header.stream(), header.function())?;
+        Ok(())
     }
 
     /// Takes a primary, and answers it as the desk says.
@@ -67,6 +78,7 @@ impl State {
     {
         let header = frame.header;
         let answer = self.ask(alloc, desk, &frame)?;
+        self.count(header)?;
         self.log(entries, Event::Taken(frame))?;
         self.answer_primary(alloc, entries, header, answer)?;
         Ok(())
@@ -81,7 +93,7 @@ impl State {
     ) -> Result<(), AllocError>
         requires taken { CanTake self.old frame }
         requires kind { kind_of frame.header ≡ SelectReq }
-        ensures handled { OnOk result ((desk : Content → Answered) → HasHandled desk self.old entries.old.items frame self.new entries.new.items) }
+        ensures handled { OnOk result ((desk : ℕ → Content → Answered) → HasHandled desk self.old entries.old.items frame self.new entries.new.items) }
         ensures sound { OnOk result (IsSound self.new) }
         ensures framer { OnOk result (self.new.framer ≡ self.old.framer) }
     {
@@ -101,7 +113,7 @@ impl State {
     ) -> Result<(), AllocError>
         requires taken { CanTake self.old frame }
         requires kind { kind_of frame.header ≡ LinktestReq }
-        ensures handled { OnOk result ((desk : Content → Answered) → HasHandled desk self.old entries.old.items frame self.new entries.new.items) }
+        ensures handled { OnOk result ((desk : ℕ → Content → Answered) → HasHandled desk self.old entries.old.items frame self.new entries.new.items) }
         ensures sound { OnOk result (IsSound self.new) }
         ensures framer { OnOk result (self.new.framer ≡ self.old.framer) }
     {
@@ -115,7 +127,7 @@ impl State {
     fn take_separate(&mut self, entries: &mut Vec<Entry>, frame: Frame) -> Result<(), AllocError>
         requires taken { CanTake self.old frame }
         requires kind { kind_of frame.header ≡ Separate }
-        ensures handled { OnOk result ((desk : Content → Answered) → HasHandled desk self.old entries.old.items frame self.new entries.new.items) }
+        ensures handled { OnOk result ((desk : ℕ → Content → Answered) → HasHandled desk self.old entries.old.items frame self.new entries.new.items) }
         ensures sound { OnOk result (IsSound self.new) }
         ensures framer { OnOk result (self.new.framer ≡ self.old.framer) }
     {
@@ -128,7 +140,7 @@ impl State {
     fn take_other(&mut self, entries: &mut Vec<Entry>, frame: Frame) -> Result<(), AllocError>
         requires taken { CanTake self.old frame }
         requires kind { is_silent (kind_of frame.header) ≡ true }
-        ensures handled { OnOk result ((desk : Content → Answered) → HasHandled desk self.old entries.old.items frame self.new entries.new.items) }
+        ensures handled { OnOk result ((desk : ℕ → Content → Answered) → HasHandled desk self.old entries.old.items frame self.new entries.new.items) }
         ensures sound { OnOk result (IsSound self.new) }
         ensures framer { OnOk result (self.new.framer ≡ self.old.framer) }
     {
@@ -272,7 +284,7 @@ impl State {
         rule: Rule,
     ) -> Result<(), AllocError>
         requires { CanDiscard self.old frame rule }
-        ensures handled { OnOk result ((desk : Content → Answered) → HasHandled desk self.old entries.old.items frame self.new entries.new.items) }
+        ensures handled { OnOk result ((desk : ℕ → Content → Answered) → HasHandled desk self.old entries.old.items frame self.new entries.new.items) }
         ensures sound { OnOk result (IsSound self.new) }
         ensures framer { OnOk result (self.new.framer ≡ self.old.framer) }
     {

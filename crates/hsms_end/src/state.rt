@@ -3,6 +3,7 @@
 ghost use Rattle.std.specs.Prelude.{◌≡◌};
 ghost use Rattle.hsms_end.specs.Frame.{bare as bare_frame};
 
+use crate::asked::Asked;
 use hsms_frame::{Frame, Framer, Header, linktest_req, select_req, separate as separate_req};
 use hsms_machine::{Entry, Event, Phase, Settings, Side, Tracker};
 use std::alloc::{AllocError, Global};
@@ -22,6 +23,8 @@ pub struct State {
     pub next: u32,
     /// The moment at which an octet came last.
     pub heard: u64,
+    /// How often the desk was asked about messages of each stream and function.
+    pub asked: Asked,
 }
 
 impl State {

@@ -13,12 +13,12 @@ use Rattle.hsms_ends.specs.Turning.{After, Refused, Ticked, Done, Rest, Nothing,
 use Rattle.hsms_ends.specs.Serving.{Story, Unopened, Unstarted, Started, IsCutTurn, IsLost, IsStory, entries_cut, lost_entries, entries_of}
 
 -- the fact goes on over each accepted input
-abbrev pub GoesOn : {D : Type 0} → (D → Content → Answered) → (List Entry → EndOf D → Type 0) → Type 0
+abbrev pub GoesOn : {D : Type 0} → (D → ℕ → Content → Answered) → (List Entry → EndOf D → Type 0) → Type 0
 GoesOn {D} answers P =
     (before : List Entry) (end : EndOf D) (input : Input) (entries : List Entry) (end' : EndOf D)
     → P before end → Accepts answers end input entries end' → P (before ++ entries) end'
 
-module _ {D : Type 0} (answers : D → Content → Answered) (pause : Option ℕ) (P : List Entry → EndOf D → Type 0) (next : GoesOn answers P) where
+module _ {D : Type 0} (answers : D → ℕ → Content → Answered) (pause : Option ℕ) (P : List Entry → EndOf D → Type 0) (next : GoesOn answers P) where
   stays : (before : List Entry) (end end' : EndOf D) → end' ≡ end → P before end → P (before ++ []) end'
   stays before end end' e h =
       let Q : List Entry → Type 0 = λ l. P l end' in

@@ -86,7 +86,7 @@ link_failed serve.Turns end loss log log' h = absurd h
 link_failed serve.Memory end loss log log' h = tt
 
 -- a story with what `lost` gave
-pub record Extended {D : Type 0} (answers : D → Content → Answered) (pause : Option ℕ) (new : EndOf D) (script : List Step) (story : Story) (loss : Option (List Entry)) (end : EndOf D) : Type 0 where
+pub record Extended {D : Type 0} (answers : D → ℕ → Content → Answered) (pause : Option ℕ) (new : EndOf D) (script : List Step) (story : Story) (loss : Option (List Entry)) (end : EndOf D) : Type 0 where
   pub longer : Story
   pub is_story : IsStory answers pause new script longer end
   pub entries : entries_of story ++ lost_entries loss ≡ entries_of longer
@@ -95,7 +95,7 @@ pub record Extended {D : Type 0} (answers : D → Content → Answered) (pause :
   pub last : last_call longer ≡ last_lost loss (last_call story)
   pub started : IsStarted longer
 
-module _ {D : Type 0} (answers : D → Content → Answered) where
+module _ {D : Type 0} (answers : D → ℕ → Content → Answered) where
   -- a loss that is accepted ends the connection
   pub lost_goes : (end end' : EndOf D) (entries : List Entry) → Accepts answers end lost entries end' → has_gone end' ≡ true
   lost_goes end end' entries h = ap (λ (k : Known). is_gone k.view.phase) h.turn.2.1 ∙ gone_after end.known.view.phase
@@ -106,7 +106,7 @@ module _ {D : Type 0} (answers : D → Content → Answered) where
   left_itself serve.Log end = tt
   left_itself serve.Memory end = tt
 
-module _ {D : Type 0} (answers : D → Content → Answered) (pause : Option ℕ) where
+module _ {D : Type 0} (answers : D → ℕ → Content → Answered) (pause : Option ℕ) where
   pub end_ok : (served : Served) (limit : ℕ) (new end : EndOf D) (script script' : List Step) (log log' : SinkState) (link link' : Told) (n m : ℕ)
       → Ran answers pause (Ok tt) limit new end script script' log log' link link' n m → has_gone end ≡ true → served.entries ≡ n → served.refused ≡ m → served.left ≡ length script'
       → ServesEnd answers pause new end script limit (Ok served) log log' link link'

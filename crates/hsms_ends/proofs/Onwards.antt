@@ -98,7 +98,7 @@ is_later script later n =
     let e : (suc n == 0) ≡ false = grind (arith, nat_tests) in
     ap (λ b. cond b script later) e ∙ sym (both_later (n == 0) later)
 
-module _ {D : Type 0} (answers : D → Content → Answered) (pause : Option ℕ) (desk : D) (s : Parameters) (first_system limit : ℕ) where
+module _ {D : Type 0} (answers : D → ℕ → Content → Answered) (pause : Option ℕ) (desk : D) (s : Parameters) (first_system limit : ℕ) where
   served_snoc : (script later : List Step) (since : ℕ) (cs : List Connection) (c : Connection) (link mid link' : Told)
       → AreServed answers pause desk s first_system limit script later since cs link mid → c.script ≡ script_at script later (length cs) → c.since ≡ since_at since cs
       → IsServed answers pause desk s first_system limit c mid link' → AreServed answers pause desk s first_system limit script later since (cs ++ c ∷ []) link link'
@@ -380,7 +380,7 @@ grown_again (Err serve.Turns) log log' s cs fine h = h
 grown_again (Err serve.Memory) log log' s cs fine h = h
 grown_again (Err serve.Log) log log' s cs fine h = absurd (let e : true ≡ false = fine in cc)
 
-pub served_again_passes : {D : Type 0} (answers : D → Content → Answered) → ServedAgainLogPasses answers
+pub served_again_passes : {D : Type 0} (answers : D → ℕ → Content → Answered) → ServedAgainLogPasses answers
 served_again_passes answers pause desk s first_system script later limit most result log log' link link' r fine empty =
     let entries = entries_all r.connections in
     let text = written_log s entries in (

@@ -104,7 +104,7 @@ pub record IsReached {D : Type 0} (s : Parameters) (before : List Entry) (end : 
   pub settings : end.known.settings ≡ s
   pub sized : All (λ (entry : Entry). IsDiscardSized s.max entry.event) before
 
-module _ {D : Type 0} (answers : D → Content → Answered) (pause : Option ℕ) where
+module _ {D : Type 0} (answers : D → ℕ → Content → Answered) (pause : Option ℕ) where
   reached_next : (s : Parameters) (before : List Entry) (end : EndOf D) (input : Input) (entries : List Entry) (end' : EndOf D)
       → IsReached s before end → Accepts answers end input entries end' → IsReached s (before ++ entries) end'
   reached_next s before end input entries end' p h =
@@ -224,7 +224,7 @@ module _ {D : Type 0} (answers : D → Content → Answered) (pause : Option ℕ
   grown (Err serve.Log) story log log' s whole rest fine h = absurd (let e : true ≡ false = fine in cc)
   grown (Err serve.Memory) story log log' s whole rest fine h = h
 
-pub served_passes : {D : Type 0} (answers : D → Content → Answered) → ServedLogPasses answers
+pub served_passes : {D : Type 0} (answers : D → ℕ → Content → Answered) → ServedLogPasses answers
 served_passes answers pause new script limit result log log' link link' r fine empty =
     let s = new.known.settings in
     let entries = entries_of r.story in

@@ -84,7 +84,7 @@ fits_event max (T3 system) small sized = tt
 fits_event max (Cut cause) small sized = tt
 fits_event max Down small sized = tt
 
-module _ {D : Type 0} (answers : D → Content → Answered) where
+module _ {D : Type 0} (answers : D → ℕ → Content → Answered) where
   -- the messages that an end sends fit
   pub fits : (end end' : EndOf D) (input : Input) (entries : List Entry) → IsReady end → Accepts answers end input entries end' → AllFitLengthField entries
   fits end end' input entries ready accepts =

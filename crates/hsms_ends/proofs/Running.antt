@@ -37,7 +37,7 @@ stored a b k none h =
 
 -- ---- how many steps are left
 
-module _ {D : Type 0} (answers : D → Content → Answered) (pause : Option ℕ) where
+module _ {D : Type 0} (answers : D → ℕ → Content → Answered) (pause : Option ℕ) where
   steps_in_rest : (is_cut : Bool) (end : EndOf D) (script : List Step) (rest : Rest) (end' : EndOf D) (script' : List Step) → Continues answers pause is_cut end script rest end' script'
       → length script' + steps_rest rest ≡ length script
   steps_in_rest is_cut end script Nothing end' script' h = omega (arith, ap length h.2)
@@ -64,7 +64,7 @@ module _ {D : Type 0} (answers : D → Content → Answered) (pause : Option ℕ
   steps_uncut r end late script script' None h whole = (refl, ap length h.1)
   steps_uncut r end late script script' (Some turn) h whole = absurd (let e : true ≡ false = sym h.0 ∙ whole in cc)
 
-module _ {D : Type 0} (answers : D → Content → Answered) (pause : Option ℕ) where
+module _ {D : Type 0} (answers : D → ℕ → Content → Answered) (pause : Option ℕ) where
   is_cut_turn : (r : Result (Unit {0}) Stop) (end late : EndOf D) (script script' : List Step) (cut : Option Turn) → IsCut answers pause r end script cut late script' → IsCutTurn answers pause end script cut late
   is_cut_turn r end late script script' None h = h.0
   is_cut_turn r end late script script' (Some turn) h = (script', h.1)

@@ -17,7 +17,7 @@ use Rattle.hsms_end.specs.Act.{Act, logs, asks, Acts, entry_now, with_event, wit
 use Rattle.hsms_end.specs.Drive.{octets_in}
 use Rattle.hsms_end.specs.Frame.{linktest_req, separate_req, message_frame}
 use Rattle.hsms_end.specs.Reaction.{reaction}
-use Rattle.hsms_end.specs.Turn.{is_pending, opening_of, cut_by, expiries, received_as, Handles, warns_too_long, Rests, is_down, waits, too_short, too_long, Receives, with_octets, Told, start, tick, bytes, send, linktest, separate, lost, Turn}
+use Rattle.hsms_end.specs.Turn.{is_pending, opening_of, cut_by, expiries, received_as, with_asked, Handles, warns_too_long, Rests, is_down, waits, too_short, too_long, Receives, with_octets, Told, start, tick, bytes, send, linktest, separate, lost, Turn}
 use Rattle.hsms_end.proofs.Kept.{receipts, reaction_none, opening_none, expiries_none, too_long_none}
 
 -- header and text of a discarded message are within the limit
@@ -86,13 +86,14 @@ received_sized : (most : ℕ) (frame : Frame) (broken : Option Rule) → 10 + le
 received_sized most frame None sized = tt
 received_sized most frame (Some broken) sized = sized
 
-handled_kept : (desk : Content → Answered) (end : Known) (frame : Frame) (entries : List Entry) (end' : Known) → 10 + length frame.text ≤ end.settings.max → Handles desk end frame entries end' → Keeps end entries end'
+handled_kept : (desk : ℕ → Content → Answered) (end : Known) (frame : Frame) (entries : List Entry) (end' : Known) → 10 + length frame.text ≤ end.settings.max → Handles desk end frame entries end' → Keeps end entries end'
 handled_kept desk end frame entries end' sized h =
     let event = received_as frame h.0 in
     let acts = reaction end.settings (is_selected end.view.phase) frame.header h.0 h.1 in
+    let asked : Known = with_asked end frame h.0 in
     let rest = h.4 in
-    one_kept end (with_event end event) end' (entry_now end event) entries rest.0 refl rest.1 (received_sized end.settings.max frame h.0 sized)
-    (acts_kept acts (with_event end event) rest.0 end' (reaction_none end.settings (is_selected end.view.phase) frame.header h.0 h.1) rest.2)
+    one_kept end (with_event asked event) end' (entry_now end event) entries rest.0 refl rest.1 (received_sized end.settings.max frame h.0 sized)
+    (acts_kept acts (with_event asked event) rest.0 end' (reaction_none end.settings (is_selected end.view.phase) frame.header h.0 h.1) rest.2)
 
 rests_kept : (end : Known) (entries : List Entry) (end' : Known) → Rests end entries end' → Keeps end entries end'
 rests_kept end entries end' (is_down down none same) = none_kept end entries end' none same
@@ -100,7 +101,7 @@ rests_kept end entries end' (waits up front none same) = none_kept end entries e
 rests_kept end entries end' (too_short n up front acts) = acts_kept (cut_by Length) end entries end' refl acts
 rests_kept end entries end' (too_long n header up front acts) = acts_kept (warns_too_long end header ++ cut_by Length) end entries end' (too_long_none end header) acts
 
-receives_kept : (desk : Content → Answered) (end : Known) (frames : List Frame) (entries : List Entry) (end' : Known) → Receives desk end frames entries end' → Keeps end entries end'
+receives_kept : (desk : ℕ → Content → Answered) (end : Known) (frames : List Frame) (entries : List Entry) (end' : Known) → Receives desk end frames entries end' → Keeps end entries end'
 receives_kept desk end [] entries end' h = rests_kept end entries end' h
 receives_kept desk end (frame ∷ frames) entries end' h =
     let same : h.0.settings ≡ end.settings = ap (λ (k : Known). k.settings) h.4.off in
@@ -114,7 +115,7 @@ from_kept end from entries end' same h =
     let R : Parameters → Type 0 = λ s. All (λ (e : Entry). IsDiscardSized s.max e.event) entries in
     record { settings = h.settings ∙ same; sized = subst R same h.sized }
 
-pub turn_kept : (desk : Content → Answered) (end : Known) (input : Told) (entries : List Entry) (end' : Known) → Turn desk end input entries end' → Keeps end entries end'
+pub turn_kept : (desk : ℕ → Content → Answered) (end : Known) (input : Told) (entries : List Entry) (end' : Known) → Turn desk end input entries end' → Keeps end entries end'
 turn_kept desk end (start now) entries end' h =
     let from : Known = record end { moment = max end.moment now } in
     from_kept end from entries end' refl (acts_kept (opening_of end.settings.link) from entries end' (opening_none end.settings.link) h)

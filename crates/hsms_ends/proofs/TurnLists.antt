@@ -62,7 +62,7 @@ module _ {D : Type 0} where
   pub due_at : (end : EndOf D) (xs : List Step) (i : ℕ) → i < length xs → is_step_due end (drop i xs) ≡ is_idle end
   due_at end xs i below = let P : List Step → Type 0 = λ l. is_step_due end l ≡ is_idle end in subst P (sym (drop_next xs i Separate below)) refl
 
-module _ {D : Type 0} (answers : D → Content → Answered) (pause : Option ℕ) where
+module _ {D : Type 0} (answers : D → ℕ → Content → Answered) (pause : Option ℕ) where
   pub turns_snoc : (a b c : EndOf D) (s t u : List Step) (turns : List Turn) (turn : Turn) → AreTurns answers pause a s turns b t → IsTurn answers pause false b t turn c u → AreTurns answers pause a s (turns ++ turn ∷ []) c u
   turns_snoc a b c s t u [] turn h k =
       let P : EndOf D → List Step → Type 0 = λ x y. IsTurn answers pause false x y turn c u in

@@ -57,7 +57,7 @@ ending_rest Quiet before more h = h
 ending_rest (Octets octets after) before more h = h
 ending_rest (Closed after) before more h = h
 
-module _ {D : Type 0} (answers : D → Content → Answered) where
+module _ {D : Type 0} (answers : D → ℕ → Content → Answered) where
   pub takes_by : (r : Result (Unit {0}) Stop) (end : EndOf D) (input : Input) (entries : List Entry) (end' : EndOf D) → Accepts answers end input entries end' → Takes answers r end input entries end'
   takes_by (Ok _) end input entries end' h = h
   takes_by (Err Link) end input entries end' h = h
@@ -137,7 +137,7 @@ module _ {D : Type 0} (answers : D → Content → Answered) where
             }
       ]
 
-module _ {D : Type 0} (answers : D → Content → Answered) (pause : Option ℕ) where
+module _ {D : Type 0} (answers : D → ℕ → Content → Answered) (pause : Option ℕ) where
   -- the first tick ended the connection
   pub continued_gone : (end : EndOf D) (script : List Step) (log : SinkState) (link : Told) (n refused : ℕ) → has_gone end ≡ true
       → Continued answers pause (Ok tt) end end script script log log link link n n refused refused

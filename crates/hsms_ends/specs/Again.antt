@@ -36,7 +36,7 @@ abbrev pub new_end : {D : Type 0} → D → Parameters → ℕ → ℕ → EndOf
 new_end desk s first_system since = record { desk = desk; known = untold_since s first_system since }
 
 -- it was served, in at most so many turns: as `Serves` says of one connection
-pub record IsServed {D : Type 0} (answers : D → Content → Answered) (pause : Option ℕ) (desk : D) (s : Parameters) (first_system limit : ℕ) (c : Connection) (link link' : Told) : Type 0 where
+pub record IsServed {D : Type 0} (answers : D → ℕ → Content → Answered) (pause : Option ℕ) (desk : D) (s : Parameters) (first_system limit : ℕ) (c : Connection) (link link' : Told) : Type 0 where
   pub last : EndOf D
   pub is_story : IsStory answers pause (new_end desk s first_system c.since) c.script c.story last
   pub bound : turns_begun c.story ≤ limit
@@ -69,7 +69,7 @@ last_time log = (entry_at log (length log - 1)).time
 
 -- The connections were served one after the other. The first one has a script, and each other one a later script. Each
 -- end but the first starts no earlier than at the time of the last entry before it.
-abbrev pub AreServed : {D : Type 0} → (D → Content → Answered) → Option ℕ → D → Parameters → ℕ → ℕ → List Step → List Step → ℕ → List Connection → Told → Told → Type 0
+abbrev pub AreServed : {D : Type 0} → (D → ℕ → Content → Answered) → Option ℕ → D → Parameters → ℕ → ℕ → List Step → List Step → ℕ → List Connection → Told → Told → Type 0
 AreServed answers pause desk s first_system limit script later since [] link link' = link' ≡ link
 AreServed answers pause desk s first_system limit script later since (c ∷ cs) link link' =
     (mid : Told) × (c.script ≡ script) × (c.since ≡ since) × IsServed answers pause desk s first_system limit c link mid
@@ -123,7 +123,7 @@ is_log_fault_again (Err serve.Log) = true
 
 -- What `serve_again` did under the settings of several connections, in at most so many of them, with tests of the link
 -- after so long a pause.
-pub record ServesAgain {D : Type 0} (answers : D → Content → Answered) (pause : Option ℕ) (desk : D) (s : Parameters) (first_system : ℕ) (script later : List Step) (limit most : ℕ) (result : Result ServedAgain ServeFault) (log log' : SinkState) (link link' : Told) : Type 0 where
+pub record ServesAgain {D : Type 0} (answers : D → ℕ → Content → Answered) (pause : Option ℕ) (desk : D) (s : Parameters) (first_system : ℕ) (script later : List Step) (limit most : ℕ) (result : Result ServedAgain ServeFault) (log log' : SinkState) (link link' : Told) : Type 0 where
   pub connections : List Connection
   pub are : AreServed answers pause desk s first_system limit script later 0 connections link link'
   pub bound : length connections ≤ most

@@ -35,7 +35,7 @@ Onward (Err serve.Memory) (Err serve.Memory) end = Unit {0}
 Onward _ _ end = ⊥
 
 -- one more connection was served
-pub record NextServed {D : Type 0} (answers : D → Content → Answered) (pause : Option ℕ) (desk : D) (s : Parameters) (first_system since : ℕ) (script : List Step) (limit : ℕ) (outcome : Result Went ServeFault) (log log' : SinkState) (link link' : Told) : Type 0 where
+pub record NextServed {D : Type 0} (answers : D → ℕ → Content → Answered) (pause : Option ℕ) (desk : D) (s : Parameters) (first_system since : ℕ) (script : List Step) (limit : ℕ) (outcome : Result Went ServeFault) (log log' : SinkState) (link link' : Told) : Type 0 where
   pub result : Result Served ServeFault
   pub end_new : EndOf D
   pub served : ServesEnd answers pause (new_end desk s first_system since) end_new script limit result log log' link link'
@@ -50,7 +50,7 @@ LinesHeld (Err serve.Memory) old new cs = LogGrows old new (log_lines (entries_a
 LinesHeld (Err serve.Log) old new cs = LogStopsLast old new log_lines cs
 
 -- connection after connection was served: what `serve_again` leaves, but for the settings' line
-pub record ServedEach {D : Type 0} (answers : D → Content → Answered) (pause : Option ℕ) (desk : D) (s : Parameters) (first_system : ℕ) (script later : List Step) (limit most : ℕ) (result : Result ServedAgain ServeFault) (log log' : SinkState) (link link' : Told) : Type 0 where
+pub record ServedEach {D : Type 0} (answers : D → ℕ → Content → Answered) (pause : Option ℕ) (desk : D) (s : Parameters) (first_system : ℕ) (script later : List Step) (limit most : ℕ) (result : Result ServedAgain ServeFault) (log log' : SinkState) (link link' : Told) : Type 0 where
   pub connections : List Connection
   pub are : AreServed answers pause desk s first_system limit script later 0 connections link link'
   pub bound : length connections ≤ most

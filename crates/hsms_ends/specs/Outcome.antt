@@ -42,7 +42,7 @@ Leads (Err Log) end' end_new = Unit {0}
 Leads (Err Memory) end' end_new = Unit {0}
 
 -- the input gave these entries; at want of memory it may be left out
-abbrev pub Takes : {D : Type 0} → (D → Content → Answered) → Result (Unit {0}) Stop → EndOf D → Input → List Entry → EndOf D → Type 0
+abbrev pub Takes : {D : Type 0} → (D → ℕ → Content → Answered) → Result (Unit {0}) Stop → EndOf D → Input → List Entry → EndOf D → Type 0
 Takes answers (Ok _) end input entries end' = Accepts answers end input entries end'
 Takes answers (Err Link) end input entries end' = Accepts answers end input entries end'
 Takes answers (Err Log) end input entries end' = Accepts answers end input entries end'
@@ -61,7 +61,7 @@ pub record Yields (result : Result (Unit {0}) Stop) (log log' : SinkState) (link
   pub in_range : All IsEntry entries
 
 -- the end was told one input
-pub record Handed {D : Type 0} (answers : D → Content → Answered) (result : Result (Unit {0}) Stop) (end : EndOf D) (input : Input) (end_new : EndOf D) (log log' : SinkState) (link link' : Told) (heard : Heard) (count count' : ℕ) : Type 0 where
+pub record Handed {D : Type 0} (answers : D → ℕ → Content → Answered) (result : Result (Unit {0}) Stop) (end : EndOf D) (input : Input) (end_new : EndOf D) (log log' : SinkState) (link link' : Told) (heard : Heard) (count count' : ℕ) : Type 0 where
   pub entries : List Entry
   pub end' : EndOf D
   pub takes : Takes answers result end input entries end'
@@ -69,7 +69,7 @@ pub record Handed {D : Type 0} (answers : D → Content → Answered) (result : 
   pub yields : Yields result log log' link link' count count' entries entries heard
 
 -- the end was told of an answer of `wait`, which calls for this input
-pub record Followed {D : Type 0} (answers : D → Content → Answered) (result : Result (Unit {0}) Stop) (end : EndOf D) (input : Input) (end_new : EndOf D) (log log' : SinkState) (link link' : Told) (count count' : ℕ) : Type 0 where
+pub record Followed {D : Type 0} (answers : D → ℕ → Content → Answered) (result : Result (Unit {0}) Stop) (end : EndOf D) (input : Input) (end_new : EndOf D) (log log' : SinkState) (link link' : Told) (count count' : ℕ) : Type 0 where
   pub after : After
   pub end' : EndOf D
   pub heeds : Heeds answers (is_cut result) end input after end'
@@ -77,7 +77,7 @@ pub record Followed {D : Type 0} (answers : D → Content → Answered) (result 
   pub yields : Yields result log log' link link' count count' (entries_after after) (last_after after) (moment_heard (moment_after after))
 
 -- an answer of `wait` was heeded
-abbrev pub Heeded : {D : Type 0} → (D → Content → Answered) → Result (Unit {0}) Stop → List ℕ → Got → EndOf D → EndOf D → SinkState → SinkState → Told → Told → ℕ → ℕ → Type 0
+abbrev pub Heeded : {D : Type 0} → (D → ℕ → Content → Answered) → Result (Unit {0}) Stop → List ℕ → Got → EndOf D → EndOf D → SinkState → SinkState → Told → Told → ℕ → ℕ → Type 0
 Heeded answers result into (Octets n) end end_new log log' link link' count count' =
     Followed answers result end (bytes (take n into)) end_new log log' link link' count count'
 Heeded answers result into Quiet end end_new log log' link link' count count' =
@@ -86,7 +86,7 @@ Heeded answers result into Closed end end_new log log' link link' count count' =
     Followed answers result end lost end_new log log' link link' count count'
 
 -- the rest of a turn came to pass
-pub record Continued {D : Type 0} (answers : D → Content → Answered) (pause : Option ℕ) (result : Result (Unit {0}) Stop) (end end_new : EndOf D) (script script' : List Step) (log log' : SinkState) (link link' : Told) (count count' refused refused' : ℕ) : Type 0 where
+pub record Continued {D : Type 0} (answers : D → ℕ → Content → Answered) (pause : Option ℕ) (result : Result (Unit {0}) Stop) (end end_new : EndOf D) (script script' : List Step) (log log' : SinkState) (link link' : Told) (count count' refused refused' : ℕ) : Type 0 where
   pub rest : Rest
   pub end' : EndOf D
   pub continues : Continues answers pause (is_cut result) end script rest end' script'
@@ -95,7 +95,7 @@ pub record Continued {D : Type 0} (answers : D → Content → Answered) (pause 
   pub refusals : Counts refused refused' (refused_rest rest)
 
 -- a turn came to pass
-pub record TurnTaken {D : Type 0} (answers : D → Content → Answered) (pause : Option ℕ) (result : Result (Unit {0}) Stop) (end end_new : EndOf D) (script script' : List Step) (log log' : SinkState) (link link' : Told) (count count' refused refused' : ℕ) : Type 0 where
+pub record TurnTaken {D : Type 0} (answers : D → ℕ → Content → Answered) (pause : Option ℕ) (result : Result (Unit {0}) Stop) (end end_new : EndOf D) (script script' : List Step) (log log' : SinkState) (link link' : Told) (count count' refused refused' : ℕ) : Type 0 where
   pub turn : Turn
   pub end' : EndOf D
   pub is_turn : IsTurn answers pause (is_cut result) end script turn end' script'
@@ -104,20 +104,20 @@ pub record TurnTaken {D : Type 0} (answers : D → Content → Answered) (pause 
   pub refusals : Counts refused refused' (refused_turn turn)
 
 -- whole turns came to pass so far
-pub record TurnsSoFar {D : Type 0} (answers : D → Content → Answered) (pause : Option ℕ) (end now_end : EndOf D) (script script' : List Step) (log log' : SinkState) (link link' : Told) (count count' refused refused' done : ℕ) : Type 0 where
+pub record TurnsSoFar {D : Type 0} (answers : D → ℕ → Content → Answered) (pause : Option ℕ) (end now_end : EndOf D) (script script' : List Step) (log log' : SinkState) (link link' : Told) (count count' refused refused' done : ℕ) : Type 0 where
   pub turns : List Turn
   pub are_turns : AreTurns answers pause end script turns now_end script'
   pub long : length turns ≡ done
   pub yields : Yields (Ok tt) log log' link link' count count' (entries_turns turns) [] (heard_turns turns)
   pub refusals : Counts refused refused' (refused_turns turns)
 
-abbrev pub IsCut : {D : Type 0} → (D → Content → Answered) → Option ℕ → Result (Unit {0}) Stop → EndOf D → List Step → Option Turn → EndOf D → List Step → Type 0
+abbrev pub IsCut : {D : Type 0} → (D → ℕ → Content → Answered) → Option ℕ → Result (Unit {0}) Stop → EndOf D → List Step → Option Turn → EndOf D → List Step → Type 0
 IsCut answers pause result end script None end' script' = (end' ≡ end) × (script' ≡ script)
 IsCut answers pause result end script (Some turn) end' script' =
     (is_cut result ≡ true) × IsTurn answers pause true end script turn end' script'
 
 -- at most so many turns came to pass, fewer only where the connection went down or a fault cut the last one short
-pub record TurnsTaken {D : Type 0} (answers : D → Content → Answered) (pause : Option ℕ) (result : Result (Unit {0}) Stop) (limit : ℕ) (end end_new : EndOf D) (script script' : List Step) (log log' : SinkState) (link link' : Told) (count count' refused refused' : ℕ) : Type 0 where
+pub record TurnsTaken {D : Type 0} (answers : D → ℕ → Content → Answered) (pause : Option ℕ) (result : Result (Unit {0}) Stop) (limit : ℕ) (end end_new : EndOf D) (script script' : List Step) (log log' : SinkState) (link link' : Told) (count count' refused refused' : ℕ) : Type 0 where
   pub turns : List Turn
   pub cut : Option Turn
   pub mid : EndOf D
@@ -138,7 +138,7 @@ StartedBy (Err Log) story = IsStarted story
 StartedBy (Err Memory) story = Unit {0}
 
 -- `start` and then turns came to pass, and were counted from nothing; these steps are left
-pub record Ran {D : Type 0} (answers : D → Content → Answered) (pause : Option ℕ) (result : Result (Unit {0}) Stop) (limit : ℕ) (new end_new : EndOf D) (script script' : List Step) (log log' : SinkState) (link link' : Told) (count refused : ℕ) : Type 0 where
+pub record Ran {D : Type 0} (answers : D → ℕ → Content → Answered) (pause : Option ℕ) (result : Result (Unit {0}) Stop) (limit : ℕ) (new end_new : EndOf D) (script script' : List Step) (log log' : SinkState) (link link' : Told) (count refused : ℕ) : Type 0 where
   pub story : Story
   pub end' : EndOf D
   pub is_story : IsStory answers pause new script story end'
@@ -170,7 +170,7 @@ IsLeft (Err serve.Turns) last end_new = end_new ≡ last
 IsLeft (Err serve.Log) last end_new = Unit {0}
 IsLeft (Err serve.Memory) last end_new = Unit {0}
 
-pub record ClosedLink {D : Type 0} (answers : D → Content → Answered) (fault : ServeFault) (end end_new : EndOf D) (log log' : SinkState) : Type 0 where
+pub record ClosedLink {D : Type 0} (answers : D → ℕ → Content → Answered) (fault : ServeFault) (end end_new : EndOf D) (log log' : SinkState) : Type 0 where
   pub loss : Option (List Entry)
   pub end' : EndOf D
   pub is_lost : IsLost answers end loss end'
@@ -186,7 +186,7 @@ RestClosed serve.Turns log log' entries = ⊥
 RestClosed serve.Memory log log' entries = ⊥
 
 -- what is answered after a fault
-abbrev pub StoppedAs : {D : Type 0} → (D → Content → Answered) → Stop → ServeFault → EndOf D → EndOf D → SinkState → SinkState → Type 0
+abbrev pub StoppedAs : {D : Type 0} → (D → ℕ → Content → Answered) → Stop → ServeFault → EndOf D → EndOf D → SinkState → SinkState → Type 0
 StoppedAs answers Link fault end end_new log log' = ClosedLink answers fault end end_new log log'
 StoppedAs answers Log fault end end_new log log' = (fault ≡ serve.Log) × (log' ≡ log)
 StoppedAs answers Memory fault end end_new log log' = (fault ≡ serve.Memory) × (log' ≡ log)
@@ -211,7 +211,7 @@ HoldsLines (Err serve.Log) old new lines rest = LogStops old new lines rest
 HoldsLines (Err serve.Memory) old new lines rest = (rest ≡ []) × LogGrows old new lines
 
 -- a new end was served: what `serve` leaves, but for the settings' line
-pub record ServesEnd {D : Type 0} (answers : D → Content → Answered) (pause : Option ℕ) (new end_new : EndOf D) (script : List Step) (limit : ℕ) (result : Result Served ServeFault) (log log' : SinkState) (link link' : Told) : Type 0 where
+pub record ServesEnd {D : Type 0} (answers : D → ℕ → Content → Answered) (pause : Option ℕ) (new end_new : EndOf D) (script : List Step) (limit : ℕ) (result : Result Served ServeFault) (log log' : SinkState) (link link' : Told) : Type 0 where
   pub story : Story
   pub last : EndOf D
   pub is_story : IsStory answers pause new script story last

@@ -1,7 +1,7 @@
 -- What a desk with replies of its own answers (SEMI E5: a reply has the stream of its primary and its function plus one,
 -- and function 0 aborts). Whether a reply asks for a reply itself isn't looked at.
-use Rattle.std.specs.Prelude.{◌==◌, ◌+◌, Bool, ◌&&◌, List, Option, Some, None, if◌then◌else◌}
-use Rattle.std.specs.List.{find, list_any}
+use Rattle.std.specs.Prelude.{ℕ, ◌==◌, ◌+◌, ◌-◌, Bool, ◌&&◌, List, [], ◌∷◌, filter, Option, Some, None, unwrap_or, if◌then◌else◌}
+use Rattle.std.specs.List.{list_any}
 use Rattle.secs_text.specs.declared.message.Message.{Message}
 use Rattle.secs_text.specs.Content.{Content}
 use Rattle.secs_text.specs.View.{content}
@@ -21,7 +21,13 @@ abbrev pub scripted_by : Option Message → Bool → Answered → Answered
 scripted_by (Some reply) is_aborted own = replies (content reply).item
 scripted_by None is_aborted own = if is_aborted then quiet else own
 
--- the first of the replies that answers the primary gives its item
-abbrev pub scripted_answer : List Message → (Content → Answered) → Content → Answered
-scripted_answer script own primary =
-    scripted_by (find (is_reply_to primary) script) (list_any (is_abort_of primary) script) (own primary)
+-- which of these is given behind so many: each in turn, and the last one again and again
+abbrev pub in_turn : {X : Type 0} → ℕ → List X → Option X
+in_turn before [] = None
+in_turn before (x ∷ xs) = Some (if before == 0 then x else unwrap_or (in_turn (before - 1) xs) x)
+
+-- of the replies that answer the primary, the one whose turn it is gives its item
+abbrev pub scripted_answer : List Message → (ℕ → Content → Answered) → ℕ → Content → Answered
+scripted_answer script own before primary =
+    scripted_by (in_turn before (filter (is_reply_to primary) script)) (list_any (is_abort_of primary) script)
+    (own before primary)

@@ -31,16 +31,16 @@ pub data Story : Type 0 where
 
 -- ---- the story of an end
 
-abbrev pub IsCutTurn : {D : Type 0} → (D → Content → Answered) → Option ℕ → EndOf D → List Step → Option Turn → EndOf D → Type 0
+abbrev pub IsCutTurn : {D : Type 0} → (D → ℕ → Content → Answered) → Option ℕ → EndOf D → List Step → Option Turn → EndOf D → Type 0
 IsCutTurn answers pause end script None end' = end' ≡ end
 IsCutTurn answers pause end script (Some turn) end' = (left : List Step) × IsTurn answers pause true end script turn end' left
 
-abbrev pub IsLost : {D : Type 0} → (D → Content → Answered) → EndOf D → Option (List Entry) → EndOf D → Type 0
+abbrev pub IsLost : {D : Type 0} → (D → ℕ → Content → Answered) → EndOf D → Option (List Entry) → EndOf D → Type 0
 IsLost answers end None end' = end' ≡ end
 IsLost answers end (Some entries) end' = HasNotGone end × Accepts answers end lost entries end'
 
 -- the story of a new end, of this script, which leads to an end
-abbrev pub IsStory : {D : Type 0} → (D → Content → Answered) → Option ℕ → EndOf D → List Step → Story → EndOf D → Type 0
+abbrev pub IsStory : {D : Type 0} → (D → ℕ → Content → Answered) → Option ℕ → EndOf D → List Step → Story → EndOf D → Type 0
 IsStory answers pause new script Unopened end' = end' ≡ new
 IsStory answers pause new script (Unstarted now) end' = end' ≡ new
 IsStory {D} answers pause new script (Started now started turns cut loss) end' =
@@ -212,7 +212,7 @@ failures_after false n = n
 
 -- What `serve_testing` did, of a new end and a script, in at most so many turns, with tests of the link after so long a
 -- pause.
-pub record ServesTesting {D : Type 0} (answers : D → Content → Answered) (pause : Option ℕ) (new : EndOf D) (script : List Step) (limit : ℕ) (result : Result Served ServeFault) (log log' : SinkState) (link link' : Told) : Type 0 where
+pub record ServesTesting {D : Type 0} (answers : D → ℕ → Content → Answered) (pause : Option ℕ) (new : EndOf D) (script : List Step) (limit : ℕ) (result : Result Served ServeFault) (log log' : SinkState) (link link' : Told) : Type 0 where
   -- the start, the turns and what the end gave for its inputs
   pub story : Story
   pub last : EndOf D
@@ -242,5 +242,5 @@ pub record ServesTesting {D : Type 0} (answers : D → Content → Answered) (pa
   pub lost_is : has_lost story ≡ true → failed ≡ true
 
 -- What `serve` did: the same, without tests of the link.
-abbrev pub Serves : {D : Type 0} → (D → Content → Answered) → EndOf D → List Step → ℕ → Result Served ServeFault → SinkState → SinkState → Told → Told → Type 0
+abbrev pub Serves : {D : Type 0} → (D → ℕ → Content → Answered) → EndOf D → List Step → ℕ → Result Served ServeFault → SinkState → SinkState → Told → Told → Type 0
 Serves answers new script limit result log log' link link' = ServesTesting answers None new script limit result log log' link link'

@@ -81,7 +81,7 @@ is_step_due end [] = false
 is_step_due end (step ∷ script) = is_idle end
 
 -- the tick, and, unless it ended the connection, the input that the answer calls for
-abbrev pub Heeds : {D : Type 0} → (D → Content → Answered) → Bool → EndOf D → Input → After → EndOf D → Type 0
+abbrev pub Heeds : {D : Type 0} → (D → ℕ → Content → Answered) → Bool → EndOf D → Input → After → EndOf D → Type 0
 Heeds answers is_cut end input (Refused now) end' = (is_cut ≡ true) × (end' ≡ end)
 Heeds answers is_cut end input (Ticked now ticked) end' = Accepts answers end (tick now) ticked end' × MayStop is_cut end'
 Heeds {D} answers is_cut end input (Done now ticked entries) end' =
@@ -107,7 +107,7 @@ IsNext end script step script' = HasNotGone end × (is_step_due end script ≡ t
 
 -- What follows the first tick: exactly where a step is due, the next one; else, exactly where the link is to be tested,
 -- that; else an answer of `wait`. A step that the end refused meets a fault, and leaves the end as it was.
-abbrev pub Continues : {D : Type 0} → (D → Content → Answered) → Option ℕ → Bool → EndOf D → List Step → Rest → EndOf D → List Step → Type 0
+abbrev pub Continues : {D : Type 0} → (D → ℕ → Content → Answered) → Option ℕ → Bool → EndOf D → List Step → Rest → EndOf D → List Step → Type 0
 Continues answers pause is_cut end script Nothing end' script' = MayStop is_cut end × (end' ≡ end) × (script' ≡ script)
 Continues answers pause is_cut end script (Stepped entries) end' script' =
     (step : Step) × IsNext end script step script' × Accepts answers end (input_of step) entries end'
@@ -123,7 +123,7 @@ Continues answers pause is_cut end script (Closed after) end' script' =
     MustWait pause end script script' × Heeds answers is_cut end lost after end'
 
 -- a turn of an end that isn't down, and of the steps that are left: whole, or cut short by a fault
-abbrev pub IsTurn : {D : Type 0} → (D → Content → Answered) → Option ℕ → Bool → EndOf D → List Step → Turn → EndOf D → List Step → Type 0
+abbrev pub IsTurn : {D : Type 0} → (D → ℕ → Content → Answered) → Option ℕ → Bool → EndOf D → List Step → Turn → EndOf D → List Step → Type 0
 IsTurn answers pause is_cut end script (Untaken now) end' script' =
     HasNotGone end × (is_cut ≡ true) × (end' ≡ end) × (script' ≡ script)
 IsTurn {D} answers pause is_cut end script (Ticks now ticked rest) end' script' =
@@ -131,7 +131,7 @@ IsTurn {D} answers pause is_cut end script (Ticks now ticked rest) end' script' 
     × ((mid : EndOf D) × Accepts answers end (tick now) ticked mid × Continues answers pause is_cut mid script rest end' script')
 
 -- whole turns, one after the other
-abbrev pub AreTurns : {D : Type 0} → (D → Content → Answered) → Option ℕ → EndOf D → List Step → List Turn → EndOf D → List Step → Type 0
+abbrev pub AreTurns : {D : Type 0} → (D → ℕ → Content → Answered) → Option ℕ → EndOf D → List Step → List Turn → EndOf D → List Step → Type 0
 AreTurns answers pause end script [] end' script' = (end' ≡ end) × (script' ≡ script)
 AreTurns {D} answers pause end script (turn ∷ turns) end' script' =
     (mid : EndOf D) × (left : List Step) × IsTurn answers pause false end script turn mid left

@@ -34,8 +34,13 @@ impl<'a, D> Clone for Lent<'a, D> {
 impl<'a, D: Desk> Desk for Lent<'a, D> {
     ghost answers = { λ lent. D.answers lent.desk.now };
 
-    fn answer(&self, alloc: Global, message: &Message) -> Result<Answer, AllocError> {
-        self.desk.answer(alloc, message)
+    fn answer_after(
+        &self,
+        alloc: Global,
+        message: &Message,
+        before: u64,
+    ) -> Result<Answer, AllocError> {
+        self.desk.answer_after(alloc, message, before)
     }
 }
 
@@ -62,8 +67,9 @@ struct Went {
 /// link has no further one.
 ///
 /// The first connection has the script, and each further one the later script. Each end starts no earlier than at the
-/// time of the last entry before it, so that times go on. A connection that the link's fault ended is followed by the
-/// next one, as one that went down is; after any other fault no further one is served.
+/// time of the last entry before it, so that times go on, and it has asked the desk about nothing yet, so that turns begin
+/// anew. A connection that the link's fault ended is followed by the next one, as one that went down is; after any other
+/// fault no further one is served.
 ///
 /// **The log is the text of a run of the session machine, so that `audit` passes it** (`ServesAgain`;
 /// `laws::served_again_log_passes`); after the answer `Log` whole lines and a part of the next one. The link is at no

@@ -6,9 +6,10 @@ use std::alloc::{AllocError, Global};
 
 /// A desk that gives the replies of a script, and else what another desk says (SEMI E5).
 ///
-/// A primary is answered by the item of the first reply that has its stream and its function plus one. Where none has,
-/// and one has its stream and function 0, it is aborted without a word of stream 9. Every other message the own desk
-/// answers. Of a reply neither W nor an odd function is looked at.
+/// A primary is answered by the item of a reply that has its stream and its function plus one. Where several have, they
+/// are given in turn, in their order, and the last one again and again. Where none has, and one has its stream and
+/// function 0, it is aborted without a word of stream 9. Every other message the own desk answers. Of a reply neither W
+/// nor an odd function is looked at.
 #[derive(Debug, Drop)]
 pub struct ScriptedDesk<D: Desk + Drop> {
     /// The replies, in the order in which they are looked through.
@@ -20,35 +21,58 @@ pub struct ScriptedDesk<D: Desk + Drop> {
 impl<D: Desk + Drop> Desk for ScriptedDesk<D> {
     ghost use Rattle.hsms_ends.specs.Scripted.{scripted_answer};
 
-    ghost answers = { λ desk message. scripted_answer desk.replies.items (D.answers desk.own) message };
+    ghost answers = { λ desk before message. scripted_answer desk.replies.items (D.answers desk.own) before message };
 
-    fn answer(&self, alloc: Global, message: &Message) -> Result<Answer, AllocError> {
-        match reply_to(&self.replies, message) {
+    fn answer_after(
+        &self,
+        alloc: Global,
+        message: &Message,
+        before: u64,
+    ) -> Result<Answer, AllocError> {
+        match reply_to(&self.replies, message, before) {
             Some(reply) => replied(alloc, reply),
             None => {
                 if is_aborted(&self.replies, message) {
                     Ok(Answer::Quiet)
                 } else {
-                    self.own.answer(alloc, message)
+                    self.own.answer_after(alloc, message, before)
                 }
             }
         }
     }
 }
 
-ghost use Rattle.std.specs.Prelude.{◌≡◌, IfOk, option_map};
-ghost use Rattle.std.specs.List.{find, list_any};
+ghost use Rattle.std.specs.Prelude.{◌≡◌, IfOk, filter, option_map};
+ghost use Rattle.std.specs.List.{list_any};
 ghost use Rattle.secs_text.specs.View.{content};
 ghost use Rattle.hsms_end.specs.Answer.{answered, replies as replies_by};
-ghost use Rattle.hsms_ends.specs.Scripted.{is_abort_of, is_reply_to};
+ghost use Rattle.hsms_ends.specs.Scripted.{in_turn, is_abort_of, is_reply_to};
 
-// The first reply that answers a primary.
-fn reply_to<'a>(replies: &'a [Message], primary: &Message) -> Option<&'a Message>
-    ensures { option_map (λ reply. reply.now) result ≡ find (is_reply_to (content primary.now)) replies.now }
+// Of the replies to a primary, the one whose turn it is behind so many primaries of its stream and function.
+fn reply_to<'a>(replies: &'a [Message], primary: &Message, before: u64) -> Option<&'a Message>
+    ensures { option_map (λ reply. reply.now) result
+        ≡ in_turn before (filter (is_reply_to (content primary.now)) replies.now) }
 {
-    let stream = primary.stream();
-    let function = u16::from(primary.function()) + 1;
-    replies.iter().find(|reply| reply.stream() == stream && u16::from(reply.function()) == function)
+    let mut given = None;
+    let mut left = before;
+    for reply in replies {
+        if answers(reply, primary) {
+            given = Some(reply);
+            if left == 0 {
+                return given;
+            }
+            left -= 1;
+        }
+    }
+    given
+}
+
+// Whether a reply answers a primary.
+fn answers(reply: &Message, primary: &Message) -> bool
+    ensures { result ≡ is_reply_to (content primary.now) reply.now }
+{
+    reply.stream() == primary.stream()
+        && u16::from(reply.function()) == u16::from(primary.function()) + 1
 }
 
 // Whether a reply aborts a primary.

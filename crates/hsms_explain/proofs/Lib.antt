@@ -1,2 +1,5 @@
 mod Courses
+mod Halvings
+mod Outcomes
+mod Sorts
 mod Tellings

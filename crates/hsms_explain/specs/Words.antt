@@ -1,11 +1,16 @@
 -- The words that stand below a line.
-use Rattle.std.specs.Prelude.{ℕ, List, ◌++◌, codes, decimal}
+use Rattle.std.specs.Prelude.{ℕ, List, [], ◌++◌, codes, decimal, nat_lt, if◌then◌else◌}
+use Rattle.hsms_log.specs.declared.verdict.Why.{Why}
+use Rattle.hsms_log.specs.declared.verdict.Why.TheVariants.{Unreadable, Broken}
 use Rattle.hsms_machine.specs.declared.entry.Cause.{Cause}
 use Rattle.hsms_machine.specs.declared.entry.Cause.TheVariants.{T6, T7, T8, Length}
+use Rattle.hsms_tasks.specs.Verdict.{rule_name}
 use Rattle.hsms_explain.specs.declared.words.Tie.{Tie}
 use Rattle.hsms_explain.specs.declared.words.Tie.TheVariants.{Answers, Rejects, Expires}
 use Rattle.hsms_explain.specs.declared.words.Closing.{Closing}
 use Rattle.hsms_explain.specs.declared.words.Concern.{Concern}
+use Rattle.hsms_explain.specs.declared.words.Alike.{Alike}
+use Rattle.hsms_explain.specs.declared.words.Rest.{Rest}
 
 abbrev pub tie_word : Tie → List ℕ
 tie_word Answers = codes "answers"
@@ -24,3 +29,17 @@ cause_word T6 = codes "t6"
 cause_word T7 = codes "t7"
 cause_word T8 = codes "t8"
 cause_word Length = codes "length"
+
+abbrev pub why_name : Why → List ℕ
+why_name Unreadable = codes "unreadable"
+why_name (Broken rule) = rule_name rule
+
+-- the line by which failures are told, and how many
+abbrev pub alike_text : Alike → List ℕ
+alike_text a =
+    codes "FAIL " ++ why_name a.why ++ codes ": like line " ++ decimal a.line ++ (if nat_lt 1 a.times then codes ", " ++ decimal a.times ++ codes " times" else [])
+
+-- how many more there are, and up to which line
+abbrev pub rest_text : Rest → List ℕ
+rest_text r =
+    why_name r.why ++ codes ": and " ++ decimal r.count ++ codes " more like line " ++ decimal r.line ++ codes ", up to line " ++ decimal r.last

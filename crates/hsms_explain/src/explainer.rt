@@ -2,11 +2,14 @@
 
 ghost use Rattle.std.specs.Prelude.{◌≤◌};
 
+use crate::alike::Groups;
 use crate::known::Known;
 use crate::mending::judge_entry;
-use crate::note::{Failing, Note};
+use crate::note::{Failing, Note, group_notes};
 use crate::page::Page;
+use crate::primaries::Primaries;
 use crate::tally::Tally;
+use crate::text::write_words;
 use crate::told::{Carried, SETTINGS_LIMIT, Told, carried_by, limit_of};
 use crate::window::Window;
 use hsms_log::{read_settings, split_at_first, without_carriage_return};
@@ -21,13 +24,15 @@ pub struct Explainer {
     report: Report,
 }
 
-// What is told, which lines are, and what is noted of the line at hand.
+// What is told, which lines are, the failures so far, and what is noted of the line at hand, also as it is told.
 #[derive(Drop)]
 struct Report {
     page: Page,
     tally: Tally,
     window: Window,
+    groups: Groups,
     notes: Vec<Note>,
+    grouped: Vec<Note>,
 }
 
 // Whether the log is judged: not before its first line, and not where that can't be read. The number is that of the
@@ -66,7 +71,9 @@ impl Explainer {
                 page,
                 tally: Tally::new(alloc),
                 window: Window::new(alloc, excerpt),
+                groups: Groups::new(alloc),
                 notes: Vec::new(alloc),
+                grouped: Vec::new(alloc),
             },
         })
     }
@@ -129,7 +136,7 @@ impl Explainer {
                     .lay(b"nothing was judged: line 1 can't be read\n");
                 Ok(())
             }
-            Stage::Judged(_) => self.report.tell_end(alloc),
+            Stage::Judged(known) => self.report.tell_end(alloc, &known.primaries),
         }
     }
 
@@ -154,14 +161,35 @@ impl Report {
         self.window.finish(&mut self.page, lines);
     }
 
-    // Tells the failures behind a log that was judged.
-    fn tell_end(&mut self, alloc: Global) -> Result<(), AllocError> {
+    // Tells the failures behind a log that was judged, and what became of its primaries.
+    fn tell_end(&mut self, alloc: Global, primaries: &Primaries) -> Result<(), AllocError> {
         if self.tally.is_empty() {
             self.page.lay(b"nothing was judged: the log has no entry\n");
         }
+        self.tell_rests(alloc)?;
         let words = self.tally.words(alloc)?;
         self.page.lay(words.as_bytes());
         self.page.lay(b"\n");
+        self.tell_primaries(alloc, primaries)
+    }
+
+    // Tells of each kind of primaries what became of them.
+    fn tell_primaries(&mut self, alloc: Global, primaries: &Primaries) -> Result<(), AllocError> {
+        for place in 0..primaries.len() {
+            if let Some(outcome) = primaries.outcome(place) {
+                write_words(alloc, &mut self.page, &outcome)?;
+            }
+        }
+        Ok(())
+    }
+
+    // Tells of each group how many failures weren't told whole.
+    fn tell_rests(&mut self, alloc: Global) -> Result<(), AllocError> {
+        for group in self.groups.iter() {
+            if let Some(rest) = group.rest() {
+                write_words(alloc, &mut self.page, &rest)?;
+            }
+        }
         Ok(())
     }
 
@@ -172,8 +200,17 @@ impl Report {
                 self.tally.count(failing.why)?;
             }
         }
+        if !self.window.has_line(told.number) {
+            return Ok(());
+        }
+        group_notes(
+            &mut self.groups,
+            &self.notes,
+            told.number,
+            &mut self.grouped,
+        )?;
         self.window
-            .take(alloc, &mut self.page, told, &self.notes, max)
+            .take(alloc, &mut self.page, told, &self.grouped, max)
     }
 
     // Judges what a line carries, and notes what it closes and why it fails.

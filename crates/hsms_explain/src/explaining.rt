@@ -20,9 +20,10 @@ const BLOCK: usize = 4096;
 
 /// Tells each line of a log: its number, its time, and a frame as `hsms show` shows it; below it the line that it
 /// answers, rejects or says to have expired, and each rule that it breaks, with the line that this concerns and the way
-/// in which the log is gone on with. Behind the lines stands how often each rule was broken, and at the end the line of
-/// the verdict that `hsms audit` tells. It says whether the log passes. Lines that the excerpt leaves out are judged and
-/// not told.
+/// in which the log is gone on with. Of failures that are alike the first three are told whole, and the others by the
+/// line of the first. Behind the lines stands how many those were, how often each rule was broken, what became of the
+/// primaries that ask for a reply, and at the end the line of the verdict that `hsms audit` tells. It says whether the
+/// log passes. Lines that the excerpt leaves out are judged and not told.
 ///
 /// The log is read once, to its end, in blocks. What is told of a block is written before the next read, which may
 /// wait, so that a line is told when it has come. Of the log no more is held than a block, a line that goes on and the

@@ -2,15 +2,17 @@
 
 use crate::course::Course;
 use crate::past::Past;
+use crate::primaries::Primaries;
 use hsms_machine::Settings;
 use std::alloc::Global;
 
-/// The settings of a log, its judge, and what its connection showed.
+/// The settings of a log, its judge, what its connection showed, and what became of its primaries.
 #[derive(Drop)]
 pub struct Known {
     pub settings: Settings,
     pub course: Course,
     pub past: Past,
+    pub primaries: Primaries,
 }
 
 impl Known {
@@ -20,6 +22,7 @@ impl Known {
             settings,
             course: Course::new(alloc, settings),
             past: Past::new(alloc),
+            primaries: Primaries::new(alloc),
         }
     }
 }

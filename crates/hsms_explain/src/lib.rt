@@ -9,16 +9,22 @@
 //! ```
 #![tactic(auto)]
 
+mod alike;
 mod course;
 mod expecting;
 mod explainer;
 mod explaining;
+mod histogram;
 mod judging;
 mod known;
+pub mod laws;
 mod mending;
 mod note;
 mod page;
 mod past;
+mod primaries;
+mod replies;
+mod sort;
 mod step;
 mod tally;
 mod text;

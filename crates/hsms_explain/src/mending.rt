@@ -5,6 +5,7 @@ use crate::expecting::expected_of;
 use crate::judging::judge_step;
 use crate::known::Known;
 use crate::note::{Failing, Note};
+use crate::sort::sort_of;
 use crate::step::{Step, What};
 use crate::words::Closing;
 use hsms_frame::{Kind, kind};
@@ -44,6 +45,7 @@ pub fn judge_entry(
             Judged::Lawful(closed) => {
                 let line = known.course.line();
                 known.past.note(line, step, closed.is_some())?;
+                known.primaries.note(alloc, line, step, closed)?;
             }
             Judged::Broken(failure) => go_on(&mut pending, step, failure.remedy)?,
         }
@@ -77,6 +79,7 @@ fn closing(step: Step, opening: Opening) -> Closing {
 
 fn failing(known: &Known, step: Step, text: &[u8], failure: Failure) -> Failing {
     Failing {
+        sort: sort_of(failure.rule, step.what),
         why: Why::Broken(failure.rule),
         sentence: sentence_of(step.what, failure.rule),
         concerns: failure.concerns,

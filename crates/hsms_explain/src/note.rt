@@ -1,9 +1,12 @@
 //! What is told of a line besides what it says.
 
+use crate::alike::Groups;
 use crate::expecting::Expected;
-use crate::words::Closing;
+use crate::sort::UNREADABLE_SORT;
+use crate::words::{Alike, Closing};
 use hsms_log::Why;
 use hsms_machine::Remedy;
+use std::alloc::AllocError;
 
 // The words for a line that can't be read.
 const UNREADABLE: &str = "it can't be read";
@@ -15,12 +18,15 @@ pub enum Note {
     Closes(Closing),
     /// It fails.
     Fails(Failing),
+    /// It fails as a line before it does.
+    FailsAlike(Alike),
 }
 
-/// Why a line fails, in words too, the line that this concerns, what would have been right, and how the log is gone on
-/// with. One that can't be read is left out.
+/// Why a line fails, in words too, what is alike in such failures, the line that this concerns, what would have been
+/// right, and how the log is gone on with. One that can't be read is left out.
 #[derive(Clone, Copy, Debug)]
 pub struct Failing {
+    pub sort: u64,
     pub why: Why,
     pub sentence: &'static str,
     pub concerns: Option<u64>,
@@ -32,6 +38,7 @@ impl Failing {
     /// That a line can't be read.
     pub fn unreadable() -> Failing {
         Failing {
+            sort: UNREADABLE_SORT,
             why: Why::Unreadable,
             sentence: UNREADABLE,
             concerns: None,
@@ -41,15 +48,41 @@ impl Failing {
     }
 }
 
-/// Whether the line of these notes fails.
+/// Whether the line of these notes fails in a way that is told whole.
 pub fn has_failure(notes: &[Note]) -> bool {
     notes.iter().any(|note| matches!(note, Note::Fails(_)))
 }
 
-/// What the line of these notes closes.
-pub fn closing_in(notes: &[Note]) -> Option<Closing> {
-    match notes.first() {
-        Some(Note::Closes(closing)) => Some(*closing),
-        Some(Note::Fails(_)) | None => None,
+/// Puts the notes of a line in the way in which they are told: what fails as failures before it do by the line of the
+/// first of these.
+pub fn group_notes(
+    groups: &mut Groups,
+    notes: &[Note],
+    line: u64,
+    grouped: &mut Vec<Note>,
+) -> Result<(), AllocError> {
+    grouped.clear();
+    for note in notes {
+        match note {
+            Note::Fails(failing) => match groups.count(failing.sort, failing.why, line)? {
+                Some(like) => push_alike(grouped, failing.why, like)?,
+                None => grouped.push(*note)?,
+            },
+            Note::Closes(_) | Note::FailsAlike(_) => grouped.push(*note)?,
+        }
     }
+    Ok(())
+}
+
+// Puts a failure that is told by a line. Where the last one is told by it too, they are counted.
+fn push_alike(grouped: &mut Vec<Note>, why: Why, line: u64) -> Result<(), AllocError> {
+    if let Some(Note::FailsAlike(last)) = grouped.last_mut() {
+        if last.why == why && last.line == line {
+            last.times = last.times.saturating_add(1);
+            return Ok(());
+        }
+    }
+    let times = 1;
+    grouped.push(Note::FailsAlike(Alike { why, line, times }))?;
+    Ok(())
 }

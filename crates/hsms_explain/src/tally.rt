@@ -1,7 +1,7 @@
 //! How often each rule was broken.
 
+use crate::words::name_of;
 use hsms_log::Why;
-use hsms_tasks::rule_name;
 use std::alloc::{AllocError, Global};
 
 /// How often lines failed, and why, in the order in which it first happened; and how many entries there were.
@@ -51,13 +51,5 @@ impl Tally {
             write!(words, " {name}={count}")?;
         }
         format!(in alloc; "failures={all}{words}")
-    }
-}
-
-/// The name of the rule.
-pub fn name_of(why: Why) -> &'static str {
-    match why {
-        Why::Unreadable => "unreadable",
-        Why::Broken(rule) => rule_name(rule),
     }
 }

@@ -3,9 +3,8 @@
 use crate::note::{Failing, Note};
 use crate::page::Page;
 use crate::step::{Step, What};
-use crate::tally::name_of;
 use crate::told::{Carried, Told};
-use crate::words::{Concern, GoingOn};
+use crate::words::{Concern, GoingOn, name_of};
 use hsms_log::split_at_first;
 use hsms_machine::{GREATEST_DEPTH, Mark};
 use std::alloc::{AllocError, Global};
@@ -37,6 +36,18 @@ pub fn write_line(
 pub fn write_gap(page: &mut Page) {
     page.lay(BELOW);
     page.lay(b"..\n");
+}
+
+/// Writes words in a line of their own.
+pub fn write_words<D: fmt::Display>(
+    alloc: Global,
+    page: &mut Page,
+    words: &D,
+) -> Result<(), AllocError> {
+    let words = words.to_string(alloc)?;
+    page.lay(words.as_bytes());
+    page.lay(b"\n");
+    Ok(())
 }
 
 // Writes what a line says.
@@ -94,6 +105,7 @@ fn write_note(alloc: Global, page: &mut Page, note: &Note) -> Result<(), AllocEr
     match note {
         Note::Closes(closing) => write_below(alloc, page, closing),
         Note::Fails(failing) => write_failing(alloc, page, failing),
+        Note::FailsAlike(alike) => write_below(alloc, page, alike),
     }
 }
 
@@ -126,11 +138,8 @@ fn write_below<D: fmt::Display>(
     page: &mut Page,
     words: &D,
 ) -> Result<(), AllocError> {
-    let words = words.to_string(alloc)?;
     page.lay(BELOW);
-    page.lay(words.as_bytes());
-    page.lay(b"\n");
-    Ok(())
+    write_words(alloc, page, words)
 }
 
 // Writes words below those of a failure.

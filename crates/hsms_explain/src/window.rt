@@ -1,10 +1,9 @@
 //! Which lines of a log are told, and when.
 
-use crate::note::{Note, closing_in, has_failure};
+use crate::note::{Note, has_failure};
 use crate::page::Page;
 use crate::text::{write_gap, write_line};
 use crate::told::{Carried, Told, carried_by};
-use crate::words::Closing;
 use hsms_options::{Excerpt, Lines};
 use std::alloc::{AllocError, Global};
 use std::collections::VecDeque;
@@ -22,13 +21,13 @@ pub struct Window {
     octets: Vec<u8>,
 }
 
-// A line that is held: its number, its octets as far as they are told, whether they are an entry, and what this closes.
+// A line that is held: its number, its octets as far as they are told, whether they are an entry, and its notes.
 #[derive(Drop)]
 struct Held {
     number: u64,
     octets: Vec<u8>,
     is_entry: bool,
-    closing: Option<Closing>,
+    notes: Vec<Note>,
 }
 
 // Written out: a proof over one that is dropped has one step for it, not one for each of its parts.
@@ -52,7 +51,7 @@ impl Held {
             number: 0,
             octets: Vec::new(alloc),
             is_entry: false,
-            closing: None,
+            notes: Vec::new(alloc),
         }
     }
 
@@ -82,7 +81,12 @@ impl Window {
         }
     }
 
-    /// Tells a line of a log whose frames have at most `max` octets, holds it, or passes it over.
+    /// Whether the line is one of the excerpt.
+    pub fn has_line(&self, number: u64) -> bool {
+        self.excerpt.has_line(number)
+    }
+
+    /// Tells a line of the excerpt, of a log whose frames have at most `max` octets, or holds it.
     pub fn take(
         &mut self,
         alloc: Global,
@@ -91,9 +95,6 @@ impl Window {
         notes: &[Note],
         max: u32,
     ) -> Result<(), AllocError> {
-        if !self.excerpt.has_line(told.number) {
-            return Ok(());
-        }
         if self.is_told(notes) {
             self.tell_held(alloc, page, max)?;
             self.tell(alloc, page, told, notes)
@@ -140,7 +141,8 @@ impl Window {
         let mut held = self.vacant(alloc);
         held.number = told.number;
         held.is_entry = matches!(told.carried, Carried::Entry(_, _));
-        held.closing = closing_in(notes);
+        held.notes.clear();
+        held.notes.extend_from_slice(notes)?;
         held.octets.clear();
         let shown = told.octets.len().min(told.limit);
         held.octets.extend_from_slice(&told.octets[..shown])?;
@@ -183,10 +185,7 @@ impl Window {
             limit: held.octets.len(),
             carried,
         };
-        match held.closing {
-            Some(closing) => write_line(alloc, page, told, &[Note::Closes(closing)]),
-            None => write_line(alloc, page, told, &[]),
-        }
+        write_line(alloc, page, told, &held.notes)
     }
 
     // Tells that lines are left out before this one, where it doesn't follow the last one that was told.

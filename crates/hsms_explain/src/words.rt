@@ -1,9 +1,11 @@
 //! The words that stand below a line.
 
 ghost use Rattle.std.specs.Prelude.{◌≡◌, Some, codes};
-ghost use Rattle.hsms_explain.specs.Words.{cause_word, closing_text, concern_text, tie_word};
+ghost use Rattle.hsms_explain.specs.Words.{alike_text, cause_word, closing_text, concern_text, rest_text, tie_word, why_name};
 
+use hsms_log::Why;
 use hsms_machine::{Cause, Remedy};
+use hsms_tasks::rule_name;
 use std::fmt;
 
 /// What an entry is to the transaction that it closes.
@@ -55,6 +57,63 @@ impl fmt::Display for Concern {
     fn fmt<W: fmt::Write>(&self, f: &mut fmt::Formatter<W>) -> fmt::Result {
         let line = self.line;
         write!(f, "concerns line {line}")
+    }
+}
+
+/// That a line fails as another one before it does, so many times.
+#[derive(Clone, Copy, Debug)]
+pub struct Alike {
+    pub why: Why,
+    pub line: u64,
+    pub times: u64,
+}
+
+impl fmt::Display for Alike {
+    ghost output = { λ alike. Some (alike_text alike) };
+
+    fn fmt<W: fmt::Write>(&self, f: &mut fmt::Formatter<W>) -> fmt::Result {
+        let name = name_of(self.why);
+        let line = self.line;
+        let times = self.times;
+        if times > 1 {
+            write!(f, "FAIL {name}: like line {line}, {times} times")
+        } else {
+            write!(f, "FAIL {name}: like line {line}")
+        }
+    }
+}
+
+/// That so many more lines fail as a line does, up to the last one.
+#[derive(Clone, Copy, Debug)]
+pub struct Rest {
+    pub why: Why,
+    pub count: u64,
+    pub line: u64,
+    pub last: u64,
+}
+
+impl fmt::Display for Rest {
+    ghost output = { λ rest. Some (rest_text rest) };
+
+    fn fmt<W: fmt::Write>(&self, f: &mut fmt::Formatter<W>) -> fmt::Result {
+        let name = name_of(self.why);
+        let count = self.count;
+        let line = self.line;
+        let last = self.last;
+        write!(
+            f,
+            "{name}: and {count} more like line {line}, up to line {last}"
+        )
+    }
+}
+
+/// The name of the rule.
+pub fn name_of(why: Why) -> &'static str
+    ensures { result.now ≡ why_name why }
+{
+    match why {
+        Why::Unreadable => "unreadable",
+        Why::Broken(rule) => rule_name(rule),
     }
 }
 

@@ -1,6 +1,6 @@
 //! An audit that is told its text in pieces.
 
-ghost use Rattle.std.specs.Prelude.{◌+◌, ◌++◌, [], List, ℕ, IfOk, OnOk, length};
+ghost use Rattle.std.specs.Prelude.{◌≡◌, ◌+◌, ◌++◌, [], List, ℕ, IfOk, OnOk, length};
 ghost use Rattle.hsms_log.specs.Verdict.{Judges};
 ghost use Rattle.hsms_log.specs.Auditor.{HasHeard, HasAtMost, HasRoom};
 
@@ -42,6 +42,13 @@ impl Auditor {
             self.found = self.reader.take(alloc, octets)?;
         }
         Ok(())
+    }
+
+    /// The verdict that each text has which begins with what was taken in, where a line of it fails.
+    pub fn failure(&self) -> Option<Verdict>
+        ensures { result ≡ self.now.found }
+    {
+        self.found
     }
 
     /// The verdict on the text, which ends here: that of [`audit`](crate::audit).

@@ -112,6 +112,7 @@ spells words (request.Task asked.Audit) work = work
 spells words (request.Task (asked.Show max depth form)) work = work
 spells words (request.Task (asked.Encode device system max depth hex)) work = work
 spells words (request.Explain excerpt) work = work
+spells words (request.Capture capturing) work = work
 spells words (request.Serve service) work = work
 
 -- the matches are those of the words
@@ -169,6 +170,7 @@ asks_explained words app k (Ok (request.Task asked.Audit)) is fails (help, kind)
 asks_explained words app k (Ok (request.Task (asked.Show max depth form))) is fails (help, kind) = absurd help
 asks_explained words app k (Ok (request.Task (asked.Encode device system max depth hex))) is fails (help, kind) = absurd help
 asks_explained words app k (Ok (request.Explain excerpt)) is fails (help, kind) = absurd help
+asks_explained words app k (Ok (request.Capture capturing)) is fails (help, kind) = absurd help
 asks_explained words app k (Ok (request.Serve service)) is fails (help, kind) = absurd help
 asks_explained words app k (Err fault) is fails help = tt
 

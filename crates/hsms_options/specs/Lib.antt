@@ -1,5 +1,6 @@
 pub mod Number
 pub mod Excerpt
+pub mod Capturing
 pub mod Options
 pub mod Sentence
 pub mod Service

@@ -11,6 +11,7 @@ use Rattle.hsms_options.specs.declared.options.Request.TheVariants as request
 use Rattle.hsms_options.specs.declared.options.Task.{Task}
 use Rattle.hsms_options.specs.declared.options.Task.TheVariants as asked
 use Rattle.hsms_options.specs.declared.service.Service.{Service}
+use Rattle.hsms_options.specs.Capturing.{HasCapturing, IsCapturingWithinLimits, capture_rules}
 use Rattle.hsms_options.specs.Number.{IsFlag, depth_number, device_number, flag_in, flag_option, max_number, number_in, option_of, system_number}
 use Rattle.hsms_options.specs.Excerpt.{HasExcerpt, IsExcerptWithinLimits, explain_rules}
 use Rattle.hsms_options.specs.Service.{AsksToServe, serve_rules}
@@ -32,6 +33,9 @@ audit_command = named (codes "audit")
 abbrev pub explain_command : Shape
 explain_command = record (named (codes "explain")) { rules = explain_rules }
 
+abbrev pub capture_command : Shape
+capture_command = record (named (codes "capture")) { rules = capture_rules }
+
 abbrev pub encode_command : Shape
 encode_command = record (named (codes "encode")) {
   rules = option_of device_number ∷ option_of system_number ∷ option_of max_number ∷ option_of depth_number ∷ flag_option (codes "hex") ∷ [];
@@ -40,11 +44,11 @@ encode_command = record (named (codes "encode")) {
 abbrev pub serve_command : Shape
 serve_command = record (named (codes "serve")) { rules = serve_rules }
 
--- the command, which wants one of the five subcommands, and has a version
+-- the command, which wants one of the six subcommands, and has a version
 abbrev pub command_line : App
 command_line = record {
   top = record (named (codes "hsms")) { is_leaf = false; subcommand_required = true; has_version = true };
-  subs = show_command ∷ audit_command ∷ explain_command ∷ encode_command ∷ serve_command ∷ [];
+  subs = show_command ∷ audit_command ∷ explain_command ∷ capture_command ∷ encode_command ∷ serve_command ∷ [];
 }
 
 -- ---- what is asked for
@@ -74,6 +78,7 @@ AsksForTask name rows (asked.Encode device system max depth hex) =
 abbrev pub AsksFor : Text → List Row → Request → Type 0
 AsksFor name rows (request.Task task) = AsksForTask name rows task
 AsksFor name rows (request.Explain excerpt) = (name ≡ codes "explain") × HasExcerpt rows excerpt
+AsksFor name rows (request.Capture capturing) = (name ≡ codes "capture") × HasCapturing rows capturing
 AsksFor name rows (request.Serve service) = (name ≡ codes "serve") × AsksToServe rows service
 
 -- the request to serve what is asked for
@@ -104,6 +109,7 @@ SpellsTask words (asked.Encode device system max depth hex) = SpellsWork words (
 abbrev pub Spells : List Text → Request → Type 0
 Spells words (request.Task task) = SpellsTask words task
 Spells words (request.Explain excerpt) = SpellsWork words (request.Explain excerpt)
+Spells words (request.Capture capturing) = SpellsWork words (request.Capture capturing)
 Spells words (request.Serve service) = SpellsWork words (request.Serve service)
 
 -- the words ask for no work, and nothing says that they call for help alone, or for the version alone
@@ -124,6 +130,7 @@ IsTaskWithinLimits (asked.Encode device system max depth hex) =
 abbrev pub IsWithinLimits : Request → Type 0
 IsWithinLimits (request.Task task) = IsTaskWithinLimits task
 IsWithinLimits (request.Explain excerpt) = IsExcerptWithinLimits excerpt
+IsWithinLimits (request.Capture capturing) = IsCapturingWithinLimits capturing
 IsWithinLimits (request.Serve service) = (1 ≤ service.port) × (service.port ≤ 65535)
 
 -- a text is to be printed
@@ -136,4 +143,5 @@ IsHelpText (asked.Encode device system max depth hex) = ⊥
 abbrev pub IsHelp : Request → Type 0
 IsHelp (request.Task task) = IsHelpText task
 IsHelp (request.Explain excerpt) = ⊥
+IsHelp (request.Capture capturing) = ⊥
 IsHelp (request.Serve service) = ⊥

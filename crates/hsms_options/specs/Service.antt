@@ -64,10 +64,11 @@ connection_rules =
     needed_option (codes "role") ∷ needed_option (codes "link") ∷ needed_option (codes "address") ∷ option_of port_number
     ∷ option_of device_number ∷ []
 
+abbrev pub time_rules : List Rule
+time_rules = option_of t3_number ∷ option_of t6_number ∷ option_of t7_number ∷ option_of t8_number ∷ []
+
 abbrev pub limit_rules : List Rule
-limit_rules =
-    option_of t3_number ∷ option_of t6_number ∷ option_of t7_number ∷ option_of t8_number ∷ option_of linktest_number
-    ∷ option_of max_number ∷ option_of depth_number ∷ []
+limit_rules = option_of linktest_number ∷ option_of max_number ∷ option_of depth_number ∷ []
 
 abbrev pub desk_rules : List Rule
 desk_rules =
@@ -79,7 +80,7 @@ again_rules =
     flag_option (codes "again") ∷ flag_option (codes "once") ∷ option_of connections_number ∷ option_of t5_number ∷ []
 
 abbrev pub serve_rules : List Rule
-serve_rules = connection_rules ++ (limit_rules ++ (desk_rules ++ again_rules))
+serve_rules = connection_rules ++ (time_rules ++ (limit_rules ++ (desk_rules ++ again_rules)))
 
 -- a command with these options more
 abbrev pub with_rules : App → List Rule → App
@@ -106,13 +107,18 @@ HasTimes rows t3 t6 t7 t8 =
     (number_in t3_number rows ≡ Some t3) × (number_in t6_number rows ≡ Some t6) × (number_in t7_number rows ≡ Some t7)
     × (number_in t8_number rows ≡ Some t8)
 
+-- the matches have the numbers of these settings
+abbrev pub HasNumbers : List Row → Parameters → Type 0
+HasNumbers rows s =
+    (number_in device_number rows ≡ Some s.device) × HasTimes rows s.t3 s.t6 s.t7 s.t8
+    × (number_in max_number rows ≡ Some s.max) × (number_in depth_number rows ≡ Some s.depth)
+
 -- the matches have these settings, of a log of one connection
 abbrev pub HasSettings : List Row → Parameters → Type 0
 HasSettings rows s =
     (s.version ≡ 1)
     × (first_of (codes "role") rows ≡ Some (role_word s.role)) × (first_of (codes "link") rows ≡ Some (side_word s.link))
-    × (number_in device_number rows ≡ Some s.device) × HasTimes rows s.t3 s.t6 s.t7 s.t8
-    × (number_in max_number rows ≡ Some s.max) × (number_in depth_number rows ≡ Some s.depth)
+    × HasNumbers rows s
 
 -- the matches say so of connections one after the other
 abbrev pub HasRepeat : List Row → Repeat → Type 0

@@ -4,6 +4,7 @@ ghost use Rattle.std.specs.Prelude.{◌≡◌, IfOk, []};
 ghost use Rattle.clap.specs.Words.{app_of};
 ghost use Rattle.hsms_options.specs.Options.{audit_command, command_line, encode_command, explain_command, show_command};
 
+use crate::describing_capture::capture_command;
 use crate::describing_options::{
     around_option, bare_option, depth_option, device_option, from_option, hex_input_option,
     hex_option, max_option, only_option, system_option, to_option,
@@ -68,7 +69,7 @@ const ENCODE_HELP: &str = "Example: echo 'S1F13 W <L> .' | hsms encode > message
 
 const VERSION: &str = "0.2 (session logs of versions 1 and 2)";
 
-/// The command `hsms`, which wants one of five subcommands.
+/// The command `hsms`, which wants one of six subcommands.
 pub fn command<'a>(alloc: Global) -> Result<Command<'a>, AllocError>
     ensures { IfOk result (λ command. app_of command ≡ command_line) }
 {
@@ -80,6 +81,7 @@ pub fn command<'a>(alloc: Global) -> Result<Command<'a>, AllocError>
     let hsms = hsms.subcommand(show_command(alloc)?)?;
     let hsms = hsms.subcommand(audit_command(alloc))?;
     let hsms = hsms.subcommand(explain_command(alloc)?)?;
+    let hsms = hsms.subcommand(capture_command(alloc)?)?;
     let hsms = hsms.subcommand(encode_command(alloc)?)?;
     hsms.subcommand(serve_command(alloc)?)
 }

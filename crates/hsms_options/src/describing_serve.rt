@@ -5,7 +5,7 @@ ghost use Rattle.clap.specs.Words.{app_of, rule_of};
 ghost use Rattle.clap.specs.declared.builder.value_parser.ValueParser.TheVariants.{Signed};
 ghost use Rattle.hsms_options.specs.Number.{option_of};
 ghost use Rattle.hsms_options.specs.Options.{serve_command};
-ghost use Rattle.hsms_options.specs.Service.{again_rules, connection_rules, connections_number, desk_rules, limit_rules, linktest_number, needed_option, port_number, text_option, with_rules};
+ghost use Rattle.hsms_options.specs.Service.{again_rules, connection_rules, connections_number, desk_rules, limit_rules, linktest_number, needed_option, port_number, text_option, time_rules, with_rules};
 
 use crate::describing_options::{depth_option, device_option, flag, max_option};
 use crate::limits::{GREATEST_PORT, LEAST_PORT};
@@ -33,7 +33,8 @@ pub fn serve_command<'a>(alloc: Global) -> Result<Command<'a>, AllocError>
         .override_usage(SERVE_USAGE)
         .after_help(SERVE_HELP);
     let connected = with_connection(alloc, serve)?;
-    let limited = with_limits(alloc, connected)?;
+    let timed = with_times(alloc, connected)?;
+    let limited = with_limits(alloc, timed)?;
     let answering = with_desk(alloc, limited)?;
     with_again(alloc, answering)
 }
@@ -60,9 +61,9 @@ fn with_connection<'a>(alloc: Global, command: Command<'a>) -> Result<Command<'a
         .arg(device_option(alloc))
 }
 
-// Adds its times, and the greatest length and depth of its messages.
-fn with_limits<'a>(alloc: Global, command: Command<'a>) -> Result<Command<'a>, AllocError>
-    ensures { IfOk result (λ c. app_of c ≡ with_rules (app_of command.entry) limit_rules) }
+/// Adds the times of an end to a command's options.
+pub fn with_times<'a>(alloc: Global, command: Command<'a>) -> Result<Command<'a>, AllocError>
+    ensures { IfOk result (λ c. app_of c ≡ with_rules (app_of command.entry) time_rules) }
 {
     command
         .arg(time_option(
@@ -84,7 +85,14 @@ fn with_limits<'a>(alloc: Global, command: Command<'a>) -> Result<Command<'a>, A
             alloc,
             "t8",
             "Longest time between octets of a message, in ms: 1 to 3600000 [default: 5000]",
-        ))?
+        ))
+}
+
+// Adds when it tests its link, and the greatest length and depth of its messages.
+fn with_limits<'a>(alloc: Global, command: Command<'a>) -> Result<Command<'a>, AllocError>
+    ensures { IfOk result (λ c. app_of c ≡ with_rules (app_of command.entry) limit_rules) }
+{
+    command
         .arg(linktest_option(alloc))?
         .arg(max_option(alloc))?
         .arg(depth_option(alloc))

@@ -1,8 +1,9 @@
 //! The command line of `hsms`: how it is described to `clap`, and what its words ask for.
 //!
-//! [`parse`] answers what the words ask for, as a [`Request`]: a [`Task`] between standard input and standard output, or
-//! a connection that is to be served. What the command refuses, and what stops it, is a [`ToolFault`]; [`exit_status`]
-//! has the status with which the command ends:
+//! [`parse`] answers what the words ask for, as a [`Request`]: a [`Task`] between standard input and standard output, a
+//! log that is to be explained, a capture whose connections are to be looked at, or a connection that is to be served.
+//! What the command refuses, and what stops it, is a [`ToolFault`]; [`exit_status`] has the status with which the command
+//! ends:
 //!
 //! ```
 //! let request = parse(alloc, &words)?;
@@ -10,7 +11,9 @@
 //! ```
 #![tactic(auto)]
 
+mod capturing;
 mod describing;
+mod describing_capture;
 mod describing_options;
 mod describing_serve;
 mod excerpt;
@@ -22,6 +25,7 @@ mod sentences;
 mod service;
 mod values;
 
+pub use capturing::Capturing;
 pub use describing::command;
 pub use excerpt::{Excerpt, Lines};
 pub use fault::{ToolFault, exit_status, no_request, refused};

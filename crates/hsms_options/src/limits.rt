@@ -51,5 +51,8 @@ pub const DEFAULT_TURNS: u32 = u32::MAX;
 /// The least TCP port.
 pub const LEAST_PORT: u16 = 1;
 
+/// The TCP port of HSMS in a capture.
+pub const DEFAULT_PORT: u32 = 5_000;
+
 /// The greatest TCP port.
 pub const GREATEST_PORT: u16 = u16::MAX;

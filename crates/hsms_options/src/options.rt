@@ -9,6 +9,7 @@ ghost use Rattle.hsms_options.specs.declared.options.Request.{Request};
 ghost use Rattle.hsms_options.specs.declared.options.Request.TheVariants as request;
 ghost use Rattle.hsms_options.specs.declared.options.Task.{Task};
 
+use crate::capturing::{Capturing, capturing_of};
 use crate::describing::command;
 use crate::excerpt::{Excerpt, excerpt_of};
 use crate::fault::{ToolFault, no_request};
@@ -25,6 +26,8 @@ pub enum Request {
     Task(Task),
     /// The log of standard input is to be explained, and this is to be told of it.
     Explain(Excerpt),
+    /// The capture of standard input is to be read, and this is to be told of its connections.
+    Capture(Capturing),
     /// A connection is to be served.
     Serve(Service),
 }
@@ -104,6 +107,7 @@ fn asked_by(alloc: Global, name: &str, options: &ArgMatches<'_>) -> Result<Reque
     match name {
         "audit" => Ok(Request::Task(Task::Audit)),
         "explain" => of_excerpt(alloc, excerpt_of(options)),
+        "capture" => of_capturing(alloc, capturing_of(options)),
         "show" => of_task(alloc, asked_to_show(options)),
         "encode" => of_task(alloc, asked_to_encode(options)),
         "serve" => of_service(asked_to_serve(alloc, options)),
@@ -127,6 +131,16 @@ fn of_excerpt(alloc: Global, asked: Option<Excerpt>) -> Result<Request, ToolFaul
 {
     match asked {
         Some(excerpt) => Ok(Request::Explain(excerpt)),
+        None => Err(no_request(alloc)),
+    }
+}
+
+fn of_capturing(alloc: Global, asked: Option<Capturing>) -> Result<Request, ToolFault>
+    ensures some { IfSome asked (λ capturing. result ≡ Ok (request.Capture capturing)) }
+    ensures none { asked ≡ None → IsErrAnd result (IsRefusedAs (codes "command line")) }
+{
+    match asked {
+        Some(capturing) => Ok(Request::Capture(capturing)),
         None => Err(no_request(alloc)),
     }
 }

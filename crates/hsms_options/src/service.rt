@@ -6,7 +6,7 @@ ghost use Rattle.hsms_machine.specs.Settings.{IsTimeLimit, Parameters};
 ghost use Rattle.hsms_machine.specs.declared.settings.Role.{Role};
 ghost use Rattle.hsms_machine.specs.declared.settings.Side.{Side};
 ghost use Rattle.hsms_options.specs.Number.{number_in};
-ghost use Rattle.hsms_options.specs.Service.{AsksToServe, HasSettings, HasTerms, HasTimes, port_number, role_word, side_word, text_in, time_number};
+ghost use Rattle.hsms_options.specs.Service.{AsksToServe, HasNumbers, HasSettings, HasTerms, HasTimes, port_number, role_word, side_word, text_in, time_number};
 ghost use Rattle.hsms_options.specs.Status.{IsRefusedFor};
 ghost use Rattle.hsms_options.specs.declared.repeating.Repeat.{Repeat};
 ghost use Rattle.hsms_options.specs.declared.service.Service.{Service};
@@ -141,6 +141,15 @@ fn settings_of(options: &ArgMatches<'_>) -> Option<Settings>
 {
     let role = role_of(options)?;
     let link = side_of(options)?;
+    settings_with(options, role, link)
+}
+
+/// The settings of an end of this role and side with the numbers of the options, for a log of one connection.
+pub fn settings_with(options: &ArgMatches<'_>, role: Role, link: Side) -> Option<Settings>
+    ensures ends { IfSome result (λ s. (s.version ≡ 1) × (s.role ≡ role) × (s.link ≡ link)) }
+    ensures asks { IfSome result (HasNumbers (rows_of (found_of options.now))) }
+    ensures none { result ≡ None → (settings : Parameters) → HasNumbers (rows_of (found_of options.now)) settings → ⊥ }
+{
     let device = device_of(options)?;
     let times = times_of(options)?;
     let max = max_of(options)?;
@@ -186,7 +195,15 @@ fn role_of(options: &ArgMatches<'_>) -> Option<Role>
     ensures none { result ≡ None → (role : Role)
         → first_of (codes "role") (rows_of (found_of options.now)) ≡ Some (role_word role) → ⊥ }
 {
-    match text_of(options, "role")? {
+    role_named(text_of(options, "role")?)
+}
+
+/// The role of this name.
+pub fn role_named(name: &str) -> Option<Role>
+    ensures some { IfSome result (λ role. name.now ≡ role_word role) }
+    ensures none { result ≡ None → (role : Role) → name.now ≡ role_word role → ⊥ }
+{
+    match name {
         "host" => Some(Role::Host),
         "equipment" => Some(Role::Equipment),
         _ => None,

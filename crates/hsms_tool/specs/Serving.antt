@@ -22,10 +22,11 @@ use Rattle.hsms_options.specs.declared.fault.ToolFault.TheVariants.{Refused, Dev
 use Rattle.hsms_options.specs.declared.service.Service.{Service}
 
 -- what a desk answers
-abbrev pub own_answer : OwnDesk → Content → Answered
-own_answer (Host desk) message = scripted_answer desk.replies.items host_answer message
-own_answer (Equipment desk) message =
-    scripted_answer desk.replies.items (equipment_answer desk.own.mdln.items desk.own.softrev.items) message
+abbrev pub own_answer : OwnDesk → ℕ → Content → Answered
+own_answer (Host desk) before message = scripted_answer desk.replies.items (λ before message. host_answer message) before message
+own_answer (Equipment desk) before message =
+    scripted_answer desk.replies.items (λ before message. equipment_answer desk.own.mdln.items desk.own.softrev.items message)
+    before message
 
 -- the desk of a service with these replies: a host's, or that of equipment with its model and software revision
 abbrev pub IsDeskOf : Service → List Message → OwnDesk → Type 0

@@ -20,6 +20,8 @@ pub enum Known {
     },
     /// The input, which is to be notation.
     Notation(Vec<u8>),
+    /// The input is to be a capture of packets.
+    Capture,
     /// No connection was had at this address and port, where the system said so.
     Link {
         address: String,
@@ -72,12 +74,13 @@ pub fn words_for(alloc: Global, failure: &Failure) -> Result<String, AllocError>
         Known::Notation(input) => notation_words(alloc, name.as_str(), input),
         Known::Octets { octets, count } => {
             let words = if *count == FRONT && is_capture(octets) {
-                "this is a pcap file, a capture of packets: docs/CAPTURES.md tells how its messages are had"
+                "this is a pcap file, a capture of packets: hsms capture reads it, and docs/CAPTURES.md tells more"
             } else {
                 sentence(name.as_str())
             };
             String::from_str(alloc, words)
         }
+        Known::Capture => String::from_str(alloc, capture_sentence(name.as_str())),
         Known::Nothing => String::from_str(alloc, sentence(name.as_str())),
     }
 }
@@ -139,13 +142,36 @@ fn link_words(
     }
 }
 
+/// What a fault of a capture of this name says, and what to do; those of any input are in the other table.
+fn capture_sentence(name: &str) -> &'static str {
+    match first_word(name) {
+        "Lost" =>
+            "octets are missing from this packet on: capture again at the end itself, whole packets (-s 0), and none dropped",
+        "Length" =>
+            "a message is shorter than 10 octets or longer than --max: is this the port of HSMS? Else give a greater --max",
+        "Differs" =>
+            "what this packet brings again isn't what came first: capture nearer to the end, where one device alone sends it",
+        "Full" =>
+            "too much waits for octets that are missing: capture again at the end itself, whole packets and none dropped",
+        "CutOff" =>
+            "the capture ends within a packet, or is empty: end the program that writes it first, or see what cut it off",
+        "Capture" =>
+            "here the file isn't one of pcap or pcapng: give the one that tcpdump, tshark or Wireshark wrote, unpacked",
+        "Time" =>
+            "this packet has no time, or none that a log can have: capture again with times, or leave the packet out",
+        "Overlap" =>
+            "here a connection comes up while another one is up, and a log has one at a time: without --log each is judged",
+        "Peer" =>
+            "this connection is one of other addresses: take those of two alone, as tcpdump -r FILE -w PART host A and host B",
+        "NoConnection" =>
+            "no connection came up at --port: is this the port of HSMS, and does the capture begin before the connection does?",
+        _ => sentence(name),
+    }
+}
+
 /// What a fault of this name says, and what to do. It is the one table of these words.
 fn sentence(name: &str) -> &'static str {
-    let word = match name.split_once(' ') {
-        Some((word, _)) => word,
-        None => name,
-    };
-    match word {
+    match first_word(name) {
         "command" => "see hsms --help, and --help behind a command",
         "TooShort" =>
             "a message's length is below 10, so these aren't HSMS messages, or some octets are missing before it",
@@ -174,5 +200,13 @@ fn sentence(name: &str) -> &'static str {
         "Turns" => "all turns are used, and the connection was up: give more --turns",
         "Memory" => "memory is wanting: give the command more, or a smaller input",
         _ => "see docs/FORMATS.md",
+    }
+}
+
+// The word of a fault, without its place.
+fn first_word(name: &str) -> &str {
+    match name.split_once(' ') {
+        Some((word, _)) => word,
+        None => name,
     }
 }

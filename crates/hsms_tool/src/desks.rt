@@ -19,12 +19,17 @@ pub enum OwnDesk {
 impl Desk for OwnDesk {
     ghost use Rattle.hsms_tool.specs.Serving.{own_answer};
 
-    ghost answers = { λ desk message. own_answer desk message };
+    ghost answers = { λ desk before message. own_answer desk before message };
 
-    fn answer(&self, alloc: Global, message: &Message) -> Result<Answer, AllocError> {
+    fn answer_after(
+        &self,
+        alloc: Global,
+        message: &Message,
+        before: u64,
+    ) -> Result<Answer, AllocError> {
         match self {
-            OwnDesk::Host(desk) => desk.answer(alloc, message),
-            OwnDesk::Equipment(desk) => desk.answer(alloc, message),
+            OwnDesk::Host(desk) => desk.answer_after(alloc, message, before),
+            OwnDesk::Equipment(desk) => desk.answer_after(alloc, message, before),
         }
     }
 }

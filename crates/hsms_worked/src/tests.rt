@@ -6,6 +6,7 @@ mod corners;
 mod desks;
 mod edges;
 mod failing;
+mod in_turn;
 mod limits;
 mod order;
 mod own;

@@ -36,6 +36,7 @@ const LATE_TOLD: &[u8] =
     line 5 has its system bytes, and expired at line 6\n            \
     goes on as if it were thrown away\n\
     failures=2 T3Overdue=1 NoTransaction=1\n\
+    S1F1 W sent=1 expired=1\n\
     fail line=6 rule=T3Overdue\n";
 
 // A connection that isn't selected within T7, and behind it another one.
@@ -166,6 +167,7 @@ const LATE_FAILURES_TOLD: &[u8] = b"       ..\n     \
     line 5 has its system bytes, and expired at line 6\n            \
     goes on as if it were thrown away\n\
     failures=2 T3Overdue=1 NoTransaction=1\n\
+    S1F1 W sent=1 expired=1\n\
     fail line=6 rule=T3Overdue\n";
 
 // Lines 2 to 4, of which the last one closes what line 3 opened.
@@ -183,6 +185,7 @@ const LATE_FRONT_TOLD: &[u8] = b"       ..\n     \
     answers line 3 after 5 ms\n       \
     ..\n\
     failures=2 T3Overdue=1 NoTransaction=1\n\
+    S1F1 W sent=1 expired=1\n\
     fail line=6 rule=T3Overdue\n";
 
 #[test]
@@ -190,6 +193,125 @@ fn tells_an_excerpt(rt: HostRuntime) -> Result<(), Fail> {
     let alloc = rt.alloc();
     judge_log(&rt, alloc, FAILURES, LATE, false, LATE_FAILURES_TOLD)?;
     judge_log(&rt, alloc, FRONT, LATE, false, LATE_FRONT_TOLD)
+}
+
+// Data of another device: of the first three of a session each is told whole.
+const ALIKE: &[u8] = b"hsms-log 1 host active 0 45000 6000 10000 5000 1048576 32\n\
+    0 up\n\
+    0 > ffff0000000100000001\n\
+    5 < ffff0000000200000001\n\
+    10 < 0001060b000000000001\n\
+    11 < 0001060b000000000002\n\
+    12 < 0001060b000000000003\n\
+    13 < 0002060b000000000004\n\
+    14 < 0001060b000000000005\n\
+    15 < 0001060b000000000006\n\
+    16 < 0001060b000000000007\n";
+
+const ALIKE_TOLD: &[u8] = b"       ..\n     \
+    7      12 < data 0001 00000003 S6F11 .\n       \
+    FAIL Session: its session ID isn't that of such a message\n            \
+    session 0000 expected, 0001 came\n            \
+    goes on as if it were thrown away\n     \
+    8      13 < data 0002 00000004 S6F11 .\n       \
+    FAIL Session: its session ID isn't that of such a message\n            \
+    session 0000 expected, 0002 came\n            \
+    goes on as if it were thrown away\n     \
+    9      14 < data 0001 00000005 S6F11 .\n       \
+    FAIL Session: its session ID isn't that of such a message\n            \
+    session 0000 expected, 0001 came\n            \
+    goes on as if it were thrown away\n    \
+    10      15 < data 0001 00000006 S6F11 .\n       \
+    FAIL Session: its session ID isn't that of such a message\n            \
+    session 0000 expected, 0001 came\n            \
+    goes on as if it were thrown away\n    \
+    11      16 < data 0001 00000007 S6F11 .\n       \
+    FAIL Session: like line 7\n\
+    Session: and 1 more like line 7, up to line 11\n\
+    failures=7 Session=7\n\
+    fail line=5 rule=Session\n";
+
+const ALIKE_FAILURES_TOLD: &[u8] = b"       ..\n     \
+    5      10 < data 0001 00000001 S6F11 .\n       \
+    FAIL Session: its session ID isn't that of such a message\n            \
+    session 0000 expected, 0001 came\n            \
+    goes on as if it were thrown away\n     \
+    6      11 < data 0001 00000002 S6F11 .\n       \
+    FAIL Session: its session ID isn't that of such a message\n            \
+    session 0000 expected, 0001 came\n            \
+    goes on as if it were thrown away\n     \
+    7      12 < data 0001 00000003 S6F11 .\n       \
+    FAIL Session: its session ID isn't that of such a message\n            \
+    session 0000 expected, 0001 came\n            \
+    goes on as if it were thrown away\n     \
+    8      13 < data 0002 00000004 S6F11 .\n       \
+    FAIL Session: its session ID isn't that of such a message\n            \
+    session 0000 expected, 0002 came\n            \
+    goes on as if it were thrown away\n       \
+    ..\n\
+    Session: and 3 more like line 5, up to line 11\n\
+    failures=7 Session=7\n\
+    fail line=5 rule=Session\n";
+
+// From line 7 on: of those that come before nothing is told.
+const FROM_SEVEN: Excerpt = Excerpt {
+    lines: Lines::All,
+    around: 5,
+    from: 7,
+    to: u32::MAX,
+};
+
+// The lines that fail, and none around them.
+const BARE_FAILURES: Excerpt = Excerpt {
+    lines: Lines::Failures,
+    around: 0,
+    from: 1,
+    to: u32::MAX,
+};
+
+#[test]
+fn counts_failures_that_are_alike(rt: HostRuntime) -> Result<(), Fail> {
+    let alloc = rt.alloc();
+    judge_log(&rt, alloc, FROM_SEVEN, ALIKE, false, ALIKE_TOLD)?;
+    judge_log(&rt, alloc, BARE_FAILURES, ALIKE, false, ALIKE_FAILURES_TOLD)
+}
+
+// Replies after 12, 40 and 5 ms, one that aborts, one that is awaited; and one of the host after 301 ms.
+const REPLIES: &[u8] = b"hsms-log 1 host active 0 45000 6000 10000 5000 1048576 32\n\
+    0 up\n\
+    0 > ffff0000000100000001\n\
+    5 < ffff0000000200000001\n\
+    1000 > 00008101000000000002\n\
+    1012 < 00000102000000000002\n\
+    2000 > 00008101000000000003\n\
+    2040 < 00000102000000000003\n\
+    3000 > 00008101000000000004\n\
+    3005 < 00000102000000000004\n\
+    4000 < 0000860b000000000009\n\
+    4301 > 0000060c000000000009\n\
+    5000 > 00008101000000000005\n\
+    5001 < 00000100000000000005\n\
+    6000 > 00008101000000000006\n";
+
+const REPLIES_TOLD: &[u8] = b"       ..\n    \
+    15    6000 > data 0000 00000006 S1F1 W .\n\
+    failures=0\n\
+    S1F1 W sent=5 answered=3 aborted=1 waiting=1 least=5 median=12 p99=40 greatest=40 line=8\n\
+    S6F11 W received=1 answered=1 least=301 median=301 p99=301 greatest=301 line=12\n\
+    pass entries=14 sent=7 taken=6 discarded=0 expired=0 waiting=1\n";
+
+// The last line alone.
+const LAST: Excerpt = Excerpt {
+    lines: Lines::All,
+    around: 5,
+    from: 15,
+    to: u32::MAX,
+};
+
+#[test]
+fn tells_how_long_replies_took(rt: HostRuntime) -> Result<(), Fail> {
+    let alloc = rt.alloc();
+    judge_log(&rt, alloc, LAST, REPLIES, true, REPLIES_TOLD)
 }
 
 fn assert_stopped(rt: &impl Abort, run: &Run, word: &str, told: &[u8]) {

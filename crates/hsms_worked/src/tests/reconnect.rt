@@ -6,7 +6,11 @@ use hsms_ends::{HostDesk, Lent, Scripted, ServeFault, ServedAgain, Step, serve_a
 use secs_text::read;
 
 /// A link whose clock goes back after the first connection. Each wait gives the octets of one message.
-fn link_of(alloc: Global, moments: &[u64], messages: &[&'static str]) -> Result<Scripted, Fail> {
+pub fn link_of(
+    alloc: Global,
+    moments: &[u64],
+    messages: &[&'static str],
+) -> Result<Scripted, Fail> {
     let mut waits = Vec::new(alloc);
     for message in messages {
         waits.push(Some(octets_of(alloc, message)?))?;
@@ -17,7 +21,7 @@ fn link_of(alloc: Global, moments: &[u64], messages: &[&'static str]) -> Result<
 }
 
 /// Want of memory is handed up.
-fn assert_served(
+pub fn assert_served(
     rt: &impl Abort,
     answer: Result<ServedAgain, ServeFault>,
     connections: u64,

@@ -19,7 +19,9 @@ returns c =
     ∙ ap₂ with_subcommand with_show (ap (λ (a : App). a.top) c.audit_command.ensures) in
     let with_explain = c.in_ok-hsms-3.ensures.shape (third_fails _ _ _ _ (ap (λ (a : App). a.top.is_plain) c.in_ok-explain_command.ensures))
     ∙ ap₂ with_subcommand with_audit (ap (λ (a : App). a.top) c.in_ok-explain_command.ensures) in
-    let with_encode = c.in_ok-hsms-4.ensures.shape (third_fails _ _ _ _ (ap (λ (a : App). a.top.is_plain) c.in_ok-encode_command.ensures))
-    ∙ ap₂ with_subcommand with_explain (ap (λ (a : App). a.top) c.in_ok-encode_command.ensures) in
-    IfOk-weaker c.subcommand-5.result _ _ (λ command adds. adds.shape (third_fails _ _ _ _ (ap (λ (a : App). a.top.is_plain) c.in_ok-serve_command.ensures))
-    ∙ ap₂ with_subcommand with_encode (ap (λ (a : App). a.top) c.in_ok-serve_command.ensures)) c.subcommand-5.ensures
+    let with_capture = c.in_ok-hsms-4.ensures.shape (third_fails _ _ _ _ (ap (λ (a : App). a.top.is_plain) c.in_ok-capture_command.ensures))
+    ∙ ap₂ with_subcommand with_explain (ap (λ (a : App). a.top) c.in_ok-capture_command.ensures) in
+    let with_encode = c.in_ok-hsms-5.ensures.shape (third_fails _ _ _ _ (ap (λ (a : App). a.top.is_plain) c.in_ok-encode_command.ensures))
+    ∙ ap₂ with_subcommand with_capture (ap (λ (a : App). a.top) c.in_ok-encode_command.ensures) in
+    IfOk-weaker c.subcommand-6.result _ _ (λ command adds. adds.shape (third_fails _ _ _ _ (ap (λ (a : App). a.top.is_plain) c.in_ok-serve_command.ensures))
+    ∙ ap₂ with_subcommand with_encode (ap (λ (a : App). a.top) c.in_ok-serve_command.ensures)) c.subcommand-6.ensures

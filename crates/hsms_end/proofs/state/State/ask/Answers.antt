@@ -5,6 +5,7 @@ use Rattle.secs_text.specs.Content.{Content}
 use Rattle.secs_text.specs.View.{content}
 use Rattle.hsms_frame.specs.Frame.{Frame}
 use Rattle.hsms_end.specs.Answer.{answered}
+use Rattle.hsms_end.specs.Asked.{name_in, times}
 use Rattle.hsms_end.specs.Frame.{message_of}
 use Rattle.hsms_end.specs.Owing.{IsAnsweredBy}
 use Rattle.hsms_end.proofs.state.State.ask.Goals as goal
@@ -16,6 +17,8 @@ returns-in_ok-answer-in-Ok g c =
     subst (λ (n : ℕ). IsTextOf n c.frame.inside.text.items item) c.depth.ensures.value
     (subst (λ (octets : List ℕ). IsTextOf c.depth.result octets item) c.as_slice.ensures.value c.in-Ok.ensures.ok) in
     let message : content c.new-message.result ≡ message_of c.frame.inside.header item =
-    (let e1 = c.new-message.ensures in let e2 = c.stream.ensures in let e3 = c.function.ensures in let e4 = c.wait.ensures in cc) in
-    subst (λ (f : Frame). IsAnsweredBy (g.D.Desk.answers c.args.desk.now) c.args.self.now.settings.depth f (answered c.in_ok-answer-in-Ok.answer)) c.frame.view_is
-    (item, text, c.in_ok-answer-in-Ok.ensures ∙ ap (λ (m : Content). g.D.Desk.answers c.args.desk.now m) message)
+    (let e1 = c.new-message.ensures in let e2 = c.stream-in-Ok.ensures in let e3 = c.function-in-Ok.ensures in let e4 = c.wait.ensures in cc) in
+    let before : c.times-before.result ≡ times (name_in c.frame.inside.header) c.args.self.now.asked =
+    (let e1 = c.times-before.ensures in let e2 = c.stream.ensures in let e3 = c.function.ensures in cc) in
+    subst (λ (f : Frame). IsAnsweredBy (g.D.Desk.answers c.args.desk.now (times (name_in f.header) c.args.self.now.asked)) c.args.self.now.settings.depth f (answered c.in_ok-answer-in-Ok.answer)) c.frame.view_is
+    (item, text, c.in_ok-answer-in-Ok.ensures ∙ ap (λ (m : Content). g.D.Desk.answers c.args.desk.now c.times-before.result m) message ∙ ap (λ n. g.D.Desk.answers c.args.desk.now n (message_of c.frame.inside.header item)) before)

@@ -1,4 +1,4 @@
-use Rattle.std.proofs.Common.{[], ◌∷◌, ap, sym, subst}
+use Rattle.std.proofs.Common.{◌≡◌, [], ◌∷◌, ◌∙◌, ap, sym, subst}
 use Rattle.hsms_frame.specs.Frame.{Frame}
 use Rattle.hsms_frame.specs.declared.kinds.Kind.TheVariants.{Primary}
 use Rattle.hsms_machine.specs.declared.entry.Event.TheVariants.{Taken}
@@ -6,25 +6,35 @@ use Rattle.hsms_machine.specs.Settings.{Parameters}
 use Rattle.hsms_end.specs.declared.state.State.{State}
 use Rattle.hsms_end.specs.Answer.{answered}
 use Rattle.hsms_end.specs.Act.{logs}
+use Rattle.hsms_end.specs.Inside.{after_asking}
 use Rattle.hsms_end.specs.Reaction.{answers_primary}
 use Rattle.hsms_end.specs.Doing.{Does}
-use Rattle.hsms_end.specs.Owing.{IsAsked}
+use Rattle.hsms_end.specs.Owing.{CanTake, IsAsked}
 use Rattle.hsms_end.proofs.Doings.{does_then}
-use Rattle.hsms_end.proofs.Takings.{handled_kind, readable, asked_by_primary}
+use Rattle.hsms_end.proofs.Takings.{handled_kind, readable, asked_by_primary, can_take_later}
 use Rattle.hsms_end.proofs.state.State.take_primary.Goals as goal
 
 pub ask-requires : goal.ask-requires
 ask-requires g c = readable c.args.self.now c.args.frame c.requires.taken c.requires.kind
 
+pub log-requires : goal.log-requires
+log-requires g c = (can_take_later c.args.self.now c.count.new.self c.args.frame c.frame.inside.header c.in_ok-count.ensures c.requires.taken).lawful
+
 pub answer_primary-requires : goal.answer_primary-requires
 answer_primary-requires g c =
+    let can : CanTake c.count.new.self c.args.frame = can_take_later c.args.self.now c.count.new.self c.args.frame c.frame.inside.header c.in_ok-count.ensures c.requires.taken in
     subst (λ (f : Frame). IsAsked c.log.new.self f.header) (sym c.frame.view_is)
-    (asked_by_primary c.args.self.now c.args.frame c.requires.taken c.log.new.self c.in_ok-log.ensures.after c.requires.kind)
+    (asked_by_primary c.count.new.self c.args.frame can c.log.new.self c.in_ok-log.ensures.after c.requires.kind)
 
 pub returns-clause-handled : goal.returns-clause-handled
 returns-clause-handled g c =
+    let asked : c.count.new.self ≡ after_asking c.args.self.now c.args.frame.header =
+    c.in_ok-count.ensures ∙ ap (λ (f : Frame). after_asking c.args.self.now f.header) c.frame.view_is in
+    let settings : c.log.new.self.settings ≡ c.args.self.now.settings =
+    ap (λ (s : State). s.settings) c.in_ok-log.ensures.after ∙ ap (λ (s : State). s.settings) asked in
     handled_kind (g.D.Desk.answers c.args.desk.now) c.args.self.now c.answer_primary.new.self c.args.entries.now.items c.answer_primary.new.entries.items c.args.frame Primary (answered c.in_ok-answer.answer) c.requires.taken.broken c.requires.kind
     (λ e. c.in_ok-answer.ensures)
-    (does_then c.args.self.now c.log.new.self c.answer_primary.new.self c.args.entries.now.items c.log.new.entries.items c.answer_primary.new.entries.items (logs (Taken c.args.frame) ∷ []) (answers_primary c.args.self.now.settings c.args.frame.header (answered c.in_ok-answer.answer)) c.in_ok-log.ensures.does
-    (subst (λ (s : Parameters). Does c.log.new.self c.log.new.entries.items (answers_primary s c.args.frame.header (answered c.in_ok-answer.answer)) c.answer_primary.new.self c.answer_primary.new.entries.items) (ap (λ (s : State). s.settings) c.in_ok-log.ensures.after)
-    (subst (λ (f : Frame). Does c.log.new.self c.log.new.entries.items (answers_primary c.log.new.self.settings f.header (answered c.in_ok-answer.answer)) c.answer_primary.new.self c.answer_primary.new.entries.items) c.frame.view_is c.in_ok-answer_primary.ensures.does)))
+    (subst (λ (s : State). Does s c.args.entries.now.items (logs (Taken c.args.frame) ∷ answers_primary c.args.self.now.settings c.args.frame.header (answered c.in_ok-answer.answer)) c.answer_primary.new.self c.answer_primary.new.entries.items) asked
+    (does_then c.count.new.self c.log.new.self c.answer_primary.new.self c.args.entries.now.items c.log.new.entries.items c.answer_primary.new.entries.items (logs (Taken c.args.frame) ∷ []) (answers_primary c.args.self.now.settings c.args.frame.header (answered c.in_ok-answer.answer)) c.in_ok-log.ensures.does
+    (subst (λ (s : Parameters). Does c.log.new.self c.log.new.entries.items (answers_primary s c.args.frame.header (answered c.in_ok-answer.answer)) c.answer_primary.new.self c.answer_primary.new.entries.items) settings
+    (subst (λ (f : Frame). Does c.log.new.self c.log.new.entries.items (answers_primary c.log.new.self.settings f.header (answered c.in_ok-answer.answer)) c.answer_primary.new.self c.answer_primary.new.entries.items) c.frame.view_is c.in_ok-answer_primary.ensures.does))))

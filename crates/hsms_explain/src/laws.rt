@@ -1,0 +1,20 @@
+//! Laws of the definitions by which failures and primaries are counted. A law is a function that does nothing: its
+//! contract is what is proved.
+
+ghost use Rattle.hsms_explain.specs.Replies.{FatesAddUp};
+ghost use Rattle.hsms_explain.specs.Sort.{FramesAreApart, SortsAreApart};
+
+/// Failures of the same sort break the same rule, by the same event, of frames of the same number.
+pub fn sorts_are_apart()
+    ensures { SortsAreApart }
+{}
+
+/// Frames of the same number have the same session ID and kind, and data the same stream, W and function.
+pub fn frames_are_apart()
+    ensures { FramesAreApart }
+{}
+
+/// What was closed was answered, aborted, given up or rejected, and one of these alone.
+pub fn fates_add_up()
+    ensures { FatesAddUp }
+{}

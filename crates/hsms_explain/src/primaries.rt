@@ -1,0 +1,295 @@
+//! What became of each primary of a log that asks for a reply, by stream, function and direction.
+
+ghost use Rattle.std.specs.Prelude.{◌<◌};
+
+use crate::course::Opening;
+use crate::histogram::Histogram;
+use crate::replies::{Counts, Fate, Replies};
+use crate::step::{Step, What};
+use hsms_frame::{Header, Kind, kind};
+use hsms_machine::Mark;
+use indexmap::IndexMap;
+use std::alloc::{AllocError, Global};
+use std::fmt;
+
+// Which way a primary went.
+#[derive(Clone, Copy, Debug)]
+enum Direction {
+    Sent,
+    Received,
+}
+
+impl Direction {
+    fn number(self) -> u32
+        ensures { result < 2 }
+    {
+        match self {
+            Direction::Sent => 0,
+            Direction::Received => 1,
+        }
+    }
+}
+
+// The kinds of received primaries are those of sent ones and this.
+const RECEIVED: u32 = 1 << 15;
+
+// The kind of sent primaries beyond those that are kept apart. Behind it stands that of received ones.
+const OTHERS: u32 = 1 << 16;
+
+/// What became of the primaries of each kind, and the times of the replies.
+pub struct Primaries {
+    replies: Replies,
+    times: IndexMap<u32, Histogram>,
+}
+
+/// What became of the primaries of a kind.
+#[derive(Clone, Copy, Debug)]
+pub struct Outcome {
+    kind: u32,
+    counts: Counts,
+    waiting: u64,
+    times: Option<Times>,
+}
+
+// Of the times of replies the median, and what 99 of 100 don't exceed.
+#[derive(Clone, Copy, Debug)]
+struct Times {
+    median: u64,
+    most: u64,
+}
+
+// Written out: a proof over one that is dropped has one step for it, not one for each of its parts.
+impl Drop for Primaries {
+    fn drop(self) {
+        let Primaries { replies, times } = self;
+        drop(replies);
+        drop(times);
+    }
+}
+
+impl Primaries {
+    /// No primary yet.
+    pub fn new(alloc: Global) -> Primaries {
+        Primaries {
+            replies: Replies::new(alloc),
+            times: IndexMap::new(alloc),
+        }
+    }
+
+    /// Notes a lawful step at a line, and where the transaction was opened that it closes.
+    pub fn note(
+        &mut self,
+        alloc: Global,
+        line: u64,
+        step: Step,
+        closed: Option<Opening>,
+    ) -> Result<(), AllocError> {
+        match closed {
+            Some(opening) => {
+                let after = step.time.saturating_sub(opening.time);
+                self.note_closing(alloc, line, step.what, after)
+            }
+            None => self.note_opening(step.what),
+        }
+    }
+
+    // Notes a step that closes nothing.
+    fn note_opening(&mut self, what: What) -> Result<(), AllocError> {
+        match what {
+            What::Up => {
+                self.replies.note_ended();
+                Ok(())
+            }
+            What::Frame(mark, header) => self.note_primary(mark, header),
+            What::T3(_) | What::Cut(_) | What::Down => Ok(()),
+        }
+    }
+
+    // Notes a frame that closes nothing.
+    fn note_primary(&mut self, mark: Mark, header: Header) -> Result<(), AllocError> {
+        if kind(header) != Kind::Primary || !header.wait() {
+            return Ok(());
+        }
+        match mark {
+            Mark::Sent => self.open(Direction::Sent, header),
+            Mark::Taken => self.open(Direction::Received, header),
+            Mark::Discarded => Ok(()),
+        }
+    }
+
+    fn open(&mut self, direction: Direction, header: Header) -> Result<(), AllocError> {
+        let way = direction.number();
+        let message = u32::from(header.stream()) * 256 + u32::from(header.function());
+        let kind = self
+            .replies
+            .kept_kind(way * RECEIVED + message, OTHERS + way);
+        self.replies
+            .note_opened(key(direction, header.system), kind)
+    }
+
+    // Notes what closes a transaction so many ms after it was opened.
+    fn note_closing(
+        &mut self,
+        alloc: Global,
+        line: u64,
+        what: What,
+        after: u64,
+    ) -> Result<(), AllocError> {
+        let Some((key, fate)) = closing_of(what) else {
+            return Ok(());
+        };
+        if let Some(kind) = self.replies.note_closed(key, fate, after, line)? {
+            if fate == Fate::Answered {
+                self.count_time(alloc, kind, after)?;
+            }
+        }
+        Ok(())
+    }
+
+    fn count_time(&mut self, alloc: Global, kind: u32, after: u64) -> Result<(), AllocError> {
+        if let Some(times) = self.times.get_mut(&kind) {
+            times.count(after);
+            return Ok(());
+        }
+        let mut times = Histogram::new(alloc)?;
+        times.count(after);
+        self.times.insert(kind, times)?;
+        Ok(())
+    }
+
+    /// How many kinds there were.
+    pub fn len(&self) -> usize {
+        self.replies.len()
+    }
+
+    /// What became of the primaries of the kind that came at this place, from 0.
+    pub fn outcome(&self, place: usize) -> Option<Outcome> {
+        let (kind, counts) = self.replies.at(place)?;
+        let waiting = self.replies.waiting(kind) as u64;
+        let times = match self.times.get(&kind) {
+            Some(times) => Some(Times {
+                median: times.median(),
+                most: times.most(),
+            }),
+            None => None,
+        };
+        Some(Outcome {
+            kind,
+            counts,
+            waiting,
+            times,
+        })
+    }
+}
+
+// The direction and the system bytes of a primary.
+fn key(direction: Direction, system: u32) -> u64 {
+    u64::from(direction.number()) * (1 << 32) + u64::from(system)
+}
+
+// What a closing step closes, and how.
+fn closing_of(what: What) -> Option<(u64, Fate)> {
+    match what {
+        What::Frame(Mark::Sent, header) => Some((
+            key(Direction::Received, header.system),
+            fate_by(header),
+        )),
+        What::Frame(Mark::Taken, header) => Some((
+            key(Direction::Sent, header.system),
+            fate_by(header),
+        )),
+        What::T3(system) => Some((key(Direction::Sent, system), Fate::Expired)),
+        What::Frame(Mark::Discarded, _) | What::Up | What::Cut(_) | What::Down => None,
+    }
+}
+
+fn fate_by(header: Header) -> Fate {
+    if kind(header) == Kind::Reject {
+        Fate::Rejected
+    } else if header.function() == 0 {
+        Fate::Aborted
+    } else {
+        Fate::Answered
+    }
+}
+
+impl Outcome {
+    // Those that the end of their connection left open.
+    fn ended(&self) -> u64 {
+        let Counts {
+            opened,
+            answered,
+            aborted,
+            expired,
+            rejected,
+            ..
+        } = self.counts;
+        [answered, aborted, expired, rejected, self.waiting]
+            .iter()
+            .fold(opened, |left, count| left.saturating_sub(*count))
+    }
+}
+
+// How many there are of something, if there are any.
+fn write_count<W: fmt::Write>(f: &mut fmt::Formatter<W>, name: &str, count: u64) -> fmt::Result {
+    if count == 0 {
+        return Ok(());
+    }
+    write!(f, " {name}={count}")
+}
+
+impl fmt::Display for Outcome {
+    fn fmt<W: fmt::Write>(&self, f: &mut fmt::Formatter<W>) -> fmt::Result {
+        let counts = self.counts;
+        write_kind(f, self.kind, counts.opened)?;
+        write_count(f, "answered", counts.answered)?;
+        write_count(f, "aborted", counts.aborted)?;
+        write_count(f, "expired", counts.expired)?;
+        write_count(f, "rejected", counts.rejected)?;
+        write_count(f, "ended", self.ended())?;
+        write_count(f, "waiting", self.waiting)?;
+        match self.times {
+            Some(times) => write_times(f, counts, times),
+            None => Ok(()),
+        }
+    }
+}
+
+// The stream and the function, and how many went in which direction.
+fn write_kind<W: fmt::Write>(f: &mut fmt::Formatter<W>, kind: u32, opened: u64) -> fmt::Result {
+    let way = if kind % OTHERS / RECEIVED + kind / OTHERS * (kind % 2) == 0 {
+        "sent"
+    } else {
+        "received"
+    };
+    if kind >= OTHERS {
+        return write!(f, "others W {way}={opened}");
+    }
+    let stream = kind / 256 % 128;
+    let function = kind % 256;
+    write!(f, "S{stream}F{function} W {way}={opened}")
+}
+
+fn write_times<W: fmt::Write>(
+    f: &mut fmt::Formatter<W>,
+    counts: Counts,
+    times: Times,
+) -> fmt::Result {
+    let Counts {
+        answered,
+        least,
+        greatest,
+        line,
+        ..
+    } = counts;
+    let median = times.median.max(least);
+    let most = if answered < 100 {
+        greatest
+    } else {
+        times.most.max(least)
+    };
+    write!(
+        f,
+        " least={least} median={median} p99={most} greatest={greatest} line={line}"
+    )
+}

@@ -1,0 +1,58 @@
+-- What the options of `hsms capture` are, and what they ask for.
+use Rattle.std.specs.Prelude.{◌≡◌, ◌≤◌, ◌++◌, List, [], ◌∷◌, codes, Option, Some, None, unwrap_or}
+use Rattle.clap.specs.Words.{Row, Rule, Text, first_of}
+use Rattle.hsms_machine.specs.declared.settings.Role.{Role}
+use Rattle.hsms_machine.specs.declared.settings.Role.TheVariants.{Host, Equipment}
+use Rattle.hsms_machine.specs.declared.settings.Side.{Side}
+use Rattle.hsms_machine.specs.declared.settings.Side.TheVariants.{Active, Passive}
+use Rattle.hsms_machine.specs.Settings.{Parameters}
+use Rattle.hsms_options.specs.declared.capturing.Capturing.{Capturing}
+use Rattle.hsms_options.specs.Number.{Number, depth_number, device_number, max_number, number_in, option_of}
+use Rattle.hsms_options.specs.Service.{HasNumbers, role_word, text_option, time_rules}
+
+-- ---- the options
+
+-- the TCP port of the end that listens
+abbrev pub captured_number : Number
+captured_number = record { name = codes "port"; least = 1; greatest = 65535; left_out = Some 5000 }
+
+abbrev pub place_rules : List Rule
+place_rules =
+    option_of captured_number ∷ text_option (codes "active") ∷ text_option (codes "log") ∷ option_of device_number ∷ []
+
+abbrev pub size_rules : List Rule
+size_rules = option_of max_number ∷ option_of depth_number ∷ []
+
+abbrev pub capture_rules : List Rule
+capture_rules = place_rules ++ (time_rules ++ size_rules)
+
+-- ---- what they ask for
+
+-- what the other end of a connection is
+abbrev pub other_role : Role → Role
+other_role Host = Equipment
+other_role Equipment = Host
+
+-- the text of the option `log`, if any, that asks for the log of this role, or for none
+abbrev pub log_word : Option Role → Option Text
+log_word None = None
+log_word (Some role) = Some (role_word role)
+
+-- the end that connects has this role: that of the option `active`, and a host where it is left out
+abbrev pub HasActive : List Row → Role → Type 0
+HasActive rows role = unwrap_or (first_of (codes "active") rows) (codes "host") ≡ role_word role
+
+-- the matches have these settings of an end of this role and side, for a log of several connections
+abbrev pub HasEnd : List Row → Role → Side → Parameters → Type 0
+HasEnd rows role link s = (s.version ≡ 2) × (s.role ≡ role) × (s.link ≡ link) × HasNumbers rows s
+
+-- the matches ask for this of a capture: one end is what the option says, and the other one is the other
+abbrev pub HasCapturing : List Row → Capturing → Type 0
+HasCapturing rows capturing =
+    (number_in captured_number rows ≡ Some capturing.port) × (first_of (codes "log") rows ≡ log_word capturing.log)
+    × HasActive rows capturing.active.role × HasEnd rows capturing.active.role Active capturing.active
+    × HasEnd rows (other_role capturing.active.role) Passive capturing.passive
+
+-- its port is within its limits; the numbers of settings are by their type
+abbrev pub IsCapturingWithinLimits : Capturing → Type 0
+IsCapturingWithinLimits capturing = (1 ≤ capturing.port) × (capturing.port ≤ 65535)

@@ -1,0 +1,108 @@
+//! The options of `hsms capture`: which connections of a capture are looked at, and what is told of them.
+
+ghost use Rattle.std.specs.Prelude.{◌≡◌, ◌≤◌, Option, IfSome, None, codes};
+ghost use Rattle.clap.specs.Words.{first_of, found_of, rows_of};
+ghost use Rattle.hsms_machine.specs.Settings.{Parameters};
+ghost use Rattle.hsms_machine.specs.declared.settings.Role.{Role};
+ghost use Rattle.hsms_options.specs.Capturing.{HasActive, HasCapturing, HasEnd, IsCapturingWithinLimits, captured_number, log_word, other_role};
+ghost use Rattle.hsms_options.specs.Number.{number_in};
+ghost use Rattle.hsms_options.specs.Service.{HasNumbers};
+ghost use Rattle.hsms_options.specs.declared.capturing.Capturing.{Capturing};
+
+use crate::limits::{DEFAULT_PORT, GREATEST_PORT, LEAST_PORT};
+use crate::service::{role_named, settings_with};
+use crate::values::{number_of, text_of};
+use clap::ArgMatches;
+use hsms_machine::{Role, Settings, Side};
+
+/// What is looked at in a capture, and what is told of it.
+#[derive(Clone, Copy, Debug)]
+pub struct Capturing {
+    /// The TCP port of the ends that listen, from 1.
+    pub port: u16,
+    /// The role whose log is written. Where there is none, verdicts on the logs of both ends are told.
+    pub log: Option<Role>,
+    /// The settings of an end that connects, for a log of several connections.
+    pub active: Settings,
+    /// Those of an end that listens: it has the other role, and else the same numbers.
+    pub passive: Settings,
+}
+
+/// What the options of `hsms capture` ask for, if they have values that they may have.
+pub fn capturing_of(options: &ArgMatches<'_>) -> Option<Capturing>
+    ensures asks { IfSome result (HasCapturing (rows_of (found_of options.now))) }
+    ensures within { IfSome result IsCapturingWithinLimits }
+    ensures none { result ≡ None → (capturing : Capturing)
+        → HasCapturing (rows_of (found_of options.now)) capturing → ⊥ }
+{
+    let port = captured_port_of(options)?;
+    let log = log_of(options)?;
+    let role = active_of(options)?;
+    let active = end_of(options, role, Side::Active)?;
+    let passive = end_of(options, other_role(role), Side::Passive)?;
+    Some(Capturing {
+        port,
+        log,
+        active,
+        passive,
+    })
+}
+
+fn captured_port_of(options: &ArgMatches<'_>) -> Option<u16>
+    ensures value { result ≡ number_in captured_number (rows_of (found_of options.now)) }
+    ensures within { IfSome result (λ port. (1 ≤ port) × (port ≤ 65535)) }
+{
+    let greatest = u32::from(GREATEST_PORT);
+    let port = number_of(
+        options,
+        "port",
+        u32::from(LEAST_PORT),
+        greatest,
+        Some(DEFAULT_PORT),
+    )?;
+    Some(port as u16)
+}
+
+// The role whose log is asked for, if one is. None where the option has another text.
+fn log_of(options: &ArgMatches<'_>) -> Option<Option<Role>>
+    ensures some { IfSome result (λ log. first_of (codes "log") (rows_of (found_of options.now)) ≡ log_word log) }
+    ensures none { result ≡ None → (log : Option Role)
+        → first_of (codes "log") (rows_of (found_of options.now)) ≡ log_word log → ⊥ }
+{
+    match text_of(options, "log") {
+        Some(text) => {
+            let role = role_named(text)?;
+            Some(Some(role))
+        }
+        None => Some(None),
+    }
+}
+
+// What the end that connects is.
+fn active_of(options: &ArgMatches<'_>) -> Option<Role>
+    ensures some { IfSome result (HasActive (rows_of (found_of options.now))) }
+    ensures none { result ≡ None → (role : Role) → HasActive (rows_of (found_of options.now)) role → ⊥ }
+{
+    match text_of(options, "active") {
+        Some(text) => role_named(text),
+        None => Some(Role::Host),
+    }
+}
+
+fn other_role(role: Role) -> Role
+    ensures { result ≡ other_role role }
+{
+    match role {
+        Role::Host => Role::Equipment,
+        Role::Equipment => Role::Host,
+    }
+}
+
+// The settings of an end of this role and side.
+fn end_of(options: &ArgMatches<'_>, role: Role, link: Side) -> Option<Settings>
+    ensures asks { IfSome result (HasEnd (rows_of (found_of options.now)) role link) }
+    ensures none { result ≡ None → (settings : Parameters) → HasNumbers (rows_of (found_of options.now)) settings → ⊥ }
+{
+    let settings = settings_with(options, role, link)?;
+    Some(settings.several())
+}

@@ -1,0 +1,61 @@
+-- The log of one end of a connection, as it is told of a capture: the settings, and then each entry behind a comment that
+-- names its packet.
+use Rattle.std.specs.Prelude.{ℕ, Option, None, Some, List, [], ◌∷◌, ◌++◌, flat_map, codes, decimal}
+use Rattle.hsms_machine.specs.Settings.{Parameters}
+use Rattle.hsms_machine.specs.declared.entry.Entry.{Entry}
+use Rattle.hsms_machine.specs.declared.entry.Event.{Event}
+use Rattle.hsms_machine.specs.declared.entry.Event.TheVariants.{Up, Sent, Taken, Discarded, T3, Cut, Down}
+use Rattle.hsms_log.specs.Spelling.{entry_line, settings_line}
+use Rattle.hsms_log.specs.Auditor.{HasHeard}
+use Rattle.hsms_log.specs.declared.auditor.Auditor.{Auditor}
+use Rattle.hsms_wire.specs.declared.account.Remark.{Remark}
+use Rattle.hsms_wire.specs.declared.account.Remark.TheVariants as remark
+
+-- the comment above an entry
+abbrev pub remark_text : Remark → List ℕ
+remark_text (remark.Packet packet) = codes "# packet " ++ (decimal packet ++ 10 ∷ [])
+remark_text remark.Replaced = codes "# replaced\n"
+
+-- an entry of a log, and the comment above it
+pub record Note : Type 0 where
+  pub remark : Remark
+  pub entry : Entry
+
+abbrev pub note_text : Note → List ℕ
+note_text note = remark_text note.remark ++ (entry_line note.entry ++ 10 ∷ [])
+
+-- the text of a log
+abbrev pub log_text : Parameters → List Note → List ℕ
+log_text settings notes = (settings_line settings ++ 10 ∷ []) ++ flat_map note_text notes
+
+-- what contracts see of the log of an end: its audit, which is gone where memory was refused; the lines that were
+-- written last; and how many octets it has
+pub record Standing : Type 0 where
+  pub auditor : Option Auditor
+  pub text : List ℕ
+  pub octets : ℕ
+
+-- the audit goes on, and has heard this text
+abbrev pub HasAuditedBy : Option Auditor → List ℕ → Type 0
+HasAuditedBy None text = ⊥
+HasAuditedBy (Some auditor) text = HasHeard auditor text
+
+abbrev pub HasAudited : List ℕ → Standing → Type 0
+HasAudited text account = HasAuditedBy account.auditor text
+
+-- the audit has heard the log of these settings and entries
+abbrev pub HasLogged : Parameters → List Note → Standing → Type 0
+HasLogged settings notes account = HasAudited (log_text settings notes) account
+
+-- what the other end logs
+abbrev pub received_event : Event → Event
+received_event Up = Up
+received_event (Sent frame) = Taken frame
+received_event (Taken frame) = Taken frame
+received_event (Discarded frame) = Discarded frame
+received_event (T3 system) = T3 system
+received_event (Cut cause) = Cut cause
+received_event Down = Down
+
+abbrev pub received_of : Entry → Entry
+received_of entry = record { time = entry.time; event = received_event entry.event }

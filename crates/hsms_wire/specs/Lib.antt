@@ -1,0 +1,4 @@
+pub mod Text
+pub mod Account
+pub mod Ends
+pub mod Report

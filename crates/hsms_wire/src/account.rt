@@ -1,0 +1,231 @@
+//! The log of one end of a connection, and what the audit says of it.
+
+ghost use Rattle.std.specs.Prelude.{◌≡◌, ◌+◌, ◌++◌, [], ◌∷◌, ℕ, List, IfOk, OnOk, codes, decimal, length};
+ghost use Rattle.hsms_log.specs.Auditor.{HasAtMost, HasHeard, HasRoom};
+ghost use Rattle.hsms_log.specs.Spelling.{entry_line, settings_line};
+ghost use Rattle.hsms_wire.specs.Account.{note_text, remark_text};
+
+use crate::text::Text;
+use hsms_frame::give_all;
+use hsms_log::{Auditor, Verdict, write_entry, write_settings};
+use hsms_machine::{Entry, Settings};
+use hsms_options::ToolFault;
+use itoa::Buffer;
+use std::alloc::{AllocError, Global};
+use std::marker::Model;
+
+// How many octets a log may have.
+const GREATEST: u64 = 1 << 62;
+
+/// The comment above an entry.
+#[derive(Clone, Copy, Debug, PartialEq, Eq)]
+pub enum Remark {
+    /// It happened at the packet with this number.
+    Packet(u64),
+    /// It is supposed, since a later connection of the same ends follows.
+    Replaced,
+}
+
+/// The log of one end of a connection, of which the lines are audited as they come and none is held. Contracts see the
+/// audit, which is gone where memory was refused.
+#[derive(Drop)]
+pub struct Account {
+    auditor: Option<Auditor>,
+    text: Text,
+    octets: u64,
+    packet: u64,
+    failed: Option<u64>,
+}
+
+impl Model for Account {
+    ghost use Rattle.std.specs.Prelude.{◌≤◌, ◌^◌, IfSome};
+    ghost use Rattle.hsms_log.specs.Auditor.{HasAtMost};
+    ghost use Rattle.hsms_wire.specs.Account.{Standing};
+
+    ghost Value = { Standing };
+
+    ghost view = { λ a. record { auditor = a.auditor; text = a.text.octets; octets = a.octets } };
+
+    ghost invariant = { λ a. IfSome a.auditor (HasAtMost a.octets) × (a.octets ≤ 2 ^ 62) };
+}
+
+impl Account {
+    ghost use Rattle.std.specs.Prelude.{◌≡◌, ◌≤◌, ◌++◌, [], ◌∷◌, List, ℕ, IfOk, OnOk};
+    ghost use Rattle.hsms_log.specs.Verdict.{Judges};
+    ghost use Rattle.hsms_machine.specs.Settings.{Parameters};
+    ghost use Rattle.hsms_wire.specs.Account.{HasAudited, HasLogged, Note, log_text};
+    ghost use Rattle.hsms_wire.specs.Ends.{Adds};
+
+    /// The log of an end with these settings, without an entry.
+    ///
+    /// # Errors
+    ///
+    /// `Memory`.
+    #[tactic(auto, using(crate::proofs::Logs::begins))]
+    pub fn new(alloc: Global, settings: &Settings) -> Result<Account, ToolFault>
+        ensures { IfOk result (HasLogged settings.now []) }
+    {
+        let mut account = Account {
+            auditor: Some(Auditor::new(alloc)),
+            text: Text::new(alloc),
+            octets: 0,
+            packet: 0,
+            failed: None,
+        };
+        lay_settings(&mut account.text, settings)?;
+        account.audit(alloc)?;
+        Ok(account)
+    }
+
+    /// One more entry, behind a comment.
+    ///
+    /// # Errors
+    ///
+    /// `Memory`; `Endless` where the log has more than 2^62 octets. Nothing more is noted then.
+    #[tactic(auto, using(crate::proofs::Logs::noted))]
+    pub fn note(&mut self, alloc: Global, remark: Remark, entry: &Entry) -> Result<(), ToolFault>
+        ensures { OnOk result (Adds (record { remark = remark; entry = entry.now }) self.old self.new) }
+    {
+        self.packet = packet_of(remark, self.packet);
+        self.text.clear();
+        lay_note(&mut self.text, remark, entry)?;
+        self.audit(alloc)
+    }
+
+    /// The verdict of the audit on the log, which ends here, and where it fails the number of the packet of the line.
+    ///
+    /// # Errors
+    ///
+    /// Where memory is refused, or was refused to the log.
+    pub fn verdict(self, alloc: Global) -> Result<Told, AllocError>
+        ensures { IfOk result (λ told. (settings : Parameters) (notes : List Note)
+            → HasLogged settings notes self → Judges (log_text settings notes) told.verdict) }
+    {
+        let Account {
+            auditor,
+            text: _,
+            octets: _,
+            packet: _,
+            failed: packet,
+        } = self;
+        match auditor {
+            Some(auditor) => {
+                let verdict = auditor.finish(alloc)?;
+                Ok(Told { verdict, packet })
+            }
+            None => Err(AllocError),
+        }
+    }
+
+    // Audits the lines that were written.
+    fn audit(&mut self, alloc: Global) -> Result<(), ToolFault>
+        ensures { OnOk result ((text : List ℕ) → HasAudited text self.old → HasAudited (text ++ self.old.text) self.new) }
+    {
+        let Some(auditor) = self.auditor.take() else {
+            return Err(ToolFault::Memory);
+        };
+        let lines = self.text.octets();
+        let count = lines.len() as u64;
+        if count > GREATEST - self.octets {
+            return Err(ToolFault::Device("Endless"));
+        }
+        let next = hear(alloc, auditor, lines)?;
+        self.failed = failed_by(self.failed, &next, self.packet);
+        self.octets += count;
+        self.auditor = Some(next);
+        Ok(())
+    }
+}
+
+// An audit goes on by lines.
+fn hear(alloc: Global, auditor: Auditor, lines: &[u8]) -> Result<Auditor, AllocError>
+    requires { HasRoom auditor lines.now }
+    ensures heard { IfOk result (λ next. (text : List ℕ) → HasHeard auditor text → HasHeard next (text ++ lines.now)) }
+    ensures lines { IfOk result (λ next. (n : ℕ) → HasAtMost n auditor → HasAtMost (n + length lines.now) next) }
+{
+    let mut next = auditor;
+    next.take(alloc, lines)?;
+    Ok(next)
+}
+
+// The packet of the line that fails: the last one, where none has failed before.
+fn failed_by(failed: Option<u64>, auditor: &Auditor, packet: u64) -> Option<u64> {
+    match (failed, auditor.failure()) {
+        (None, Some(_)) => Some(packet),
+        (None, None) | (Some(_), _) => failed,
+    }
+}
+
+// The packet that a comment names, or the one before.
+fn packet_of(remark: Remark, before: u64) -> u64 {
+    match remark {
+        Remark::Packet(packet) => packet,
+        Remark::Replaced => before,
+    }
+}
+
+/// What the audit says of a log: the verdict, and where it is a failure the number of the packet of the line.
+#[derive(Clone, Copy, Debug)]
+pub struct Told {
+    pub verdict: Verdict,
+    pub packet: Option<u64>,
+}
+
+/// Lays an entry and the comment above it behind a text.
+pub fn lay_note(text: &mut Text, remark: Remark, entry: &Entry) -> Result<(), ToolFault>
+    ensures { OnOk result
+        (text.new.octets ≡ text.old.octets ++ note_text (record { remark = remark; entry = entry.now })) }
+{
+    lay_remark(text, remark)?;
+    lay_entry(text, entry)
+}
+
+// Lays the comment above an entry behind a text.
+fn lay_remark(text: &mut Text, remark: Remark) -> Result<(), ToolFault>
+    ensures { OnOk result (text.new.octets ≡ text.old.octets ++ remark_text remark) }
+{
+    match remark {
+        Remark::Packet(packet) => lay_packet(text, packet),
+        Remark::Replaced => lay(text, b"# replaced\n"),
+    }
+}
+
+// Lays the comment that names a packet.
+fn lay_packet(text: &mut Text, packet: u64) -> Result<(), ToolFault>
+    ensures { OnOk result (text.new.octets ≡ text.old.octets ++ (codes "# packet " ++ (decimal packet ++ 10 ∷ []))) }
+{
+    let mut buffer = Buffer::new();
+    lay(text, b"# packet ")?;
+    lay(text, buffer.format(packet).as_bytes())?;
+    lay(text, b"\n")
+}
+
+// Lays the line of an entry behind a text.
+fn lay_entry(text: &mut Text, entry: &Entry) -> Result<(), ToolFault>
+    ensures { OnOk result (text.new.octets ≡ text.old.octets ++ (entry_line entry.now ++ 10 ∷ [])) }
+{
+    match write_entry(text, entry) {
+        Ok(()) => Ok(()),
+        Err(_) => Err(ToolFault::Memory),
+    }
+}
+
+/// Lays the line of the settings behind a text.
+pub fn lay_settings(text: &mut Text, settings: &Settings) -> Result<(), ToolFault>
+    ensures { OnOk result (text.new.octets ≡ text.old.octets ++ (settings_line settings.now ++ 10 ∷ [])) }
+{
+    match write_settings(text, settings) {
+        Ok(()) => Ok(()),
+        Err(_) => Err(ToolFault::Memory),
+    }
+}
+
+// Lays octets behind a text.
+fn lay(text: &mut Text, octets: &[u8]) -> Result<(), ToolFault>
+    ensures { OnOk result (text.new.octets ≡ text.old.octets ++ octets.now) }
+{
+    match give_all(text, octets) {
+        Ok(()) => Ok(()),
+        Err(_) => Err(ToolFault::Memory),
+    }
+}

@@ -1,0 +1,177 @@
+//! The logs of both ends of a connection.
+
+ghost use Rattle.std.specs.Prelude.{◌≡◌, ◌<◌, ◌+◌, ◌⊎◌, IfOk, IfSome, OnOk, None, length, drop};
+ghost use Rattle.hsms_wire.specs.Account.{received_of};
+ghost use Rattle.hsms_wire.specs.Ends.{Adds};
+ghost use Rattle.hsms_log.specs.Spelling.{message_octets};
+
+use crate::account::{Account, Remark, Told};
+use crate::entries::{LENGTH, frame_of, received};
+use hsms_capture::{Event as Happens, Happening, Side};
+use hsms_frame::Frame;
+use hsms_machine::{Entry, Event, Settings};
+use hsms_options::ToolFault;
+use std::alloc::{AllocError, Global};
+
+/// The logs of both ends of a connection: the one that connected, and the one that was connected to.
+#[derive(Drop)]
+pub struct Ends {
+    pub active: Account,
+    pub passive: Account,
+    // The time of the last entry.
+    time: u64,
+    max: u32,
+}
+
+/// Whether what happens has an entry.
+#[derive(Clone, Copy, Debug, PartialEq, Eq)]
+pub enum Heard {
+    /// It has one, and more may follow.
+    Goes,
+    /// It has one, and the connection went down.
+    Down,
+    /// It is a message that no end takes, by its length.
+    Length,
+}
+
+impl Ends {
+    ghost use Rattle.std.specs.Prelude.{◌≡◌, ◌++◌, [], ◌∷◌, List, IfOk, OnOk, max};
+    ghost use Rattle.hsms_capture.specs.declared.packet.Side.TheVariants.{Active, Passive};
+    ghost use Rattle.hsms_log.specs.Verdict.{Judges};
+    ghost use Rattle.hsms_machine.specs.Settings.{Parameters};
+    ghost use Rattle.hsms_wire.specs.Account.{HasLogged, Note, log_text};
+    ghost use Rattle.hsms_machine.specs.declared.entry.Event.TheVariants.{Down};
+    ghost use Rattle.hsms_wire.specs.declared.account.Remark.TheVariants.{Replaced};
+    ghost use Rattle.hsms_wire.specs.Ends.{Adds, HearsAs, event_of, note_of};
+
+    /// The logs of ends with these settings, without an entry.
+    pub fn new(alloc: Global, active: &Settings, passive: &Settings) -> Result<Ends, ToolFault>
+        ensures active { IfOk result (λ ends. HasLogged active.now [] ends.active) }
+        ensures passive { IfOk result (λ ends. HasLogged passive.now [] ends.passive) }
+        ensures max { IfOk result (λ ends. ends.max ≡ active.now.max) }
+    {
+        Ok(Ends {
+            active: Account::new(alloc, active)?,
+            passive: Account::new(alloc, passive)?,
+            time: 0,
+            max: active.max(),
+        })
+    }
+
+    /// Both ends log what happens, where it is no message that none takes: at its time, or at that of the entry before,
+    /// where it is later.
+    pub fn hear(&mut self, alloc: Global, happening: Happening) -> Result<Heard, ToolFault>
+        ensures active { IfOk result (λ heard. HearsAs self.old.max self.old.time Active happening heard self.old.active self.new.active) }
+        ensures passive { IfOk result (λ heard. HearsAs self.old.max self.old.time Passive happening heard self.old.passive self.new.passive) }
+        ensures time { OnOk result (self.new.time ≡ max self.old.time happening.time) }
+        ensures max { OnOk result (self.new.max ≡ self.old.max) }
+    {
+        let remark = Remark::Packet(happening.packet);
+        self.time = self.time.max(happening.time);
+        match happening.event {
+            Happens::Up => {
+                self.both(alloc, remark, Event::Up)?;
+                Ok(Heard::Goes)
+            }
+            Happens::Down => {
+                self.both(alloc, remark, Event::Down)?;
+                Ok(Heard::Down)
+            }
+            Happens::Message { from, octets } => {
+                let Some(frame) = frame_within(alloc, self.max, octets)? else {
+                    return Ok(Heard::Length);
+                };
+                self.message(alloc, remark, from, frame)?;
+                Ok(Heard::Goes)
+            }
+        }
+    }
+
+    /// The verdicts on both logs, which end here: of the active end's, and of the passive end's.
+    pub fn verdicts(self, alloc: Global) -> Result<(Told, Told), AllocError>
+        ensures active { IfOk result (λ both. (settings : Parameters) (notes : List Note)
+            → HasLogged settings notes self.active → Judges (log_text settings notes) both.0.verdict) }
+        ensures passive { IfOk result (λ both. (settings : Parameters) (notes : List Note)
+            → HasLogged settings notes self.passive → Judges (log_text settings notes) both.1.verdict) }
+    {
+        let Ends {
+            active,
+            passive,
+            time: _,
+            max: _,
+        } = self;
+        Ok((active.verdict(alloc)?, passive.verdict(alloc)?))
+    }
+
+    /// Both ends log that the connection went down, since a later one follows, at the time of the entry before.
+    pub fn replace(&mut self, alloc: Global) -> Result<(), ToolFault>
+        ensures active { OnOk result (Adds (note_of Replaced self.old.time Down) self.old.active self.new.active) }
+        ensures passive { OnOk result (Adds (note_of Replaced self.old.time Down) self.old.passive self.new.passive) }
+    {
+        self.both(alloc, Remark::Replaced, Event::Down)
+    }
+
+    // Both log the same.
+    fn both(&mut self, alloc: Global, remark: Remark, event: Event) -> Result<(), ToolFault>
+        ensures active { OnOk result (Adds (note_of remark self.old.time event) self.old.active self.new.active) }
+        ensures passive { OnOk result (Adds (note_of remark self.old.time event) self.old.passive self.new.passive) }
+        ensures same { OnOk result ((self.new.time ≡ self.old.time) × (self.new.max ≡ self.old.max)) }
+    {
+        let entry = Entry {
+            time: self.time,
+            event,
+        };
+        self.active.note(alloc, remark, &entry)?;
+        self.passive.note(alloc, remark, &entry)
+    }
+
+    // One logs that it sent a message, and the other one that it took it.
+    fn message(
+        &mut self,
+        alloc: Global,
+        remark: Remark,
+        from: Side,
+        frame: Frame,
+    ) -> Result<(), ToolFault>
+        ensures active { OnOk result
+            (Adds (note_of remark self.old.time (event_of Active from frame)) self.old.active self.new.active) }
+        ensures passive { OnOk result
+            (Adds (note_of remark self.old.time (event_of Passive from frame)) self.old.passive self.new.passive) }
+        ensures same { OnOk result ((self.new.time ≡ self.old.time) × (self.new.max ≡ self.old.max)) }
+    {
+        let sent = Entry {
+            time: self.time,
+            event: Event::Sent(frame),
+        };
+        match from {
+            Side::Active => pass(alloc, remark, sent, &mut self.active, &mut self.passive),
+            Side::Passive => pass(alloc, remark, sent, &mut self.passive, &mut self.active),
+        }
+    }
+}
+
+// The end that sends logs an entry, and the other one what it takes.
+fn pass(
+    alloc: Global,
+    remark: Remark,
+    sent: Entry,
+    sender: &mut Account,
+    taker: &mut Account,
+) -> Result<(), ToolFault>
+    ensures sender { OnOk result (Adds (record { remark = remark; entry = sent }) sender.old sender.new) }
+    ensures taker { OnOk result (Adds (record { remark = remark; entry = received_of sent }) taker.old taker.new) }
+{
+    sender.note(alloc, remark, &sent)?;
+    taker.note(alloc, remark, &received(sent))
+}
+
+/// The message of these octets, those of its length first, where header and text have from ten octets up to so many.
+pub fn frame_within(alloc: Global, max: u32, octets: Vec<u8>) -> Result<Option<Frame>, ToolFault>
+    ensures some { IfOk result (λ found. IfSome found (λ frame. drop 4 octets.items ≡ message_octets frame)) }
+    ensures none { IfOk result (λ found. found ≡ None → (length octets.items < 14) ⊎ (max + 4 < length octets.items)) }
+{
+    if octets.len() as u64 > u64::from(max) + LENGTH as u64 {
+        return Ok(None);
+    }
+    Ok(frame_of(alloc, &octets)?)
+}

@@ -1,0 +1,58 @@
+//! What an end logs of what happens on its connection.
+
+ghost use Rattle.std.specs.Prelude.{◌≡◌, ◌<◌, IfOk, IfSome, None, length, drop};
+ghost use Rattle.hsms_log.specs.Spelling.{message_octets};
+ghost use Rattle.hsms_wire.specs.Account.{received_of};
+
+use hsms_frame::{Frame, HEADER_LENGTH, Header};
+use hsms_machine::{Entry, Event};
+use std::alloc::{AllocError, Global};
+
+/// The octets of a message's length.
+pub const LENGTH: usize = 4;
+
+/// The message of these octets, those of its length first; none where they are fewer than fourteen.
+#[tactic(auto, unfolding(hsms_log::specs::Spelling::message_octets), using(crate::proofs::Logs::spelled))]
+pub fn frame_of(alloc: Global, octets: &[u8]) -> Result<Option<Frame>, AllocError>
+    ensures some { IfOk result (λ found. IfSome found (λ frame. drop 4 octets.now ≡ message_octets frame)) }
+    ensures none { IfOk result (λ found. found ≡ None → length octets.now < 14) }
+{
+    if octets.len() < LENGTH + HEADER_LENGTH {
+        return Ok(None);
+    }
+    let (_, behind) = octets.split_at(LENGTH);
+    let (header, rest) = behind.split_at(HEADER_LENGTH);
+    let mut text = Vec::new(alloc);
+    text.extend_from_slice(rest)?;
+    Ok(Some(Frame {
+        header: Header::of(header_in(header)),
+        text,
+    }))
+}
+
+// The octets of a header.
+fn header_in(octets: &[u8]) -> [u8; HEADER_LENGTH]
+    requires { length octets.now ≡ 10 }
+    ensures { result ≡ octets.now }
+{
+    let mut header = [0u8; HEADER_LENGTH];
+    header.copy_from_slice(octets);
+    header
+}
+
+/// What the other end logs of what an end logs: it takes what is sent.
+pub fn received(entry: Entry) -> Entry
+    ensures { result ≡ received_of entry }
+{
+    let Entry { time, event } = entry;
+    let event = match event {
+        Event::Sent(frame) => Event::Taken(frame),
+        Event::Up => Event::Up,
+        Event::Taken(frame) => Event::Taken(frame),
+        Event::Discarded(frame) => Event::Discarded(frame),
+        Event::T3(system) => Event::T3(system),
+        Event::Cut(cause) => Event::Cut(cause),
+        Event::Down => Event::Down,
+    };
+    Entry { time, event }
+}

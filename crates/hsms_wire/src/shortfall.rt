@@ -1,0 +1,61 @@
+//! Why what is told is incomplete.
+
+use hsms_capture::Ending;
+use hsms_packets::FileFault;
+use std::fmt;
+
+/// Why what is told of connections is incomplete, with the number of the packet from which on it isn't told.
+#[derive(Clone, Copy, Debug, PartialEq, Eq)]
+pub enum Shortfall {
+    /// The capture lost something.
+    Lost(u64),
+    /// A packet brings other octets than an earlier one.
+    Differs(u64),
+    /// A message has fewer than ten octets, or more than an end takes.
+    Length(u64),
+    /// More octets wait than are held.
+    Full(u64),
+    /// A packet has no time in milliseconds since 1970.
+    Time(u64),
+    /// The file isn't read on.
+    File(FileFault, u64),
+}
+
+impl Shortfall {
+    /// The number of the packet.
+    pub fn packet(self) -> u64 {
+        match self {
+            Shortfall::Lost(packet)
+            | Shortfall::Differs(packet)
+            | Shortfall::Length(packet)
+            | Shortfall::Full(packet)
+            | Shortfall::Time(packet)
+            | Shortfall::File(_, packet) => packet,
+        }
+    }
+
+    /// What is missing by how it ends, if something is.
+    pub fn of_ending(ending: Ending) -> Option<Shortfall> {
+        match ending {
+            Ending::Complete => None,
+            Ending::Lost(packet) => Some(Shortfall::Lost(packet)),
+            Ending::Differs(packet) => Some(Shortfall::Differs(packet)),
+        }
+    }
+}
+
+impl fmt::Display for Shortfall {
+    fn fmt<W: fmt::Write>(&self, f: &mut fmt::Formatter<W>) -> fmt::Result {
+        match self {
+            Shortfall::Lost(packet) => write!(f, "Lost packet={packet}"),
+            Shortfall::Differs(packet) => write!(f, "Differs packet={packet}"),
+            Shortfall::Length(packet) => write!(f, "Length packet={packet}"),
+            Shortfall::Full(packet) => write!(f, "Full packet={packet}"),
+            Shortfall::Time(packet) => write!(f, "Time packet={packet}"),
+            Shortfall::File(fault, _) => match fault {
+                FileFault::Capture { .. } => write!(f, "Capture {fault}"),
+                FileFault::CutOff | FileFault::Read | FileFault::Memory => write!(f, "{fault}"),
+            },
+        }
+    }
+}

@@ -1,0 +1,204 @@
+//! The connections of a capture at a port.
+
+use crate::flow::{Flow, Stage, end, take};
+use crate::pair::{Pair, pairs_of};
+use crate::report::Report;
+use crate::shortfall::Shortfall;
+use hsms_capture::{Flags, Segment, Side};
+use hsms_frame::Sink;
+use hsms_options::ToolFault;
+use hsms_packets as packets;
+use indexmap::IndexMap;
+use std::alloc::Global;
+use std::mem;
+
+// After how many later ones a connection is forgotten of which nothing is left to be told.
+const REMEMBERED: u64 = 4096;
+
+/// What is known of a packet besides its segment.
+#[derive(Clone, Copy)]
+pub struct Capture<'a> {
+    /// Its number, from 1.
+    pub packet: u64,
+    /// When it was captured, in milliseconds since 1970, if the file says so.
+    pub time: Option<u128>,
+    /// The octets of its segment.
+    pub octets: &'a [u8],
+}
+
+/// The connections at a port, by the addresses of their ends: of each pair the last one.
+#[derive(Drop)]
+pub struct Table {
+    port: u16,
+    flows: IndexMap<Pair, Flow>,
+    begun: u64,
+}
+
+impl Table {
+    /// No connection, at this port of passive ends.
+    pub fn new(alloc: Global, port: u16) -> Table {
+        Table {
+            port,
+            flows: IndexMap::new(alloc),
+            begun: 0,
+        }
+    }
+
+    /// Takes a packet. What is answered is why nothing behind it can be told.
+    pub fn take<W: Sink>(
+        &mut self,
+        alloc: Global,
+        sink: &mut W,
+        report: &mut Report,
+        segment: &packets::Segment,
+        capture: Capture<'_>,
+    ) -> Result<Option<Shortfall>, ToolFault> {
+        let Some((pair, from)) = self.pair_of(segment) else {
+            return Ok(None);
+        };
+        let syn = syn_of(segment, from).filter(|syn| !self.has(&pair, *syn));
+        if syn.is_none() && !self.is_live(&pair) {
+            return Ok(None);
+        }
+        let Some(time) = capture.time.and_then(|time| u64::try_from(time).ok()) else {
+            return Ok(Some(Shortfall::Time(capture.packet)));
+        };
+        if let Some(syn) = syn {
+            self.begin(alloc, sink, report, pair, syn)?;
+        }
+        let segment = segment_of(segment, from, capture.packet, time);
+        self.follow(alloc, sink, report, &pair, segment, capture.octets)?;
+        Ok(None)
+    }
+
+    /// Tells what is left of each connection, in the order in which they began.
+    pub fn finish<W: Sink>(
+        self,
+        alloc: Global,
+        sink: &mut W,
+        report: &mut Report,
+        missing: Option<Shortfall>,
+    ) -> Result<(), ToolFault> {
+        for (pair, flow) in self.flows {
+            end(alloc, sink, report, &pair, flow.stage, false, missing)?;
+        }
+        Ok(())
+    }
+
+    // The pair of a segment, and the end that sent it, if it is one of the port.
+    fn pair_of(&self, segment: &packets::Segment) -> Option<(Pair, Side)> {
+        match pairs_of(segment, self.port)? {
+            (pair, side, None) => Some((pair, side)),
+            (pair, side, Some(other)) => {
+                if self.flows.contains_key(&pair) || !self.flows.contains_key(&other) {
+                    Some((pair, side))
+                } else {
+                    Some((other, Side::Passive))
+                }
+            }
+        }
+    }
+
+    // Whether the connection of a pair has this number of its SYN.
+    fn has(&self, pair: &Pair, syn: u32) -> bool {
+        self.flow(pair).is_some_and(|flow| flow.syn == syn)
+    }
+
+    // Whether more may be told of the connection of a pair.
+    fn is_live(&self, pair: &Pair) -> bool {
+        self.flow(pair).is_some_and(|flow| flow.is_live())
+    }
+
+    // The connection of a pair, where it isn't forgotten.
+    fn flow(&self, pair: &Pair) -> Option<&Flow> {
+        self.flows
+            .get(pair)
+            .filter(|flow| !is_forgotten(flow, self.begun))
+    }
+
+    // Begins a connection of a pair, and ends the one before.
+    fn begin<W: Sink>(
+        &mut self,
+        alloc: Global,
+        sink: &mut W,
+        report: &mut Report,
+        pair: Pair,
+        syn: u32,
+    ) -> Result<(), ToolFault> {
+        if let Some(before) = self.flows.shift_remove(&pair) {
+            end(alloc, sink, report, &pair, before.stage, true, None)?;
+        }
+        let flow = Flow::new(alloc, syn, self.begun);
+        if self.flows.insert(pair, flow).is_err() {
+            return Err(ToolFault::Memory);
+        }
+        self.begun = self.begun.saturating_add(1);
+        if self.begun % REMEMBERED == 0 {
+            let begun = self.begun;
+            self.flows.retain(|_, flow| !is_forgotten(flow, begun));
+        }
+        Ok(())
+    }
+
+    // Takes a packet of the connection of a pair.
+    fn follow<W: Sink>(
+        &mut self,
+        alloc: Global,
+        sink: &mut W,
+        report: &mut Report,
+        pair: &Pair,
+        segment: Segment,
+        octets: &[u8],
+    ) -> Result<(), ToolFault> {
+        let Some(flow) = self.flows.get_mut(pair) else {
+            return Ok(());
+        };
+        let stage = mem::replace(&mut flow.stage, Stage::Over);
+        flow.stage = take(alloc, sink, report, pair, flow.syn, stage, segment, octets)?;
+        Ok(())
+    }
+}
+
+// Whether a connection is forgotten once so many have begun.
+fn is_forgotten(flow: &Flow, begun: u64) -> bool {
+    flow.is_idle() && begun.saturating_sub(flow.born) > REMEMBERED
+}
+
+// The number of the active end's SYN, where a segment tells it: its own SYN, or what the other end's SYN acknowledges.
+fn syn_of(segment: &packets::Segment, from: Side) -> Option<u32> {
+    match (from, segment.acknowledged) {
+        _ if !is_set(segment, SYN) => None,
+        (Side::Active, None) => Some(segment.number),
+        (Side::Passive, Some(acknowledged)) => Some(acknowledged.wrapping_sub(1)),
+        (Side::Active, Some(_)) | (Side::Passive, None) => None,
+    }
+}
+
+const FIN: u8 = 1;
+
+const SYN: u8 = 2;
+
+const RST: u8 = 4;
+
+const PSH: u8 = 8;
+
+fn is_set(segment: &packets::Segment, flag: u8) -> bool {
+    segment.flags & flag != 0
+}
+
+// A segment as a connection takes it.
+fn segment_of(segment: &packets::Segment, from: Side, packet: u64, time: u64) -> Segment {
+    Segment {
+        from,
+        packet,
+        time,
+        number: segment.number,
+        acknowledged: segment.acknowledged,
+        flags: Flags {
+            syn: is_set(segment, SYN),
+            fin: is_set(segment, FIN),
+            pushed: is_set(segment, PSH),
+        },
+        reset: is_set(segment, RST),
+    }
+}

@@ -1,0 +1,178 @@
+//! Several replies of a script to one primary.
+
+use super::connection::{audited, log_of, settings_of};
+use super::reconnect::{assert_served, link_of};
+use super::{
+    CONNECTED, Case, Comes, Fail, Global, Message, Octets, Role, SELECT, Side, assert_octets,
+    end_of, equipment, judge, read, settings,
+};
+use hsms_ends::{EquipmentDesk, Lent, ScriptedDesk, serve_again};
+
+/// Three replies to S7F3, and between them two to S10F3.
+const REPLIES: &[&str] = &[
+    "S7F4 <B 0x00> .",
+    "S10F4 <B 0x10> .",
+    "S7F4 <B 0x01> .",
+    "S10F4 .",
+    "S7F4 <B 0x02> .",
+];
+
+/// Equipment's desk behind the replies.
+fn scripted(alloc: Global) -> Result<ScriptedDesk<EquipmentDesk>, Fail> {
+    let mut replies: Vec<Message> = Vec::new(alloc);
+    for text in REPLIES {
+        replies.push(read(alloc, text.as_bytes(), 32)?)?;
+    }
+    let own = equipment(alloc)?;
+    Ok(ScriptedDesk { replies, own })
+}
+
+const IN_TURN: Case = Case {
+    name: "replies in turn",
+    role: Role::Equipment,
+    side: Side::Passive,
+    max: 256,
+    first_system: 1,
+    told: &[
+        CONNECTED,
+        SELECT,
+        (
+            Comes("00008703000000000007"),
+            Ok("0 < 00008703000000000007\n0 > 00000704000000000007210100\n"),
+        ),
+        // Another primary has turns of its own, and one that nothing replies to has none.
+        (
+            Comes("00008a03000000000007"),
+            Ok("0 < 00008a03000000000007\n0 > 00000a04000000000007210110\n"),
+        ),
+        (
+            Comes("00008101000000000007"),
+            Ok("0 < 00008101000000000007\n0 > 00000102000000000007010241014d410131\n"),
+        ),
+        // Two in one piece.
+        (
+            Octets(
+                b"\x00\x00\x00\x0a\x00\x00\x87\x03\x00\x00\x00\x00\x00\x08\x00\x00\x00\x0a\x00\x00\x87\x03\x00\x00\x00\x00\x00\x09",
+            ),
+            Ok(
+                "0 < 00008703000000000008\n0 > 00000704000000000008210101\n0 < 00008703000000000009\n0 > 00000704000000000009210102\n",
+            ),
+        ),
+        // The last one again and again.
+        (
+            Comes("00008703000000000007"),
+            Ok("0 < 00008703000000000007\n0 > 00000704000000000007210102\n"),
+        ),
+        (
+            Comes("00008703000000000007"),
+            Ok("0 < 00008703000000000007\n0 > 00000704000000000007210102\n"),
+        ),
+        (
+            Comes("00008a03000000000007"),
+            Ok("0 < 00008a03000000000007\n0 > 00000a04000000000007\n"),
+        ),
+    ],
+    pending: b"",
+};
+
+#[test]
+fn replies_in_turn(rt: HostRuntime) -> Result<(), Fail> {
+    let alloc = rt.alloc();
+    let given = settings(Role::Equipment, Side::Passive, 256).ok_or("the settings")?;
+    let mut end = end_of(alloc, given, scripted(alloc)?, 1);
+    judge(&rt, alloc, &mut end, &IN_TURN)
+}
+
+/// A primary without W has its turn too, and no reply. One that is discarded has none.
+const WITHOUT_W: Case = Case {
+    name: "a turn without W",
+    role: Role::Equipment,
+    side: Side::Passive,
+    max: 256,
+    first_system: 1,
+    told: &[
+        CONNECTED,
+        (
+            Comes("00008703000000000007"),
+            Ok("0 ! 00008703000000000007\n0 > 00000004000700000007\n"),
+        ),
+        SELECT,
+        (
+            Comes("00000703000000000007"),
+            Ok("0 < 00000703000000000007\n"),
+        ),
+        (
+            Comes("00008703000000000007"),
+            Ok("0 < 00008703000000000007\n0 > 00000704000000000007210101\n"),
+        ),
+    ],
+    pending: b"",
+};
+
+#[test]
+fn a_turn_without_a_reply(rt: HostRuntime) -> Result<(), Fail> {
+    let alloc = rt.alloc();
+    let given = settings(Role::Equipment, Side::Passive, 256).ok_or("the settings")?;
+    let mut end = end_of(alloc, given, scripted(alloc)?, 1);
+    judge(&rt, alloc, &mut end, &WITHOUT_W)
+}
+
+const TWICE: &str = "hsms-log 2 equipment passive 0 45000 6000 10000 5000 1048576 32
+7 up
+7 < ffff0000000100000001
+7 > ffff0000000200000001
+7 < 00008703000000000002
+7 > 00000704000000000002210100
+7 < 00008703000000000003
+7 > 00000704000000000003210101
+7 < ffff0000000900000004
+7 down
+7 up
+7 < ffff0000000100000001
+7 > ffff0000000200000001
+7 < 00008703000000000002
+7 > 00000704000000000002210100
+7 < ffff0000000900000003
+7 down
+";
+
+/// With each connection the turns begin anew.
+#[test]
+fn turns_begin_anew(rt: HostRuntime) -> Result<(), Fail> {
+    let alloc = rt.alloc();
+    let settings = settings_of(Role::Equipment).ok_or("settings")?;
+    let mut link = link_of(
+        alloc,
+        &[7, 7, 7, 7, 7, 7, 7, 7, 7, 7, 7, 7, 7, 7, 7, 7],
+        &[
+            "ffff0000000100000001",
+            "00008703000000000002",
+            "00008703000000000003",
+            "ffff0000000900000004",
+            "ffff0000000100000001",
+            "00008703000000000002",
+            "ffff0000000900000003",
+        ],
+    )?;
+    let mut log = log_of(alloc, 4096, 4096, u64::MAX)?;
+    let desk = scripted(alloc)?;
+    let lent = Lent { desk: &desk };
+    let answer = serve_again(
+        alloc,
+        &mut link,
+        &mut log,
+        settings,
+        lent,
+        1,
+        &[],
+        &[],
+        None,
+        100,
+        2,
+    );
+    assert_served(&rt, answer, 2)?;
+    assert_octets(&rt, log.written(), TWICE.as_bytes(), "log");
+    let summary = audited(alloc, log.written())?;
+    assert_eq!(&rt; summary.entries, 16);
+    Ok(())
+}

@@ -1,0 +1,475 @@
+#!/usr/bin/env python3
+"""Compares what `hsms capture` writes of captures with a second reading, and with what is known of them.
+
+Random sessions go over the wire, and the capture repeats, swaps or lacks packets (made_sessions.py). Each capture is
+judged, and written as the log of the host and of the equipment: output, standard error and status have to be those of
+the second reading, octet by octet. Of what was said nothing may be made up or stand in another order, no lawful session
+may be failed, what is missing has to be told where the capture shows it, and the audit of a log has to give the verdict
+of its connection. Then come captures that are damaged, the smallest capture of each rule of the wire, in captures/, and
+captures and other files of which each answer is written here.
+
+Use: tests/captured.py [CAPTURES] [SEED], or tests/captured.py FILE .. CAPTURES is the number of random captures, 2,000
+if left out, and SEED is 1. Files are read with the options of `hsms capture` that are given too. It runs what `rt ci`
+has built, or `--program P`; with `--alone` no program, and the second reading is compared with what is known. The last
+line is `N passed, M failed`.
+"""
+import argparse
+import gzip
+import os
+import struct
+import sys
+from concurrent.futures import ProcessPoolExecutor
+from dataclasses import fields, replace
+from functools import partial
+from typing import Dict, Iterator, List, Optional, Tuple
+
+# The modules below leave no compiled files in the repository.
+sys.dont_write_bytecode = True
+
+import captures
+from command import PROGRAM, TOP, Answer, answer_of
+from made_captures import ACK, ACTIVE, BEGIN, PASSIVE, PUSH, SELECT, SYN, Capture, Talk, message
+from made_sessions import Made, damaged, made
+from second_reading import capturing
+from second_reading.capturing import Options
+from second_reading.session import audit
+
+# So many of the random captures are damaged, in a hundred.
+DAMAGED = 40
+LONGEST_TOLD = 6000
+
+# Captures of more octets are judged, or written as a log, alone.
+LARGE = 200_000
+
+
+def second(octets: bytes, options: Options) -> Answer:
+    """What the second reading answers."""
+    read = capturing.capture(octets, options)
+    return Answer(read.status, read.output, read.error)
+
+
+def compared(case: Made, program: Optional[str]) -> Optional[str]:
+    """What is wrong with the answers to a capture: of the verdicts, and of both logs."""
+    answers = {}
+    for role in (None, "host", "equipment") if len(case.octets) < LARGE else (case.options.log,):
+        options = replace(case.options, log=role)
+        words = ["capture", *options.words()]
+        wanted = answers[role] = second(case.octets, options)
+        if program:
+            told = answer_of(words, case.octets, program)
+            if told != wanted:
+                return f"{' '.join(words)}\n  second reading: {shown(wanted)}\n  command: {shown(told)}"
+    if len(answers) == 1:
+        return None
+    return audited(answers, program) or (known(case, answers) if case.sessions is not None else None)
+
+
+def shown(answer: Answer) -> str:
+    output = answer.output.decode("latin-1")
+    return f"status {answer.status}, error {answer.error!r}, output\n{output[:LONGEST_TOLD]}"
+
+
+def verdicts_in(answer: Answer) -> List[str]:
+    """The verdict lines of an answer, without the ends."""
+    lines = answer.output.decode().splitlines()
+    return [line.split(": ", 1)[1] for line in lines if not line.startswith("#")]
+
+
+def audited(answers: Dict[Optional[str], Answer], program: Optional[str]) -> Optional[str]:
+    """Where one connection came up, its logs have the verdicts that are told."""
+    lines = [line for line in answers[None].output.decode().splitlines() if not line.startswith("#")]
+    if len(lines) != 2 or not answers["host"].output.startswith(b"hsms-log"):
+        return None
+    for line in lines:
+        role = line.split()[2]
+        log = answers[role].output
+        verdict = answer_of(["audit"], log, program).output.decode().strip() if program else audit(log).verdict
+        words = line.split(": ", 1)[1].split()
+        if words[0] == "incomplete":
+            words = words[2:]
+        if words[0] == "fail":
+            words.pop(2)
+        if " ".join(words) != verdict:
+            return f"the log of the {role} has the verdict {verdict}, and its line is\n{line}"
+    return None
+
+
+# What is known of random sessions.
+
+
+def known(case: Made, answers: Dict[Optional[str], Answer]) -> Optional[str]:
+    """What an answer says that isn't so."""
+    verdicts = verdicts_in(answers[None])
+    if case.is_lawful and (answers[None].status == 1 or any("fail" in verdict for verdict in verdicts)):
+        return f"a lawful session fails: {verdicts}"
+    read = capturing.Capture(case.octets, case.options)
+    for outcome in read.outcomes:
+        frames = [(one.end, one.octets[4:].hex()) for one in outcome.told.happenings if one.what == "message"]
+        if not any(frames == session.frames[:len(frames)] for session in case.sessions):
+            return f"no session said {frames}"
+    if not case.is_lawful:
+        return None
+    if all(session.is_exact for session in case.sessions):
+        return known_whole(case, answers)
+    if len(case.sessions) == 1 and case.sessions[0].is_up and case.sessions[0].ends in ("none", "rst"):
+        shows, told = case.sessions[0].shows_loss(), any(verdict.startswith("incomplete") for verdict in verdicts)
+        if shows != told:
+            return f"the capture {'shows' if shows else 'does not show'} that it lacks something: {verdicts}"
+    return None
+
+
+def known_whole(case: Made, answers: Dict[Optional[str], Answer]) -> Optional[str]:
+    """The same where nothing is missing: each session that came up passes, with all that was said."""
+    wanted, last = [], {}
+    for session in case.sessions:
+        if last.get(session.pair) is not None:
+            wanted[last[session.pair]] += 1  # the `down` of a connection that is replaced
+        last[session.pair] = len(wanted) if session.is_up and session.ends == "none" else None
+        if session.is_up:
+            wanted.append(1 + len(session.frames) + (session.ends != "none"))
+    verdicts = verdicts_in(answers[None])
+    told = [int(verdict.split()[1].split("=")[1]) for verdict in verdicts if verdict.startswith("pass")]
+    if sorted(told) != sorted(wanted * 2):
+        return f"sessions of {wanted} entries are told as {verdicts}"
+    status = 0 if wanted else 2
+    return None if answers[None].status == status else f"status {answers[None].status}"
+
+
+def tried(case: Made, program: Optional[str]) -> Optional[str]:
+    """The same as `compared`. A second reading that breaks down, and a command that doesn't end, are wrong too."""
+    try:
+        return compared(case, program)
+    except Exception as why:
+        return f"{type(why).__name__} {str(why)[:LONGEST_TOLD]}"
+
+
+def checked(job: Tuple[str, int, str], program: Optional[str]) -> Optional[str]:
+    """What is wrong with a random capture, with its size in front."""
+    seed, number, kind = job
+    case = (damaged if kind == "damaged" else made)(f"{seed} {number}")
+    wrong = tried(case, program)
+    return f"{len(case.octets):9} octets, {kind} {seed} {number} {case.options.words()}: {wrong}" if wrong else None
+
+
+# The smallest capture of each rule, by its file: the verdicts on the active host and on the passive equipment, and what
+# standard error tells.
+SMALLEST = {
+    "refused": (None, None, "NoConnection"),
+    "up-late": ("pass entries=3 sent=1 taken=1", None, None),
+    "syn-ack-again": ("pass entries=3 sent=1 taken=1", None, None),
+    "half-open": (None, None, "NoConnection"),
+    "rst-behind-gap": (
+        "incomplete packet=9 pass entries=4 sent=2 taken=1 discarded=0 expired=0 waiting=1",
+        "incomplete packet=9 pass entries=4 sent=1 taken=2", "Lost packet=9",
+    ),
+    "rst-without-ack": (
+        "pass entries=5 sent=1 taken=2", "pass entries=5 sent=2 taken=1 discarded=0 expired=0 waiting=1", None,
+    ),
+    "separate-crossed": ("pass entries=4 sent=2 taken=1", "pass entries=4 sent=1 taken=2", None),
+    "separate-again": ("pass entries=4 sent=2 taken=1", "pass entries=4 sent=1 taken=2", None),
+    "keep-alive-fills": (
+        "incomplete packet=9 pass entries=4 sent=2 taken=1 discarded=0 expired=0 waiting=1",
+        "incomplete packet=9 pass entries=4 sent=1 taken=2", "Lost packet=9",
+    ),
+    "span-and-loss": ("incomplete packet=7 pass entries=3 sent=1 taken=1", None, "Lost packet=7"),
+    "own-order": ("pass entries=5 sent=2 taken=2", None, None),
+    "stale-ack": ("pass entries=3 sent=1 taken=1", None, None),
+    "gap-at-end": ("incomplete packet=7 pass entries=3 sent=1 taken=1", None, "Lost packet=7"),
+    "clock": ("pass entries=5 sent=2 taken=2", None, None),
+}
+COUNTS = " discarded=0 expired=0 waiting=0"
+ENDS = ("10.0.0.1:40000 10.0.0.2:5000 host active: ", "10.0.0.1:40000 10.0.0.2:5000 equipment passive: ")
+
+
+def whole_line(front: str, verdict: str) -> str:
+    return front + verdict + (COUNTS if "taken=" in verdict and "waiting" not in verdict else "")
+
+
+def lines_of(host: str, equipment: Optional[str] = None) -> List[str]:
+    return [whole_line(ENDS[0], host), whole_line(ENDS[1], equipment or host)]
+
+
+# A case: its name, the file, the options, the lines of its output, what standard error tells, the status.
+Case = Tuple[str, bytes, Options, List[str], Optional[str], int]
+
+
+def smallest_cases() -> Iterator[Case]:
+    for name, (host, equipment, fault) in SMALLEST.items():
+        lines = lines_of(host, equipment) if host else []
+        status = 1 if any(" fail " in line for line in lines) else 2 if fault else 0
+        yield name, contents(f"{TOP}/tests/captures/{name}.pcap"), Options(), lines, fault, status
+
+
+def contents(path: str) -> bytes:
+    with open(path, "rb") as file:
+        return file.read()
+
+
+def selected(capture=None, **how) -> Talk:
+    talk = Talk(capture or Capture(), **how)
+    talk.say(1, *SELECT[0])
+    talk.say(2, *SELECT[1])
+    return talk
+
+
+def cut_talk(octets: int) -> bytes:
+    return selected().capture.octets[:octets]
+
+
+def of_link(link: int) -> bytes:
+    octets = bytearray(captures.late_reply().octets)
+    octets[20:24] = struct.pack("<I", link)
+    return bytes(octets)
+
+
+def two_at_once(hosts=((1, 2), (1, 2)), ports=(40000, 40001)) -> bytes:
+    """Two connections, of which the second comes up while the first is up."""
+    capture = Capture()
+    talks = []
+    for second, (ends, port) in enumerate(zip(hosts, ports)):
+        capture.ports = (port, 5000)
+        talks.append(hosted(capture, ends, second))
+    return capture.octets
+
+
+def hosted(capture: Capture, hosts, second: int, ends=False) -> Talk:
+    """A connection between two hosts that begins so many seconds late."""
+    segment = capture.segment
+    capture.segment = partial(segment, hosts=hosts)
+    talk = selected(capture, firsts=(1000 + second, 2000), when=BEGIN + second * 10**6)
+    if ends:
+        talk.end(3)
+    capture.segment = segment
+    return talk
+
+
+def one_after_another(hosts, ports=(40000, 40000)) -> bytes:
+    capture = Capture()
+    for second, (ends, port) in enumerate(zip(hosts, ports)):
+        capture.ports = (port, 5000)
+        hosted(capture, ends, second, ends=True)
+    return capture.octets
+
+
+def other_octets_again() -> bytes:
+    """A copy of an octet that isn't acknowledged is another one."""
+    talk = selected()
+    talk.at(3)
+    talk.segment(ACTIVE, 0, PUSH | ACK, b"\0\0\0\x0a")
+    talk.segment(ACTIVE, 2, PUSH | ACK, b"\0\x0b\0\0")
+    return talk.capture.octets
+
+
+def never_told_again(later: int) -> bytes:
+    """An event that isn't captured, and so many later packets of the connection."""
+    talk = selected()
+    talk.next[PASSIVE] += 14
+    for _ in range(later):
+        talk.segment(PASSIVE, 0, ACK)
+    return talk.capture.octets
+
+
+def comes_late(later: int) -> bytes:
+    """An event is acknowledged, and is captured so many packets later."""
+    talk = selected()
+    talk.next[PASSIVE] += 14
+    for _ in range(later):
+        talk.segment(ACTIVE, 0, ACK)
+    talk.segment(PASSIVE, -14, PUSH | ACK, message("0000060b000000000001"))
+    return talk.capture.octets
+
+
+def without_answer(later: int) -> bytes:
+    """The SYN and ACK isn't captured, and so many packets follow the SYN."""
+    capture = Capture()
+    talk = Talk(capture, shakes_hands=False)
+    talk.segment(ACTIVE, 0, SYN)
+    talk.next[ACTIVE] += 1
+    for _ in range(later):
+        talk.segment(ACTIVE, 0, ACK)
+    return capture.octets
+
+
+def without_time(flags=ACK) -> bytes:
+    """A simple block of pcapng has no time."""
+    talk = selected(Capture("pcapng<"))
+    whole = Capture("pcapng<")
+    front = len(whole.octets)
+    Talk(whole, shakes_hands=False).segment(ACTIVE, 0, flags)
+    block = whole.octets[front:]
+    size = struct.unpack_from("<I", block, 20)[0]
+    talk.capture.octets += whole.block(3, struct.pack("<I", size) + block[28:28 + size])
+    return talk.capture.octets
+
+
+def far_ahead() -> bytes:
+    """A packet within 2^26 octets, which ends past them."""
+    talk = selected()
+    talk.segment(ACTIVE, (1 << 26) - 10, PUSH | ACK, bytes(20))
+    return talk.capture.octets
+
+
+def changed(octets: bytes, at: int, value: bytes) -> bytes:
+    return octets[:at] + value + octets[at + len(value):]
+
+
+def left_out_cases() -> Iterator[Case]:
+    talk = selected()
+    capture = talk.capture
+    ethernet = bytes(12) + b"\x08\x00"
+    ip = bytes.fromhex("4500002800000000400600000a0000010a000002")
+    capture.packet(talk.when, ethernet + ip[:5])
+    capture.packet(talk.when, ethernet + ip[:6] + b"\x20\x00" + ip[8:] + bytes(20))
+    capture.packet(talk.when, ethernet + ip + bytes(12) + b"\x40" + bytes(7))
+    capture.packet(talk.when, ethernet + ip + bytes(20), kept=50)
+    capture.packet(talk.when, ethernet + ip[:9] + b"\x11" + ip[10:] + bytes(8))
+    pass_lines = lines_of("pass entries=3 sent=1 taken=1")
+    yield (
+        "packets that are left out", capture.octets, Options(),
+        [*pass_lines, "# 4 packets left out: short 1, fragment 1, cut 1, header 1"], None, 0,
+    )
+    one = selected()
+    one.capture.packet(one.when, b"")
+    yield "one that is left out", one.capture.octets, Options(), [*pass_lines, "# 1 packet left out: short 1"], None, 0
+
+
+def worked_cases() -> Iterator[Case]:
+    late = captures.late_reply().octets
+    short = lines_of("pass entries=3 sent=1 taken=1")
+    front = selected().capture.octets
+    log = ["hsms-log 2 host active 0 45000 6000 10000 5000 1048576 32"]
+    for packet, entry in ((3, "0 up"), (4, f"1 > {SELECT[0][1]}"), (5, f"2 < {SELECT[1][1]}")):
+        time, words = entry.split(" ", 1)
+        log += [f"# packet {packet}", f"{BEGIN // 1000 + int(time)} {words}"]
+    yield "late reply", late, Options(t3=1000), lines_of(
+        "fail line=15 packet=9 rule=T3Overdue", "pass entries=12 sent=4 taken=6"), None, 1
+    yield "late reply, a T3 as long", late, Options(t3=1250), lines_of(
+        "pass entries=12 sent=6 taken=4 discarded=0 expired=0 waiting=1", "pass entries=12 sent=4 taken=6"), None, 0
+    yield "another role", front, Options(active="equipment"), [
+        f"{' '.join(ENDS[0].split()[:2])} {end}: {line.split(': ')[1]}"
+        for end, line in zip(("equipment active", "host passive"), short)], None, 0
+    yield "the log of the host", front, Options(log="host"), log, None, 0
+    yield "no file", b"", Options(), [], "CutOff", 2
+    yield "three octets", b"\xd4\xc3\xb2", Options(), [], "CutOff", 2
+    yield "a header that is cut", front[:23], Options(), [], "CutOff", 2
+    yield "a header alone", front[:24], Options(), [], "NoConnection", 2
+    yield "a header alone, of which a log is asked", front[:24], Options(log="host"), [], "NoConnection", 2
+    yield "a log", b"hsms-log 2 host", Options(), [], "Capture Unknown octet=0", 2
+    yield "gzip", gzip.compress(late), Options(), [], "Capture Unknown octet=0", 2
+    yield "zstd", bytes.fromhex("28b52ffd") + late, Options(log="host"), [], "Capture Unknown octet=0", 2
+    yield "another port", late, Options(port=5001), [], "NoConnection", 2
+    yield "another link", of_link(147), Options(), ["# 14 packets left out: link 14"], "NoConnection", 2
+    yield "cut within a packet", front[:-1], Options(), lines_of(
+        "incomplete packet=5 pass entries=2 sent=1 taken=0", "incomplete packet=5 pass entries=2 sent=0 taken=1"
+    ), "CutOff", 2
+    yield "a log cut within a packet", front[:-1], Options(log="host"), log[:5], "CutOff", 2
+    yield "cut behind the SYN and ACK", cut_talk(24 + 2 * 88 + 7), Options(), [
+        end + "incomplete packet=3" for end in ENDS], "CutOff", 2
+    yield "cut behind the SYN", cut_talk(24 + 88 + 7), Options(), [], "CutOff", 2
+    long_record = 24 + 4 * (16 + 72)  # behind four packets, the last of which has 14 octets more
+    yield "a record that is too long", changed(front, long_record + 14 + 8, b"\1\0\0\2"), Options(), lines_of(
+        "incomplete packet=5 pass entries=2 sent=1 taken=0", "incomplete packet=5 pass entries=2 sent=0 taken=1"
+    ), f"Capture Length octet={long_record + 14}", 2
+    yield "no time", without_time(), Options(), lines_of(
+        "incomplete packet=6 pass entries=3 sent=1 taken=1"), "Time packet=6", 2
+    yield "a log without a time", without_time(), Options(log="host"), log, "Time packet=6", 2
+    yield "another octet", other_octets_again(), Options(), lines_of(
+        "incomplete packet=7 pass entries=3 sent=1 taken=1"), "Differs packet=7", 2
+    yield "a length of 9", captures.wrong_length("00000009ffff00000009000000").octets, Options(), lines_of(
+        "incomplete packet=6 pass entries=3 sent=1 taken=1"), "Length packet=6", 2
+    yield "a length past the limit", captures.wrong_length("00000101" + "00" * 257).octets, Options(max=256), lines_of(
+        "incomplete packet=6 pass entries=3 sent=1 taken=1"), "Length packet=6", 2
+    for later, is_lost in ((4096, False), (4097, True)):
+        verdict = "incomplete packet=6 pass entries=3 sent=1 taken=1" if is_lost else None
+        lines = lines_of(verdict or "pass entries=4 sent=1 taken=2", verdict or "pass entries=4 sent=2 taken=1")
+        fault = "Lost packet=6" if is_lost else None
+        yield f"captured {later} packets late", comes_late(later), Options(), lines, fault, 2 if fault else 0
+    lost = lines_of("incomplete packet=6 pass entries=3 sent=1 taken=1")
+    yield "never captured", never_told_again(4200), Options(), lost, "Lost packet=6", 2
+    for later in (1, 4096, 4097):
+        yield f"no SYN and ACK before {later}", without_answer(later), Options(), [
+            end + "incomplete packet=2" for end in ENDS], "Lost packet=2", 2
+    yield from wide_cases(log)
+    yield from left_out_cases()
+
+
+def wide_cases(log: List[str]) -> Iterator[Case]:
+    """Several connections."""
+    both = [line.replace(":40000", port) for port in (":40000", ":40001")
+            for line in lines_of("pass entries=3 sent=1 taken=1")]
+    yield "two at once", two_at_once(), Options(), both, None, 0
+    yield "two at once, in a log", two_at_once(), Options(log="host"), log, "Overlap packet=8", 2
+    same, other = [(1, 2), (1, 2)], [(1, 2), (3, 2)]
+    one = lines_of("pass entries=4 sent=1 taken=1")
+    yield "a port again", one_after_another(same), Options(), one + one, None, 0
+    more = log + ["# packet 6", f"{BEGIN // 1000 + 3} down"]
+    yield "two peers, in a log", one_after_another(other), Options(log="host"), more, "Peer packet=9", 2
+    again = [f"# packet {int(line.split()[2]) + 6}" if line.startswith("#") else
+             f"{int(line.split()[0]) + 1000} {line.split(' ', 1)[1]}" for line in more[1:]]
+    yield "a port again, in a log", one_after_another(same), Options(log="host"), more + again, None, 0
+    equals = selected(Capture(ports=(5000, 5000))).capture.octets
+    short = lines_of("pass entries=3 sent=1 taken=1")
+    yield "both ends at the port", equals, Options(), [line.replace(":40000", ":5000") for line in short], None, 0
+    yield "addresses of IPv6", selected(Capture("pcapng>", is_ipv6=True)).capture.octets, Options(), [
+        line.replace("10.0.0.1", "[fe80::1]").replace("10.0.0.2", "[fe80::2]") for line in short], None, 0
+    cut = lines_of("incomplete packet=12 pass entries=3 sent=1 taken=1")
+    yield "a port again, cut", one_after_another(same)[:-1], Options(), one + cut, "CutOff", 2
+    replaced = contents(f"{TOP}/tests/captures/replaced.pcap")
+    yield "replaced", replaced, Options(), lines_of("pass entries=4 sent=1 taken=1") + lines_of(
+        "pass entries=3 sent=1 taken=1"), None, 0
+    lines = [log[0]]
+    for packet, time, words in ((3, 2, "up"), (4, 3, f"> {SELECT[0][1]}"), (5, 4, f"< {SELECT[1][1]}"), (0, 4, "down"),
+                                (9, 5002, "up"), (10, 5003, f"> {SELECT[0][1]}"), (11, 5004, f"< {SELECT[1][1]}")):
+        lines += [f"# packet {packet}" if packet else "# replaced", f"{BEGIN // 1000 + time} {words}"]
+    yield "replaced, in a log", replaced, Options(log="host"), lines, None, 0
+    yield "more than is held", far_ahead(), Options(), lines_of(
+        "incomplete packet=6 pass entries=3 sent=1 taken=1"), "Full packet=6", 2
+
+
+def differing(case: Case, program: Optional[str]) -> Optional[str]:
+    """What is wrong with the answers to a case: the second reading's, and the command's to each role."""
+    name, octets, options, lines, fault, status = case
+    error = f"hsms: {fault}\n".encode() if fault else b""
+    wanted = Answer(status, "".join(line + "\n" for line in lines).encode(), error)
+    read = second(octets, options)
+    if read != wanted:
+        return f"{name}\n  wanted: {shown(wanted)}\n  second reading: {shown(read)}"
+    wrong = tried(Made(octets, options), program)
+    return f"{name}: {wrong}" if wrong else None
+
+
+def given() -> argparse.Namespace:
+    parser = argparse.ArgumentParser(description=__doc__, formatter_class=argparse.RawDescriptionHelpFormatter)
+    parser.add_argument("words", nargs="*", metavar="CAPTURES SEED | FILE ..")
+    parser.add_argument("--program", default=PROGRAM)
+    parser.add_argument("--alone", action="store_true")
+    for one in fields(Options):
+        parser.add_argument(f"--{one.name}", default=one.default, type=int if isinstance(one.default, int) else str)
+    return parser.parse_args()
+
+
+def main() -> int:
+    words = given()
+    program = None if words.alone else words.program
+    if words.words and os.path.exists(words.words[0]):
+        options = Options(**{one.name: getattr(words, one.name) for one in fields(Options)})
+        answers = [compared(Made(contents(path), options), program) for path in words.words]
+        wrong = [f"{path}: {told}" for path, told in zip(words.words, answers) if told]
+    else:
+        count, seed = int(words.words[0]) if words.words else 2000, words.words[1] if words.words[1:] else "1"
+        jobs = [(seed, number, "damaged" if number % 100 < DAMAGED else "made") for number in range(count)]
+        cases = [*smallest_cases(), *worked_cases()]
+        with ProcessPoolExecutor() as pool:
+            random = pool.map(partial(checked, program=program), jobs, chunksize=10)
+            answers = [*pool.map(partial(differing, program=program), cases), *random]
+        wrong = [told for told in answers if told]
+        failing = sorted(told for told in wrong if " octets, " in told[:30])
+        wrong = [told for told in wrong if told not in failing] + failing
+    for told in wrong[:10]:
+        print(told)
+    print(f"{len(answers) - len(wrong)} passed, {len(wrong)} failed")
+    return 1 if wrong else 0
+
+
+if __name__ == "__main__":
+    sys.exit(main())
