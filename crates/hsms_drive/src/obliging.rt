@@ -12,14 +12,9 @@ impl Desk for ObligingDesk {
     ghost use Rattle.std.specs.Prelude.{None};
     ghost use Rattle.hsms_end.specs.Answer.{replies};
 
-    ghost answers = { λ desk before message. replies None };
+    ghost answers = { λ desk message. replies None };
 
-    fn answer_after(
-        &self,
-        _alloc: Global,
-        _message: &Message,
-        _before: u64,
-    ) -> Result<Answer, AllocError> {
+    fn answer(&self, _alloc: Global, _message: &Message) -> Result<Answer, AllocError> {
         Ok(Answer::Reply(None))
     }
 }

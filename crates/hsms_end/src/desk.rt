@@ -12,14 +12,9 @@ pub struct HostDesk;
 impl Desk for HostDesk {
     ghost use Rattle.hsms_end.specs.Desk.{host_answer};
 
-    ghost answers = { λ desk before message. host_answer message };
+    ghost answers = { λ desk message. host_answer message };
 
-    fn answer_after(
-        &self,
-        alloc: Global,
-        message: &Message,
-        _before: u64,
-    ) -> Result<Answer, AllocError> {
+    fn answer(&self, alloc: Global, message: &Message) -> Result<Answer, AllocError> {
         match (message.stream(), message.function()) {
             (1, 1) => Ok(Answer::Reply(Some(Item::List(Vec::new(alloc))))),
             (1, 13) => Ok(Answer::Reply(Some(acknowledged(alloc, Item::List(Vec::new(alloc)))?))),
@@ -41,14 +36,9 @@ pub struct EquipmentDesk {
 impl Desk for EquipmentDesk {
     ghost use Rattle.hsms_end.specs.Desk.{equipment_answer};
 
-    ghost answers = { λ desk before message. equipment_answer desk.mdln.items desk.softrev.items message };
+    ghost answers = { λ desk message. equipment_answer desk.mdln.items desk.softrev.items message };
 
-    fn answer_after(
-        &self,
-        alloc: Global,
-        message: &Message,
-        _before: u64,
-    ) -> Result<Answer, AllocError> {
+    fn answer(&self, alloc: Global, message: &Message) -> Result<Answer, AllocError> {
         match (message.stream(), message.function()) {
             (1, 1) => Ok(Answer::Reply(Some(self.identity(alloc)?))),
             (1, 13) => Ok(Answer::Reply(Some(acknowledged(alloc, self.identity(alloc)?)?))),

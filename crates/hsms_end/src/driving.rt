@@ -6,7 +6,7 @@ ghost use Rattle.hsms_end.specs.Known.{untold};
 ghost use Rattle.hsms_end.specs.End.{Accepts, Refuses};
 ghost use Rattle.hsms_end.specs.Drive.{told, IsDriven};
 
-use crate::answer::Desk;
+use crate::answer::TurnDesk;
 use crate::end::End;
 use crate::fault::EndFault;
 use crate::input::Input;
@@ -28,7 +28,7 @@ pub struct Driven {
 ///
 /// - *settings*: those of the end and of the run (`Parameters` of `hsms_machine`).
 /// - *desk*: what answers messages. Its answer is a function of the desk, of how many messages of the same stream and
-///   function came before, and of the message (`Desk::answers`).
+///   function came before, and of the message (`TurnDesk::answers_after`).
 /// - *first number*: the system bytes from which own ones are tried (`untold`, `IsFirstFree`).
 /// - *inputs*: what the end is told, in order (`Told`): any moments, any octets in any pieces, any messages.
 /// - *entries*: the new entries of the `Turn` of each input that isn't refused, in order (`Drives`, `Responds`). An
@@ -37,7 +37,7 @@ pub struct Driven {
 ///
 /// The octets of the accepted inputs are the frames of the taken and discarded entries, in order, and then those that
 /// are pending. The only error is want of memory.
-pub fn drive<D: Desk + Drop>(
+pub fn drive<D: TurnDesk + Drop>(
     alloc: Global,
     settings: Settings,
     desk: D,
@@ -46,7 +46,7 @@ pub fn drive<D: Desk + Drop>(
 ) -> Result<Driven, AllocError>
     ensures run { IfOk result (λ driven. IsRun settings driven.entries.items) }
     ensures turns { IfOk result (λ driven.
-        IsDriven (D.answers desk) (untold settings first_system) (map told inputs.now)
+        IsDriven (D.answers_after desk) (untold settings first_system) (map told inputs.now)
         driven.entries.items driven.pending.items) }
 {
     let mut end = End::new(alloc, settings, desk, first_system);
@@ -66,9 +66,9 @@ pub fn drive<D: Desk + Drop>(
 }
 
 /// Tells an end one input.
-fn tell<D: Desk>(end: &mut End<D>, input: &Input) -> Result<Vec<Entry>, EndFault>
+fn tell<D: TurnDesk>(end: &mut End<D>, input: &Input) -> Result<Vec<Entry>, EndFault>
     ensures { MatchResult result
-        (λ entries. Accepts D.answers end.old (told input.now) entries.items end.new)
+        (λ entries. Accepts D.answers_after end.old (told input.now) entries.items end.new)
         (λ fault. Refuses end.old (told input.now) fault end.new) }
 {
     match input {

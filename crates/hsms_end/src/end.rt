@@ -1,6 +1,6 @@
 //! One end of a session.
 
-use crate::answer::Desk;
+use crate::answer::TurnDesk;
 use crate::asked::Asked;
 use crate::fault::EndFault;
 use crate::state::State;
@@ -36,7 +36,7 @@ impl<D> Model for End<D> {
     ghost invariant = { λ end. end.spent ≡ false → IsSound end.state };
 }
 
-impl<D: Desk> End<D> {
+impl<D: TurnDesk> End<D> {
     ghost use Rattle.std.specs.Prelude.{◌≡◌, MatchResult};
     ghost use Rattle.hsms_machine.specs.View.{own_open_of};
     ghost use Rattle.hsms_end.specs.Known.{untold, untold_since};
@@ -144,7 +144,7 @@ impl<D: Desk> End<D> {
     #[tactic(auto, using(crate::proofs::Calls::started), unfolding(crate::specs::Fault::Meets))]
     pub fn start(&mut self, now: u64) -> Result<Vec<Entry>, EndFault>
         ensures { MatchResult result
-            (λ entries. Accepts D.answers self.old (start now) entries.items self.new)
+            (λ entries. Accepts D.answers_after self.old (start now) entries.items self.new)
             (λ fault. Refuses self.old (start now) fault self.new) }
     {
         if self.spent {
@@ -176,7 +176,7 @@ impl<D: Desk> End<D> {
     #[tactic(auto, using(crate::proofs::Ticked::ticked), unfolding(crate::specs::Fault::Meets))]
     pub fn tick(&mut self, now: u64) -> Result<Vec<Entry>, EndFault>
         ensures { MatchResult result
-            (λ entries. Accepts D.answers self.old (tick now) entries.items self.new)
+            (λ entries. Accepts D.answers_after self.old (tick now) entries.items self.new)
             (λ fault. Refuses self.old (tick now) fault self.new) }
     {
         if self.spent {
@@ -205,7 +205,7 @@ impl<D: Desk> End<D> {
     #[tactic(auto, using(crate::proofs::Sent::send_refused), unfolding(crate::specs::Fault::Meets))]
     pub fn send(&mut self, message: &Message) -> Result<Vec<Entry>, EndFault>
         ensures { MatchResult result
-            (λ entries. Accepts D.answers self.old (send (content message.now)) entries.items self.new)
+            (λ entries. Accepts D.answers_after self.old (send (content message.now)) entries.items self.new)
             (λ fault. Refuses self.old (send (content message.now)) fault self.new) }
     {
         if self.spent {
@@ -246,7 +246,7 @@ impl<D: Desk> End<D> {
     #[tactic(auto, using(crate::proofs::Calls::lost_accepted), unfolding(crate::specs::Fault::Meets))]
     pub fn lost(&mut self) -> Result<Vec<Entry>, EndFault>
         ensures { MatchResult result
-            (λ entries. Accepts D.answers self.old lost entries.items self.new)
+            (λ entries. Accepts D.answers_after self.old lost entries.items self.new)
             (λ fault. Refuses self.old lost fault self.new) }
     {
         if self.spent {
@@ -274,7 +274,7 @@ impl<D: Desk> End<D> {
     #[tactic(auto, using(crate::proofs::Calls::separate_accepted), unfolding(crate::specs::Fault::Meets))]
     pub fn separate(&mut self) -> Result<Vec<Entry>, EndFault>
         ensures { MatchResult result
-            (λ entries. Accepts D.answers self.old separate entries.items self.new)
+            (λ entries. Accepts D.answers_after self.old separate entries.items self.new)
             (λ fault. Refuses self.old separate fault self.new) }
     {
         if self.spent {
@@ -303,7 +303,7 @@ impl<D: Desk> End<D> {
     #[tactic(auto, using(crate::proofs::Calls::linktest_accepted), unfolding(crate::specs::Fault::Meets))]
     pub fn linktest(&mut self) -> Result<Vec<Entry>, EndFault>
         ensures { MatchResult result
-            (λ entries. Accepts D.answers self.old linktest entries.items self.new)
+            (λ entries. Accepts D.answers_after self.old linktest entries.items self.new)
             (λ fault. Refuses self.old linktest fault self.new) }
     {
         if self.spent {
@@ -337,7 +337,7 @@ impl<D: Desk> End<D> {
     #[tactic(auto, using(crate::proofs::Hearing::bytes_accepted), unfolding(crate::specs::Fault::Meets))]
     pub fn bytes(&mut self, octets: &[u8]) -> Result<Vec<Entry>, EndFault>
         ensures { MatchResult result
-            (λ entries. Accepts D.answers self.old (bytes octets.now) entries.items self.new)
+            (λ entries. Accepts D.answers_after self.old (bytes octets.now) entries.items self.new)
             (λ fault. Refuses self.old (bytes octets.now) fault self.new) }
     {
         if self.spent {

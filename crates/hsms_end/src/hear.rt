@@ -2,7 +2,7 @@
 
 ghost use Rattle.std.specs.Prelude.{◌≡◌};
 
-use crate::answer::Desk;
+use crate::answer::TurnDesk;
 use crate::fault::EndFault;
 use crate::state::State;
 use hsms_machine::Entry;
@@ -41,7 +41,7 @@ impl State {
     }
 
     /// Octets came: they are added to the pending ones, and the messages at their front are received.
-    pub fn hear<D: Desk>(
+    pub fn hear<D: TurnDesk>(
         &mut self,
         alloc: Global,
         desk: &D,
@@ -49,7 +49,7 @@ impl State {
         octets: &[u8],
     ) -> Result<(), EndFault>
         requires { IsSound self.old }
-        ensures received { OnOk result (HasReceivedAll (D.answers desk.now) (after_octets self.old octets.now) entries.old.items self.new entries.new.items) }
+        ensures received { OnOk result (HasReceivedAll (D.answers_after desk.now) (after_octets self.old octets.now) entries.old.items self.new entries.new.items) }
         ensures sound { OnOk result (IsSound self.new) }
         ensures memory { IfErr result (λ fault. fault ≡ Memory) }
     {

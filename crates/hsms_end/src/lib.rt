@@ -38,7 +38,7 @@ mod sending;
 mod settle;
 mod state;
 
-pub use answer::{Answer, Desk};
+pub use answer::{Answer, Desk, TurnDesk};
 pub use desk::{EquipmentDesk, HostDesk};
 pub use driving::{Driven, drive};
 pub use end::End;

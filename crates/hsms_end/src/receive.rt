@@ -3,7 +3,7 @@
 ghost use Rattle.std.specs.Prelude.{◌≡◌};
 ghost use Rattle.hsms_machine.specs.declared.entry.Event.TheVariants.{Taken};
 
-use crate::answer::Desk;
+use crate::answer::TurnDesk;
 use crate::fault::EndFault;
 use crate::state::State;
 use hsms_frame::{Frame, FrameFault, Header};
@@ -23,14 +23,14 @@ impl State {
     ghost use Rattle.hsms_end.specs.Receiving.{HasHandled, HasReceivedAll};
 
     /// Receives the messages at the front of the pending octets, one after the other, while the connection is up.
-    pub fn receive_all<D: Desk>(
+    pub fn receive_all<D: TurnDesk>(
         &mut self,
         alloc: Global,
         desk: &D,
         entries: &mut Vec<Entry>,
     ) -> Result<(), EndFault>
         requires { IsSound self.old }
-        ensures received { OnOk result (HasReceivedAll (D.answers desk.now) self.old entries.old.items self.new entries.new.items) }
+        ensures received { OnOk result (HasReceivedAll (D.answers_after desk.now) self.old entries.old.items self.new entries.new.items) }
         ensures sound { OnOk result (IsSound self.new) }
         ensures memory { IfErr result (λ fault. fault ≡ Memory) }
     {
@@ -67,7 +67,7 @@ impl State {
     }
 
     /// Logs a message that was taken off the front as taken or discarded, and reacts to it.
-    fn handle<D: Desk>(
+    fn handle<D: TurnDesk>(
         &mut self,
         alloc: Global,
         desk: &D,
@@ -76,7 +76,7 @@ impl State {
     ) -> Result<(), EndFault>
         requires sound { IsSound self.old }
         requires up { is_connection_up self.old.tracker.phase ≡ true }
-        ensures handled { OnOk result (HasHandled (D.answers desk.now) self.old entries.old.items frame self.new entries.new.items) }
+        ensures handled { OnOk result (HasHandled (D.answers_after desk.now) self.old entries.old.items frame self.new entries.new.items) }
         ensures sound { OnOk result (IsSound self.new) }
         ensures octets { OnOk result (self.new.framer ≡ self.old.framer) }
         ensures memory { IfErr result (λ fault. fault ≡ Memory) }

@@ -5,7 +5,7 @@ ghost use Rattle.hsms_frame.specs.Header.{kind_of};
 ghost use Rattle.hsms_machine.specs.Message.{is_data as is_data_of, is_data_kind};
 ghost use Rattle.hsms_end.specs.Reaction.{is_control_response as is_control_response_of};
 
-use crate::answer::{Answer, Desk};
+use crate::answer::{Answer, TurnDesk};
 use crate::state::State;
 use hsms_frame::{Frame, Header, Kind, kind};
 use hsms_machine::{Entry, Event, Rule};
@@ -33,9 +33,9 @@ impl State {
     ghost use Rattle.hsms_end.specs.Owing.{IsOwing, IsSame, CanTake, CanDiscard, IsAnsweredBy, is_silent};
 
     /// The desk's answer to a primary. Its text is readable, since it was taken.
-    fn ask<D: Desk>(&self, alloc: Global, desk: &D, frame: &Frame) -> Result<Answer, AllocError>
+    fn ask<D: TurnDesk>(&self, alloc: Global, desk: &D, frame: &Frame) -> Result<Answer, AllocError>
         requires { ¬ ¬ IsText self.now.settings.depth frame.now.text }
-        ensures { IfOk result (λ answer. IsAnsweredBy (D.answers desk.now (times (name_in frame.now.header) self.now.asked)) self.now.settings.depth frame.now (answered answer)) }
+        ensures { IfOk result (λ answer. IsAnsweredBy (D.answers_after desk.now (times (name_in frame.now.header) self.now.asked)) self.now.settings.depth frame.now (answered answer)) }
     {
         match decode_text(alloc, frame.text.as_slice(), self.settings.depth()) {
             Ok(item) => {
@@ -63,7 +63,7 @@ impl State {
     }
 
     /// Takes a primary, and answers it as the desk says.
-    fn take_primary<D: Desk>(
+    fn take_primary<D: TurnDesk>(
         &mut self,
         alloc: Global,
         desk: &D,
@@ -72,7 +72,7 @@ impl State {
     ) -> Result<(), AllocError>
         requires taken { CanTake self.old frame }
         requires kind { kind_of frame.header ≡ Primary }
-        ensures handled { OnOk result (HasHandled (D.answers desk.now) self.old entries.old.items frame self.new entries.new.items) }
+        ensures handled { OnOk result (HasHandled (D.answers_after desk.now) self.old entries.old.items frame self.new entries.new.items) }
         ensures sound { OnOk result (IsSound self.new) }
         ensures framer { OnOk result (self.new.framer ≡ self.old.framer) }
     {
@@ -149,7 +149,7 @@ impl State {
     }
 
     /// Takes a frame that breaks no rule: logs it, and reacts to it.
-    pub fn take<D: Desk>(
+    pub fn take<D: TurnDesk>(
         &mut self,
         alloc: Global,
         desk: &D,
@@ -157,7 +157,7 @@ impl State {
         frame: Frame,
     ) -> Result<(), AllocError>
         requires { CanTake self.old frame }
-        ensures handled { OnOk result (HasHandled (D.answers desk.now) self.old entries.old.items frame self.new entries.new.items) }
+        ensures handled { OnOk result (HasHandled (D.answers_after desk.now) self.old entries.old.items frame self.new entries.new.items) }
         ensures sound { OnOk result (IsSound self.new) }
         ensures framer { OnOk result (self.new.framer ≡ self.old.framer) }
     {

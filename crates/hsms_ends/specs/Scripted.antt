@@ -27,7 +27,6 @@ in_turn before [] = None
 in_turn before (x ∷ xs) = Some (if before == 0 then x else unwrap_or (in_turn (before - 1) xs) x)
 
 -- of the replies that answer the primary, the one whose turn it is gives its item
-abbrev pub scripted_answer : List Message → (ℕ → Content → Answered) → ℕ → Content → Answered
+abbrev pub scripted_answer : List Message → (Content → Answered) → ℕ → Content → Answered
 scripted_answer script own before primary =
-    scripted_by (in_turn before (filter (is_reply_to primary) script)) (list_any (is_abort_of primary) script)
-    (own before primary)
+    scripted_by (in_turn before (filter (is_reply_to primary) script)) (list_any (is_abort_of primary) script) (own primary)

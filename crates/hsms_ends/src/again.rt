@@ -10,7 +10,7 @@ use crate::fault::ServeFault;
 use crate::link::Again;
 use crate::serving::serve_end;
 use crate::step::Step;
-use hsms_end::{Answer, Desk, End};
+use hsms_end::{Answer, End, TurnDesk};
 use hsms_frame::Sink;
 use hsms_log::write_settings;
 use hsms_machine::Settings;
@@ -31,8 +31,8 @@ impl<'a, D> Clone for Lent<'a, D> {
     }
 }
 
-impl<'a, D: Desk> Desk for Lent<'a, D> {
-    ghost answers = { λ lent. D.answers lent.desk.now };
+impl<'a, D: TurnDesk> TurnDesk for Lent<'a, D> {
+    ghost answers_after = { λ lent. D.answers_after lent.desk.now };
 
     fn answer_after(
         &self,
@@ -78,7 +78,7 @@ struct Went {
 /// # Errors
 ///
 /// `Log`, where the settings' line wasn't taken. Else the fault of the last connection: `Log`, `Turns` or `Memory`.
-pub fn serve_again<L: Again, W: Sink, D: Desk + Copy>(
+pub fn serve_again<L: Again, W: Sink, D: TurnDesk + Copy>(
     alloc: Global,
     link: &mut L,
     log: &mut W,
@@ -91,7 +91,7 @@ pub fn serve_again<L: Again, W: Sink, D: Desk + Copy>(
     turns: u64,
     connections: u64,
 ) -> Result<ServedAgain, ServeFault>
-    ensures { ServesAgain D.answers pause desk (several_of settings) first_system script.now later.now turns connections result
+    ensures { ServesAgain D.answers_after pause desk (several_of settings) first_system script.now later.now turns connections result
         (W.state log.old) (W.state log.new) (L.told link.old) (L.told link.new) }
 {
     let several = settings.several();
@@ -114,7 +114,7 @@ pub fn serve_again<L: Again, W: Sink, D: Desk + Copy>(
 }
 
 /// Serves one connection after the other.
-fn serve_each<L: Again, W: Sink, D: Desk + Copy>(
+fn serve_each<L: Again, W: Sink, D: TurnDesk + Copy>(
     alloc: Global,
     link: &mut L,
     log: &mut W,
@@ -129,7 +129,7 @@ fn serve_each<L: Again, W: Sink, D: Desk + Copy>(
 ) -> Result<ServedAgain, ServeFault>
     requires within { IsWithinLimits settings }
     requires several { settings.version ≡ 2 }
-    ensures { ServedEach D.answers pause desk settings first_system script.now later.now turns connections result
+    ensures { ServedEach D.answers_after pause desk settings first_system script.now later.now turns connections result
         (W.state log.old) (W.state log.new) (L.told link.old) (L.told link.new) }
 {
     let mut done = 0;
@@ -184,7 +184,7 @@ fn steps_of<'a>(script: &'a [Step], later: &'a [Step], done: u64) -> &'a [Step]
 }
 
 /// Serves the next connection, and says the time of its last entry where it went down, and whether it was complete.
-fn serve_next<L: Again, W: Sink, D: Desk + Copy>(
+fn serve_next<L: Again, W: Sink, D: TurnDesk + Copy>(
     alloc: Global,
     link: &mut L,
     log: &mut W,
@@ -197,7 +197,7 @@ fn serve_next<L: Again, W: Sink, D: Desk + Copy>(
     turns: u64,
 ) -> Result<Went, ServeFault>
     requires { IsWithinLimits settings }
-    ensures { NextServed D.answers pause desk settings first_system since script.now turns result
+    ensures { NextServed D.answers_after pause desk settings first_system since script.now turns result
         (W.state log.old) (W.state log.new) (L.told link.old) (L.told link.new) }
 {
     let mut end = End::since(alloc, settings, desk, first_system, since);
@@ -208,7 +208,7 @@ fn serve_next<L: Again, W: Sink, D: Desk + Copy>(
 }
 
 /// What came of a connection that went down.
-fn went_after<D: Desk>(end: &End<D>, complete: bool) -> Went
+fn went_after<D: TurnDesk>(end: &End<D>, complete: bool) -> Went
     ensures moment { result.moment ≡ end.now.known.view.last_time }
     ensures complete { result.complete ≡ complete }
 {
@@ -219,7 +219,7 @@ fn went_after<D: Desk>(end: &End<D>, complete: bool) -> Went
 }
 
 /// What follows a fault: after the link's the next connection.
-fn go_on<D: Desk>(end: &End<D>, fault: ServeFault) -> Result<Went, ServeFault>
+fn go_on<D: TurnDesk>(end: &End<D>, fault: ServeFault) -> Result<Went, ServeFault>
     ensures { Onward result (Err fault) end.now }
 {
     match fault {

@@ -2,7 +2,7 @@
 
 ghost use Rattle.hsms_ends.specs.Laws.{ServedLogPasses, ServedAgainLogPasses};
 
-use hsms_end::Desk;
+use hsms_end::TurnDesk;
 pub use hsms_end::laws::{
     all_expiries_are_logged_before_any_s9f9, each_act_has_one_outcome, each_turn_has_one_outcome,
     free_number_is_among_the_next_65, next_number_follows_the_taken_one, octets_are_kept,
@@ -11,11 +11,11 @@ pub use hsms_end::laws::{
 
 /// The log of a served connection passes the audit, unless a write failed: the verdict on it, which `hsms_log` gives
 /// (`Judges`, the headline of its `audit`), is `Pass` with the summary of the entries that the end gave.
-pub fn served_log_passes<D: Desk>()
-    ensures { ServedLogPasses D.answers }
+pub fn served_log_passes<D: TurnDesk>()
+    ensures { ServedLogPasses D.answers_after }
 {}
 
 /// The log of connections that were served one after the other passes the audit too, with the summary of all entries.
-pub fn served_again_log_passes<D: Desk>()
-    ensures { ServedAgainLogPasses D.answers }
+pub fn served_again_log_passes<D: TurnDesk>()
+    ensures { ServedAgainLogPasses D.answers_after }
 {}

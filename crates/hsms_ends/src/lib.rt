@@ -29,7 +29,9 @@ mod turns;
 
 pub use again::{Lent, ServedAgain, serve_again};
 pub use fault::{LinkFault, ServeFault};
-pub use hsms_end::{Answer, Desk, Driven, End, EndFault, EquipmentDesk, HostDesk, Input, drive};
+pub use hsms_end::{
+    Answer, Desk, Driven, End, EndFault, EquipmentDesk, HostDesk, Input, TurnDesk, drive,
+};
 pub use link::{Again, Got, Link};
 pub use scripted::Scripted;
 pub use scripted_desk::ScriptedDesk;

@@ -1,6 +1,6 @@
 //! A desk with replies from a script.
 
-use hsms_end::{Answer, Desk};
+use hsms_end::{Answer, Desk, TurnDesk};
 use secs_text::Message;
 use std::alloc::{AllocError, Global};
 
@@ -18,10 +18,10 @@ pub struct ScriptedDesk<D: Desk + Drop> {
     pub own: D,
 }
 
-impl<D: Desk + Drop> Desk for ScriptedDesk<D> {
+impl<D: Desk + Drop> TurnDesk for ScriptedDesk<D> {
     ghost use Rattle.hsms_ends.specs.Scripted.{scripted_answer};
 
-    ghost answers = { λ desk before message. scripted_answer desk.replies.items (D.answers desk.own) before message };
+    ghost answers_after = { λ desk. scripted_answer desk.replies.items (D.answers desk.own) };
 
     fn answer_after(
         &self,
@@ -35,7 +35,7 @@ impl<D: Desk + Drop> Desk for ScriptedDesk<D> {
                 if is_aborted(&self.replies, message) {
                     Ok(Answer::Quiet)
                 } else {
-                    self.own.answer_after(alloc, message, before)
+                    self.own.answer(alloc, message)
                 }
             }
         }

@@ -13,7 +13,7 @@ use crate::output::{Stop, log_all};
 use crate::range::entries_are_in_range;
 use crate::step::Step;
 use crate::turns::{Progress, deliver, has_gone, now, take_turns};
-use hsms_end::{Desk, End};
+use hsms_end::{End, TurnDesk};
 use hsms_frame::Sink;
 use hsms_log::write_settings;
 use hsms_machine::{Entry, Settings};
@@ -67,7 +67,7 @@ impl Served {
 ///
 /// What it does not say: that a peer answers, that time goes on, or that memory is there (`Memory`, where a growth was
 /// refused).
-pub fn serve<L: Link, W: Sink, D: Desk + Drop>(
+pub fn serve<L: Link, W: Sink, D: TurnDesk + Drop>(
     alloc: Global,
     link: &mut L,
     log: &mut W,
@@ -77,7 +77,7 @@ pub fn serve<L: Link, W: Sink, D: Desk + Drop>(
     script: &[Step],
     turns: u64,
 ) -> Result<Served, ServeFault>
-    ensures { Serves D.answers (record { desk = desk; known = untold settings first_system }) script.now turns result
+    ensures { Serves D.answers_after (record { desk = desk; known = untold settings first_system }) script.now turns result
         (W.state log.old) (W.state log.new) (L.told link.old) (L.told link.new) }
 {
     serve_testing(
@@ -99,7 +99,7 @@ pub fn serve<L: Link, W: Sink, D: Desk + Drop>(
 /// T6 runs from there. Without a pause it is `serve`.
 ///
 /// It ensures what `serve` does; each test of the link is one of the turns of its story (`MustTest`).
-pub fn serve_testing<L: Link, W: Sink, D: Desk + Drop>(
+pub fn serve_testing<L: Link, W: Sink, D: TurnDesk + Drop>(
     alloc: Global,
     link: &mut L,
     log: &mut W,
@@ -110,7 +110,7 @@ pub fn serve_testing<L: Link, W: Sink, D: Desk + Drop>(
     pause: Option<u64>,
     turns: u64,
 ) -> Result<Served, ServeFault>
-    ensures { ServesTesting D.answers pause (record { desk = desk; known = untold settings first_system }) script.now turns
+    ensures { ServesTesting D.answers_after pause (record { desk = desk; known = untold settings first_system }) script.now turns
         result (W.state log.old) (W.state log.new) (L.told link.old) (L.told link.new) }
 {
     match write_settings(log, &settings) {
@@ -123,7 +123,7 @@ pub fn serve_testing<L: Link, W: Sink, D: Desk + Drop>(
 }
 
 /// Serves an end that was told nothing yet. The settings' line isn't written.
-pub fn serve_end<L: Link, W: Sink, D: Desk>(
+pub fn serve_end<L: Link, W: Sink, D: TurnDesk>(
     link: &mut L,
     log: &mut W,
     end: &mut End<D>,
@@ -132,7 +132,7 @@ pub fn serve_end<L: Link, W: Sink, D: Desk>(
     turns: u64,
 ) -> Result<Served, ServeFault>
     requires { IsReady end.old }
-    ensures { ServesEnd D.answers pause end.old end.new script.now turns result (W.state log.old) (W.state log.new)
+    ensures { ServesEnd D.answers_after pause end.old end.new script.now turns result (W.state log.old) (W.state log.new)
         (L.told link.old) (L.told link.new) }
 {
     let mut progress = Progress {
@@ -164,7 +164,7 @@ fn left_over(script: &[Step], place: usize) -> usize
 }
 
 /// Starts the end, and takes turns.
-fn run<L: Link, W: Sink, D: Desk>(
+fn run<L: Link, W: Sink, D: TurnDesk>(
     link: &mut L,
     log: &mut W,
     end: &mut End<D>,
@@ -175,7 +175,7 @@ fn run<L: Link, W: Sink, D: Desk>(
 ) -> Result<(), Stop>
     requires ready { IsReady end.old }
     requires none { progress.old ≡ record { place = 0; entries = 0; refused = 0 } }
-    ensures { Ran D.answers pause result turns end.old end.new script.now (drop progress.new.place script.now)
+    ensures { Ran D.answers_after pause result turns end.old end.new script.now (drop progress.new.place script.now)
         (W.state log.old) (W.state log.new) (L.told link.old) (L.told link.new)
         progress.new.entries progress.new.refused }
 {
@@ -187,14 +187,14 @@ fn run<L: Link, W: Sink, D: Desk>(
 }
 
 /// Asks the clock, and starts the end.
-fn begin<L: Link, W: Sink, D: Desk>(
+fn begin<L: Link, W: Sink, D: TurnDesk>(
     link: &mut L,
     log: &mut W,
     end: &mut End<D>,
     count: &mut u64,
 ) -> Result<(), Stop>
     requires { IsReady end.old }
-    ensures { (now : ℕ) × Handed D.answers result end.old (start now) end.new (W.state log.old) (W.state log.new)
+    ensures { (now : ℕ) × Handed D.answers_after result end.old (start now) end.new (W.state log.old) (W.state log.new)
         (L.told link.old) (L.told link.new) (moment_heard now) count.old count.new }
 {
     let now = now(link);
@@ -206,8 +206,8 @@ fn begin<L: Link, W: Sink, D: Desk>(
 }
 
 /// What is answered after a fault. After a link fault the end is closed first.
-fn stopped<W: Sink, D: Desk>(log: &mut W, end: &mut End<D>, stop: Stop) -> ServeFault
-    ensures { StoppedAs D.answers stop result end.old end.new (W.state log.old) (W.state log.new) }
+fn stopped<W: Sink, D: TurnDesk>(log: &mut W, end: &mut End<D>, stop: Stop) -> ServeFault
+    ensures { StoppedAs D.answers_after stop result end.old end.new (W.state log.old) (W.state log.new) }
 {
     match stop {
         Stop::Link => close(log, end),
@@ -217,8 +217,8 @@ fn stopped<W: Sink, D: Desk>(log: &mut W, end: &mut End<D>, stop: Stop) -> Serve
 }
 
 /// Closes an end after a link fault, and says what is answered: the fault of closing it, where there is one.
-fn close<W: Sink, D: Desk>(log: &mut W, end: &mut End<D>) -> ServeFault
-    ensures { ClosedLink D.answers result end.old end.new (W.state log.old) (W.state log.new) }
+fn close<W: Sink, D: TurnDesk>(log: &mut W, end: &mut End<D>) -> ServeFault
+    ensures { ClosedLink D.answers_after result end.old end.new (W.state log.old) (W.state log.new) }
 {
     if has_gone(end) {
         return ServeFault::Link;

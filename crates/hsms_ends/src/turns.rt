@@ -12,7 +12,7 @@ use crate::link::{Got, Link};
 use crate::output::{Stop, put_out};
 use crate::range::entries_are_in_range;
 use crate::step::Step;
-use hsms_end::{Desk, End, EndFault};
+use hsms_end::{End, EndFault, TurnDesk};
 use hsms_frame::Sink;
 use hsms_machine::{Entry, Phase};
 
@@ -28,7 +28,7 @@ pub struct Progress {
 }
 
 /// Whether the connection went down.
-pub fn has_gone<D: Desk>(end: &End<D>) -> bool
+pub fn has_gone<D: TurnDesk>(end: &End<D>) -> bool
     ensures { result ≡ is_down end.now }
 {
     match end.phase() {
@@ -38,7 +38,7 @@ pub fn has_gone<D: Desk>(end: &End<D>) -> bool
 }
 
 /// Whether the end is selected and has no own open transaction.
-fn is_idle<D: Desk>(end: &End<D>) -> bool
+fn is_idle<D: TurnDesk>(end: &End<D>) -> bool
     ensures { result ≡ is_free end.now }
 {
     match end.phase() {
@@ -71,14 +71,14 @@ pub fn now<L: Link>(link: &mut L) -> u64
 }
 
 /// Asks the clock, and tells the end the moment.
-fn tick<L: Link, W: Sink, D: Desk>(
+fn tick<L: Link, W: Sink, D: TurnDesk>(
     link: &mut L,
     log: &mut W,
     end: &mut End<D>,
     count: &mut u64,
 ) -> Result<(), Stop>
     requires { IsReady end.old }
-    ensures { (now : ℕ) × Handed D.answers result end.old (ticks now) end.new (W.state log.old) (W.state log.new)
+    ensures { (now : ℕ) × Handed D.answers_after result end.old (ticks now) end.new (W.state log.old) (W.state log.new)
         (L.told link.old) (L.told link.new) (moment_heard now) count.old count.new }
 {
     let now = now(link);
@@ -90,7 +90,7 @@ fn tick<L: Link, W: Sink, D: Desk>(
 }
 
 /// Tells the end the octets that came.
-fn hand_octets<L: Link, W: Sink, D: Desk>(
+fn hand_octets<L: Link, W: Sink, D: TurnDesk>(
     link: &mut L,
     log: &mut W,
     end: &mut End<D>,
@@ -98,7 +98,7 @@ fn hand_octets<L: Link, W: Sink, D: Desk>(
     count: &mut u64,
 ) -> Result<(), Stop>
     requires { IsReady end.old }
-    ensures { Handed D.answers result end.old (bytes octets.now) end.new (W.state log.old) (W.state log.new)
+    ensures { Handed D.answers_after result end.old (bytes octets.now) end.new (W.state log.old) (W.state log.new)
         (L.told link.old) (L.told link.new) nothing_heard count.old count.new }
 {
     let answer = end.bytes(octets);
@@ -109,14 +109,14 @@ fn hand_octets<L: Link, W: Sink, D: Desk>(
 }
 
 /// Tells the end that the connection was lost.
-fn hand_lost<L: Link, W: Sink, D: Desk>(
+fn hand_lost<L: Link, W: Sink, D: TurnDesk>(
     link: &mut L,
     log: &mut W,
     end: &mut End<D>,
     count: &mut u64,
 ) -> Result<(), Stop>
     requires { IsReady end.old }
-    ensures { Handed D.answers result end.old lost end.new (W.state log.old) (W.state log.new)
+    ensures { Handed D.answers_after result end.old lost end.new (W.state log.old) (W.state log.new)
         (L.told link.old) (L.told link.new) nothing_heard count.old count.new }
 {
     let answer = end.lost();
@@ -127,14 +127,14 @@ fn hand_lost<L: Link, W: Sink, D: Desk>(
 }
 
 /// Asks by Linktest.req whether the other end is still there.
-fn hand_linktest<L: Link, W: Sink, D: Desk>(
+fn hand_linktest<L: Link, W: Sink, D: TurnDesk>(
     link: &mut L,
     log: &mut W,
     end: &mut End<D>,
     count: &mut u64,
 ) -> Result<(), Stop>
     requires { IsReady end.old }
-    ensures { Handed D.answers result end.old linktest end.new (W.state log.old) (W.state log.new)
+    ensures { Handed D.answers_after result end.old linktest end.new (W.state log.old) (W.state log.new)
         (L.told link.old) (L.told link.new) nothing_heard count.old count.new }
 {
     let answer = end.linktest();
@@ -145,9 +145,9 @@ fn hand_linktest<L: Link, W: Sink, D: Desk>(
 }
 
 /// Tells the end a step.
-fn tell<D: Desk>(end: &mut End<D>, step: &Step) -> Result<Vec<Entry>, EndFault>
+fn tell<D: TurnDesk>(end: &mut End<D>, step: &Step) -> Result<Vec<Entry>, EndFault>
     ensures { MatchResult result
-        (λ entries. Accepts D.answers end.old (input_of step.now) entries.items end.new)
+        (λ entries. Accepts D.answers_after end.old (input_of step.now) entries.items end.new)
         (λ fault. Refuses end.old (input_of step.now) fault end.new) }
 {
     match step {
@@ -158,7 +158,7 @@ fn tell<D: Desk>(end: &mut End<D>, step: &Step) -> Result<Vec<Entry>, EndFault>
 }
 
 /// Takes the next step of the script.
-fn take_step<L: Link, W: Sink, D: Desk>(
+fn take_step<L: Link, W: Sink, D: TurnDesk>(
     link: &mut L,
     log: &mut W,
     end: &mut End<D>,
@@ -169,7 +169,7 @@ fn take_step<L: Link, W: Sink, D: Desk>(
     requires up { HasNotGone end.old }
     requires due { step_due end.old (drop progress.old.place script.now) ≡ true }
     requires within { progress.old.place < length script.now }
-    ensures { (pause : Option ℕ) → Continued D.answers pause result end.old end.new
+    ensures { (pause : Option ℕ) → Continued D.answers_after pause result end.old end.new
         (drop progress.old.place script.now) (drop progress.new.place script.now)
         (W.state log.old) (W.state log.new) (L.told link.old) (L.told link.new)
         progress.old.entries progress.new.entries progress.old.refused progress.new.refused }
@@ -194,7 +194,7 @@ fn take_step<L: Link, W: Sink, D: Desk>(
 }
 
 /// Tells the end the moment, and then, unless that ended the connection, the octets that came.
-fn hear_octets<L: Link, W: Sink, D: Desk>(
+fn hear_octets<L: Link, W: Sink, D: TurnDesk>(
     link: &mut L,
     log: &mut W,
     end: &mut End<D>,
@@ -202,7 +202,7 @@ fn hear_octets<L: Link, W: Sink, D: Desk>(
     count: &mut u64,
 ) -> Result<(), Stop>
     requires { IsReady end.old }
-    ensures { Followed D.answers result end.old (bytes octets.now) end.new (W.state log.old) (W.state log.new)
+    ensures { Followed D.answers_after result end.old (bytes octets.now) end.new (W.state log.old) (W.state log.new)
         (L.told link.old) (L.told link.new) count.old count.new }
 {
     match tick(link, log, end, count) {
@@ -218,14 +218,14 @@ fn hear_octets<L: Link, W: Sink, D: Desk>(
 }
 
 /// Tells the end the moment, and then, unless that ended the connection, that it was lost.
-fn hear_closed<L: Link, W: Sink, D: Desk>(
+fn hear_closed<L: Link, W: Sink, D: TurnDesk>(
     link: &mut L,
     log: &mut W,
     end: &mut End<D>,
     count: &mut u64,
 ) -> Result<(), Stop>
     requires { IsReady end.old }
-    ensures { Followed D.answers result end.old lost end.new (W.state log.old) (W.state log.new)
+    ensures { Followed D.answers_after result end.old lost end.new (W.state log.old) (W.state log.new)
         (L.told link.old) (L.told link.new) count.old count.new }
 {
     match tick(link, log, end, count) {
@@ -241,7 +241,7 @@ fn hear_closed<L: Link, W: Sink, D: Desk>(
 }
 
 /// Waits once, into a slice that isn't empty, and tells the end what came of it.
-fn wait_once<L: Link, W: Sink, D: Desk>(
+fn wait_once<L: Link, W: Sink, D: TurnDesk>(
     link: &mut L,
     log: &mut W,
     end: &mut End<D>,
@@ -252,7 +252,7 @@ fn wait_once<L: Link, W: Sink, D: Desk>(
     requires ready { IsReady end.old }
     requires room { 0 < length into.old }
     ensures continued { (script : List Step) (refused : ℕ) → MustWait pause end.old script script
-        → Continued D.answers pause result end.old end.new script script (W.state log.old) (W.state log.new)
+        → Continued D.answers_after pause result end.old end.new script script (W.state log.old) (W.state log.new)
         (L.told link.old) (L.told link.new) count.old count.new refused refused }
     ensures len { length into.new ≡ length into.old }
 {
@@ -264,7 +264,7 @@ fn wait_once<L: Link, W: Sink, D: Desk>(
 }
 
 /// Tells the end what a wait answered.
-fn heed<L: Link, W: Sink, D: Desk>(
+fn heed<L: Link, W: Sink, D: TurnDesk>(
     link: &mut L,
     log: &mut W,
     end: &mut End<D>,
@@ -274,7 +274,7 @@ fn heed<L: Link, W: Sink, D: Desk>(
 ) -> Result<(), Stop>
     requires ready { IsReady end.old }
     requires got { IsGot into.now got }
-    ensures { Heeded D.answers result into.now got end.old end.new (W.state log.old) (W.state log.new)
+    ensures { Heeded D.answers_after result into.now got end.old end.new (W.state log.old) (W.state log.new)
         (L.told link.old) (L.told link.new) count.old count.new }
 {
     match got {
@@ -286,7 +286,7 @@ fn heed<L: Link, W: Sink, D: Desk>(
 
 // Until when to wait: until the link is to be tested, or past the moment at which the next timer is due, since only then
 // it has run out.
-fn until<D: Desk>(end: &End<D>, pause: Option<u64>) -> Option<u64> {
+fn until<D: TurnDesk>(end: &End<D>, pause: Option<u64>) -> Option<u64> {
     let expiry = match end.next_due() {
         Some(due) => due.checked_add(1),
         None => None,
@@ -299,7 +299,7 @@ fn until<D: Desk>(end: &End<D>, pause: Option<u64>) -> Option<u64> {
 }
 
 /// One turn of an end that isn't down.
-fn turn<L: Link, W: Sink, D: Desk>(
+fn turn<L: Link, W: Sink, D: TurnDesk>(
     link: &mut L,
     log: &mut W,
     end: &mut End<D>,
@@ -311,7 +311,7 @@ fn turn<L: Link, W: Sink, D: Desk>(
     requires ready { IsReady end.old }
     requires up { HasNotGone end.old }
     requires room { 0 < length into.old }
-    ensures taken { TurnTaken D.answers pause result end.old end.new
+    ensures taken { TurnTaken D.answers_after pause result end.old end.new
         (drop progress.old.place script.now) (drop progress.new.place script.now)
         (W.state log.old) (W.state log.new) (L.told link.old) (L.told link.new)
         progress.old.entries progress.new.entries progress.old.refused progress.new.refused }
@@ -324,7 +324,7 @@ fn turn<L: Link, W: Sink, D: Desk>(
 }
 
 /// The rest of a turn: the next step of the script where it is due, a test of the link where that is, else a wait.
-fn continue_turn<L: Link, W: Sink, D: Desk>(
+fn continue_turn<L: Link, W: Sink, D: TurnDesk>(
     link: &mut L,
     log: &mut W,
     end: &mut End<D>,
@@ -335,7 +335,7 @@ fn continue_turn<L: Link, W: Sink, D: Desk>(
 ) -> Result<(), Stop>
     requires ready { IsReady end.old }
     requires room { 0 < length into.old }
-    ensures continued { Continued D.answers pause result end.old end.new
+    ensures continued { Continued D.answers_after pause result end.old end.new
         (drop progress.old.place script.now) (drop progress.new.place script.now)
         (W.state log.old) (W.state log.new) (L.told link.old) (L.told link.new)
         progress.old.entries progress.new.entries progress.old.refused progress.new.refused }
@@ -354,7 +354,7 @@ fn continue_turn<L: Link, W: Sink, D: Desk>(
 }
 
 /// Whether the next step is to be taken now.
-fn step_is_due<D: Desk>(end: &End<D>, script: &[Step], place: usize) -> bool
+fn step_is_due<D: TurnDesk>(end: &End<D>, script: &[Step], place: usize) -> bool
     ensures due { result ≡ step_due end.now (drop place script.now) }
     ensures within { result ≡ true → place < length script.now }
 {
@@ -362,7 +362,7 @@ fn step_is_due<D: Desk>(end: &End<D>, script: &[Step], place: usize) -> bool
 }
 
 /// Whether the link is to be tested now, after so long a pause.
-fn test_is_due<D: Desk>(end: &End<D>, pause: Option<u64>) -> bool
+fn test_is_due<D: TurnDesk>(end: &End<D>, pause: Option<u64>) -> bool
     ensures { result ≡ test_due pause end.now }
 {
     match test_moment(end, pause) {
@@ -372,7 +372,7 @@ fn test_is_due<D: Desk>(end: &End<D>, pause: Option<u64>) -> bool
 }
 
 /// The moment from which on the link is to be tested.
-fn test_moment<D: Desk>(end: &End<D>, pause: Option<u64>) -> Option<u64>
+fn test_moment<D: TurnDesk>(end: &End<D>, pause: Option<u64>) -> Option<u64>
     ensures { result ≡ moment_of_test pause end.now }
 {
     match pause {
@@ -382,7 +382,7 @@ fn test_moment<D: Desk>(end: &End<D>, pause: Option<u64>) -> Option<u64>
 }
 
 /// At most so many turns, while the connection isn't down. What comes is read into a slice that isn't empty.
-pub fn take_turns<L: Link, W: Sink, D: Desk>(
+pub fn take_turns<L: Link, W: Sink, D: TurnDesk>(
     link: &mut L,
     log: &mut W,
     end: &mut End<D>,
@@ -394,7 +394,7 @@ pub fn take_turns<L: Link, W: Sink, D: Desk>(
 ) -> Result<(), Stop>
     requires ready { IsReady end.old }
     requires room { 0 < length into.old }
-    ensures { TurnsTaken D.answers pause result turns end.old end.new
+    ensures { TurnsTaken D.answers_after pause result turns end.old end.new
         (drop progress.old.place script.now) (drop progress.new.place script.now)
         (W.state log.old) (W.state log.new) (L.told link.old) (L.told link.new)
         progress.old.entries progress.new.entries progress.old.refused progress.new.refused }

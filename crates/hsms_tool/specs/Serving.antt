@@ -23,10 +23,9 @@ use Rattle.hsms_options.specs.declared.service.Service.{Service}
 
 -- what a desk answers
 abbrev pub own_answer : OwnDesk → ℕ → Content → Answered
-own_answer (Host desk) before message = scripted_answer desk.replies.items (λ before message. host_answer message) before message
+own_answer (Host desk) before message = scripted_answer desk.replies.items host_answer before message
 own_answer (Equipment desk) before message =
-    scripted_answer desk.replies.items (λ before message. equipment_answer desk.own.mdln.items desk.own.softrev.items message)
-    before message
+    scripted_answer desk.replies.items (equipment_answer desk.own.mdln.items desk.own.softrev.items) before message
 
 -- the desk of a service with these replies: a host's, or that of equipment with its model and software revision
 abbrev pub IsDeskOf : Service → List Message → OwnDesk → Type 0

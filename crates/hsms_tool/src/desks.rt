@@ -3,7 +3,7 @@
 ghost use Rattle.std.specs.Prelude.{IfOk};
 ghost use Rattle.hsms_tool.specs.Serving.{IsDeskOf};
 
-use hsms_ends::{Answer, Desk, EquipmentDesk, HostDesk, ScriptedDesk};
+use hsms_ends::{Answer, EquipmentDesk, HostDesk, ScriptedDesk, TurnDesk};
 use hsms_machine::Role;
 use hsms_options::Service;
 use secs_text::Message;
@@ -16,10 +16,10 @@ pub enum OwnDesk {
     Equipment(ScriptedDesk<EquipmentDesk>),
 }
 
-impl Desk for OwnDesk {
+impl TurnDesk for OwnDesk {
     ghost use Rattle.hsms_tool.specs.Serving.{own_answer};
 
-    ghost answers = { λ desk before message. own_answer desk before message };
+    ghost answers_after = { own_answer };
 
     fn answer_after(
         &self,

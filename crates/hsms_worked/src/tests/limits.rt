@@ -140,14 +140,9 @@ impl Desk for ByStream {
     ghost use Rattle.std.specs.Prelude.{None, ◌==◌, if◌then◌else◌};
     ghost use Rattle.hsms_end.specs.Answer.{replies, quiet};
 
-    ghost answers = { λ desk before message. if message.stream == 1 then replies None else quiet };
+    ghost answers = { λ desk message. if message.stream == 1 then replies None else quiet };
 
-    fn answer_after(
-        &self,
-        alloc: Global,
-        message: &Message,
-        _before: u64,
-    ) -> Result<Answer, AllocError> {
+    fn answer(&self, alloc: Global, message: &Message) -> Result<Answer, AllocError> {
         match message.stream() {
             1 => Ok(Answer::Reply(None)),
             2 => Ok(Answer::Quiet),

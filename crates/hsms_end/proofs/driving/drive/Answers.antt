@@ -10,25 +10,25 @@ use Rattle.hsms_end.proofs.driving.drive.Goals as goal
 
 pub loop-input-init : goal.loop-input-init
 loop-input-init g c =
-    undriven g.D.Desk.answers c.args.settings c.args.desk c.args.first_system c.new-entries.result.items c.new-end.result c.new-entries.ensures.items c.new-end.ensures
+    undriven g.D.TurnDesk.answers_after c.args.settings c.args.desk c.args.first_system c.new-entries.result.items c.new-end.result c.new-entries.ensures.items c.new-end.ensures
 
 pub loop-input-preserved : goal.loop-input-preserved
 loop-input-preserved g c =
-    subst (λ (inputs : List Told). HasDriven g.D.Desk.answers c.args.settings c.args.desk c.args.first_system inputs c.match-tell.entries.items c.tell.new.end)
+    subst (λ (inputs : List Told). HasDriven g.D.TurnDesk.answers_after c.args.settings c.args.desk c.args.first_system inputs c.match-tell.entries.items c.tell.new.end)
     (next_told c.args.inputs.now c.loop-input.input-index c.input-item.result c.loop-input-test.true c.input-item.is)
     (elim c.match-tell.branch [
       | in-Ok+in_ok-append-in-Ok w ↦
-          one_accepted g.D.Desk.answers c.args.settings c.args.desk c.args.first_system (map told (take c.loop-input.input-index c.args.inputs.now)) c.loop-input.entries.items c.match-tell.entries.items c.loop-input.end c.tell.new.end (told c.input-item.result) w.in-Ok.new.items
+          one_accepted g.D.TurnDesk.answers_after c.args.settings c.args.desk c.args.first_system (map told (take c.loop-input.input-index c.args.inputs.now)) c.loop-input.entries.items c.match-tell.entries.items c.loop-input.end c.tell.new.end (told c.input-item.result) w.in-Ok.new.items
           c.loop-input.invariant w.in-Ok.ensures (ap (λ (v : Vec Entry Global). v.items) w.entries-is ∙ w.in_ok-append-in-Ok.ensures.items)
       | in-Err+else-eq w ↦
-          subst (λ (entries : List Entry). HasDriven g.D.Desk.answers c.args.settings c.args.desk c.args.first_system (map told (take c.loop-input.input-index c.args.inputs.now) ++ told c.input-item.result ∷ []) entries c.tell.new.end) (sym (ap (λ (v : Vec Entry Global). v.items) w.entries-is))
-          (one_refused g.D.Desk.answers c.args.settings c.args.desk c.args.first_system (map told (take c.loop-input.input-index c.args.inputs.now)) c.loop-input.entries.items c.loop-input.end c.tell.new.end (told c.input-item.result) w.in-Err.fault
+          subst (λ (entries : List Entry). HasDriven g.D.TurnDesk.answers_after c.args.settings c.args.desk c.args.first_system (map told (take c.loop-input.input-index c.args.inputs.now) ++ told c.input-item.result ∷ []) entries c.tell.new.end) (sym (ap (λ (v : Vec Entry Global). v.items) w.entries-is))
+          (one_refused g.D.TurnDesk.answers_after c.args.settings c.args.desk c.args.first_system (map told (take c.loop-input.input-index c.args.inputs.now)) c.loop-input.entries.items c.loop-input.end c.tell.new.end (told c.input-item.result) w.in-Err.fault
           c.loop-input.invariant w.in-Err.ensures (λ m. let d : false ≡ true = (rw m at w.if-eq.ensures) in cc))
     ])
 
 pub returns-clause-turns : goal.returns-clause-turns
 returns-clause-turns g c =
-    subst (λ (inputs : List Told). IsDriven (g.D.Desk.answers c.args.desk) (untold c.args.settings c.args.first_system) inputs c.loop-input.entries.items c.in_ok-pending.pending.items)
+    subst (λ (inputs : List Told). IsDriven (g.D.TurnDesk.answers_after c.args.desk) (untold c.args.settings c.args.first_system) inputs c.loop-input.entries.items c.in_ok-pending.pending.items)
     (told_all c.args.inputs.now c.loop-input.input-index (omega (arith, c.loop-input-test.false)))
-    (driven g.D.Desk.answers c.args.settings c.args.desk c.args.first_system (map told (take c.loop-input.input-index c.args.inputs.now)) c.loop-input.entries.items c.in_ok-pending.pending.items c.loop-input.end c.loop-input.invariant
+    (driven g.D.TurnDesk.answers_after c.args.settings c.args.desk c.args.first_system (map told (take c.loop-input.input-index c.args.inputs.now)) c.loop-input.entries.items c.in_ok-pending.pending.items c.loop-input.end c.loop-input.invariant
     (c.in_ok-pending.ensures.items ∙ c.pending.ensures))

@@ -13,7 +13,7 @@ use Rattle.hsms_ends.proofs.serving.begin.Goals as goal
 pub deliver-requires : goal.deliver-requires
 deliver-requires g c =
     let P : List Entry → Type 0 = λ l. AllFitLengthField l in
-    subst P (sym c.deref.ensures.value) (fits g.D.Desk.answers c.args.end.now c.start-answer.new.self (start c.now-now.result) c.in-Ok.entries.items c.requires c.in-Ok.ensures)
+    subst P (sym c.deref.ensures.value) (fits g.D.TurnDesk.answers_after c.args.end.now c.start-answer.new.self (start c.now-now.result) c.in-Ok.entries.items c.requires c.in-Ok.ensures)
 
 pub returns-in-Ok : goal.returns-in-Ok
 returns-in-Ok g c =
@@ -25,7 +25,7 @@ returns-in-Ok g c =
       record {
         entries = c.in-Ok.entries.items;
         end' = c.start-answer.new.self;
-        takes = takes_by g.D.Desk.answers c.deliver.result c.args.end.now (start now) c.in-Ok.entries.items c.start-answer.new.self c.in-Ok.ensures;
+        takes = takes_by g.D.TurnDesk.answers_after c.deliver.result c.args.end.now (start now) c.in-Ok.entries.items c.start-answer.new.self c.in-Ok.ensures;
         leads = leads_itself c.deliver.result c.start-answer.new.self;
         yields = yields_as c.deliver.result log log' (told c.args.link.now) (told c.deliver.new.link) c.args.count.now c.deliver.new.count _ _ (moment_heard now) c.deref.ensures.value
             (yields_asked c.deliver.result log log' (told c.args.link.now) (told c.now-now.new.link) (told c.deliver.new.link) c.args.count.now c.deliver.new.count now _ _ c.now-now.ensures c.deliver.ensures);

@@ -7,7 +7,7 @@ pub returns-then-has_gone-clause-continued : goal.returns-then-has_gone-clause-c
 returns-then-has_gone-clause-continued g c =
     let log : SinkState = g.W.Sink.state c.args.log.now in
     let before = c.args.progress.now in
-    continued_gone g.D.Desk.answers c.args.pause c.args.end.now (drop before.place c.args.script.now) log (g.L.Link.told c.args.link.now) before.entries before.refused (sym c.has_gone.ensures ∙ c.if-has_gone.true)
+    continued_gone g.D.TurnDesk.answers_after c.args.pause c.args.end.now (drop before.place c.args.script.now) log (g.L.Link.told c.args.link.now) before.entries before.refused (sym c.has_gone.ensures ∙ c.if-has_gone.true)
 
 pub returns-then-test_is_due-clause-continued : goal.returns-then-test_is_due-clause-continued
 returns-then-test_is_due-clause-continued g c =
@@ -15,7 +15,7 @@ returns-then-test_is_due-clause-continued g c =
     let log : SinkState = g.W.Sink.state c.args.log.now in
     let log' : SinkState = g.W.Sink.state c.hand_linktest.new.log in
     let before = c.args.progress.now in
-    continued_tested g.D.Desk.answers c.args.pause c.hand_linktest.result c.args.end.now c.hand_linktest.new.end (drop before.place c.args.script.now) log log' (told c.args.link.now) (told c.hand_linktest.new.link) before.entries c.hand_linktest.new.count before.refused
+    continued_tested g.D.TurnDesk.answers_after c.args.pause c.hand_linktest.result c.args.end.now c.hand_linktest.new.end (drop before.place c.args.script.now) log log' (told c.args.link.now) (told c.hand_linktest.new.link) before.entries c.hand_linktest.new.count before.refused
     (record {
       up = sym c.has_gone.ensures ∙ c.if-has_gone.false;
       no_step = sym c.step_is_due.ensures.due ∙ c.if-step_is_due.false;

@@ -13,7 +13,7 @@ use Rattle.hsms_ends.proofs.turns.hand_linktest.Goals as goal
 pub deliver-requires : goal.deliver-requires
 deliver-requires g c =
     let P : List Entry → Type 0 = λ l. AllFitLengthField l in
-    subst P (sym c.deref.ensures.value) (fits g.D.Desk.answers c.args.end.now c.linktest-answer.new.self linktest c.in-Ok.entries.items c.requires c.in-Ok.ensures)
+    subst P (sym c.deref.ensures.value) (fits g.D.TurnDesk.answers_after c.args.end.now c.linktest-answer.new.self linktest c.in-Ok.entries.items c.requires c.in-Ok.ensures)
 
 pub returns-in-Ok : goal.returns-in-Ok
 returns-in-Ok g c =
@@ -23,7 +23,7 @@ returns-in-Ok g c =
     record {
       entries = c.in-Ok.entries.items;
       end' = c.linktest-answer.new.self;
-      takes = takes_by g.D.Desk.answers c.deliver.result c.args.end.now linktest c.in-Ok.entries.items c.linktest-answer.new.self c.in-Ok.ensures;
+      takes = takes_by g.D.TurnDesk.answers_after c.deliver.result c.args.end.now linktest c.in-Ok.entries.items c.linktest-answer.new.self c.in-Ok.ensures;
       leads = leads_itself c.deliver.result c.linktest-answer.new.self;
       yields = yields_as c.deliver.result log log' (told c.args.link.now) (told c.deliver.new.link) c.args.count.now c.deliver.new.count _ _ nothing_heard c.deref.ensures.value c.deliver.ensures;
     }

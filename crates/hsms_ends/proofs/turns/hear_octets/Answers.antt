@@ -9,13 +9,13 @@ pub hand_octets-requires : goal.hand_octets-requires
 hand_octets-requires g c =
     let told = g.L.Link.told in
     let log : SinkState = g.W.Sink.state c.args.log.now in
-    ready_handed g.D.Desk.answers c.args.end.now c.tick.new.end (ticks c.in-Ok.ensures.0) log (g.W.Sink.state c.tick.new.log) (told c.args.link.now) (told c.tick.new.link) _ c.args.count.now c.tick.new.count c.requires c.in-Ok.ensures.1
+    ready_handed g.D.TurnDesk.answers_after c.args.end.now c.tick.new.end (ticks c.in-Ok.ensures.0) log (g.W.Sink.state c.tick.new.log) (told c.args.link.now) (told c.tick.new.link) _ c.args.count.now c.tick.new.count c.requires c.in-Ok.ensures.1
 
 pub returns-then-has_gone : goal.returns-then-has_gone
 returns-then-has_gone g c =
     let told = g.L.Link.told in
     let log : SinkState = g.W.Sink.state c.args.log.now in
-    followed_gone g.D.Desk.answers c.in-Ok.ensures.0 c.args.end.now (bytes c.args.octets.now) c.tick.new.end log (g.W.Sink.state c.tick.new.log) (told c.args.link.now) (told c.tick.new.link) c.args.count.now c.tick.new.count
+    followed_gone g.D.TurnDesk.answers_after c.in-Ok.ensures.0 c.args.end.now (bytes c.args.octets.now) c.tick.new.end log (g.W.Sink.state c.tick.new.log) (told c.args.link.now) (told c.tick.new.link) c.args.count.now c.tick.new.count
     c.in-Ok.ensures.1 (sym c.has_gone.ensures ∙ c.if-has_gone.true)
 
 pub returns-else-has_gone : goal.returns-else-has_gone
@@ -24,12 +24,12 @@ returns-else-has_gone g c =
     let log : SinkState = g.W.Sink.state c.args.log.now in
     let mid : SinkState = g.W.Sink.state c.tick.new.log in
     let log' : SinkState = g.W.Sink.state c.hand_octets.new.log in
-    followed g.D.Desk.answers c.hand_octets.result c.in-Ok.ensures.0 c.args.end.now (bytes c.args.octets.now) c.tick.new.end c.hand_octets.new.end log mid log' (told c.args.link.now) (told c.tick.new.link) (told c.hand_octets.new.link) c.args.count.now c.tick.new.count c.hand_octets.new.count
+    followed g.D.TurnDesk.answers_after c.hand_octets.result c.in-Ok.ensures.0 c.args.end.now (bytes c.args.octets.now) c.tick.new.end c.hand_octets.new.end log mid log' (told c.args.link.now) (told c.tick.new.link) (told c.hand_octets.new.link) c.args.count.now c.tick.new.count c.hand_octets.new.count
     c.in-Ok.ensures.1 (sym c.has_gone.ensures ∙ c.if-has_gone.false) c.hand_octets.ensures
 
 pub returns-in-Err : goal.returns-in-Err
 returns-in-Err g c =
     let told = g.L.Link.told in
     let log : SinkState = g.W.Sink.state c.args.log.now in
-    followed_cut g.D.Desk.answers c.in-Err.stop c.in-Err.ensures.0 c.args.end.now (bytes c.args.octets.now) c.tick.new.end log (g.W.Sink.state c.tick.new.log) (told c.args.link.now) (told c.tick.new.link) c.args.count.now c.tick.new.count
+    followed_cut g.D.TurnDesk.answers_after c.in-Err.stop c.in-Err.ensures.0 c.args.end.now (bytes c.args.octets.now) c.tick.new.end log (g.W.Sink.state c.tick.new.log) (told c.args.link.now) (told c.tick.new.link) c.args.count.now c.tick.new.count
     c.in-Err.ensures.1

@@ -13,7 +13,7 @@ use Rattle.hsms_ends.proofs.turns.take_step.Goals as goal
 pub deliver-requires : goal.deliver-requires
 deliver-requires g c =
     let P : List Entry → Type 0 = λ l. AllFitLengthField l in
-    subst P (sym c.deref.ensures.value) (fits g.D.Desk.answers c.args.end.now c.tell-answer.new.end _ c.in-Ok.entries.items c.requires.ready c.in-Ok.ensures)
+    subst P (sym c.deref.ensures.value) (fits g.D.TurnDesk.answers_after c.args.end.now c.tell-answer.new.end _ c.in-Ok.entries.items c.requires.ready c.in-Ok.ensures)
 
 pub returns-in-Ok : goal.returns-in-Ok
 returns-in-Ok g c pause =
@@ -22,7 +22,7 @@ returns-in-Ok g c pause =
     let log' : SinkState = g.W.Sink.state c.deliver.new.log in
     let script = c.args.script.now in
     let before = c.args.progress.now in
-    stepped g.D.Desk.answers pause c.deliver.result c.args.end.now c.tell-answer.new.end script before.place c.index-script-place.result log log' (told c.args.link.now) (told c.deliver.new.link) before.entries c.deliver.new.count before.refused c.in-Ok.entries.items
+    stepped g.D.TurnDesk.answers_after pause c.deliver.result c.args.end.now c.tell-answer.new.end script before.place c.index-script-place.result log log' (told c.args.link.now) (told c.deliver.new.link) before.entries c.deliver.new.count before.refused c.in-Ok.entries.items
     c.requires.up c.requires.due (drop_next script before.place c.index-script-place.result c.requires.within ∙ ap (λ s. s ∷ drop (before.place + 1) script) (sym c.index-script-place.is)) c.in-Ok.ensures
     (yields_as c.deliver.result log log' (told c.args.link.now) (told c.deliver.new.link) before.entries c.deliver.new.count _ _ nothing_heard c.deref.ensures.value c.deliver.ensures)
 
@@ -31,7 +31,7 @@ returns-then-eq g c pause =
     let told = g.L.Link.told in
     let log : SinkState = g.W.Sink.state c.args.log.now in
     let before = c.args.progress.now in
-    continued_memory g.D.Desk.answers pause c.args.end.now c.tell-answer.new.end (drop before.place c.args.script.now) log (told c.args.link.now) before.entries before.refused
+    continued_memory g.D.TurnDesk.answers_after pause c.args.end.now c.tell-answer.new.end (drop before.place c.args.script.now) log (told c.args.link.now) before.entries before.refused
 
 pub returns-else-eq : goal.returns-else-eq
 returns-else-eq g c pause =
@@ -41,6 +41,6 @@ returns-else-eq g c pause =
     let before = c.args.progress.now in
     let step = c.index-script-place.result in
     let refused = refused_by c.args.end.now c.tell-answer.new.end (input_of step) c.in-Err.fault (λ m. let d : false ≡ true = (rw m at c.if-eq.ensures) in cc) c.in-Err.ensures in
-    declined g.D.Desk.answers pause c.args.end.now c.tell-answer.new.end script before.place step c.in-Err.fault log (told c.args.link.now) before.entries before.refused c.saturating_add-progress.result
+    declined g.D.TurnDesk.answers_after pause c.args.end.now c.tell-answer.new.end script before.place step c.in-Err.fault log (told c.args.link.now) before.entries before.refused c.saturating_add-progress.result
     c.requires.up c.requires.due (drop_next script before.place step c.requires.within ∙ ap (λ s. s ∷ drop (before.place + 1) script) (sym c.index-script-place.is)) refused.0 refused.1
     (λ below. omega (arith, c.saturating_add-progress.ensures))

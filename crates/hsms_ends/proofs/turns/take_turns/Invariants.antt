@@ -6,7 +6,7 @@ use Rattle.hsms_ends.proofs.turns.take_turns.Given as goal
 abbrev pub invariant-loop-done : goal.invariant-loop-done
 invariant-loop-done g l =
     (l.done ≤ l.turns) × IsReady l.end
-    × TurnsSoFar g.D.Desk.answers l.pause l.initial.end l.end (drop l.initial.progress.place l.script) (drop l.progress.place l.script)
+    × TurnsSoFar g.D.TurnDesk.answers_after l.pause l.initial.end l.end (drop l.initial.progress.place l.script) (drop l.progress.place l.script)
     (g.W.Sink.state l.initial.log) (g.W.Sink.state l.log) (g.L.Link.told l.initial.link) (g.L.Link.told l.link)
     l.initial.progress.entries l.progress.entries l.initial.progress.refused l.progress.refused l.done
     × (0 < length l.into)

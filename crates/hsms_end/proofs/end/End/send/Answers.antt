@@ -15,7 +15,7 @@ pub returns-in-Ok : goal.returns-in-Ok
 returns-in-Ok g c =
     let fit : fitting_text c.self.inside.state.settings (content c.args.message.now).item ≡ Some c.in-Ok-Some.text.items =
     ap (λ item. fitting_text c.self.inside.state.settings item) (sym c.item.ensures) ∙ sym c.in-Ok-Some.ensures.value ∙ ap (λ text. option_map (λ octets. octets.items) text) c.in-Ok-Some.field-0-is in
-    accepted g.D.Desk.answers c.self.inside.desk c.self.inside.state c.self.inside.state c.send.new.self c.self.inside.spent c.args.self.now (send (content c.args.message.now))
+    accepted g.D.TurnDesk.answers_after c.self.inside.desk c.self.inside.state c.self.inside.state c.send.new.self c.self.inside.spent c.args.self.now (send (content c.args.message.now))
     (asks (message_frame c.self.inside.state.settings (content c.args.message.now) c.in-Ok-Some.text.items) ∷ []) c.new-entries.result.items c.send.new.entries.items c.if-self.false c.self.view_is c.new-entries.ensures.items
     (send_meets c.self.inside.spent c.self.inside.state (content c.args.message.now) c.if-self.false (sym c.is_up.ensures ∙ c.if-not-is_up.false) c.in-Ok-Some.text.items (sym c.in_default.ensures) fit)
     refl (λ es k h. (c.in-Ok-Some.text.items, fit, h)) c.in-Ok.ensures.does

@@ -20,5 +20,5 @@ returns-in_ok-answer-in-Ok g c =
     (let e1 = c.new-message.ensures in let e2 = c.stream-in-Ok.ensures in let e3 = c.function-in-Ok.ensures in let e4 = c.wait.ensures in cc) in
     let before : c.times-before.result ≡ times (name_in c.frame.inside.header) c.args.self.now.asked =
     (let e1 = c.times-before.ensures in let e2 = c.stream.ensures in let e3 = c.function.ensures in cc) in
-    subst (λ (f : Frame). IsAnsweredBy (g.D.Desk.answers c.args.desk.now (times (name_in f.header) c.args.self.now.asked)) c.args.self.now.settings.depth f (answered c.in_ok-answer-in-Ok.answer)) c.frame.view_is
-    (item, text, c.in_ok-answer-in-Ok.ensures ∙ ap (λ (m : Content). g.D.Desk.answers c.args.desk.now c.times-before.result m) message ∙ ap (λ n. g.D.Desk.answers c.args.desk.now n (message_of c.frame.inside.header item)) before)
+    subst (λ (f : Frame). IsAnsweredBy (g.D.TurnDesk.answers_after c.args.desk.now (times (name_in f.header) c.args.self.now.asked)) c.args.self.now.settings.depth f (answered c.in_ok-answer-in-Ok.answer)) c.frame.view_is
+    (item, text, c.in_ok-answer-in-Ok.ensures ∙ ap (λ (m : Content). g.D.TurnDesk.answers_after c.args.desk.now c.times-before.result m) message ∙ ap (λ n. g.D.TurnDesk.answers_after c.args.desk.now n (message_of c.frame.inside.header item)) before)

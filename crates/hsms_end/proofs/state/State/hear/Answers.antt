@@ -7,4 +7,4 @@ receive_all-requires g c = heard_sound c.args.self.now c.take_in.new.self c.args
 
 pub returns-clause-received : goal.returns-clause-received
 returns-clause-received g c =
-    heard_all (g.D.Desk.answers c.args.desk.now) (after_octets c.args.self.now c.args.octets.now) c.take_in.new.self c.receive_all.new.self c.args.entries.now.items c.receive_all.new.entries.items c.in_ok-take_in.ensures c.in_ok-receive_all.ensures.received
+    heard_all (g.D.TurnDesk.answers_after c.args.desk.now) (after_octets c.args.self.now c.args.octets.now) c.take_in.new.self c.receive_all.new.self c.args.entries.now.items c.receive_all.new.entries.items c.in_ok-take_in.ensures c.in_ok-receive_all.ensures.received

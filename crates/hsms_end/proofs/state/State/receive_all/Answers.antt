@@ -11,7 +11,7 @@ use Rattle.hsms_end.proofs.Receptions.{begun, within_max, one_more_at, went_down
 use Rattle.hsms_end.proofs.state.State.receive_all.Goals as goal
 
 pub messages-init : goal.messages-init
-messages-init g c = record { received = begun (g.D.Desk.answers c.args.desk.now) c.args.self.now c.args.entries.now.items; sound = c.requires }
+messages-init g c = record { received = begun (g.D.TurnDesk.answers_after c.args.desk.now) c.args.self.now c.args.entries.now.items; sound = c.requires }
 
 pub handle-requires-clause-sound : goal.handle-requires-clause-sound
 handle-requires-clause-sound g c = reframed c.messages.self c.next_message.new.self c.next_message.new.self.framer.pending c.next_message.ensures.off c.messages.invariant.sound
@@ -27,7 +27,7 @@ messages-preserved g c =
     let front : FramesAs c.messages.self.settings.max c.messages.self.framer.pending (Ok (Some c.in-Ok-Some.frame)) c.next_message.new.self.framer.pending =
     within_max c.messages.self (Ok (Some c.in-Ok-Some.frame)) c.next_message.new.self.framer.pending c.messages.invariant.sound (rw c.in-Ok-Some.field-0-is at c.in-Ok-Some.ensures.front) in
     record {
-      received = one_more_at (g.D.Desk.answers c.args.desk.now) c.args.self.now c.messages.self c.next_message.new.self c.handle.new.self c.args.entries.now.items c.messages.entries.items c.handle.new.entries.items c.in-Ok-Some.frame c.next_message.new.self.framer.pending
+      received = one_more_at (g.D.TurnDesk.answers_after c.args.desk.now) c.args.self.now c.messages.self c.next_message.new.self c.handle.new.self c.args.entries.now.items c.messages.entries.items c.handle.new.entries.items c.in-Ok-Some.frame c.next_message.new.self.framer.pending
           c.messages.invariant.received (sym c.is_up.ensures ∙ c.messages-test.true) front c.next_message.ensures.off c.in_ok-handle-in-Ok-Some.ensures.handled;
       sound = c.in_ok-handle-in-Ok-Some.ensures.sound;
     }
@@ -41,7 +41,7 @@ messages-smaller g c =
     omega arith
 
 pub returns-clause-received : goal.returns-clause-received
-returns-clause-received g c = went_down (g.D.Desk.answers c.args.desk.now) c.args.self.now c.messages.self c.args.entries.now.items c.messages.entries.items c.messages.invariant.received (sym c.is_up.ensures ∙ c.messages-test.false)
+returns-clause-received g c = went_down (g.D.TurnDesk.answers_after c.args.desk.now) c.args.self.now c.messages.self c.args.entries.now.items c.messages.entries.items c.messages.invariant.received (sym c.is_up.ensures ∙ c.messages-test.false)
 
 pub returns-clause-sound : goal.returns-clause-sound
 returns-clause-sound g c = c.messages.invariant.sound
@@ -50,7 +50,7 @@ pub returns-in-Ok-None-clause-received : goal.returns-in-Ok-None-clause-received
 returns-in-Ok-None-clause-received g c =
     let front : FramesAs c.messages.self.settings.max c.messages.self.framer.pending (Ok None) c.next_message.new.self.framer.pending =
     within_max c.messages.self (Ok None) c.next_message.new.self.framer.pending c.messages.invariant.sound (rw c.in-Ok-None.field-0-is at c.in-Ok-None.ensures.front) in
-    waits_for_more (g.D.Desk.answers c.args.desk.now) c.args.self.now c.messages.self c.next_message.new.self c.args.entries.now.items c.messages.entries.items c.messages.invariant.received
+    waits_for_more (g.D.TurnDesk.answers_after c.args.desk.now) c.args.self.now c.messages.self c.next_message.new.self c.args.entries.now.items c.messages.entries.items c.messages.invariant.received
     (sym c.is_up.ensures ∙ c.messages-test.true) (front.0, front.1, refl) (kept c.messages.self c.next_message.new.self c.next_message.new.self.framer.pending c.next_message.ensures.off front.2)
 
 pub returns-in-Err-TooShort-clause-received : goal.returns-in-Err-TooShort-clause-received
@@ -58,7 +58,7 @@ returns-in-Err-TooShort-clause-received g c =
     let front : FramesAs c.messages.self.settings.max c.messages.self.framer.pending (Err (TooShort c.in-Err-TooShort.field-0-0)) c.next_message.new.self.framer.pending =
     within_max c.messages.self (Err (TooShort c.in-Err-TooShort.field-0-0)) c.next_message.new.self.framer.pending c.messages.invariant.sound (rw c.in-Err-TooShort.field-0-is at c.in-Err-TooShort.ensures.front) in
     let same : c.next_message.new.self ≡ c.messages.self = kept c.messages.self c.next_message.new.self c.next_message.new.self.framer.pending c.next_message.ensures.off front.1 in
-    on_ok_weaker c.cut.result (λ d. is_too_short (g.D.Desk.answers c.args.desk.now) c.args.self.now c.messages.self c.cut.new.self c.args.entries.now.items c.messages.entries.items c.cut.new.entries.items c.in-Err-TooShort.field-0-0 c.messages.invariant.received
+    on_ok_weaker c.cut.result (λ d. is_too_short (g.D.TurnDesk.answers_after c.args.desk.now) c.args.self.now c.messages.self c.cut.new.self c.args.entries.now.items c.messages.entries.items c.cut.new.entries.items c.in-Err-TooShort.field-0-0 c.messages.invariant.received
     (sym c.is_up.ensures ∙ c.messages-test.true) (front.0, refl) (subst (λ (s : State). Does s c.messages.entries.items (cut_by Length) c.cut.new.self c.cut.new.entries.items) same d)) c.cut.ensures.does
 
 pub returns-in-Err-TooLong-clause-received : goal.returns-in-Err-TooLong-clause-received
@@ -66,5 +66,5 @@ returns-in-Err-TooLong-clause-received g c =
     let front : FramesAs c.messages.self.settings.max c.messages.self.framer.pending (Err (TooLong c.in-Err-TooLong.field-0-0 c.in-Err-TooLong.header)) c.next_message.new.self.framer.pending =
     within_max c.messages.self (Err (TooLong c.in-Err-TooLong.field-0-0 c.in-Err-TooLong.header)) c.next_message.new.self.framer.pending c.messages.invariant.sound (rw c.in-Err-TooLong.field-0-is at c.in-Err-TooLong.ensures.front) in
     let same : c.next_message.new.self ≡ c.messages.self = kept c.messages.self c.next_message.new.self c.next_message.new.self.framer.pending c.next_message.ensures.off front.1 in
-    on_ok_weaker c.cut_too_long.result (λ d. is_too_long (g.D.Desk.answers c.args.desk.now) c.args.self.now c.messages.self c.cut_too_long.new.self c.args.entries.now.items c.messages.entries.items c.cut_too_long.new.entries.items c.in-Err-TooLong.field-0-0 c.in-Err-TooLong.header c.messages.invariant.received
+    on_ok_weaker c.cut_too_long.result (λ d. is_too_long (g.D.TurnDesk.answers_after c.args.desk.now) c.args.self.now c.messages.self c.cut_too_long.new.self c.args.entries.now.items c.messages.entries.items c.cut_too_long.new.entries.items c.in-Err-TooLong.field-0-0 c.in-Err-TooLong.header c.messages.invariant.received
     (sym c.is_up.ensures ∙ c.messages-test.true) (front.0, refl) (subst (λ (s : State). Does s c.messages.entries.items (warns_too_long (known s) c.in-Err-TooLong.header ++ cut_by Length) c.cut_too_long.new.self c.cut_too_long.new.entries.items) same d)) c.cut_too_long.ensures.does

@@ -5,7 +5,7 @@ use Rattle.hsms_end.proofs.state.State.receive_all.Given as goal
 
 abbrev pub invariant-messages : goal.invariant-messages
 invariant-messages g l = record {
-  received : HasReceived (g.D.Desk.answers l.desk) l.fn.self l.fn.entries.items l.self l.entries.items;
+  received : HasReceived (g.D.TurnDesk.answers_after l.desk) l.fn.self l.fn.entries.items l.self l.entries.items;
   sound : IsSound l.self;
 }
 

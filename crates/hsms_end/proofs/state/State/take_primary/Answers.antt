@@ -32,7 +32,7 @@ returns-clause-handled g c =
     c.in_ok-count.ensures ∙ ap (λ (f : Frame). after_asking c.args.self.now f.header) c.frame.view_is in
     let settings : c.log.new.self.settings ≡ c.args.self.now.settings =
     ap (λ (s : State). s.settings) c.in_ok-log.ensures.after ∙ ap (λ (s : State). s.settings) asked in
-    handled_kind (g.D.Desk.answers c.args.desk.now) c.args.self.now c.answer_primary.new.self c.args.entries.now.items c.answer_primary.new.entries.items c.args.frame Primary (answered c.in_ok-answer.answer) c.requires.taken.broken c.requires.kind
+    handled_kind (g.D.TurnDesk.answers_after c.args.desk.now) c.args.self.now c.answer_primary.new.self c.args.entries.now.items c.answer_primary.new.entries.items c.args.frame Primary (answered c.in_ok-answer.answer) c.requires.taken.broken c.requires.kind
     (λ e. c.in_ok-answer.ensures)
     (subst (λ (s : State). Does s c.args.entries.now.items (logs (Taken c.args.frame) ∷ answers_primary c.args.self.now.settings c.args.frame.header (answered c.in_ok-answer.answer)) c.answer_primary.new.self c.answer_primary.new.entries.items) asked
     (does_then c.count.new.self c.log.new.self c.answer_primary.new.self c.args.entries.now.items c.log.new.entries.items c.answer_primary.new.entries.items (logs (Taken c.args.frame) ∷ []) (answers_primary c.args.self.now.settings c.args.frame.header (answered c.in_ok-answer.answer)) c.in_ok-log.ensures.does
