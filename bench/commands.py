@@ -7,6 +7,7 @@ stands. It runs what `rt ci` or the first use of `hsms` has built. The texts of 
 67,108,864 octets. Instructions are counted over 3 MB.
 """
 import os
+import struct
 import subprocess
 import sys
 import tempfile
@@ -123,6 +124,53 @@ def log(size):
     return "\n".join(lines).encode() + b"\n"
 
 
+class Wire:
+    """A capture (pcap, Ethernet, IPv4) of one connection at port 5000."""
+
+    PORTS, SYN, PSH, ACK = (40000, 5000), 2, 8, 16
+
+    def __init__(self):
+        self.octets = bytearray(struct.pack("<IHHiIII", 0xA1B2C3D4, 2, 4, 0, 0, 262144, 1))
+        self.milliseconds, self.numbers = 0, [1000, 5000]
+
+    def put(self, end, flags, text=b""):
+        """One packet more, which acknowledges all that the other end has sent, but for the first of all."""
+        own, other = self.PORTS[end], self.PORTS[1 - end]
+        acknowledged = self.numbers[1 - end] % 2**32 if flags & self.ACK else 0
+        segment = struct.pack(">HHIIBBHHH", own, other, self.numbers[end] % 2**32, acknowledged, 80, flags, 8192, 0, 0)
+        addresses = bytes([10, 0, 0, 1 + end, 10, 0, 0, 2 - end])
+        length = 40 + len(text)
+        packet = bytes(12) + b"\x08\x00\x45\x00" + struct.pack(">HHHBBH", length, 0, 0, 64, 6, 0) + addresses
+        packet += segment + text
+        seconds, milliseconds = divmod(self.milliseconds, 1000)
+        self.octets += struct.pack("<IIII", seconds, 1000 * milliseconds, len(packet), len(packet)) + packet
+        self.numbers[end] += len(text) + (flags & self.SYN > 0)
+        self.milliseconds += 1
+
+    def tell(self, end, *messages):
+        """Messages in a packet each, and what acknowledges them."""
+        for message in messages:
+            self.put(end, self.PSH | self.ACK, message)
+        self.put(1 - end, self.ACK)
+
+
+def captured(size):
+    """Event reports, two in a row, and their replies, each in a packet, every other packet acknowledged."""
+    wire = Wire()
+    wire.put(0, wire.SYN)
+    wire.put(1, wire.SYN | wire.ACK)
+    wire.put(0, wire.ACK)
+    wire.tell(0, frame("ffff0000000100000001"))
+    wire.tell(1, frame("ffff0000000200000001"))
+    system, text = 1, report(8)
+    while len(wire.octets) < size:
+        names = [f"{(system + more) % 2**32:08x}" for more in range(2)]
+        wire.tell(1, *[frame(f"0000860b0000{name}", text) for name in names])
+        wire.tell(0, *[frame(f"0000060c0000{name}", b"\x21\x01\x00") for name in names])
+        system += 2
+    return bytes(wire.octets)
+
+
 def main():
     size = int(sys.argv[1] if len(sys.argv) > 1 else 100) * MB
     words = sys.argv[2:]
@@ -141,6 +189,10 @@ def main():
         ("encode", "BOOLEANs", notation_of(BOOLEANS), min(size, 67 * MB)),
         ("encode --hex", "small messages", small_notation, min(size, 67 * MB)),
         ("audit", "ordinary traffic", log, size),
+        ("explain --only failures", "ordinary traffic", log, size),
+        ("explain", "ordinary traffic", log, size),
+        ("capture", "ordinary traffic, each message in a packet", captured, size),
+        ("capture --log host", "ordinary traffic, each message in a packet", captured, size),
     ]
     with tempfile.TemporaryDirectory(prefix="hsms-bench-") as room:
         runner = Runner(room)
@@ -156,7 +208,7 @@ def told(runner, command, what, make, size):
     given = os.path.getsize(path)
     copied, _ = runner.run(["cat"], path)
     taken, held = runner.run([PROGRAM, *command.split()], path)
-    lines = f", {lines_of(path) / taken / 1e6:.2f} million lines/s" if command == "audit" else ""
+    lines = f", {lines_of(path) / taken / 1e6:.2f} million lines/s" if make is log else ""
     speed = f"{given / MB / taken:.0f} MB/s{lines}, {taken / max(copied, 1e-3):.0f} times cat"
     return f"hsms {command}, {what}, {given // MB} MB: {speed}, {per_octet(runner, command, make)}{held:.0f} MB held"
 

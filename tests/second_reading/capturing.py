@@ -167,7 +167,7 @@ class Capture:
         for packet in file.packets:
             segment = segment_of(packet)
             if isinstance(segment, str):
-                self.left_out.append((packet.number, segment))
+                self.left_out.append(segment)
             elif segment is not None and not port.take(packet, segment):
                 self.fault, self.last = f"Time packet={packet.number}", packet.number - 1
                 break
@@ -189,9 +189,9 @@ class Capture:
         of_file = [(NEVER - 1, self.fault)] if self.fault else []
         return min([*of_file, *faults], key=lambda fault: fault[0], default=(0, None))[1]
 
-    def line_of_left_out(self, last: int) -> List[str]:
-        """What is said of packets up to the last one that are left out."""
-        kinds = [kind for number, kind in self.left_out if number <= last]
+    def line_of_left_out(self) -> List[str]:
+        """What is said of packets that are left out."""
+        kinds = self.left_out
         if not kinds:
             return []
         each = ", ".join(f"{kind} {kinds.count(kind)}" for kind in KINDS if kind in kinds)
@@ -253,7 +253,7 @@ def judge(octets: bytes, options: Options) -> Answer:
     fault = capture.first_fault([(one.over, of_file(capture, one)) for one in outcomes if one.told.fault])
     if not outcomes and not fault:
         fault = "NoConnection"
-    lines += capture.line_of_left_out(NEVER)
+    lines += capture.line_of_left_out()
     return Answer(lines, None, 1) if fails else Answer(lines, fault, 2 if fault else 0)
 
 
@@ -293,10 +293,9 @@ def write_log(octets: bytes, options: Options) -> Answer:
             if happening.what == "down":
                 current = None
         if fault:
-            lines += capture.line_of_left_out(moment)
             return Answer(lines, capture.first_fault([(moment, fault)]), 2)
     fault = capture.fault or (None if capture.outcomes else "NoConnection")
-    return Answer(lines + capture.line_of_left_out(NEVER), fault, 2 if fault else 0)
+    return Answer(lines + capture.line_of_left_out(), fault, 2 if fault else 0)
 
 
 def capture(octets: bytes, options: Options) -> Answer:
