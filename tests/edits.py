@@ -19,9 +19,9 @@ function's own proof that no longer fits, and not where only a function that it 
 doesn't name is tried again among others, and at last alone. The last line is `N passed, M failed`.
 
 Use: tests/edits.py [CRATE..] tries all edits and twins of these crates, or of each that has a folder in
-tests/must-fail/. The edits of the others stand in crates/CRATE/must-fail/, where `rt ci` tries each file as one edit.
-What they stand on is built first, by ./build, where it isn't. tests/edits.py --one CRATE NAME [BODY] tries one edit and writes what the check says,
-and tests/edits.py --twins NAME.. tries some twins.
+tests/must-fail/. What they stand on is built first, by ./build, where neither that nor `rt ci` has built it.
+tests/edits.py --one CRATE NAME [BODY] tries one edit and writes what the check says, and tests/edits.py --twins NAME..
+tries some twins.
 """
 import argparse
 import os
@@ -36,7 +36,7 @@ from dataclasses import dataclass
 
 sys.dont_write_bytecode = True
 
-from rooms import TOP, bring, crates_below, crates_listed, link, processors, room_for
+from rooms import TOP, bring, crates_below, crates_listed, link, mark_as_built, processors, room_for
 
 EDITS = f"{TOP}/tests/must-fail"
 TWINS = f"{TOP}/tests/twins"
@@ -46,9 +46,17 @@ OF_CRATE = "-- crate: "
 # How long a check may take, in seconds.
 LONGEST_CHECK = 1800
 
+# The status of a check that is to be of a function which isn't there.
+NO_SUCH_FUNCTION = 2
+
 # How many bodies are tried together, and how many such checks a body may have before it is tried alone.
 TOGETHER = 24
 AMONG_OTHERS = 2
+
+# Where an item of a source begins, and an `impl` of a type, or of a trait for one.
+ITEM = re.compile(r"(?m)^(?=(?:pub(?:\(\w+\))? )?(?:unsafe )?(?:const|enum|fn|ghost|impl|mod|static|struct|trait|type|use)\b)")
+NAME_OF_TYPE = r"&?(?:\w+::)*(\w+)(?:<[^{]*?>)?"
+OF_TYPE = re.compile(rf"(?:unsafe )?impl(?:<[^{{]*?>)? {NAME_OF_TYPE}(?: for {NAME_OF_TYPE})? \{{")
 
 # What a check says of a function that isn't proved, of a goal, and of a line of a proof by hand.
 NOT_PROVED = re.compile(r"^fn (\S+): (?:not proved|no proof)(.*)", re.MULTILINE)
@@ -88,8 +96,13 @@ class Edit:
         return texts
 
     def functions(self):
-        """The functions that the edit turns, each by its module and its name."""
+        """The functions that the edit turns, each by its module or type and its name, and None for what is no function."""
         return {function_at(self.crate, it) for it in self.changes}
+
+    def paths(self):
+        """These functions, as `rt check --only` takes them; None where the edit turns more than functions."""
+        found = self.functions()
+        return None if None in found else {"::".join([*owner.split("/"), name] if owner else [self.crate, name]) for owner, name in found}
 
 
 def text_of(path):
@@ -98,13 +111,23 @@ def text_of(path):
 
 
 def function_at(crate, change):
-    """The module and the name of the function that a change lies in."""
+    """The function that a change lies in: its module, or the type whose it is, and its name; None where it lies in none."""
+    if not change.path.startswith("src/"):
+        return None
     text = text_of(f"{TOP}/crates/{crate}/{change.path}")
-    place = text.find(change.old)
-    end = text.find("\n", place)
-    names = re.findall(r"\bfn (\w+)", text[: end if end >= 0 else len(text)])
-    module = change.path.removeprefix("src/").removesuffix(".rt")
-    return "" if module in ("lib", "main") else module, names[-1] if names else ""
+    line_end = text.find("\n", text.find(change.old))
+    *_, item = ITEM.split(text[: line_end if line_end >= 0 else len(text)])
+    names = re.findall(r"\bfn (\w+)", item)
+    of_type = OF_TYPE.match(item)
+    module = "" if change.path in ("src/lib.rt", "src/main.rt") else change.path[4:-3]
+    owner = named_impl(of_type[1], of_type[2]) if of_type else module
+    return (owner, names[-1]) if names else None
+
+
+def named_impl(first, second):
+    """How a check names an `impl`: by its type, and then by its trait if it is one of a trait."""
+    trait, of_type = (first, second) if second else ("", first)
+    return (of_type if len(of_type) > 1 else "Any") + trait
 
 
 def changes_in(lines):
@@ -136,15 +159,9 @@ def names_in(folder):
     return sorted(it[:-5] for it in os.listdir(folder) if it.endswith(".edit")) if os.path.isdir(folder) else []
 
 
-def folder_of(crate):
-    """Where the edits of a crate stand: in the folder of its name, or with the crate, where `rt ci` tries each file."""
-    folder = f"{EDITS}/{crate}"
-    return folder if os.path.isdir(folder) else f"{TOP}/crates/{crate}/must-fail"
-
-
 def bodies_of(crate):
     """The wrong bodies of a crate."""
-    folder = folder_of(crate)
+    folder = f"{EDITS}/{crate}"
     return [edit for name in names_in(folder) for edit in edits_in(f"{folder}/{name}.edit", crate, name)]
 
 
@@ -162,8 +179,8 @@ def without_a_fellow(crates, twins):
     alone = {
         name: crate
         for crate in crates
-        for name in names_in(folder_of(crate))
-        if text_of(f"{folder_of(crate)}/{name}.edit").startswith(WRONG_BODY)
+        for name in names_in(f"{EDITS}/{crate}")
+        if text_of(f"{EDITS}/{crate}/{name}.edit").startswith(WRONG_BODY)
     }
     crate_of = {it.name: it.crate for it in twins}
     told = {name: "it has no twin" for name in alone if crate_of.get(name) != alone[name]}
@@ -189,22 +206,34 @@ def write_all(folder, texts):
             file.write(text)
 
 
-def checked(folder, texts):
-    """Checks the crate with these texts, and takes them back. Says whether it is proved, and what was written."""
+def checked(folder, texts, edits=()):
+    """Checks the functions that edits turn, or else the crate, with these texts, and takes them back. Says whether they are
+    proved, and what was written.
+
+    A proof sees of another function its contract alone. So what an edit doesn't turn stays proved, or not, as it is.
+    """
     before = {path: text_of(f"{folder}/{path}") for path in texts}
-    write_all(folder, texts)
+    paths = [it.paths() for it in edits]
+    only = sorted(set().union(*paths)) if paths and None not in paths else []
     words = ["rt", "check", "--jobs", "1"]
+    write_all(folder, texts)
     try:
-        ran = subprocess.run(
-            words, cwd=folder, stdout=subprocess.PIPE, stderr=subprocess.STDOUT, timeout=LONGEST_CHECK, check=False
-        )
+        status, output = run([*words, *(word for path in only for word in ("--only", path))], folder)
+        if status == NO_SUCH_FUNCTION and only:
+            status, output = run(words, folder)
     finally:
         write_all(folder, before)
-    return ran.returncode == 0, ran.stdout.decode(errors="replace")
+    return status == 0, output
+
+
+def run(words, folder):
+    how = {"stdout": subprocess.PIPE, "stderr": subprocess.STDOUT, "timeout": LONGEST_CHECK, "check": False}
+    ran = subprocess.run(words, cwd=folder, **how)
+    return ran.returncode, ran.stdout.decode(errors="replace")
 
 
 def refused_in(output):
-    """The functions that a check refuses by a goal or a line of their own, by module and name, with what it says."""
+    """The functions that a check refuses by a goal or a line of their own, by module or type and name, with what it says."""
     found = {}
     for path, said in NOT_PROVED.findall(output):
         goal = re.search(r"`search` did not prove (.*?)(?:; it calls|$)", said)
@@ -219,16 +248,19 @@ def refused_in(output):
 
 
 def named(parts):
-    """The module and the name of a function by the parts of its path, of which types are left out."""
-    *modules, name = parts
-    return "/".join(it for it in modules if not it[0].isupper()), name
+    """The module, or the type whose it is, and the name of a function by the parts of its path."""
+    *owners, name = parts
+    return owners[-1] if owners and owners[-1][0].isupper() else "/".join(owners), name
 
 
 def chosen(folder, edits, most):
-    """Edits that can be tried in one check, of different functions, at most so many, and the texts with all of them."""
+    """Edits that can be tried in one check, of different functions, at most so many, and the texts with all of them. None
+    that takes a check of the whole crate is among others.
+    """
     texts, taken, functions = {}, [], set()
     for edit in edits:
-        if functions & edit.functions() or len(taken) == most:
+        is_apart = taken and (edit.paths() is None) != (taken[0].paths() is None)
+        if is_apart or functions & edit.functions() or len(taken) == most:
             continue
         try:
             texts = edit.texts(folder, texts)
@@ -249,9 +281,9 @@ class Trial:
     def fail(self, edit, why):
         self.failed.append(f"{self.crate}/{edit.name}: {why}")
 
-    def check(self, texts):
+    def check(self, texts, edits=()):
         self.checks += 1
-        return checked(self.folder, texts)
+        return checked(self.folder, texts, edits)
 
     def applicable(self, edits):
         """Those that can be applied."""
@@ -270,7 +302,7 @@ class Trial:
         among = dict.fromkeys(left, 0)
         while left:
             together, texts = chosen(self.folder, [it for it in left if among[it] < AMONG_OTHERS] or left[:1], most)
-            is_proved, output = self.check(texts)
+            is_proved, output = self.check(texts, together)
             if len(together) == 1:
                 self.alone(together[0], is_proved, output)
                 left.remove(together[0])
@@ -302,7 +334,7 @@ class Trial:
         left = self.applicable(twins)
         while left:
             together, texts = chosen(self.folder, left, TOGETHER)
-            is_proved, output = self.check(texts)
+            is_proved, output = self.check(texts, together)
             left = [it for it in left if it not in together]
             if is_proved:
                 self.passed += len(together)
@@ -313,7 +345,7 @@ class Trial:
                     self.prove_alone(edit)
 
     def prove_alone(self, edit):
-        is_proved, output = self.check(edit.texts(self.folder))
+        is_proved, output = self.check(edit.texts(self.folder), [edit])
         if is_proved:
             self.passed += 1
         else:
@@ -327,13 +359,15 @@ def first_error(output):
     return next((line for line in lines if tells.search(line)), lines[-1])[:300]
 
 
-def tried(crate, bodies, twins):
-    """Tries the edits of a crate, and tells what came of them."""
+def tried(crate, bodies, twins, is_proved):
+    """Tries the edits of a crate, which is proved already or not, and tells what came of them."""
     began = time.monotonic()
     with tempfile.TemporaryDirectory(prefix="edits-") as room:
         trial = Trial(crate, room_with_what_is_kept(crate, room))
         try:
-            is_proved, output = trial.check({})
+            output = ""
+            if not is_proved:
+                is_proved, output = trial.check({})
             if is_proved:
                 trial.refuse(bodies)
                 trial.prove(twins)
@@ -350,7 +384,7 @@ def tried(crate, bodies, twins):
 
 def try_one(crate, name, body):
     """Tries one edit, and writes what the check says of it."""
-    path = f"{folder_of(crate)}/{name}.edit"
+    path = f"{EDITS}/{crate}/{name}.edit"
     if not os.path.isfile(path):
         print(f"there is no {os.path.relpath(path, TOP)}")
         return 2
@@ -364,7 +398,7 @@ def try_one(crate, name, body):
         except BadEdit as error:
             print(f"BAD EDIT: {error}")
             return 2
-        is_proved, output = checked(folder, texts)
+        is_proved, output = checked(folder, texts, wanted)
     print(output, end="")
     refused = refused_in(output)
     for (module, function), goals in refused.items():
@@ -379,9 +413,9 @@ def size_of(crate):
     return sum(len(files) for _, _, files in os.walk(f"{TOP}/crates/{crate}/proofs")) + 4 * len(bodies_of(crate))
 
 
-def is_built_below(crates):
-    """Builds what crates stand on, where it isn't built as `rt check` wants it."""
-    below = set().union(*[crates_below(it, crates_listed()) for it in crates])
+def is_built_below(crates, proved):
+    """Builds what crates stand on, where it isn't among those that are proved."""
+    below = set().union(*[crates_below(it, crates_listed()) for it in crates]) - proved
     words = [f"{TOP}/build", *sorted(below)]
     return not below or subprocess.run(words, stdin=subprocess.DEVNULL, check=False).returncode == 0
 
@@ -403,13 +437,15 @@ def main():
     else:
         crates = [it for it in every if it in (asked.names or os.listdir(EDITS))]
         bodies = {crate: bodies_of(crate) for crate in crates}
-    if not is_built_below(crates):
+    proved = mark_as_built()
+    if not is_built_below(crates, proved):
         return 1
     for name, why in wrong.items():
         print(f"{name}: {why}")
     crates.sort(key=size_of, reverse=True)
     with ThreadPoolExecutor(processors()) as lanes:
-        of_crate = lambda crate: tried(crate, bodies.get(crate, []), [it for it in twins if it.crate == crate])
+        twins_of = lambda crate: [it for it in twins if it.crate == crate]
+        of_crate = lambda crate: tried(crate, bodies.get(crate, []), twins_of(crate), crate in proved)
         results = list(lanes.map(of_crate, crates))
     failed = sum(failed for _, failed in results) + len(wrong)
     print(f"{sum(passed for passed, _ in results)} passed, {failed} failed")

@@ -3,8 +3,11 @@
 While `rt` works on a crate, it lets no other `rt` work on a crate that stands on the same ones. Side by side they are
 worked on in rooms, as are copies that an edit changes.
 """
+import importlib
 import os
 import shutil
+import subprocess
+import sys
 
 TOP = os.path.dirname(os.path.dirname(os.path.abspath(__file__)))
 
@@ -27,6 +30,40 @@ def crates_below(crate, listed):
     """The repository's crates that a crate stands on."""
     direct = [it for it in listed[crate] if it in listed]
     return set(direct).union(*[crates_below(it, listed) for it in direct])
+
+
+def made_at(crate):
+    """When `rt ci` has proved a crate and made its library, or its program; 0 where it has not, or a source is newer."""
+    folder = f"{TOP}/crates/{crate}"
+    made = next((it for it in (f"{folder}/out/rlib/{crate}.rlib", f"{folder}/out/{crate}") if os.path.exists(it)), None)
+    read = (f"{at}/{name}" for part in READ for at, _, names in os.walk(f"{folder}/{part}") for name in names)
+    newest = max((os.stat(it).st_mtime for it in (f"{TOP}/crates.txt", *read)), default=0)
+    return os.stat(made).st_mtime if made and os.stat(made).st_mtime > newest else 0
+
+
+def mark_as_built():
+    """Marks the libraries that `rt ci` has made, and says which crates it has proved, over such ones.
+
+    It leaves them without the sum of what they are made of, by which other commands know that they need not prove them
+    anew. The toolchain itself tells that sum. Where it has no such call, none is marked.
+    """
+    kit = subprocess.run(["rt", "doc"], stdout=subprocess.PIPE, check=False).stdout.decode().strip()
+    sys.path.append(f"{os.path.dirname(kit)}/bin")
+    try:
+        toolchain = importlib.import_module("rtlib")
+        crates = {it.name: it for it in toolchain.crates_below(TOP)}
+        sums = {name: it.stamp() for name, it in crates.items()}
+    except (ImportError, AttributeError):
+        return set()
+    listed = crates_listed()
+    made = {name: made_at(name) for name in listed}
+    proved = {name for name in listed if all(0 < made[it] <= made[name] for it in {name, *crates_below(name, listed)})}
+    for name in proved:
+        rlib = f"{TOP}/crates/{name}/{BUILT}"
+        if os.path.isdir(rlib) and not os.path.exists(f"{rlib}/stamp"):
+            with open(f"{rlib}/stamp", "w", encoding="utf-8") as file:
+                file.write(sums[name])
+    return proved
 
 
 def processors():
