@@ -62,6 +62,13 @@ enum Course {
     Over(Option<Shortfall>),
 }
 
+// What a connection has come to with a packet: more may follow, or it has ended, and may lack something.
+#[derive(Drop)]
+enum Followed {
+    Goes(Connection),
+    Ends(Option<Shortfall>),
+}
+
 impl Flow {
     /// A connection that begins with a SYN of this number.
     pub fn new(alloc: Global, syn: u32, born: u64) -> Flow {
@@ -289,35 +296,50 @@ fn follow<W: Sink>(
         connection,
         mut logs,
     } = open;
-    logs.note_reset(&segment)?;
     let mut told = Vec::new(alloc);
-    let taken = connection.take(alloc, segment, octets, &mut told);
-    if let Err(ConnectionFault::Memory) = taken {
-        return Err(ToolFault::Memory);
-    }
-    match hear_all(alloc, sink, report, pair, &mut logs, told)? {
-        Course::Over(shortfall) => {
-            conclude(alloc, sink, report, pair, logs, shortfall)?;
-            Ok(Stage::Over)
-        }
-        Course::Goes => match taken {
-            Ok(connection) if connection.ending().is_none() => Ok(Stage::Open(Open {
-                connection,
-                logs,
-            })),
-            Ok(connection) => {
-                let ending = connection.ending().unwrap_or(Ending::Complete);
-                let shortfall = Shortfall::of_ending(ending);
-                conclude(alloc, sink, report, pair, logs, shortfall)?;
-                Ok(Stage::Over)
-            }
-            Err(_) => {
-                let full = Shortfall::Full(segment.packet);
-                conclude(alloc, sink, report, pair, logs, Some(full))?;
-                Ok(Stage::Over)
-            }
+    let followed = take_segment(alloc, connection, segment, octets, &mut told)?;
+    logs.note_reset(&segment)?;
+    let course = hear_all(alloc, sink, report, pair, &mut logs, told)?;
+    go_on(alloc, sink, report, pair, logs, course, followed)
+}
+
+// A connection takes a packet.
+fn take_segment(
+    alloc: Global,
+    connection: Connection,
+    segment: Segment,
+    octets: &[u8],
+    told: &mut Vec<Happening>,
+) -> Result<Followed, ToolFault> {
+    match connection.take(alloc, segment, octets, told) {
+        Ok(connection) => match connection.ending() {
+            None => Ok(Followed::Goes(connection)),
+            Some(ending) => Ok(Followed::Ends(Shortfall::of_ending(ending))),
         },
+        Err(ConnectionFault::Memory) => Err(ToolFault::Memory),
+        Err(_) => Ok(Followed::Ends(Some(Shortfall::Full(segment.packet)))),
     }
+}
+
+// A connection goes on, or it is over, by what was heard of it or by what it lacks.
+fn go_on<W: Sink>(
+    alloc: Global,
+    sink: &mut W,
+    report: &mut Report,
+    pair: &Pair,
+    logs: Logs,
+    course: Course,
+    followed: Followed,
+) -> Result<Stage, ToolFault> {
+    let shortfall = match course {
+        Course::Over(shortfall) => shortfall,
+        Course::Goes => match followed {
+            Followed::Goes(connection) => return Ok(Stage::Open(Open { connection, logs })),
+            Followed::Ends(shortfall) => shortfall,
+        },
+    };
+    conclude(alloc, sink, report, pair, logs, shortfall)?;
+    Ok(Stage::Over)
 }
 
 // Hears what happens, up to a `down`, or a message that no end takes.
