@@ -148,6 +148,7 @@ class Wire:
         self.ends: List[List[int]] = [[], []]  # behind each packet, where each direction's gap begins
         self.acked: List[List[int]] = [[], []]  # and up to where it is acknowledged
         self.difference: Optional[int] = None
+        self.reset_at: Optional[int] = None  # at which packet a reset is sure that ends it
         self.passed: List[Tuple[int, List[int]]] = []  # by which packet both directions are told up to where
         for segment in seen:
             self.take(segment)
@@ -214,6 +215,8 @@ class Wire:
         told = Told(self.happenings(limit, known))
         if told.is_down:
             told.over = told.happenings[-1].known
+        elif self.reset_at is not None:
+            told.over = self.placed[self.reset_at].packet
         elif limit < len(self.placed):
             told.fault = ("Lost" if limit == loss and limit != difference else "Differs", self.placed[limit].packet)
             sure = max(limit, latest) if limit == difference else limit + LATER
@@ -243,6 +246,7 @@ class Wire:
                 shown += [(at, *what) for what in self.cut(end, place, upto)]
             self.passed.append((known[at], list(place)))
         if turns and self.placed[turns[-1][1]].is_reset and self.ends_by_reset(turns):
+            self.reset_at = known[turns[-1][0]]
             shown.append((turns[-1][0], "down", ACTIVE, b""))
         answers = [at for at, own in turns if self.placed[own].end == ACTIVE and self.placed[own].acknowledged >= 1]
         messages = [at for at, what, _, _ in shown if what == "message"]
