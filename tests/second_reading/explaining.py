@@ -455,7 +455,7 @@ def time_words(times: List[Tuple[int, int]]) -> str:
         return ""
     ranked = sorted(time for time, _ in times)
     least, greatest = ranked[0], ranked[-1]
-    line = [line for time, line in times if time == greatest][-1]
+    line = max(line for time, line in times if time == greatest)
     # The least times that half of the replies, and 99 of 100, don't exceed.
     median, most = (max(least, rounded(ranked[-(-len(ranked) * share // 100) - 1])) for share in (50, 99))
     if len(ranked) < 100:
