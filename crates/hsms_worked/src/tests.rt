@@ -21,7 +21,9 @@ mod walks;
 use answers::ANSWERS;
 use corners::CORNERS;
 use edges::EDGES;
-use hsms_ends::{Answer, Desk, Driven, End, EndFault, EquipmentDesk, HostDesk, Input, drive};
+use hsms_ends::{
+    Answer, Desk, Driven, End, EndFault, EquipmentDesk, HostDesk, Input, TurnDesk, drive,
+};
 use hsms_frame::{Store, encode_frame};
 use hsms_log::{Line, read_line, write_entry};
 use hsms_machine::{Entry, Event, Role, Settings, Side};
@@ -131,7 +133,7 @@ fn input_of(alloc: Global, told: Told) -> Result<Input, Fail> {
 }
 
 /// Tells an end one input.
-fn tell<D: Desk>(end: &mut End<D>, input: &Input) -> Result<Vec<Entry>, EndFault> {
+fn tell<D: TurnDesk>(end: &mut End<D>, input: &Input) -> Result<Vec<Entry>, EndFault> {
     match input {
         Input::Start(now) => end.start(*now),
         Input::Tick(now) => end.tick(*now),
@@ -155,20 +157,20 @@ fn assert_fault(rt: &impl Abort, fault: Option<EndFault>, want: Option<EndFault>
 }
 
 /// An end that is spent refuses an input.
-fn assert_refused<D: Desk>(rt: &impl Abort, end: &mut End<D>, input: &Input) {
+fn assert_refused<D: TurnDesk>(rt: &impl Abort, end: &mut End<D>, input: &Input) {
     let answer = tell(end, input);
     assert_fault(rt, answer.err(), Some(EndFault::Spent), "spent");
 }
 
 /// Tells an end something that it doesn't refuse.
-fn tell_well<D: Desk>(alloc: Global, end: &mut End<D>, told: Told) -> Result<(), Fail> {
+fn tell_well<D: TurnDesk>(alloc: Global, end: &mut End<D>, told: Told) -> Result<(), Fail> {
     let input = input_of(alloc, told)?;
     tell(end, &input)?;
     Ok(())
 }
 
 /// Each call of an end that is spent is refused. Where an allocation is refused, a test ends with that error.
-fn assert_spent<D: Desk>(rt: &impl Abort, alloc: Global, end: &mut End<D>) {
+fn assert_spent<D: TurnDesk>(rt: &impl Abort, alloc: Global, end: &mut End<D>) {
     let message = Message::new(1, 1, true, None);
     assert_refused(rt, end, &Input::Start(0));
     assert_refused(rt, end, &Input::Tick(0));
@@ -213,7 +215,7 @@ fn judge_answer(
 }
 
 /// Tells an end all of a case.
-fn judge<D: Desk>(
+fn judge<D: TurnDesk>(
     rt: &impl Abort,
     alloc: Global,
     end: &mut End<D>,
@@ -235,7 +237,7 @@ fn judge<D: Desk>(
     Ok(())
 }
 
-fn end_of<D: Desk>(alloc: Global, settings: Settings, desk: D, first_system: u32) -> End<D> {
+fn end_of<D: TurnDesk>(alloc: Global, settings: Settings, desk: D, first_system: u32) -> End<D> {
     End::new(alloc, settings, desk, first_system)
 }
 
