@@ -320,8 +320,11 @@ class Trial:
                     left.remove(edit)
 
     def alone(self, edit, is_proved, output):
-        """What came of a body that was tried by itself."""
+        """What came of a body that was tried by itself: if need be, in a check of the whole crate too."""
         refused = refused_in(output)
+        if not refused and edit.paths():
+            is_proved, output = self.check(edit.texts(self.folder))
+            refused = refused_in(output)
         if is_proved:
             self.fail(edit, "NOT REFUSED: the crate is proved with it")
         elif not refused:
@@ -338,14 +341,14 @@ class Trial:
             left = [it for it in left if it not in together]
             if is_proved:
                 self.passed += len(together)
-            elif len(together) == 1:
-                self.fail(together[0], f"REFUSED, a twin: {first_error(output)}")
             else:
                 for edit in together:
                     self.prove_alone(edit)
 
     def prove_alone(self, edit):
         is_proved, output = self.check(edit.texts(self.folder), [edit])
+        if not is_proved and edit.paths():
+            is_proved, output = self.check(edit.texts(self.folder))
         if is_proved:
             self.passed += 1
         else:
