@@ -44,13 +44,13 @@ WRONG_BODY = "-- wrong body: "
 OF_CRATE = "-- crate: "
 
 # How long a check may take, in seconds.
-LONGEST_CHECK = 1800
+LONGEST_CHECK = 3600
 
 # The status of a check that is to be of a function which isn't there.
 NO_SUCH_FUNCTION = 2
 
 # How many bodies are tried together, and how many such checks a body may have before it is tried alone.
-TOGETHER = 24
+TOGETHER = 12
 AMONG_OTHERS = 2
 
 # Where an item of a source begins, and an `impl` of a type, or of a trait for one.
