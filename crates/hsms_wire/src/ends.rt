@@ -1,6 +1,6 @@
 //! The logs of both ends of a connection.
 
-ghost use Rattle.std.specs.Prelude.{◌≡◌, ◌<◌, ◌+◌, ◌⊎◌, IfOk, IfSome, OnOk, None, length, drop};
+ghost use Rattle.std.specs.Prelude.{◌≡◌, ◌<◌, ◌≤◌, ◌+◌, ◌⊎◌, IfOk, IfSome, OnOk, None, length, drop};
 ghost use Rattle.hsms_wire.specs.Account.{received_of};
 ghost use Rattle.hsms_wire.specs.Ends.{Adds};
 ghost use Rattle.hsms_log.specs.Spelling.{message_octets};
@@ -49,6 +49,7 @@ impl Ends {
         ensures active { IfOk result (λ ends. HasLogged active.now [] ends.active) }
         ensures passive { IfOk result (λ ends. HasLogged passive.now [] ends.passive) }
         ensures max { IfOk result (λ ends. ends.max ≡ active.now.max) }
+        ensures time { IfOk result (λ ends. ends.time ≡ 0) }
     {
         Ok(Ends {
             active: Account::new(alloc, active)?,
@@ -169,6 +170,7 @@ fn pass(
 pub fn frame_within(alloc: Global, max: u32, octets: Vec<u8>) -> Result<Option<Frame>, ToolFault>
     ensures some { IfOk result (λ found. IfSome found (λ frame. drop 4 octets.items ≡ message_octets frame)) }
     ensures none { IfOk result (λ found. found ≡ None → (length octets.items < 14) ⊎ (max + 4 < length octets.items)) }
+    ensures most { IfOk result (λ found. IfSome found (λ frame. length octets.items ≤ max + 4)) }
 {
     if octets.len() as u64 > u64::from(max) + LENGTH as u64 {
         return Ok(None);

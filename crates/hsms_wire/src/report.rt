@@ -34,7 +34,8 @@ pub struct Report {
 }
 
 impl Report {
-    ghost use Rattle.std.specs.Prelude.{◌≡◌, None, Some, IfOk, OnOk, true};
+    ghost use Rattle.std.specs.Prelude.{◌≡◌, ◌⊎◌, None, Some, IfOk, OnOk, true};
+    ghost use Rattle.hsms_wire.specs.declared.report.Manner.TheVariants.{Verdicts};
     ghost use Rattle.hsms_wire.specs.Report.{AnswersWell, CountsBy, CountsVerdicts, failed_after, first_of, missing_after};
 
     /// Nothing is told yet.
@@ -118,6 +119,7 @@ impl Report {
         ensures told { OnOk result (self.new.has_told ≡ true) }
         ensures failed { OnOk result (CountsBy self.old.manner ends self.old.has_failed self.new.has_failed) }
         ensures same { OnOk result (self.new.manner ≡ self.old.manner) }
+        ensures goes { OnOk result ((shortfall ≡ None) ⊎ (self.old.manner ≡ Verdicts)) }
     {
         self.conclude_with(alloc, shortfall)?;
         self.tell(alloc, sink, pair, ends, shortfall)
@@ -129,10 +131,11 @@ impl Report {
         alloc: Global,
         shortfall: Option<Shortfall>,
     ) -> Result<(), ToolFault>
-        ensures { OnOk result (self.new ≡ record self.old {
+        ensures noted { OnOk result (self.new ≡ record self.old {
           has_told = true;
           shortfall = missing_after self.old.shortfall shortfall;
         }) }
+        ensures goes { OnOk result ((shortfall ≡ None) ⊎ (self.old.manner ≡ Verdicts)) }
     {
         self.has_told = true;
         let Some(shortfall) = shortfall else {
