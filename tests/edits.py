@@ -20,6 +20,8 @@ doesn't name is tried again among others, and at last alone. The last line is `N
 
 Use: tests/edits.py [CRATE..] tries all edits and twins of these crates, or of each that has a folder in
 tests/must-fail/. What they stand on is built first, by ./build, where neither that nor `rt ci` has built it.
+tests/edits.py --beside FOLDER does so while `rt ci` runs: the edits of a crate once it is proved, by a log `proofs` in
+the folder, to which a file `ended` comes with the status of `rt ci`. All checks give way to its proofs.
 tests/edits.py --one CRATE NAME [BODY] tries one edit and writes what the check says, and tests/edits.py --twins NAME..
 tries some twins.
 """
@@ -30,8 +32,9 @@ import shutil
 import subprocess
 import sys
 import tempfile
+import threading
 import time
-from concurrent.futures import ThreadPoolExecutor
+from concurrent.futures import FIRST_COMPLETED, ThreadPoolExecutor, wait
 from dataclasses import dataclass
 
 sys.dont_write_bytecode = True
@@ -52,6 +55,10 @@ NO_SUCH_FUNCTION = 2
 # How many bodies are tried together, and how many such checks a body may have before it is tried alone.
 TOGETHER = 12
 AMONG_OTHERS = 2
+
+# How many seconds pass between two looks at what `rt ci` has proved, and what it says of a crate then.
+PAUSE = 2
+IS_PROVED = re.compile(r"^rt: (\w+) (?:proved|is kept)\b", re.MULTILINE)
 
 # Where an item of a source begins, and an `impl` of a type, or of a trait for one.
 ITEM = re.compile(r"(?m)^(?=(?:pub(?:\(\w+\))? )?(?:unsafe )?(?:const|enum|fn|ghost|impl|mod|static|struct|trait|type|use)\b)")
@@ -215,7 +222,7 @@ def checked(folder, texts, edits=()):
     before = {path: text_of(f"{folder}/{path}") for path in texts}
     paths = [it.paths() for it in edits]
     only = sorted(set().union(*paths)) if paths and None not in paths else []
-    words = ["rt", "check", "--jobs", "1"]
+    words = ["nice", "-n", "19", "rt", "check", "--jobs", "1"]
     write_all(folder, texts)
     try:
         status, output = run([*words, *(word for path in only for word in ("--only", path))], folder)
@@ -423,11 +430,60 @@ def is_built_below(crates, proved):
     return not below or subprocess.run(words, stdin=subprocess.DEVNULL, check=False).returncode == 0
 
 
+class Proofs:
+    """What is proved of the crates, by `rt ci` which runs beside, or since it has run."""
+
+    def __init__(self, folder):
+        self.folder, self.marking, self.marked = folder, threading.Lock(), set()
+
+    def ended(self):
+        """The status of `rt ci`, once it has ended: 0 where it ran before."""
+        ended = f"{self.folder}/ended"
+        told = "0" if not self.folder else text_of(ended).strip() if os.path.exists(ended) else ""
+        return int(told) if told else None
+
+    def are_there(self, crate):
+        """Whether the edits of a crate may be tried."""
+        if self.ended() is not None:
+            return True
+        log = f"{self.folder}/proofs"
+        told = set(IS_PROVED.findall(text_of(log))) if os.path.exists(log) else set()
+        return {crate, *crates_below(crate, crates_listed())} <= told
+
+    def lanes(self):
+        """How many crates may be worked on at once."""
+        return processors() if self.ended() is not None else max(1, processors() // 2)
+
+    def mark(self):
+        """The crates that are proved, whose libraries are marked so."""
+        with self.marking:
+            self.marked |= mark_as_built()
+            return set(self.marked)
+
+
+def each_in_its_turn(proofs, crates, call):
+    """What a call gives for each crate, the first of those that are proved first. None where `rt ci` has failed."""
+    left, running, results = list(crates), set(), []
+    with ThreadPoolExecutor(processors()) as pool:
+        while (left or running) and not proofs.ended():
+            ready = [it for it in left if proofs.are_there(it)]
+            for crate in ready[: max(0, proofs.lanes() - len(running))]:
+                left.remove(crate)
+                running.add(pool.submit(call, crate))
+            if running:
+                done, running = wait(running, timeout=PAUSE, return_when=FIRST_COMPLETED)
+                results += [it.result() for it in done]
+            else:
+                time.sleep(PAUSE)
+    return None if proofs.ended() else results
+
+
 def main():
     parser = argparse.ArgumentParser(description=__doc__, formatter_class=argparse.RawDescriptionHelpFormatter)
     parser.add_argument("names", nargs="*", metavar="CRATE")
     parser.add_argument("--one", action="store_true", help="tries one edit: CRATE NAME [BODY]")
     parser.add_argument("--twins", action="store_true", help="tries twins by their names")
+    parser.add_argument("--beside", default="", metavar="FOLDER", help="tries them while `rt ci` runs, which tells there what is proved")
     asked = parser.parse_args()
     if asked.one:
         return try_one(asked.names[0], asked.names[1], asked.names[2] if len(asked.names) > 2 else "")
@@ -440,16 +496,17 @@ def main():
     else:
         crates = [it for it in every if it in (asked.names or os.listdir(EDITS))]
         bodies = {crate: bodies_of(crate) for crate in crates}
-    proved = mark_as_built()
-    if not is_built_below(crates, proved):
+    proofs = Proofs(asked.beside)
+    if not asked.beside and not is_built_below(crates, proofs.mark()):
         return 1
     for name, why in wrong.items():
         print(f"{name}: {why}")
     crates.sort(key=size_of, reverse=True)
-    with ThreadPoolExecutor(processors()) as lanes:
-        twins_of = lambda crate: [it for it in twins if it.crate == crate]
-        of_crate = lambda crate: tried(crate, bodies.get(crate, []), twins_of(crate), crate in proved)
-        results = list(lanes.map(of_crate, crates))
+    twins_of = lambda crate: [it for it in twins if it.crate == crate]
+    of_crate = lambda crate: tried(crate, bodies.get(crate, []), twins_of(crate), crate in proofs.mark())
+    results = each_in_its_turn(proofs, crates, of_crate)
+    if results is None:
+        return 1
     failed = sum(failed for _, failed in results) + len(wrong)
     print(f"{sum(passed for passed, _ in results)} passed, {failed} failed")
     return 1 if failed else 0

@@ -93,7 +93,9 @@ def room_for(crate, room):
     listed = crates_listed()
     below = crates_below(crate, listed)
     for name in sorted(below):
-        bring(name, (*READ, BUILT), room, link)
+        # a second name of a source would be a change of it to an `rt ci` that runs beside
+        bring(name, READ, room, shutil.copy2)
+        bring(name, (BUILT,), room, link)
     os.makedirs(f"{room}/crates/{crate}", exist_ok=True)
     bring(crate, READ, room, shutil.copy2)
     if os.path.exists(f"{TOP}/HANDLES"):
