@@ -11,14 +11,18 @@
 
 mod alike;
 mod course;
+mod ending;
 mod expecting;
 mod explainer;
 mod explaining;
 mod histogram;
+mod html;
+mod json;
 mod judging;
 mod known;
 pub mod laws;
 mod mending;
+mod moment;
 mod note;
 mod page;
 mod past;
@@ -27,6 +31,7 @@ mod replies;
 mod sort;
 mod step;
 mod tally;
+mod telling;
 mod text;
 mod told;
 mod window;

@@ -2,8 +2,9 @@
 
 use crate::note::{Note, has_failure};
 use crate::page::Page;
-use crate::text::{write_gap, write_line};
+use crate::telling::Teller;
 use crate::told::{Carried, Told, carried_by};
+use crate::words::Gap;
 use hsms_options::{Excerpt, Lines};
 use std::alloc::{AllocError, Global};
 use std::collections::VecDeque;
@@ -12,6 +13,7 @@ use std::collections::VecDeque;
 /// are told around it.
 pub struct Window {
     excerpt: Excerpt,
+    teller: Teller,
     held: VecDeque<Held>,
     // How many lines are told behind the last failure yet.
     behind: u32,
@@ -35,6 +37,7 @@ impl Drop for Window {
     fn drop(self) {
         let Window {
             excerpt: _excerpt,
+            teller: _teller,
             held,
             behind: _behind,
             last: _last,
@@ -74,6 +77,7 @@ impl Window {
     pub fn new(alloc: Global, excerpt: Excerpt) -> Window {
         Window {
             excerpt,
+            teller: Teller::new(excerpt),
             held: VecDeque::new(alloc),
             behind: 0,
             last: 0,
@@ -124,8 +128,8 @@ impl Window {
         told: Told<'_, '_>,
         notes: &[Note],
     ) -> Result<(), AllocError> {
-        self.go_to(page, told.number);
-        write_line(alloc, page, told, notes)
+        self.go_to(alloc, page, told.number)?;
+        self.teller.line(alloc, page, told, notes)
     }
 
     // Holds a line in place of the oldest one that is held.
@@ -144,8 +148,7 @@ impl Window {
         held.notes.clear();
         held.notes.extend_from_slice(notes)?;
         held.octets.clear();
-        let shown = told.octets.len().min(told.limit);
-        held.octets.extend_from_slice(&told.octets[..shown])?;
+        held.octets.extend_from_slice(told.shown())?;
         self.held.push_back(held)?;
         Ok(())
     }
@@ -177,7 +180,7 @@ impl Window {
         held: &Held,
         max: u32,
     ) -> Result<(), AllocError> {
-        self.go_to(page, held.number);
+        self.go_to(alloc, page, held.number)?;
         let carried = held.carried(alloc, max, &mut self.octets)?;
         let told = Told {
             number: held.number,
@@ -185,21 +188,26 @@ impl Window {
             limit: held.octets.len(),
             carried,
         };
-        write_line(alloc, page, told, &held.notes)
+        self.teller.line(alloc, page, told, &held.notes)
     }
 
     // Tells that lines are left out before this one, where it doesn't follow the last one that was told.
-    fn go_to(&mut self, page: &mut Page, number: u64) {
-        if number > self.last.saturating_add(1) {
-            write_gap(page);
-        }
+    fn go_to(&mut self, alloc: Global, page: &mut Page, number: u64) -> Result<(), AllocError> {
+        let from = self.last.saturating_add(1);
         self.last = number;
+        if number <= from {
+            return Ok(());
+        }
+        let to = number - 1;
+        self.teller.gap(alloc, page, Gap { from, to })
     }
 
     /// Tells that lines are left out behind the last one that was told, of so many lines.
-    pub fn finish(&self, page: &mut Page, lines: u64) {
-        if lines > self.last {
-            write_gap(page);
+    pub fn finish(&self, alloc: Global, page: &mut Page, lines: u64) -> Result<(), AllocError> {
+        if lines <= self.last {
+            return Ok(());
         }
+        let from = self.last + 1;
+        self.teller.gap(alloc, page, Gap { from, to: lines })
     }
 }
