@@ -45,10 +45,20 @@ verdict_object_of (Pass summary) = pass_object_of summary
 verdict_object_of (Fail line Unreadable) = unreadable_object_of line
 verdict_object_of (Fail line (Broken rule)) = broken_object_of line rule
 
+-- ---- as a paragraph of HTML, in which the page ends
+
+-- what stands before the verdict: a mark of its colour
+abbrev pub mark_of : Verdict → List ℕ
+mark_of (Pass summary) = codes "<p id=\"verdict\" class=\"pass\">"
+mark_of (Fail line why) = codes "<p id=\"verdict\" class=\"fail\">"
+
+abbrev pub page_end_of : Verdict → List ℕ
+page_end_of verdict = mark_of verdict ++ verdict_line_of verdict ++ codes "</p></section></body></html>\n"
+
 -- ---- in each form
 
 -- the verdict, with what stands behind it
 abbrev pub ending_of : Telling → Verdict → List ℕ
 ending_of Text verdict = verdict_line_of verdict
 ending_of Json verdict = verdict_object_of verdict
-ending_of Html verdict = verdict_line_of verdict
+ending_of Html verdict = page_end_of verdict

@@ -1,7 +1,7 @@
 //! The verdict, as the last thing that is told.
 
 ghost use Rattle.std.specs.Prelude.{◌≡◌, ◌++◌, IfOk, OnOk, string_bytes};
-ghost use Rattle.hsms_explain.specs.Ending.{broken_object_of, ending_of, flow_members_of, loss_members_of, member_of, pass_object_of, unreadable_object_of, verdict_object_of};
+ghost use Rattle.hsms_explain.specs.Ending.{broken_object_of, ending_of, flow_members_of, loss_members_of, mark_of, member_of, page_end_of, pass_object_of, unreadable_object_of, verdict_object_of};
 
 use hsms_log::{Summary, Verdict, Why};
 use hsms_machine::Rule;
@@ -16,7 +16,7 @@ pub fn ending(alloc: Global, form: Telling, verdict: Verdict) -> Result<String, 
     match form {
         Telling::Text => verdict_line(alloc, verdict),
         Telling::Json => verdict_object(alloc, verdict),
-        Telling::Html => verdict_line(alloc, verdict),
+        Telling::Html => page_end(alloc, verdict),
     }
 }
 
@@ -89,4 +89,25 @@ fn push_member(object: &mut String, name: &str, number: u64) -> Result<(), Alloc
 {
     object.push_str(name)?;
     write!(object, "{number}")
+}
+
+// The verdict as a paragraph of HTML, and the end of the page.
+fn page_end(alloc: Global, verdict: Verdict) -> Result<String, AllocError>
+    ensures { IfOk result (λ end. string_bytes end ≡ page_end_of verdict) }
+{
+    let line = verdict_line(alloc, verdict)?;
+    let mut end = String::from_str(alloc, mark(verdict))?;
+    end.push_str(&line)?;
+    end.push_str("</p></section></body></html>\n")?;
+    Ok(end)
+}
+
+// What stands before a verdict in HTML.
+fn mark(verdict: Verdict) -> &'static str
+    ensures { result.now ≡ mark_of verdict }
+{
+    match verdict {
+        Verdict::Pass(_) => "<p id=\"verdict\" class=\"pass\">",
+        Verdict::Fail { .. } => "<p id=\"verdict\" class=\"fail\">",
+    }
 }

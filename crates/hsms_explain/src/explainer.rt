@@ -171,29 +171,10 @@ impl Report {
         if self.tally.is_empty() {
             self.tell_unjudged(alloc, Unjudged::NoEntry)?;
         }
-        self.tell_rests(alloc)?;
+        self.teller.groups(alloc, &mut self.page, &self.groups)?;
         self.teller.failures(alloc, &mut self.page, &self.tally)?;
-        self.tell_primaries(alloc, primaries)
-    }
-
-    // Tells of each kind of primaries what became of them.
-    fn tell_primaries(&mut self, alloc: Global, primaries: &Primaries) -> Result<(), AllocError> {
-        for place in 0..primaries.len() {
-            if let Some(outcome) = primaries.outcome(place) {
-                self.teller.outcome(alloc, &mut self.page, outcome)?;
-            }
-        }
-        Ok(())
-    }
-
-    // Tells of each group how many failures weren't told whole.
-    fn tell_rests(&mut self, alloc: Global) -> Result<(), AllocError> {
-        for group in self.groups.iter() {
-            if let Some(rest) = group.rest() {
-                self.teller.rest(alloc, &mut self.page, rest)?;
-            }
-        }
-        Ok(())
+        self.teller
+            .primaries(alloc, &mut self.page, self.window.links(), primaries)
     }
 
     // Tells a line, and what is noted of it, in a log whose frames have at most so many octets.
@@ -301,6 +282,9 @@ fn unjudged_line(
         limit: SETTINGS_LIMIT,
         carried: Carried::Nothing,
     };
+    if let Some(settings) = settings {
+        report.teller.ends(&mut report.page, settings);
+    }
     report.tell(alloc, told, 0)?;
     match settings {
         Some(settings) => Ok(Stage::Judged(Known::new(alloc, settings))),

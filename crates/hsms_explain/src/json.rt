@@ -1,10 +1,11 @@
 //! What is told, as JSON (RFC 8259): an object a line.
 
+use crate::alike::Groups;
 use crate::expecting::{Expected, Function};
 use crate::moment::{Date, Moment};
 use crate::note::{Failing, Note};
 use crate::page::Page;
-use crate::primaries::{Outcome, Times};
+use crate::primaries::{Outcome, Primaries, Times};
 use crate::replies::Counts;
 use crate::step::{Step, What};
 use crate::tally::Tally;
@@ -500,8 +501,18 @@ pub fn write_unjudged(
     write(alloc, page, &Object::Unjudged { text })
 }
 
-/// Writes how many failures of a group weren't told whole.
-pub fn write_rest(alloc: Global, page: &mut Page, rest: Rest) -> Result<(), AllocError> {
+/// Writes of each group how many failures weren't told whole.
+pub fn write_rests(alloc: Global, page: &mut Page, groups: &Groups) -> Result<(), AllocError> {
+    for group in groups.iter() {
+        if let Some(rest) = group.rest() {
+            write_rest(alloc, page, rest)?;
+        }
+    }
+    Ok(())
+}
+
+// Writes how many failures of a group weren't told whole.
+fn write_rest(alloc: Global, page: &mut Page, rest: Rest) -> Result<(), AllocError> {
     let object = RestObject {
         rule: name_of(rest.why),
         count: rest.count,
@@ -520,8 +531,22 @@ pub fn write_failures(alloc: Global, page: &mut Page, tally: &Tally) -> Result<(
     write(alloc, page, &object)
 }
 
-/// Writes what became of the primaries of a kind.
-pub fn write_outcome(alloc: Global, page: &mut Page, outcome: Outcome) -> Result<(), AllocError> {
+/// Writes of each kind of primaries what became of them.
+pub fn write_primaries(
+    alloc: Global,
+    page: &mut Page,
+    primaries: &Primaries,
+) -> Result<(), AllocError> {
+    for place in 0..primaries.len() {
+        if let Some(outcome) = primaries.outcome(place) {
+            write_outcome(alloc, page, outcome)?;
+        }
+    }
+    Ok(())
+}
+
+// Writes what became of the primaries of a kind.
+fn write_outcome(alloc: Global, page: &mut Page, outcome: Outcome) -> Result<(), AllocError> {
     write(
         alloc,
         page,

@@ -1,12 +1,15 @@
 //! The form in which a log is told.
 
+use crate::alike::Groups;
+use crate::links::Links;
 use crate::note::Note;
 use crate::page::Page;
-use crate::primaries::Outcome;
+use crate::primaries::Primaries;
 use crate::tally::Tally;
 use crate::told::Told;
-use crate::words::{Gap, Rest, Unjudged};
+use crate::words::{Gap, Unjudged};
 use crate::{html, json, text};
+use hsms_machine::Settings;
 use hsms_options::{Excerpt, Telling};
 use std::alloc::{AllocError, Global};
 
@@ -30,7 +33,23 @@ impl Teller {
     pub fn begin(self, page: &mut Page) {
         match self.form {
             Telling::Text | Telling::Json => {}
-            Telling::Html => html::begin(page),
+            Telling::Html => html::begin(page, self.utc),
+        }
+    }
+
+    /// Writes which ends these are, before the lines of a log with these settings.
+    pub fn ends(self, page: &mut Page, settings: Settings) {
+        match self.form {
+            Telling::Text | Telling::Json => {}
+            Telling::Html => html::write_ends(page, settings),
+        }
+    }
+
+    /// Writes what stands behind all lines.
+    pub fn end_lines(self, page: &mut Page, links: &Links) {
+        match self.form {
+            Telling::Text | Telling::Json => {}
+            Telling::Html => html::end_lines(page, links),
         }
     }
 
@@ -39,13 +58,14 @@ impl Teller {
         self,
         alloc: Global,
         page: &mut Page,
+        links: &mut Links,
         told: Told<'_, '_>,
         notes: &[Note],
     ) -> Result<(), AllocError> {
         match self.form {
             Telling::Text => text::write_line(alloc, page, told, notes, self.utc),
             Telling::Json => json::write_line(alloc, page, told, notes, self.utc),
-            Telling::Html => html::write_line(alloc, page, told, notes, self.utc),
+            Telling::Html => html::write_line(alloc, page, links, told, notes, self.utc),
         }
     }
 
@@ -57,7 +77,10 @@ impl Teller {
                 Ok(())
             }
             Telling::Json => json::write_gap(alloc, page, gap),
-            Telling::Html => html::write_gap(alloc, page, gap),
+            Telling::Html => {
+                html::write_gap(page, gap);
+                Ok(())
+            }
         }
     }
 
@@ -75,12 +98,15 @@ impl Teller {
         }
     }
 
-    /// Writes how many failures of a group weren't told whole.
-    pub fn rest(self, alloc: Global, page: &mut Page, rest: Rest) -> Result<(), AllocError> {
+    /// Writes of each group how many failures it has, or how many of them weren't told whole.
+    pub fn groups(self, alloc: Global, page: &mut Page, groups: &Groups) -> Result<(), AllocError> {
         match self.form {
-            Telling::Text => text::write_words(alloc, page, &rest),
-            Telling::Json => json::write_rest(alloc, page, rest),
-            Telling::Html => html::write_rest(alloc, page, rest),
+            Telling::Text => text::write_rests(alloc, page, groups),
+            Telling::Json => json::write_rests(alloc, page, groups),
+            Telling::Html => {
+                html::write_groups(page, groups);
+                Ok(())
+            }
         }
     }
 
@@ -93,17 +119,18 @@ impl Teller {
         }
     }
 
-    /// Writes what became of the primaries of a kind.
-    pub fn outcome(
+    /// Writes what became of the primaries of each kind.
+    pub fn primaries(
         self,
         alloc: Global,
         page: &mut Page,
-        outcome: Outcome,
+        links: &Links,
+        primaries: &Primaries,
     ) -> Result<(), AllocError> {
         match self.form {
-            Telling::Text => text::write_words(alloc, page, &outcome),
-            Telling::Json => json::write_outcome(alloc, page, outcome),
-            Telling::Html => html::write_outcome(alloc, page, outcome),
+            Telling::Text => text::write_primaries(alloc, page, primaries),
+            Telling::Json => json::write_primaries(alloc, page, primaries),
+            Telling::Html => html::write_primaries(alloc, page, links, primaries),
         }
     }
 }

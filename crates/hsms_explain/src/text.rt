@@ -1,8 +1,10 @@
 //! A line and its notes, as text.
 
+use crate::alike::Groups;
 use crate::moment::Moment;
 use crate::note::{Failing, Note};
 use crate::page::Page;
+use crate::primaries::Primaries;
 use crate::step::{Step, What};
 use crate::tally::Tally;
 use crate::told::{Carried, Told};
@@ -52,6 +54,30 @@ pub fn write_words<D: fmt::Display>(
     let words = words.to_string(alloc)?;
     page.lay(words.as_bytes());
     page.lay(b"\n");
+    Ok(())
+}
+
+/// Writes of each group how many failures weren't told whole.
+pub fn write_rests(alloc: Global, page: &mut Page, groups: &Groups) -> Result<(), AllocError> {
+    for group in groups.iter() {
+        if let Some(rest) = group.rest() {
+            write_words(alloc, page, &rest)?;
+        }
+    }
+    Ok(())
+}
+
+/// Writes of each kind of primaries what became of them.
+pub fn write_primaries(
+    alloc: Global,
+    page: &mut Page,
+    primaries: &Primaries,
+) -> Result<(), AllocError> {
+    for place in 0..primaries.len() {
+        if let Some(outcome) = primaries.outcome(place) {
+            write_words(alloc, page, &outcome)?;
+        }
+    }
     Ok(())
 }
 
@@ -124,8 +150,8 @@ fn mark_word(mark: Mark) -> &'static [u8] {
     }
 }
 
-// What a line says behind its time.
-fn behind_time(line: &[u8]) -> &[u8] {
+/// What a line says behind its time.
+pub fn behind_time(line: &[u8]) -> &[u8] {
     match split_at_first(line, b' ') {
         Some((_, words)) => words,
         None => line,

@@ -1,5 +1,6 @@
 //! Which lines of a log are told, and when.
 
+use crate::links::Links;
 use crate::note::{Note, has_failure};
 use crate::page::Page;
 use crate::telling::Teller;
@@ -19,6 +20,7 @@ pub struct Window {
     behind: u32,
     // The number of the last line that was told.
     last: u64,
+    links: Links,
     // The octets of a frame.
     octets: Vec<u8>,
 }
@@ -41,9 +43,11 @@ impl Drop for Window {
             held,
             behind: _behind,
             last: _last,
+            links,
             octets,
         } = self;
         drop(held);
+        drop(links);
         drop(octets);
     }
 }
@@ -81,6 +85,7 @@ impl Window {
             held: VecDeque::new(alloc),
             behind: 0,
             last: 0,
+            links: Links::new(alloc),
             octets: Vec::new(alloc),
         }
     }
@@ -129,7 +134,7 @@ impl Window {
         notes: &[Note],
     ) -> Result<(), AllocError> {
         self.go_to(alloc, page, told.number)?;
-        self.teller.line(alloc, page, told, notes)
+        self.teller.line(alloc, page, &mut self.links, told, notes)
     }
 
     // Holds a line in place of the oldest one that is held.
@@ -188,7 +193,8 @@ impl Window {
             limit: held.octets.len(),
             carried,
         };
-        self.teller.line(alloc, page, told, &held.notes)
+        self.teller
+            .line(alloc, page, &mut self.links, told, &held.notes)
     }
 
     // Tells that lines are left out before this one, where it doesn't follow the last one that was told.
@@ -202,12 +208,18 @@ impl Window {
         self.teller.gap(alloc, page, Gap { from, to })
     }
 
-    /// Tells that lines are left out behind the last one that was told, of so many lines.
+    /// Tells that lines are left out behind the last one that was told, of so many lines, and that no line follows.
     pub fn finish(&self, alloc: Global, page: &mut Page, lines: u64) -> Result<(), AllocError> {
-        if lines <= self.last {
-            return Ok(());
+        if lines > self.last {
+            let from = self.last + 1;
+            self.teller.gap(alloc, page, Gap { from, to: lines })?;
         }
-        let from = self.last + 1;
-        self.teller.gap(alloc, page, Gap { from, to: lines })
+        self.teller.end_lines(page, &self.links);
+        Ok(())
+    }
+
+    /// What links to the lines that were told may lead to.
+    pub fn links(&self) -> &Links {
+        &self.links
     }
 }

@@ -31,11 +31,11 @@ abbrev pub only_word : Lines → Option Text
 only_word All = None
 only_word Failures = Some (codes "failures")
 
--- the name of a form; there is none by which HTML may be asked for
+-- the name of a form
 abbrev pub telling_word : Telling → Option Text
 telling_word TextForm = Some (codes "text")
 telling_word Json = Some (codes "json")
-telling_word Html = None
+telling_word Html = Some (codes "html")
 
 -- the form is that which the option `form` names, and text where it is left out
 abbrev pub HasTelling : List Row → Telling → Type 0

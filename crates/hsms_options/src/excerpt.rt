@@ -113,6 +113,7 @@ fn telling_named(name: &str) -> Option<Telling>
     match name {
         "text" => Some(Telling::Text),
         "json" => Some(Telling::Json),
+        "html" => Some(Telling::Html),
         _ => None,
     }
 }
