@@ -599,7 +599,7 @@ class Explained(NamedTuple):
             told.append({"type": "unjudged", "text": self.unjudged})
         told += [{"type": "rest", **rest._asdict()} for rest in self.rests]
         if self.failures is not None:
-            told.append({"type": "failures", "failures": sum(self.failures.values()), "rules": self.failures})
+            told.append({"type": "failures", "count": sum(self.failures.values()), "rules": self.failures})
         return told + self.outcomes
 
 
