@@ -1,12 +1,13 @@
 #!/usr/bin/env python3
-"""Compares what `hsms explain` tells, of all lines and of an excerpt, with a second reading, its last line with what
-`hsms audit` tells, and the words of each rule with `hsms audit --help`.
+"""Compares what `hsms explain` tells, of all lines and of an excerpt, as text and as JSON, with a second reading, its
+last line with what `hsms audit` tells, and the words of each rule with `hsms audit --help`.
 
 Use: tests/explained.py [LOGS] [SEED]. LOGS is the number of random logs, 500 if left out, each also with some of its
 lines several times; those of examples/ and the logs at edges and corners come besides. SEED is 1 if left out. It runs what `rt ci` has built. The shortest log that is
 told otherwise is written in hexadecimal. The last line is `N passed, M failed`.
 """
 import glob
+import json
 import sys
 import zlib
 from concurrent.futures import ThreadPoolExecutor
@@ -70,20 +71,30 @@ def excerpt_of(log: bytes) -> Excerpt:
     around = chance.one(0, 1, 2, 5) if chance.happens(0.75) else None
     first = chance.randint(1, lines) if chance.happens(0.5) else 1
     last = chance.randint(1, lines) if chance.happens(0.5) else None
-    return Excerpt(around, first, last)
+    return Excerpt(around, first, last, chance.happens(0.5))
 
 
 def difference(log: bytes) -> Optional[str]:
     """What is told of a log and what it should be, where they differ."""
     audited = answer_of(["audit"], log)
     for excerpt in (WHOLE, excerpt_of(log)):
-        words = ["explain", *excerpt.words()] if excerpt != WHOLE else ["explain"]
-        told, wanted = answer_of(words, log), explaining.explain(log, excerpt)
-        is_same = (told.status, told.error, told.output) == (audited.status, b"", wanted)
-        if not (is_same and wanted.endswith(audited.output)):
-            shown = f"log: {log[:LONGEST_SHOWN].hex()}\nsecond reading: {wanted.decode('latin-1')}"
-            return f"{' '.join(words)}\n{shown}\ncommand: {told}\naudit: {audited}"
+        words, wanted = ["explain", *excerpt.words()], explaining.explain(log, excerpt)
+        told, in_json = answer_of(words, log), answer_of([*words, "--form", "json"], log)
+        are_answers = all((it.status, it.error) == (audited.status, b"") for it in (told, in_json))
+        is_text = told.output == wanted.text and wanted.text.endswith(audited.output)
+        if not (are_answers and is_text and objects_of(in_json.output) == [list(it.items()) for it in wanted.objects]):
+            shown = f"log: {log[:LONGEST_SHOWN].hex()}\nsecond reading: {wanted}"
+            return f"{' '.join(words)}\n{shown}\ncommand: {told}\nin JSON: {in_json}\naudit: {audited}"
     return None
+
+
+def objects_of(output: bytes) -> Optional[List[object]]:
+    """The members of the objects of JSON, in their order, where each line is one."""
+    lines = output.decode().split("\n")
+    try:
+        return [list(json.loads(line).items()) for line in lines[:-1]] if lines[-1] == "" else None
+    except ValueError:
+        return None
 
 
 def help_of_rules() -> Optional[str]:

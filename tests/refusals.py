@@ -89,6 +89,8 @@ EXAMPLES = [
     (["encode", "--max", "256"], "examples/long.txt"),
     (["audit"], "examples/expired.log"),
     (["explain"], "examples/late-reply.log"),
+    (["explain", "--utc"], "examples/late-reply.log"),
+    (["explain", "--form", "json"], "examples/late-reply.log"),
     (["capture", "--t3", "1000"], "examples/late-reply.pcap"),
     (["capture", "--log", "equipment"], "examples/late-reply.pcap"),
     (["capture", "--help"], "examples/select.bin"),

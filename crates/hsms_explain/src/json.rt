@@ -37,7 +37,7 @@ enum Object<'a> {
     Gap { from: u64, to: u64 },
     Unjudged { text: Words<Unjudged> },
     Rest(RestObject),
-    Failures { failures: u64, rules: Rules<'a> },
+    Failures { count: u64, rules: Rules<'a> },
     Primaries(PrimariesObject),
 }
 
@@ -525,7 +525,7 @@ fn write_rest(alloc: Global, page: &mut Page, rest: Rest) -> Result<(), AllocErr
 /// Writes how often each rule was broken.
 pub fn write_failures(alloc: Global, page: &mut Page, tally: &Tally) -> Result<(), AllocError> {
     let object = Object::Failures {
-        failures: tally.all(),
+        count: tally.all(),
         rules: Rules(tally),
     };
     write(alloc, page, &object)
