@@ -59,7 +59,7 @@ def cases_of_words():
     own += "--form is text or json, and --bare goes with --hex alone"
     yield Case(["show", "--bare"], 2, "command line", [own])
     yield Case(["explain", "--only", "all"], 2, "command line", [own])
-    for form in ("xml", "html", "JSON", ""):
+    for form in ("xml", "HTML", "JSON", ""):
         yield Case(["explain", "--form", form], 2, "command line", [own])
     for option in ("--active", "--log"):
         yield Case(["capture", option, "both"], 2, "command line", [own])

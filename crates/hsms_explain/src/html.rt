@@ -396,7 +396,7 @@ fn write_open(page: &mut Page, links: &Links) {
     if lines.is_empty() {
         return;
     }
-    put(page, "<p class=\"open\">No line here closes line");
+    put(page, "<p class=\"open\">Not closed by a line here:");
     for line in lines {
         write_place(page, " <a id=\"r", Some(*line));
         write_place(page, " href=\"#l", links.told(*line));

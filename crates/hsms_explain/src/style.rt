@@ -36,7 +36,7 @@ pub const STYLE: &str = "\
     header b{width:10em;padding:.15em 0;border:2px solid var(--rule);border-radius:.3em;background:var(--paper);\
     text-align:center}\n\
     .row{display:grid;grid-template-columns:var(--number) var(--time) var(--wide) minmax(0,1fr);\
-    column-gap:.75em;padding:.12em 0;align-items:start;scroll-margin-top:3em;content-visibility:auto;\
+    column-gap:.75em;padding:.12em 0;align-items:start;scroll-margin-top:4em;content-visibility:auto;\
     contain-intrinsic-size:auto 1.7em}\n\
     .n,.row>span{text-align:right;color:var(--faint);text-decoration:none}\n\
     summary{list-style:none;cursor:pointer;position:relative;margin:0 2px;text-align:center;color:var(--way);\
@@ -66,7 +66,7 @@ pub const STYLE: &str = "\
     .timer>b{justify-self:start}\n\
     .plain pre{grid-column:3/-1;justify-self:start;min-height:1.4em;margin-left:.6em;color:var(--faint);\
     background:var(--paper);font-style:italic}\n\
-    .at{display:inline}\n\
+    .row a{scroll-margin-top:4em}\n\
     .f{grid-column:3/-1;margin:.3em 0;padding:.2em .8em;border-left:.3em solid var(--bad);\
     background:var(--badpaper)}\n\
     .f p:first-child{color:var(--bad)}\n\
@@ -74,6 +74,6 @@ pub const STYLE: &str = "\
     .row:target,.row:has(:target),p :target{background:var(--mark)}\n\
     .gap{width:var(--wide);margin:.2em 0 .2em var(--left);padding:.2em 0;background:var(--paper);\
     border-block:1px dotted var(--faint);text-align:center;color:var(--faint)}\n\
-    @media(max-width:70em){.at{grid-column:3/-1;padding-left:1em}}\n\
-    @media print{:root{--paper:#fff;--ink:#000}body{max-width:none;padding:0;font-size:8.5pt}\
+    @media(max-width:62em){:root{--number:3em;--wide:22em}.plain pre,.f{grid-column:2/-1}}\n\
+    @media print{:root{--paper:#fff;--ink:#000}body{max-width:none;padding:0;font-size:8pt}:root{--wide:24em}\
     header{position:static}.row{break-inside:avoid;content-visibility:visible}}\n";
