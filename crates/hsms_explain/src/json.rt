@@ -18,13 +18,21 @@ use std::fmt;
 
 // Words, as a string.
 #[derive(Clone, Copy)]
-struct Words<D>(D);
+struct Words<D> {
+    words: D,
+}
+
+impl<D> Words<D> {
+    fn new(words: D) -> Words<D> {
+        Words { words }
+    }
+}
 
 impl<D> Described for Words<D> {}
 
 impl<D: fmt::Display> Serialize for Words<D> {
     fn serialize<S: Serializer>(&self, out: &mut S) -> Result<(), S::Error> {
-        out.collect_str(&self.0)
+        out.collect_str(&self.words)
     }
 }
 
@@ -143,10 +151,12 @@ impl FailureObject {
             rule: name_of(failing.why),
             sentence: Some(failing.sentence),
             concerns: failing.concerns,
-            expected: failing.expected.map(Words),
+            expected: failing.expected.map(Words::new),
             expected_line: failing.expected.and_then(Expected::line),
-            remedy: failing.remedy.map(|remedy| Words(GoingOn { remedy, utc })),
-            put: failing.remedy.and_then(Put::of).map(Words),
+            remedy: failing
+                .remedy
+                .map(|remedy| Words::new(GoingOn { remedy, utc })),
+            put: failing.remedy.and_then(Put::of).map(Words::new),
             like: None,
             times: None,
         }
@@ -291,7 +301,7 @@ impl<'a> LineObject<'a> {
     fn with_time(self, time: u64, utc: bool) -> LineObject<'a> {
         LineObject {
             time: Some(time),
-            utc: Moment { time, utc }.date().map(Words),
+            utc: Moment { time, utc }.date().map(Words::new),
             ..self
         }
     }
@@ -496,7 +506,7 @@ pub fn write_unjudged(
     page: &mut Page,
     unjudged: Unjudged,
 ) -> Result<(), AllocError> {
-    let text = Words(unjudged);
+    let text = Words::new(unjudged);
     write(alloc, page, &Object::Unjudged { text })
 }
 
