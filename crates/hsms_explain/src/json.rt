@@ -2,7 +2,7 @@
 
 use crate::alike::Groups;
 use crate::expecting::{Expected, Function};
-use crate::moment::{Date, Moment};
+use crate::moment::Moment;
 use crate::note::{Failing, Note};
 use crate::page::Page;
 use crate::primaries::{Outcome, Primaries, Times};
@@ -10,22 +10,30 @@ use crate::replies::Counts;
 use crate::step::{Step, What};
 use crate::tally::Tally;
 use crate::told::{Carried, Told};
-use crate::words::{Alike, Closing, Gap, GoingOn, Put, Rest, Tie, Unjudged, name_of, word};
+use crate::words::{Alike, Closing, Gap, GoingOn, Put, Rest, Unjudged, name_of, word, word_of};
 use hsms_frame::{Header, Kind, kind};
-use hsms_machine::{GREATEST_DEPTH, Mark};
+use hsms_machine::{Cause, GREATEST_DEPTH, Mark};
 use serde::{Described, Serialize, Serializer};
 use std::alloc::{AllocError, Global};
 use std::fmt;
 
 // Words, as a string.
 #[derive(Clone, Copy)]
-struct Words<D>(D);
+struct Words<D> {
+    words: D,
+}
+
+impl<D> Words<D> {
+    fn new(words: D) -> Words<D> {
+        Words { words }
+    }
+}
 
 impl<D> Described for Words<D> {}
 
 impl<D: fmt::Display> Serialize for Words<D> {
     fn serialize<S: Serializer>(&self, out: &mut S) -> Result<(), S::Error> {
-        out.collect_str(&self.0)
+        out.collect_str(&self.words)
     }
 }
 
@@ -33,7 +41,6 @@ impl<D: fmt::Display> Serialize for Words<D> {
 #[derive(Clone, Copy, Serialize)]
 #[serde(tag = "type", rename_all = "lowercase")]
 enum Object<'a> {
-    Line(LineObject<'a>),
     Gap { from: u64, to: u64 },
     Unjudged { text: Words<Unjudged> },
     Rest(RestObject),
@@ -41,56 +48,170 @@ enum Object<'a> {
     Primaries(PrimariesObject),
 }
 
-// A line of the log. What it doesn't have is left out.
-#[derive(Clone, Copy, Serialize)]
-struct LineObject<'a> {
-    line: u64,
-    #[serde(skip_serializing_if = "Option::is_none")]
-    time: Option<u64>,
-    #[serde(skip_serializing_if = "Option::is_none")]
-    utc: Option<Words<Date>>,
-    #[serde(skip_serializing_if = "Option::is_none")]
-    mark: Option<&'static str>,
-    #[serde(skip_serializing_if = "Option::is_none")]
-    kind: Option<&'a str>,
-    #[serde(skip_serializing_if = "Option::is_none")]
-    session: Option<&'a str>,
-    #[serde(skip_serializing_if = "Option::is_none")]
-    system: Option<&'a str>,
-    #[serde(skip_serializing_if = "Option::is_none")]
-    stream: Option<u8>,
-    #[serde(skip_serializing_if = "Option::is_none")]
-    function: Option<u8>,
-    #[serde(skip_serializing_if = "Option::is_none")]
-    wait: Option<bool>,
-    #[serde(skip_serializing_if = "Option::is_none")]
-    status: Option<u8>,
-    #[serde(skip_serializing_if = "Option::is_none")]
-    rejected: Option<u8>,
-    #[serde(skip_serializing_if = "Option::is_none")]
-    reason: Option<u8>,
-    #[serde(skip_serializing_if = "Option::is_none")]
-    stype: Option<u8>,
-    #[serde(skip_serializing_if = "Option::is_none")]
-    ptype: Option<u8>,
-    #[serde(skip_serializing_if = "Option::is_none")]
-    octets: Option<&'a str>,
-    #[serde(skip_serializing_if = "Option::is_none")]
-    notation: Option<&'a str>,
-    #[serde(skip_serializing_if = "Option::is_none")]
-    cause: Option<&'static str>,
-    #[serde(skip_serializing_if = "Option::is_none")]
-    text: Option<&'a str>,
-    #[serde(skip_serializing_if = "Option::is_none")]
-    answers: Option<u64>,
-    #[serde(skip_serializing_if = "Option::is_none")]
-    rejects: Option<u64>,
-    #[serde(skip_serializing_if = "Option::is_none")]
-    expires: Option<u64>,
-    #[serde(skip_serializing_if = "Option::is_none")]
-    after: Option<u64>,
-    #[serde(skip_serializing_if = "Option::is_none")]
-    failures: Option<Failures<'a>>,
+// A line of the log, with what is noted of it.
+#[derive(Clone, Copy)]
+struct LineObject<'s, 'n> {
+    number: u64,
+    entry: Option<Step>,
+    // Of a frame the line in which `hsms show` shows it, of a line that carries no entry its text.
+    shown: &'s str,
+    // Whether its frame has a text.
+    has_text: bool,
+    notes: &'n [Note],
+    utc: bool,
+}
+
+impl Described for LineObject<'_, '_> {}
+
+impl Serialize for LineObject<'_, '_> {
+    fn serialize<S: Serializer>(&self, out: &mut S) -> Result<(), S::Error> {
+        out.begin_map(None)?;
+        send_text(out, "type", "line")?;
+        send_number(out, "line", self.number)?;
+        match self.entry {
+            Some(step) => self.send_entry(out, step)?,
+            None => send_text(out, "text", self.shown)?,
+        }
+        send_notes(out, self.notes, self.utc)?;
+        out.end_map()
+    }
+}
+
+impl LineObject<'_, '_> {
+    fn send_entry<S: Serializer>(&self, out: &mut S, step: Step) -> Result<(), S::Error> {
+        let Step { time, what } = step;
+        send_time(out, time, self.utc)?;
+        match what {
+            What::Frame(mark, header) => self.send_frame(out, mark, header),
+            What::Up => send_text(out, "kind", "up"),
+            What::T3(system) => send_expiry(out, system),
+            What::Cut(cause) => send_cut(out, cause),
+            What::Down => send_text(out, "kind", "down"),
+        }
+    }
+
+    // Sends a frame by the words of its line: its kind, session ID and system bytes, and what stands behind them.
+    fn send_frame<S: Serializer>(
+        &self,
+        out: &mut S,
+        mark: Mark,
+        header: Header,
+    ) -> Result<(), S::Error> {
+        send_text(out, "mark", mark_word(mark))?;
+        let mut words = self.shown.splitn(4, ' ');
+        for name in ["kind", "session", "system"] {
+            send_text(out, name, words.next().unwrap_or(""))?;
+        }
+        let rest = words.next().unwrap_or("");
+        match kind(header) {
+            Kind::Primary | Kind::Reply => send_data(out, header, rest),
+            _ => self.send_control(out, header, rest),
+        }
+    }
+
+    fn send_control<S: Serializer>(
+        &self,
+        out: &mut S,
+        header: Header,
+        rest: &str,
+    ) -> Result<(), S::Error> {
+        send_numbers(out, header)?;
+        if !self.has_text {
+            return Ok(());
+        }
+        send_text(out, "octets", rest.rsplit(' ').next().unwrap_or(""))
+    }
+}
+
+fn send_text<S: Serializer>(out: &mut S, name: &str, text: &str) -> Result<(), S::Error> {
+    out.key(name)?;
+    out.str(text)
+}
+
+fn send_number<S: Serializer>(out: &mut S, name: &str, number: u64) -> Result<(), S::Error> {
+    out.key(name)?;
+    out.u64(number)
+}
+
+// Sends the time of an entry, and with `utc` its date.
+fn send_time<S: Serializer>(out: &mut S, time: u64, utc: bool) -> Result<(), S::Error> {
+    send_number(out, "time", time)?;
+    match (Moment { time, utc }).date() {
+        Some(date) => {
+            out.key("utc")?;
+            out.collect_str(&date)
+        }
+        None => Ok(()),
+    }
+}
+
+fn send_expiry<S: Serializer>(out: &mut S, system: u32) -> Result<(), S::Error> {
+    send_text(out, "kind", "t3")?;
+    out.key("system")?;
+    out.collect_str(&System { system })
+}
+
+fn send_cut<S: Serializer>(out: &mut S, cause: Cause) -> Result<(), S::Error> {
+    send_text(out, "kind", "cut")?;
+    send_text(out, "cause", word(cause))
+}
+
+// Sends what a data message says behind its system bytes.
+fn send_data<S: Serializer>(out: &mut S, header: Header, notation: &str) -> Result<(), S::Error> {
+    send_number(out, "stream", u64::from(header.stream()))?;
+    send_number(out, "function", u64::from(header.function()))?;
+    out.key("wait")?;
+    out.bool(header.wait())?;
+    send_text(out, "notation", notation)
+}
+
+// Sends the numbers of a control message.
+fn send_numbers<S: Serializer>(out: &mut S, header: Header) -> Result<(), S::Error> {
+    match kind(header) {
+        Kind::SelectRsp => send_number(out, "status", u64::from(header.byte3)),
+        Kind::Reject => {
+            send_number(out, "rejected", u64::from(header.byte2))?;
+            send_number(out, "reason", u64::from(header.byte3))
+        }
+        Kind::OtherSType => send_number(out, "stype", u64::from(header.stype)),
+        Kind::OtherPType => send_number(out, "ptype", u64::from(header.ptype)),
+        _ => Ok(()),
+    }
+}
+
+// Sends what a line closes, and its failures, if there are any.
+fn send_notes<S: Serializer>(out: &mut S, notes: &[Note], utc: bool) -> Result<(), S::Error> {
+    let mut fails = false;
+    for note in notes {
+        match note {
+            Note::Closes(closing) => send_closing(out, *closing)?,
+            Note::Fails(_) | Note::FailsAlike(_) => fails = true,
+        }
+    }
+    if !fails {
+        return Ok(());
+    }
+    out.key("failures")?;
+    Failures { notes, utc }.serialize(out)
+}
+
+fn send_closing<S: Serializer>(out: &mut S, closing: Closing) -> Result<(), S::Error> {
+    let Closing { tie, line, after } = closing;
+    send_number(out, word_of(tie), line)?;
+    send_number(out, "after", after)
+}
+
+// System bytes, as a log has them.
+#[derive(Clone, Copy)]
+struct System {
+    system: u32,
+}
+
+impl fmt::Display for System {
+    fn fmt<W: fmt::Write>(&self, f: &mut fmt::Formatter<W>) -> fmt::Result {
+        let system = self.system;
+        write!(f, "{system:08x}")
+    }
 }
 
 // The failures among the notes of a line.
@@ -144,10 +265,12 @@ impl FailureObject {
             rule: name_of(failing.why),
             sentence: Some(failing.sentence),
             concerns: failing.concerns,
-            expected: failing.expected.map(Words),
+            expected: failing.expected.map(Words::new),
             expected_line: failing.expected.and_then(Expected::line),
-            remedy: failing.remedy.map(|remedy| Words(GoingOn { remedy, utc })),
-            put: failing.remedy.and_then(Put::of).map(Words),
+            remedy: failing
+                .remedy
+                .map(|remedy| Words::new(GoingOn { remedy, utc })),
+            put: failing.remedy.and_then(Put::of).map(Words::new),
             like: None,
             times: None,
         }
@@ -221,158 +344,6 @@ struct PrimariesObject {
     line: Option<u64>,
 }
 
-impl<'a> LineObject<'a> {
-    // A line of which only the number is told.
-    fn new(line: u64) -> LineObject<'a> {
-        LineObject {
-            line,
-            time: None,
-            utc: None,
-            mark: None,
-            kind: None,
-            session: None,
-            system: None,
-            stream: None,
-            function: None,
-            wait: None,
-            status: None,
-            rejected: None,
-            reason: None,
-            stype: None,
-            ptype: None,
-            octets: None,
-            notation: None,
-            cause: None,
-            text: None,
-            answers: None,
-            rejects: None,
-            expires: None,
-            after: None,
-            failures: None,
-        }
-    }
-
-    // With what is noted of it.
-    fn with_notes(self, notes: &'a [Note], utc: bool) -> LineObject<'a> {
-        let mut object = self;
-        for note in notes {
-            match note {
-                Note::Closes(closing) => object = object.with_closing(*closing),
-                Note::Fails(_) | Note::FailsAlike(_) => {
-                    object.failures = Some(Failures { notes, utc })
-                }
-            }
-        }
-        object
-    }
-
-    fn with_closing(self, closing: Closing) -> LineObject<'a> {
-        let Closing { tie, line, after } = closing;
-        let after = Some(after);
-        match tie {
-            Tie::Answers => LineObject {
-                answers: Some(line),
-                after,
-                ..self
-            },
-            Tie::Rejects => LineObject {
-                rejects: Some(line),
-                after,
-                ..self
-            },
-            Tie::Expires => LineObject {
-                expires: Some(line),
-                after,
-                ..self
-            },
-        }
-    }
-
-    // With the time of an entry.
-    fn with_time(self, time: u64, utc: bool) -> LineObject<'a> {
-        LineObject {
-            time: Some(time),
-            utc: Moment { time, utc }.date().map(Words),
-            ..self
-        }
-    }
-
-    // With a frame, as `hsms show` shows it: its kind, session ID and system bytes, and what stands behind them.
-    fn with_frame(
-        self,
-        mark: Mark,
-        header: Header,
-        shown: &'a str,
-        has_text: bool,
-    ) -> LineObject<'a> {
-        let mut words = shown.splitn(4, ' ');
-        let framed = LineObject {
-            mark: Some(mark_word(mark)),
-            kind: words.next(),
-            session: words.next(),
-            system: words.next(),
-            ..self
-        };
-        match words.next() {
-            Some(rest) => framed.with_message(header, rest, has_text),
-            None => framed,
-        }
-    }
-
-    // With what a message says behind its system bytes.
-    fn with_message(self, header: Header, rest: &'a str, has_text: bool) -> LineObject<'a> {
-        match kind(header) {
-            Kind::Primary | Kind::Reply => LineObject {
-                stream: Some(header.stream()),
-                function: Some(header.function()),
-                wait: Some(header.wait()),
-                notation: Some(rest),
-                ..self
-            },
-            _ => {
-                let object = self.with_control(header);
-                LineObject {
-                    octets: if has_text {
-                        rest.rsplit(' ').next()
-                    } else {
-                        None
-                    },
-                    ..object
-                }
-            }
-        }
-    }
-
-    // With the numbers of a control message.
-    fn with_control(self, header: Header) -> LineObject<'a> {
-        match kind(header) {
-            Kind::SelectRsp => LineObject {
-                status: Some(header.byte3),
-                ..self
-            },
-            Kind::Reject => LineObject {
-                rejected: Some(header.byte2),
-                reason: Some(header.byte3),
-                ..self
-            },
-            Kind::OtherSType => LineObject {
-                stype: Some(header.stype),
-                ..self
-            },
-            Kind::OtherPType => LineObject {
-                ptype: Some(header.ptype),
-                ..self
-            },
-            Kind::Primary
-            | Kind::Reply
-            | Kind::SelectReq
-            | Kind::LinktestReq
-            | Kind::LinktestRsp
-            | Kind::Separate => self,
-        }
-    }
-}
-
 fn mark_word(mark: Mark) -> &'static str {
     match mark {
         Mark::Sent => ">",
@@ -382,7 +353,7 @@ fn mark_word(mark: Mark) -> &'static str {
 }
 
 // Writes an object in a line.
-fn write(alloc: Global, page: &mut Page, object: &Object<'_>) -> Result<(), AllocError> {
+fn write<T: Serialize>(alloc: Global, page: &mut Page, object: &T) -> Result<(), AllocError> {
     match serde_json::to_vec(alloc, object) {
         Ok(octets) => {
             page.lay(&octets);
@@ -393,7 +364,8 @@ fn write(alloc: Global, page: &mut Page, object: &Object<'_>) -> Result<(), Allo
     }
 }
 
-/// Writes a line of the log and its notes: with `utc` the date of its time besides.
+/// Writes a line of the log and its notes: with `utc` the date of its time besides. What isn't UTF-8 in a line that
+/// carries no entry is replaced by U+FFFD.
 pub fn write_line(
     alloc: Global,
     page: &mut Page,
@@ -401,88 +373,31 @@ pub fn write_line(
     notes: &[Note],
     utc: bool,
 ) -> Result<(), AllocError> {
-    let bare = LineObject::new(told.number).with_notes(notes, utc);
-    match told.carried {
-        Carried::Entry(step, text) => {
-            write_entry(alloc, page, bare.with_time(step.time, utc), step, text)
+    let (entry, has_text) = match told.carried {
+        Carried::Entry(step, text) => (Some(step), !text.is_empty()),
+        Carried::Nothing | Carried::Unreadable => (None, false),
+    };
+    let shown = shown(alloc, page, told)?;
+    let object = LineObject {
+        number: told.number,
+        entry,
+        shown: shown.as_str(),
+        has_text,
+        notes,
+        utc,
+    };
+    write(alloc, page, &object)
+}
+
+// The line in which `hsms show` shows a frame, without its end, and of another line its octets.
+fn shown(alloc: Global, page: &mut Page, told: Told<'_, '_>) -> Result<String, AllocError> {
+    if let Carried::Entry(step, text) = told.carried {
+        if let What::Frame(_, header) = step.what {
+            let line = page.message(header, text, GREATEST_DEPTH)?;
+            return String::from_utf8_lossy(alloc, line.trim_ascii_end());
         }
-        Carried::Nothing | Carried::Unreadable => write_plain(alloc, page, bare, told.shown()),
     }
-}
-
-// Writes a line that carries no entry, with its text. What isn't UTF-8 in it is replaced by U+FFFD.
-fn write_plain(
-    alloc: Global,
-    page: &mut Page,
-    bare: LineObject<'_>,
-    octets: &[u8],
-) -> Result<(), AllocError> {
-    let text = String::from_utf8_lossy(alloc, octets)?;
-    let object = LineObject {
-        text: Some(text.as_str()),
-        ..bare
-    };
-    write(alloc, page, &Object::Line(object))
-}
-
-fn write_entry(
-    alloc: Global,
-    page: &mut Page,
-    bare: LineObject<'_>,
-    step: Step,
-    text: &[u8],
-) -> Result<(), AllocError> {
-    match step.what {
-        What::Frame(mark, header) => write_frame(alloc, page, bare, mark, header, text),
-        What::T3(system) => write_expiry(alloc, page, bare, system),
-        What::Up => write_word(alloc, page, bare, "up", None),
-        What::Cut(cause) => write_word(alloc, page, bare, "cut", Some(word(cause))),
-        What::Down => write_word(alloc, page, bare, "down", None),
-    }
-}
-
-fn write_frame(
-    alloc: Global,
-    page: &mut Page,
-    bare: LineObject<'_>,
-    mark: Mark,
-    header: Header,
-    text: &[u8],
-) -> Result<(), AllocError> {
-    let octets = page.message(header, text, GREATEST_DEPTH)?;
-    let shown = String::from_utf8_lossy(alloc, octets)?;
-    let object = bare.with_frame(mark, header, shown.trim_end(), !text.is_empty());
-    write(alloc, page, &Object::Line(object))
-}
-
-fn write_expiry(
-    alloc: Global,
-    page: &mut Page,
-    bare: LineObject<'_>,
-    system: u32,
-) -> Result<(), AllocError> {
-    let system = format!(in alloc; "{system:08x}")?;
-    let object = LineObject {
-        kind: Some("t3"),
-        system: Some(system.as_str()),
-        ..bare
-    };
-    write(alloc, page, &Object::Line(object))
-}
-
-fn write_word(
-    alloc: Global,
-    page: &mut Page,
-    bare: LineObject<'_>,
-    kind: &'static str,
-    cause: Option<&'static str>,
-) -> Result<(), AllocError> {
-    let object = LineObject {
-        kind: Some(kind),
-        cause,
-        ..bare
-    };
-    write(alloc, page, &Object::Line(object))
+    String::from_utf8_lossy(alloc, told.shown())
 }
 
 /// Writes that lines are left out.
@@ -497,7 +412,7 @@ pub fn write_unjudged(
     page: &mut Page,
     unjudged: Unjudged,
 ) -> Result<(), AllocError> {
-    let text = Words(unjudged);
+    let text = Words::new(unjudged);
     write(alloc, page, &Object::Unjudged { text })
 }
 

@@ -17,7 +17,8 @@ pub enum Tie {
     Expires,
 }
 
-fn word_of(tie: Tie) -> &'static str
+/// The word for it.
+pub fn word_of(tie: Tie) -> &'static str
     ensures { result.now ≡ tie_word tie }
 {
     match tie {
