@@ -1,11 +1,12 @@
 #!/usr/bin/env python3
-"""Compares what `hsms explain` tells, of all lines and of an excerpt, as text and as JSON, with a second reading, the page
-of HTML with the text, its last line with what `hsms audit` tells, and the words of each rule with `hsms audit --help`.
+"""Compares what `hsms explain` tells, of all lines and of an excerpt, as text and as JSON, with a second reading, the
+page of HTML with the text, its last line with what `hsms audit` tells, and the words of each rule with `hsms audit
+--help`.
 
 Use: tests/explained.py [LOGS] [SEED]. LOGS is the number of random logs, 500 if left out, each also with some of its
 lines several times; those of examples/, the logs at edges and corners and some with markup come besides. SEED is 1 if
-left out. It runs what `rt ci` has built. The shortest log that is told otherwise is written in hexadecimal. The last line
-is `N passed, M failed`.
+left out. It runs what `rt ci` has built. The shortest log that is told otherwise is written in hexadecimal. The last
+line is `N passed, M failed`.
 """
 import glob
 import json

@@ -164,11 +164,25 @@ def line_of(row: Node) -> Line:
     if folded:
         mark = {"sent": "> ", "taken": "< ", "lost": "! "}[row.classes()[1]]
         words = [mark + folded[0].one("pre").text()]
+    for link in row.all("a"):
+        check_link(link, number)
     closings = [node.text() for node in row.all("p", "at") if node.text() != AHEAD]
     failures = [[it.text() for it in node.all("p")] for node in row.all("div", "f")]
     if ("bad" in row.classes()) != bool(failures) or len(times) > 1 or len(words) != 1:
         raise Fault(f"row {number}: {row.classes()}, {times}, {words}, {failures}")
     return Line(int(number), times[0] if times else "", words[0], closings, failures)
+
+
+def check_link(link: Node, number: Optional[str] = None):
+    """The words of a link name the line that it leads to, or that is closed there; those ahead are of their own line."""
+    target, own = link.attributes.get("href", ""), link.attributes.get("id", "")
+    names = re.findall(r"[0-9]+", link.text())
+    if link.text() == AHEAD:
+        is_right = (target, own) == (f"#r{number}", "")
+    else:
+        is_right = target in ("", *(f"#l{name}" for name in names)) and own in ("", *(f"r{name}" for name in names))
+    if not is_right:
+        raise Fault(f"{link.text()} leads to {target}, and is {own}")
 
 
 def check_links(nodes: List[Node]):
@@ -193,11 +207,12 @@ def check_lines(main: Node, told: Told):
 
 
 def check_groups(section: Node, told: Told):
-    """Each group begins at a line that fails so, each rest is of one, and so is each failure of a log that is judged."""
+    """Each group begins at a line that fails so, each rest is of one, and each failure where the log is judged."""
     failing = {(line.number, it[0].split(":")[0][5:]) for line in told.lines if line for it in line.failures}
     groups = {}
     for item in section.all("li"):
         match = re.match(r"(\w+) line (\d+): .*?(?:; (\d+) more like it, up to line (\d+))?\Z", item.text())
+        check_link(item.one("a"))
         rule, first, more, last = match[1], int(match[2]), int(match[3] or 0), int(match[4] or match[2])
         if (first, rule) not in failing or (last, rule) not in failing and more < 3:
             raise Fault(f"group {item.text()}")
