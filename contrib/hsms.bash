@@ -4,7 +4,7 @@ _hsms() {
   local word=${COMP_WORDS[COMP_CWORD]} before=${COMP_WORDS[COMP_CWORD - 1]} words
   case $before in
     --only) mapfile -t COMPREPLY < <(compgen -W 'failures' -- "$word") && return ;;
-    --form) mapfile -t COMPREPLY < <(compgen -W 'text json' -- "$word") && return ;;
+    --form) mapfile -t COMPREPLY < <(compgen -W 'text json html' -- "$word") && return ;;
     --around | --from | --to) return ;;
     --max | --depth | --device | --system | --first-system | --turns | --port | --t[35678] | --connections | --linktest) return ;;
     --address | --mdln | --softrev) return ;;

@@ -91,6 +91,7 @@ EXAMPLES = [
     (["explain"], "examples/late-reply.log"),
     (["explain", "--utc"], "examples/late-reply.log"),
     (["explain", "--form", "json"], "examples/late-reply.log"),
+    (["explain", "--form", "html"], "examples/late-reply.log"),
     (["capture", "--t3", "1000"], "examples/late-reply.pcap"),
     (["capture", "--log", "equipment"], "examples/late-reply.pcap"),
     (["capture", "--help"], "examples/select.bin"),
