@@ -4,6 +4,7 @@ _hsms() {
   local word=${COMP_WORDS[COMP_CWORD]} before=${COMP_WORDS[COMP_CWORD - 1]} words
   case $before in
     --only) mapfile -t COMPREPLY < <(compgen -W 'failures' -- "$word") && return ;;
+    --form) mapfile -t COMPREPLY < <(compgen -W 'text json html' -- "$word") && return ;;
     --around | --from | --to) return ;;
     --max | --depth | --device | --system | --first-system | --turns | --port | --t[35678] | --connections | --linktest) return ;;
     --address | --mdln | --softrev) return ;;
@@ -17,7 +18,7 @@ _hsms() {
       show) words='--max --depth --hex --bare --help' ;;
       encode) words='--device --system --max --depth --hex --help' ;;
       audit) words='--help' ;;
-      explain) words='--only --around --from --to --help' ;;
+      explain) words='--only --around --from --to --form --utc --help' ;;
       capture) words='--port --active --log --device --t3 --t6 --t7 --t8 --max --depth --help' ;;
       serve)
         words='--role --link --address --port --device --t3 --t6 --t7 --t8 --linktest --max --depth --first-system'

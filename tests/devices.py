@@ -34,6 +34,8 @@ SMALL = [
     (["audit"], "examples/session.log"),
     (["audit"], "examples/late-reply.log"),
     (["explain"], "examples/late-reply.log"),
+    (["explain", "--utc"], "examples/late-reply.log"),
+    (["explain", "--form", "json"], "examples/late-reply.log"),
     (["capture", "--t3", "1000"], "examples/late-reply.pcap"),
     (["capture", "--log", "equipment"], "examples/late-reply.pcap"),
     (["show"], "examples/cut-off.bin"),

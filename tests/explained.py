@@ -1,12 +1,15 @@
 #!/usr/bin/env python3
-"""Compares what `hsms explain` tells, of all lines and of an excerpt, with a second reading, its last line with what
-`hsms audit` tells, and the words of each rule with `hsms audit --help`.
+"""Compares what `hsms explain` tells, of all lines and of an excerpt, as text and as JSON, with a second reading, the
+page of HTML with the text, its last line with what `hsms audit` tells, and the words of each rule with `hsms audit
+--help`.
 
 Use: tests/explained.py [LOGS] [SEED]. LOGS is the number of random logs, 500 if left out, each also with some of its
-lines several times; those of examples/ and the logs at edges and corners come besides. SEED is 1 if left out. It runs what `rt ci` has built. The shortest log that is
-told otherwise is written in hexadecimal. The last line is `N passed, M failed`.
+lines several times; those of examples/, the logs at edges and corners and some with markup come besides. SEED is 1 if
+left out. It runs what `rt ci` has built. The shortest log that is told otherwise is written in hexadecimal. The last
+line is `N passed, M failed`.
 """
 import glob
+import json
 import sys
 import zlib
 from concurrent.futures import ThreadPoolExecutor
@@ -16,6 +19,7 @@ from typing import List, Optional
 sys.dont_write_bytecode = True
 
 from command import LONGEST_SHOWN, TOP, answer_of
+import pages
 from second_reading import corners, explaining, walks
 from second_reading.explaining import WHOLE, Excerpt
 from second_reading.inputs import Chance
@@ -63,6 +67,21 @@ def many_kinds() -> bytes:
     return EMPTY + b"".join(lines)
 
 
+def markup() -> List[bytes]:
+    """Logs whose lines would be markup in a page, or end it, or have a meaning of their own there."""
+    words = [b"<script>alert(1)</script>", b"</pre></details></div></main><h1>", b"<!-- ", b"-->", b"<![CDATA["]
+    words += [b"</style>", b"\"><img src=x onerror='alert(1)'>", b"&lt;b&gt; &amp; &#60; &copy &", b"' \" ` < > & \\ ="]
+    words += [b"<?xml ?>", b"\xe6\x97\xa5\xe6\x9c\xac <b>", b"\x80\xff<\xc3", b"\xef\xbf\xbe\xc2\x85\xe2\x80\xae<i>"]
+    words += [b"\x00\x01<\x1b[31m\x7f\t|"]
+    items = [b"%04x" % (0x4100 + len(it)) + it.hex().encode() for it in words]
+    frames = [b"%d > 00008b01%04x%08x%s\n" % (at, 0, at + 2, it) for at, it in enumerate(items)]
+    comments = [b"# %s\n" % it for it in words]
+    lines = b"".join(it for both in zip(comments, frames) for it in both)
+    selected = b"0 up\n0 > ffff0000000100000001\n0 < ffff0000000200000001\n"
+    unreadable = b"".join(b"%s\n" % it for it in words)
+    return [EMPTY + selected + lines, EMPTY + unreadable, unreadable, *words, EMPTY + lines + unreadable]
+
+
 def excerpt_of(log: bytes) -> Excerpt:
     """An excerpt, drawn by the log: mostly of failures, and within some of its lines."""
     chance = Chance(f"excerpt {zlib.crc32(log)}")
@@ -70,20 +89,34 @@ def excerpt_of(log: bytes) -> Excerpt:
     around = chance.one(0, 1, 2, 5) if chance.happens(0.75) else None
     first = chance.randint(1, lines) if chance.happens(0.5) else 1
     last = chance.randint(1, lines) if chance.happens(0.5) else None
-    return Excerpt(around, first, last)
+    return Excerpt(around, first, last, chance.happens(0.5))
 
 
 def difference(log: bytes) -> Optional[str]:
     """What is told of a log and what it should be, where they differ."""
     audited = answer_of(["audit"], log)
     for excerpt in (WHOLE, excerpt_of(log)):
-        words = ["explain", *excerpt.words()] if excerpt != WHOLE else ["explain"]
-        told, wanted = answer_of(words, log), explaining.explain(log, excerpt)
-        is_same = (told.status, told.error, told.output) == (audited.status, b"", wanted)
-        if not (is_same and wanted.endswith(audited.output)):
-            shown = f"log: {log[:LONGEST_SHOWN].hex()}\nsecond reading: {wanted.decode('latin-1')}"
-            return f"{' '.join(words)}\n{shown}\ncommand: {told}\naudit: {audited}"
+        words, wanted = ["explain", *excerpt.words()], explaining.explain(log, excerpt)
+        told = answer_of(words, log)
+        in_json, in_html = (answer_of([*words, "--form", form], log) for form in ("json", "html"))
+        are_answers = all((it.status, it.error) == (audited.status, b"") for it in (told, in_json, in_html))
+        is_text = told.output == wanted.text and wanted.text.endswith(audited.output)
+        if not (are_answers and is_text and objects_of(in_json.output) == [list(it.items()) for it in wanted.objects]):
+            shown = f"log: {log[:LONGEST_SHOWN].hex()}\nsecond reading: {wanted}"
+            return f"{' '.join(words)}\n{shown}\ncommand: {told}\nin JSON: {in_json}\naudit: {audited}"
+        fault = pages.fault_of(in_html.output, told.output, excerpt.is_utc)
+        if fault:
+            return f"{' '.join(words)} --form html\nlog: {log[:LONGEST_SHOWN].hex()}\n{fault}\npage: {in_html}"
     return None
+
+
+def objects_of(output: bytes) -> Optional[List[object]]:
+    """The members of the objects of JSON, in their order, where each line is one."""
+    lines = output.decode().split("\n")
+    try:
+        return [list(json.loads(line).items()) for line in lines[:-1]] if lines[-1] == "" else None
+    except ValueError:
+        return None
 
 
 def help_of_rules() -> Optional[str]:
@@ -96,7 +129,7 @@ def help_of_rules() -> Optional[str]:
 def main() -> int:
     count, seed = int(sys.argv[1]) if len(sys.argv) > 1 else 500, sys.argv[2] if len(sys.argv) > 2 else "1"
     random = [walks.random_log(Chance(f"{seed} explain {number}")) for number in range(count)]
-    logs = [*example_logs(), *walks.logs_at_edges(), *corners.logs(), *random]
+    logs = [*example_logs(), *walks.logs_at_edges(), *corners.logs(), *markup(), *random]
     logs += [many_sorts(), many_kinds(), *(repeated(log) for log in random + example_logs())]
     with ThreadPoolExecutor(WORKERS) as pool:
         differences = [(len(log), told) for log, told in zip(logs, pool.map(difference, logs)) if told]

@@ -91,6 +91,20 @@ LATE_TOLD = b"""\
             goes on as if `45010 t3 00000002` stood before it
 """
 
+# The same in JSON.
+LATE_OBJECTS = b"""\
+{"type":"line","line":1,"text":"hsms-log 1 host active 0 45000 6000 10000 5000 1048576 32"}
+{"type":"line","line":2,"time":0,"kind":"up"}
+{"type":"line","line":3,"time":0,"mark":">","kind":"select.req","session":"ffff","system":"00000001"}
+{"type":"line","line":4,"time":5,"mark":"<","kind":"select.rsp","session":"ffff","system":"00000001","status":0,\
+"answers":3,"after":5}
+{"type":"line","line":5,"time":10,"mark":">","kind":"data","session":"0000","system":"00000002",\
+"stream":1,"function":1,"wait":true,"notation":"S1F1 W ."}
+{"type":"line","line":6,"time":46000,"kind":"down",\
+"failures":[{"rule":"T3Overdue","sentence":"a reply is overdue, and no `t3` says so","concerns":5,\
+"remedy":"goes on as if `45010 t3 00000002` stood before it","put":"45010 t3 00000002"}]}
+"""
+
 # A connection of a capture that goes on, and the verdicts on it; and the log of its host.
 ENDS = ("10.0.0.1:40000 10.0.0.2:5000 host active: ", "10.0.0.1:40000 10.0.0.2:5000 equipment passive: ")
 OVER = "".join(f"{end}pass entries=4 sent=1 taken=1 discarded=0 expired=0 waiting=0\n" for end in ENDS).encode()
@@ -182,6 +196,9 @@ def main():
     answers += [(shown_while_open(MESSAGES + rest, len(LINES)), LINES) for rest in (b"", MESSAGES[:17])]
     told_late = [shown_while_open(LATE + rest, len(LATE_TOLD), command="explain") for rest in (b"", b"46001 up")]
     answers += [(told, LATE_TOLD) for told in told_late]
+    for rest in (b"", b"46001 up"):
+        told = shown_while_open(LATE + rest, len(LATE_OBJECTS), "--form", "json", command="explain")
+        answers.append((told, LATE_OBJECTS))
     for form in ("pcap<", "pcapng>"):
         capture, packet = capture_of(form)
         for rest in (b"", packet[:10], packet[:-1]):

@@ -56,9 +56,11 @@ def cases_of_words():
     yield Case(["audit", "--max"], 2, "command line", ["unexpected argument '--max' found. Usage: hsms audit [OPTIONS] < LOG"])
     yield Case(["show", "--max", "1"], 2, "command line", [value])
     own = "--role, --active and --log are host or equipment, --link is active or passive, --only is failures, "
-    own += "and --bare goes with --hex alone"
+    own += "--form is text, json or html, and --bare goes with --hex alone"
     yield Case(["show", "--bare"], 2, "command line", [own])
     yield Case(["explain", "--only", "all"], 2, "command line", [own])
+    for form in ("xml", "HTML", "JSON", ""):
+        yield Case(["explain", "--form", form], 2, "command line", [own])
     for option in ("--active", "--log"):
         yield Case(["capture", option, "both"], 2, "command line", [own])
     port = "invalid value '0' for '--port <N>': 0 is not in 1..=65535"

@@ -3,7 +3,9 @@
 The open transactions and the rules are those of `session`, read off the whole list of the entries that the log is gone
 on with. The text is this project's own.
 """
-from typing import Dict, List, NamedTuple, Optional, Set, Tuple
+import re
+from datetime import datetime, timedelta, timezone
+from typing import Any, Dict, List, NamedTuple, Optional, Set, Tuple, Union
 
 from second_reading import items, messages, session
 from second_reading.items import Fault
@@ -23,8 +25,18 @@ GROUPS = 256
 # How many kinds of primaries are told of apart.
 KINDS = 64
 
-# What stands in place of lines that are left out.
-GAP = b"       ..\n"
+# What is told in place of lines that are left out.
+DOTS = b"       ..\n"
+
+# The first moment of 1970, and the last one that is told as a date, in ms since then.
+EPOCH = datetime(1970, 1, 1, tzinfo=timezone.utc)
+LAST_DATE = 253402207200999
+
+# The line that words of what was expected name.
+LINE_NAMED = re.compile(r"\bline (\d+)")
+
+# What is told of a line in JSON, or of something else.
+Object = Dict[str, Any]
 
 SENTENCES = {
     "unreadable": "it can't be read",
@@ -69,9 +81,12 @@ def fault_of(text: bytes, depth: int) -> Optional[Fault]:
     return None
 
 
-def plain(number: int, line: bytes, limit: int) -> bytes:
-    """A line as it is, up to the greatest length of a line."""
-    return b"%6d         %s\n" % (number, line[:limit])
+def date_of(time: int) -> Optional[str]:
+    """The date of a time in ms, in UTC, where there is one."""
+    if time > LAST_DATE:
+        return None
+    date = EPOCH + timedelta(milliseconds=time)
+    return date.isoformat(timespec="milliseconds").replace("+00:00", "Z")
 
 
 def words_of(entry: Entry) -> str:
@@ -128,7 +143,7 @@ def remedy_of(before: Before, entry: Entry, rule: str) -> Remedy:
     return None, None
 
 
-def remedy_words(entry: Entry, remedy: Remedy) -> str:
+def remedy_words(entry: Entry, remedy: Remedy, is_utc: bool) -> str:
     other, first = remedy
     if other is None:
         return "goes on without it"
@@ -136,22 +151,87 @@ def remedy_words(entry: Entry, remedy: Remedy) -> str:
         return f"goes on as if `{words_of(first)}` stood before it"
     if other.event != entry.event:
         return "goes on as if it were thrown away"
-    return f"goes on as if its time were {other.time}"
+    return f"goes on as if its time were {date_of(other.time) if is_utc and date_of(other.time) else other.time}"
 
 
 class Note:
-    """What is told below a line; of a failure also its rule, and what is alike in such failures."""
+    """What is told below a line, in words and in JSON; of a failure also its rule, and what is alike in such failures."""
 
-    def __init__(self, words: str, rule: Optional[str] = None, sort: Sort = ()):
-        self.words, self.rule, self.sort = [below(words)], rule, sort
+    def __init__(self, words: str, members: Object, rule: Optional[str] = None, sort: Sort = ()):
+        self.words, self.members, self.rule, self.sort = [below(words)], members, rule, sort
+
+
+class Alike:
+    """Failures of a line one behind another that are told by the same line."""
+
+    def __init__(self, rule: str, line: int):
+        self.rule, self.line, self.times = rule, line, 1
+
+    @property
+    def words(self) -> List[bytes]:
+        times = f", {self.times} times" if self.times > 1 else ""
+        return [below(f"FAIL {self.rule}: like line {self.line}{times}")]
+
+    @property
+    def members(self) -> Object:
+        return {"rule": self.rule, "like": self.line, "times": self.times}
 
 
 class Line:
-    """A line of the log: its number, what it says, and what is told below it."""
+    """A line of the log: its number, what it says, in words and in JSON, and what is told below it."""
 
-    def __init__(self, number: int, said: bytes):
-        self.number, self.said = number, said
-        self.notes: List[Note] = []
+    def __init__(self, number: int, entry: Optional[Entry], said: bytes, is_utc: bool):
+        date = date_of(entry.time) if entry and is_utc else None
+        time = (date or str(entry.time)) if entry else ""
+        self.number, self.notes = number, []
+        self.said = b"%6d %*s %s\n" % (number, 24 if is_utc else 7, time.encode(), said)
+        self.members: Object = {"type": "line", "line": number}
+        if entry is None:
+            self.members["text"] = said.decode(errors="replace")
+        else:
+            self.members["time"] = entry.time
+            self.members.update({"utc": date} if date else {}, **members_of(entry))
+
+    def text(self, told: List[Union[Note, Alike]]) -> bytes:
+        return self.said + b"".join(words for note in told for words in note.words)
+
+    def object(self, told: List[Union[Note, Alike]]) -> Object:
+        failures = [note.members for note in told if isinstance(note, Alike) or note.rule]
+        closings = {name: value for note in told if isinstance(note, Note) and not note.rule for name, value in note.members.items()}
+        return {**self.members, **closings, **({"failures": failures} if failures else {})}
+
+
+def members_of(entry: Entry) -> Object:
+    """An entry in JSON, but for its time."""
+    frame = entry.frame
+    if frame is None:
+        others = {"t3": {"system": f"{entry.system:08x}"}, "cut": {"cause": entry.cause}}
+        return {"kind": entry.event, **others.get(entry.event, {})}
+    is_data = frame.kind in ("primary", "reply")
+    members = {"mark": entry.event, "kind": "data" if is_data else frame.kind}
+    members.update(session=f"{frame.session:04x}", system=f"{frame.system:08x}")
+    if is_data:
+        shown = messages.shown(frame, DEEPEST).split(" ", 3)[3]
+        return {**members, "stream": frame.stream, "function": frame.function, "wait": frame.wait, "notation": shown}
+    numbers = {
+        "select.rsp": {"status": frame.byte3},
+        "reject": {"rejected": frame.byte2, "reason": frame.byte3},
+        "other-stype": {"stype": frame.stype},
+        "other-ptype": {"ptype": frame.ptype},
+    }
+    return {**members, **numbers.get(frame.kind, {}), **({"octets": frame.text.hex()} if frame.text else {})}
+
+
+class Rest(NamedTuple):
+    """How many failures of a group aren't told whole, the line of the first of the group, and that of the last."""
+
+    rule: str
+    count: int
+    like: int
+    last: int
+
+    def text(self) -> bytes:
+        return f"{self.rule}: and {self.count} more like line {self.like}, up to line {self.last}\n".encode()
 
 
 class Group:
@@ -161,11 +241,8 @@ class Group:
         self.rule = rule
         self.lines: List[int] = []
 
-    def rest(self) -> bytes:
-        more = len(self.lines) - TOLD_WHOLE
-        if more <= 0:
-            return b""
-        return f"{self.rule}: and {more} more like line {self.lines[0]}, up to line {self.lines[-1]}\n".encode()
+    def rest(self) -> Rest:
+        return Rest(self.rule, len(self.lines) - TOLD_WHOLE, self.lines[0], self.lines[-1])
 
 
 class Groups:
@@ -182,66 +259,75 @@ class Groups:
         lines.append(number)
         return lines[0] if len(lines) > TOLD_WHOLE else None
 
-    def told(self, line: Line) -> Tuple[bytes, bool]:
-        """What is told of a line, and whether a failure is told whole."""
-        told, is_whole, alike = [line.said], False, []
+    def told(self, line: Line) -> List[Union[Note, Alike]]:
+        """What is told below a line."""
+        told: List[Union[Note, Alike]] = []
         for note in line.notes:
             like = self.like(note, line.number) if note.rule else None
+            last = told[-1] if told else None
             if like is None:
-                is_whole = is_whole or note.rule is not None
-                told, alike = told + alike_words(alike) + note.words, []
-            elif alike and alike[-1] != (note.rule, like):
-                told, alike = told + alike_words(alike), [(note.rule, like)]
+                told.append(note)
+            elif isinstance(last, Alike) and (last.rule, last.line) == (note.rule, like):
+                last.times += 1
             else:
-                alike.append((note.rule, like))
-        return b"".join(told + alike_words(alike)), is_whole
+                told.append(Alike(note.rule, like))
+        return told
 
-    def rests(self) -> bytes:
-        return b"".join(group.rest() for group in self.groups.values())
-
-
-def alike_words(alike: List[Tuple[str, int]]) -> List[bytes]:
-    """The line for failures one behind another that are told by the same line."""
-    if not alike:
-        return []
-    rule, line = alike[0]
-    times = f", {len(alike)} times" if len(alike) > 1 else ""
-    return [below(f"FAIL {rule}: like line {line}{times}")]
+    def rests(self) -> List[Rest]:
+        return [group.rest() for group in self.groups.values() if len(group.lines) > TOLD_WHOLE]
 
 
 def below(words: str, indent: int = 7) -> bytes:
     return f"{' ' * indent}{words}\n".encode()
 
 
+class Gap(NamedTuple):
+    """Lines that are left out: the first and the last of them."""
+
+    first: int
+    last: int
+
+
+class Told(NamedTuple):
+    """A line that is told, and what is told below it."""
+
+    line: Line
+    notes: List[Union[Note, Alike]]
+
+
 class Excerpt(NamedTuple):
-    """Which lines are told: with `around` those that fail, with so many before and behind them."""
+    """Which lines are told, with `around` those that fail, with so many before and behind them; and whether their times
+    are told as dates."""
 
     around: Optional[int] = None
     first: int = 1
     last: Optional[int] = None
+    is_utc: bool = False
 
     def words(self) -> List[str]:
         only = [] if self.around is None else ["--only", "failures", "--around", str(self.around)]
+        first = [] if self.first == 1 else ["--from", str(self.first)]
         last = [] if self.last is None else ["--to", str(self.last)]
-        return [*only, "--from", str(self.first), *last]
+        return [*only, *first, *last, *(["--utc"] if self.is_utc else [])]
 
     def has(self, number: int) -> bool:
         return number >= self.first and (self.last is None or number <= self.last)
 
-    def shown(self, lines: List[Line]) -> Tuple[bytes, bytes]:
-        """The lines that are told, and what is told of failures that aren't told whole. Two dots stand in place of lines
-        between those that are told, before and behind them."""
+    def shown(self, lines: List[Line]) -> Tuple[List[Union[Told, Gap]], List[Rest]]:
+        """The lines that are told, with the gaps between them, before and behind them, and the failures that aren't told
+        whole."""
         groups = Groups()
-        within = {line.number: groups.told(line) for line in lines if self.has(line.number)}
+        within = {line.number: Told(line, groups.told(line)) for line in lines if self.has(line.number)}
         numbers = set(within)
         if self.around is not None:
-            failing = [number for number, (_, is_whole) in within.items() if is_whole]
+            failing = [at for at, told in within.items() if any(isinstance(it, Note) and it.rule for it in told.notes)]
             numbers &= {number for at in failing for number in range(at - self.around, at + self.around + 1)}
-        told, last = [], 0
+        shown: List[Union[Told, Gap]] = []
+        last = 0
         for number in sorted(numbers):
-            told += [GAP] * (number > last + 1) + [within[number][0]]
+            shown += [Gap(last + 1, number - 1)] * (number > last + 1) + [within[number]]
             last = number
-        return b"".join(told + [GAP] * (len(lines) > last)), groups.rests()
+        return shown + [Gap(last + 1, len(lines))] * (len(lines) > last), groups.rests()
 
 
 WHOLE = Excerpt()
@@ -250,8 +336,8 @@ WHOLE = Excerpt()
 class Telling:
     """The log as it is gone on with, each entry with the number of its line, and what is told."""
 
-    def __init__(self, settings: Settings):
-        self.settings = settings
+    def __init__(self, settings: Settings, is_utc: bool):
+        self.settings, self.is_utc = settings, is_utc
         self.entries: List[Entry] = []
         self.places: List[int] = []
         # Of each entry the direction of the frame that opened what it closes.
@@ -266,25 +352,27 @@ class Telling:
         try:
             entry = session.entry_of(line, self.settings)
         except Unreadable:
-            self.lines.append(Line(number, plain(number, line, limit)))
+            self.lines.append(Line(number, None, line[:limit], self.is_utc))
             self.tell_rule("unreadable", SENTENCES["unreadable"], ("unreadable",))
             return
         if entry is None:
-            self.lines.append(Line(number, plain(number, line, limit)))
+            self.lines.append(Line(number, None, line[:limit], self.is_utc))
             return
         words = f"{entry.event} {messages.shown(entry.frame, DEEPEST)}" if entry.frame else None
         shown = words.encode() if words else line.split(b" ", 1)[1]
-        self.lines.append(Line(number, b"%6d %7d %s\n" % (number, entry.time, shown)))
+        self.lines.append(Line(number, entry, shown, self.is_utc))
         self.judged += 1
         self.judge(entry, number)
 
     def tell_rule(self, rule: str, sentence: str, sort: Sort):
         self.failures[rule] = self.failures.get(rule, 0) + 1
-        self.lines[-1].notes.append(Note(f"FAIL {rule}: {sentence}", rule, sort))
+        self.lines[-1].notes.append(Note(f"FAIL {rule}: {sentence}", {"rule": rule, "sentence": sentence}, rule, sort))
 
-    def further(self, words: str):
+    def further(self, words: str, **members: Any):
         """Tells more of the last failure."""
-        self.lines[-1].notes[-1].words.append(below(words, 12))
+        note = self.lines[-1].notes[-1]
+        note.words.append(below(words, 12))
+        note.members.update(members)
 
     def judge(self, entry: Entry, number: int):
         pending = [entry]
@@ -307,7 +395,8 @@ class Telling:
                 self.tell_rule(rule, sentence_of(step, rule), sort_of(step, rule))
                 self.tell_concern(step, rule)
                 self.tell_expected(before, step, rule)
-                self.further(remedy_words(step, remedy))
+                words = remedy_words(step, remedy, self.is_utc)
+                self.further(words, remedy=words, **({"put": words_of(remedy[1])} if remedy[1] else {}))
             pending += [one for one in remedy if one is not None]
 
     def open(self) -> List[int]:
@@ -319,8 +408,8 @@ class Telling:
 
     def tell_closing(self, entry: Entry, opener: int):
         tie = {"answered by": "answers", "rejected by": "rejects", "expired at": "expires"}[self.tie_of(entry)]
-        words = f"{tie} line {self.places[opener]} after {entry.time - self.entries[opener].time} ms"
-        self.lines[-1].notes.append(Note(words))
+        line, after = self.places[opener], entry.time - self.entries[opener].time
+        self.lines[-1].notes.append(Note(f"{tie} line {line} after {after} ms", {tie: line, "after": after}))
 
     @staticmethod
     def tie_of(entry: Entry) -> str:
@@ -347,7 +436,8 @@ class Telling:
     def tell_expected(self, before: Before, entry: Entry, rule: str):
         words = self.expected(before, entry, rule)
         if words:
-            self.further(words)
+            named = LINE_NAMED.search(words)
+            self.further(words, expected=words, **({"expected_line": int(named[1])} if named else {}))
 
     def expected(self, before: Before, entry: Entry, rule: str) -> Optional[str]:
         frame, settings = entry.frame, self.settings
@@ -407,29 +497,32 @@ class Telling:
             is_oldest = rule == "T3Overdue" and opener.event == SENT and opener.frame.is_data
             is_meant = rule == "SystemInUse" and opener.event == entry.event
             if is_oldest or is_meant and opener.frame.system == entry.frame.system:
-                self.further(f"concerns line {self.places[at]}")
+                self.further(f"concerns line {self.places[at]}", concerns=self.places[at])
                 return
 
-    def end(self, rests: bytes) -> bytes:
-        nothing = b"" if self.judged else b"nothing was judged: the log has no entry\n"
-        counts = "".join(f" {rule}={count}" for rule, count in self.failures.items())
-        return nothing + rests + f"failures={sum(self.failures.values())}{counts}\n".encode() + self.outcomes()
-
-    def outcomes(self) -> bytes:
+    def outcomes(self) -> List[Object]:
         """What became of the primaries with W, by direction and function."""
-        kinds: Dict[Tuple[str, str], List[int]] = {}
+        kinds: Dict[Tuple[Optional[Tuple[int, int]], str], List[int]] = {}
         for at, entry in enumerate(self.entries):
             if entry.event in (SENT, TAKEN) and entry.frame.kind == "primary" and entry.frame.wait:
-                kind = (f"S{entry.frame.stream}F{entry.frame.function}", entry.event)
+                kind = ((entry.frame.stream, entry.frame.function), entry.event)
                 if kind not in kinds and len(kinds) >= KINDS:
-                    kind = ("others", entry.event)
+                    kind = (None, entry.event)
                 kinds.setdefault(kind, []).append(at)
         closings = {opener: at for at, opener in enumerate(self.openers) if opener is not None}
         still_open = set(self.open())
-        return b"".join(self.outcome(kind, at, closings, still_open) for kind, at in kinds.items())
+        return [
+            {
+                "type": "primaries",
+                **(dict(zip(("stream", "function"), kind)) if kind else {}),
+                "direction": "sent" if event == SENT else "received",
+                "opened": len(places),
+                **self.outcome(places, closings, still_open),
+            }
+            for (kind, event), places in kinds.items()
+        ]
 
-    def outcome(self, kind: Tuple[str, str], places: List[int], closings: Dict[int, int], still_open: Set[int]) -> bytes:
-        name, event = kind
+    def outcome(self, places: List[int], closings: Dict[int, int], still_open: Set[int]) -> Object:
         counts = dict.fromkeys(("answered", "aborted", "expired", "rejected", "ended", "waiting"), 0)
         times: List[Tuple[int, int]] = []
         for at in places:
@@ -444,15 +537,13 @@ class Telling:
             counts[fate] += 1
             if fate == "answered":
                 times.append((closing.time - self.entries[at].time, self.places[end]))
-        words = "".join(f" {fate}={count}" for fate, count in counts.items() if count)
-        way = "sent" if event == SENT else "received"
-        return f"{name} W {way}={len(places)}{words}{time_words(times)}\n".encode()
+        return {**counts, **times_of(times)}
 
 
-def time_words(times: List[Tuple[int, int]]) -> str:
+def times_of(times: List[Tuple[int, int]]) -> Object:
     """How long replies took, each with its line, in the order of the log."""
     if not times:
-        return ""
+        return {}
     ranked = sorted(time for time, _ in times)
     least, greatest = ranked[0], ranked[-1]
     line = max(line for time, line in times if time == greatest)
@@ -460,7 +551,16 @@ def time_words(times: List[Tuple[int, int]]) -> str:
     median, most = (max(least, rounded(ranked[-(-len(ranked) * share // 100) - 1])) for share in (50, 99))
     if len(ranked) < 100:
         most = greatest
-    return f" least={least} median={median} p99={most} greatest={greatest} line={line}"
+    return {"least": least, "median": median, "p99": most, "greatest": greatest, "line": line}
+
+
+def outcome_text(outcome: Object) -> bytes:
+    """What became of the primaries of a kind, in words."""
+    name = f"S{outcome['stream']}F{outcome['function']}" if "stream" in outcome else "others"
+    fates = ("answered", "aborted", "expired", "rejected", "ended", "waiting")
+    times = ("least", "median", "p99", "greatest", "line")
+    words = [f" {it}={outcome[it]}" for it in fates if outcome[it]] + [f" {it}={outcome[it]}" for it in times if it in outcome]
+    return f"{name} W {outcome['direction']}={outcome['opened']}{''.join(words)}\n".encode()
 
 
 def rounded(time: int) -> int:
@@ -470,24 +570,79 @@ def rounded(time: int) -> int:
     return time >> places << places
 
 
-def unjudged(lines: List[bytes], excerpt: Excerpt) -> bytes:
+class Explained(NamedTuple):
+    """All that is told of a log but the verdict."""
+
+    shown: List[Union[Told, Gap]]
+    # Why nothing was judged, if so.
+    unjudged: Optional[str]
+    rests: List[Rest]
+    # Nothing of these where line 1 can't be read.
+    failures: Optional[Dict[str, int]]
+    outcomes: List[Object]
+
+    def text(self) -> bytes:
+        told = [DOTS if isinstance(it, Gap) else it.line.text(it.notes) for it in self.shown]
+        if self.unjudged:
+            told.append(f"{self.unjudged}\n".encode())
+        told += [rest.text() for rest in self.rests]
+        if self.failures is not None:
+            counts = "".join(f" {rule}={count}" for rule, count in self.failures.items())
+            told.append(f"failures={sum(self.failures.values())}{counts}\n".encode())
+        return b"".join(told + [outcome_text(outcome) for outcome in self.outcomes])
+
+    def objects(self) -> List[Object]:
+        told: List[Object] = []
+        for it in self.shown:
+            told.append({"type": "gap", "from": it.first, "to": it.last} if isinstance(it, Gap) else it.line.object(it.notes))
+        if self.unjudged:
+            told.append({"type": "unjudged", "text": self.unjudged})
+        told += [{"type": "rest", **rest._asdict()} for rest in self.rests]
+        if self.failures is not None:
+            told.append({"type": "failures", "count": sum(self.failures.values()), "rules": self.failures})
+        return told + self.outcomes
+
+
+def unjudged(lines: List[bytes], excerpt: Excerpt) -> Explained:
     """What is told of the lines of a log whose first one can't be read."""
-    told = [Line(number, plain(number, line, session.LONGEST_FIRST_LINE)) for number, line in enumerate(lines, 1)]
+    limit = session.LONGEST_FIRST_LINE
+    told = [Line(number, None, line[:limit], excerpt.is_utc) for number, line in enumerate(lines, 1)]
+    sentence = SENTENCES["unreadable"]
     for line in told[:1]:
-        line.notes.append(Note(f"FAIL unreadable: {SENTENCES['unreadable']}", "unreadable", ("unreadable",)))
-    return excerpt.shown(told)[0] + b"nothing was judged: line 1 can't be read\n"
+        members = {"rule": "unreadable", "sentence": sentence}
+        line.notes.append(Note(f"FAIL unreadable: {sentence}", members, "unreadable", ("unreadable",)))
+    return Explained(excerpt.shown(told)[0], "nothing was judged: line 1 can't be read", [], None, [])
 
 
-def explain(log: bytes, excerpt: Excerpt = WHOLE) -> bytes:
-    """All that is told of a log."""
+def explained(log: bytes, excerpt: Excerpt) -> Explained:
     lines = session.lines_of(log)
-    verdict = session.audit(log).verdict.encode() + b"\n"
     try:
-        telling = Telling(session.settings_of(lines[0] if lines else b""))
+        telling = Telling(session.settings_of(lines[0] if lines else b""), excerpt.is_utc)
     except Unreadable:
-        return unjudged(lines, excerpt) + verdict
-    telling.lines.append(Line(1, plain(1, lines[0], session.LONGEST_FIRST_LINE)))
+        return unjudged(lines, excerpt)
+    telling.lines.append(Line(1, None, lines[0][: session.LONGEST_FIRST_LINE], excerpt.is_utc))
     for number, line in enumerate(lines[1:], 2):
         telling.tell(line, number)
     shown, rests = excerpt.shown(telling.lines)
-    return shown + telling.end(rests) + verdict
+    nothing = None if telling.judged else "nothing was judged: the log has no entry"
+    return Explained(shown, nothing, rests, telling.failures, telling.outcomes())
+
+
+def verdict_object(words: str) -> Object:
+    """The verdict in JSON, by the words of the audit."""
+    front, *rest = words.split(" ")
+    counts = {name: value for name, _, value in (word.partition("=") for word in rest) if value}
+    rule = {"rule": counts.pop("rule", "unreadable")} if front == "fail" else {}
+    return {"type": "verdict", "verdict": front, **{name: int(value) for name, value in counts.items()}, **rule}
+
+
+class Answer(NamedTuple):
+    """All that is told of a log: as text, and as the objects of JSON."""
+
+    text: bytes
+    objects: List[Object]
+
+
+def explain(log: bytes, excerpt: Excerpt = WHOLE) -> Answer:
+    told, verdict = explained(log, excerpt), session.audit(log).verdict
+    return Answer(told.text() + f"{verdict}\n".encode(), [*told.objects(), verdict_object(verdict)])

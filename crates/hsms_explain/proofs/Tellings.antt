@@ -6,10 +6,11 @@ use Rattle.hsms_frame.specs.Device.{WhereTold, Takes, Grows, GrowsByFront, IsAtE
 use Rattle.hsms_log.specs.declared.auditor.Auditor.{Auditor}
 use Rattle.hsms_log.specs.Auditor.{HasHeard}
 use Rattle.hsms_log.specs.declared.verdict.Verdict.{Verdict}
+use Rattle.hsms_options.specs.declared.excerpt.Telling.{Telling}
 use Rattle.hsms_options.specs.declared.fault.ToolFault.{ToolFault}
 use Rattle.hsms_options.specs.declared.fault.ToolFault.TheVariants.{Refused, Device, Memory}
 use Rattle.hsms_tasks.specs.Show.{CountsFailure, LeavesPart, IsReadWriteOrEndless, IsWrite}
-use Rattle.hsms_tasks.specs.Verdict.{verdict_line_of}
+use Rattle.hsms_explain.specs.Ending.{ending_of}
 use Rattle.hsms_explain.specs.Explain.{GrowsBySome, EndsWithVerdict, Concludes, ExplainsTo, IsOfTelling}
 
 -- ---- what was written
@@ -29,26 +30,27 @@ some_more old mid new before behind octets is =
     let two = behind (octets ++ one.0) one.1 in
     (one.0 ++ two.0, two.1 ∙ ap Some (append_assoc octets one.0 two.0))
 
-pub verdict_last : (old mid new : Option (List ℕ)) (line : List ℕ) (verdict : Verdict) → GrowsBySome old mid → Grows mid new line
-    → line ≡ verdict_line_of verdict → EndsWithVerdict old new verdict
-verdict_last old mid new line verdict before behind is octets told =
+pub verdict_last : (form : Telling) (old mid new : Option (List ℕ)) (line : List ℕ) (verdict : Verdict) → GrowsBySome old mid → Grows mid new line
+    → line ≡ ending_of form verdict → EndsWithVerdict form old new verdict
+verdict_last form old mid new line verdict before behind is octets told =
     let one = before octets told in (
       one.0,
       behind (octets ++ one.0) one.1 ∙ ap (λ l. Some (octets ++ one.0 ++ l)) is,
     )
 
-ends_behind : (old mid new : Option (List ℕ)) (verdict : Verdict) → GrowsBySome old mid → EndsWithVerdict mid new verdict → EndsWithVerdict old new verdict
-ends_behind old mid new verdict before behind octets told =
+ends_behind : (form : Telling) (old mid new : Option (List ℕ)) (verdict : Verdict) → GrowsBySome old mid → EndsWithVerdict form mid new verdict
+    → EndsWithVerdict form old new verdict
+ends_behind form old mid new verdict before behind octets told =
     let one = before octets told in
     let two = behind (octets ++ one.0) one.1 in
-    let line = verdict_line_of verdict in (
+    let line = ending_of form verdict in (
       one.0 ++ two.0,
       two.1 ∙ ap (λ l. Some (l ++ line)) (append_assoc octets one.0 two.0),
     )
 
-pub concludes_behind : (text : List ℕ) (passes : Bool) (old mid new : Option (List ℕ)) → GrowsBySome old mid → Concludes text passes mid new
-    → Concludes text passes old new
-concludes_behind text passes old mid new before told = (told.0, told.1, told.2, ends_behind old mid new told.0 before told.3)
+pub concludes_behind : (form : Telling) (text : List ℕ) (passes : Bool) (old mid new : Option (List ℕ)) → GrowsBySome old mid
+    → Concludes form text passes mid new → Concludes form text passes old new
+concludes_behind form text passes old mid new before told = (told.0, told.1, told.2, ends_behind form old mid new told.0 before told.3)
 
 -- where the answer is a fault, and else too
 pub on_err : {T E : Type 0} (X : Type 0) (r : Result T E) → X → OnErr r X
@@ -120,11 +122,11 @@ all_read old mid new n buffer auditor so_far takes none at_end input told =
 
 -- ---- the answers
 
-pub stops_early : (input : List ℕ) (fault : ToolFault) (left : Option (List ℕ)) (ended : Type 0) (old new : Option (List ℕ))
-    → IsOfTelling fault → LeavesPart input left → GrowsBySome old new → ExplainsTo input (Err fault) left ended old new
-stops_early input (Refused words) left ended old new fault part some = fault
-stops_early input (Device word) left ended old new fault part some = (part, some)
-stops_early input Memory left ended old new fault part some = (part, some)
+pub stops_early : (form : Telling) (input : List ℕ) (fault : ToolFault) (left : Option (List ℕ)) (ended : Type 0) (old new : Option (List ℕ))
+    → IsOfTelling fault → LeavesPart input left → GrowsBySome old new → ExplainsTo form input (Err fault) left ended old new
+stops_early form input (Refused words) left ended old new fault part some = fault
+stops_early form input (Device word) left ended old new fault part some = (part, some)
+stops_early form input Memory left ended old new fault part some = (part, some)
 
 pub of_write : (fault : ToolFault) → IsWrite fault → IsOfTelling fault
 of_write (Refused words) word = word
@@ -137,14 +139,14 @@ wider (Device word) is = inr (inl is)
 wider Memory word = tt
 
 -- what is told behind the lines, at the end of the input
-pub concluded : (input : List ℕ) (r : Result Bool ToolFault) (auditor : Auditor) (left : Option (List ℕ)) (ended : Type 0) (old mid new : Option (List ℕ))
+pub concluded : (form : Telling) (input : List ℕ) (r : Result Bool ToolFault) (auditor : Auditor) (left : Option (List ℕ)) (ended : Type 0) (old mid new : Option (List ℕ))
     → HasHeard auditor input → left ≡ Some [] → ended → GrowsBySome old mid
-    → IfOk r (λ passes. (text : List ℕ) → HasHeard auditor text → Concludes text passes mid new)
-    → OnErr r (GrowsBySome mid new) → IfErr r IsOfTelling → ExplainsTo input r left ended old new
-concluded input (Ok passes) auditor left ended old mid new heard none found before told some fault =
-    (concludes_behind input passes old mid new before (told input heard), none, found)
-concluded input (Err fault_is) auditor left ended old mid new heard none found before told some fault =
-    stops_early input fault_is left ended old new fault (input, [], sym (append-nil input), none) (some_more old mid new before some)
+    → IfOk r (λ passes. (text : List ℕ) → HasHeard auditor text → Concludes form text passes mid new)
+    → OnErr r (GrowsBySome mid new) → IfErr r IsOfTelling → ExplainsTo form input r left ended old new
+concluded form input (Ok passes) auditor left ended old mid new heard none found before told some fault =
+    (concludes_behind form input passes old mid new before (told input heard), none, found)
+concluded form input (Err fault_is) auditor left ended old mid new heard none found before told some fault =
+    stops_early form input fault_is left ended old new fault (input, [], sym (append-nil input), none) (some_more old mid new before some)
 
 pub fault_wider : (r : Result Bool ToolFault) → IfErr r IsOfTelling → IfErr r IsReadWriteOrEndless
 fault_wider (Ok passes) fault = tt

@@ -3,33 +3,34 @@ use Rattle.std.specs.Prelude.{◌≡◌, ◌++◌, ℕ, List, [], codes, Bool, O
 use Rattle.hsms_frame.specs.Device.{WhereTold}
 use Rattle.hsms_log.specs.Verdict.{Judges}
 use Rattle.hsms_log.specs.declared.verdict.Verdict.{Verdict}
+use Rattle.hsms_options.specs.declared.excerpt.Telling.{Telling}
 use Rattle.hsms_options.specs.declared.fault.ToolFault.{ToolFault}
 use Rattle.hsms_options.specs.declared.fault.ToolFault.TheVariants.{Refused, Device, Memory}
 use Rattle.hsms_tasks.specs.Audit.{is_pass}
 use Rattle.hsms_tasks.specs.Show.{LeavesPart}
-use Rattle.hsms_tasks.specs.Verdict.{verdict_line_of}
+use Rattle.hsms_explain.specs.Ending.{ending_of}
 
 -- something was written behind what was there before
 abbrev pub GrowsBySome : Option (List ℕ) → Option (List ℕ) → Type 0
 GrowsBySome old new = WhereTold old (λ octets. (told : List ℕ) × (new ≡ Some (octets ++ told)))
 
--- and at last the line of a verdict
-abbrev pub EndsWithVerdict : Option (List ℕ) → Option (List ℕ) → Verdict → Type 0
-EndsWithVerdict old new verdict =
-    WhereTold old (λ octets. (told : List ℕ) × (new ≡ Some (octets ++ told ++ verdict_line_of verdict)))
+-- and at last a verdict, in this form
+abbrev pub EndsWithVerdict : Telling → Option (List ℕ) → Option (List ℕ) → Verdict → Type 0
+EndsWithVerdict form old new verdict =
+    WhereTold old (λ octets. (told : List ℕ) × (new ≡ Some (octets ++ told ++ ending_of form verdict)))
 
--- the text has this verdict, its line is the last one that was written, and this says whether it is a pass
-abbrev pub Concludes : List ℕ → Bool → Option (List ℕ) → Option (List ℕ) → Type 0
-Concludes text passes old new =
-    (verdict : Verdict) × Judges text verdict × (passes ≡ is_pass verdict) × EndsWithVerdict old new verdict
+-- the text has this verdict, which is the last thing that was written, and this says whether it is a pass
+abbrev pub Concludes : Telling → List ℕ → Bool → Option (List ℕ) → Option (List ℕ) → Type 0
+Concludes form text passes old new =
+    (verdict : Verdict) × Judges text verdict × (passes ≡ is_pass verdict) × EndsWithVerdict form old new verdict
 
--- The answers to an input, each with what is left of it, whether its end was found, and what was written before and is
--- now: the log was read to its end and its verdict was told at last, or some of it was told.
-abbrev pub ExplainsTo : List ℕ → Result Bool ToolFault → Option (List ℕ) → Type 0 → Option (List ℕ) → Option (List ℕ) → Type 0
-ExplainsTo input (Ok passes) left ended old new = Concludes input passes old new × (left ≡ Some []) × ended
-ExplainsTo input (Err (Refused words)) left ended old new = ⊥
-ExplainsTo input (Err (Device word)) left ended old new = LeavesPart input left × GrowsBySome old new
-ExplainsTo input (Err Memory) left ended old new = LeavesPart input left × GrowsBySome old new
+-- The answers to an input in a form, each with what is left of it, whether its end was found, and what was written
+-- before and is now: the log was read to its end and its verdict was told at last, or some of it was told.
+abbrev pub ExplainsTo : Telling → List ℕ → Result Bool ToolFault → Option (List ℕ) → Type 0 → Option (List ℕ) → Option (List ℕ) → Type 0
+ExplainsTo form input (Ok passes) left ended old new = Concludes form input passes old new × (left ≡ Some []) × ended
+ExplainsTo form input (Err (Refused words)) left ended old new = ⊥
+ExplainsTo form input (Err (Device word)) left ended old new = LeavesPart input left × GrowsBySome old new
+ExplainsTo form input (Err Memory) left ended old new = LeavesPart input left × GrowsBySome old new
 
 -- a fault of telling: a write failed, or memory is wanting
 abbrev pub IsOfTelling : ToolFault → Type 0

@@ -1,5 +1,6 @@
 pub mod Alike
 pub mod Course
+pub mod Ending
 pub mod Sort
 pub mod Step
 pub mod Words

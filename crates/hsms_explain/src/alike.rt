@@ -13,8 +13,8 @@ use std::alloc::{AllocError, Global};
 // How many failures that are alike are told whole.
 const WHOLE: u64 = 3;
 
-// How many groups are kept at most. A failure of a further one is told whole.
-const MOST: usize = 256;
+/// How many groups are kept at most. A failure of a further one is told whole.
+pub const MOST: usize = 256;
 
 /// Failures that are alike: why they fail, how many came so far, and the lines of the first and of the last.
 #[derive(Clone, Copy, Debug)]

@@ -74,6 +74,22 @@ pub enum Expected {
     Over(u64),
 }
 
+impl Expected {
+    /// The line that it names, if it names one.
+    pub fn line(self) -> Option<u64> {
+        match self {
+            Expected::Function { line, .. }
+            | Expected::NoWait(line)
+            | Expected::ThrownAway(line)
+            | Expected::Closed { line, .. }
+            | Expected::OnlyOne { line, .. }
+            | Expected::Over(line) => Some(line),
+            Expected::Selected(line) => line,
+            Expected::Session { .. } | Expected::Text { .. } => None,
+        }
+    }
+}
+
 /// What is known of why a step breaks a rule, whose frame has this text.
 pub fn expected_of(known: &Known, step: Step, text: &[u8], rule: Rule) -> Option<Expected> {
     if rule == Rule::Ended {

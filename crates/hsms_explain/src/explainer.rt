@@ -9,9 +9,10 @@ use crate::note::{Failing, Note, group_notes};
 use crate::page::Page;
 use crate::primaries::Primaries;
 use crate::tally::Tally;
-use crate::text::write_words;
+use crate::telling::Teller;
 use crate::told::{Carried, SETTINGS_LIMIT, Told, carried_by, limit_of};
 use crate::window::Window;
+use crate::words::Unjudged;
 use hsms_log::{read_settings, split_at_first, without_carriage_return};
 use hsms_options::Excerpt;
 use std::alloc::{AllocError, Global};
@@ -27,6 +28,7 @@ pub struct Explainer {
 // What is told, which lines are, the failures so far, and what is noted of the line at hand, also as it is told.
 #[derive(Drop)]
 struct Report {
+    teller: Teller,
     page: Page,
     tally: Tally,
     window: Window,
@@ -62,12 +64,15 @@ impl Drop for Explainer {
 impl Explainer {
     /// What is told of a log of which nothing was read: nothing.
     pub fn new(alloc: Global, excerpt: Excerpt) -> Result<Explainer, AllocError> {
-        let page = Page::new(alloc)?;
+        let teller = Teller::new(excerpt);
+        let mut page = Page::new(alloc)?;
+        teller.begin(&mut page);
         Ok(Explainer {
             held: Vec::new(alloc),
             stage: Stage::Unjudged(0),
             octets: Vec::new(alloc),
             report: Report {
+                teller,
                 page,
                 tally: Tally::new(alloc),
                 window: Window::new(alloc, excerpt),
@@ -128,14 +133,9 @@ impl Explainer {
         if !self.held.is_empty() {
             self.tell_held(alloc)?;
         }
-        self.report.tell_gap(self.stage.lines());
+        self.report.tell_gap(alloc, self.stage.lines())?;
         match &self.stage {
-            Stage::Unjudged(_) => {
-                self.report
-                    .page
-                    .lay(b"nothing was judged: line 1 can't be read\n");
-                Ok(())
-            }
+            Stage::Unjudged(_) => self.report.tell_unjudged(alloc, Unjudged::Unreadable),
             Stage::Judged(known) => self.report.tell_end(alloc, &known.primaries),
         }
     }
@@ -157,40 +157,24 @@ impl Explainer {
 
 impl Report {
     // Tells that lines are left out at the end of so many.
-    fn tell_gap(&mut self, lines: u64) {
-        self.window.finish(&mut self.page, lines);
+    fn tell_gap(&mut self, alloc: Global, lines: u64) -> Result<(), AllocError> {
+        self.window.finish(alloc, &mut self.page, lines)
+    }
+
+    // Tells that nothing was judged.
+    fn tell_unjudged(&mut self, alloc: Global, unjudged: Unjudged) -> Result<(), AllocError> {
+        self.teller.unjudged(alloc, &mut self.page, unjudged)
     }
 
     // Tells the failures behind a log that was judged, and what became of its primaries.
     fn tell_end(&mut self, alloc: Global, primaries: &Primaries) -> Result<(), AllocError> {
         if self.tally.is_empty() {
-            self.page.lay(b"nothing was judged: the log has no entry\n");
+            self.tell_unjudged(alloc, Unjudged::NoEntry)?;
         }
-        self.tell_rests(alloc)?;
-        let words = self.tally.words(alloc)?;
-        self.page.lay(words.as_bytes());
-        self.page.lay(b"\n");
-        self.tell_primaries(alloc, primaries)
-    }
-
-    // Tells of each kind of primaries what became of them.
-    fn tell_primaries(&mut self, alloc: Global, primaries: &Primaries) -> Result<(), AllocError> {
-        for place in 0..primaries.len() {
-            if let Some(outcome) = primaries.outcome(place) {
-                write_words(alloc, &mut self.page, &outcome)?;
-            }
-        }
-        Ok(())
-    }
-
-    // Tells of each group how many failures weren't told whole.
-    fn tell_rests(&mut self, alloc: Global) -> Result<(), AllocError> {
-        for group in self.groups.iter() {
-            if let Some(rest) = group.rest() {
-                write_words(alloc, &mut self.page, &rest)?;
-            }
-        }
-        Ok(())
+        self.teller.groups(alloc, &mut self.page, &self.groups)?;
+        self.teller.failures(alloc, &mut self.page, &self.tally)?;
+        self.teller
+            .primaries(alloc, &mut self.page, self.window.links(), primaries)
     }
 
     // Tells a line, and what is noted of it, in a log whose frames have at most so many octets.
@@ -298,6 +282,9 @@ fn unjudged_line(
         limit: SETTINGS_LIMIT,
         carried: Carried::Nothing,
     };
+    if let Some(settings) = settings {
+        report.teller.ends(&mut report.page, settings);
+    }
     report.tell(alloc, told, 0)?;
     match settings {
         Some(settings) => Ok(Stage::Judged(Known::new(alloc, settings))),

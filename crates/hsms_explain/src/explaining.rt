@@ -8,11 +8,12 @@ ghost use Rattle.hsms_tasks.specs.Audit.{is_pass};
 ghost use Rattle.hsms_tasks.specs.Show.{CountsFailure, IsReadWriteOrEndless};
 ghost use Rattle.hsms_explain.specs.Explain.{Concludes, ExplainsTo, GrowsBySome, IsOfTelling};
 
+use crate::ending::ending;
 use crate::explainer::Explainer;
 use hsms_frame::{Sink, Source};
 use hsms_log::{Auditor, Verdict};
-use hsms_options::{Excerpt, ToolFault};
-use hsms_tasks::{put, verdict_line};
+use hsms_options::{Excerpt, Telling, ToolFault};
+use hsms_tasks::put;
 use std::alloc::Global;
 
 // The octets that one read takes at most.
@@ -40,7 +41,7 @@ pub fn explain_to<R: Source, W: Sink>(
     source: &mut R,
     sink: &mut W,
 ) -> Result<bool, ToolFault>
-    ensures told { WhereTold (R.state source.old).left (λ input. ExplainsTo input result (R.state source.new).left
+    ensures told { WhereTold (R.state source.old).left (λ input. ExplainsTo excerpt.form input result (R.state source.new).left
         (HasEnded (R.state source.old).ends (R.state source.new).ends)
         (W.state sink.old).written (W.state sink.new).written) }
     ensures word { IfErr result IsReadWriteOrEndless }
@@ -56,7 +57,7 @@ pub fn explain_to<R: Source, W: Sink>(
             Err(_) => return Err(ToolFault::Device("Read")),
         };
         if count == 0 {
-            return conclude(alloc, sink, auditor, explainer);
+            return conclude(alloc, excerpt.form, sink, auditor, explainer);
         }
         auditor.take(alloc, &block[..count])?;
         explainer.take(alloc, &block[..count])?;
@@ -68,13 +69,14 @@ pub fn explain_to<R: Source, W: Sink>(
 // Tells what comes behind the lines, and the verdict.
 fn conclude<W: Sink>(
     alloc: Global,
+    form: Telling,
     sink: &mut W,
     auditor: Auditor,
     mut explainer: Explainer,
 ) -> Result<bool, ToolFault>
     requires { HasRoom auditor [] }
     ensures told { IfOk result (λ passes. (text : List ℕ) → HasHeard auditor text
-        → Concludes text passes (W.state sink.old).written (W.state sink.new).written) }
+        → Concludes form text passes (W.state sink.old).written (W.state sink.new).written) }
     ensures some { OnErr result (GrowsBySome (W.state sink.old).written (W.state sink.new).written) }
     ensures fault { IfErr result IsOfTelling }
     ensures writes { CountsFailure (codes "Write") result (W.state sink.old).failures (W.state sink.new).failures }
@@ -82,8 +84,8 @@ fn conclude<W: Sink>(
     let verdict = auditor.finish(alloc)?;
     explainer.finish(alloc)?;
     write_told(sink, &mut explainer)?;
-    let line = verdict_line(alloc, verdict)?;
-    put(sink, line.as_bytes())?;
+    let ending = ending(alloc, form, verdict)?;
+    put(sink, ending.as_bytes())?;
     Ok(passes(verdict))
 }
 

@@ -8,8 +8,8 @@ use hsms_log::Why;
 use hsms_machine::Remedy;
 use std::alloc::AllocError;
 
-// The words for a line that can't be read.
-const UNREADABLE: &str = "it can't be read";
+/// The words for a line that can't be read.
+pub const UNREADABLE: &str = "it can't be read";
 
 /// What is told of a line besides what it says.
 #[derive(Clone, Copy, Debug)]

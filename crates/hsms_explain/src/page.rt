@@ -15,6 +15,23 @@ struct Memory {
     is_refused: bool,
 }
 
+impl Memory {
+    fn new(alloc: Global) -> Memory {
+        Memory {
+            octets: Vec::new(alloc),
+            is_refused: false,
+        }
+    }
+
+    // Its octets.
+    fn octets(&self) -> Result<&[u8], AllocError> {
+        if self.is_refused {
+            return Err(AllocError);
+        }
+        Ok(&self.octets)
+    }
+}
+
 impl Output for Memory {
     ghost Given = { λ out given. ⊥ };
 
@@ -30,17 +47,19 @@ impl Output for Memory {
 pub struct Page {
     told: Memory,
     block: Block,
+    // What is made of a message, to be written in another way.
+    aside: Memory,
 }
 
 impl Page {
     /// An empty page.
     pub fn new(alloc: Global) -> Result<Page, AllocError> {
-        let told = Memory {
-            octets: Vec::new(alloc),
-            is_refused: false,
-        };
         let block = Block::new(alloc)?;
-        Ok(Page { told, block })
+        Ok(Page {
+            told: Memory::new(alloc),
+            block,
+            aside: Memory::new(alloc),
+        })
     }
 
     /// Lays octets.
@@ -65,6 +84,21 @@ impl Page {
         give_line(&mut self.told, &mut self.block, header, text, depth);
     }
 
+    /// The line of a message, with its end, as `hsms show` shows it. It isn't laid.
+    ///
+    /// # Errors
+    ///
+    /// Where memory was refused to it.
+    pub fn message(&mut self, header: Header, text: &[u8], depth: u8) -> Result<&[u8], AllocError>
+        requires { depth ≤ 100 }
+    {
+        self.block.give_all(&mut self.told);
+        self.aside.octets.clear();
+        give_line(&mut self.aside, &mut self.block, header, text, depth);
+        self.block.give_all(&mut self.aside);
+        self.aside.octets()
+    }
+
     /// All that is told.
     ///
     /// # Errors
@@ -72,10 +106,7 @@ impl Page {
     /// Where memory was refused to it.
     pub fn octets(&mut self) -> Result<&[u8], AllocError> {
         self.block.give_all(&mut self.told);
-        if self.told.is_refused {
-            return Err(AllocError);
-        }
-        Ok(&self.told.octets)
+        self.told.octets()
     }
 
     /// Lets all go that is told.

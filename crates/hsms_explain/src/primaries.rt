@@ -3,6 +3,7 @@
 ghost use Rattle.std.specs.Prelude.{◌<◌};
 
 use crate::course::Opening;
+use crate::expecting::Function;
 use crate::histogram::Histogram;
 use crate::replies::{Counts, Fate, Replies};
 use crate::step::{Step, What};
@@ -42,20 +43,49 @@ pub struct Primaries {
     times: IndexMap<u32, Histogram>,
 }
 
-/// What became of the primaries of a kind.
+/// What became of the primaries of a kind, and the times of their replies, if there are such.
 #[derive(Clone, Copy, Debug)]
 pub struct Outcome {
     kind: u32,
-    counts: Counts,
-    waiting: u64,
-    times: Option<Times>,
+    pub counts: Counts,
+    /// How many wait.
+    pub waiting: u64,
+    pub times: Option<Times>,
 }
 
-// Of the times of replies the median, and what 99 of 100 don't exceed.
+/// Of the times of replies in ms the least, the median, what 99 of 100 don't exceed, and the greatest, with the line of
+/// the last reply that took it.
 #[derive(Clone, Copy, Debug)]
-struct Times {
-    median: u64,
-    most: u64,
+pub struct Times {
+    pub least: u64,
+    pub median: u64,
+    pub most: u64,
+    pub greatest: u64,
+    pub line: u64,
+}
+
+impl Times {
+    fn of(counts: Counts, histogram: &Histogram) -> Times {
+        let Counts {
+            answered,
+            least,
+            greatest,
+            line,
+            ..
+        } = counts;
+        let most = if answered < 100 {
+            greatest
+        } else {
+            histogram.most().max(least)
+        };
+        Times {
+            least,
+            median: histogram.median().max(least),
+            most,
+            greatest,
+            line,
+        }
+    }
 }
 
 // Written out: a proof over one that is dropped has one step for it, not one for each of its parts.
@@ -167,10 +197,7 @@ impl Primaries {
         let (kind, counts) = self.replies.at(place)?;
         let waiting = self.replies.waiting(kind) as u64;
         let times = match self.times.get(&kind) {
-            Some(times) => Some(Times {
-                median: times.median(),
-                most: times.most(),
-            }),
+            Some(histogram) => Some(Times::of(counts, histogram)),
             None => None,
         };
         Some(Outcome {
@@ -214,8 +241,28 @@ fn fate_by(header: Header) -> Fate {
 }
 
 impl Outcome {
-    // Those that the end of their connection left open.
-    fn ended(&self) -> u64 {
+    /// Which way they went: `sent` or `received`.
+    pub fn way(&self) -> &'static str {
+        if self.kind % OTHERS / RECEIVED + self.kind / OTHERS * (self.kind % 2) == 0 {
+            "sent"
+        } else {
+            "received"
+        }
+    }
+
+    /// Their stream and function, where they are of one kind and not those beyond the kinds that are kept apart.
+    pub fn function(&self) -> Option<Function> {
+        if self.kind >= OTHERS {
+            return None;
+        }
+        Some(Function {
+            stream: (self.kind / 256 % 128) as u8,
+            function: (self.kind % 256) as u8,
+        })
+    }
+
+    /// Those that the end of their connection left open.
+    pub fn ended(&self) -> u64 {
         let Counts {
             opened,
             answered,
@@ -230,6 +277,18 @@ impl Outcome {
     }
 }
 
+impl Outcome {
+    // The stream and the function, and how many went in which direction.
+    fn write_kind<W: fmt::Write>(&self, f: &mut fmt::Formatter<W>) -> fmt::Result {
+        let way = self.way();
+        let opened = self.counts.opened;
+        match self.function() {
+            Some(function) => write!(f, "{function} W {way}={opened}"),
+            None => write!(f, "others W {way}={opened}"),
+        }
+    }
+}
+
 // How many there are of something, if there are any.
 fn write_count<W: fmt::Write>(f: &mut fmt::Formatter<W>, name: &str, count: u64) -> fmt::Result {
     if count == 0 {
@@ -241,7 +300,7 @@ fn write_count<W: fmt::Write>(f: &mut fmt::Formatter<W>, name: &str, count: u64)
 impl fmt::Display for Outcome {
     fn fmt<W: fmt::Write>(&self, f: &mut fmt::Formatter<W>) -> fmt::Result {
         let counts = self.counts;
-        write_kind(f, self.kind, counts.opened)?;
+        self.write_kind(f)?;
         write_count(f, "answered", counts.answered)?;
         write_count(f, "aborted", counts.aborted)?;
         write_count(f, "expired", counts.expired)?;
@@ -249,45 +308,20 @@ impl fmt::Display for Outcome {
         write_count(f, "ended", self.ended())?;
         write_count(f, "waiting", self.waiting)?;
         match self.times {
-            Some(times) => write_times(f, counts, times),
+            Some(times) => write_times(f, times),
             None => Ok(()),
         }
     }
 }
 
-// The stream and the function, and how many went in which direction.
-fn write_kind<W: fmt::Write>(f: &mut fmt::Formatter<W>, kind: u32, opened: u64) -> fmt::Result {
-    let way = if kind % OTHERS / RECEIVED + kind / OTHERS * (kind % 2) == 0 {
-        "sent"
-    } else {
-        "received"
-    };
-    if kind >= OTHERS {
-        return write!(f, "others W {way}={opened}");
-    }
-    let stream = kind / 256 % 128;
-    let function = kind % 256;
-    write!(f, "S{stream}F{function} W {way}={opened}")
-}
-
-fn write_times<W: fmt::Write>(
-    f: &mut fmt::Formatter<W>,
-    counts: Counts,
-    times: Times,
-) -> fmt::Result {
-    let Counts {
-        answered,
+fn write_times<W: fmt::Write>(f: &mut fmt::Formatter<W>, times: Times) -> fmt::Result {
+    let Times {
         least,
+        median,
+        most,
         greatest,
         line,
-        ..
-    } = counts;
-    let median = times.median.max(least);
-    let most = if answered < 100 {
-        greatest
-    } else {
-        times.most.max(least)
-    };
+    } = times;
     write!(
         f,
         " least={least} median={median} p99={most} greatest={greatest} line={line}"

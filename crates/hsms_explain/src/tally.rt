@@ -41,12 +41,25 @@ impl Tally {
         self.entries == 0
     }
 
+    /// How often it failed for each reason.
+    pub fn counts(&self) -> &[(Why, u64)] {
+        &self.failures
+    }
+
+    /// How often it failed.
+    pub fn all(&self) -> u64 {
+        let mut all = 0u64;
+        for (_, count) in self.failures.iter() {
+            all = all.saturating_add(*count);
+        }
+        all
+    }
+
     /// The words of the failures.
     pub fn words(&self, alloc: Global) -> Result<String, AllocError> {
         let mut words = String::new(alloc);
-        let mut all = 0u64;
+        let all = self.all();
         for (why, count) in self.failures.iter() {
-            all = all.saturating_add(*count);
             let name = name_of(*why);
             write!(words, " {name}={count}")?;
         }

@@ -1,8 +1,12 @@
 //! A line and its notes, as text.
 
+use crate::alike::Groups;
+use crate::moment::Moment;
 use crate::note::{Failing, Note};
 use crate::page::Page;
+use crate::primaries::Primaries;
 use crate::step::{Step, What};
+use crate::tally::Tally;
 use crate::told::{Carried, Told};
 use crate::words::{Concern, GoingOn, name_of};
 use hsms_log::split_at_first;
@@ -10,24 +14,27 @@ use hsms_machine::{GREATEST_DEPTH, Mark};
 use std::alloc::{AllocError, Global};
 use std::fmt;
 
-// How wide the number of a line is, and its time.
+// How wide the number of a line is, its time, and its time as a date.
 const NUMBER: usize = 6;
 
 const TIME: usize = 7;
 
+const DATE: usize = 24;
+
 // What stands before the words below a line.
 const BELOW: &[u8] = b"       ";
 
-/// Writes a line, and below it the notes.
+/// Writes a line, and below it the notes: with `utc` times as dates.
 pub fn write_line(
     alloc: Global,
     page: &mut Page,
     told: Told<'_, '_>,
     notes: &[Note],
+    utc: bool,
 ) -> Result<(), AllocError> {
-    write_said(page, told);
+    write_said(alloc, page, told, utc)?;
     for note in notes {
-        write_note(alloc, page, note)?;
+        write_note(alloc, page, note, utc)?;
     }
     Ok(())
 }
@@ -50,19 +57,78 @@ pub fn write_words<D: fmt::Display>(
     Ok(())
 }
 
+/// Writes of each group how many failures weren't told whole.
+pub fn write_rests(alloc: Global, page: &mut Page, groups: &Groups) -> Result<(), AllocError> {
+    for group in groups.iter() {
+        if let Some(rest) = group.rest() {
+            write_words(alloc, page, &rest)?;
+        }
+    }
+    Ok(())
+}
+
+/// Writes of each kind of primaries what became of them.
+pub fn write_primaries(
+    alloc: Global,
+    page: &mut Page,
+    primaries: &Primaries,
+) -> Result<(), AllocError> {
+    for place in 0..primaries.len() {
+        if let Some(outcome) = primaries.outcome(place) {
+            write_words(alloc, page, &outcome)?;
+        }
+    }
+    Ok(())
+}
+
+/// Writes how often each rule was broken.
+pub fn write_failures(alloc: Global, page: &mut Page, tally: &Tally) -> Result<(), AllocError> {
+    let words = tally.words(alloc)?;
+    page.lay(words.as_bytes());
+    page.lay(b"\n");
+    Ok(())
+}
+
 // Writes what a line says.
-fn write_said(page: &mut Page, told: Told<'_, '_>) {
+fn write_said(
+    alloc: Global,
+    page: &mut Page,
+    told: Told<'_, '_>,
+    utc: bool,
+) -> Result<(), AllocError> {
+    page.lay_number(told.number, NUMBER);
+    page.lay(b" ");
     match told.carried {
-        Carried::Entry(step, text) => write_entry(page, told, step, text),
-        Carried::Nothing | Carried::Unreadable => write_plain(page, told),
+        Carried::Entry(step, text) => {
+            write_time(alloc, page, step.time, utc)?;
+            write_entry(page, told, step, text);
+        }
+        Carried::Nothing | Carried::Unreadable => write_plain(page, told, utc),
+    }
+    Ok(())
+}
+
+// Writes the time of an entry.
+fn write_time(alloc: Global, page: &mut Page, time: u64, utc: bool) -> Result<(), AllocError> {
+    if !utc {
+        page.lay_number(time, TIME);
+        return Ok(());
+    }
+    let moment = Moment { time, utc };
+    let words = moment.to_string(alloc)?;
+    lay_blanks(page, DATE.saturating_sub(words.len()));
+    page.lay(words.as_bytes());
+    Ok(())
+}
+
+fn lay_blanks(page: &mut Page, count: usize) {
+    for _ in 0..count {
+        page.lay(b" ");
     }
 }
 
 // Writes an entry: a frame as `hsms show` shows it, the words of another one.
 fn write_entry(page: &mut Page, told: Told<'_, '_>, step: Step, text: &[u8]) {
-    page.lay_number(told.number, NUMBER);
-    page.lay(b" ");
-    page.lay_number(step.time, TIME);
     page.lay(b" ");
     match step.what {
         What::Frame(mark, header) => {
@@ -84,32 +150,35 @@ fn mark_word(mark: Mark) -> &'static [u8] {
     }
 }
 
-// What a line says behind its time.
-fn behind_time(line: &[u8]) -> &[u8] {
+/// What a line says behind its time.
+pub fn behind_time(line: &[u8]) -> &[u8] {
     match split_at_first(line, b' ') {
         Some((_, words)) => words,
         None => line,
     }
 }
 
-// Writes a line as it is, behind its number.
-fn write_plain(page: &mut Page, told: Told<'_, '_>) {
-    let shown = told.octets.len().min(told.limit);
-    page.lay_number(told.number, NUMBER);
-    page.lay(b"         ");
-    page.lay(&told.octets[..shown]);
+// Writes a line as it is, where other lines have their entries.
+fn write_plain(page: &mut Page, told: Told<'_, '_>, utc: bool) {
+    lay_blanks(page, 1 + if utc { DATE } else { TIME });
+    page.lay(told.shown());
     page.lay(b"\n");
 }
 
-fn write_note(alloc: Global, page: &mut Page, note: &Note) -> Result<(), AllocError> {
+fn write_note(alloc: Global, page: &mut Page, note: &Note, utc: bool) -> Result<(), AllocError> {
     match note {
         Note::Closes(closing) => write_below(alloc, page, closing),
-        Note::Fails(failing) => write_failing(alloc, page, failing),
+        Note::Fails(failing) => write_failing(alloc, page, failing, utc),
         Note::FailsAlike(alike) => write_below(alloc, page, alike),
     }
 }
 
-fn write_failing(alloc: Global, page: &mut Page, failing: &Failing) -> Result<(), AllocError> {
+fn write_failing(
+    alloc: Global,
+    page: &mut Page,
+    failing: &Failing,
+    utc: bool,
+) -> Result<(), AllocError> {
     write_rule(page, name_of(failing.why), failing.sentence);
     if let Some(line) = failing.concerns {
         write_further(alloc, page, &Concern { line })?;
@@ -118,7 +187,7 @@ fn write_failing(alloc: Global, page: &mut Page, failing: &Failing) -> Result<()
         write_further(alloc, page, &expected)?;
     }
     if let Some(remedy) = failing.remedy {
-        write_further(alloc, page, &GoingOn { remedy })?;
+        write_further(alloc, page, &GoingOn { remedy, utc })?;
     }
     Ok(())
 }

@@ -20,6 +20,14 @@ pub struct Told<'l, 't> {
     pub carried: Carried<'t>,
 }
 
+impl<'l> Told<'l, '_> {
+    /// Its octets as far as they are told.
+    pub fn shown(&self) -> &'l [u8] {
+        let shown = self.octets.len().min(self.limit);
+        &self.octets[..shown]
+    }
+}
+
 /// What a line carries.
 #[derive(Clone, Copy, Debug)]
 pub enum Carried<'a> {

@@ -1,9 +1,11 @@
 //! Which lines of a log are told, and when.
 
+use crate::links::Links;
 use crate::note::{Note, has_failure};
 use crate::page::Page;
-use crate::text::{write_gap, write_line};
+use crate::telling::Teller;
 use crate::told::{Carried, Told, carried_by};
+use crate::words::Gap;
 use hsms_options::{Excerpt, Lines};
 use std::alloc::{AllocError, Global};
 use std::collections::VecDeque;
@@ -12,11 +14,13 @@ use std::collections::VecDeque;
 /// are told around it.
 pub struct Window {
     excerpt: Excerpt,
+    teller: Teller,
     held: VecDeque<Held>,
     // How many lines are told behind the last failure yet.
     behind: u32,
     // The number of the last line that was told.
     last: u64,
+    links: Links,
     // The octets of a frame.
     octets: Vec<u8>,
 }
@@ -35,12 +39,15 @@ impl Drop for Window {
     fn drop(self) {
         let Window {
             excerpt: _excerpt,
+            teller: _teller,
             held,
             behind: _behind,
             last: _last,
+            links,
             octets,
         } = self;
         drop(held);
+        drop(links);
         drop(octets);
     }
 }
@@ -74,9 +81,11 @@ impl Window {
     pub fn new(alloc: Global, excerpt: Excerpt) -> Window {
         Window {
             excerpt,
+            teller: Teller::new(excerpt),
             held: VecDeque::new(alloc),
             behind: 0,
             last: 0,
+            links: Links::new(alloc),
             octets: Vec::new(alloc),
         }
     }
@@ -124,8 +133,8 @@ impl Window {
         told: Told<'_, '_>,
         notes: &[Note],
     ) -> Result<(), AllocError> {
-        self.go_to(page, told.number);
-        write_line(alloc, page, told, notes)
+        self.go_to(alloc, page, told.number)?;
+        self.teller.line(alloc, page, &mut self.links, told, notes)
     }
 
     // Holds a line in place of the oldest one that is held.
@@ -144,8 +153,7 @@ impl Window {
         held.notes.clear();
         held.notes.extend_from_slice(notes)?;
         held.octets.clear();
-        let shown = told.octets.len().min(told.limit);
-        held.octets.extend_from_slice(&told.octets[..shown])?;
+        held.octets.extend_from_slice(told.shown())?;
         self.held.push_back(held)?;
         Ok(())
     }
@@ -177,7 +185,7 @@ impl Window {
         held: &Held,
         max: u32,
     ) -> Result<(), AllocError> {
-        self.go_to(page, held.number);
+        self.go_to(alloc, page, held.number)?;
         let carried = held.carried(alloc, max, &mut self.octets)?;
         let told = Told {
             number: held.number,
@@ -185,21 +193,33 @@ impl Window {
             limit: held.octets.len(),
             carried,
         };
-        write_line(alloc, page, told, &held.notes)
+        self.teller
+            .line(alloc, page, &mut self.links, told, &held.notes)
     }
 
     // Tells that lines are left out before this one, where it doesn't follow the last one that was told.
-    fn go_to(&mut self, page: &mut Page, number: u64) {
-        if number > self.last.saturating_add(1) {
-            write_gap(page);
-        }
+    fn go_to(&mut self, alloc: Global, page: &mut Page, number: u64) -> Result<(), AllocError> {
+        let from = self.last.saturating_add(1);
         self.last = number;
+        if number <= from {
+            return Ok(());
+        }
+        let to = number - 1;
+        self.teller.gap(alloc, page, Gap { from, to })
     }
 
-    /// Tells that lines are left out behind the last one that was told, of so many lines.
-    pub fn finish(&self, page: &mut Page, lines: u64) {
+    /// Tells that lines are left out behind the last one that was told, of so many lines, and that no line follows.
+    pub fn finish(&self, alloc: Global, page: &mut Page, lines: u64) -> Result<(), AllocError> {
         if lines > self.last {
-            write_gap(page);
+            let from = self.last + 1;
+            self.teller.gap(alloc, page, Gap { from, to: lines })?;
         }
+        self.teller.end_lines(page, &self.links);
+        Ok(())
+    }
+
+    /// What links to the lines that were told may lead to.
+    pub fn links(&self) -> &Links {
+        &self.links
     }
 }

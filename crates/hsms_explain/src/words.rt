@@ -3,6 +3,7 @@
 ghost use Rattle.std.specs.Prelude.{◌≡◌, Some, codes};
 ghost use Rattle.hsms_explain.specs.Words.{alike_text, cause_word, closing_text, concern_text, rest_text, tie_word, why_name};
 
+use crate::moment::Moment;
 use hsms_log::Why;
 use hsms_machine::{Cause, Remedy};
 use hsms_tasks::rule_name;
@@ -16,7 +17,8 @@ pub enum Tie {
     Expires,
 }
 
-fn word_of(tie: Tie) -> &'static str
+/// The word for it.
+pub fn word_of(tie: Tie) -> &'static str
     ensures { result.now ≡ tie_word tie }
 {
     match tie {
@@ -107,6 +109,31 @@ impl fmt::Display for Rest {
     }
 }
 
+/// Lines that are left out: the first of them, and the last.
+#[derive(Clone, Copy, Debug)]
+pub struct Gap {
+    pub from: u64,
+    pub to: u64,
+}
+
+/// Why nothing of a log was judged.
+#[derive(Clone, Copy, Debug)]
+pub enum Unjudged {
+    /// Its first line can't be read.
+    Unreadable,
+    /// It has no entry.
+    NoEntry,
+}
+
+impl fmt::Display for Unjudged {
+    fn fmt<W: fmt::Write>(&self, f: &mut fmt::Formatter<W>) -> fmt::Result {
+        match self {
+            Unjudged::Unreadable => write!(f, "nothing was judged: line 1 can't be read"),
+            Unjudged::NoEntry => write!(f, "nothing was judged: the log has no entry"),
+        }
+    }
+}
+
 /// The name of the rule.
 pub fn name_of(why: Why) -> &'static str
     ensures { result.now ≡ why_name why }
@@ -117,26 +144,70 @@ pub fn name_of(why: Why) -> &'static str
     }
 }
 
-/// How the log is gone on with behind a failure.
+/// How the log is gone on with behind a failure, where with `utc` a time is told as a date.
 #[derive(Clone, Copy, Debug)]
 pub struct GoingOn {
     pub remedy: Remedy,
+    pub utc: bool,
+}
+
+/// An entry that is put before a line, as it would stand in the log.
+#[derive(Clone, Copy, Debug)]
+pub struct Put {
+    time: u64,
+    what: Missing,
+}
+
+// What is missing.
+#[derive(Clone, Copy, Debug)]
+enum Missing {
+    T3(u32),
+    Cut(Cause),
+    Down,
+}
+
+impl Put {
+    /// What the remedy puts before the line, if it does that.
+    pub fn of(remedy: Remedy) -> Option<Put> {
+        let (time, what) = match remedy {
+            Remedy::ExpireFirst(time, system) => (time, Missing::T3(system)),
+            Remedy::CutFirst(time, cause) => (time, Missing::Cut(cause)),
+            Remedy::DownFirst(time) => (time, Missing::Down),
+            Remedy::Raise(_) | Remedy::Discard | Remedy::LeaveOut => return None,
+        };
+        Some(Put { time, what })
+    }
+}
+
+impl fmt::Display for Put {
+    fn fmt<W: fmt::Write>(&self, f: &mut fmt::Formatter<W>) -> fmt::Result {
+        let time = self.time;
+        match self.what {
+            Missing::T3(system) => write!(f, "{time} t3 {system:08x}"),
+            Missing::Cut(cause) => {
+                let cause = word(cause);
+                write!(f, "{time} cut {cause}")
+            }
+            Missing::Down => write!(f, "{time} down"),
+        }
+    }
 }
 
 impl fmt::Display for GoingOn {
     fn fmt<W: fmt::Write>(&self, f: &mut fmt::Formatter<W>) -> fmt::Result {
+        if let Some(put) = Put::of(self.remedy) {
+            return write!(f, "goes on as if `{put}` stood before it");
+        }
         match self.remedy {
-            Remedy::Raise(time) => write!(f, "goes on as if its time were {time}"),
+            Remedy::Raise(time) => {
+                let moment = Moment {
+                    time,
+                    utc: self.utc,
+                };
+                write!(f, "goes on as if its time were {moment}")
+            }
             Remedy::Discard => write!(f, "goes on as if it were thrown away"),
-            Remedy::ExpireFirst(time, system) => {
-                write!(f, "goes on as if `{time} t3 {system:08x}` stood before it")
-            }
-            Remedy::CutFirst(time, cause) => {
-                let cause = word(cause);
-                write!(f, "goes on as if `{time} cut {cause}` stood before it")
-            }
-            Remedy::DownFirst(time) => write!(f, "goes on as if `{time} down` stood before it"),
-            Remedy::LeaveOut => write!(f, "goes on without it"),
+            _ => write!(f, "goes on without it"),
         }
     }
 }

@@ -1,10 +1,12 @@
--- Which lines of a log `hsms explain` tells, by its options.
-use Rattle.std.specs.Prelude.{◌≡◌, ◌≤◌, ◌==◌, ◌&&◌, ◌||◌, ℕ, Bool, nat_le, List, [], ◌∷◌, codes, Option, Some, None}
+-- Which lines of a log `hsms explain` tells and in which form, by its options.
+use Rattle.std.specs.Prelude.{◌≡◌, ◌≤◌, ◌==◌, ◌&&◌, ◌||◌, ℕ, Bool, nat_le, List, [], ◌∷◌, codes, Option, Some, None, unwrap_or}
 use Rattle.clap.specs.Words.{Row, Rule, Text, first_of}
 use Rattle.hsms_options.specs.declared.excerpt.Excerpt.{Excerpt}
 use Rattle.hsms_options.specs.declared.excerpt.Lines.{Lines}
 use Rattle.hsms_options.specs.declared.excerpt.Lines.TheVariants.{All, Failures}
-use Rattle.hsms_options.specs.Number.{Number, number_in, option_of}
+use Rattle.hsms_options.specs.declared.excerpt.Telling.{Telling}
+use Rattle.hsms_options.specs.declared.excerpt.Telling.TheVariants.{Text as TextForm, Json, Html}
+use Rattle.hsms_options.specs.Number.{IsFlag, Number, flag_option, number_in, option_of}
 use Rattle.hsms_options.specs.Service.{text_option}
 
 -- how many lines are told around one that fails
@@ -20,18 +22,31 @@ abbrev pub to_number : Number
 to_number = record { name = codes "to"; least = 1; greatest = 4294967295; left_out = Some 4294967295 }
 
 abbrev pub explain_rules : List Rule
-explain_rules = text_option (codes "only") ∷ option_of around_number ∷ option_of from_number ∷ option_of to_number ∷ []
+explain_rules =
+    text_option (codes "only") ∷ option_of around_number ∷ option_of from_number ∷ option_of to_number
+    ∷ text_option (codes "form") ∷ flag_option (codes "utc") ∷ []
 
 -- the text of the option `only`, if any, that asks for these lines
 abbrev pub only_word : Lines → Option Text
 only_word All = None
 only_word Failures = Some (codes "failures")
 
+-- the name of a form
+abbrev pub telling_word : Telling → Option Text
+telling_word TextForm = Some (codes "text")
+telling_word Json = Some (codes "json")
+telling_word Html = Some (codes "html")
+
+-- the form is that which the option `form` names, and text where it is left out
+abbrev pub HasTelling : List Row → Telling → Type 0
+HasTelling rows telling = Some (unwrap_or (first_of (codes "form") rows) (codes "text")) ≡ telling_word telling
+
 -- the matches ask for this excerpt
 abbrev pub HasExcerpt : List Row → Excerpt → Type 0
 HasExcerpt rows excerpt =
     (first_of (codes "only") rows ≡ only_word excerpt.lines) × (number_in around_number rows ≡ Some excerpt.around)
     × (number_in from_number rows ≡ Some excerpt.from) × (number_in to_number rows ≡ Some excerpt.to)
+    × HasTelling rows excerpt.form × IsFlag (codes "utc") rows excerpt.utc
 
 -- the line of this number lies between the first and the last one that may be told; the greatest number is no limit
 abbrev pub is_between : Excerpt → ℕ → Bool

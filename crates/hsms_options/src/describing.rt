@@ -6,8 +6,8 @@ ghost use Rattle.hsms_options.specs.Options.{audit_command, command_line, encode
 
 use crate::describing_capture::capture_command;
 use crate::describing_options::{
-    around_option, bare_option, depth_option, device_option, from_option, hex_input_option,
-    hex_option, max_option, only_option, system_option, to_option,
+    around_option, bare_option, depth_option, device_option, form_option, from_option,
+    hex_input_option, hex_option, max_option, only_option, system_option, to_option, utc_option,
 };
 use crate::describing_serve::serve_command;
 use clap::Command;
@@ -117,7 +117,9 @@ fn explain_command<'a>(alloc: Global) -> Result<Command<'a>, AllocError>
         .arg(only_option(alloc))?
         .arg(around_option(alloc))?
         .arg(from_option(alloc))?
-        .arg(to_option(alloc))
+        .arg(to_option(alloc))?
+        .arg(form_option(alloc))?
+        .arg(utc_option(alloc))
 }
 
 fn encode_command<'a>(alloc: Global) -> Result<Command<'a>, AllocError>

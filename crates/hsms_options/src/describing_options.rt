@@ -136,6 +136,28 @@ pub fn to_option<'a>(alloc: Global) -> Arg<'a>
         .value_parser(value_parser!(u32).range(i64::from(FIRST_LINE)..))
 }
 
+/// The option `--form`.
+pub fn form_option<'a>(alloc: Global) -> Arg<'a>
+    ensures rule { rule_of result ≡ text_option (codes "form") }
+    ensures local { result.global ≡ false }
+{
+    Arg::new(alloc, "form").long("form").value_name("FORM").help(
+        "Tell it as text, or as json: an object a line [default: text]",
+    )
+}
+
+/// The option `--utc`.
+pub fn utc_option<'a>(alloc: Global) -> Arg<'a>
+    ensures rule { rule_of result ≡ flag_option (codes "utc") }
+    ensures local { result.global ≡ false }
+{
+    flag(
+        alloc,
+        "utc",
+        "Tell times as dates, where the log has them in milliseconds since 1970",
+    )
+}
+
 /// An option without a value.
 pub fn flag<'a>(alloc: Global, name: &'a str, help: &'a str) -> Arg<'a>
     ensures rule { rule_of result ≡ flag_option name.now }

@@ -1,13 +1,14 @@
-//! The options of `hsms explain`: which lines of a log are told.
+//! The options of `hsms explain`: which lines of a log are told, and in which form.
 
-ghost use Rattle.std.specs.Prelude.{◌≡◌, IfSome, None, codes};
+ghost use Rattle.std.specs.Prelude.{◌≡◌, IfSome, Some, None, codes};
 ghost use Rattle.clap.specs.Words.{first_of, found_of, rows_of};
-ghost use Rattle.hsms_options.specs.Excerpt.{HasExcerpt, IsExcerptWithinLimits, only_word};
+ghost use Rattle.hsms_options.specs.Excerpt.{HasExcerpt, HasTelling, IsExcerptWithinLimits, only_word, telling_word};
 ghost use Rattle.hsms_options.specs.declared.excerpt.Excerpt.{Excerpt};
 ghost use Rattle.hsms_options.specs.declared.excerpt.Lines.{Lines};
+ghost use Rattle.hsms_options.specs.declared.excerpt.Telling.{Telling};
 
 use crate::limits::{DEFAULT_AROUND, FIRST_LINE, GREATEST_AROUND, LAST_LINE};
-use crate::values::{number_of, text_of};
+use crate::values::{flag_of, number_of, text_of};
 use clap::ArgMatches;
 
 /// Which kind of lines is told.
@@ -19,7 +20,18 @@ pub enum Lines {
     Failures,
 }
 
-/// What is told of a log.
+/// In which form a log is told.
+#[derive(Clone, Copy, Debug, PartialEq, Eq)]
+pub enum Telling {
+    /// As text, for a reader at a terminal.
+    Text,
+    /// As JSON, an object a line.
+    Json,
+    /// As a page of HTML.
+    Html,
+}
+
+/// What is told of a log, and how.
 #[derive(Clone, Copy, Debug)]
 pub struct Excerpt {
     /// Which kind of lines is told.
@@ -30,6 +42,10 @@ pub struct Excerpt {
     pub from: u32,
     /// The number of the last line that may be told; 4,294,967,295 stands for the last one of the log.
     pub to: u32,
+    /// In which form it is told.
+    pub form: Telling,
+    /// Whether times are told as dates in UTC, as milliseconds since 1970.
+    pub utc: bool,
 }
 
 impl Excerpt {
@@ -54,11 +70,15 @@ pub fn excerpt_of(options: &ArgMatches<'_>) -> Option<Excerpt>
     let around = number_of(options, "around", 0, GREATEST_AROUND, Some(DEFAULT_AROUND))?;
     let from = number_of(options, "from", FIRST_LINE, LAST_LINE, Some(FIRST_LINE))?;
     let to = number_of(options, "to", FIRST_LINE, LAST_LINE, Some(LAST_LINE))?;
+    let form = telling_of(options)?;
+    let utc = flag_of(options, "utc");
     Some(Excerpt {
         lines,
         around,
         from,
         to,
+        form,
+        utc,
     })
 }
 
@@ -71,5 +91,29 @@ fn lines_of(options: &ArgMatches<'_>) -> Option<Lines>
         Some("failures") => Some(Lines::Failures),
         Some(_) => None,
         None => Some(Lines::All),
+    }
+}
+
+// The form that the option asks for: text where it is left out. None where it has another text.
+fn telling_of(options: &ArgMatches<'_>) -> Option<Telling>
+    ensures some { IfSome result (HasTelling (rows_of (found_of options.now))) }
+    ensures none { result ≡ None → (telling : Telling) → HasTelling (rows_of (found_of options.now)) telling → ⊥ }
+{
+    match text_of(options, "form") {
+        Some(text) => telling_named(text),
+        None => Some(Telling::Text),
+    }
+}
+
+// The form of this name.
+fn telling_named(name: &str) -> Option<Telling>
+    ensures some { IfSome result (λ telling. Some name.now ≡ telling_word telling) }
+    ensures none { result ≡ None → (telling : Telling) → Some name.now ≡ telling_word telling → ⊥ }
+{
+    match name {
+        "text" => Some(Telling::Text),
+        "json" => Some(Telling::Json),
+        "html" => Some(Telling::Html),
+        _ => None,
     }
 }

@@ -27,7 +27,7 @@ mod values;
 
 pub use capturing::Capturing;
 pub use describing::command;
-pub use excerpt::{Excerpt, Lines};
+pub use excerpt::{Excerpt, Lines, Telling};
 pub use fault::{ToolFault, exit_status, no_request, refused};
 pub use options::{Form, Request, Task, parse};
 pub use repeating::Repeat;

@@ -1,6 +1,6 @@
 use hsms_explain::explain_to;
 use hsms_frame::{Feed, Store};
-use hsms_options::{Excerpt, Lines, ToolFault};
+use hsms_options::{Excerpt, Lines, Telling, ToolFault};
 use std::alloc::{AllocError, Global};
 use std::process::Abort;
 use std::test::Fail;
@@ -11,6 +11,8 @@ const WHOLE: Excerpt = Excerpt {
     around: 5,
     from: 1,
     to: u32::MAX,
+    form: Telling::Text,
+    utc: false,
 };
 
 // The reply comes a millisecond too late, and no line says that the wait for it was given up.
@@ -155,6 +157,8 @@ const FAILURES: Excerpt = Excerpt {
     around: 1,
     from: 1,
     to: u32::MAX,
+    form: Telling::Text,
+    utc: false,
 };
 
 const LATE_FAILURES_TOLD: &[u8] = b"       ..\n     \
@@ -176,6 +180,8 @@ const FRONT: Excerpt = Excerpt {
     around: 5,
     from: 2,
     to: 4,
+    form: Telling::Text,
+    utc: false,
 };
 
 const LATE_FRONT_TOLD: &[u8] = b"       ..\n     \
@@ -259,6 +265,8 @@ const FROM_SEVEN: Excerpt = Excerpt {
     around: 5,
     from: 7,
     to: u32::MAX,
+    form: Telling::Text,
+    utc: false,
 };
 
 // The lines that fail, and none around them.
@@ -267,6 +275,8 @@ const BARE_FAILURES: Excerpt = Excerpt {
     around: 0,
     from: 1,
     to: u32::MAX,
+    form: Telling::Text,
+    utc: false,
 };
 
 #[test]
@@ -306,6 +316,8 @@ const LAST: Excerpt = Excerpt {
     around: 5,
     from: 15,
     to: u32::MAX,
+    form: Telling::Text,
+    utc: false,
 };
 
 #[test]

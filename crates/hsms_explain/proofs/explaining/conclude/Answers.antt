@@ -16,5 +16,5 @@ returns-clause-told g c = λ text heard. (
   c.in_ok-verdict.verdict,
   c.in_ok-verdict.ensures text heard,
   c.passes.ensures,
-  verdict_last _ _ _ _ _ c.in_ok-write_told.ensures.some c.in_ok-put.ensures.ok (rw c.as_bytes.ensures.value c.in_ok-line.ensures),
+  verdict_last _ _ _ _ _ _ c.in_ok-write_told.ensures.some c.in_ok-put.ensures.ok (rw c.as_bytes.ensures.value c.in_ok-ending.ensures),
 )

@@ -23,7 +23,7 @@ returns-then-count-eq0-clause-told g c = λ input told.
     let found = ends_found _ (length c.loop.block) (g.R.Source.state c.loop.source).ends c.in-Ok.count before c.if-count-eq0.true counted.ends in
     let all = all_read _ _ _ c.in-Ok.count c.pull.new.into c.loop.auditor inv.0 c.in-Ok.ensures.octets c.if-count-eq0.true
     (c.in-Ok.ensures.end c.if-count-eq0.true room) input told in
-    concluded input c.conclude.result c.loop.auditor _ _ _ _ _ all.0 all.1 (found ∙ ap next_count inv.2) inv.4 c.conclude.ensures.told
+    concluded _ input c.conclude.result c.loop.auditor _ _ _ _ _ all.0 all.1 (found ∙ ap next_count inv.2) inv.4 c.conclude.ensures.told
     c.conclude.ensures.some c.conclude.ensures.fault
 
 pub returns-in_err-take-clause-told : goal.returns-in_err-take-clause-told
@@ -42,7 +42,7 @@ pub returns-in_err-write_told-clause-told : goal.returns-in_err-write_told-claus
 returns-in_err-write_told-clause-told g c = λ input told.
     let inv = c.loop.invariant in
     let p = err_from_is_err_and c.from_residual-in_err-write_told.result c.from_residual-in_err-write_told.ensures.1 in
-    rw (p.1, p.2) (stops_early input c.in_err-write_told.field-0.0 _ _ _ _ c.in_err-write_told.ensures.fault
+    rw (p.1, p.2) (stops_early _ input c.in_err-write_told.field-0.0 _ _ _ _ c.in_err-write_told.ensures.fault
     (less_left _ _ _ c.in-Ok.count c.pull.new.into c.loop.auditor inv.0 c.in-Ok.ensures.octets input told)
     (some_more _ _ _ inv.4 c.in_err-write_told.ensures.some))
 

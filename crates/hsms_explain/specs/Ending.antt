@@ -1,0 +1,64 @@
+-- The verdict, as the last thing that is told.
+use Rattle.std.specs.Prelude.{ℕ, List, ◌++◌, codes, decimal}
+use Rattle.hsms_log.specs.declared.verdict.Summary.{Summary}
+use Rattle.hsms_log.specs.declared.verdict.Why.TheVariants.{Unreadable, Broken}
+use Rattle.hsms_log.specs.declared.verdict.Verdict.{Verdict}
+use Rattle.hsms_log.specs.declared.verdict.Verdict.TheVariants.{Pass, Fail}
+use Rattle.hsms_machine.specs.declared.rule.Rule.{Rule}
+use Rattle.hsms_options.specs.declared.excerpt.Telling.{Telling}
+use Rattle.hsms_options.specs.declared.excerpt.Telling.TheVariants.{Text, Json, Html}
+use Rattle.hsms_tasks.specs.Verdict.{rule_name, verdict_line_of}
+
+-- ---- as an object of JSON (RFC 8259), in a line
+
+-- a member whose value is a number, behind the name and what stands before it
+abbrev pub member_of : List ℕ → ℕ → List ℕ
+member_of name number = name ++ decimal number
+
+abbrev pub flow_members_of : Summary → List ℕ
+flow_members_of s =
+    member_of (codes ",\"entries\":") s.entries ++ member_of (codes ",\"sent\":") s.sent ++ member_of (codes ",\"taken\":") s.taken
+
+abbrev pub loss_members_of : Summary → List ℕ
+loss_members_of s = member_of (codes ",\"discarded\":") s.discarded ++ member_of (codes ",\"expired\":") s.expired
+
+-- the log passes, and this is what it holds
+abbrev pub pass_object_of : Summary → List ℕ
+pass_object_of s =
+    codes "{\"type\":\"verdict\",\"verdict\":\"pass\"" ++ flow_members_of s ++ loss_members_of s
+    ++ member_of (codes ",\"waiting\":") s.waiting ++ codes "}\n"
+
+-- the log fails at a line that can't be read
+abbrev pub unreadable_object_of : ℕ → List ℕ
+unreadable_object_of line =
+    codes "{\"type\":\"verdict\",\"verdict\":\"fail\"" ++ member_of (codes ",\"line\":") line
+    ++ codes ",\"rule\":\"unreadable\"}\n"
+
+-- the log fails at a line that breaks a rule
+abbrev pub broken_object_of : ℕ → Rule → List ℕ
+broken_object_of line rule =
+    codes "{\"type\":\"verdict\",\"verdict\":\"fail\"" ++ member_of (codes ",\"line\":") line
+    ++ codes ",\"rule\":\"" ++ rule_name rule ++ codes "\"}\n"
+
+abbrev pub verdict_object_of : Verdict → List ℕ
+verdict_object_of (Pass summary) = pass_object_of summary
+verdict_object_of (Fail line Unreadable) = unreadable_object_of line
+verdict_object_of (Fail line (Broken rule)) = broken_object_of line rule
+
+-- ---- as a paragraph of HTML, in which the page ends
+
+-- what stands before the verdict: a mark of its colour
+abbrev pub mark_of : Verdict → List ℕ
+mark_of (Pass summary) = codes "<p id=\"verdict\" class=\"pass\">"
+mark_of (Fail line why) = codes "<p id=\"verdict\" class=\"fail\">"
+
+abbrev pub page_end_of : Verdict → List ℕ
+page_end_of verdict = mark_of verdict ++ verdict_line_of verdict ++ codes "</p></section></body></html>\n"
+
+-- ---- in each form
+
+-- the verdict, with what stands behind it
+abbrev pub ending_of : Telling → Verdict → List ℕ
+ending_of Text verdict = verdict_line_of verdict
+ending_of Json verdict = verdict_object_of verdict
+ending_of Html verdict = page_end_of verdict

@@ -1,0 +1,113 @@
+//! The verdict, as the last thing that is told.
+
+ghost use Rattle.std.specs.Prelude.{◌≡◌, ◌++◌, IfOk, OnOk, string_bytes};
+ghost use Rattle.hsms_explain.specs.Ending.{broken_object_of, ending_of, flow_members_of, loss_members_of, mark_of, member_of, page_end_of, pass_object_of, unreadable_object_of, verdict_object_of};
+
+use hsms_log::{Summary, Verdict, Why};
+use hsms_machine::Rule;
+use hsms_options::Telling;
+use hsms_tasks::{rule_name, verdict_line};
+use std::alloc::{AllocError, Global};
+
+/// The verdict, in the form in which the log is told, with what stands behind it there.
+pub fn ending(alloc: Global, form: Telling, verdict: Verdict) -> Result<String, AllocError>
+    ensures { IfOk result (λ ending. string_bytes ending ≡ ending_of form verdict) }
+{
+    match form {
+        Telling::Text => verdict_line(alloc, verdict),
+        Telling::Json => verdict_object(alloc, verdict),
+        Telling::Html => page_end(alloc, verdict),
+    }
+}
+
+// The verdict as an object of JSON, in a line.
+fn verdict_object(alloc: Global, verdict: Verdict) -> Result<String, AllocError>
+    ensures { IfOk result (λ object. string_bytes object ≡ verdict_object_of verdict) }
+{
+    match verdict {
+        Verdict::Pass(summary) => pass_object(alloc, summary),
+        Verdict::Fail {
+            line,
+            why: Why::Unreadable,
+        } => unreadable_object(alloc, line),
+        Verdict::Fail {
+            line,
+            why: Why::Broken(rule),
+        } => broken_object(alloc, line, rule),
+    }
+}
+
+fn pass_object(alloc: Global, summary: Summary) -> Result<String, AllocError>
+    ensures { IfOk result (λ object. string_bytes object ≡ pass_object_of summary) }
+{
+    let mut object = String::from_str(alloc, "{\"type\":\"verdict\",\"verdict\":\"pass\"")?;
+    push_flow(&mut object, summary)?;
+    push_losses(&mut object, summary)?;
+    push_member(&mut object, ",\"waiting\":", summary.waiting)?;
+    object.push_str("}\n")?;
+    Ok(object)
+}
+
+fn push_flow(object: &mut String, summary: Summary) -> Result<(), AllocError>
+    ensures { OnOk result (string_bytes object.new ≡ string_bytes object.old ++ flow_members_of summary) }
+{
+    push_member(object, ",\"entries\":", summary.entries)?;
+    push_member(object, ",\"sent\":", summary.sent)?;
+    push_member(object, ",\"taken\":", summary.taken)
+}
+
+fn push_losses(object: &mut String, summary: Summary) -> Result<(), AllocError>
+    ensures { OnOk result (string_bytes object.new ≡ string_bytes object.old ++ loss_members_of summary) }
+{
+    push_member(object, ",\"discarded\":", summary.discarded)?;
+    push_member(object, ",\"expired\":", summary.expired)?;
+    Ok(())
+}
+
+fn unreadable_object(alloc: Global, line: u64) -> Result<String, AllocError>
+    ensures { IfOk result (λ object. string_bytes object ≡ unreadable_object_of line) }
+{
+    let mut object = String::from_str(alloc, "{\"type\":\"verdict\",\"verdict\":\"fail\"")?;
+    push_member(&mut object, ",\"line\":", line)?;
+    object.push_str(",\"rule\":\"unreadable\"}\n")?;
+    Ok(object)
+}
+
+fn broken_object(alloc: Global, line: u64, rule: Rule) -> Result<String, AllocError>
+    ensures { IfOk result (λ object. string_bytes object ≡ broken_object_of line rule) }
+{
+    let mut object = String::from_str(alloc, "{\"type\":\"verdict\",\"verdict\":\"fail\"")?;
+    push_member(&mut object, ",\"line\":", line)?;
+    object.push_str(",\"rule\":\"")?;
+    object.push_str(rule_name(rule))?;
+    object.push_str("\"}\n")?;
+    Ok(object)
+}
+
+fn push_member(object: &mut String, name: &str, number: u64) -> Result<(), AllocError>
+    ensures { OnOk result (string_bytes object.new ≡ string_bytes object.old ++ member_of name.now number) }
+{
+    object.push_str(name)?;
+    write!(object, "{number}")
+}
+
+// The verdict as a paragraph of HTML, and the end of the page.
+fn page_end(alloc: Global, verdict: Verdict) -> Result<String, AllocError>
+    ensures { IfOk result (λ end. string_bytes end ≡ page_end_of verdict) }
+{
+    let line = verdict_line(alloc, verdict)?;
+    let mut end = String::from_str(alloc, mark(verdict))?;
+    end.push_str(&line)?;
+    end.push_str("</p></section></body></html>\n")?;
+    Ok(end)
+}
+
+// What stands before a verdict in HTML.
+fn mark(verdict: Verdict) -> &'static str
+    ensures { result.now ≡ mark_of verdict }
+{
+    match verdict {
+        Verdict::Pass(_) => "<p id=\"verdict\" class=\"pass\">",
+        Verdict::Fail { .. } => "<p id=\"verdict\" class=\"fail\">",
+    }
+}

@@ -1,0 +1,50 @@
+//! Text in a page of HTML.
+
+use crate::page::Page;
+use std::alloc::{AllocError, Global};
+use std::fmt;
+
+// U+FFFD, which stands in place of an octet that has no place in a text.
+const REPLACEMENT: &[u8] = b"\xef\xbf\xbd";
+
+// What stands in place of an octet: a reference where it might be markup.
+fn reference(octet: u8) -> Option<&'static [u8]> {
+    match octet {
+        b'<' => Some(b"&lt;"),
+        b'>' => Some(b"&gt;"),
+        b'&' => Some(b"&amp;"),
+        b'"' => Some(b"&quot;"),
+        b'\'' => Some(b"&#39;"),
+        b'\t' => None,
+        0..=31 | 127 => Some(REPLACEMENT),
+        _ => None,
+    }
+}
+
+/// Lays UTF-8 as text, none of which is markup.
+pub fn lay_text(page: &mut Page, octets: &[u8]) {
+    for octet in octets {
+        match reference(*octet) {
+            Some(reference) => page.lay(reference),
+            None => page.lay(&[*octet]),
+        }
+    }
+}
+
+/// Lays words as text.
+pub fn lay_words<D: fmt::Display>(
+    alloc: Global,
+    page: &mut Page,
+    words: &D,
+) -> Result<(), AllocError> {
+    let words = words.to_string(alloc)?;
+    lay_text(page, words.as_bytes());
+    Ok(())
+}
+
+/// Lays octets of the log as text. What isn't UTF-8 in them is replaced by U+FFFD.
+pub fn lay_octets(alloc: Global, page: &mut Page, octets: &[u8]) -> Result<(), AllocError> {
+    let text = String::from_utf8_lossy(alloc, octets)?;
+    lay_text(page, text.as_str().as_bytes());
+    Ok(())
+}

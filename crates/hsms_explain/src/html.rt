@@ -1,0 +1,658 @@
+//! What is told, as a page of HTML: a ladder of the messages between the two ends, and what stands on top of it.
+//!
+//! The page is written as the lines come. What stands on top and is known at the end alone, as the failures and the
+//! verdict, is written last, and the style puts it there.
+
+use crate::alike::{Group, Groups, MOST};
+use crate::escaping::{lay_octets, lay_text, lay_words};
+use crate::expecting::{Expected, Function};
+use crate::links::Links;
+use crate::moment::Moment;
+use crate::note::{Failing, Note, UNREADABLE};
+use crate::page::Page;
+use crate::primaries::{Outcome, Primaries, Times};
+use crate::step::{Step, What};
+use crate::style::STYLE;
+use crate::tally::Tally;
+use crate::text::behind_time;
+use crate::told::{Carried, Told};
+use crate::words::{Alike, Closing, Concern, Gap, GoingOn, Unjudged, name_of};
+use hsms_frame::{Header, Kind, kind};
+use hsms_log::Why;
+use hsms_machine::{GREATEST_DEPTH, Mark, Remedy, Role, Rule, Settings};
+use hsms_options::sentence;
+use std::alloc::{AllocError, Global};
+use std::fmt;
+
+// What stands before the style, behind it, and before the lines.
+const HEAD: &str = "<!DOCTYPE html>\n<html lang=\"en\"><head><meta charset=\"utf-8\">\
+    <meta name=\"viewport\" content=\"width=device-width, initial-scale=1\"><title>hsms explain</title>\n<style>";
+
+const BODY: &str = "</style></head>\n<body>\n";
+
+// The heads of the columns that tell what became of primaries.
+const COLUMNS: &str = "<table>\n<tr><th>Primaries</th><th>all</th><th>answered</th><th>aborted</th>\
+    <th>expired</th><th>rejected</th><th>ended</th><th>waiting</th><th>least ms</th><th>median</th><th>p99</th>\
+    <th>greatest</th></tr>\n";
+
+fn put(page: &mut Page, markup: &str) {
+    page.lay(markup.as_bytes());
+}
+
+/// Writes the head of the page, and begins the lines.
+pub fn begin(page: &mut Page, utc: bool) {
+    put(page, HEAD);
+    put(page, STYLE);
+    put(page, BODY);
+    put(
+        page,
+        if utc {
+            "<main class=\"utc\">\n"
+        } else {
+            "<main>\n"
+        },
+    );
+}
+
+/// Writes above the ladder which ends these are: left the one whose log it is.
+pub fn write_ends(page: &mut Page, settings: Settings) {
+    let ends = match settings.role() {
+        Role::Host => "<header><b>host</b><b>equipment</b></header>\n",
+        Role::Equipment => "<header><b>equipment</b><b>host</b></header>\n",
+    };
+    put(page, ends);
+}
+
+/// Ends the lines, and begins what stands on top of them.
+pub fn end_lines(page: &mut Page, links: &Links) {
+    put(page, "</main>\n<section>\n");
+    write_open(page, links);
+}
+
+/// Writes a line of the log and its notes: with `utc` times as dates.
+pub fn write_line(
+    alloc: Global,
+    page: &mut Page,
+    links: &mut Links,
+    told: Told<'_, '_>,
+    notes: &[Note],
+    utc: bool,
+) -> Result<(), AllocError> {
+    links.note(told.number)?;
+    begin_row(page, told, notes);
+    write_said(alloc, page, told, utc)?;
+    write_closings(alloc, page, links, notes)?;
+    write_ahead(page, links, told, notes)?;
+    for note in notes {
+        write_failure(alloc, page, links, note, utc)?;
+    }
+    put(page, "</div>\n");
+    Ok(())
+}
+
+// Begins the row of a line, and writes its number.
+fn begin_row(page: &mut Page, told: Told<'_, '_>, notes: &[Note]) {
+    put(page, "<div class=\"row ");
+    put(page, class_of(told.carried));
+    if notes.iter().any(is_failure) {
+        put(page, " bad");
+    }
+    put(page, "\" id=\"l");
+    page.lay_number(told.number, 0);
+    put(page, "\"><a class=\"n\" href=\"#l");
+    page.lay_number(told.number, 0);
+    put(page, "\">");
+    page.lay_number(told.number, 0);
+    put(page, "</a>");
+}
+
+// Whether a note is that of a failure, told whole or by another one.
+fn is_failure(note: &Note) -> bool {
+    match note {
+        Note::Fails(_) | Note::FailsAlike(_) => true,
+        Note::Closes(_) => false,
+    }
+}
+
+// How the row of a line is drawn.
+fn class_of(carried: Carried<'_>) -> &'static str {
+    match carried {
+        Carried::Entry(step, _) => match step.what {
+            What::Frame(mark, header) => frame_class(mark, header),
+            What::Up => "event up",
+            What::T3(_) => "timer",
+            What::Cut(_) => "event cut",
+            What::Down => "event down",
+        },
+        Carried::Nothing | Carried::Unreadable => "plain",
+    }
+}
+
+fn frame_class(mark: Mark, header: Header) -> &'static str {
+    match (mark, is_data(header)) {
+        (Mark::Sent, true) => "sent",
+        (Mark::Sent, false) => "sent control",
+        (Mark::Taken, true) => "taken",
+        (Mark::Taken, false) => "taken control",
+        (Mark::Discarded, true) => "lost",
+        (Mark::Discarded, false) => "lost control",
+    }
+}
+
+fn is_data(header: Header) -> bool {
+    match kind(header) {
+        Kind::Primary | Kind::Reply => true,
+        _ => false,
+    }
+}
+
+// Writes what a line says.
+fn write_said(
+    alloc: Global,
+    page: &mut Page,
+    told: Told<'_, '_>,
+    utc: bool,
+) -> Result<(), AllocError> {
+    match told.carried {
+        Carried::Entry(step, text) => {
+            write_time(
+                alloc,
+                page,
+                Moment {
+                    time: step.time,
+                    utc,
+                },
+            )?;
+            write_entry(alloc, page, told, step, text)
+        }
+        Carried::Nothing | Carried::Unreadable => {
+            write_element(alloc, page, "pre", told.shown())
+        }
+    }
+}
+
+fn write_time(alloc: Global, page: &mut Page, moment: Moment) -> Result<(), AllocError> {
+    put(page, "<span>");
+    lay_words(alloc, page, &moment)?;
+    put(page, "</span>");
+    Ok(())
+}
+
+// Writes an element whose text are octets of the log.
+fn write_element(
+    alloc: Global,
+    page: &mut Page,
+    name: &str,
+    octets: &[u8],
+) -> Result<(), AllocError> {
+    put(page, "<");
+    put(page, name);
+    put(page, ">");
+    lay_octets(alloc, page, octets)?;
+    put(page, "</");
+    put(page, name);
+    put(page, ">");
+    Ok(())
+}
+
+// Writes an entry: a frame as an arrow, the words of another one.
+fn write_entry(
+    alloc: Global,
+    page: &mut Page,
+    told: Told<'_, '_>,
+    step: Step,
+    text: &[u8],
+) -> Result<(), AllocError> {
+    match step.what {
+        What::Frame(_, header) => write_frame(alloc, page, header, text),
+        What::Up | What::T3(_) | What::Cut(_) | What::Down => {
+            write_element(alloc, page, "b", behind_time(told.octets))
+        }
+    }
+}
+
+// Writes a frame: what it is, and folded the line that `hsms show` shows of it.
+fn write_frame(
+    alloc: Global,
+    page: &mut Page,
+    header: Header,
+    text: &[u8],
+) -> Result<(), AllocError> {
+    let octets = page.message(header, text, GREATEST_DEPTH)?;
+    let shown = String::from_utf8_lossy(alloc, octets)?;
+    let line = shown.trim_end();
+    put(page, "<details><summary>");
+    write_label(alloc, page, header, line)?;
+    put(page, "</summary><pre>");
+    lay_text(page, line.as_bytes());
+    put(page, "</pre></details>");
+    Ok(())
+}
+
+// Writes what a frame is, and its system bytes.
+fn write_label(
+    alloc: Global,
+    page: &mut Page,
+    header: Header,
+    line: &str,
+) -> Result<(), AllocError> {
+    let system = header.system;
+    put(page, "<b>");
+    if is_data(header) {
+        lay_words(alloc, page, &Label { header })?;
+    } else {
+        write_control(page, line);
+    }
+    put(page, "</b> <i>");
+    let system = format!(in alloc; "{system:08x}")?;
+    lay_text(page, system.as_bytes());
+    put(page, "</i>");
+    Ok(())
+}
+
+// Writes what a control message is: the first word of its line, and what stands behind its system bytes.
+fn write_control(page: &mut Page, line: &str) {
+    for (place, word) in line.split(' ').take(4).enumerate() {
+        if place == 0 {
+            lay_text(page, word.as_bytes());
+        }
+        if place == 3 {
+            put(page, " ");
+            lay_text(page, word.as_bytes());
+        }
+    }
+}
+
+// The stream and the function of data, and whether it asks for a reply.
+#[derive(Clone, Copy)]
+struct Label {
+    header: Header,
+}
+
+impl fmt::Display for Label {
+    fn fmt<W: fmt::Write>(&self, f: &mut fmt::Formatter<W>) -> fmt::Result {
+        let function = Function {
+            stream: self.header.stream(),
+            function: self.header.function(),
+        };
+        if self.header.wait() {
+            write!(f, "{function} W")
+        } else {
+            write!(f, "{function}")
+        }
+    }
+}
+
+// Writes words, as what leads to a line where that is told, and as that to which a link to what closes a line leads.
+fn write_link<D: fmt::Display>(
+    alloc: Global,
+    page: &mut Page,
+    to: Option<u64>,
+    closed: Option<u64>,
+    words: &D,
+) -> Result<(), AllocError> {
+    put(page, "<a");
+    write_place(page, " id=\"r", closed);
+    write_place(page, " href=\"#l", to);
+    put(page, ">");
+    lay_words(alloc, page, words)?;
+    put(page, "</a>");
+    Ok(())
+}
+
+// Writes an attribute that ends with the number of a line, if there is one.
+fn write_place(page: &mut Page, front: &str, line: Option<u64>) {
+    if let Some(line) = line {
+        put(page, front);
+        page.lay_number(line, 0);
+        put(page, "\"");
+    }
+}
+
+// Writes what a line closes.
+fn write_closings(
+    alloc: Global,
+    page: &mut Page,
+    links: &mut Links,
+    notes: &[Note],
+) -> Result<(), AllocError> {
+    for note in notes {
+        if let Note::Closes(closing) = note {
+            write_closing(alloc, page, links, *closing)?;
+        }
+    }
+    Ok(())
+}
+
+fn write_closing(
+    alloc: Global,
+    page: &mut Page,
+    links: &mut Links,
+    closing: Closing,
+) -> Result<(), AllocError> {
+    let closed = links.close(closing.line);
+    put(page, "<p class=\"at\">");
+    write_link(alloc, page, links.told(closing.line), closed, &closing)?;
+    put(page, "</p>");
+    Ok(())
+}
+
+// Writes a link to what will close the transaction that a line opens, and where a connection begins what is open.
+fn write_ahead(
+    page: &mut Page,
+    links: &mut Links,
+    told: Told<'_, '_>,
+    notes: &[Note],
+) -> Result<(), AllocError> {
+    if let Carried::Entry(step, _) = told.carried {
+        if opens(step.what, notes) && links.open(told.number)? {
+            write_place(page, "<p class=\"at\"><a href=\"#r", Some(told.number));
+            put(page, ">reply</a></p>");
+        }
+        if matches!(step.what, What::Up) {
+            write_open(page, links);
+            links.close_all();
+        }
+    }
+    Ok(())
+}
+
+// Whether an entry opens a transaction that a line may close.
+fn opens(what: What, notes: &[Note]) -> bool {
+    match what {
+        What::Frame(Mark::Sent | Mark::Taken, header) => {
+            asks(header) && notes.iter().all(lets_stand)
+        }
+        What::Frame(Mark::Discarded, _) | What::Up | What::T3(_) | What::Cut(_) | What::Down => {
+            false
+        }
+    }
+}
+
+fn asks(header: Header) -> bool {
+    match kind(header) {
+        Kind::Primary => header.wait(),
+        Kind::SelectReq | Kind::LinktestReq => true,
+        _ => false,
+    }
+}
+
+// Whether a frame with this note is taken in: what failed is what lacks before it, or its time.
+fn lets_stand(note: &Note) -> bool {
+    let why = match note {
+        Note::Closes(_) => return true,
+        Note::Fails(failing) => failing.why,
+        Note::FailsAlike(alike) => alike.why,
+    };
+    match why {
+        Why::Broken(Rule::T3Overdue | Rule::LinkOverdue | Rule::Backwards) => true,
+        Why::Broken(_) | Why::Unreadable => false,
+    }
+}
+
+// Writes the lines that no line on the page closes.
+fn write_open(page: &mut Page, links: &Links) {
+    let lines = links.all_open();
+    if lines.is_empty() {
+        return;
+    }
+    put(page, "<p class=\"open\">Not closed by a line here:");
+    for line in lines {
+        write_place(page, " <a id=\"r", Some(*line));
+        write_place(page, " href=\"#l", links.told(*line));
+        put(page, ">");
+        page.lay_number(*line, 0);
+        put(page, "</a>");
+    }
+    put(page, "</p>\n");
+}
+
+fn write_failure(
+    alloc: Global,
+    page: &mut Page,
+    links: &mut Links,
+    note: &Note,
+    utc: bool,
+) -> Result<(), AllocError> {
+    match note {
+        Note::Closes(_) => Ok(()),
+        Note::Fails(failing) => write_failing(alloc, page, links, failing, utc),
+        Note::FailsAlike(alike) => write_alike(alloc, page, links, alike),
+    }
+}
+
+fn write_alike(
+    alloc: Global,
+    page: &mut Page,
+    links: &Links,
+    alike: &Alike,
+) -> Result<(), AllocError> {
+    put(page, "<div class=\"f\"><p>");
+    write_link(alloc, page, links.told(alike.line), None, alike)?;
+    put(page, "</p></div>");
+    Ok(())
+}
+
+fn write_failing(
+    alloc: Global,
+    page: &mut Page,
+    links: &mut Links,
+    failing: &Failing,
+    utc: bool,
+) -> Result<(), AllocError> {
+    write_rule(page, name_of(failing.why), failing.sentence);
+    write_concern(alloc, page, links, failing)?;
+    if let Some(expected) = failing.expected {
+        write_expected(alloc, page, links, expected)?;
+    }
+    if let Some(remedy) = failing.remedy {
+        put(page, "<p>");
+        lay_words(alloc, page, &GoingOn { remedy, utc })?;
+        put(page, "</p>");
+    }
+    put(page, "</div>");
+    Ok(())
+}
+
+fn write_rule(page: &mut Page, name: &str, sentence: &str) {
+    put(page, "<div class=\"f\"><p><b>FAIL ");
+    put(page, name);
+    put(page, "</b>: ");
+    lay_text(page, sentence.as_bytes());
+    put(page, "</p>");
+}
+
+// Writes which line a failure concerns. Where that is supposed to have expired, it is closed.
+fn write_concern(
+    alloc: Global,
+    page: &mut Page,
+    links: &mut Links,
+    failing: &Failing,
+) -> Result<(), AllocError> {
+    let Some(line) = failing.concerns else {
+        return Ok(());
+    };
+    let closed = match failing.remedy {
+        Some(Remedy::ExpireFirst(_, _)) => links.close(line),
+        _ => None,
+    };
+    put(page, "<p>");
+    write_link(alloc, page, links.told(line), closed, &Concern { line })?;
+    put(page, "</p>");
+    Ok(())
+}
+
+fn write_expected(
+    alloc: Global,
+    page: &mut Page,
+    links: &Links,
+    expected: Expected,
+) -> Result<(), AllocError> {
+    let to = match expected.line() {
+        Some(line) => links.told(line),
+        None => None,
+    };
+    put(page, "<p>");
+    write_link(alloc, page, to, None, &expected)?;
+    put(page, "</p>");
+    Ok(())
+}
+
+/// Writes that lines are left out.
+pub fn write_gap(page: &mut Page, gap: Gap) {
+    put(page, "<div class=\"gap\">");
+    if gap.from < gap.to {
+        put(page, "lines ");
+        page.lay_number(gap.from, 0);
+        put(page, " to ");
+    } else {
+        put(page, "line ");
+    }
+    page.lay_number(gap.to, 0);
+    put(page, " left out</div>\n");
+}
+
+/// Writes that nothing was judged.
+pub fn write_unjudged(
+    alloc: Global,
+    page: &mut Page,
+    unjudged: Unjudged,
+) -> Result<(), AllocError> {
+    put(page, "<p>");
+    lay_words(alloc, page, &unjudged)?;
+    put(page, "</p>\n");
+    Ok(())
+}
+
+/// Writes the groups of the failures, each with a link to the first of them.
+pub fn write_groups(page: &mut Page, groups: &Groups) {
+    put(page, "<ol>\n");
+    let mut count = 0usize;
+    for group in groups.iter() {
+        write_group(page, *group);
+        count = count.saturating_add(1);
+    }
+    put(page, "</ol>\n");
+    if count >= MOST {
+        put(
+            page,
+            "<p>Failures of further kinds stand at their lines alone.</p>\n",
+        );
+    }
+}
+
+fn write_group(page: &mut Page, group: Group) {
+    put(page, "<li><a href=\"#l");
+    page.lay_number(group.first, 0);
+    put(page, "\"><b>");
+    put(page, name_of(group.why));
+    put(page, "</b> line ");
+    page.lay_number(group.first, 0);
+    put(page, "</a>: ");
+    lay_text(page, matter_of(group.why).as_bytes());
+    if group.count > 1 {
+        put(page, "; ");
+        page.lay_number(group.count - 1, 0);
+        put(page, " more like it, up to line ");
+        page.lay_number(group.last, 0);
+    }
+    put(page, "</li>\n");
+}
+
+// What is the matter with all lines that fail so.
+fn matter_of(why: Why) -> &'static str {
+    match why {
+        Why::Unreadable => UNREADABLE,
+        Why::Broken(Rule::WBit) => "it asks for a reply, and may not",
+        Why::Broken(rule) => sentence(rule),
+    }
+}
+
+/// Writes how often each rule was broken.
+pub fn write_failures(alloc: Global, page: &mut Page, tally: &Tally) -> Result<(), AllocError> {
+    let words = tally.words(alloc)?;
+    put(page, "<p class=\"counts\">");
+    lay_text(page, words.as_bytes());
+    put(page, "</p>\n");
+    Ok(())
+}
+
+/// Writes what became of the primaries that ask for a reply.
+pub fn write_primaries(
+    alloc: Global,
+    page: &mut Page,
+    links: &Links,
+    primaries: &Primaries,
+) -> Result<(), AllocError> {
+    if primaries.len() == 0 {
+        return Ok(());
+    }
+    put(page, COLUMNS);
+    for place in 0..primaries.len() {
+        if let Some(outcome) = primaries.outcome(place) {
+            write_outcome(alloc, page, links, outcome)?;
+        }
+    }
+    put(page, "</table>\n");
+    Ok(())
+}
+
+// Writes what became of the primaries of a kind.
+fn write_outcome(
+    alloc: Global,
+    page: &mut Page,
+    links: &Links,
+    outcome: Outcome,
+) -> Result<(), AllocError> {
+    put(page, "<tr><td>");
+    match outcome.function() {
+        Some(function) => lay_words(alloc, page, &function)?,
+        None => put(page, "others"),
+    }
+    put(page, " W ");
+    put(page, outcome.way());
+    put(page, "</td><td>");
+    page.lay_number(outcome.counts.opened, 0);
+    put(page, "</td>");
+    write_counts(page, outcome);
+    match outcome.times {
+        Some(times) => write_times(page, links, times),
+        None => put(page, "<td></td><td></td><td></td><td></td>"),
+    }
+    put(page, "</tr>\n");
+    Ok(())
+}
+
+fn write_counts(page: &mut Page, outcome: Outcome) {
+    let counts = outcome.counts;
+    let cells = [
+        counts.answered,
+        counts.aborted,
+        counts.expired,
+        counts.rejected,
+        outcome.ended(),
+        outcome.waiting,
+    ];
+    for cell in cells {
+        put(page, "<td>");
+        if cell > 0 {
+            page.lay_number(cell, 0);
+        }
+        put(page, "</td>");
+    }
+}
+
+fn write_times(page: &mut Page, links: &Links, times: Times) {
+    for time in [times.least, times.median, times.most] {
+        put(page, "<td>");
+        page.lay_number(time, 0);
+        put(page, "</td>");
+    }
+    put(page, "<td>");
+    page.lay_number(times.greatest, 0);
+    put(page, " (<a");
+    write_place(page, " href=\"#l", links.told(times.line));
+    put(page, ">line ");
+    page.lay_number(times.line, 0);
+    put(page, "</a>)</td>");
+}

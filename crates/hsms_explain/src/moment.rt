@@ -1,0 +1,49 @@
+//! A time of a log, as it is told.
+
+use jiff::Timestamp;
+use std::fmt;
+
+/// A time in ms: told as it is, or with `utc` as the date so long after the beginning of 1970, in UTC and to the
+/// millisecond, up to the end of the year 9999.
+#[derive(Clone, Copy, Debug)]
+pub struct Moment {
+    pub time: u64,
+    pub utc: bool,
+}
+
+impl Moment {
+    /// The date, where it is told as one.
+    pub fn date(self) -> Option<Date> {
+        if !self.utc {
+            return None;
+        }
+        let ms = i64::try_from(self.time).ok()?;
+        let timestamp = Timestamp::from_millisecond(ms).ok()?;
+        Some(Date { timestamp })
+    }
+}
+
+impl fmt::Display for Moment {
+    fn fmt<W: fmt::Write>(&self, f: &mut fmt::Formatter<W>) -> fmt::Result {
+        match self.date() {
+            Some(date) => write!(f, "{date}"),
+            None => {
+                let time = self.time;
+                write!(f, "{time}")
+            }
+        }
+    }
+}
+
+/// A date and its time in UTC, to the millisecond.
+#[derive(Clone, Copy, Debug)]
+pub struct Date {
+    timestamp: Timestamp,
+}
+
+impl fmt::Display for Date {
+    fn fmt<W: fmt::Write>(&self, f: &mut fmt::Formatter<W>) -> fmt::Result {
+        let timestamp = self.timestamp;
+        write!(f, "{timestamp:.3}")
+    }
+}

@@ -1,0 +1,136 @@
+//! The form in which a log is told.
+
+use crate::alike::Groups;
+use crate::links::Links;
+use crate::note::Note;
+use crate::page::Page;
+use crate::primaries::Primaries;
+use crate::tally::Tally;
+use crate::told::Told;
+use crate::words::{Gap, Unjudged};
+use crate::{html, json, text};
+use hsms_machine::Settings;
+use hsms_options::{Excerpt, Telling};
+use std::alloc::{AllocError, Global};
+
+/// Writes what is told in the form that is asked for, with times as they are or as dates.
+#[derive(Clone, Copy, Debug)]
+pub struct Teller {
+    form: Telling,
+    utc: bool,
+}
+
+impl Teller {
+    /// What writes this excerpt.
+    pub fn new(excerpt: Excerpt) -> Teller {
+        Teller {
+            form: excerpt.form,
+            utc: excerpt.utc,
+        }
+    }
+
+    /// Writes what stands before all lines.
+    pub fn begin(self, page: &mut Page) {
+        match self.form {
+            Telling::Text | Telling::Json => {}
+            Telling::Html => html::begin(page, self.utc),
+        }
+    }
+
+    /// Writes which ends these are, before the lines of a log with these settings.
+    pub fn ends(self, page: &mut Page, settings: Settings) {
+        match self.form {
+            Telling::Text | Telling::Json => {}
+            Telling::Html => html::write_ends(page, settings),
+        }
+    }
+
+    /// Writes what stands behind all lines.
+    pub fn end_lines(self, page: &mut Page, links: &Links) {
+        match self.form {
+            Telling::Text | Telling::Json => {}
+            Telling::Html => html::end_lines(page, links),
+        }
+    }
+
+    /// Writes a line, and what is noted of it.
+    pub fn line(
+        self,
+        alloc: Global,
+        page: &mut Page,
+        links: &mut Links,
+        told: Told<'_, '_>,
+        notes: &[Note],
+    ) -> Result<(), AllocError> {
+        match self.form {
+            Telling::Text => text::write_line(alloc, page, told, notes, self.utc),
+            Telling::Json => json::write_line(alloc, page, told, notes, self.utc),
+            Telling::Html => html::write_line(alloc, page, links, told, notes, self.utc),
+        }
+    }
+
+    /// Writes that lines are left out.
+    pub fn gap(self, alloc: Global, page: &mut Page, gap: Gap) -> Result<(), AllocError> {
+        match self.form {
+            Telling::Text => {
+                text::write_gap(page);
+                Ok(())
+            }
+            Telling::Json => json::write_gap(alloc, page, gap),
+            Telling::Html => {
+                html::write_gap(page, gap);
+                Ok(())
+            }
+        }
+    }
+
+    /// Writes that nothing was judged.
+    pub fn unjudged(
+        self,
+        alloc: Global,
+        page: &mut Page,
+        unjudged: Unjudged,
+    ) -> Result<(), AllocError> {
+        match self.form {
+            Telling::Text => text::write_words(alloc, page, &unjudged),
+            Telling::Json => json::write_unjudged(alloc, page, unjudged),
+            Telling::Html => html::write_unjudged(alloc, page, unjudged),
+        }
+    }
+
+    /// Writes of each group how many failures it has, or how many of them weren't told whole.
+    pub fn groups(self, alloc: Global, page: &mut Page, groups: &Groups) -> Result<(), AllocError> {
+        match self.form {
+            Telling::Text => text::write_rests(alloc, page, groups),
+            Telling::Json => json::write_rests(alloc, page, groups),
+            Telling::Html => {
+                html::write_groups(page, groups);
+                Ok(())
+            }
+        }
+    }
+
+    /// Writes how often each rule was broken.
+    pub fn failures(self, alloc: Global, page: &mut Page, tally: &Tally) -> Result<(), AllocError> {
+        match self.form {
+            Telling::Text => text::write_failures(alloc, page, tally),
+            Telling::Json => json::write_failures(alloc, page, tally),
+            Telling::Html => html::write_failures(alloc, page, tally),
+        }
+    }
+
+    /// Writes what became of the primaries of each kind.
+    pub fn primaries(
+        self,
+        alloc: Global,
+        page: &mut Page,
+        links: &Links,
+        primaries: &Primaries,
+    ) -> Result<(), AllocError> {
+        match self.form {
+            Telling::Text => text::write_primaries(alloc, page, primaries),
+            Telling::Json => json::write_primaries(alloc, page, primaries),
+            Telling::Html => html::write_primaries(alloc, page, links, primaries),
+        }
+    }
+}
