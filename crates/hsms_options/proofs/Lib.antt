@@ -1,2 +1,3 @@
 pub mod Asked
 pub mod Described
+pub mod Ranges

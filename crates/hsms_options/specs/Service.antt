@@ -1,6 +1,7 @@
 -- What the options of `hsms serve` are, and what they ask for.
-use Rattle.std.specs.Prelude.{◌≡◌, ◌++◌, ℕ, true, List, [], ◌∷◌, codes, Some, None, string_bytes, unwrap_or}
+use Rattle.std.specs.Prelude.{◌≡◌, ◌++◌, ℕ, true, pos, List, [], ◌∷◌, codes, Some, None, string_bytes, unwrap_or}
 use Rattle.clap.specs.Words.{App, Row, Rule, Text, first_of, new_rule, with_rule}
+use Rattle.clap.specs.declared.builder.value_parser.ValueParser.TheVariants.{Signed}
 use Rattle.hsms_machine.specs.declared.settings.Role.{Role}
 use Rattle.hsms_machine.specs.declared.settings.Role.TheVariants.{Host, Equipment}
 use Rattle.hsms_machine.specs.declared.settings.Side.{Side}
@@ -55,7 +56,11 @@ connections_number = record { name = codes "connections"; least = 1; greatest = 
 abbrev pub text_option : Text → Rule
 text_option name = record (new_rule name) { long = Some name; value_names = 1 }
 
--- the same, which has to be given
+-- the same with a number, which is from one to another
+abbrev pub ranged_option : Text → ℕ → ℕ → Rule
+ranged_option name least greatest = record (text_option name) { parser = Some (Signed (pos least) (pos greatest)) }
+
+-- an option with a text that has to be given
 abbrev pub needed_option : Text → Rule
 needed_option name = record (text_option name) { required = true }
 

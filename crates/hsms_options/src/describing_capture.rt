@@ -7,10 +7,12 @@ ghost use Rattle.hsms_options.specs.Number.{option_of};
 ghost use Rattle.hsms_options.specs.Options.{capture_command};
 ghost use Rattle.hsms_options.specs.Service.{text_option, with_rules};
 
-use crate::describing_options::{depth_option, device_option, max_option};
+use crate::describing_options::{
+    depth_option, device_option, max_option, number_option, word_option,
+};
 use crate::describing_serve::with_times;
 use crate::limits::{GREATEST_PORT, LEAST_PORT};
-use clap::{Arg, Command, value_parser};
+use clap::{Arg, Command};
 use std::alloc::{AllocError, Global};
 
 const CAPTURE_USAGE: &str = "hsms capture [OPTIONS] < CAPTURE";
@@ -74,19 +76,18 @@ fn captured_port_option<'a>(alloc: Global) -> Arg<'a>
     ensures rule { rule_of result ≡ option_of captured_number }
     ensures local { result.global ≡ false }
 {
-    Arg::new(alloc, "port")
-        .long("port")
-        .value_name("N")
-        .help("TCP port of the ends that listen: 1 to 65535 [default: 5000]")
-        .value_parser(value_parser!(u16).range(i64::from(LEAST_PORT)..=i64::from(GREATEST_PORT)))
+    number_option(
+        alloc,
+        "port",
+        u32::from(LEAST_PORT),
+        u32::from(GREATEST_PORT),
+        "TCP port of the ends that listen: 1 to 65535 [default: 5000]",
+    )
 }
 
 fn role_option<'a>(alloc: Global, name: &'a str, help: &'a str) -> Arg<'a>
     ensures rule { rule_of result ≡ text_option name.entry.now }
     ensures local { result.global ≡ false }
 {
-    Arg::new(alloc, name)
-        .long(name)
-        .value_name("ROLE")
-        .help(help)
+    word_option(alloc, name, "ROLE", help)
 }

@@ -3,10 +3,10 @@
 ghost use Rattle.std.specs.Prelude.{◌≡◌, codes, false};
 ghost use Rattle.clap.specs.Words.{rule_of};
 ghost use Rattle.hsms_options.specs.Excerpt.{around_number, from_number, to_number};
-ghost use Rattle.hsms_options.specs.Service.{text_option};
+ghost use Rattle.hsms_options.specs.Service.{ranged_option, text_option};
 ghost use Rattle.hsms_options.specs.Number.{depth_number, device_number, flag_option, max_number, option_of, system_number};
 
-use crate::limits::{FIRST_LINE, GREATEST_AROUND};
+use crate::limits::{FIRST_LINE, GREATEST_AROUND, LAST_LINE};
 use clap::{Arg, ArgAction, value_parser};
 use hsms_machine::{GREATEST_DEPTH, GREATEST_DEVICE, GREATEST_MAX, LEAST_DEPTH, LEAST_MAX};
 use std::alloc::Global;
@@ -16,11 +16,13 @@ pub fn max_option<'a>(alloc: Global) -> Arg<'a>
     ensures rule { rule_of result ≡ option_of max_number }
     ensures local { result.global ≡ false }
 {
-    Arg::new(alloc, "max")
-        .long("max")
-        .value_name("N")
-        .help("Longest header and text of a message, in octets: 256 to 33554432 [default: 1048576]")
-        .value_parser(value_parser!(u32).range(i64::from(LEAST_MAX)..=i64::from(GREATEST_MAX)))
+    number_option(
+        alloc,
+        "max",
+        LEAST_MAX,
+        GREATEST_MAX,
+        "Longest header and text of a message, in octets: 256 to 33554432 [default: 1048576]",
+    )
 }
 
 /// The option `--depth`.
@@ -28,11 +30,13 @@ pub fn depth_option<'a>(alloc: Global) -> Arg<'a>
     ensures rule { rule_of result ≡ option_of depth_number }
     ensures local { result.global ≡ false }
 {
-    Arg::new(alloc, "depth")
-        .long("depth")
-        .value_name("N")
-        .help("Deepest nesting of lists: 1 to 100 [default: 32]")
-        .value_parser(value_parser!(u8).range(i64::from(LEAST_DEPTH)..=i64::from(GREATEST_DEPTH)))
+    number_option(
+        alloc,
+        "depth",
+        u32::from(LEAST_DEPTH),
+        u32::from(GREATEST_DEPTH),
+        "Deepest nesting of lists: 1 to 100 [default: 32]",
+    )
 }
 
 /// The option `--device`.
@@ -40,11 +44,13 @@ pub fn device_option<'a>(alloc: Global) -> Arg<'a>
     ensures rule { rule_of result ≡ option_of device_number }
     ensures local { result.global ≡ false }
 {
-    Arg::new(alloc, "device")
-        .long("device")
-        .value_name("N")
-        .help("Device, the session ID of the messages: 0 to 32767 [default: 0]")
-        .value_parser(value_parser!(u16).range(0..=i64::from(GREATEST_DEVICE)))
+    number_option(
+        alloc,
+        "device",
+        0,
+        u32::from(GREATEST_DEVICE),
+        "Device, the session ID of the messages: 0 to 32767 [default: 0]",
+    )
 }
 
 /// The option `--system`.
@@ -52,13 +58,13 @@ pub fn system_option<'a>(alloc: Global) -> Arg<'a>
     ensures rule { rule_of result ≡ option_of system_number }
     ensures local { result.global ≡ false }
 {
-    Arg::new(alloc, "system")
-        .long("system")
-        .value_name("N")
-        .help(
-            "System bytes of the first message, from which they are counted up: 0 to 4294967295 [default: 1]",
-        )
-        .value_parser(value_parser!(u32))
+    number_option(
+        alloc,
+        "system",
+        0,
+        u32::MAX,
+        "System bytes of the first message, from which they are counted up: 0 to 4294967295 [default: 1]",
+    )
 }
 
 /// The option `--hex` of a command that writes messages.
@@ -94,10 +100,12 @@ pub fn only_option<'a>(alloc: Global) -> Arg<'a>
     ensures rule { rule_of result ≡ text_option (codes "only") }
     ensures local { result.global ≡ false }
 {
-    Arg::new(alloc, "only")
-        .long("only")
-        .value_name("failures")
-        .help("Tell only the lines that fail, and those around them")
+    word_option(
+        alloc,
+        "only",
+        "failures",
+        "Tell only the lines that fail, and those around them",
+    )
 }
 
 /// The option `--around`.
@@ -105,11 +113,13 @@ pub fn around_option<'a>(alloc: Global) -> Arg<'a>
     ensures rule { rule_of result ≡ option_of around_number }
     ensures local { result.global ≡ false }
 {
-    Arg::new(alloc, "around")
-        .long("around")
-        .value_name("N")
-        .help("With --only: lines told before each of them, and behind it: 0 to 1000 [default: 5]")
-        .value_parser(value_parser!(u32).range(0..=i64::from(GREATEST_AROUND)))
+    number_option(
+        alloc,
+        "around",
+        0,
+        GREATEST_AROUND,
+        "With --only: lines told before each of them, and behind it: 0 to 1000 [default: 5]",
+    )
 }
 
 /// The option `--from`.
@@ -117,11 +127,13 @@ pub fn from_option<'a>(alloc: Global) -> Arg<'a>
     ensures rule { rule_of result ≡ option_of from_number }
     ensures local { result.global ≡ false }
 {
-    Arg::new(alloc, "from")
-        .long("from")
-        .value_name("N")
-        .help("First line that is told; the log is judged from line 1 on [default: 1]")
-        .value_parser(value_parser!(u32).range(i64::from(FIRST_LINE)..))
+    number_option(
+        alloc,
+        "from",
+        FIRST_LINE,
+        LAST_LINE,
+        "First line that is told; the log is judged from line 1 on [default: 1]",
+    )
 }
 
 /// The option `--to`.
@@ -129,11 +141,13 @@ pub fn to_option<'a>(alloc: Global) -> Arg<'a>
     ensures rule { rule_of result ≡ option_of to_number }
     ensures local { result.global ≡ false }
 {
-    Arg::new(alloc, "to")
-        .long("to")
-        .value_name("N")
-        .help("Last line that is told; the log is judged to its end [default: the last one]")
-        .value_parser(value_parser!(u32).range(i64::from(FIRST_LINE)..))
+    number_option(
+        alloc,
+        "to",
+        FIRST_LINE,
+        LAST_LINE,
+        "Last line that is told; the log is judged to its end [default: the last one]",
+    )
 }
 
 /// The option `--form`.
@@ -141,7 +155,10 @@ pub fn form_option<'a>(alloc: Global) -> Arg<'a>
     ensures rule { rule_of result ≡ text_option (codes "form") }
     ensures local { result.global ≡ false }
 {
-    Arg::new(alloc, "form").long("form").value_name("FORM").help(
+    word_option(
+        alloc,
+        "form",
+        "FORM",
         "Tell it as text, or as json: an object a line [default: text]",
     )
 }
@@ -156,6 +173,34 @@ pub fn utc_option<'a>(alloc: Global) -> Arg<'a>
         "utc",
         "Tell times as dates, where the log has them in milliseconds since 1970",
     )
+}
+
+/// An option with a number in decimal, from `least` to `greatest`.
+#[tactic(auto, using(crate::proofs::Ranges::narrowed))]
+pub fn number_option<'a>(
+    alloc: Global,
+    name: &'a str,
+    least: u32,
+    greatest: u32,
+    help: &'a str,
+) -> Arg<'a>
+    ensures rule { rule_of result ≡ ranged_option name.entry.now least greatest }
+    ensures local { result.global ≡ false }
+{
+    word_option(alloc, name, "N", help).value_parser(value_parser!(u32).range(
+        i64::from(least)..=i64::from(greatest),
+    ))
+}
+
+/// An option with a text, which stands as `value` in the help.
+pub fn word_option<'a>(alloc: Global, name: &'a str, value: &'a str, help: &'a str) -> Arg<'a>
+    ensures rule { rule_of result ≡ text_option name.entry.now }
+    ensures local { result.global ≡ false }
+{
+    Arg::new(alloc, name)
+        .long(name)
+        .value_name(value)
+        .help(help)
 }
 
 /// An option without a value.

@@ -1,13 +1,14 @@
 //! The subcommand `hsms serve` as it is described to `clap`.
 
-ghost use Rattle.std.specs.Prelude.{◌≡◌, IfOk, Some, [], codes, pos, false};
+ghost use Rattle.std.specs.Prelude.{◌≡◌, IfOk, [], false};
 ghost use Rattle.clap.specs.Words.{app_of, rule_of};
-ghost use Rattle.clap.specs.declared.builder.value_parser.ValueParser.TheVariants.{Signed};
 ghost use Rattle.hsms_options.specs.Number.{option_of};
 ghost use Rattle.hsms_options.specs.Options.{serve_command};
-ghost use Rattle.hsms_options.specs.Service.{again_rules, connection_rules, connections_number, desk_rules, limit_rules, linktest_number, needed_option, port_number, text_option, time_rules, with_rules};
+ghost use Rattle.hsms_options.specs.Service.{again_rules, connection_rules, connections_number, desk_rules, limit_rules, linktest_number, needed_option, port_number, ranged_option, time_rules, with_rules};
 
-use crate::describing_options::{depth_option, device_option, flag, max_option};
+use crate::describing_options::{
+    depth_option, device_option, flag, max_option, number_option, word_option,
+};
 use crate::limits::{GREATEST_PORT, LEAST_PORT};
 use clap::{Arg, Command, value_parser};
 use hsms_machine::{GREATEST_TIME, LEAST_TIME};
@@ -113,10 +114,16 @@ fn with_desk<'a>(alloc: Global, command: Command<'a>) -> Result<Command<'a>, All
             "turns",
             "How many turns it takes at most, each a wait or a message: 0 to 4294967295 [default: 4294967295]",
         ))?
-        .arg(text_option(alloc, "mdln", "Model of the equipment [default: empty]"))?
-        .arg(text_option(
+        .arg(word_option(
+            alloc,
+            "mdln",
+            "TEXT",
+            "Model of the equipment [default: empty]",
+        ))?
+        .arg(word_option(
             alloc,
             "softrev",
+            "TEXT",
             "Software revision of the equipment [default: empty]",
         ))?
         .arg(flag(
@@ -163,77 +170,54 @@ fn needed_option<'a>(alloc: Global, name: &'a str, value: &'a str, help: &'a str
     ensures rule { rule_of result ≡ needed_option name.entry.now }
     ensures local { result.global ≡ false }
 {
-    Arg::new(alloc, name)
-        .long(name)
-        .value_name(value)
-        .required(true)
-        .help(help)
-}
-
-fn text_option<'a>(alloc: Global, name: &'a str, help: &'a str) -> Arg<'a>
-    ensures rule { rule_of result ≡ text_option name.entry.now }
-    ensures local { result.global ≡ false }
-{
-    Arg::new(alloc, name)
-        .long(name)
-        .value_name("TEXT")
-        .help(help)
+    word_option(alloc, name, value, help).required(true)
 }
 
 fn time_option<'a>(alloc: Global, name: &'a str, help: &'a str) -> Arg<'a>
-    ensures rule { rule_of result ≡ record (text_option name.entry.now) { parser = Some (Signed (pos 1) (pos 3600000)) } }
+    ensures rule { rule_of result ≡ ranged_option name.entry.now 1 3600000 }
     ensures local { result.global ≡ false }
 {
-    Arg::new(alloc, name)
-        .long(name)
-        .value_name("N")
-        .help(help)
-        .value_parser(value_parser!(u32).range(i64::from(LEAST_TIME)..=i64::from(GREATEST_TIME)))
+    number_option(alloc, name, LEAST_TIME, GREATEST_TIME, help)
 }
 
 fn linktest_option<'a>(alloc: Global) -> Arg<'a>
     ensures rule { rule_of result ≡ option_of linktest_number }
     ensures local { result.global ≡ false }
 {
-    Arg::new(alloc, "linktest")
-        .long("linktest")
-        .value_name("N")
-        .help(
-            "Test the link after so long a pause, in ms: 1 to 3600000, or 0 for never [default: 0]",
-        )
-        .value_parser(value_parser!(u32).range(0..=i64::from(GREATEST_TIME)))
+    number_option(
+        alloc,
+        "linktest",
+        0,
+        GREATEST_TIME,
+        "Test the link after so long a pause, in ms: 1 to 3600000, or 0 for never [default: 0]",
+    )
 }
 
 fn count_option<'a>(alloc: Global, name: &'a str, help: &'a str) -> Arg<'a>
-    ensures rule { rule_of result ≡ record (text_option name.entry.now) { parser = Some (Signed (pos 0) (pos 4294967295)) } }
+    ensures rule { rule_of result ≡ ranged_option name.entry.now 0 4294967295 }
     ensures local { result.global ≡ false }
 {
-    Arg::new(alloc, name)
-        .long(name)
-        .value_name("N")
-        .help(help)
-        .value_parser(value_parser!(u32))
+    number_option(alloc, name, 0, u32::MAX, help)
 }
 
 fn port_option<'a>(alloc: Global) -> Arg<'a>
     ensures rule { rule_of result ≡ option_of port_number }
     ensures local { result.global ≡ false }
 {
-    Arg::new(alloc, "port")
-        .long("port")
-        .value_name("P")
-        .required(true)
-        .help("TCP port there: 1 to 65535")
-        .value_parser(value_parser!(u16).range(i64::from(LEAST_PORT)..=i64::from(GREATEST_PORT)))
+    needed_option(alloc, "port", "P", "TCP port there: 1 to 65535").value_parser(value_parser!(
+        u16
+    ).range(i64::from(LEAST_PORT)..=i64::from(GREATEST_PORT)))
 }
 
 fn connections_option<'a>(alloc: Global) -> Arg<'a>
     ensures rule { rule_of result ≡ option_of connections_number }
     ensures local { result.global ≡ false }
 {
-    Arg::new(alloc, "connections")
-        .long("connections")
-        .value_name("N")
-        .help("With --again: end after so many connections: 1 to 4294967295 [default: 4294967295]")
-        .value_parser(value_parser!(u32).range(1..))
+    number_option(
+        alloc,
+        "connections",
+        1,
+        u32::MAX,
+        "With --again: end after so many connections: 1 to 4294967295 [default: 4294967295]",
+    )
 }
