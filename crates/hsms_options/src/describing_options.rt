@@ -159,7 +159,7 @@ pub fn form_option<'a>(alloc: Global) -> Arg<'a>
         alloc,
         "form",
         "FORM",
-        "Tell it as text, or as json: an object a line [default: text]",
+        "Tell it as text; as json, an object a line; or as html, a page [default: text]",
     )
 }
 

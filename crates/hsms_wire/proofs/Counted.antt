@@ -1,14 +1,18 @@
--- Which verdicts count.
-use Rattle.std.proofs.Common.{◌≡◌, Bool, Option, Some, sym, subst}
+-- What is told where verdicts are.
+use Rattle.std.proofs.Common.{◌≡◌, Option, Some, sym, subst}
 use Rattle.std.specs.Prelude.{Result, Ok, Err, OnOk}
 use Rattle.hsms_wire.specs.declared.ends.Ends.{Ends}
+use Rattle.hsms_wire.specs.declared.pair.Pair.{Pair}
 use Rattle.hsms_wire.specs.declared.report.Manner.{Manner}
 use Rattle.hsms_wire.specs.declared.report.Manner.TheVariants.{Verdicts}
-use Rattle.hsms_wire.specs.Report.{CountsBy, CountsVerdicts}
+use Rattle.hsms_wire.specs.declared.report.Report.{Report}
+use Rattle.hsms_wire.specs.declared.shortfall.Shortfall.{Shortfall}
+use Rattle.hsms_wire.specs.Report.{TellsBy, TellsVerdicts}
 
-pub counts_by : {E : Type 0} (result : Result (Unit {0}) E) (manner : Manner) (found : Option Ends) (ends : Ends) (old new : Bool)
-    → manner ≡ Verdicts → found ≡ Some ends → OnOk result (CountsVerdicts (Some ends) old new)
-    → OnOk result (CountsBy manner found old new)
-counts_by (Ok done) manner found ends old new told is counts =
-    subst (λ m. CountsBy m found old new) (sym told) (subst (λ f. CountsVerdicts f old new) (sym is) counts)
-counts_by (Err fault) manner found ends old new told is counts = counts
+pub tells_by : {E : Type 0} (result : Result (Unit {0}) E) (manner : Manner) (pair : Pair) (shortfall : Option Shortfall)
+    → (found : Option Ends) (ends : Ends) (old new : Report) → manner ≡ Verdicts → found ≡ Some ends
+    → OnOk result (TellsVerdicts pair shortfall (Some ends) old new) → OnOk result (TellsBy manner pair shortfall found old new)
+tells_by (Ok done) manner pair shortfall found ends old new told is tells =
+    subst (λ m. TellsBy m pair shortfall found old new) (sym told)
+    (subst (λ f. TellsVerdicts pair shortfall f old new) (sym is) tells)
+tells_by (Err fault) manner pair shortfall found ends old new told is tells = tells

@@ -1,3 +1,5 @@
 mod Counted
 mod Hears
 mod Logs
+mod Tellings
+mod Written

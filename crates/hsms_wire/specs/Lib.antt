@@ -1,4 +1,7 @@
 pub mod Text
 pub mod Account
 pub mod Ends
+pub mod Line
+pub mod Stop
 pub mod Report
+pub mod Capturing

@@ -1,16 +1,25 @@
 -- What was found of the connections of a capture.
-use Rattle.std.specs.Prelude.{◌≡◌, Bool, true, false, Option, None, Some, List}
+use Rattle.std.specs.Prelude.{◌≡◌, ◌⊎◌, ◌++◌, ℕ, [], ◌∷◌, flat_map, Bool, true, false, Option, None, Some, List, Result, Ok, Err, codes, string_bytes}
+use Rattle.hsms_frame.specs.Device.{Grows}
 use Rattle.hsms_machine.specs.Settings.{Parameters}
+use Rattle.hsms_machine.specs.declared.settings.Role.{Role}
 use Rattle.hsms_log.specs.Verdict.{Judges}
 use Rattle.hsms_log.specs.declared.verdict.Verdict.{Verdict}
 use Rattle.hsms_log.specs.declared.verdict.Verdict.TheVariants.{Pass, Fail}
+use Rattle.hsms_capture.specs.declared.packet.Side.{Side}
+use Rattle.hsms_capture.specs.declared.packet.Side.TheVariants.{Active, Passive}
+use Rattle.hsms_wire.specs.Line.{end_line_of}
+use Rattle.hsms_wire.specs.Stop.{TellsShortfall}
 use Rattle.hsms_wire.specs.Account.{HasLogged, Note, Standing, log_text}
 use Rattle.hsms_wire.specs.declared.account.Told.{Told}
 use Rattle.hsms_wire.specs.declared.ends.Ends.{Ends}
+use Rattle.hsms_wire.specs.declared.pair.Pair.{Pair}
 use Rattle.hsms_wire.specs.declared.report.Manner.{Manner}
 use Rattle.hsms_wire.specs.declared.report.Manner.TheVariants.{Verdicts, Log}
 use Rattle.hsms_wire.specs.declared.report.Report.{Report}
 use Rattle.hsms_wire.specs.declared.shortfall.Shortfall.{Shortfall}
+use Rattle.hsms_wire.specs.declared.stop.Stop.{Stop}
+use Rattle.hsms_wire.specs.declared.stop.Stop.TheVariants as stop
 
 -- of what is missing, what was found first
 abbrev pub first_of : Option Shortfall → Shortfall → Shortfall
@@ -35,18 +44,127 @@ abbrev pub IsVerdictOn : Standing → Told → Type 0
 IsVerdictOn account told =
     (settings : Parameters) (notes : List Note) → HasLogged settings notes account → Judges (log_text settings notes) told.verdict
 
--- where verdicts are told, those on the logs of both ends are, and whether one of them fails counts
-abbrev pub CountsVerdicts : Option Ends → Bool → Bool → Type 0
-CountsVerdicts None old new = new ≡ old
-CountsVerdicts (Some ends) old new =
-    (active passive : Told) × IsVerdictOn ends.active active × IsVerdictOn ends.passive passive
-    × (new ≡ failed_after (failed_after old (Some active)) (Some passive))
+-- what is told of a connection: its addresses, what it lacks, and what the audit says of the logs of both ends, where it
+-- came up
+pub record Telling : Type 0 where
+  pub pair : Pair
+  pub shortfall : Option Shortfall
+  pub active : Option Told
+  pub passive : Option Told
 
-abbrev pub CountsBy : Manner → Option Ends → Bool → Bool → Type 0
-CountsBy Verdicts ends old new = CountsVerdicts ends old new
-CountsBy (Log journal) ends old new = new ≡ old
+-- the lines of both ends, the active one's first
+abbrev pub telling_lines : Role → Role → Telling → List ℕ
+telling_lines active passive telling =
+    end_line_of telling.pair active Active telling.shortfall telling.active
+    ++ end_line_of telling.pair passive Passive telling.shortfall telling.passive
+
+-- the role of an end
+abbrev pub role_at : Report → Side → Role
+role_at report Active = report.active.role
+role_at report Passive = report.passive.role
+
+-- these lines are on the page, and whether one of the verdicts fails counts
+pub record IsTold (telling : Telling) (old new : Report) : Type 0 where
+  pub page : new.page.octets ≡ old.page.octets ++ telling_lines old.active.role old.passive.role telling
+  pub failed : new.has_failed ≡ failed_after (failed_after old.has_failed telling.active) telling.passive
+
+-- of a connection that came up the verdicts on the logs of both ends are told, and of another one that it has none
+abbrev pub TellsVerdicts : Pair → Option Shortfall → Option Ends → Report → Report → Type 0
+TellsVerdicts pair shortfall None old new =
+    IsTold (record { pair = pair; shortfall = shortfall; active = None; passive = None }) old new
+TellsVerdicts pair shortfall (Some ends) old new =
+    (active passive : Told) × IsVerdictOn ends.active active × IsVerdictOn ends.passive passive
+    × IsTold (record { pair = pair; shortfall = shortfall; active = Some active; passive = Some passive }) old new
+
+-- where the log of an end is told, nothing is told when a connection is over
+abbrev pub TellsBy : Manner → Pair → Option Shortfall → Option Ends → Report → Report → Type 0
+TellsBy Verdicts pair shortfall ends old new = TellsVerdicts pair shortfall ends old new
+TellsBy (Log journal) pair shortfall ends old new = (new.has_failed ≡ old.has_failed) × (new.page ≡ old.page)
+
+-- what was found: whether some log fails, what was missing first, and whether a connection was told
+pub record Found : Type 0 where
+  pub failed : Bool
+  pub shortfall : Option Shortfall
+  pub told : Bool
+
+abbrev pub found_of : Report → Found
+found_of report = record { failed = report.has_failed; shortfall = report.shortfall; told = report.has_told }
+
+abbrev pub nothing_found : Found
+nothing_found = record { failed = false; shortfall = None; told = false }
+
+-- something is missing, or nothing
+abbrev pub found_with : Found → Option Shortfall → Found
+found_with found missing = record found { shortfall = missing_after found.shortfall missing }
+
+-- one more connection is told
+abbrev pub found_after : Found → Telling → Found
+found_after found telling = record {
+  failed = failed_after (failed_after found.failed telling.active) telling.passive;
+  shortfall = missing_after found.shortfall telling.shortfall;
+  told = true;
+}
+
+abbrev pub found_behind : Found → List Telling → Found
+found_behind found [] = found
+found_behind found (telling ∷ rest) = found_behind (found_after found telling) rest
 
 -- all is well only where a connection was told, nothing is missing and no log fails; and a log fails where it says so
-abbrev pub AnswersWell : Report → Bool → Type 0
-AnswersWell report true = (report.has_failed ≡ false) × (report.shortfall ≡ None) × (report.has_told ≡ true)
-AnswersWell report false = report.has_failed ≡ true
+abbrev pub AnswersWell : Found → Bool → Type 0
+AnswersWell found true = (found.failed ≡ false) × (found.shortfall ≡ None) × (found.told ≡ true)
+AnswersWell found false = found.failed ≡ true
+
+-- something is missing, and these words tell it, or no connection was told
+abbrev pub RefusesWith : Found → List ℕ → Type 0
+RefusesWith found words =
+    ((shortfall : Shortfall) × (found.shortfall ≡ Some shortfall) × TellsShortfall shortfall words)
+    ⊎ ((found.shortfall ≡ None) × (found.told ≡ false) × (words ≡ codes "NoConnection"))
+
+-- what is answered at the end: whether all is well, a refusal where no log fails, or want of memory
+abbrev pub Finishes : Found → Result Bool Stop → Type 0
+Finishes found (Ok well) = AnswersWell found well
+Finishes found (Err (stop.Refused words)) = (found.failed ≡ false) × RefusesWith found (string_bytes words)
+Finishes found (Err stop.Endless) = ⊥
+Finishes found (Err stop.Memory) = Unit {0}
+
+-- the lines of connections, one after another
+abbrev pub lines_of : Role → Role → List Telling → List ℕ
+lines_of active passive tellings = flat_map (telling_lines active passive) tellings
+
+-- these connections are told, where verdicts are
+pub record HasTold (tellings : List Telling) (old new : Report) : Type 0 where
+  pub page : new.page.octets ≡ old.page.octets ++ lines_of old.active.role old.passive.role tellings
+  pub found : found_of new ≡ found_behind (found_of old) tellings
+  pub active : new.active ≡ old.active
+  pub passive : new.passive ≡ old.passive
+  pub manner : new.manner ≡ Verdicts
+
+unfoldable pub Tells : Report → Report → Type 0
+Tells old new = old.manner ≡ Verdicts → (tellings : List Telling) × HasTold tellings old new
+
+-- their lines were written, and none is left on the page
+pub record HasWritten (tellings : List Telling) (old : Report) (before : Option (List ℕ)) (new : Report) (after : Option (List ℕ)) : Type 0 where
+  pub lines : Grows before after (lines_of old.active.role old.passive.role tellings)
+  pub found : found_of new ≡ found_behind (found_of old) tellings
+  pub active : new.active ≡ old.active
+  pub passive : new.passive ≡ old.passive
+  pub manner : new.manner ≡ Verdicts
+  pub page : new.page.octets ≡ []
+
+unfoldable pub Writes : Report → Option (List ℕ) → Report → Option (List ℕ) → Type 0
+Writes old before new after =
+    old.manner ≡ Verdicts → old.page.octets ≡ [] → (tellings : List Telling) × HasWritten tellings old before new after
+
+-- the connections that were left are told, then what was left out, and this says whether all is well
+abbrev pub Concludes : Option Shortfall → Report → Report → Bool → Type 0
+Concludes missing old new well =
+    old.manner ≡ Verdicts → (tellings : List Telling) × (left_out : List ℕ)
+    × (new.page.octets ≡ old.page.octets ++ (lines_of old.active.role old.passive.role tellings ++ left_out))
+    × AnswersWell (found_behind (found_with (found_of old) missing) tellings) well
+
+-- their lines were written
+abbrev pub EndsWith : Option Shortfall → Report → Option (List ℕ) → Option (List ℕ) → Bool → Type 0
+EndsWith missing old before after well =
+    old.manner ≡ Verdicts → old.page.octets ≡ [] → (tellings : List Telling) × (left_out : List ℕ)
+    × Grows before after (lines_of old.active.role old.passive.role tellings ++ left_out)
+    × AnswersWell (found_behind (found_with (found_of old) missing) tellings) well

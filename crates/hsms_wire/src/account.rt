@@ -5,11 +5,10 @@ ghost use Rattle.hsms_log.specs.Auditor.{HasAtMost, HasHeard, HasRoom};
 ghost use Rattle.hsms_log.specs.Spelling.{entry_line, settings_line};
 ghost use Rattle.hsms_wire.specs.Account.{note_text, remark_text};
 
+use crate::stop::Stop;
 use crate::text::Text;
-use hsms_frame::give_all;
 use hsms_log::{Auditor, Verdict, write_entry, write_settings};
 use hsms_machine::{Entry, Settings};
-use hsms_options::ToolFault;
 use itoa::Buffer;
 use std::alloc::{AllocError, Global};
 use std::marker::Model;
@@ -50,7 +49,7 @@ impl Model for Account {
 }
 
 impl Account {
-    ghost use Rattle.std.specs.Prelude.{◌≡◌, ◌≤◌, ◌++◌, [], ◌∷◌, List, ℕ, IfOk, OnOk};
+    ghost use Rattle.std.specs.Prelude.{◌≡◌, ◌≤◌, ◌++◌, [], ◌∷◌, List, ℕ, IfOk, OnOk, OnErr, IsSome, None};
     ghost use Rattle.hsms_log.specs.Verdict.{Judges};
     ghost use Rattle.hsms_machine.specs.Settings.{Parameters};
     ghost use Rattle.hsms_wire.specs.Account.{HasAudited, HasLogged, Note, log_text};
@@ -62,7 +61,7 @@ impl Account {
     ///
     /// `Memory`.
     #[tactic(auto, using(crate::proofs::Logs::begins))]
-    pub fn new(alloc: Global, settings: &Settings) -> Result<Account, ToolFault>
+    pub fn new(alloc: Global, settings: &Settings) -> Result<Account, Stop>
         ensures { IfOk result (HasLogged settings.now []) }
     {
         let mut account = Account {
@@ -81,15 +80,22 @@ impl Account {
     ///
     /// # Errors
     ///
-    /// `Memory`; `Endless` where the log has more than 2^62 octets. Nothing more is noted then.
+    /// `Memory`; `Endless` where the log has more than 2^62 octets. Then it has no verdict, and nothing more is noted.
     #[tactic(auto, using(crate::proofs::Logs::noted))]
-    pub fn note(&mut self, alloc: Global, remark: Remark, entry: &Entry) -> Result<(), ToolFault>
-        ensures { OnOk result (Adds (record { remark = remark; entry = entry.now }) self.old self.new) }
+    pub fn note(&mut self, alloc: Global, remark: Remark, entry: &Entry) -> Result<(), Stop>
+        ensures added { OnOk result (Adds (record { remark = remark; entry = entry.now }) self.old self.new) }
+        ensures there { OnOk result (IsSome self.old.auditor) }
+        ensures gone { OnErr result (self.new.auditor ≡ None) }
     {
         self.packet = packet_of(remark, self.packet);
         self.text.clear();
-        lay_note(&mut self.text, remark, entry)?;
-        self.audit(alloc)
+        match lay_note(&mut self.text, remark, entry) {
+            Ok(()) => self.audit(alloc),
+            Err(_) => {
+                self.auditor = None;
+                Err(Stop::Memory)
+            }
+        }
     }
 
     /// The verdict of the audit on the log, which ends here, and where it fails the number of the packet of the line.
@@ -98,8 +104,9 @@ impl Account {
     ///
     /// Where memory is refused, or was refused to the log.
     pub fn verdict(self, alloc: Global) -> Result<Told, AllocError>
-        ensures { IfOk result (λ told. (settings : Parameters) (notes : List Note)
+        ensures judges { IfOk result (λ told. (settings : Parameters) (notes : List Note)
             → HasLogged settings notes self → Judges (log_text settings notes) told.verdict) }
+        ensures there { OnOk result (IsSome self.auditor) }
     {
         let Account {
             auditor,
@@ -118,16 +125,19 @@ impl Account {
     }
 
     // Audits the lines that were written.
-    fn audit(&mut self, alloc: Global) -> Result<(), ToolFault>
-        ensures { OnOk result ((text : List ℕ) → HasAudited text self.old → HasAudited (text ++ self.old.text) self.new) }
+    fn audit(&mut self, alloc: Global) -> Result<(), Stop>
+        ensures heard { OnOk result
+            ((text : List ℕ) → HasAudited text self.old → HasAudited (text ++ self.old.text) self.new) }
+        ensures there { OnOk result (IsSome self.old.auditor) }
+        ensures gone { OnErr result (self.new.auditor ≡ None) }
     {
         let Some(auditor) = self.auditor.take() else {
-            return Err(ToolFault::Memory);
+            return Err(Stop::Memory);
         };
         let lines = self.text.octets();
         let count = lines.len() as u64;
         if count > GREATEST - self.octets {
-            return Err(ToolFault::Device("Endless"));
+            return Err(Stop::Endless);
         }
         let next = hear(alloc, auditor, lines)?;
         self.failed = failed_by(self.failed, &next, self.packet);
@@ -172,7 +182,7 @@ pub struct Told {
 }
 
 /// Lays an entry and the comment above it behind a text.
-pub fn lay_note(text: &mut Text, remark: Remark, entry: &Entry) -> Result<(), ToolFault>
+pub fn lay_note(text: &mut Text, remark: Remark, entry: &Entry) -> Result<(), AllocError>
     ensures { OnOk result
         (text.new.octets ≡ text.old.octets ++ note_text (record { remark = remark; entry = entry.now })) }
 {
@@ -181,51 +191,41 @@ pub fn lay_note(text: &mut Text, remark: Remark, entry: &Entry) -> Result<(), To
 }
 
 // Lays the comment above an entry behind a text.
-fn lay_remark(text: &mut Text, remark: Remark) -> Result<(), ToolFault>
+fn lay_remark(text: &mut Text, remark: Remark) -> Result<(), AllocError>
     ensures { OnOk result (text.new.octets ≡ text.old.octets ++ remark_text remark) }
 {
     match remark {
         Remark::Packet(packet) => lay_packet(text, packet),
-        Remark::Replaced => lay(text, b"# replaced\n"),
+        Remark::Replaced => text.lay(b"# replaced\n"),
     }
 }
 
 // Lays the comment that names a packet.
-fn lay_packet(text: &mut Text, packet: u64) -> Result<(), ToolFault>
+fn lay_packet(text: &mut Text, packet: u64) -> Result<(), AllocError>
     ensures { OnOk result (text.new.octets ≡ text.old.octets ++ (codes "# packet " ++ (decimal packet ++ 10 ∷ []))) }
 {
     let mut buffer = Buffer::new();
-    lay(text, b"# packet ")?;
-    lay(text, buffer.format(packet).as_bytes())?;
-    lay(text, b"\n")
+    text.lay(b"# packet ")?;
+    text.lay(buffer.format(packet).as_bytes())?;
+    text.lay(b"\n")
 }
 
 // Lays the line of an entry behind a text.
-fn lay_entry(text: &mut Text, entry: &Entry) -> Result<(), ToolFault>
+fn lay_entry(text: &mut Text, entry: &Entry) -> Result<(), AllocError>
     ensures { OnOk result (text.new.octets ≡ text.old.octets ++ (entry_line entry.now ++ 10 ∷ [])) }
 {
     match write_entry(text, entry) {
         Ok(()) => Ok(()),
-        Err(_) => Err(ToolFault::Memory),
+        Err(_) => Err(AllocError),
     }
 }
 
 /// Lays the line of the settings behind a text.
-pub fn lay_settings(text: &mut Text, settings: &Settings) -> Result<(), ToolFault>
+pub fn lay_settings(text: &mut Text, settings: &Settings) -> Result<(), AllocError>
     ensures { OnOk result (text.new.octets ≡ text.old.octets ++ (settings_line settings.now ++ 10 ∷ [])) }
 {
     match write_settings(text, settings) {
         Ok(()) => Ok(()),
-        Err(_) => Err(ToolFault::Memory),
-    }
-}
-
-// Lays octets behind a text.
-fn lay(text: &mut Text, octets: &[u8]) -> Result<(), ToolFault>
-    ensures { OnOk result (text.new.octets ≡ text.old.octets ++ octets.now) }
-{
-    match give_all(text, octets) {
-        Ok(()) => Ok(()),
-        Err(_) => Err(ToolFault::Memory),
+        Err(_) => Err(AllocError),
     }
 }

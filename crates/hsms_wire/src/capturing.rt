@@ -1,10 +1,16 @@
 //! `hsms capture`: a capture, read once.
 
+ghost use Rattle.std.specs.Prelude.{◌≡◌, IfErr, IfOk, OnOk, None, codes};
+ghost use Rattle.hsms_tasks.specs.Show.{CountsFailure, IsReadWriteOrEndless};
+ghost use Rattle.hsms_wire.specs.Capturing.{CapturesTo, GrowsBySome, IsMissingBy, IsWriteOrEndless};
+ghost use Rattle.hsms_wire.specs.Report.{Concludes, EndsWith, Tells, Writes};
+
 use crate::report::Report;
 use crate::shortfall::Shortfall;
+use crate::stop::{Stop, fault_of};
 use crate::table::{Capture, Table};
 use hsms_frame::{Sink, Source};
-use hsms_options::{Capturing, ToolFault, refused};
+use hsms_options::{Capturing, ToolFault};
 use hsms_packets::{FileFault, Packets, Record, Segment, Shown, Step, octets_of, segment_of};
 use std::alloc::Global;
 
@@ -13,7 +19,8 @@ use std::alloc::Global;
 /// one is the first; or, where the options say so, it writes the log of one end, line by line. It says whether each log
 /// passes.
 ///
-/// Of the capture no more is held than a packet, what connections that are open wait for, and 4,096 others.
+/// Of the capture no more is held than a packet, what connections that are open wait for, and 4,096 others; and of what
+/// is told, that which is told with one packet.
 ///
 /// # Errors
 ///
@@ -23,26 +30,36 @@ use std::alloc::Global;
 /// - `Device`: `Read` or `Write`, where a device failed, and `Endless`, where a log has more than 2^62 octets, or the
 ///   capture has more than 2^64 blocks.
 /// - `Memory`.
+#[tactic(auto, using(crate::proofs::Written::none_more, crate::proofs::Written::some_more))]
 pub fn capture_to<R: Source, W: Sink>(
     alloc: Global,
     options: Capturing,
     source: &mut R,
     sink: &mut W,
-) -> Result<bool, ToolFault> {
+) -> Result<bool, ToolFault>
+    ensures word { IfErr result IsReadWriteOrEndless }
+    ensures reads { CountsFailure (codes "Read") result (R.state source.old).failures (R.state source.new).failures }
+    ensures writes { CountsFailure (codes "Write") result (W.state sink.old).failures (W.state sink.new).failures }
+    ensures some { GrowsBySome (W.state sink.old).written (W.state sink.new).written }
+    ensures lines { IfOk result (λ well. options.log ≡ None → CapturesTo options.active.role options.passive.role
+        (W.state sink.old).written (W.state sink.new).written well) }
+{
     let mut report = Report::new(alloc, &options);
     let mut table = Table::new(alloc, options.port);
-    let missing = match Packets::open(alloc, source) {
-        Ok(packets) => read_all(alloc, packets, source, sink, &mut table, &mut report)?,
-        Err(fault) => Some(missing_by(fault, 0)?),
-    };
-    if let Some(shortfall) = missing {
-        report.note(shortfall);
+    match Packets::open(alloc, source) {
+        Ok(packets) => {
+            let missing = read_all(alloc, packets, source, sink, &mut table, &mut report)?;
+            finish(alloc, sink, table, report, missing)
+        }
+        Err(fault) => {
+            let missing = missing_by(fault, 0)?;
+            finish(alloc, sink, table, report, Some(missing))
+        }
     }
-    table.finish(alloc, sink, &mut report, missing)?;
-    report.finish(alloc, sink)
 }
 
 // Reads a capture up to its end, or to what nothing behind can be told of.
+#[tactic(auto, using(crate::proofs::Written::none_more, crate::proofs::Written::some_more))]
 fn read_all<R: Source, W: Sink>(
     alloc: Global,
     mut packets: Packets,
@@ -50,7 +67,13 @@ fn read_all<R: Source, W: Sink>(
     sink: &mut W,
     table: &mut Table,
     report: &mut Report,
-) -> Result<Option<Shortfall>, ToolFault> {
+) -> Result<Option<Shortfall>, ToolFault>
+    ensures word { IfErr result IsReadWriteOrEndless }
+    ensures reads { CountsFailure (codes "Read") result (R.state source.old).failures (R.state source.new).failures }
+    ensures writes { CountsFailure (codes "Write") result (W.state sink.old).failures (W.state sink.new).failures }
+    ensures some { GrowsBySome (W.state sink.old).written (W.state sink.new).written }
+    ensures lines { OnOk result (Writes report.old (W.state sink.old).written report.new (W.state sink.new).written) }
+{
     for _ in 0..u64::MAX {
         match packets.next(source) {
             Ok(Step::Packet(number, record)) => {
@@ -68,7 +91,8 @@ fn read_all<R: Source, W: Sink>(
     Err(ToolFault::Device("Endless"))
 }
 
-// Takes a packet, or counts it as left out.
+// Takes a packet, and writes what is told with it.
+#[tactic(auto, using(crate::proofs::Written::none_more, crate::proofs::Written::some_more))]
 fn take<W: Sink>(
     alloc: Global,
     sink: &mut W,
@@ -77,7 +101,31 @@ fn take<W: Sink>(
     packet: u64,
     record: &Record,
     octets: &[u8],
-) -> Result<Option<Shortfall>, ToolFault> {
+) -> Result<Option<Shortfall>, ToolFault>
+    ensures word { IfErr result IsWriteOrEndless }
+    ensures writes { CountsFailure (codes "Write") result (W.state sink.old).failures (W.state sink.new).failures }
+    ensures some { GrowsBySome (W.state sink.old).written (W.state sink.new).written }
+    ensures lines { OnOk result (Writes report.old (W.state sink.old).written report.new (W.state sink.new).written) }
+{
+    let taken = take_packet(alloc, table, report, packet, record, octets);
+    report.put_out(sink)?;
+    match taken {
+        Ok(missing) => Ok(missing),
+        Err(stop) => Err(fault_of(stop)),
+    }
+}
+
+// Takes a packet, or counts it as left out.
+fn take_packet(
+    alloc: Global,
+    table: &mut Table,
+    report: &mut Report,
+    packet: u64,
+    record: &Record,
+    octets: &[u8],
+) -> Result<Option<Shortfall>, Stop>
+    ensures told { OnOk result (Tells report.old report.new) }
+{
     match segment_of(record.link, octets) {
         Shown::Segment(segment) => {
             let capture = Capture {
@@ -85,7 +133,7 @@ fn take<W: Sink>(
                 time: record.time,
                 octets: body_of(&segment, octets),
             };
-            table.take(alloc, sink, report, &segment, capture)
+            table.take(alloc, report, &segment, capture)
         }
         Shown::Other => Ok(None),
         Shown::LeftOut(reason) => {
@@ -104,7 +152,9 @@ fn body_of<'a>(segment: &Segment, octets: &'a [u8]) -> &'a [u8] {
 }
 
 // What a fault of a file behind so many packets leaves out, where it isn't one of the device.
-fn missing_by(fault: FileFault, packets: u64) -> Result<Shortfall, ToolFault> {
+fn missing_by(fault: FileFault, packets: u64) -> Result<Shortfall, ToolFault>
+    ensures { IsMissingBy fault result }
+{
     match fault {
         FileFault::Read => Err(ToolFault::Device("Read")),
         FileFault::Memory => Err(ToolFault::Memory),
@@ -112,4 +162,40 @@ fn missing_by(fault: FileFault, packets: u64) -> Result<Shortfall, ToolFault> {
             Ok(Shortfall::File(fault, packets.saturating_add(1)))
         }
     }
+}
+
+// Tells what is left of each connection, and whether each log passes.
+#[tactic(auto, using(crate::proofs::Written::none_more, crate::proofs::Written::some_more))]
+fn finish<W: Sink>(
+    alloc: Global,
+    sink: &mut W,
+    table: Table,
+    mut report: Report,
+    missing: Option<Shortfall>,
+) -> Result<bool, ToolFault>
+    ensures word { IfErr result IsWriteOrEndless }
+    ensures writes { CountsFailure (codes "Write") result (W.state sink.old).failures (W.state sink.new).failures }
+    ensures some { GrowsBySome (W.state sink.old).written (W.state sink.new).written }
+    ensures lines { IfOk result (λ well. EndsWith missing report (W.state sink.old).written (W.state sink.new).written well) }
+{
+    let well = conclude(alloc, table, &mut report, missing);
+    report.put_out(sink)?;
+    match well {
+        Ok(well) => Ok(well),
+        Err(stop) => Err(fault_of(stop)),
+    }
+}
+
+// The same, on the page of the report.
+fn conclude(
+    alloc: Global,
+    table: Table,
+    report: &mut Report,
+    missing: Option<Shortfall>,
+) -> Result<bool, Stop>
+    ensures { IfOk result (λ well. Concludes missing report.old report.new well) }
+{
+    report.note_missing(missing);
+    table.finish(alloc, report, missing)?;
+    report.finish(alloc)
 }

@@ -7,10 +7,10 @@ ghost use Rattle.hsms_log.specs.Spelling.{message_octets};
 
 use crate::account::{Account, Remark, Told};
 use crate::entries::{LENGTH, frame_of, received};
+use crate::stop::Stop;
 use hsms_capture::{Event as Happens, Happening, Side};
 use hsms_frame::Frame;
 use hsms_machine::{Entry, Event, Settings};
-use hsms_options::ToolFault;
 use std::alloc::{AllocError, Global};
 
 /// The logs of both ends of a connection: the one that connected, and the one that was connected to.
@@ -45,7 +45,7 @@ impl Ends {
     ghost use Rattle.hsms_wire.specs.Ends.{Adds, HearsAs, event_of, note_of};
 
     /// The logs of ends with these settings, without an entry.
-    pub fn new(alloc: Global, active: &Settings, passive: &Settings) -> Result<Ends, ToolFault>
+    pub fn new(alloc: Global, active: &Settings, passive: &Settings) -> Result<Ends, Stop>
         ensures active { IfOk result (λ ends. HasLogged active.now [] ends.active) }
         ensures passive { IfOk result (λ ends. HasLogged passive.now [] ends.passive) }
         ensures max { IfOk result (λ ends. ends.max ≡ active.now.max) }
@@ -61,7 +61,7 @@ impl Ends {
 
     /// Both ends log what happens, where it is no message that none takes: at its time, or at that of the entry before,
     /// where it is later.
-    pub fn hear(&mut self, alloc: Global, happening: Happening) -> Result<Heard, ToolFault>
+    pub fn hear(&mut self, alloc: Global, happening: Happening) -> Result<Heard, Stop>
         ensures active { IfOk result (λ heard. HearsAs self.old.max self.old.time Active happening heard self.old.active self.new.active) }
         ensures passive { IfOk result (λ heard. HearsAs self.old.max self.old.time Passive happening heard self.old.passive self.new.passive) }
         ensures time { OnOk result (self.new.time ≡ max self.old.time happening.time) }
@@ -105,7 +105,7 @@ impl Ends {
     }
 
     /// Both ends log that the connection went down, since a later one follows, at the time of the entry before.
-    pub fn replace(&mut self, alloc: Global) -> Result<(), ToolFault>
+    pub fn replace(&mut self, alloc: Global) -> Result<(), Stop>
         ensures active { OnOk result (Adds (note_of Replaced self.old.time Down) self.old.active self.new.active) }
         ensures passive { OnOk result (Adds (note_of Replaced self.old.time Down) self.old.passive self.new.passive) }
     {
@@ -113,7 +113,7 @@ impl Ends {
     }
 
     // Both log the same.
-    fn both(&mut self, alloc: Global, remark: Remark, event: Event) -> Result<(), ToolFault>
+    fn both(&mut self, alloc: Global, remark: Remark, event: Event) -> Result<(), Stop>
         ensures active { OnOk result (Adds (note_of remark self.old.time event) self.old.active self.new.active) }
         ensures passive { OnOk result (Adds (note_of remark self.old.time event) self.old.passive self.new.passive) }
         ensures same { OnOk result ((self.new.time ≡ self.old.time) × (self.new.max ≡ self.old.max)) }
@@ -133,7 +133,7 @@ impl Ends {
         remark: Remark,
         from: Side,
         frame: Frame,
-    ) -> Result<(), ToolFault>
+    ) -> Result<(), Stop>
         ensures active { OnOk result
             (Adds (note_of remark self.old.time (event_of Active from frame)) self.old.active self.new.active) }
         ensures passive { OnOk result
@@ -158,7 +158,7 @@ fn pass(
     sent: Entry,
     sender: &mut Account,
     taker: &mut Account,
-) -> Result<(), ToolFault>
+) -> Result<(), Stop>
     ensures sender { OnOk result (Adds (record { remark = remark; entry = sent }) sender.old sender.new) }
     ensures taker { OnOk result (Adds (record { remark = remark; entry = received_of sent }) taker.old taker.new) }
 {
@@ -167,7 +167,7 @@ fn pass(
 }
 
 /// The message of these octets, those of its length first, where header and text have from ten octets up to so many.
-pub fn frame_within(alloc: Global, max: u32, octets: Vec<u8>) -> Result<Option<Frame>, ToolFault>
+pub fn frame_within(alloc: Global, max: u32, octets: Vec<u8>) -> Result<Option<Frame>, Stop>
     ensures some { IfOk result (λ found. IfSome found (λ frame. drop 4 octets.items ≡ message_octets frame)) }
     ensures none { IfOk result (λ found. found ≡ None → (length octets.items < 14) ⊎ (max + 4 < length octets.items)) }
     ensures most { IfOk result (λ found. IfSome found (λ frame. length octets.items ≤ max + 4)) }

@@ -1,12 +1,14 @@
 //! A connection of a capture, from its first SYN on.
 
+ghost use Rattle.std.specs.Prelude.{OnOk};
+ghost use Rattle.hsms_wire.specs.Report.{Tells};
+
 use crate::ends::{Ends, Heard};
 use crate::pair::Pair;
 use crate::report::Report;
 use crate::shortfall::Shortfall;
+use crate::stop::Stop;
 use hsms_capture::{Connection, ConnectionFault, Ending, Event, Happening, Segment, Side};
-use hsms_frame::Sink;
-use hsms_options::ToolFault;
 use std::alloc::{AllocError, Global};
 
 // How many packets may wait for the number of the passive end's SYN.
@@ -130,30 +132,32 @@ impl Logs {
 }
 
 /// Takes a packet of a connection that begins with a SYN of this number.
-pub fn take<W: Sink>(
+#[tactic(auto, using(crate::proofs::Tellings::tells_nothing, crate::proofs::Tellings::tells_then, crate::proofs::Tellings::ok_then))]
+pub fn take(
     alloc: Global,
-    sink: &mut W,
     report: &mut Report,
     pair: &Pair,
     syn: u32,
     stage: Stage,
     segment: Segment,
     octets: &[u8],
-) -> Result<Stage, ToolFault> {
+) -> Result<Stage, Stop>
+    ensures told { OnOk result (Tells report.old report.new) }
+{
     match stage {
         Stage::Over => Ok(Stage::Over),
-        Stage::Open(open) => follow(alloc, sink, report, pair, open, segment, octets),
+        Stage::Open(open) => follow(alloc, report, pair, open, segment, octets),
         Stage::Opening(waiting) if !answers(syn, &segment) => {
-            wait(alloc, sink, report, pair, waiting, segment, octets)
+            wait(alloc, report, pair, waiting, segment, octets)
         }
         Stage::Opening(waiting) => {
             let open = Open {
                 connection: Connection::new(alloc, syn, segment.number),
                 logs: Logs::new(alloc),
             };
-            let stage = follow_all(alloc, sink, report, pair, open, waiting)?;
+            let stage = follow_all(alloc, report, pair, open, waiting)?;
             match stage {
-                Stage::Open(open) => follow(alloc, sink, report, pair, open, segment, octets),
+                Stage::Open(open) => follow(alloc, report, pair, open, segment, octets),
                 Stage::Opening(_) | Stage::Over => Ok(Stage::Over),
             }
         }
@@ -162,18 +166,20 @@ pub fn take<W: Sink>(
 
 /// Tells what is left of a connection of which no packet follows: since a later one replaces it, or at the end of what
 /// is read, where something may be missing.
-pub fn end<W: Sink>(
+#[tactic(auto, using(crate::proofs::Tellings::tells_nothing, crate::proofs::Tellings::tells_then, crate::proofs::Tellings::ok_then))]
+pub fn end(
     alloc: Global,
-    sink: &mut W,
     report: &mut Report,
     pair: &Pair,
     stage: Stage,
     is_replaced: bool,
     missing: Option<Shortfall>,
-) -> Result<(), ToolFault> {
+) -> Result<(), Stop>
+    ensures told { OnOk result (Tells report.old report.new) }
+{
     match stage {
         Stage::Over => Ok(()),
-        Stage::Opening(waiting) => give_up(alloc, sink, report, pair, &waiting),
+        Stage::Opening(waiting) => give_up(alloc, report, pair, &waiting),
         Stage::Open(open) => {
             let Open {
                 connection,
@@ -182,20 +188,34 @@ pub fn end<W: Sink>(
             let mut told = Vec::new(alloc);
             let ending = match connection.end(alloc, &mut told) {
                 Ok(ending) => ending,
-                Err(_) => return Err(ToolFault::Memory),
+                Err(_) => return Err(Stop::Memory),
             };
-            let course = hear_all(alloc, sink, report, pair, &mut logs, told)?;
+            let course = hear_all(alloc, report, pair, &mut logs, told)?;
             let shortfall = match course {
                 Course::Over(shortfall) => shortfall,
                 Course::Goes => Shortfall::of_ending(ending).or(missing),
             };
-            let goes_down = is_replaced && logs.is_up && matches!(course, Course::Goes);
-            if goes_down && shortfall.is_none() {
-                report.replace(alloc, sink, &mut logs.ends)?;
-            }
-            conclude(alloc, sink, report, pair, logs, shortfall)
+            let is_left = matches!(course, Course::Goes) && shortfall.is_none();
+            go_down(alloc, report, &mut logs, is_replaced && is_left)?;
+            conclude(alloc, report, pair, logs, shortfall)
         }
     }
+}
+
+// A connection that is up goes down, where a later one replaces it.
+#[tactic(auto, using(crate::proofs::Tellings::tells_nothing, crate::proofs::Tellings::tells_then, crate::proofs::Tellings::ok_then))]
+fn go_down(
+    alloc: Global,
+    report: &mut Report,
+    logs: &mut Logs,
+    is_replaced: bool,
+) -> Result<(), Stop>
+    ensures told { OnOk result (Tells report.old report.new) }
+{
+    if is_replaced && logs.is_up {
+        return report.replace(alloc, &mut logs.ends);
+    }
+    Ok(())
 }
 
 // Whether a segment is the passive end's SYN, which acknowledges that of the active end.
@@ -205,15 +225,17 @@ fn answers(syn: u32, segment: &Segment) -> bool {
 }
 
 // A packet waits, or too many do.
-fn wait<W: Sink>(
+#[tactic(auto, using(crate::proofs::Tellings::tells_nothing, crate::proofs::Tellings::tells_then, crate::proofs::Tellings::ok_then))]
+fn wait(
     alloc: Global,
-    sink: &mut W,
     report: &mut Report,
     pair: &Pair,
     mut waiting: Vec<Waiting>,
     segment: Segment,
     octets: &[u8],
-) -> Result<Stage, ToolFault> {
+) -> Result<Stage, Stop>
+    ensures told { OnOk result (Tells report.old report.new) }
+{
     let mut held = Vec::new(alloc);
     held.extend_from_slice(octets)?;
     let packet = Waiting {
@@ -221,27 +243,24 @@ fn wait<W: Sink>(
         octets: held,
     };
     if waiting.push(packet).is_err() {
-        return Err(ToolFault::Memory);
+        return Err(Stop::Memory);
     }
     if waiting.len() <= GREATEST_WAIT {
         return Ok(Stage::Opening(waiting));
     }
-    give_up(alloc, sink, report, pair, &waiting)?;
+    give_up(alloc, report, pair, &waiting)?;
     Ok(Stage::Over)
 }
 
 // Tells what a connection lacks of which the passive end's SYN isn't there: nothing where it was refused, or half open.
-fn give_up<W: Sink>(
-    alloc: Global,
-    sink: &mut W,
-    report: &mut Report,
-    pair: &Pair,
-    waiting: &[Waiting],
-) -> Result<(), ToolFault> {
+#[tactic(auto, using(crate::proofs::Tellings::tells_nothing, crate::proofs::Tellings::tells_then, crate::proofs::Tellings::ok_then))]
+fn give_up(alloc: Global, report: &mut Report, pair: &Pair, waiting: &[Waiting]) -> Result<(), Stop>
+    ensures told { OnOk result (Tells report.old report.new) }
+{
     match waiting.iter().find(|packet| shows_loss(*packet)) {
         Some(packet) => {
             let lost = Shortfall::Lost(packet.segment.packet);
-            report.conclude(alloc, sink, pair, None, Some(lost))
+            report.conclude(alloc, pair, None, Some(lost))
         }
         None => Ok(()),
     }
@@ -254,27 +273,21 @@ fn shows_loss(packet: &Waiting) -> bool {
 }
 
 // Takes the packets that waited.
-fn follow_all<W: Sink>(
+#[tactic(auto, using(crate::proofs::Tellings::tells_nothing, crate::proofs::Tellings::tells_then, crate::proofs::Tellings::ok_then))]
+fn follow_all(
     alloc: Global,
-    sink: &mut W,
     report: &mut Report,
     pair: &Pair,
     open: Open,
     waiting: Vec<Waiting>,
-) -> Result<Stage, ToolFault> {
+) -> Result<Stage, Stop>
+    ensures told { OnOk result (Tells report.old report.new) }
+{
     let mut stage = Stage::Open(open);
     for packet in waiting {
         stage = match stage {
             Stage::Open(open) => {
-                follow(
-                    alloc,
-                    sink,
-                    report,
-                    pair,
-                    open,
-                    packet.segment,
-                    &packet.octets,
-                )?
+                follow(alloc, report, pair, open, packet.segment, &packet.octets)?
             }
             Stage::Opening(_) | Stage::Over => Stage::Over,
         };
@@ -283,15 +296,17 @@ fn follow_all<W: Sink>(
 }
 
 // Takes a packet of a connection that is followed.
-fn follow<W: Sink>(
+#[tactic(auto, using(crate::proofs::Tellings::tells_nothing, crate::proofs::Tellings::tells_then, crate::proofs::Tellings::ok_then))]
+fn follow(
     alloc: Global,
-    sink: &mut W,
     report: &mut Report,
     pair: &Pair,
     open: Open,
     segment: Segment,
     octets: &[u8],
-) -> Result<Stage, ToolFault> {
+) -> Result<Stage, Stop>
+    ensures told { OnOk result (Tells report.old report.new) }
+{
     let Open {
         connection,
         mut logs,
@@ -299,8 +314,8 @@ fn follow<W: Sink>(
     let mut told = Vec::new(alloc);
     let followed = take_segment(alloc, connection, segment, octets, &mut told)?;
     logs.note_reset(&segment)?;
-    let course = hear_all(alloc, sink, report, pair, &mut logs, told)?;
-    go_on(alloc, sink, report, pair, logs, course, followed)
+    let course = hear_all(alloc, report, pair, &mut logs, told)?;
+    go_on(alloc, report, pair, logs, course, followed)
 }
 
 // A connection takes a packet.
@@ -310,27 +325,29 @@ fn take_segment(
     segment: Segment,
     octets: &[u8],
     told: &mut Vec<Happening>,
-) -> Result<Followed, ToolFault> {
+) -> Result<Followed, Stop> {
     match connection.take(alloc, segment, octets, told) {
         Ok(connection) => match connection.ending() {
             None => Ok(Followed::Goes(connection)),
             Some(ending) => Ok(Followed::Ends(Shortfall::of_ending(ending))),
         },
-        Err(ConnectionFault::Memory) => Err(ToolFault::Memory),
+        Err(ConnectionFault::Memory) => Err(Stop::Memory),
         Err(_) => Ok(Followed::Ends(Some(Shortfall::Full(segment.packet)))),
     }
 }
 
 // A connection goes on, or it is over, by what was heard of it or by what it lacks.
-fn go_on<W: Sink>(
+#[tactic(auto, using(crate::proofs::Tellings::tells_nothing, crate::proofs::Tellings::tells_then, crate::proofs::Tellings::ok_then))]
+fn go_on(
     alloc: Global,
-    sink: &mut W,
     report: &mut Report,
     pair: &Pair,
     logs: Logs,
     course: Course,
     followed: Followed,
-) -> Result<Stage, ToolFault> {
+) -> Result<Stage, Stop>
+    ensures told { OnOk result (Tells report.old report.new) }
+{
     let shortfall = match course {
         Course::Over(shortfall) => shortfall,
         Course::Goes => match followed {
@@ -338,23 +355,25 @@ fn go_on<W: Sink>(
             Followed::Ends(shortfall) => shortfall,
         },
     };
-    conclude(alloc, sink, report, pair, logs, shortfall)?;
+    conclude(alloc, report, pair, logs, shortfall)?;
     Ok(Stage::Over)
 }
 
 // Hears what happens, up to a `down`, or a message that no end takes.
-fn hear_all<W: Sink>(
+#[tactic(auto, using(crate::proofs::Tellings::tells_nothing, crate::proofs::Tellings::tells_then, crate::proofs::Tellings::ok_then))]
+fn hear_all(
     alloc: Global,
-    sink: &mut W,
     report: &mut Report,
     pair: &Pair,
     logs: &mut Logs,
     told: Vec<Happening>,
-) -> Result<Course, ToolFault> {
+) -> Result<Course, Stop>
+    ensures told { OnOk result (Tells report.old report.new) }
+{
     for happening in told {
         let packet = happening.packet;
         let happening = logs.timed(happening);
-        match report.hear(alloc, sink, pair, &mut logs.ends, happening)? {
+        match report.hear(alloc, pair, &mut logs.ends, happening)? {
             Heard::Goes => {}
             Heard::Down => return Ok(Course::Over(None)),
             Heard::Length => return Ok(Course::Over(Some(Shortfall::Length(packet)))),
@@ -364,16 +383,18 @@ fn hear_all<W: Sink>(
 }
 
 // A connection is over. One that never came up and lacks nothing isn't told.
-fn conclude<W: Sink>(
+#[tactic(auto, using(crate::proofs::Tellings::tells_nothing, crate::proofs::Tellings::tells_then, crate::proofs::Tellings::ok_then))]
+fn conclude(
     alloc: Global,
-    sink: &mut W,
     report: &mut Report,
     pair: &Pair,
     logs: Logs,
     shortfall: Option<Shortfall>,
-) -> Result<(), ToolFault> {
+) -> Result<(), Stop>
+    ensures told { OnOk result (Tells report.old report.new) }
+{
     if !logs.is_up && shortfall.is_none() {
         return Ok(());
     }
-    report.conclude(alloc, sink, pair, logs.ends, shortfall)
+    report.conclude(alloc, pair, logs.ends, shortfall)
 }

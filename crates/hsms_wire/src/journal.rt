@@ -3,12 +3,10 @@
 use crate::account::{Remark, lay_note, lay_settings};
 use crate::ends::{Heard, frame_within};
 use crate::pair::Pair;
+use crate::stop::Stop;
 use crate::text::Text;
 use hsms_capture::{Event as Happens, Happening, Side};
-use hsms_frame::Sink;
 use hsms_machine::{Entry, Event, Settings};
-use hsms_options::{ToolFault, refused};
-use hsms_tasks::put;
 use std::alloc::Global;
 
 /// The log of the ends with these settings, on this side of each connection between the same two addresses.
@@ -19,7 +17,6 @@ pub struct Journal {
     begun: Option<Begun>,
     // The time of the last entry.
     time: u64,
-    text: Text,
 }
 
 // The connection that came up last, and whether it is up.
@@ -30,64 +27,95 @@ struct Begun {
 }
 
 impl Journal {
-    /// A log of which nothing is written.
-    pub fn new(alloc: Global, settings: Settings, side: Side) -> Journal {
+    /// A log of which nothing is told.
+    pub fn new(settings: Settings, side: Side) -> Journal {
         Journal {
             settings,
             side,
             begun: None,
             time: 0,
-            text: Text::new(alloc),
         }
     }
 
-    /// Writes what happens on the connection of a pair, where it is no message that no end takes.
+    /// Tells on a page what happens on the connection of a pair, where it is no message that no end takes.
     ///
     /// # Errors
     ///
     /// `Refused`, in the words `Overlap packet=N` where another connection is up, and `Peer packet=N` where it has other
-    /// addresses; `Write` and `Memory`.
-    pub fn hear<W: Sink>(
+    /// addresses; `Memory`. The page stays as it was then.
+    pub fn hear(
         &mut self,
         alloc: Global,
-        sink: &mut W,
+        page: &mut Text,
         pair: &Pair,
         happening: Happening,
-    ) -> Result<Heard, ToolFault> {
+    ) -> Result<Heard, Stop> {
+        let length = page.octets().len();
+        let heard = self.tell(alloc, page, pair, happening);
+        if heard.is_err() {
+            page.cut(length);
+        }
+        heard
+    }
+
+    // The same, where what is told before a fault may stay on the page.
+    fn tell(
+        &mut self,
+        alloc: Global,
+        page: &mut Text,
+        pair: &Pair,
+        happening: Happening,
+    ) -> Result<Heard, Stop> {
         let remark = Remark::Packet(happening.packet);
         self.time = self.time.max(happening.time);
         match happening.event {
             Happens::Up => {
-                self.come_up(alloc, pair, happening.packet)?;
-                self.write(sink, remark, Event::Up, Heard::Goes)
+                self.come_up(alloc, page, pair, happening.packet)?;
+                self.write(page, remark, Event::Up, Heard::Goes)
             }
             Happens::Down => {
                 self.go_down();
-                self.write(sink, remark, Event::Down, Heard::Down)
+                self.write(page, remark, Event::Down, Heard::Down)
             }
             Happens::Message { from, octets } => {
                 match frame_within(alloc, self.settings.max(), octets)? {
                     Some(frame) if from == self.side => {
-                        self.write(sink, remark, Event::Sent(frame), Heard::Goes)
+                        self.write(page, remark, Event::Sent(frame), Heard::Goes)
                     }
-                    Some(frame) => self.write(sink, remark, Event::Taken(frame), Heard::Goes),
+                    Some(frame) => self.write(page, remark, Event::Taken(frame), Heard::Goes),
                     None => Ok(Heard::Length),
                 }
             }
         }
     }
 
-    /// Writes that the connection went down, since a later one follows.
-    pub fn replace<W: Sink>(&mut self, sink: &mut W) -> Result<(), ToolFault> {
+    /// Tells on a page that the connection went down, since a later one follows.
+    ///
+    /// # Errors
+    ///
+    /// `Memory`. The page stays as it was then.
+    pub fn replace(&mut self, page: &mut Text) -> Result<(), Stop> {
+        let length = page.octets().len();
         self.go_down();
-        self.write(sink, Remark::Replaced, Event::Down, Heard::Down)?;
-        Ok(())
+        match self.write(page, Remark::Replaced, Event::Down, Heard::Down) {
+            Ok(_) => Ok(()),
+            Err(stop) => {
+                page.cut(length);
+                Err(stop)
+            }
+        }
     }
 
     // The connection of a pair comes up. The first one that does begins the log.
-    fn come_up(&mut self, alloc: Global, pair: &Pair, packet: u64) -> Result<(), ToolFault> {
+    fn come_up(
+        &mut self,
+        alloc: Global,
+        page: &mut Text,
+        pair: &Pair,
+        packet: u64,
+    ) -> Result<(), Stop> {
         match &self.begun {
-            None => lay_settings(&mut self.text, &self.settings)?,
+            None => lay_settings(page, &self.settings)?,
             Some(begun) if !begun.pair.has_addresses_of(pair) => {
                 return Err(refused_at(alloc, "Peer", packet));
             }
@@ -108,29 +136,27 @@ impl Journal {
         }
     }
 
-    // Writes an entry behind its comment, and what stands before them.
-    fn write<W: Sink>(
+    // Tells an entry behind its comment.
+    fn write(
         &mut self,
-        sink: &mut W,
+        page: &mut Text,
         remark: Remark,
         event: Event,
         heard: Heard,
-    ) -> Result<Heard, ToolFault> {
+    ) -> Result<Heard, Stop> {
         let entry = Entry {
             time: self.time,
             event,
         };
-        lay_note(&mut self.text, remark, &entry)?;
-        put(sink, self.text.octets())?;
-        self.text.clear();
+        lay_note(page, remark, &entry)?;
         Ok(heard)
     }
 }
 
 // The refusal of what comes with a packet.
-fn refused_at(alloc: Global, word: &str, packet: u64) -> ToolFault {
+fn refused_at(alloc: Global, word: &str, packet: u64) -> Stop {
     match format!(in alloc; "{word} packet={packet}") {
-        Ok(words) => refused(alloc, words.as_str()),
-        Err(_) => ToolFault::Memory,
+        Ok(words) => Stop::Refused(words),
+        Err(_) => Stop::Memory,
     }
 }

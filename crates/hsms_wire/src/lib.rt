@@ -18,9 +18,11 @@ mod entries;
 mod flow;
 mod journal;
 mod left_out;
+mod line;
 mod pair;
 mod report;
 mod shortfall;
+mod stop;
 mod table;
 mod text;
 

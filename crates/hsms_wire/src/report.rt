@@ -4,15 +4,18 @@ use crate::account::Told;
 use crate::ends::{Ends, Heard};
 use crate::journal::Journal;
 use crate::left_out::LeftOut;
+use crate::line::end_line;
 use crate::pair::Pair;
 use crate::shortfall::Shortfall;
+use crate::stop::Stop;
+use crate::text::Text;
 use hsms_capture::{Happening, Side};
 use hsms_frame::Sink;
 use hsms_log::Verdict;
 use hsms_machine::{Role, Settings};
-use hsms_options::{Capturing, ToolFault, refused};
-use hsms_tasks::{put, verdict_line};
-use std::alloc::{AllocError, Global};
+use hsms_options::{Capturing, ToolFault};
+use hsms_tasks::put;
+use std::alloc::Global;
 
 /// What is told: the verdicts on the logs of both ends, or the log of one end.
 #[derive(Drop)]
@@ -31,21 +34,35 @@ pub struct Report {
     has_failed: bool,
     has_told: bool,
     pub left_out: LeftOut,
+    // What is told and not written yet.
+    page: Text,
 }
 
 impl Report {
-    ghost use Rattle.std.specs.Prelude.{◌≡◌, ◌⊎◌, None, Some, IfOk, OnOk, true};
+    ghost use Rattle.std.specs.Prelude.{◌≡◌, ◌⊎◌, ◌++◌, [], List, ℕ, None, Some, IfErr, OnOk, true};
+    ghost use Rattle.hsms_frame.specs.Count.{count_failure};
+    ghost use Rattle.hsms_frame.specs.Device.{Grows};
+    ghost use Rattle.hsms_tasks.specs.Show.{IsWrite};
+    ghost use Rattle.hsms_wire.specs.Capturing.{GrowsBySome};
     ghost use Rattle.hsms_wire.specs.declared.report.Manner.TheVariants.{Verdicts};
-    ghost use Rattle.hsms_wire.specs.Report.{AnswersWell, CountsBy, CountsVerdicts, failed_after, first_of, missing_after};
+    ghost use Rattle.hsms_wire.specs.declared.stop.Stop.TheVariants.{Memory};
+    ghost use Rattle.hsms_wire.specs.Line.{end_line_of};
+    ghost use Rattle.hsms_wire.specs.Report.{Finishes, IsTold, Tells, TellsBy, TellsVerdicts, failed_after, first_of, found_of, missing_after, nothing_found, role_at};
 
     /// Nothing is told yet.
-    pub fn new(alloc: Global, options: &Capturing) -> Report {
+    pub fn new(alloc: Global, options: &Capturing) -> Report
+        ensures manner { options.now.log ≡ None → result.manner ≡ Verdicts }
+        ensures active { result.active ≡ options.now.active }
+        ensures passive { result.passive ≡ options.now.passive }
+        ensures found { found_of result ≡ nothing_found }
+        ensures page { result.page.octets ≡ [] }
+    {
         let manner = match options.log {
             None => Manner::Verdicts,
             Some(role) if role == options.active.role() => {
-                Manner::Log(Journal::new(alloc, options.active, Side::Active))
+                Manner::Log(Journal::new(options.active, Side::Active))
             }
-            Some(_) => Manner::Log(Journal::new(alloc, options.passive, Side::Passive)),
+            Some(_) => Manner::Log(Journal::new(options.passive, Side::Passive)),
         };
         Report {
             active: options.active,
@@ -55,29 +72,48 @@ impl Report {
             has_failed: false,
             has_told: false,
             left_out: LeftOut::new(),
+            page: Text::new(alloc),
         }
     }
 
+    /// Writes what is told.
+    pub fn put_out<W: Sink>(&mut self, sink: &mut W) -> Result<(), ToolFault>
+        ensures ok { OnOk result (Grows (W.state sink.old).written (W.state sink.new).written self.old.page.octets) }
+        ensures none { OnOk result (self.new.page.octets ≡ []) }
+        ensures some { GrowsBySome (W.state sink.old).written (W.state sink.new).written }
+        ensures word { IfErr result IsWrite }
+        ensures writes { (W.state sink.new).failures ≡ count_failure result (W.state sink.old).failures }
+        ensures same { self.new ≡ record self.old { page = self.new.page } }
+    {
+        if self.page.octets().is_empty() {
+            return Ok(());
+        }
+        put(sink, self.page.octets())?;
+        self.page.clear();
+        Ok(())
+    }
+
     /// Something happens on the connection of a pair.
-    pub fn hear<W: Sink>(
+    #[tactic(auto, using(crate::proofs::Tellings::tells_nothing, crate::proofs::Tellings::log_tells))]
+    pub fn hear(
         &mut self,
         alloc: Global,
-        sink: &mut W,
         pair: &Pair,
         ends: &mut Option<Ends>,
         happening: Happening,
-    ) -> Result<Heard, ToolFault> {
+    ) -> Result<Heard, Stop>
+        ensures told { OnOk result (Tells self.old self.new) }
+    {
         self.begin(alloc, ends)?;
         match (&mut self.manner, ends) {
-            (Manner::Log(journal), _) => journal.hear(alloc, sink, pair, happening),
+            (Manner::Log(journal), _) => journal.hear(alloc, &mut self.page, pair, happening),
             (Manner::Verdicts, Some(ends)) => ends.hear(alloc, happening),
             (Manner::Verdicts, None) => Ok(Heard::Goes),
         }
     }
 
     // Begins the logs of the ends of a connection, where they are audited.
-    fn begin(&mut self, alloc: Global, ends: &mut Option<Ends>) -> Result<(), ToolFault> {
-        self.has_told = true;
+    fn begin(&self, alloc: Global, ends: &mut Option<Ends>) -> Result<(), Stop> {
         match &self.manner {
             Manner::Verdicts if ends.is_none() => {
                 *ends = Some(Ends::new(alloc, &self.active, &self.passive)?);
@@ -88,14 +124,12 @@ impl Report {
     }
 
     /// The connection is replaced by a later one of the same pair, and was up.
-    pub fn replace<W: Sink>(
-        &mut self,
-        alloc: Global,
-        sink: &mut W,
-        ends: &mut Option<Ends>,
-    ) -> Result<(), ToolFault> {
+    #[tactic(auto, using(crate::proofs::Tellings::tells_nothing, crate::proofs::Tellings::log_tells))]
+    pub fn replace(&mut self, alloc: Global, ends: &mut Option<Ends>) -> Result<(), Stop>
+        ensures told { OnOk result (Tells self.old self.new) }
+    {
         match (&mut self.manner, ends) {
-            (Manner::Log(journal), _) => journal.replace(sink),
+            (Manner::Log(journal), _) => journal.replace(&mut self.page),
             (Manner::Verdicts, Some(ends)) => ends.replace(alloc),
             (Manner::Verdicts, None) => Ok(()),
         }
@@ -106,31 +140,29 @@ impl Report {
     ///
     /// # Errors
     ///
-    /// `Refused` where something is missing of a log; `Write` and `Memory`.
-    pub fn conclude<W: Sink>(
+    /// `Refused` where something is missing of a log; `Memory`.
+    #[tactic(auto, using(crate::proofs::Tellings::concluded))]
+    pub fn conclude(
         &mut self,
         alloc: Global,
-        sink: &mut W,
         pair: &Pair,
         ends: Option<Ends>,
         shortfall: Option<Shortfall>,
-    ) -> Result<(), ToolFault>
+    ) -> Result<(), Stop>
+        ensures told { OnOk result (Tells self.old self.new) }
         ensures missing { OnOk result (self.new.shortfall ≡ missing_after self.old.shortfall shortfall) }
-        ensures told { OnOk result (self.new.has_told ≡ true) }
-        ensures failed { OnOk result (CountsBy self.old.manner ends self.old.has_failed self.new.has_failed) }
+        ensures has_told { OnOk result (self.new.has_told ≡ true) }
+        ensures lines { OnOk result (TellsBy self.old.manner pair.now shortfall ends self.old self.new) }
         ensures same { OnOk result (self.new.manner ≡ self.old.manner) }
         ensures goes { OnOk result ((shortfall ≡ None) ⊎ (self.old.manner ≡ Verdicts)) }
     {
         self.conclude_with(alloc, shortfall)?;
-        self.tell(alloc, sink, pair, ends, shortfall)
+        self.tell(alloc, pair, ends, shortfall)?;
+        Ok(())
     }
 
     // Notes that a connection is told, and what it lacks. Behind that no log of an end goes on.
-    fn conclude_with(
-        &mut self,
-        alloc: Global,
-        shortfall: Option<Shortfall>,
-    ) -> Result<(), ToolFault>
+    fn conclude_with(&mut self, alloc: Global, shortfall: Option<Shortfall>) -> Result<(), Stop>
         ensures noted { OnOk result (self.new ≡ record self.old {
           has_told = true;
           shortfall = missing_after self.old.shortfall shortfall;
@@ -143,29 +175,25 @@ impl Report {
         };
         let first = self.note(shortfall);
         match &self.manner {
-            Manner::Log(_) => Err(refused_by(alloc, first)),
+            Manner::Log(_) => Err(first.refusal(alloc)),
             Manner::Verdicts => Ok(()),
         }
     }
 
-    // Writes the verdicts on the logs of both ends, or that there are none, where verdicts are told.
-    fn tell<W: Sink>(
+    // Tells the verdicts on the logs of both ends, or that there are none, where verdicts are told.
+    fn tell(
         &mut self,
         alloc: Global,
-        sink: &mut W,
         pair: &Pair,
         ends: Option<Ends>,
         shortfall: Option<Shortfall>,
-    ) -> Result<(), ToolFault>
-        ensures failed { OnOk result (CountsBy self.old.manner ends self.old.has_failed self.new.has_failed) }
-        ensures same { OnOk result ((self.new.shortfall ≡ self.old.shortfall) × (self.new.has_told ≡ self.old.has_told)
-            × (self.new.manner ≡ self.old.manner)) }
+    ) -> Result<(), Stop>
+        ensures lines { OnOk result (TellsBy self.old.manner pair.now shortfall ends self.old self.new) }
+        ensures same { OnOk result (self.new ≡ record self.old { has_failed = self.new.has_failed; page = self.new.page }) }
     {
         match (&self.manner, ends) {
-            (Manner::Verdicts, Some(ends)) => self.tell_verdicts(
-                alloc, sink, pair, ends, shortfall,
-            ),
-            (Manner::Verdicts, None) => self.tell_missing(alloc, sink, pair, shortfall),
+            (Manner::Verdicts, Some(ends)) => self.tell_verdicts(alloc, pair, ends, shortfall),
+            (Manner::Verdicts, None) => self.tell_missing(alloc, pair, shortfall),
             (Manner::Log(_), _) => Ok(()),
         }
     }
@@ -180,128 +208,126 @@ impl Report {
         first
     }
 
-    // Writes the verdicts on the logs of both ends.
-    fn tell_verdicts<W: Sink>(
+    /// Something is missing of the capture, or nothing.
+    pub fn note_missing(&mut self, missing: Option<Shortfall>)
+        ensures { self.new ≡ record self.old { shortfall = missing_after self.old.shortfall missing } }
+    {
+        if let Some(shortfall) = missing {
+            self.note(shortfall);
+        }
+    }
+
+    // Tells the verdicts on the logs of both ends.
+    fn tell_verdicts(
         &mut self,
         alloc: Global,
-        sink: &mut W,
         pair: &Pair,
         ends: Ends,
         shortfall: Option<Shortfall>,
-    ) -> Result<(), ToolFault>
-        ensures failed { OnOk result (CountsVerdicts (Some ends) self.old.has_failed self.new.has_failed) }
-        ensures same { OnOk result ((self.new.shortfall ≡ self.old.shortfall) × (self.new.has_told ≡ self.old.has_told)
-            × (self.new.manner ≡ self.old.manner)) }
+    ) -> Result<(), Stop>
+        ensures lines { OnOk result (TellsVerdicts pair.now shortfall (Some ends) self.old self.new) }
+        ensures same { OnOk result (self.new ≡ record self.old { has_failed = self.new.has_failed; page = self.new.page }) }
     {
         let (active, passive) = ends.verdicts(alloc)?;
-        self.tell_end(alloc, sink, pair, Side::Active, shortfall, Some(active))?;
-        self.tell_end(alloc, sink, pair, Side::Passive, shortfall, Some(passive))
+        self.tell_ends(alloc, pair, shortfall, Some(active), Some(passive))
     }
 
-    // Writes that a connection never came up, and lacks something.
-    fn tell_missing<W: Sink>(
+    // Tells that a connection never came up, and lacks something.
+    fn tell_missing(
         &mut self,
         alloc: Global,
-        sink: &mut W,
         pair: &Pair,
         shortfall: Option<Shortfall>,
-    ) -> Result<(), ToolFault>
-        ensures same { OnOk result (self.new ≡ self.old) }
+    ) -> Result<(), Stop>
+        ensures lines { OnOk result (TellsVerdicts pair.now shortfall None self.old self.new) }
+        ensures same { OnOk result (self.new ≡ record self.old { has_failed = self.new.has_failed; page = self.new.page }) }
     {
-        self.tell_end(alloc, sink, pair, Side::Active, shortfall, None)?;
-        self.tell_end(alloc, sink, pair, Side::Passive, shortfall, None)
+        self.tell_ends(alloc, pair, shortfall, None, None)
     }
 
-    // Writes the line of an end.
-    fn tell_end<W: Sink>(
+    // Tells the lines of both ends.
+    fn tell_ends(
         &mut self,
         alloc: Global,
-        sink: &mut W,
+        pair: &Pair,
+        shortfall: Option<Shortfall>,
+        active: Option<Told>,
+        passive: Option<Told>,
+    ) -> Result<(), Stop>
+        ensures told { OnOk result (IsTold
+            (record { pair = pair.now; shortfall = shortfall; active = active; passive = passive }) self.old self.new) }
+        ensures same { OnOk result (self.new ≡ record self.old { has_failed = self.new.has_failed; page = self.new.page }) }
+    {
+        self.tell_end(alloc, pair, Side::Active, shortfall, active)?;
+        self.tell_end(alloc, pair, Side::Passive, shortfall, passive)?;
+        Ok(())
+    }
+
+    // Tells the line of an end.
+    fn tell_end(
+        &mut self,
+        alloc: Global,
         pair: &Pair,
         side: Side,
         shortfall: Option<Shortfall>,
         told: Option<Told>,
-    ) -> Result<(), ToolFault>
-        ensures failed { OnOk result (self.new ≡ record self.old { has_failed = failed_after self.old.has_failed told }) }
+    ) -> Result<(), Stop>
+        ensures line { OnOk result (self.new.page.octets
+            ≡ self.old.page.octets ++ end_line_of pair.now (role_at self.old side) side shortfall told) }
+        ensures failed { OnOk result
+            (self.new ≡ record self.old { has_failed = failed_after self.old.has_failed told; page = self.new.page }) }
     {
+        let line = end_line(alloc, pair, self.role_of(side), side, shortfall, told)?;
+        self.page.lay(line.as_bytes())?;
         if told.is_some_and(|told| matches!(told.verdict, Verdict::Fail { .. })) {
             self.has_failed = true;
         }
-        let mut line = self.front_of_line(alloc, pair, side)?;
-        if let Some(shortfall) = shortfall {
-            let packet = shortfall.packet();
-            write!(line, " incomplete packet={packet}")?;
-        }
-        match told {
-            Some(told) => push_verdict(alloc, &mut line, told)?,
-            None => line.push('\n')?,
-        }
-        put(sink, line.as_bytes())
+        Ok(())
     }
 
-    // The addresses of a pair, the active end's first, and the role and link of an end.
-    fn front_of_line(&self, alloc: Global, pair: &Pair, side: Side) -> Result<String, AllocError> {
-        let Pair { active, passive } = pair;
-        let (settings, link) = match side {
-            Side::Active => (&self.active, "active"),
-            Side::Passive => (&self.passive, "passive"),
-        };
-        let role = match settings.role() {
-            Role::Host => "host",
-            Role::Equipment => "equipment",
-        };
-        format!(in alloc; "{active} {passive} {role} {link}:")
+    fn role_of(&self, side: Side) -> Role
+        ensures { result ≡ role_at self.now side }
+    {
+        match side {
+            Side::Active => self.active.role(),
+            Side::Passive => self.passive.role(),
+        }
     }
 
     /// Tells the packets that were left out, and says whether each log passes.
     ///
     /// # Errors
     ///
-    /// `Refused` where something is missing and no log fails, and where there was no connection; `Write` and `Memory`.
-    pub fn finish<W: Sink>(self, alloc: Global, sink: &mut W) -> Result<bool, ToolFault>
-        ensures { IfOk result (AnswersWell self) }
+    /// `Refused` where something is missing and no log fails, in the words of what was missing first, and where there was
+    /// no connection; `Memory`.
+    pub fn finish(&mut self, alloc: Global) -> Result<bool, Stop>
+        ensures answer { Finishes (found_of self.old) result }
+        ensures page { OnOk result ((line : List ℕ) × (self.new.page.octets ≡ self.old.page.octets ++ line)) }
+    {
+        self.tell_left_out(alloc)?;
+        self.answer(alloc)
+    }
+
+    // Tells the packets that were left out.
+    fn tell_left_out(&mut self, alloc: Global) -> Result<(), Stop>
+        ensures same { OnOk result (self.new ≡ record self.old { page = self.new.page }) }
+        ensures page { OnOk result ((line : List ℕ) × (self.new.page.octets ≡ self.old.page.octets ++ line)) }
+        ensures memory { IfErr result (λ stop. stop ≡ Memory) }
     {
         let line = self.left_out.line(alloc)?;
-        put(sink, line.as_bytes())?;
+        self.page.lay(line.as_bytes())?;
+        Ok(())
+    }
+
+    // Whether each log passes, or why that can't be said.
+    fn answer(&self, alloc: Global) -> Result<bool, Stop>
+        ensures { Finishes (found_of self.now) result }
+    {
         match self.shortfall {
             _ if self.has_failed => Ok(false),
-            Some(shortfall) => Err(refused_by(alloc, shortfall)),
+            Some(shortfall) => Err(shortfall.refusal(alloc)),
             None if self.has_told => Ok(true),
-            None => Err(refused(alloc, "NoConnection")),
+            None => Err(Stop::Refused(String::from_str(alloc, "NoConnection")?)),
         }
-    }
-}
-
-// Adds a verdict, with the packet of the line that fails, and the line's end.
-fn push_verdict(alloc: Global, line: &mut String, told: Told) -> Result<(), AllocError> {
-    let words = verdict_line(alloc, told.verdict)?;
-    line.push(' ')?;
-    match (told.verdict, told.packet) {
-        (Verdict::Fail { line: number, .. }, Some(packet)) => {
-            write!(line, "fail line={number} packet={packet}")?;
-            push_behind_number(line, words.as_str())
-        }
-        (Verdict::Fail { .. }, None) => line.push_str(words.as_str()),
-        (Verdict::Pass(_), _) => line.push_str(words.as_str()),
-    }
-}
-
-// Adds what stands behind the second word of a verdict.
-fn push_behind_number(line: &mut String, words: &str) -> Result<(), AllocError> {
-    let rest = words.strip_prefix("fail line=").unwrap_or(words);
-    match rest.split_once(' ') {
-        Some((_, behind)) => {
-            line.push(' ')?;
-            line.push_str(behind)
-        }
-        None => line.push('\n'),
-    }
-}
-
-// The refusal of a capture that lacks something.
-fn refused_by(alloc: Global, shortfall: Shortfall) -> ToolFault {
-    match format!(in alloc; "{shortfall}") {
-        Ok(words) => refused(alloc, words.as_str()),
-        Err(_) => ToolFault::Memory,
     }
 }

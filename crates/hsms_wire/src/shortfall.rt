@@ -1,7 +1,9 @@
 //! Why what is told is incomplete.
 
+use crate::stop::Stop;
 use hsms_capture::Ending;
 use hsms_packets::FileFault;
+use std::alloc::Global;
 use std::fmt;
 
 /// Why what is told of connections is incomplete, with the number of the packet from which on it isn't told.
@@ -22,8 +24,14 @@ pub enum Shortfall {
 }
 
 impl Shortfall {
+    ghost use Rattle.std.specs.Prelude.{◌≡◌};
+    ghost use Rattle.hsms_wire.specs.Line.{packet_of};
+    ghost use Rattle.hsms_wire.specs.Stop.{IsRefusalOf};
+
     /// The number of the packet.
-    pub fn packet(self) -> u64 {
+    pub fn packet(self) -> u64
+        ensures { result ≡ packet_of self }
+    {
         match self {
             Shortfall::Lost(packet)
             | Shortfall::Differs(packet)
@@ -42,9 +50,23 @@ impl Shortfall {
             Ending::Differs(packet) => Some(Shortfall::Differs(packet)),
         }
     }
+
+    /// The refusal of a capture of which this is missing.
+    pub fn refusal(self, alloc: Global) -> Stop
+        ensures { IsRefusalOf self result }
+    {
+        match format!(in alloc; "{self}") {
+            Ok(words) => Stop::Refused(words),
+            Err(_) => Stop::Memory,
+        }
+    }
 }
 
 impl fmt::Display for Shortfall {
+    ghost use Rattle.hsms_wire.specs.Line.{shortfall_words};
+
+    ghost output = { λ shortfall. shortfall_words shortfall };
+
     fn fmt<W: fmt::Write>(&self, f: &mut fmt::Formatter<W>) -> fmt::Result {
         match self {
             Shortfall::Lost(packet) => write!(f, "Lost packet={packet}"),

@@ -4,9 +4,8 @@ use crate::flow::{Flow, Stage, end, take};
 use crate::pair::{Pair, pairs_of};
 use crate::report::Report;
 use crate::shortfall::Shortfall;
+use crate::stop::Stop;
 use hsms_capture::{Flags, Segment, Side};
-use hsms_frame::Sink;
-use hsms_options::ToolFault;
 use hsms_packets as packets;
 use indexmap::IndexMap;
 use std::alloc::Global;
@@ -35,6 +34,9 @@ pub struct Table {
 }
 
 impl Table {
+    ghost use Rattle.std.specs.Prelude.{OnOk};
+    ghost use Rattle.hsms_wire.specs.Report.{Tells};
+
     /// No connection, at this port of passive ends.
     pub fn new(alloc: Global, port: u16) -> Table {
         Table {
@@ -45,14 +47,16 @@ impl Table {
     }
 
     /// Takes a packet. What is answered is why nothing behind it can be told.
-    pub fn take<W: Sink>(
+    #[tactic(auto, using(crate::proofs::Tellings::tells_nothing, crate::proofs::Tellings::tells_then, crate::proofs::Tellings::ok_then))]
+    pub fn take(
         &mut self,
         alloc: Global,
-        sink: &mut W,
         report: &mut Report,
         segment: &packets::Segment,
         capture: Capture<'_>,
-    ) -> Result<Option<Shortfall>, ToolFault> {
+    ) -> Result<Option<Shortfall>, Stop>
+        ensures told { OnOk result (Tells report.old report.new) }
+    {
         let Some((pair, from)) = self.pair_of(segment) else {
             return Ok(None);
         };
@@ -64,23 +68,25 @@ impl Table {
             return Ok(Some(Shortfall::Time(capture.packet)));
         };
         if let Some(syn) = syn {
-            self.begin(alloc, sink, report, pair, syn)?;
+            self.begin(alloc, report, pair, syn)?;
         }
         let segment = segment_of(segment, from, capture.packet, time);
-        self.follow(alloc, sink, report, &pair, segment, capture.octets)?;
+        self.follow(alloc, report, &pair, segment, capture.octets)?;
         Ok(None)
     }
 
     /// Tells what is left of each connection, in the order in which they began.
-    pub fn finish<W: Sink>(
+    #[tactic(auto, using(crate::proofs::Tellings::tells_nothing, crate::proofs::Tellings::tells_then, crate::proofs::Tellings::ok_then))]
+    pub fn finish(
         self,
         alloc: Global,
-        sink: &mut W,
         report: &mut Report,
         missing: Option<Shortfall>,
-    ) -> Result<(), ToolFault> {
+    ) -> Result<(), Stop>
+        ensures told { OnOk result (Tells report.old report.new) }
+    {
         for (pair, flow) in self.flows {
-            end(alloc, sink, report, &pair, flow.stage, false, missing)?;
+            end(alloc, report, &pair, flow.stage, false, missing)?;
         }
         Ok(())
     }
@@ -117,20 +123,22 @@ impl Table {
     }
 
     // Begins a connection of a pair, and ends the one before.
-    fn begin<W: Sink>(
+    #[tactic(auto, using(crate::proofs::Tellings::tells_nothing, crate::proofs::Tellings::tells_then, crate::proofs::Tellings::ok_then))]
+    fn begin(
         &mut self,
         alloc: Global,
-        sink: &mut W,
         report: &mut Report,
         pair: Pair,
         syn: u32,
-    ) -> Result<(), ToolFault> {
+    ) -> Result<(), Stop>
+        ensures told { OnOk result (Tells report.old report.new) }
+    {
         if let Some(before) = self.flows.shift_remove(&pair) {
-            end(alloc, sink, report, &pair, before.stage, true, None)?;
+            end(alloc, report, &pair, before.stage, true, None)?;
         }
         let flow = Flow::new(alloc, syn, self.begun);
         if self.flows.insert(pair, flow).is_err() {
-            return Err(ToolFault::Memory);
+            return Err(Stop::Memory);
         }
         self.begun = self.begun.saturating_add(1);
         if self.begun % REMEMBERED == 0 {
@@ -141,20 +149,22 @@ impl Table {
     }
 
     // Takes a packet of the connection of a pair.
-    fn follow<W: Sink>(
+    #[tactic(auto, using(crate::proofs::Tellings::tells_nothing, crate::proofs::Tellings::tells_then, crate::proofs::Tellings::ok_then))]
+    fn follow(
         &mut self,
         alloc: Global,
-        sink: &mut W,
         report: &mut Report,
         pair: &Pair,
         segment: Segment,
         octets: &[u8],
-    ) -> Result<(), ToolFault> {
+    ) -> Result<(), Stop>
+        ensures told { OnOk result (Tells report.old report.new) }
+    {
         let Some(flow) = self.flows.get_mut(pair) else {
             return Ok(());
         };
         let stage = mem::replace(&mut flow.stage, Stage::Over);
-        flow.stage = take(alloc, sink, report, pair, flow.syn, stage, segment, octets)?;
+        flow.stage = take(alloc, report, pair, flow.syn, stage, segment, octets)?;
         Ok(())
     }
 }

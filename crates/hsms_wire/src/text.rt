@@ -4,7 +4,7 @@ ghost use Rattle.std.specs.Prelude.{◌≡◌, [], Some};
 ghost use Rattle.hsms_wire.specs.Text.{sink_of};
 
 use hsms_frame::{Failed, Sink};
-use std::alloc::Global;
+use std::alloc::{AllocError, Global};
 use std::marker::Model;
 
 /// Octets in memory. A write takes all octets of a slice, or fails where memory is refused.
@@ -24,7 +24,7 @@ impl Model for Text {
 }
 
 impl Text {
-    ghost use Rattle.std.specs.Prelude.{◌≡◌, []};
+    ghost use Rattle.std.specs.Prelude.{◌≡◌, ◌++◌, [], OnOk, take};
 
     /// No octets.
     pub fn new(alloc: Global) -> Text
@@ -42,6 +42,21 @@ impl Text {
         ensures { result.now ≡ self.now.octets }
     {
         self.octets.as_slice()
+    }
+
+    /// Lays octets behind those that are there.
+    pub fn lay(&mut self, octets: &[u8]) -> Result<(), AllocError>
+        ensures { OnOk result (self.new.octets ≡ self.old.octets ++ octets.now) }
+    {
+        self.octets.extend_from_slice(octets)?;
+        Ok(())
+    }
+
+    /// Lets all octets go but so many at the front.
+    pub fn cut(&mut self, length: usize)
+        ensures { self.new.octets ≡ take length self.old.octets }
+    {
+        self.octets.truncate(length);
     }
 
     /// Lets all octets go.

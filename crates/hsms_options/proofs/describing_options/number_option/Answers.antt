@@ -9,12 +9,12 @@ use Rattle.hsms_options.proofs.Ranges.{narrowed}
 pub returns-clause-rule : goal.returns-clause-rule
 returns-clause-rule c =
     let read : (z : ℤ) (n : ℕ) → n ≤ 4294967295 → z ≡ pos n → to_z w64 (of_z w64 z) ≡ pos n =
-        λ z n most is. ap (λ i. to_z w64 (of_z w64 i)) is ∙ to_z_pos w64 n (omega (arith, most)) in
+    λ z n most is. ap (λ i. to_z w64 (of_z w64 i)) is ∙ to_z_pos w64 n (omega (arith, most)) in
     let least : c.args.least ≤ 4294967295 = omega (arith, c.ranges.least.fits) in
     let greatest : c.args.greatest ≤ 4294967295 = omega (arith, c.ranges.greatest.fits) in
     let parser = narrowed c.value_parser.result c.range.result _ _ c.args.least c.args.greatest least greatest c.value_parser.ensures
-        (c.new.ensures.start ∙ read _ c.args.least least c.from.ensures) (c.new.ensures.end ∙ read _ c.args.greatest greatest c.from-2.ensures)
-        c.range.ensures in
+    (c.new.ensures.start ∙ read _ c.args.least least c.from.ensures) (c.new.ensures.end ∙ read _ c.args.greatest greatest c.from-2.ensures)
+    c.range.ensures in
     let given = c.value_parser-2.ensures.given in
     ap rule_of c.value_parser-2.ensures.others
     ∙ ap₂ {A = Rule} {B = Option ValueParser} (λ w v. record w { parser = v }) c.word_option.ensures.rule (given.1 ∙ ap Some (given.2 ∙ parser))

@@ -1,0 +1,13 @@
+use Rattle.hsms_wire.proofs.Tellings.{log_tells, same_tells}
+use Rattle.hsms_wire.proofs.report.Report.hear.Goals as goal
+use Rattle.hsms_wire.proofs.report.Report.hear.Goals.{in-Log-default, in-Verdicts-Some, in-Verdicts-None+in-Message-1, in-Verdicts-None+in-Up-1}
+
+pub returns : goal.returns
+returns c = record {
+  told = elim c.match-self.branch [
+    | in-Log-default w ↦ log_tells c.match-self.result c.args.self.now c.match-self.self _ w.in-Log-default.is-0
+    | in-Verdicts-Some w ↦ same_tells c.match-self.result c.args.self.now c.match-self.self w.self-is
+    | in-Verdicts-None+in-Message-1 w ↦ same_tells c.match-self.result c.args.self.now c.match-self.self w.self-is
+    | in-Verdicts-None+in-Up-1 w ↦ same_tells c.match-self.result c.args.self.now c.match-self.self w.self-is
+  ];
+}

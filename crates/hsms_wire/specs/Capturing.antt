@@ -1,0 +1,36 @@
+-- What a call of `hsms capture` answers of its devices.
+use Rattle.std.specs.Prelude.{◌≡◌, ◌⊎◌, ◌++◌, List, ℕ, Bool, Option, Some, codes, Result, Ok, Err}
+use Rattle.hsms_frame.specs.Device.{Grows, WhereTold}
+use Rattle.hsms_options.specs.declared.fault.ToolFault.{ToolFault}
+use Rattle.hsms_options.specs.declared.fault.ToolFault.TheVariants as tool
+use Rattle.hsms_packets.specs.declared.fault.FileFault.{FileFault}
+use Rattle.hsms_packets.specs.declared.fault.FileFault.TheVariants as file
+use Rattle.hsms_machine.specs.declared.settings.Role.{Role}
+use Rattle.hsms_wire.specs.Report.{AnswersWell, Telling, found_behind, found_with, lines_of, nothing_found}
+use Rattle.hsms_wire.specs.declared.shortfall.Shortfall.{Shortfall}
+
+-- something was written behind what was there before
+unfoldable pub GrowsBySome : Option (List ℕ) → Option (List ℕ) → Type 0
+GrowsBySome old new = WhereTold old (λ octets. (told : List ℕ) × (new ≡ Some (octets ++ told)))
+
+-- What is written where verdicts are told: the lines of the connections that were told while the capture was read, then of
+-- those that were left at its end, and then what was left out; and whether all is well by these and by what is missing of
+-- the file.
+abbrev pub CapturesTo : Role → Role → Option (List ℕ) → Option (List ℕ) → Bool → Type 0
+CapturesTo active passive before after well =
+    (reading ending : List Telling) × (missing : Option Shortfall) × (left_out : List ℕ)
+    × Grows before after (lines_of active passive (reading ++ ending) ++ left_out)
+    × AnswersWell (found_behind (found_with (found_behind nothing_found reading) missing) ending) well
+
+-- where a device is named, writing failed, or a log is endless
+abbrev pub IsWriteOrEndless : ToolFault → Type 0
+IsWriteOrEndless (tool.Device word) = (word.now ≡ codes "Write") ⊎ (word.now ≡ codes "Endless")
+IsWriteOrEndless (tool.Refused words) = Unit {0}
+IsWriteOrEndless tool.Memory = Unit {0}
+
+-- why a file isn't read on is told by the word of its device, as want of memory, or as what is missing
+abbrev pub IsMissingBy : FileFault → Result Shortfall ToolFault → Type 0
+IsMissingBy fault (Ok shortfall) = (fault ≡ file.Read → ⊥) × (fault ≡ file.Memory → ⊥)
+IsMissingBy fault (Err (tool.Device word)) = (fault ≡ file.Read) × (word.now ≡ codes "Read")
+IsMissingBy fault (Err (tool.Refused words)) = ⊥
+IsMissingBy fault (Err tool.Memory) = fault ≡ file.Memory
