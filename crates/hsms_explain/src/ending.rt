@@ -53,7 +53,8 @@ fn push_flow(object: &mut String, summary: Summary) -> Result<(), AllocError>
 {
     push_member(object, ",\"entries\":", summary.entries)?;
     push_member(object, ",\"sent\":", summary.sent)?;
-    push_member(object, ",\"taken\":", summary.taken)
+    push_member(object, ",\"taken\":", summary.taken)?;
+    Ok(())
 }
 
 fn push_losses(object: &mut String, summary: Summary) -> Result<(), AllocError>
