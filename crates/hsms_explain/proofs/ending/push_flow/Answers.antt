@@ -11,6 +11,6 @@ returns c =
     let sent = member_of (codes ",\"sent\":") c.args.summary.sent in
     let taken = member_of (codes ",\"taken\":") c.args.summary.taken in
     c.in_ok-push_member-3.ensures
-    ∙ ap (λ xs. xs ++ taken) (c.in_ok-push_member-2.ensures ∙ ap (λ xs. xs ++ sent) c.in_ok-push_member.ensures)
-    ∙ append_assoc (old ++ entries) sent taken
-    ∙ append_assoc old entries (sent ++ taken)
+    ∙ ap (λ xs. xs ++ taken)
+    (c.in_ok-push_member-2.ensures ∙ ap (λ xs. xs ++ sent) c.in_ok-push_member.ensures ∙ append_assoc old entries sent)
+    ∙ append_assoc old (entries ++ sent) taken

@@ -42,7 +42,7 @@ pub returns-in_err-write_told-clause-told : goal.returns-in_err-write_told-claus
 returns-in_err-write_told-clause-told g c = λ input told.
     let inv = c.loop.invariant in
     let p = err_from_is_err_and c.from_residual-in_err-write_told.result c.from_residual-in_err-write_told.ensures.1 in
-    rw (p.1, p.2) (stops_early _ input c.in_err-write_told.field-0.0 _ _ _ _ c.in_err-write_told.ensures.fault
+    rw (p.1, p.2) (stops_early c.args.excerpt.form input c.in_err-write_told.field-0.0 _ _ _ _ c.in_err-write_told.ensures.fault
     (less_left _ _ _ c.in-Ok.count c.pull.new.into c.loop.auditor inv.0 c.in-Ok.ensures.octets input told)
     (some_more _ _ _ inv.4 c.in_err-write_told.ensures.some))
 
