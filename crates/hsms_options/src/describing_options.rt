@@ -142,7 +142,7 @@ pub fn form_option<'a>(alloc: Global) -> Arg<'a>
     ensures local { result.global ≡ false }
 {
     Arg::new(alloc, "form").long("form").value_name("FORM").help(
-        "Tell it as text, or as json: an object a line [default: text]",
+        "Tell it as text, as json: an object a line, or as html: a page [default: text]",
     )
 }
 
