@@ -7,7 +7,7 @@ use Rattle.std.proofs.lemmas.List.Elements.{All-append, All-push}
 use Rattle.std.proofs.lemmas.List.Concat.{flat_map-cons}
 use Rattle.std.proofs.lemmas.Bool.{cases_lt}
 use Rattle.hsms_tasks.proofs.Outlets.{take_behind}
-use Rattle.hsms_tasks.specs.Held.{GrowsHolding}
+use Rattle.hsms_tasks.specs.Held.{GrowsHolding, LaysLine}
 use Rattle.hsms_frame.specs.declared.header.Header.{Header}
 use Rattle.hsms_frame.specs.Device.{WhereTold, Grows, GrowsByFront}
 use Rattle.hsms_frame.specs.Frame.{Frame, frame_octets}
@@ -97,6 +97,28 @@ write_stops max depth input after line f (Device given) left old held mid then w
     let P : List ℕ → Type 0 = λ o. GrowsByFront old written (o ++ line) in
     inr (inr (word, f, after, line, begins, shown, leaves, subst P (append-nil held) (holding_front old held mid then written [] line holds front)))
 write_stops max depth input after line f Memory left old held mid then written now word begins leaves shown holds front = absurd word
+
+-- a write stopped the call at the message that is at the front
+pub lay_stops : (max depth : ℕ) (input ahead rest : List ℕ) (h : Header) (size : ℕ) (fault : ToolFault) (left old : Option (List ℕ)) (held : List ℕ) (mid : Option (List ℕ)) (then : List ℕ)
+    (written : Option (List ℕ)) (now : List ℕ) → input ≡ ahead ++ rest → left ≡ Some rest → IsFrontOf max ahead h size → IsWrite fault → GrowsHolding old held mid then []
+    → LaysLine depth (record { header = h; text = take size (drop 14 ahead) }) (Err fault) mid then written now → ShowsNext max depth input (Err fault) left old held written now
+lay_stops max depth input ahead rest h size fault left old held mid then written now parts is front word holds (line, shown, by_front) =
+    let f : Frame = record { header = h; text = take size (drop 14 ahead) } in
+    let after = drop (14 + size) ahead in
+    let begun = begins_with max input ahead rest (take size (drop 14 ahead)) h size parts front refl in
+    write_stops max depth input (after ++ rest) line f fault left old held mid then written now word begun (after, rest, refl, is) shown holds by_front
+
+-- the message that is at the front was shown
+pub lay_shows : (max depth : ℕ) (input ahead rest : List ℕ) (h : Header) (size : ℕ) (u : Unit {0}) (passed : List ℕ) (left old : Option (List ℕ)) (held : List ℕ) (mid : Option (List ℕ))
+    (then : List ℕ) (written : Option (List ℕ)) (now : List ℕ) → input ≡ ahead ++ rest → left ≡ Some rest → IsFrontOf max ahead h size → passed ≡ drop (14 + size) ahead
+    → GrowsHolding old held mid then [] → LaysLine depth (record { header = h; text = take size (drop 14 ahead) }) (Ok u) mid then written now
+    → ShowsNext max depth input (Ok true) (behind passed left) old held written now
+lay_shows max depth input ahead rest h size u passed left old held mid then written now parts is front is_passed holds (line, shown, grows) =
+    let f : Frame = record { header = h; text = take size (drop 14 ahead) } in
+    let after = drop (14 + size) ahead in
+    let begun = begins_with max input ahead rest (take size (drop 14 ahead)) h size parts front refl in
+    let behind_it = ap (λ (xs : List ℕ). behind xs left) is_passed ∙ ap (behind after) is in
+    (f, after ++ rest, line, begun, shown, behind_it, holding_then old held mid then written now [] line holds grows)
 
 -- one message more is there
 pub one_more : (max : ℕ) (input ahead : List ℕ) (m : Header × ℕ) (left : Option (List ℕ)) → (rest : List ℕ) × (left ≡ Some rest) × (input ≡ ahead ++ rest)

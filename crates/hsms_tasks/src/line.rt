@@ -1,6 +1,6 @@
 //! The line that shows a message.
 
-ghost use Rattle.std.specs.Prelude.{◌≡◌, ◌≤◌, ◌++◌, [], ◌∷◌, List, ℕ, codes, decimal};
+ghost use Rattle.std.specs.Prelude.{◌≡◌, ◌≤◌, ◌+◌, ◌++◌, [], ◌∷◌, List, ℕ, codes, decimal, length, take};
 ghost use Rattle.secs_text.specs.Laid.{Lays};
 ghost use Rattle.hsms_tasks.specs.Line.{LineOf, address_of, text_of};
 
@@ -12,6 +12,7 @@ use secs_text::{Block, Output};
 
 /// Lays the line of a message, with its end, behind what a block holds. Where there is no room, the output is given
 /// what the block holds first. A text is readable where its lists are nested at most `depth` deep.
+#[inline(always)]
 pub fn give_line<O: Output>(out: &mut O, block: &mut Block, header: Header, text: &[u8], depth: u8)
     requires { depth ≤ 100 }
     ensures { (line : List ℕ) × LineOf depth (record { header = header; text = text.now }) line
@@ -30,19 +31,33 @@ pub fn give_line<O: Output>(out: &mut O, block: &mut Block, header: Header, text
     }
 }
 
-// The line of a message that has only a name, session ID and system bytes. Where it has no text, these last two and the
-// line's end are given together.
+// The line of a message that has only a name, session ID and system bytes. Where it has no text, it is laid at once.
 #[inline(always)]
 fn give_bare<O: Output>(out: &mut O, block: &mut Block, name: &[u8], header: Header, text: &[u8])
+    requires { length name.now ≤ 12 }
     ensures { Lays (O.Given out.old) block.old (O.Given out.new) block.new
         (name.now ++ address_of header ++ [] ++ text_of text.now ++ 10 ∷ []) }
 {
     if text.is_empty() {
-        block.lay(out, name);
-        block.lay(out, &address_and_end(header));
+        let line = bare_line(name, header);
+        block.lay(out, &line[..name.len() + 15]);
     } else {
         give_bare_and_text(out, block, name, &address(header), text);
     }
+}
+
+// A name of at most twelve octets, session ID and system bytes, and the end of the line. What stands behind them doesn't
+// count.
+#[inline(always)]
+fn bare_line(name: &[u8], header: Header) -> [u8; 27]
+    requires { length name.now ≤ 12 }
+    ensures { take (length name.now + 15) result ≡ name.now ++ address_of header ++ 10 ∷ [] }
+{
+    let mut line = [0u8; 27];
+    let (front, behind) = line.split_at_mut(name.len());
+    front.copy_from_slice(name);
+    behind[..15].copy_from_slice(&address_and_end(header));
+    line
 }
 
 // The same with a text. `address` is session ID and system bytes, as they stand in a line.
@@ -64,7 +79,7 @@ fn give_bare_and_text<O: Output>(
 }
 
 // The line of a message that has a number besides.
-#[inline(always)]
+#[inline(never)]
 fn give_counted<O: Output>(
     out: &mut O,
     block: &mut Block,
@@ -83,6 +98,7 @@ fn give_counted<O: Output>(
 }
 
 // The line of a Reject.req, with what was rejected, and why.
+#[inline(never)]
 fn give_reject<O: Output>(out: &mut O, block: &mut Block, header: Header, text: &[u8])
     ensures { Lays (O.Given out.old) block.old (O.Given out.new) block.new
         (codes "reject" ++ address_of header ++ (codes " " ++ decimal header.byte2) ++ (codes " " ++ decimal header.byte3)
