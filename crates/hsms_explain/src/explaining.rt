@@ -41,7 +41,8 @@ pub fn explain_to<R: Source, W: Sink>(
     source: &mut R,
     sink: &mut W,
 ) -> Result<bool, ToolFault>
-    ensures told { WhereTold (R.state source.old).left (λ input. ExplainsTo excerpt.form input result (R.state source.new).left
+    ensures told { WhereTold (R.state source.old).left (λ input.
+        ExplainsTo excerpt.form input result (R.state source.new).left
         (HasEnded (R.state source.old).ends (R.state source.new).ends)
         (W.state sink.old).written (W.state sink.new).written) }
     ensures word { IfErr result IsReadWriteOrEndless }
