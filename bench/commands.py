@@ -171,6 +171,25 @@ def captured(size):
     return bytes(wire.octets)
 
 
+def captured_long(size):
+    """Messages of 16 kB in segments of 1,460 octets, every other one acknowledged, and their replies."""
+    wire = Wire()
+    wire.put(0, wire.SYN)
+    wire.put(1, wire.SYN | wire.ACK)
+    wire.put(0, wire.ACK)
+    wire.tell(0, frame("ffff0000000100000001"))
+    wire.tell(1, frame("ffff0000000200000001"))
+    system, text = 1, b"\x01\x02\x41\x06RECIPE\x23\x00\x40\x00" + bytes(range(256)) * 64
+    while len(wire.octets) < size:
+        message = frame(f"0000860b0000{system % 2**32:08x}", text)
+        segments = [message[place : place + 1460] for place in range(0, len(message), 1460)]
+        for place in range(0, len(segments), 2):
+            wire.tell(1, *segments[place : place + 2])
+        wire.tell(0, frame(f"0000060c0000{system % 2**32:08x}", b"\x21\x01\x00"))
+        system += 1
+    return bytes(wire.octets)
+
+
 def main():
     size = int(sys.argv[1] if len(sys.argv) > 1 else 100) * MB
     words = sys.argv[2:]
@@ -192,6 +211,7 @@ def main():
         ("explain --only failures", "ordinary traffic", log, size),
         ("explain", "ordinary traffic", log, size),
         ("capture", "ordinary traffic, each message in a packet", captured, size),
+        ("capture", "messages of 16 kB in segments of 1,460 octets", captured_long, size),
         ("capture --log host", "ordinary traffic, each message in a packet", captured, size),
     ]
     with tempfile.TemporaryDirectory(prefix="hsms-bench-") as room:
