@@ -496,6 +496,8 @@ def main():
     else:
         crates = [it for it in every if it in (asked.names or os.listdir(EDITS))]
         bodies = {crate: bodies_of(crate) for crate in crates}
+    if asked.beside:
+        os.setpgid(0, 0)
     proofs = Proofs(asked.beside)
     if not asked.beside and not is_built_below(crates, proofs.mark()):
         return 1
