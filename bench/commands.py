@@ -154,14 +154,20 @@ class Wire:
         self.put(1 - end, self.ACK)
 
 
-def captured(size):
-    """Event reports, two in a row, and their replies, each in a packet, every other packet acknowledged."""
+def selected():
+    """A connection whose session is selected."""
     wire = Wire()
     wire.put(0, wire.SYN)
     wire.put(1, wire.SYN | wire.ACK)
     wire.put(0, wire.ACK)
     wire.tell(0, frame("ffff0000000100000001"))
     wire.tell(1, frame("ffff0000000200000001"))
+    return wire
+
+
+def captured(size):
+    """Event reports, two in a row, and their replies, each in a packet, every other packet acknowledged."""
+    wire = selected()
     system, text = 1, report(8)
     while len(wire.octets) < size:
         names = [f"{(system + more) % 2**32:08x}" for more in range(2)]
@@ -173,12 +179,7 @@ def captured(size):
 
 def captured_long(size):
     """Messages of 16 kB in segments of 1,460 octets, every other one acknowledged, and their replies."""
-    wire = Wire()
-    wire.put(0, wire.SYN)
-    wire.put(1, wire.SYN | wire.ACK)
-    wire.put(0, wire.ACK)
-    wire.tell(0, frame("ffff0000000100000001"))
-    wire.tell(1, frame("ffff0000000200000001"))
+    wire = selected()
     system, text = 1, b"\x01\x02\x41\x06RECIPE\x23\x00\x40\x00" + bytes(range(256)) * 64
     while len(wire.octets) < size:
         message = frame(f"0000860b0000{system % 2**32:08x}", text)
