@@ -7,7 +7,7 @@ _hsms() {
     --form) mapfile -t COMPREPLY < <(compgen -W 'text json html' -- "$word") && return ;;
     --around | --from | --to) return ;;
     --max | --depth | --device | --system | --first-system | --turns | --port | --t[35678] | --connections | --linktest) return ;;
-    --address | --mdln | --softrev) return ;;
+    --address | --with | --mdln | --softrev) return ;;
     --role | --active | --log) mapfile -t COMPREPLY < <(compgen -W 'host equipment' -- "$word") && return ;;
     --link) mapfile -t COMPREPLY < <(compgen -W 'active passive' -- "$word") && return ;;
   esac
@@ -19,7 +19,7 @@ _hsms() {
       encode) words='--device --system --max --depth --hex --help' ;;
       audit) words='--help' ;;
       explain) words='--only --around --from --to --form --utc --help' ;;
-      capture) words='--port --active --log --device --t3 --t6 --t7 --t8 --max --depth --help' ;;
+      capture) words='--port --with --active --log --device --t3 --t6 --t7 --t8 --max --depth --help' ;;
       serve)
         words='--role --link --address --port --device --t3 --t6 --t7 --t8 --linktest --max --depth --first-system'
         words+=' --turns --mdln --softrev --send --answer --all-sent --again --once --connections --t5 --help'

@@ -404,14 +404,23 @@ def wide_cases(log: List[str]) -> Iterator[Case]:
     yield "a port again", one_after_another(same), Options(), one + one, None, 0
     more = log + ["# packet 6", f"{BEGIN // 1000 + 3} down"]
     yield "two peers, in a log", one_after_another(other), Options(log="host"), more, "Peer packet=9", 2
+    yield "one of two peers", one_after_another(other), Options(with_="10.0.0.1"), one, None, 0
+    yield "both, by the address of the one that listens", one_after_another(other), Options(with_="10.0.0.2"), one + [
+        line.replace("10.0.0.1", "10.0.0.3") for line in one], None, 0
+    yield "none of two peers", one_after_another(other), Options(with_="::1"), [], "NoConnection", 2
     again = [f"# packet {int(line.split()[2]) + 6}" if line.startswith("#") else
              f"{int(line.split()[0]) + 1000} {line.split(' ', 1)[1]}" for line in more[1:]]
+    yield "one of two peers, in a log", one_after_another(other), Options(log="host", with_="10.0.0.1"), more, None, 0
+    later = [more[0]] + again
+    yield "the other one, in a log", one_after_another(other), Options(log="host", with_="10.0.0.3"), later, None, 0
     yield "a port again, in a log", one_after_another(same), Options(log="host"), more + again, None, 0
     equals = selected(Capture(ports=(5000, 5000))).capture.octets
     short = lines_of("pass entries=3 sent=1 taken=1")
     yield "both ends at the port", equals, Options(), [line.replace(":40000", ":5000") for line in short], None, 0
     yield "addresses of IPv6", selected(Capture("pcapng>", is_ipv6=True)).capture.octets, Options(), [
         line.replace("10.0.0.1", "[fe80::1]").replace("10.0.0.2", "[fe80::2]") for line in short], None, 0
+    yield "with an address of IPv6", selected(Capture("pcapng>", is_ipv6=True)).capture.octets, Options(
+        with_="FE80:0:0:0::0.0.0.1"), [line.replace("10.0.0.1", "[fe80::1]").replace("10.0.0.2", "[fe80::2]") for line in short], None, 0
     cut = lines_of("incomplete packet=12 pass entries=3 sent=1 taken=1")
     yield "a port again, cut", one_after_another(same)[:-1], Options(), one + cut, "CutOff", 2
     replaced = contents(f"{TOP}/tests/captures/replaced.pcap")
@@ -444,7 +453,8 @@ def given() -> argparse.Namespace:
     parser.add_argument("--program", default=PROGRAM)
     parser.add_argument("--alone", action="store_true")
     for one in fields(Options):
-        parser.add_argument(f"--{one.name}", default=one.default, type=int if isinstance(one.default, int) else str)
+        kind = int if isinstance(one.default, int) else str
+        parser.add_argument(f"--{one.name.rstrip('_')}", dest=one.name, default=one.default, type=kind)
     return parser.parse_args()
 
 

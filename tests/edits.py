@@ -53,7 +53,7 @@ LONGEST_CHECK = 3600
 NO_SUCH_FUNCTION = 2
 
 # How many bodies are tried together, and how many such checks a body may have before it is tried alone.
-TOGETHER = 12
+TOGETHER = 60
 AMONG_OTHERS = 2
 
 # How many seconds pass between two looks at what `rt ci` has proved, and what it says of a crate then.

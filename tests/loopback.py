@@ -290,6 +290,8 @@ EQUIPMENT_LOG = [
     "down",
 ]
 
+HOST_LOG = ["up", "> ffff0000000100000001", "< ffff0000000200000001", "> ffff0000000900000002", "down"]
+
 
 def equipment_is_selected_tested_and_separated():
     serving, peer = equipment()
@@ -313,10 +315,7 @@ def host_selects_and_separates():
     peer = peers.accepted()
     peer.send(SELECTED)
     same(peer.rest(), SELECT + control(9, 2))
-    log = served(
-        serving,
-        ["up", "> ffff0000000100000001", "< ffff0000000200000001", "> ffff0000000900000002", "down"],
-    )
+    log = served(serving, HOST_LOG)
     same(audited(log), PASSED.format(5, 2, 1, 0, 0, 0))
 
 

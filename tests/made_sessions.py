@@ -294,7 +294,9 @@ def made(seed) -> Made:
 
 
 def damaged(seed) -> Made:
-    """A capture that is cut anywhere, or has an octet changed, or some taken out or put in: nobody knows its truth."""
+    """A capture that is cut anywhere, or has an octet changed, or some taken out or put in: nobody knows its truth. Of some
+    the connections of one address alone are looked at.
+    """
     whole = made(seed)
     rng = random.Random(f"damaged {seed}")
     octets, kind = bytearray(whole.octets), rng.random()
@@ -309,4 +311,5 @@ def damaged(seed) -> Made:
         del octets[place:place + rng.choice([1, 4, 16, 60])]
     else:
         octets[place:place] = rng.getrandbits(128).to_bytes(16, "big")[:rng.choice([1, 4, 16])]
-    return Made(bytes(octets), whole.options)
+    peer = rng.choice(["10.0.0.1", "10.0.0.2", "10.0.0.4", "fe80::1"]) if rng.random() < 0.2 else None
+    return Made(bytes(octets), replace(whole.options, with_=peer))

@@ -4,22 +4,25 @@
 Use: tests/refusals.py [CRATE..]. With names of crates only what these have is run.
 
 This is done to each test of each crate but the long ones, to ends that are told damaged lists, and to the command, on
-worked inputs and on examples. A test has to end with want of memory where an allocation was refused, since it hands
-that up; or to pass, where it looks at the answer itself and at what stands after it. Where no allocation was refused,
-it has to pass. A test of answers that need no memory may ask for none, but for what it makes beforehand. An end has to
-answer as ever up to the call that tells want of memory, and from then on that it is spent. The command has to answer
-with status 3 and `hsms: Memory`, and what it wrote then has to be nothing, or of `show`, `explain` and `capture` whole
-lines of what it writes with ample memory; as ever, where no allocation was refused, and there as the worked inputs say.
+worked inputs, on examples and over connections. A test has to end with want of memory where an allocation was
+refused, since it hands that up; or to pass, where it looks at the answer itself and at what stands after it. Where no
+allocation was refused, it has to pass. A test of answers that need no memory may ask for none, but for what it makes
+beforehand. An end has to answer as ever up to the call that tells want of memory, and from then on that it is spent.
+The command has to answer with status 3 and `hsms: Memory`, and what it wrote then has to be nothing, or of `show`,
+`explain` and `capture` whole lines of what it writes with ample memory, and of `serve` whole lines of its log; as
+ever, where no allocation was refused, and there as the worked inputs say.
 
 No program may take memory but by the calls that are refused, nor call the system past the C library. It runs what
 `rt ci` has built. The last line is `N passed, M failed`.
 """
 import os
 import re
+import socket
 import subprocess
 import sys
 import tempfile
 import threading
+import time
 from concurrent.futures import ThreadPoolExecutor
 from dataclasses import dataclass
 from typing import Callable, List
@@ -27,6 +30,7 @@ from typing import Callable, List
 sys.dont_write_bytecode = True
 
 from command import DRIVER, PROGRAM, TOP, answer_of, refuser
+from loopback import EQUIPMENT_LOG, HERE, HOST_LOG, SELECT, SELECTED, control, events, free_port
 from second_reading.lists import Answering, damaged
 from worked import Row, rows
 
@@ -239,6 +243,60 @@ def judge_of(row, collections):
     return is_well
 
 
+def peer_that_answers(listener):
+    """Accepts each connection, answers the Select that comes, and reads up to the end."""
+    while True:
+        connection, _ = listener.accept()
+        reads_all(connection, SELECTED)
+
+
+def peer_that_asks(port):
+    """Connects whenever somebody listens, says all that it has to say, and reads up to the end."""
+    while True:
+        try:
+            reads_all(socket.create_connection((HERE, port)), SELECT + control(5, 2) + control(9, 3))
+        except OSError:
+            time.sleep(0.002)
+
+
+def reads_all(connection, octets):
+    try:
+        with connection:
+            connection.sendall(octets)
+            while connection.recv(4096):
+                pass
+    except OSError:
+        pass
+
+
+def judge_of_log(wanted, collections):
+    """What a run over a connection has to do: it may answer as ever as often as `judge_of` says."""
+    done_without = []
+
+    def is_well(ended, was_refused):
+        told = events(ended.stdout.decode())
+        if (ended.returncode, ended.stderr, told) == (0, b"", wanted):
+            done_without.extend([ended] * was_refused)
+            return len(done_without) <= collections
+        is_whole = ended.stdout[-1:] in (b"", b"\n")
+        fault = (ended.returncode, ended.stderr) == (3, b"hsms: Memory\n")
+        return was_refused and fault and is_whole and told == wanted[: len(told)]
+
+    return is_well
+
+
+def served():
+    """An equipment that listens, and is selected, tested and separated; and a host that connects, and says nothing."""
+    port, listener = free_port(), socket.create_server((HERE, 0))
+    threading.Thread(target=peer_that_asks, args=(port,), daemon=True).start()
+    threading.Thread(target=peer_that_answers, args=(listener,), daemon=True).start()
+    serve = [PROGRAM, "serve", "--address", HERE]
+    equipment = [*serve, "--role", "equipment", "--link", "passive", "--port", str(port)]
+    yield Check("an equipment that is served", equipment, b"", judge_of_log(EQUIPMENT_LOG, 2))
+    host = [*serve, "--role", "host", "--link", "active", "--port", str(listener.getsockname()[1]), "--send"]
+    yield Check("a host that is served", host, b"", judge_of_log(HOST_LOG, 4))
+
+
 def calls(program):
     """What a program calls of the C library that hands memory out, or asks the system for it."""
     listed = subprocess.run(["nm", "-D", "--undefined-only", program], capture_output=True, text=True, check=True)
@@ -297,9 +355,10 @@ def ways_to_memory(names):
 
 
 def groups(wanted):
-    """What is run of the wanted crates: their tests, and of the two programs the ends and the command."""
+    """What is run of the wanted crates: their tests, and of the two programs the ends, the command and connections."""
     made = [("tests", list(tests(wanted)))]
-    for crate, name, checks in [("hsms_drive", "ends", ends), ("hsms_tool", "the command", runs)]:
+    programs = [("hsms_drive", "ends", ends), ("hsms_tool", "the command", runs), ("hsms_tool", "connections", served)]
+    for crate, name, checks in programs:
         if crate in wanted:
             made.append((name, list(checks())))
     return made

@@ -55,14 +55,16 @@ def cases_of_words():
     value = "invalid value '1' for '--max <N>': 1 is not in 256..=33554432"
     yield Case(["audit", "--max"], 2, "command line", ["unexpected argument '--max' found. Usage: hsms audit [OPTIONS] < LOG"])
     yield Case(["show", "--max", "1"], 2, "command line", [value])
-    own = "--role, --active and --log are host or equipment, --link is active or passive, --only is failures, "
-    own += "--form is text, json or html, and --bare goes with --hex alone"
+    own = "--role, --active and --log are host or equipment, --link is active or passive, --with is an IP address, "
+    own += "--only is failures, --form is text, json or html, and --bare goes with --hex alone"
     yield Case(["show", "--bare"], 2, "command line", [own])
     yield Case(["explain", "--only", "all"], 2, "command line", [own])
     for form in ("xml", "HTML", "JSON", ""):
         yield Case(["explain", "--form", form], 2, "command line", [own])
     for option in ("--active", "--log"):
         yield Case(["capture", option, "both"], 2, "command line", [own])
+    for address in ("", "10.0.0", "10.0.0.256", "010.0.0.1", "::1%lo", "[::1]", "10.0.0.1:5000", "localhost"):
+        yield Case(["capture", "--with", address], 2, "command line", [own])
     port = "invalid value '0' for '--port <N>': 0 is not in 1..=65535"
     yield Case(["capture", "--port", "0"], 2, "command line", [port])
     yield Case([*HERE_AT, "1", "--role", "both"][:2] + ["both", *HERE_AT[3:], "1"], 2, "command line", [own])

@@ -3,6 +3,7 @@
 The whole file is read, and then what a reader that sees one packet after the other writes is put into its order.
 """
 from dataclasses import dataclass, field, fields
+from ipaddress import ip_address
 from typing import Dict, List, Optional, Tuple
 
 from second_reading.packets import ACK, FIN, KINDS, PSH, RST, SYN, Packet, Segment, read_file, segment_of
@@ -24,6 +25,7 @@ class Options:
     """The options of the command, each as it is where it is left out."""
 
     port: int = 5000
+    with_: Optional[str] = None
     active: str = "host"
     log: Optional[str] = None
     device: int = 0
@@ -37,7 +39,12 @@ class Options:
     def words(self) -> List[str]:
         """The words of the command line that say what isn't left out."""
         given = [(one.name, getattr(self, one.name)) for one in fields(self) if getattr(self, one.name) != one.default]
-        return [word for name, value in given for word in (f"--{name}", str(value))]
+        return [word for name, value in given for word in (f"--{name.rstrip('_')}", str(value))]
+
+    def looks_at(self, segment: Segment) -> bool:
+        """Whether an end of the segment's connection has the address that is asked for, if one is."""
+        ends = [ip_address(address.strip("[]")) for address, _ in (segment.source, segment.target)]
+        return not self.with_ or ip_address(self.with_) in ends
 
     def role_of(self, end: int) -> str:
         return self.active if end == ACTIVE else OTHER_ROLE[self.active]
@@ -110,6 +117,8 @@ class Port:
         """Takes a segment. False where it has no time and belongs to a connection that isn't over."""
         pair = frozenset((segment.source, segment.target))
         if len(pair) < 2 or self.options.port not in (segment.source[1], segment.target[1]):
+            return True
+        if not self.options.looks_at(segment):
             return True
         connection, begun = self.known(pair), self.begun_by(segment)
         is_new = begun and (not connection or (connection.ends, connection.number) != begun)

@@ -39,6 +39,3 @@ pub use place::{acknowledged_place, nearest_place, numbered_place};
 pub use telling::{Event, Happening};
 pub use turns::{Turns, TurnsFault};
 pub use waiting::{Span, end_behind};
-
-#[cfg(test)]
-mod tests;

@@ -1,5 +1,7 @@
 -- What the options of `hsms capture` are, and what they ask for.
-use Rattle.std.specs.Prelude.{◌≡◌, ◌≤◌, ◌++◌, List, [], ◌∷◌, codes, Option, Some, None, unwrap_or}
+use Rattle.std.specs.Prelude.{◌≡◌, ◌≤◌, ◌++◌, List, [], ◌∷◌, codes, Option, Some, None, unwrap_or, ⊤}
+use Rattle.std.specs.Net.Grammar.{IsIpText}
+use Rattle.std.specs.declared.net.ip_addr.IpAddr.{IpAddr}
 use Rattle.clap.specs.Words.{Row, Rule, Text, first_of}
 use Rattle.hsms_machine.specs.declared.settings.Role.{Role}
 use Rattle.hsms_machine.specs.declared.settings.Role.TheVariants.{Host, Equipment}
@@ -18,7 +20,8 @@ captured_number = record { name = codes "port"; least = 1; greatest = 65535; lef
 
 abbrev pub place_rules : List Rule
 place_rules =
-    option_of captured_number ∷ text_option (codes "active") ∷ text_option (codes "log") ∷ option_of device_number ∷ []
+    option_of captured_number ∷ text_option (codes "with") ∷ text_option (codes "active") ∷ text_option (codes "log")
+    ∷ option_of device_number ∷ []
 
 abbrev pub size_rules : List Rule
 size_rules = option_of max_number ∷ option_of depth_number ∷ []
@@ -32,6 +35,15 @@ capture_rules = place_rules ++ (time_rules ++ size_rules)
 abbrev pub other_role : Role → Role
 other_role Host = Equipment
 other_role Equipment = Host
+
+-- the text of the option `with`, if any, is this address, if any
+abbrev pub IsPeer : Option Text → Option IpAddr → Type 0
+IsPeer None None = ⊤
+IsPeer (Some text) (Some address) = IsIpText text address
+IsPeer _ _ = ⊥
+
+abbrev pub HasPeer : List Row → Option IpAddr → Type 0
+HasPeer rows peer = IsPeer (first_of (codes "with") rows) peer
 
 -- the text of the option `log`, if any, that asks for the log of this role, or for none
 abbrev pub log_word : Option Role → Option Text
@@ -49,8 +61,8 @@ HasEnd rows role link s = (s.version ≡ 2) × (s.role ≡ role) × (s.link ≡ 
 -- the matches ask for this of a capture: one end is what the option says, and the other one is the other
 abbrev pub HasCapturing : List Row → Capturing → Type 0
 HasCapturing rows capturing =
-    (number_in captured_number rows ≡ Some capturing.port) × (first_of (codes "log") rows ≡ log_word capturing.log)
-    × HasActive rows capturing.active.role × HasEnd rows capturing.active.role Active capturing.active
+    (number_in captured_number rows ≡ Some capturing.port) × HasPeer rows capturing.peer
+    × (first_of (codes "log") rows ≡ log_word capturing.log) × HasActive rows capturing.active.role × HasEnd rows capturing.active.role Active capturing.active
     × HasEnd rows (other_role capturing.active.role) Passive capturing.passive
 
 -- its port is within its limits; the numbers of settings are by their type

@@ -1,10 +1,11 @@
 //! The options of `hsms capture`: which connections of a capture are looked at, and what is told of them.
 
 ghost use Rattle.std.specs.Prelude.{◌≡◌, ◌≤◌, Option, IfSome, None, codes};
+ghost use Rattle.std.specs.declared.net.ip_addr.IpAddr.{IpAddr};
 ghost use Rattle.clap.specs.Words.{first_of, found_of, rows_of};
 ghost use Rattle.hsms_machine.specs.Settings.{Parameters};
 ghost use Rattle.hsms_machine.specs.declared.settings.Role.{Role};
-ghost use Rattle.hsms_options.specs.Capturing.{HasActive, HasCapturing, HasEnd, IsCapturingWithinLimits, captured_number, log_word, other_role};
+ghost use Rattle.hsms_options.specs.Capturing.{HasActive, HasCapturing, HasEnd, HasPeer, IsCapturingWithinLimits, captured_number, log_word, other_role};
 ghost use Rattle.hsms_options.specs.Number.{number_in};
 ghost use Rattle.hsms_options.specs.Service.{HasNumbers};
 ghost use Rattle.hsms_options.specs.declared.capturing.Capturing.{Capturing};
@@ -14,12 +15,15 @@ use crate::service::{role_named, settings_with};
 use crate::values::{number_of, text_of};
 use clap::ArgMatches;
 use hsms_machine::{Role, Settings, Side};
+use std::net::IpAddr;
 
 /// What is looked at in a capture, and what is told of it.
 #[derive(Clone, Copy, Debug)]
 pub struct Capturing {
     /// The TCP port of the ends that listen, from 1.
     pub port: u16,
+    /// The address of one end of each connection that is looked at. Where there is none, all at the port are.
+    pub peer: Option<IpAddr>,
     /// The role whose log is written. Where there is none, verdicts on the logs of both ends are told.
     pub log: Option<Role>,
     /// The settings of an end that connects, for a log of several connections.
@@ -36,12 +40,14 @@ pub fn capturing_of(options: &ArgMatches<'_>) -> Option<Capturing>
         → HasCapturing (rows_of (found_of options.now)) capturing → ⊥ }
 {
     let port = captured_port_of(options)?;
+    let peer = peer_of(options)?;
     let log = log_of(options)?;
     let role = active_of(options)?;
     let active = end_of(options, role, Side::Active)?;
     let passive = end_of(options, other_role(role), Side::Passive)?;
     Some(Capturing {
         port,
+        peer,
         log,
         active,
         passive,
@@ -61,6 +67,20 @@ fn captured_port_of(options: &ArgMatches<'_>) -> Option<u16>
         Some(DEFAULT_PORT),
     )?;
     Some(port as u16)
+}
+
+// The address that one end is to have, if one is given. None where the option has a text that is none.
+fn peer_of(options: &ArgMatches<'_>) -> Option<Option<IpAddr>>
+    ensures some { IfSome result (HasPeer (rows_of (found_of options.now))) }
+    ensures none { result ≡ None → (peer : Option IpAddr) → HasPeer (rows_of (found_of options.now)) peer → ⊥ }
+{
+    match text_of(options, "with") {
+        Some(text) => {
+            let address = text.parse::<IpAddr>().ok()?;
+            Some(Some(address))
+        }
+        None => Some(None),
+    }
 }
 
 // The role whose log is asked for, if one is. None where the option has another text.

@@ -1,6 +1,6 @@
 //! The subcommand `hsms capture` as it is described to `clap`.
 
-ghost use Rattle.std.specs.Prelude.{◌≡◌, IfOk, [], false};
+ghost use Rattle.std.specs.Prelude.{◌≡◌, IfOk, [], codes, false};
 ghost use Rattle.clap.specs.Words.{app_of, rule_of};
 ghost use Rattle.hsms_options.specs.Capturing.{captured_number, place_rules, size_rules};
 ghost use Rattle.hsms_options.specs.Number.{option_of};
@@ -52,6 +52,7 @@ fn with_place<'a>(alloc: Global, command: Command<'a>) -> Result<Command<'a>, Al
 {
     command
         .arg(captured_port_option(alloc))?
+        .arg(peer_option(alloc))?
         .arg(role_option(
             alloc,
             "active",
@@ -82,6 +83,18 @@ fn captured_port_option<'a>(alloc: Global) -> Arg<'a>
         u32::from(LEAST_PORT),
         u32::from(GREATEST_PORT),
         "TCP port of the ends that listen: 1 to 65535 [default: 5000]",
+    )
+}
+
+fn peer_option<'a>(alloc: Global) -> Arg<'a>
+    ensures rule { rule_of result ≡ text_option (codes "with") }
+    ensures local { result.global ≡ false }
+{
+    word_option(
+        alloc,
+        "with",
+        "ADDRESS",
+        "IP address of one end of each connection that is looked at; others at the port are passed over",
     )
 }
 

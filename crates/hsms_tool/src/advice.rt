@@ -162,7 +162,7 @@ fn capture_sentence(name: &str) -> &'static str {
         "Overlap" =>
             "here a connection comes up while another one is up, and a log has one at a time: without --log each is judged",
         "Peer" =>
-            "this connection is one of other addresses: take those of two alone, as tcpdump -r FILE -w PART host A and host B",
+            "this connection is one of other addresses, and a log is of two: say by --with which peer is meant",
         "NoConnection" =>
             "no connection came up at --port: is this the port of HSMS, and does the capture begin before the connection does?",
         _ => sentence(name),

@@ -21,7 +21,7 @@ fn sentence(alloc: Global, words: &[String]) -> Result<String, AllocError> {
     match command(alloc)?.try_get_matches_from(words) {
         Ok(_) => String::from_str(
             alloc,
-            "--role, --active and --log are host or equipment, --link is active or passive, --only is failures, --form is text, json or html, and --bare goes with --hex alone",
+            "--role, --active and --log are host or equipment, --link is active or passive, --with is an IP address, --only is failures, --form is text, json or html, and --bare goes with --hex alone",
         ),
         Err(error) => {
             let text = error.to_string(alloc)?;

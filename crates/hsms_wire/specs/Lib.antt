@@ -1,4 +1,5 @@
 pub mod Text
+pub mod Pair
 pub mod Account
 pub mod Ends
 pub mod Line

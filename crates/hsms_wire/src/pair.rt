@@ -1,5 +1,8 @@
 //! The two ends of a connection, by their addresses.
 
+ghost use Rattle.std.specs.Prelude.{◌≡◌, true, false};
+ghost use Rattle.hsms_wire.specs.Pair.{IsOfPeer};
+
 use hsms_capture::Side;
 use hsms_packets::{Address, Segment};
 use std::net::{IpAddr, Ipv4Addr, Ipv6Addr, SocketAddr};
@@ -25,6 +28,17 @@ impl Pair {
                 active: target,
                 passive: source,
             },
+        }
+    }
+
+    /// Whether an end has this address, or none is asked for.
+    pub fn is_of(&self, peer: &Option<IpAddr>) -> bool
+        ensures yes { result ≡ true → IsOfPeer peer.now self.now }
+        ensures no { result ≡ false → IsOfPeer peer.now self.now → ⊥ }
+    {
+        match peer {
+            Some(address) => self.active.ip() == *address || self.passive.ip() == *address,
+            None => true,
         }
     }
 

@@ -10,6 +10,7 @@ use hsms_packets as packets;
 use indexmap::IndexMap;
 use std::alloc::Global;
 use std::mem;
+use std::net::IpAddr;
 
 // After how many later ones a connection is forgotten of which nothing is left to be told.
 const REMEMBERED: u64 = 4096;
@@ -29,18 +30,22 @@ pub struct Capture<'a> {
 #[derive(Drop)]
 pub struct Table {
     port: u16,
+    // the address that one end of each has, if it is known
+    peer: Option<IpAddr>,
     flows: IndexMap<Pair, Flow>,
     begun: u64,
 }
 
 impl Table {
-    ghost use Rattle.std.specs.Prelude.{OnOk};
+    ghost use Rattle.std.specs.Prelude.{OnOk, IfSome};
+    ghost use Rattle.hsms_wire.specs.Pair.{IsOfPeer};
     ghost use Rattle.hsms_wire.specs.Report.{Tells};
 
-    /// No connection, at this port of passive ends.
-    pub fn new(alloc: Global, port: u16) -> Table {
+    /// No connection, at this port of passive ends, with an end of this address, where there is one.
+    pub fn new(alloc: Global, port: u16, peer: Option<IpAddr>) -> Table {
         Table {
             port,
+            peer,
             flows: IndexMap::new(alloc),
             begun: 0,
         }
@@ -91,8 +96,20 @@ impl Table {
         Ok(())
     }
 
-    // The pair of a segment, and the end that sent it, if it is one of the port.
-    fn pair_of(&self, segment: &packets::Segment) -> Option<(Pair, Side)> {
+    // The pair of a segment, and the end that sent it, if it is one that is looked at.
+    fn pair_of(&self, segment: &packets::Segment) -> Option<(Pair, Side)>
+        ensures { IfSome result (λ found. IsOfPeer self.now.peer found.0) }
+    {
+        let (pair, side) = self.pair_at_port(segment)?;
+        if pair.is_of(&self.peer) {
+            Some((pair, side))
+        } else {
+            None
+        }
+    }
+
+    // The same, if it is one of the port.
+    fn pair_at_port(&self, segment: &packets::Segment) -> Option<(Pair, Side)> {
         match pairs_of(segment, self.port)? {
             (pair, side, None) => Some((pair, side)),
             (pair, side, Some(other)) => {

@@ -6,6 +6,7 @@ use Rattle.hsms_options.proofs.describing_capture.with_place.Goals as goal
 pub returns : goal.returns
 returns c =
     let one = c.in_ok-arg.ensures.shape c.captured_port_option.ensures.local ∙ ap₂ with_rule refl c.captured_port_option.ensures.rule in
-    let two = c.in_ok-arg-2.ensures.shape c.role_option.ensures.local ∙ ap₂ with_rule one c.role_option.ensures.rule in
-    let three = c.in_ok-arg-3.ensures.shape c.role_option-2.ensures.local ∙ ap₂ with_rule two c.role_option-2.ensures.rule in
-    IfOk-weaker c.arg-4.result _ _ (λ command adds. adds.shape c.device_option.ensures.local ∙ ap₂ with_rule three c.device_option.ensures.rule) c.arg-4.ensures
+    let two = c.in_ok-arg-2.ensures.shape c.peer_option.ensures.local ∙ ap₂ with_rule one c.peer_option.ensures.rule in
+    let three = c.in_ok-arg-3.ensures.shape c.role_option.ensures.local ∙ ap₂ with_rule two c.role_option.ensures.rule in
+    let four = c.in_ok-arg-4.ensures.shape c.role_option-2.ensures.local ∙ ap₂ with_rule three c.role_option-2.ensures.rule in
+    IfOk-weaker c.arg-5.result _ _ (λ command adds. adds.shape c.device_option.ensures.local ∙ ap₂ with_rule four c.device_option.ensures.rule) c.arg-5.ensures
