@@ -1,4 +1,5 @@
 pub mod Mapped
+pub mod Kept
 pub mod Least
 pub mod First
 pub mod Connection

@@ -1,12 +1,9 @@
 -- What a map keeps of open transactions, as the list of its values tells it.
-use Rattle.std.proofs.Common.{◌≡◌, ℕ, ◌+◌, ◌-◌, ◌^◌, ◌<◌, ◌≤◌, min, Bool, true, false, not, cond, ◌==◌, ◌&&◌, ◌||◌, List, [], ◌∷◌, ◌++◌, Option, Some, None, is_some, inl, inr, refl, sym, ap, subst, ◌∙◌, arith, filter, nat_lt, nat_le, nat_eq, slice_get, length, remove, position, zero, suc, ◌↔◌, IsSome, option_to_list, length-append}
+use Rattle.std.proofs.Common.{◌≡◌, ℕ, ◌+◌, ◌-◌, ◌^◌, ◌<◌, ◌≤◌, min, Bool, true, false, not, cond, ◌==◌, ◌&&◌, ◌||◌, List, [], ◌∷◌, Option, Some, None, is_some, inl, inr, refl, sym, ap, subst, ◌∙◌, arith, filter, nat_lt, nat_le, nat_eq, length}
 use Rattle.std.specs.List.{AllByRecursion, list_any, find, cons_option}
 use Rattle.std.specs.Cmp.{nat_eq_equiv}
-use Rattle.std.specs.Option.{option_map}
-use Rattle.std.specs.Map.{values_of, keys_of, lookup, remove_entry}
-use Rattle.indexmap.proofs.MapLemmas.{Found-position, remove_entry-first}
+use Rattle.std.specs.Map.{values_of, lookup}
 use Rattle.std.proofs.lemmas.Bool.{cases_Bool, and_parts, or_cases, eqb-true, eq-eqb, ltb-true, ltb-false, lt-ltb, le-ltb, leb-true, le-leb}
-use Rattle.std.proofs.lemmas.List.Folds.{list_any-append}
 use Rattle.hsms_frame.specs.Header.{kind_of}
 use Rattle.hsms_frame.specs.declared.header.Header.{Header}
 use Rattle.hsms_machine.specs.declared.open.Transaction.{Transaction}
@@ -15,7 +12,7 @@ use Rattle.hsms_frame.specs.declared.kinds.Kind.TheVariants.{Primary, Reply, Sel
 use Rattle.hsms_machine.specs.Message.{is_reject_kind, is_response_kind, may_conclude}
 use Rattle.hsms_machine.specs.Transaction.{passes, answers, answers_kind, rejects, concludes}
 use Rattle.hsms_machine.specs.Timer.{due_at, due_times, least_of, least_in}
-use Rattle.hsms_machine.specs.Ordered.{IsOrdered, AreKeyed, AreSince, AreUntil, AreInOrder, AreApart, AreKept, uses, first_of}
+use Rattle.hsms_machine.specs.Ordered.{IsOrdered, AreKeyed, AreSince, AreUntil, AreInOrder, AreApart, uses, first_of}
 
 -- the parts of an `||` that is false
 pub or_parts : (a b : Bool) → (a || b) ≡ false → (a ≡ false) × (b ≡ false)
@@ -57,7 +54,7 @@ pub found_any : (test : Transaction → Bool) (opened : Transaction) (xs : List 
 found_any test opened [] e = absurd cc
 found_any test opened (x ∷ xs) e = found_case test x opened xs (test x) refl (found_any test opened xs) e
 
-is_none_at : (r : Option Transaction) → is_some r ≡ false → r ≡ None
+pub is_none_at : (r : Option Transaction) → is_some r ≡ false → r ≡ None
 is_none_at None e = refl
 is_none_at (Some x) e = absurd (let d : true ≡ false = e in cc)
 
@@ -155,183 +152,6 @@ module _ (test : Transaction → Bool) (system : ℕ) (only : (x : Transaction) 
         rw (differs, here) (ap (λ l. x ∷ l) (filter_one xs apart.1 later))
   ]
 
--- ---- an entry taken out
-
-pub removed-values : (system : ℕ) (es : List (ℕ × Transaction)) → AreKeyed es → AreApart (values_of es) → values_of (remove_entry (nat_eq system) es) ≡ filter (λ opened. not (opened.header.system == system)) (values_of es)
-removed-values system [] keyed apart = refl
-removed-values system (e ∷ es) keyed apart =
-    let same : nat_eq system e.0 ≡ (e.1.header.system == system) = ap (nat_eq system) keyed.0 ∙ nat_eq_equiv.symm system e.1.header.system in
-    elim (cases_Bool (e.1.header.system == system)) [
-      | inl is ↦
-          let unused : uses system (values_of es) ≡ false = subst (λ s. uses s (values_of es) ≡ false) (eqb-true e.1.header.system system is) apart.0 in
-          let here : nat_eq system e.0 ≡ true = same ∙ is in
-          rw (here, is) (sym (filter_none (λ opened. opened.header.system == system) (values_of es) unused))
-      | inr differs ↦
-          let here : nat_eq system e.0 ≡ false = same ∙ differs in
-          rw (here, differs) (ap (λ l. e.1 ∷ l) (removed-values system es keyed.1 apart.1))
-    ]
-
-module _ (key : ℕ → Bool) where
-  keyed-removed : (es : List (ℕ × Transaction)) → AreKeyed es → AreKeyed (remove_entry key es)
-  keyed-removed [] h = tt
-  keyed-removed (e ∷ es) h = by_case (keyed-removed es h.1) (key e.0)
-    where
-      by_case : AreKeyed (remove_entry key es) → (b : Bool) → AreKeyed (cond b es (e ∷ remove_entry key es))
-      by_case later true = h.1
-      by_case later false = (h.0, later)
-
-  since-removed : (time : ℕ) (es : List (ℕ × Transaction)) → AreSince time (values_of es) → AreSince time (values_of (remove_entry key es))
-  since-removed time [] h = tt
-  since-removed time (e ∷ es) h = by_case (since-removed time es h.1) (key e.0)
-    where
-      by_case : AreSince time (values_of (remove_entry key es)) → (b : Bool) → AreSince time (values_of (cond b es (e ∷ remove_entry key es)))
-      by_case later true = h.1
-      by_case later false = (h.0, later)
-
-  in_order-removed : (es : List (ℕ × Transaction)) → AreInOrder (values_of es) → AreInOrder (values_of (remove_entry key es))
-  in_order-removed [] h = tt
-  in_order-removed (e ∷ es) h = by_case (in_order-removed es h.1) (key e.0)
-    where
-      by_case : AreInOrder (values_of (remove_entry key es)) → (b : Bool) → AreInOrder (values_of (cond b es (e ∷ remove_entry key es)))
-      by_case later true = h.1
-      by_case later false = (since-removed e.1.time es h.0, later)
-
-  uses-removed : (system : ℕ) (es : List (ℕ × Transaction)) → uses system (values_of es) ≡ false → uses system (values_of (remove_entry key es)) ≡ false
-  uses-removed system [] h = h
-  uses-removed system (e ∷ es) h = by_case (uses-removed system es (or_parts (e.1.header.system == system) (uses system (values_of es)) h).1) (key e.0)
-    where
-      parts : ((e.1.header.system == system) ≡ false) × (uses system (values_of es) ≡ false)
-      parts = or_parts (e.1.header.system == system) (uses system (values_of es)) h
-
-      by_case : uses system (values_of (remove_entry key es)) ≡ false → (b : Bool) → uses system (values_of (cond b es (e ∷ remove_entry key es))) ≡ false
-      by_case later true = parts.1
-      by_case later false = ap (λ c. c || uses system (values_of (remove_entry key es))) parts.0 ∙ later
-
-  apart-removed : (es : List (ℕ × Transaction)) → AreApart (values_of es) → AreApart (values_of (remove_entry key es))
-  apart-removed [] h = tt
-  apart-removed (e ∷ es) h = by_case (apart-removed es h.1) (key e.0)
-    where
-      by_case : AreApart (values_of (remove_entry key es)) → (b : Bool) → AreApart (values_of (cond b es (e ∷ remove_entry key es)))
-      by_case later true = h.1
-      by_case later false = (uses-removed e.1.header.system es h.0, later)
-
-  pub kept-removed : (es : List (ℕ × Transaction)) → AreKept es → AreKept (remove_entry key es)
-  kept-removed es h = record { keyed = keyed-removed es h.keyed; apart = apart-removed es h.apart; in_order = in_order-removed es h.in_order }
-
--- ---- an entry put at the end
-
-pub values-push : (es : List (ℕ × Transaction)) (e : ℕ × Transaction) → values_of (es ++ e ∷ []) ≡ values_of es ++ e.1 ∷ []
-values-push [] e = refl
-values-push (x ∷ xs) e = ap (λ l. x.1 ∷ l) (values-push xs e)
-
-keyed-push : (es : List (ℕ × Transaction)) (opened : Transaction) → AreKeyed es → AreKeyed (es ++ (opened.header.system, opened) ∷ [])
-keyed-push [] opened h = (refl, tt)
-keyed-push (e ∷ es) opened h = (h.0, keyed-push es opened h.1)
-
-apart-push : (xs : List Transaction) (opened : Transaction) → AreApart xs → uses opened.header.system xs ≡ false → AreApart (xs ++ opened ∷ [])
-apart-push [] opened h fresh = (refl, tt)
-apart-push (x ∷ xs) opened h fresh =
-    let parts = or_parts (x.header.system == opened.header.system) (uses opened.header.system xs) fresh in
-    let other : (opened.header.system == x.header.system) ≡ false = nat_eq_equiv.symm opened.header.system x.header.system ∙ parts.0 in
-    let last : uses x.header.system (opened ∷ []) ≡ false = ap (λ b. b || false) other in (
-      list_any-append (λ transaction. transaction.header.system == x.header.system) xs (opened ∷ []) ∙ ap (λ b. b || uses x.header.system (opened ∷ [])) h.0 ∙ last,
-      apart-push xs opened h.1 parts.1,
-    )
-
-since-push : (time : ℕ) (xs : List Transaction) (opened : Transaction) → AreSince time xs → time ≤ opened.time → AreSince time (xs ++ opened ∷ [])
-since-push time [] opened h le = (le, tt)
-since-push time (x ∷ xs) opened h le = (h.0, since-push time xs opened h.1 le)
-
-in_order-push : (xs : List Transaction) (opened : Transaction) → AreInOrder xs → AreUntil opened.time xs → AreInOrder (xs ++ opened ∷ [])
-in_order-push [] opened h until = (tt, tt)
-in_order-push (x ∷ xs) opened h until = (since-push x.time xs opened h.0 until.0, in_order-push xs opened h.1 until.1)
-
-pub kept-push : (es : List (ℕ × Transaction)) (opened : Transaction) → AreKept es → uses opened.header.system (values_of es) ≡ false → AreUntil opened.time (values_of es) → AreKept (es ++ (opened.header.system, opened) ∷ [])
-kept-push es opened h fresh until =
-    let values = values-push es (opened.header.system, opened) in
-    record {
-      keyed = keyed-push es opened h.keyed;
-      apart = subst AreApart (sym values) (apart-push (values_of es) opened h.apart fresh);
-      in_order = subst AreInOrder (sym values) (in_order-push (values_of es) opened h.in_order until);
-    }
-
--- ---- the entry at a place taken out
-
-pub values-remove : (es : List (ℕ × Transaction)) (i : ℕ) → values_of (remove es i) ≡ remove (values_of es) i
-values-remove [] zero = refl
-values-remove [] (suc i) = refl
-values-remove (e ∷ es) zero = refl
-values-remove (e ∷ es) (suc i) = ap (λ l. e.1 ∷ l) (values-remove es i)
-
-keyed-remove : (es : List (ℕ × Transaction)) (i : ℕ) → AreKeyed es → AreKeyed (remove es i)
-keyed-remove [] zero h = tt
-keyed-remove [] (suc i) h = tt
-keyed-remove (e ∷ es) zero h = h.1
-keyed-remove (e ∷ es) (suc i) h = (h.0, keyed-remove es i h.1)
-
-uses-remove : (system : ℕ) (xs : List Transaction) (i : ℕ) → uses system xs ≡ false → uses system (remove xs i) ≡ false
-uses-remove system [] zero h = refl
-uses-remove system [] (suc i) h = refl
-uses-remove system (x ∷ xs) zero h = (or_parts (x.header.system == system) (uses system xs) h).1
-uses-remove system (x ∷ xs) (suc i) h =
-    let parts = or_parts (x.header.system == system) (uses system xs) h in
-    rw parts.0 (uses-remove system xs i parts.1)
-
-apart-remove : (xs : List Transaction) (i : ℕ) → AreApart xs → AreApart (remove xs i)
-apart-remove [] zero h = tt
-apart-remove [] (suc i) h = tt
-apart-remove (x ∷ xs) zero h = h.1
-apart-remove (x ∷ xs) (suc i) h = (uses-remove x.header.system xs i h.0, apart-remove xs i h.1)
-
-since-remove : (time : ℕ) (xs : List Transaction) (i : ℕ) → AreSince time xs → AreSince time (remove xs i)
-since-remove time [] zero h = tt
-since-remove time [] (suc i) h = tt
-since-remove time (x ∷ xs) zero h = h.1
-since-remove time (x ∷ xs) (suc i) h = (h.0, since-remove time xs i h.1)
-
-in_order-remove : (xs : List Transaction) (i : ℕ) → AreInOrder xs → AreInOrder (remove xs i)
-in_order-remove [] zero h = tt
-in_order-remove [] (suc i) h = tt
-in_order-remove (x ∷ xs) zero h = h.1
-in_order-remove (x ∷ xs) (suc i) h = (since-remove x.time xs i h.0, in_order-remove xs i h.1)
-
-pub kept-remove : (es : List (ℕ × Transaction)) (i : ℕ) → AreKept es → AreKept (remove es i)
-kept-remove es i h =
-    let values = values-remove es i in
-    record {
-      keyed = keyed-remove es i h.keyed;
-      apart = subst AreApart (sym values) (apart-remove (values_of es) i h.apart);
-      in_order = subst AreInOrder (sym values) (in_order-remove (values_of es) i h.in_order);
-    }
-
--- the place of a transaction's system bytes is where it is taken out
-pub removed-place : (system : ℕ) (es : List (ℕ × Transaction)) (i : ℕ) → AreKeyed es → AreApart (values_of es) → position (nat_eq system) (keys_of es) ≡ Some i → remove (values_of es) i ≡ filter (λ opened. not (opened.header.system == system)) (values_of es)
-removed-place system es i keyed apart at =
-    sym (values-remove es i)
-    ∙ ap values_of (sym (remove_entry-first (nat_eq system) es i (Found-position (nat_eq system) es i at).first))
-    ∙ removed-values system es keyed apart
-
--- the last entry taken off the end
-remove-nil : {X : Type 0} (xs : List X) (i : ℕ) → xs ≡ [] → remove xs i ≡ []
-remove-nil [] zero e = refl
-remove-nil [] (suc i) e = refl
-remove-nil (x ∷ xs) i e = absurd cc
-
-remove-append : {X : Type 0} (rest : List X) (x : X) → remove (rest ++ x ∷ []) (length rest) ≡ rest
-remove-append [] x = refl
-remove-append (y ∷ rest) x = ap (λ l. y ∷ l) (remove-append rest x)
-
-pub last_removed : {X : Type 0} (es rest : List X) (gone : Option X) (i : ℕ) → es ≡ rest ++ option_to_list gone → (IsSome gone ↔ (0 < length es)) → i ≡ length es - 1 → rest ≡ remove es i
-last_removed es [] None i e some at = sym (remove-nil es i e)
-last_removed es (y ∷ rest) None i e some at =
-    let size : length es ≡ length (y ∷ rest) + 0 = ap length e ∙ length-append (y ∷ rest) [] in
-    let not : false ≡ true = some.1 (omega (arith, size)) in
-    absurd cc
-last_removed es rest (Some x) i e some at =
-    let size : length es ≡ length rest + 1 = ap length e ∙ length-append rest (x ∷ []) in
-    let here : i ≡ length rest = omega (arith, size, at) in
-    rw (e, here) (sym (remove-append rest x))
-
 -- ---- no message of another kind ends a transaction
 
 answers_none : (request other : Kind) (one two : Header) → (is_response_kind other || is_reject_kind other) ≡ false → answers_kind request other one two ≡ false
@@ -387,29 +207,6 @@ ordered moment (x ∷ xs) until in_order apart = (
 )
 
 -- ---- the first is the oldest
-
-pub value-first : (es : List (ℕ × Transaction)) → option_map (λ e. e.1) (slice_get es 0) ≡ first_of (values_of es)
-value-first [] = refl
-value-first (e ∷ es) = refl
-
--- the first, where it has the system bytes
-first_has : (system : ℕ) (opened x : Transaction) → Some opened ≡ Some x → opened.header.system ≡ system → (x.header.system == system) ≡ true
-first_has system opened x e is =
-    let same : opened ≡ x = cc in
-    eq-eqb x.header.system system (ap (λ (y : Transaction). y.header.system) (sym same) ∙ is)
-
-pub first_found : (system : ℕ) (opened : Transaction) (xs : List Transaction) → Some opened ≡ first_of xs → opened.header.system ≡ system → find (λ other. other.header.system == system) xs ≡ Some opened
-first_found system opened [] e is = absurd cc
-first_found system opened (x ∷ xs) e is =
-    let here = first_has system opened x e is in
-    rw here (sym e)
-
-pub first_removed : (system : ℕ) (opened : Transaction) (xs : List Transaction) → Some opened ≡ first_of xs → opened.header.system ≡ system → AreApart xs → remove xs 0 ≡ filter (λ other. not (other.header.system == system)) xs
-first_removed system opened [] e is apart = absurd cc
-first_removed system opened (x ∷ xs) e is apart =
-    let here = first_has system opened x e is in
-    let unused : uses system xs ≡ false = subst (λ s. uses s xs ≡ false) (eqb-true x.header.system system here) apart.0 in
-    rw here (sym (filter_none (λ other. other.header.system == system) xs unused))
 
 module _ (test : ℕ → Bool) (falls : (a b : ℕ) → a ≤ b → test b ≡ true → test a ≡ true) where
   none_since : (time : ℕ) → test time ≡ false → (xs : List Transaction) → AreSince time xs → list_any (λ opened. test opened.time) xs ≡ false

@@ -1,6 +1,6 @@
 -- Open transactions of one direction and kind are in order of opening. After that, how they are kept: each under the
 -- system bytes of its request. Private functions alone speak of this last part.
-use Rattle.std.specs.Prelude.{◌≡◌, ℕ, ◌≤◌, ◌==◌, Bool, false, List, [], ◌∷◌, Option, Some, None}
+use Rattle.std.specs.Prelude.{◌≡◌, ℕ, ◌≤◌, ◌==◌, Bool, false, List, [], ◌∷◌, length, drop, Option, Some, None}
 use Rattle.std.specs.List.{AllByRecursion, list_any}
 use Rattle.std.specs.Map.{values_of}
 use Rattle.hsms_machine.specs.declared.open.Transaction.{Transaction}
@@ -50,8 +50,9 @@ abbrev pub first_of : List Transaction → Option Transaction
 first_of [] = None
 first_of (opened ∷ later) = Some opened
 
--- what a map of open transactions keeps
-pub record AreKept (entries : List (ℕ × Transaction)) : Type 0 where
+-- what a map of transactions keeps: so many are closed, at its front, and the others are open
+pub record AreKept (closed : ℕ) (entries : List (ℕ × Transaction)) : Type 0 where
+  pub within : closed ≤ length entries
   pub keyed : AreKeyed entries
   pub apart : AreApart (values_of entries)
-  pub in_order : AreInOrder (values_of entries)
+  pub in_order : AreInOrder (drop closed (values_of entries))

@@ -16,41 +16,49 @@ pub struct Transaction {
     pub header: Header,
 }
 
+/// How many closed transactions are kept before they go.
+const MANY: usize = 64;
+
 /// Open transactions, in order of opening: no two with the same system bytes, and none before an earlier one.
+///
+/// The map has closed ones at its front, which are counted. They go together, once they are many and more than a half of
+/// it, so that closing the oldest moves none.
 #[derive(Debug)]
 pub struct Transactions {
     items: IndexMap<u32, Transaction>,
+    closed: usize,
 }
 
 impl Model for Transactions {
-    ghost use Rattle.std.specs.Prelude.{List};
+    ghost use Rattle.std.specs.Prelude.{List, drop};
     ghost use Rattle.indexmap.specs.IndexMap.{values};
     ghost use Rattle.hsms_machine.specs.declared.open.Transaction.{Transaction};
     ghost use Rattle.hsms_machine.specs.Ordered.{AreKept};
 
     ghost Value = { List Transaction };
 
-    ghost view = { λ t. values t.items };
+    ghost view = { λ t. drop t.closed (values t.items) };
 
-    ghost invariant = { λ t. AreKept t.items.entries };
+    ghost invariant = { λ t. AreKept t.closed t.items.entries };
 }
 
 // Written out: a proof over a tracker that is dropped then has one step for each map, not one for each of its parts.
 impl Drop for Transactions {
     fn drop(self) {
-        let Transactions { items } = self;
+        let Transactions { items, closed: _ } = self;
         drop(items);
     }
 }
 
 impl Transactions {
-    ghost use Rattle.std.specs.Prelude.{◌≡◌, ◌-◌, ◌^◌, ◌<◌, ◌==◌, ◌&&◌, not, [], ◌∷◌, ◌++◌, length, filter, remove, true, false, nat_lt, nat_le, OnOk, OnErr, IfSome, IfNone};
+    ghost use Rattle.std.specs.Prelude.{◌≡◌, ◌-◌, ◌^◌, ◌<◌, ◌==◌, ◌&&◌, not, [], ◌∷◌, ◌++◌, ◌≤◌, length, drop, filter, remove, true, false, nat_lt, nat_le, OnOk, OnErr, IfSome, IfNone};
     ghost use Rattle.std.specs.List.{list_any, find};
     ghost use Rattle.std.specs.Option.{option_map};
     ghost use Rattle.hsms_machine.specs.Timer.{least_in, due_times, due_at};
     ghost use Rattle.hsms_machine.specs.Transaction.{answers as is_answer, concludes as is_conclusion};
     ghost use Rattle.hsms_machine.specs.View.{oldest_of};
-    ghost use Rattle.hsms_machine.specs.Ordered.{AreInOrder, AreApart, AreUntil, uses, first_of};
+    ghost use Rattle.indexmap.specs.IndexMap.{index_map_len, values};
+    ghost use Rattle.hsms_machine.specs.Ordered.{AreInOrder, AreApart, AreKeyed, AreKept, AreUntil, uses, first_of};
 
     /// No transaction.
     pub fn new(alloc: Global) -> Self
@@ -58,6 +66,7 @@ impl Transactions {
     {
         Transactions {
             items: IndexMap::new(alloc),
+            closed: 0,
         }
     }
 
@@ -66,7 +75,7 @@ impl Transactions {
         ensures value { result ≡ length self.now }
         ensures bound { result < 2 ^ 63 }
     {
-        self.items.len()
+        self.items.len() - self.closed
     }
 
     /// Says that they are in order of opening, and no two with the same system bytes. Does nothing when it runs.
@@ -82,7 +91,7 @@ impl Transactions {
         ensures first { result ≡ first_of self.now }
         ensures in_order { AreInOrder self.now }
     {
-        match self.items.first() {
+        match self.items.get_index(self.closed) {
             Some((_, opened)) => Some(*opened),
             None => None,
         }
@@ -106,16 +115,19 @@ impl Transactions {
         ensures place { IfSome result (λ x. remove self.now x.0 ≡ filter (λ opened. not (opened.header.system == system)) self.now) }
         ensures apart { AreApart self.now }
     {
-        let Some((_, oldest)) = self.items.first() else {
+        let Some((_, oldest)) = self.items.get_index(self.closed) else {
             return None;
         };
         if oldest.header.system == system {
             return Some((0, *oldest));
         }
-        match self.items.get_full(&system) {
-            Some((place, _, opened)) => Some((place, *opened)),
-            None => None,
+        let Some((place, _, opened)) = self.items.get_full(&system) else {
+            return None;
+        };
+        if place < self.closed {
+            return None;
         }
+        Some((place - self.closed, *opened))
     }
 
     /// The transaction of these system bytes.
@@ -148,8 +160,31 @@ impl Transactions {
         ensures ok { OnOk result (self.new ≡ self.old ++ transaction ∷ []) }
         ensures err { OnErr result (self.new ≡ self.old) }
     {
-        self.items.insert(transaction.header.system, transaction)?;
+        let system = transaction.header.system;
+        if self.items.insert(system, transaction)?.is_none() {
+            return Ok(());
+        }
+        // A closed one had these system bytes, and the transaction stands in its place.
+        Self::drop_front(&mut self.items, self.closed);
+        self.closed = 0;
+        self.items.insert(system, transaction)?;
         Ok(())
+    }
+
+    /// Takes so many out at the front.
+    #[inline(never)]
+    fn drop_front(items: &mut IndexMap<u32, Transaction>, count: usize)
+        requires within { count ≤ index_map_len items.old }
+        ensures { items.new.entries ≡ drop count items.old.entries }
+    {
+        let left = items.len() - count;
+        if left == 0 {
+            items.truncate(0);
+            return;
+        }
+        items.reverse();
+        items.truncate(left);
+        items.reverse();
     }
 
     /// Whether some transaction has waited for longer than the limit.
@@ -259,16 +294,56 @@ impl Transactions {
         ensures { self.new ≡ [] }
     {
         self.items.truncate(0);
+        self.closed = 0;
     }
 
-    /// Takes out the one at this place. The last is taken off the end, and none moves.
+    /// Takes out the one at this place. The oldest is counted as closed, and the last is taken off the end: none moves.
+    #[inline(always)]
     fn remove_at(&mut self, place: usize)
         ensures { self.new ≡ remove self.old place }
     {
-        if place == self.items.len().saturating_sub(1) {
+        if place == 0 {
+            self.close_oldest();
+            self.let_go();
+        } else {
+            self.remove_later(place);
+        }
+    }
+
+    /// Counts the oldest as closed.
+    #[inline(always)]
+    fn close_oldest(&mut self)
+        ensures { self.new ≡ remove self.old 0 }
+    {
+        if self.closed < self.items.len() {
+            self.closed += 1;
+        }
+    }
+
+    /// Lets the closed ones go once they are many, and more than a half of the map.
+    #[inline(always)]
+    fn let_go(&mut self)
+        ensures { self.new ≡ self.old }
+    {
+        if self.closed >= MANY && self.closed > self.items.len() / 2 {
+            Self::drop_front(&mut self.items, self.closed);
+            self.closed = 0;
+        }
+    }
+
+    /// Takes out the one at this place, where a later one may move up. The last is taken off the end.
+    #[inline(never)]
+    fn remove_later(&mut self, place: usize)
+        ensures { self.new ≡ remove self.old place }
+    {
+        if place >= self.items.len() - self.closed {
+            return;
+        }
+        let at = self.closed + place;
+        if at == self.items.len() - 1 {
             self.items.pop();
         } else {
-            self.items.shift_remove_index(place);
+            self.items.shift_remove_index(at);
         }
     }
 
@@ -287,7 +362,10 @@ impl Transactions {
     pub fn remove_system(&mut self, system: u32)
         ensures { self.new ≡ filter (λ opened. not (opened.header.system == system)) self.old }
     {
-        self.items.shift_remove(&system);
+        match self.found(system) {
+            Some((place, _)) => self.remove_at(place),
+            None => {}
+        }
     }
 }
 
