@@ -1,7 +1,7 @@
 -- Measuring lists that stand open, one element after another.
-use Rattle.std.proofs.Common.{◌≡◌, ℕ, zero, suc, ◌+◌, ◌-◌, ◌<◌, ◌≤◌, Bool, true, false, List, length, drop, get_or, Result, Ok, Err, refl, sym, ap, ◌∙◌, arith, inl, inr, add-zero, ◌≢◌}
+use Rattle.std.proofs.Common.{◌≡◌, ℕ, zero, suc, ◌+◌, ◌-◌, ◌<◌, Bool, true, false, List, length, drop, get_or, Result, Ok, Err, refl, sym, ap, ◌∙◌, arith, inl, inr, add-zero, ◌≢◌}
 use Rattle.std.specs.Prelude.{◌⊎◌}
-use Rattle.std.proofs.Math.ListN.{set, length-set}
+use Rattle.std.proofs.Math.ListN.{set}
 use Rattle.std.proofs.lemmas.List.{get_or-set_other, get_or-set_same}
 use Rattle.secs_item.specs.declared.fault.ItemFault.{ItemFault}
 use Rattle.secs_item.specs.declared.header.Header.{Header}
@@ -11,7 +11,7 @@ use Rattle.secs_item.specs.Format.{is_list}
 use Rattle.secs_item.specs.Header.{Reason, Head, header_at}
 use Rattle.secs_item.specs.Item.{Value}
 use Rattle.secs_item.specs.Reading.{Fault, elements_by, item_at}
-use Rattle.secs_item.specs.Measure.{header_from, part_from, end_from, and_from_there, end_of_lists}
+use Rattle.secs_item.specs.Measure.{header_from, part_from, end_from, and_from_there, end_of_lists, end_of_open}
 use Rattle.secs_item.proofs.Lengths.{first_is, first_fails, item_fails, item_of_values, item_of_elements, empty_list}
 
 -- ---- parts as headers
@@ -87,79 +87,84 @@ same_after (Ok end) f g same = same end
 same_after (Err e) f g same = refl
 
 -- counts further in say nothing of the lists further out
-further_in : (counts : List ℕ) (depth : ℕ) (octets : List ℕ) (lists i count place : ℕ) → lists ≤ i → end_of_lists (set counts i count) depth octets lists place ≡ end_of_lists counts depth octets lists place
+further_in : (counts : List ℕ) (depth : ℕ) (octets : List ℕ) (lists i count place : ℕ) → i + lists < depth → end_of_lists (set counts i count) depth octets lists place ≡ end_of_lists counts depth octets lists place
 unfolding end_of_lists
-further_in counts depth octets zero i count place le = refl
-further_in counts depth octets (suc lists) i count place le =
-    let other : lists ≢ i = omega arith in
-    let same : get_or (set counts i count) lists 0 ≡ get_or counts lists 0 = get_or-set_other counts i lists count 0 other in
-    ap (λ (n : ℕ). and_from_there (end_from place (elements_by (item_at (depth - suc lists)) n (drop place octets))) (end_of_lists (set counts i count) depth octets lists)) same
-    ∙ same_after (end_from place (elements_by (item_at (depth - suc lists)) (get_or counts lists 0) (drop place octets))) (end_of_lists (set counts i count) depth octets lists) (end_of_lists counts depth octets lists)
+further_in counts depth octets zero i count place less = refl
+further_in counts depth octets (suc lists) i count place less =
+    let at = depth - suc lists in
+    let other : at ≢ i = omega arith in
+    let same : get_or (set counts i count) at 0 ≡ get_or counts at 0 = get_or-set_other counts i at count 0 other in
+    ap (λ (n : ℕ). and_from_there (end_from place (elements_by (item_at at) n (drop place octets))) (end_of_lists (set counts i count) depth octets lists)) same
+    ∙ same_after (end_from place (elements_by (item_at at) (get_or counts at 0) (drop place octets))) (end_of_lists (set counts i count) depth octets lists) (end_of_lists counts depth octets lists)
     (λ end. further_in counts depth octets lists i count end (omega arith))
-
--- the next element of the innermost list, and what is to come behind it
-next_element : (counts : List ℕ) (depth : ℕ) (octets : List ℕ) (lists left place : ℕ) → lists < length counts → get_or counts lists 0 ≡ suc left
-    → end_of_lists counts depth octets (suc lists) place ≡ and_from_there (end_from place (item_at (depth - suc lists) (drop place octets))) (end_of_lists (set counts lists left) depth octets (suc lists))
-unfolding end_of_lists
-next_element counts depth octets lists left place within count_is =
-    let one = item_at (depth - suc lists) in
-    let outer = end_of_lists counts depth octets lists in
-    let after = end_of_lists (set counts lists left) depth octets lists in
-    let got : get_or (set counts lists left) lists 0 ≡ left = get_or-set_same counts lists left 0 within in
-    ap (λ (n : ℕ). and_from_there (end_from place (elements_by one n (drop place octets))) outer) count_is
-    ∙ ap (λ (r : Result ℕ ItemFault). and_from_there r outer) (elements_then one octets place left)
-    ∙ one_after_another (end_from place (one (drop place octets))) (λ end. end_from end (elements_by one left (drop end octets))) outer
-    ∙ same_after (end_from place (one (drop place octets))) (λ end. and_from_there (end_from end (elements_by one left (drop end octets))) outer) (λ end. and_from_there (end_from end (elements_by one (get_or (set counts lists left) lists 0) (drop end octets))) after)
-    (λ end. same_after (end_from end (elements_by one left (drop end octets))) outer after (λ e. sym (further_in counts depth octets lists lists left e (omega arith)))
-    ∙ ap (λ (n : ℕ). and_from_there (end_from end (elements_by one n (drop end octets))) after) (sym got))
 
 -- ---- the steps of the loop; `total` is what all of it gives
 
 -- one list is open
-pub list_opened : (counts : List ℕ) (depth : ℕ) (octets : List ℕ) (count place : ℕ) → get_or counts 0 0 ≡ count → end_of_lists counts depth octets 1 place ≡ end_from place (elements_by (item_at (depth - 1)) count (drop place octets))
+pub list_opened : (counts : List ℕ) (depth : ℕ) (octets : List ℕ) (count place : ℕ) → end_of_open counts depth octets (depth - 1) count place ≡ end_from place (elements_by (item_at (depth - 1)) count (drop place octets))
 unfolding end_of_lists
-list_opened counts depth octets count place is = rw is (nothing_more (end_from place (elements_by (item_at (depth - 1)) count (drop place octets))))
-
--- none is open
-pub all_closed : (counts : List ℕ) (depth : ℕ) (octets : List ℕ) (lists place : ℕ) (total : Result ℕ ItemFault) → lists ≡ 0 → end_of_lists counts depth octets lists place ≡ total → Ok place ≡ total
-unfolding end_of_lists
-all_closed counts depth octets lists place total none so_far = rw none at so_far
+list_opened counts depth octets count place =
+    let none : depth - 1 - (depth - 1) ≡ 0 = omega arith in
+    ap (λ (n : ℕ). and_from_there (end_from place (elements_by (item_at (depth - 1)) count (drop place octets))) (end_of_lists counts depth octets n)) none
+    ∙ nothing_more (end_from place (elements_by (item_at (depth - 1)) count (drop place octets)))
 
 -- the innermost list has no element left
-pub list_closes : (counts : List ℕ) (depth : ℕ) (octets : List ℕ) (lists i place : ℕ) (total : Result ℕ ItemFault) → lists ≡ suc i → get_or counts i 0 ≡ 0
-    → end_of_lists counts depth octets lists place ≡ total → end_of_lists counts depth octets (lists - 1) place ≡ total
-unfolding end_of_lists elements_by
-list_closes counts depth octets lists i place total lists_is none so_far =
-    let less : lists - 1 ≡ i = omega arith in
-    let ended : end_of_lists counts depth octets (suc i) place ≡ end_of_lists counts depth octets i place = rw none (ap (end_of_lists counts depth octets i) (add-zero place)) in
-    ap (λ (n : ℕ). end_of_lists counts depth octets n place) less ∙ sym ended ∙ rw lists_is at so_far
+module _ (counts : List ℕ) (depth : ℕ) (octets : List ℕ) (inside left place : ℕ) (total : Result ℕ ItemFault) (none : left ≡ 0) (so_far : end_of_open counts depth octets inside left place ≡ total) where
+  ended : end_of_lists counts depth octets (depth - 1 - inside) place ≡ total
+  unfolding elements_by
+  ended = sym (ap (end_of_lists counts depth octets (depth - 1 - inside)) (add-zero place)) ∙ rw none at so_far
+
+  -- and there is no other
+  pub all_closed : inside ≡ depth - 1 → Ok place ≡ total
+  unfolding end_of_lists
+  all_closed last =
+      let no_list : depth - 1 - inside ≡ 0 = omega arith in rw no_list at ended
+
+  -- and there is one around it
+  pub list_closes : (j : ℕ) → j ≡ inside + 1 → j < depth → end_of_open counts depth octets j (get_or counts j 0) place ≡ total
+  unfolding end_of_lists
+  list_closes j j_is less =
+      let lists : depth - 1 - inside ≡ suc (depth - 1 - j) = omega arith in
+      let at : depth - suc (depth - 1 - j) ≡ j = omega arith in
+      ap (λ (n : ℕ). and_from_there (end_from place (elements_by (item_at n) (get_or counts n 0) (drop place octets))) (end_of_lists counts depth octets (depth - 1 - j))) (sym at)
+      ∙ rw lists at ended
 
 -- the next element is read
-module _ (counts : List ℕ) (depth : ℕ) (octets : List ℕ) (lists i place : ℕ) (total : Result ℕ ItemFault) (lists_is : lists ≡ suc i) (within : i < length counts) (some : get_or counts i 0 ≡ 0 → ⊥) (so_far : end_of_lists counts depth octets lists place ≡ total) where
-  element_next : and_from_there (end_from place (item_at (depth - lists) (drop place octets))) (end_of_lists (set counts i (get_or counts i 0 - 1)) depth octets lists) ≡ total
+module _ (counts : List ℕ) (depth : ℕ) (octets : List ℕ) (inside left place : ℕ) (total : Result ℕ ItemFault) (some : left ≡ 0 → ⊥) (so_far : end_of_open counts depth octets inside left place ≡ total) where
+  element_next : and_from_there (end_from place (item_at inside (drop place octets))) (λ end. end_of_open counts depth octets inside (left - 1) end) ≡ total
   element_next =
-      let left : get_or counts i 0 ≡ suc (get_or counts i 0 - 1) = omega arith in
-      rw lists_is (sym (next_element counts depth octets i (get_or counts i 0 - 1) place within left) ∙ rw lists_is at so_far)
+      let one = item_at inside in
+      let outer = end_of_lists counts depth octets (depth - 1 - inside) in
+      let left_is : left ≡ suc (left - 1) = omega arith in
+      sym (one_after_another (end_from place (one (drop place octets))) (λ end. end_from end (elements_by one (left - 1) (drop end octets))) outer)
+      ∙ sym (ap (λ (r : Result ℕ ItemFault). and_from_there r outer) (elements_then one octets place (left - 1)))
+      ∙ ap (λ (n : ℕ). and_from_there (end_from place (elements_by one n (drop place octets))) outer) (sym left_is)
+      ∙ so_far
 
-  pub element_fails : (e : ItemFault) → Err e ≡ part_from place (header_at (depth - lists) (drop place octets)) → Err e ≡ total
+  pub element_fails : (e : ItemFault) → Err e ≡ part_from place (header_at inside (drop place octets)) → Err e ≡ total
   element_fails e is =
-      ap (λ (r : Result ℕ ItemFault). and_from_there r (end_of_lists (set counts i (get_or counts i 0 - 1)) depth octets lists)) (part_fails place (depth - lists) octets e is) ∙ element_next
+      ap (λ (r : Result ℕ ItemFault). and_from_there r (λ end. end_of_open counts depth octets inside (left - 1) end)) (part_fails place inside octets e is) ∙ element_next
 
-  pub element_whole : (p : Part) → Ok p ≡ part_from place (header_at (depth - lists) (drop place octets)) → p.elements ≡ 0
-      → end_of_lists (set counts i (get_or counts i 0 - 1)) depth octets lists p.end ≡ total
+  pub element_whole : (p : Part) → Ok p ≡ part_from place (header_at inside (drop place octets)) → p.elements ≡ 0
+      → end_of_open counts depth octets inside (left - 1) p.end ≡ total
   element_whole p is none =
-      ap (λ (r : Result ℕ ItemFault). and_from_there r (end_of_lists (set counts i (get_or counts i 0 - 1)) depth octets lists)) (part_is_whole place (depth - lists) octets p is none) ∙ element_next
+      ap (λ (r : Result ℕ ItemFault). and_from_there r (λ end. end_of_open counts depth octets inside (left - 1) end)) (part_is_whole place inside octets p is none) ∙ element_next
 
-  pub element_opens : (p : Part) (j : ℕ) → Ok p ≡ part_from place (header_at (depth - lists) (drop place octets)) → 0 < p.elements → 0 < depth - lists → j ≡ lists → lists < length counts
-      → end_of_lists (set (set counts i (get_or counts i 0 - 1)) j p.elements) depth octets (lists + 1) p.end ≡ total
+  pub element_opens : (p : Part) → Ok p ≡ part_from place (header_at inside (drop place octets)) → 0 < p.elements → 0 < inside → inside < depth → inside < length counts
+      → end_of_open (set counts inside (left - 1)) depth octets (inside - 1) p.elements p.end ≡ total
   unfolding end_of_lists
-  element_opens p j is some_elements deep j_is room =
-      let counts' = set counts i (get_or counts i 0 - 1) in
-      let one = item_at (depth - lists - 1) in
-      let inner : depth - suc lists ≡ depth - lists - 1 = omega arith in
-      let more : lists + 1 ≡ suc lists = omega arith in
-      let room' : lists < length (set counts i (get_or counts i 0 - 1)) = rw length-set room in
-      let got : get_or (set counts' lists p.elements) lists 0 ≡ p.elements = get_or-set_same counts' lists p.elements 0 room' in
-      rw (j_is, more, inner, got)
-      (same_after (end_from p.end (elements_by one p.elements (drop p.end octets))) (end_of_lists (set counts' lists p.elements) depth octets lists) (end_of_lists counts' depth octets lists) (λ end. further_in counts' depth octets lists lists p.elements end (omega arith))
-      ∙ ap (λ (r : Result ℕ ItemFault). and_from_there r (end_of_lists counts' depth octets lists)) (part_of_list place (depth - lists) octets p is some_elements deep) ∙ element_next)
+  element_opens p is some_elements deep less room =
+      let counts' = set counts inside (left - 1) in
+      let lists = depth - 1 - inside in
+      let more : depth - 1 - (inside - 1) ≡ suc lists = omega arith in
+      let at : depth - suc lists ≡ inside = omega arith in
+      let got : get_or counts' inside 0 ≡ left - 1 = get_or-set_same counts inside (left - 1) 0 room in
+      let around : (end : ℕ) → end_of_lists counts' depth octets (suc lists) end ≡ end_of_open counts depth octets inside (left - 1) end = λ end.
+      ap (λ (n : ℕ). and_from_there (end_from end (elements_by (item_at n) (get_or counts' n 0) (drop end octets))) (end_of_lists counts' depth octets lists)) at
+      ∙ ap (λ (n : ℕ). and_from_there (end_from end (elements_by (item_at inside) n (drop end octets))) (end_of_lists counts' depth octets lists)) got
+      ∙ same_after (end_from end (elements_by (item_at inside) (left - 1) (drop end octets))) (end_of_lists counts' depth octets lists) (end_of_lists counts depth octets lists)
+      (λ e. further_in counts depth octets lists inside (left - 1) e (omega arith)) in
+      ap (λ (n : ℕ). and_from_there (end_from p.end (elements_by (item_at (inside - 1)) p.elements (drop p.end octets))) (end_of_lists counts' depth octets n)) more
+      ∙ same_after (end_from p.end (elements_by (item_at (inside - 1)) p.elements (drop p.end octets))) (end_of_lists counts' depth octets (suc lists)) (λ end. end_of_open counts depth octets inside (left - 1) end) around
+      ∙ ap (λ (r : Result ℕ ItemFault). and_from_there r (λ end. end_of_open counts depth octets inside (left - 1) end)) (part_of_list place inside octets p is some_elements deep)
+      ∙ element_next

@@ -1,11 +1,11 @@
 -- What the functions over places give, beside what is read behind the place.
-use Rattle.std.specs.Prelude.{◌≡◌, ◌≤◌, ◌<◌, ℕ, zero, suc, ◌+◌, ◌-◌, List, slice_index, drop, if◌then◌else◌, Option, Some, None, Result, Ok, Err}
+use Rattle.std.specs.Prelude.{◌≡◌, ◌==◌, ◌≤◌, ◌<◌, ℕ, zero, suc, ◌+◌, ◌-◌, ◌/◌, ◌%◌, List, slice_index, drop, if◌then◌else◌, Option, Some, None, Result, Ok, Err}
 use Rattle.secs_item.specs.declared.fault.ItemFault.{ItemFault}
 use Rattle.secs_item.specs.declared.format.Format.{Format}
 use Rattle.secs_item.specs.declared.header.Header.{Header}
 use Rattle.secs_item.specs.declared.part.Part.{Part}
 use Rattle.secs_item.specs.Fault.{fault_at}
-use Rattle.secs_item.specs.Format.{is_list, value_size}
+use Rattle.secs_item.specs.Format.{format_with_code, is_list, value_size}
 use Rattle.secs_item.specs.Header.{Reason, Head}
 use Rattle.secs_item.specs.Reading.{Fault, elements_by, item_at}
 
@@ -20,7 +20,11 @@ part_from place (Ok head) =
     Ok (if is_list head.format then record { end = place + head.size; elements = head.length } else record { end = place + head.size + head.length; elements = 0 })
 part_from place (Err reason) = Err (fault_at place reason)
 
--- by format: the octets of one value, less one; 0x80 for a list, and 0xff where no format has the code
+-- the format that a header's first octet has, where one length octet follows
+abbrev pub short_format : ℕ → Option Format
+short_format first = if first % 4 == 1 then format_with_code (first / 4) else None
+
+-- by format: the octets of one value, less one; 0x80 for a list, and 0xff where there is none
 abbrev pub mask_for : Option Format → ℕ
 mask_for None = 0xff
 mask_for (Some format) = if is_list format then 0x80 else (value_size format - 1)
@@ -41,12 +45,17 @@ abbrev pub and_from_there : Result ℕ ItemFault → (ℕ → Result ℕ ItemFau
 and_from_there (Ok end) next = next end
 and_from_there (Err fault) next = Err fault
 
--- Where the outermost of `lists` lists that stand open ends. It was allowed `depth`, and each has as many elements still
--- to come as `counts` says, the outermost first.
+-- Where the outermost of `lists` lists that stand open ends. It was allowed `depth`. Each has as many elements still to
+-- come as `counts` says at the place of how deep lists may be nested in it.
 unfoldable pub end_of_lists : List ℕ → ℕ → List ℕ → ℕ → ℕ → Result ℕ ItemFault
 end_of_lists counts depth octets zero place = Ok place
 end_of_lists counts depth octets (suc lists) place =
-    and_from_there (end_from place (elements_by (item_at (depth - suc lists)) (slice_index counts lists) (drop place octets))) (end_of_lists counts depth octets lists)
+    and_from_there (end_from place (elements_by (item_at (depth - suc lists)) (slice_index counts (depth - suc lists)) (drop place octets))) (end_of_lists counts depth octets lists)
+
+-- the same where the innermost has `left` elements still to come, and lists may be nested `inside` deep in it
+abbrev pub end_of_open : List ℕ → ℕ → List ℕ → ℕ → ℕ → ℕ → Result ℕ ItemFault
+end_of_open counts depth octets inside left place =
+    and_from_there (end_from place (elements_by (item_at inside) left (drop place octets))) (end_of_lists counts depth octets (depth - 1 - inside))
 
 -- what is read at a place is this value, and ends here
 abbrev pub EndsAt : {A : Type 0} → ℕ → Result (A × ℕ) Fault → A → ℕ → Type 0

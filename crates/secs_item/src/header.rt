@@ -11,7 +11,7 @@ use crate::format::Format;
 use byteorder::{BigEndian, ByteOrder};
 
 /// The first octet of a list's header with one length octet.
-pub const SHORT_LIST: u8 = 1;
+const SHORT_LIST: u8 = 1;
 
 /// A header that has been read.
 #[derive(Clone, Copy)]
@@ -25,7 +25,7 @@ pub struct Header {
 }
 
 /// The number in a length field of one to three octets.
-pub fn read_length(octets: &[u8], field: usize) -> usize
+fn read_length(octets: &[u8], field: usize) -> usize
     requires one_at_least { 1 ≤ field }
     requires three_at_most { field ≤ 3 }
     requires there { field ≤ length octets.now }

@@ -15,7 +15,8 @@ use crate::part::read_part;
 pub const MAX_DEPTH: usize = 100;
 
 /// The place after the `count` elements of a list. Its body begins at `place`, and where its header stands lists may be
-/// nested `depth` deep. `counts` has, for each list that isn't at its end, how many elements are still to come.
+/// nested `depth` deep. `counts` has, for each list around the innermost one, how many elements are still to come, at the
+/// place of how deep lists may be nested in it.
 fn end_of_elements(octets: &[u8], place: usize, count: usize, depth: u8) -> Result<usize, ItemFault>
     requires within { place ≤ length octets.now }
     requires some { 0 < depth }
@@ -23,25 +24,28 @@ fn end_of_elements(octets: &[u8], place: usize, count: usize, depth: u8) -> Resu
     ensures { result ≡ end_from place (elements_by (item_at (depth - 1)) count (drop place octets.now)) }
 {
     let mut counts = [0; MAX_DEPTH];
-    counts[0] = count;
-    let mut lists = 1u8;
+    let outermost = usize::from(depth) - 1;
+    let mut inside = outermost;
+    let mut left = count;
     let mut end = place;
-    while lists > 0 {
-        let innermost = usize::from(lists) - 1;
-        let left = counts[innermost];
+    loop {
         if left == 0 {
-            lists -= 1;
+            if inside == outermost {
+                return Ok(end);
+            }
+            inside += 1;
+            left = counts[inside];
             continue;
         }
-        counts[innermost] = left - 1;
-        let part = read_part(octets, end, depth - lists)?;
+        left -= 1;
+        let part = read_part(octets, end, inside as u8)?;
         end = part.end;
         if part.elements > 0 {
-            counts[usize::from(lists)] = part.elements;
-            lists += 1;
+            counts[inside] = left;
+            inside -= 1;
+            left = part.elements;
         }
     }
-    Ok(end)
 }
 
 /// The place after the item at the front. Only where that is a list with elements are counts made.
