@@ -6,7 +6,7 @@ use Rattle.std.specs.Str.Parse.{digits_value}
 use Rattle.std.proofs.lemmas.Bool.{eqb-true, false_from_ne_true, lt-ltb, le-ltb}
 use Rattle.std.proofs.lemmas.List.{drop-drop, drop_more, length-append, length-take-le, take-append-drop}
 use Rattle.secs_item.specs.declared.format.Format.{Format}
-use Rattle.secs_text.specs.AsPrinted.{EndsWord, IsWord, IsPastSpace, IsSymbol, NamesType, IsCounted, IsSmall, IsLettered, IsHeaded, IsOpening, IsWait, IsHead}
+use Rattle.secs_text.specs.AsPrinted.{EndsWord, IsWord, IsSymbol, IsSymbolBehind, NamesType, IsCounted, IsSmall, IsLettered, IsHeaded, IsOpening, IsWait, IsHead}
 use Rattle.secs_item.specs.declared.format.Format.TheVariants as format
 use Rattle.secs_text.specs.Body.{nothing_of}
 use Rattle.secs_text.specs.Content.{Content}
@@ -64,22 +64,46 @@ behind : (at k : ℕ) (text octets front rest : List ℕ) → octets ≡ drop at
 behind at k text octets front rest left parts size =
     sym (drop-drop k at text) ∙ ap (λ o. drop k o) (sym left ∙ parts) ∙ ap (λ n. drop n (front ++ rest)) (sym size) ∙ drop_front front rest
 
-pub symbol_taken : (at size c : ℕ) (text octets : List ℕ) (t : Token) → octets ≡ drop at text → IsPastSpace size c octets → IsSymbol c t
+pub symbol_taken : (at size : ℕ) (text : List ℕ) (t : Token) → IsSymbolBehind size t (drop at text)
     → tokens_from at (drop at text) ≡ then_tokens (record { at = at + size; token = seen t }) (tokens_from (at + size + 1) (drop (at + size + 1) text))
-symbol_taken at size c text octets t left past is =
-    let place : at + length past.spaces ≡ at + size = ap (λ n. at + n) past.sized in
+symbol_taken at size text t is =
+    let c = is.octet in
+    let place : at + length is.spaces ≡ at + size = ap (λ n. at + n) is.sized in
     let one : at + size + 1 ≡ at + (size + 1) = omega arith in
-    let both_sized : length (past.spaces ++ c ∷ []) ≡ size + 1 = (omega (arith, length_both past.spaces c, past.sized)) in
-    let rest_is : drop (at + size + 1) text ≡ past.rest = ap (λ k. drop k text) one ∙ behind at (size + 1) text octets (past.spaces ++ c ∷ []) past.rest left (past.parts ∙ sym (append_assoc past.spaces (c ∷ []) past.rest)) both_sized in
-    ap (λ o. tokens_from at o) (sym left ∙ past.parts)
-    ∙ past_spaces at past.spaces (c ∷ past.rest) past.white
-    ∙ ap (λ k. tokens_from k (c ∷ past.rest)) place
-    ∙ symbol_here (at + size) c past.rest t is
-    ∙ rw is.goes_on (ap (λ o. record { at = at + size; token = seen t } ∷ tokens_from (at + size + 1) o) (sym rest_is))
+    let both_sized : length (is.spaces ++ c ∷ []) ≡ size + 1 = (omega (arith, length_both is.spaces c, is.sized)) in
+    let rest_is : drop (at + size + 1) text ≡ is.rest = ap (λ k. drop k text) one ∙ behind at (size + 1) text (drop at text) (is.spaces ++ c ∷ []) is.rest refl (is.parts ∙ sym (append_assoc is.spaces (c ∷ []) is.rest)) both_sized in
+    ap (λ o. tokens_from at o) is.parts
+    ∙ past_spaces at is.spaces (c ∷ is.rest) is.white
+    ∙ ap (λ k. tokens_from k (c ∷ is.rest)) place
+    ∙ symbol_here (at + size) c is.rest t is.symbol
+    ∙ rw is.symbol.goes_on (ap (λ o. record { at = at + size; token = seen t } ∷ tokens_from (at + size + 1) o) (sym rest_is))
   where
     length_both : (xs : List ℕ) (c : ℕ) → length (xs ++ c ∷ []) ≡ length xs + 1
     length_both [] c = refl
     length_both (x ∷ xs) c = let more = length_both xs c in omega (arith, more)
+
+-- a symbol stands here, or behind one space
+pub symbol_first : (o rest : List ℕ) (c : ℕ) (t : Token) → rest ≡ o → 1 ≤ length rest → get_or rest 0 0 ≡ c → IsSymbol c t → IsSymbolBehind 0 t o
+symbol_first o rest c t same some is_c symbol = record {
+  octet = c;
+  spaces = [];
+  rest = drop 1 rest;
+  symbol = symbol;
+  white = refl;
+  sized = refl;
+  parts = sym same ∙ one_of rest some ∙ ap (λ x. x ∷ drop 1 rest) is_c;
+}
+
+pub symbol_second : (o rest : List ℕ) (c : ℕ) (t : Token) → rest ≡ o → 2 ≤ length rest → get_or rest 0 0 ≡ 0x20 → get_or rest 1 0 ≡ c → IsSymbol c t → IsSymbolBehind 1 t o
+symbol_second o rest c t same some space is_c symbol = record {
+  octet = c;
+  spaces = 0x20 ∷ [];
+  rest = drop 2 rest;
+  symbol = symbol;
+  white = refl;
+  sized = refl;
+  parts = sym same ∙ two_of rest some ∙ rw (space, is_c) refl;
+}
 
 -- ---- words
 

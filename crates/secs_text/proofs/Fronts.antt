@@ -31,3 +31,9 @@ whole p (c ∷ w) all =
 -- where all are
 pub front_is_whole : (p : ℕ → Bool) (w : List ℕ) (i : ℕ) → list_all p (take i w) ≡ true → length w ≤ i → length w ≡ prefix_len p w
 front_is_whole p w i all le = whole p w (ap (λ o. list_all p o) (sym (take_all i w le)) ∙ all)
+
+-- the first is of the kind, and the second isn't
+pub front_of_one : (p : ℕ → Bool) (w : List ℕ) → 2 ≤ length w → p (get_or w 0 0) ≡ true → p (get_or w 1 0) ≡ false → 1 ≡ prefix_len p w
+front_of_one p [] le first second = absurd (omega arith)
+front_of_one p (a ∷ []) le first second = absurd (omega arith)
+front_of_one p (a ∷ b ∷ w) le first second = rw (first, second) refl

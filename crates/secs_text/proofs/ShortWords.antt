@@ -1,6 +1,8 @@
 -- Words of values that are single octets, each behind a space, and runs of them.
-use Rattle.std.proofs.Common.{◌≡◌, ℕ, suc, ◌+◌, ◌*◌, ◌<◌, ◌≤◌, Bool, true, false, ◌&&◌, ◌||◌, List, [], ◌∷◌, ◌++◌, length, drop, take, get_or, refl, sym, ap, ◌∙◌, subst, arith, if◌then◌else◌, append_assoc, append-nil, length-append}
+use Rattle.std.proofs.Common.{◌≡◌, ℕ, zero, suc, ◌+◌, ◌*◌, ◌/◌, ◌<◌, ◌≤◌, Bool, true, false, ◌&&◌, ◌||◌, List, [], ◌∷◌, ◌++◌, length, drop, take, get_or, refl, sym, ap, ◌∙◌, subst, arith, if◌then◌else◌, append_assoc, append-nil, length-append}
+use Rattle.std.specs.Simd.{first_chunks}
 use Rattle.std.specs.Prelude.{Option, Some, None, IfSome, option_map, nat_le, ◌-◌, ◌==◌}
+use Rattle.std.proofs.Math.Nat.{le-div_iff_mul-le}
 use Rattle.std.proofs.lemmas.Bool.{leb-true, le-leb}
 use Rattle.std.proofs.lemmas.List.{drop-drop, take_more, length-take-le, get_or-drop}
 use Rattle.secs_item.specs.declared.format.Format.{Format}
@@ -126,6 +128,21 @@ times_more size n = grind arith
 
 pub times_next : (size n : ℕ) → size * (n + 1) ≡ size * n + size
 times_next size n = grind arith
+
+-- one of the parts of a text that have so many octets each
+pub part_at : (size k : ℕ) (text d : List ℕ) (i : ℕ) → i < k → get_or (first_chunks size k text) i d ≡ take size (drop (size * i) text)
+part_at size zero text d i less = absurd (omega arith)
+part_at size (suc k) text d zero less = let none : 0 ≡ size * 0 = omega arith in ap (λ n. take size (drop n text)) none
+part_at size (suc k) text d (suc i) less =
+    part_at size k (drop size text) d i (omega arith)
+    ∙ ap (take size) (drop-drop (size * i) size text ∙ ap (λ n. drop n text) (sym (times_more size i)))
+
+-- a part behind so many of them lies within
+pub part_within : (size i n : ℕ) → 0 < size → i < n / size → size * i + size ≤ n
+part_within size i n some less =
+    let h : (i + 1) * size ≤ n = (le-div_iff_mul-le some).0 (omega arith) in
+    let same : (i + 1) * size ≡ size * i + size = grind arith in
+    omega (arith, h, same)
 
 module _ (reads : List ℕ → Option (List ℕ)) (size : ℕ) where
   -- one more

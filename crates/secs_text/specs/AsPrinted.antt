@@ -23,18 +23,20 @@ pub record IsWord (w : List ℕ) : Type 0 where
 
 -- ---- at the front of octets
 
--- this octet stands behind so many octets of white space
-pub record IsPastSpace (size c : ℕ) (octets : List ℕ) : Type 0 where
-  pub spaces : List ℕ
-  pub rest : List ℕ
-  pub white : list_all is_white spaces ≡ true
-  pub sized : length spaces ≡ size
-  pub parts : octets ≡ spaces ++ c ∷ rest
-
 -- the octet is this token, whatever stands behind it
 pub record IsSymbol (c : ℕ) (t : Token) : Type 0 where
   pub fronts : (octets : List ℕ) → front c octets ≡ whole (seen t) 0
   pub goes_on : is_last (seen t) ≡ false
+
+-- this token, which is one octet, stands behind so many octets of white space
+pub record IsSymbolBehind (size : ℕ) (t : Token) (octets : List ℕ) : Type 0 where
+  pub octet : ℕ
+  pub spaces : List ℕ
+  pub rest : List ℕ
+  pub symbol : IsSymbol octet t
+  pub white : list_all is_white spaces ≡ true
+  pub sized : length spaces ≡ size
+  pub parts : octets ≡ spaces ++ octet ∷ rest
 
 -- a type name of so many octets, and a space and a `[` behind it
 pub record NamesType (f : Format) (size : ℕ) (octets : List ℕ) : Type 0 where

@@ -3,7 +3,7 @@
 ghost use Rattle.std.specs.Prelude.{◌≡◌, ◌≤◌, ◌+◌, ◌++◌, ℕ, List, [], length, take, IfOk};
 ghost use Rattle.secs_text.specs.Laid.{Lays, Puts};
 
-use crate::laying::lay_slice;
+use crate::laying::{lay_slice, lay_word};
 use std::alloc::{AllocError, Global};
 use std::marker::Model;
 
@@ -66,6 +66,18 @@ impl Block {
     {
         if octets.len() <= SIZE - self.used {
             self.used = lay_slice(self.octets.as_mut_slice(), self.used, octets);
+        } else {
+            self.give_behind(out, octets);
+        }
+    }
+
+    /// Lays the octets of an array, as [`lay`](Block::lay) does, by loads and stores of its size.
+    #[inline(always)]
+    pub fn lay_array<const N: usize, O: Output>(&mut self, out: &mut O, octets: &[u8; N])
+        ensures { Lays (O.Given out.old) self.old (O.Given out.new) self.new octets.now }
+    {
+        if N <= SIZE - self.used {
+            self.used = lay_word::<N>(self.octets.as_mut_slice(), self.used, octets, N);
         } else {
             self.give_behind(out, octets);
         }

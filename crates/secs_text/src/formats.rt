@@ -69,10 +69,11 @@ impl ShortWord<5> for Octets {
 
     #[inline(always)]
     fn read(text: &[u8; 5]) -> Option<u8> {
-        match text {
-            [b' ', b'0', b'x', high, low] => octet_of_digits(*high, *low),
-            _ => None,
+        let [space, zero, x, high, low] = *text;
+        if u32::from_be_bytes([space, zero, x, high]) >> 8 != 0x20_30_78 {
+            return None;
         }
+        octet_of_digits(high, low)
     }
 }
 

@@ -40,6 +40,7 @@ fn insert_octet(out: &mut Vec<u8>, at: usize, octet: u8) -> Result<(), AllocErro
 }
 
 /// Writes a header of three or four octets over the two that are kept for it. What stands behind them is moved up.
+#[inline(never)]
 fn seal_long(
     out: &mut Vec<u8>,
     start: usize,
@@ -65,6 +66,7 @@ fn seal_long(
 
 /// Writes the header of an item, with the fewest length octets that hold the number, over the two octets that are kept
 /// for it in front of its body. Says whether three length octets hold the number; else nothing is written.
+#[inline(always)]
 pub fn seal(
     out: &mut Vec<u8>,
     start: usize,

@@ -17,33 +17,30 @@ use std::alloc::AllocError;
 const RUN: usize = 64;
 
 /// Reads the words at the front, at most as many as there is room for, and tells how many.
-#[inline(always)]
+#[inline(never)]
 fn read_words<const N: usize, W: ShortWord<N>>(text: &[u8], octets: &mut [u8; 64]) -> usize
-    requires { N < 256 }
+    requires some { 0 < N }
+    requires small { N < 256 }
     ensures words { AreShortWords W.reads N (take result octets.new) text.now (drop (N * result) text.now) }
     ensures few { result ≤ 64 }
     ensures within { N * result ≤ length text.now }
 {
-    let mut count = 0;
-    let mut rest = text;
-    while count < RUN {
-        let Some((first, after)) = rest.split_first_chunk::<N>() else {
-            return count;
+    let (words, _) = text.as_chunks::<N>();
+    let most = words.len().min(RUN);
+    for i in 0..most {
+        let Some(octet) = W::read(&words[i]) else {
+            return i;
         };
-        let Some(octet) = W::read(first) else {
-            return count;
-        };
-        octets[count] = octet;
-        count += 1;
-        rest = after;
+        octets[i] = octet;
     }
-    count
+    most
 }
 
 /// Reads the words at the front, and tells how many. No word goes on behind the last.
 #[inline(always)]
 fn read_run<const N: usize, W: ShortWord<N>>(text: &[u8], octets: &mut [u8; 64]) -> usize
-    requires { N < 256 }
+    requires some { 0 < N }
+    requires small { N < 256 }
     ensures words { AreShortWords W.reads N (take result octets.new) text.now (drop (N * result) text.now) }
     ensures ends { 0 < result → EndsWord (drop (N * result) text.now) }
     ensures few { result ≤ 64 }
@@ -55,6 +52,17 @@ fn read_run<const N: usize, W: ShortWord<N>>(text: &[u8], octets: &mut [u8; 64])
         return count - 1;
     }
     count
+}
+
+/// Whether a word stands at the front. It may be said of none.
+#[inline(always)]
+fn begins_run<const N: usize, W: ShortWord<N>>(text: &[u8]) -> bool
+    requires { N < 256 }
+{
+    match text.first_chunk::<N>() {
+        Some(first) => W::read(first).is_some(),
+        None => false,
+    }
 }
 
 /// Adds the octets of the words that come next, as far as they stand as they are printed.
@@ -71,6 +79,10 @@ pub fn parse_run<const N: usize, W: ShortWord<N>>(
     ensures gathered { OnOk result (GathersMore format (left tokens.old) (left tokens.new) out.old.items out.new.items) }
     ensures no_longer { octets_left tokens.new ≤ octets_left tokens.old }
 {
+    let (_, rest) = tokens.text.split_at(tokens.place);
+    if !begins_run::<N, W>(rest) {
+        return Ok(());
+    }
     let mut octets = [0; RUN];
     loop {
         let (_, rest) = tokens.text.split_at(tokens.place);

@@ -1,15 +1,9 @@
-use Rattle.std.proofs.Common.{◌≡◌, ◌*◌, ◌-◌, ◌≤◌, length, take, drop}
+use Rattle.std.proofs.Common.{◌≡◌, ◌*◌, length, take, drop}
 use Rattle.secs_text.specs.ShortWord.{AreShortWords}
 use Rattle.secs_text.proofs.parsing.runs.read_words.Given as goal
 
-abbrev pub invariant-loop-count : goal.invariant-loop-count
-invariant-loop-count g l = record {
-  words : AreShortWords g.W.ShortWord.reads g.row.N (take l.count l.octets) l.text l.rest;
-  left : l.rest ≡ drop (g.row.N * l.count) l.text;
+abbrev pub invariant-loop-i : goal.invariant-loop-i
+invariant-loop-i g l = record {
+  words : AreShortWords g.W.ShortWord.reads g.row.N (take l.i l.octets) l.text (drop (g.row.N * l.i) l.text);
   room : length l.octets ≡ 64;
-  few : l.count ≤ 64;
-  within : g.row.N * l.count ≤ length l.text;
 }
-
-abbrev pub decreases-loop-count : goal.decreases-loop-count
-decreases-loop-count g l = 64 - l.count

@@ -1,7 +1,18 @@
-use Rattle.secs_text.proofs.AsPrinted.{symbol_taken}
+use Rattle.std.proofs.Common.{refl, rules}
+use Rattle.secs_text.proofs.AsPrinted.{symbol_first, symbol_second}
 use Rattle.secs_text.proofs.tokens.Tokens.next_symbol.Goals as goal
 
-pub returns-clause-taken : goal.returns-clause-taken
-returns-clause-taken c =
-    symbol_taken c.args.self.now.place c.in_ok-space.space c.in_ok-space.first c.args.self.now.text.now c.split_at.result.1.now c.in_ok-token.token
-    c.split_at.ensures.back c.in_ok-space.ensures.past c.in_ok-token.ensures
+pub take_symbol-requires-clause-stands : goal.take_symbol-requires-clause-stands
+take_symbol-requires-clause-stands c = symbol_second _ c.split_at.result.1.now 0x3C _ c.split_at.ensures.back (search rules) (search rules) (search rules) (record { fronts = λ _. refl; goes_on = refl })
+
+pub take_symbol-requires-in-62-clause-stands : goal.take_symbol-requires-in-62-clause-stands
+take_symbol-requires-in-62-clause-stands c = symbol_first _ c.split_at.result.1.now 0x3E _ c.split_at.ensures.back (search rules) (search rules) (record { fronts = λ _. refl; goes_on = refl })
+
+pub take_symbol-requires-in-32-2-clause-stands : goal.take_symbol-requires-in-32-2-clause-stands
+take_symbol-requires-in-32-2-clause-stands c = symbol_second _ c.split_at.result.1.now 0x2E _ c.split_at.ensures.back (search rules) (search rules) (search rules) (record { fronts = λ _. refl; goes_on = refl })
+
+pub take_symbol-requires-in-91-clause-stands : goal.take_symbol-requires-in-91-clause-stands
+take_symbol-requires-in-91-clause-stands c = symbol_first _ c.split_at.result.1.now 0x5B _ c.split_at.ensures.back (search rules) (search rules) (record { fronts = λ _. refl; goes_on = refl })
+
+pub take_symbol-requires-in-93-clause-stands : goal.take_symbol-requires-in-93-clause-stands
+take_symbol-requires-in-93-clause-stands c = symbol_first _ c.split_at.result.1.now 0x5D _ c.split_at.ensures.back (search rules) (search rules) (record { fronts = λ _. refl; goes_on = refl })
