@@ -1,11 +1,12 @@
 -- Copies that differ from what is held.
-use Rattle.std.proofs.Common.{◌≡◌, ◌<◌, ◌≤◌, ◌+◌, ◌^◌, ◌++◌, ◌∷◌, ◌&&◌, ◌||◌, ℕ, Bool, true, false, nat_le, List, [], length, map, Option, refl, sym, ap, ◌∙◌, arith, inl, inr}
+use Rattle.std.proofs.Common.{◌≡◌, ◌<◌, ◌≤◌, ◌+◌, ◌^◌, ◌++◌, ◌∷◌, ◌&&◌, ◌||◌, ℕ, Bool, true, false, nat_le, List, [], length, map, get_or, Option, Some, None, ◌-◌, refl, sym, ap, ◌∙◌, arith, inl, inr}
 use Rattle.std.proofs.lemmas.Bool.{le-leb, lt-leb, cases_lt}
+use Rattle.std.proofs.Math.ListN.{get_or-eq_default}
 use Rattle.hsms_capture.specs.declared.held.Cell.{Cell as HeldCell}
 use Rattle.hsms_capture.specs.declared.held.Cell.TheVariants as held
 use Rattle.hsms_capture.specs.Wire.{End, Cell, Placed, cell_at, is_other, contradicts}
 use Rattle.hsms_capture.specs.Message.{cells_of}
-use Rattle.hsms_capture.specs.Held.{Store, wire_cell, IsStoreOf, TellsOther, differs_at, differs, flag_of, octets_of, held_of}
+use Rattle.hsms_capture.specs.Held.{Store, wire_cell, IsStoreOf, TellsOther, differs_at, is_another, differs, flag_of, octets_of, held_of}
 use Rattle.hsms_capture.proofs.Laid.{cells_length, flag_count, length_flag, length_octets, wire_is}
 
 -- ---- one cell
@@ -50,6 +51,22 @@ pub octets_end : (base acknowledged place : ℕ) (ns : List ℕ) (ss : List (Opt
 unfolding differs
 octets_end base acknowledged place [] ss w e h = h
 octets_end base acknowledged place (n ∷ ns) ss w e h = absurd (omega (arith, e))
+
+-- nothing is held in the places of these
+pub past_differs : (base acknowledged place : ℕ) (cs : List HeldCell) (ss : List (Option HeldCell)) → length ss ≤ place - base → false ≡ differs base acknowledged place cs ss
+unfolding differs
+past_differs base acknowledged place [] ss le = refl
+past_differs base acknowledged place (c ∷ cs) ss le =
+    by_none (get_or ss (place - base) None) (get_or-eq_default ss None le) (past_differs base acknowledged (place + 1) cs ss (omega (arith, le)))
+  where
+    and_false : (b : Bool) → (b && false) ≡ false
+    and_false true = refl
+    and_false false = refl
+
+    by_none : (o : Option HeldCell) → o ≡ None → false ≡ differs base acknowledged (place + 1) cs ss
+        → false ≡ ((nat_le acknowledged place && is_another c o) || differs base acknowledged (place + 1) cs ss)
+    by_none None e later = later ∙ ap (λ (b : Bool). b || differs base acknowledged (place + 1) cs ss) (sym (and_false (nat_le acknowledged place)))
+    by_none (Some d) e later = absurd cc
 
 or_assoc : (a b c : Bool) → (a || (b || c)) ≡ ((a || b) || c)
 or_assoc true b c = refl
