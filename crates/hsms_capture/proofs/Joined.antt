@@ -72,7 +72,7 @@ lays_behind k new i j c e f = ap (λ (z : List (Option HeldCell)). some_octets k
 
 -- ---- what is put together
 
-some_append : (ms ns : List ℕ) (os : List (Option HeldCell)) → some_octets (ms ++ ns) ++ os ≡ some_octets ms ++ (some_octets ns ++ os)
+pub some_append : (ms ns : List ℕ) (os : List (Option HeldCell)) → some_octets (ms ++ ns) ++ os ≡ some_octets ms ++ (some_octets ns ++ os)
 some_append [] ns os = refl
 some_append (m ∷ ms) ns os = ap (λ (z : List (Option HeldCell)). Some (held.Octet m) ∷ z) (some_append ms ns os)
 

@@ -424,8 +424,40 @@ fn flag_differs(
 }
 
 // Whether some octet differs.
-#[tactic(auto, using(crate::proofs::Differing::past_differs))]
+#[tactic(auto, using(crate::proofs::Differing::known_passed))]
 fn octets_differ(cells: &Cells, base: u64, acknowledged: u64, place: u64, octets: &[u8]) -> bool
+    requires { place + length octets.now < 2 ^ 64 }
+    ensures { result ≡ differs base acknowledged place (octets_of octets.now) (all_of cells.now) }
+{
+    let known = acknowledged.saturating_sub(place).min(octets.len() as u64);
+    let (_, open) = octets.split_at(known as usize);
+    let place = place + known;
+    if place < base || place < acknowledged {
+        return some_differs(cells, base, acknowledged, place, open);
+    }
+    open_differ(cells, base, acknowledged, place, open)
+}
+
+// Whether some octet differs, where none is acknowledged: those in one piece are compared at once.
+fn open_differ(cells: &Cells, base: u64, acknowledged: u64, place: u64, octets: &[u8]) -> bool
+    requires open { (base ≤ place) × (acknowledged ≤ place) }
+    requires end { place + length octets.now < 2 ^ 64 }
+    ensures { result ≡ differs base acknowledged place (octets_of octets.now) (all_of cells.now) }
+{
+    let run = cells.run();
+    let (_, behind) = run.split_at((place - base).min(run.len() as u64) as usize);
+    let count = behind.len().min(octets.len());
+    let (held, _) = behind.split_at(count);
+    let (copy, rest) = octets.split_at(count);
+    if copy != held {
+        return true;
+    }
+    others_differ(cells, base, acknowledged, place + count as u64, rest)
+}
+
+// Whether some octet differs, which it doesn't where nothing is held.
+#[tactic(auto, using(crate::proofs::Differing::past_differs))]
+fn others_differ(cells: &Cells, base: u64, acknowledged: u64, place: u64, octets: &[u8]) -> bool
     requires { place + length octets.now < 2 ^ 64 }
     ensures { result ≡ differs base acknowledged place (octets_of octets.now) (all_of cells.now) }
 {
