@@ -1,11 +1,16 @@
 -- Copies that differ from what is held.
-use Rattle.std.proofs.Common.{◌≡◌, ◌<◌, ◌≤◌, ◌+◌, ◌^◌, ◌++◌, ◌∷◌, ◌&&◌, ◌||◌, ℕ, Bool, true, false, nat_le, List, [], length, map, Option, refl, sym, ap, ◌∙◌, arith, inl, inr}
+use Rattle.std.proofs.Common.{◌≡◌, ◌<◌, ◌≤◌, ◌+◌, ◌^◌, ◌++◌, ◌∷◌, ◌&&◌, ◌||◌, ℕ, Bool, true, false, nat_le, List, [], length, map, min, take, drop, get_or, Option, Some, None, ◌-◌, ◌==◌, nat_eq, not, zero, suc, refl, sym, ap, ◌∙◌, arith, inl, inr, ◌⊎◌, length-drop, length-take}
 use Rattle.std.proofs.lemmas.Bool.{le-leb, lt-leb, cases_lt}
+use Rattle.std.proofs.Math.ListN.{get_or-eq_default}
+use Rattle.std.proofs.lemmas.List.{drop-drop, get_or-drop, take-append-drop}
+use Rattle.std.specs.Cmp.Lexicographic.{pointwise}
+use Rattle.hsms_capture.specs.Cells.{Kept, all_of, some_octets}
+use Rattle.hsms_capture.proofs.Joined.{drop_all, some_append}
 use Rattle.hsms_capture.specs.declared.held.Cell.{Cell as HeldCell}
 use Rattle.hsms_capture.specs.declared.held.Cell.TheVariants as held
 use Rattle.hsms_capture.specs.Wire.{End, Cell, Placed, cell_at, is_other, contradicts}
 use Rattle.hsms_capture.specs.Message.{cells_of}
-use Rattle.hsms_capture.specs.Held.{Store, wire_cell, IsStoreOf, TellsOther, differs_at, differs, flag_of, octets_of, held_of}
+use Rattle.hsms_capture.specs.Held.{Store, wire_cell, IsStoreOf, TellsOther, differs_at, is_another, differs, flag_of, octets_of, held_of}
 use Rattle.hsms_capture.proofs.Laid.{cells_length, flag_count, length_flag, length_octets, wire_is}
 
 -- ---- one cell
@@ -50,6 +55,121 @@ pub octets_end : (base acknowledged place : ℕ) (ns : List ℕ) (ss : List (Opt
 unfolding differs
 octets_end base acknowledged place [] ss w e h = h
 octets_end base acknowledged place (n ∷ ns) ss w e h = absurd (omega (arith, e))
+
+-- nothing is held in the places of these
+pub past_differs : (base acknowledged place : ℕ) (cs : List HeldCell) (ss : List (Option HeldCell)) → length ss ≤ place - base → false ≡ differs base acknowledged place cs ss
+unfolding differs
+past_differs base acknowledged place [] ss le = refl
+past_differs base acknowledged place (c ∷ cs) ss le =
+    by_none (get_or ss (place - base) None) (get_or-eq_default ss None le) (past_differs base acknowledged (place + 1) cs ss (omega (arith, le)))
+  where
+    and_false : (b : Bool) → (b && false) ≡ false
+    and_false true = refl
+    and_false false = refl
+
+    by_none : (o : Option HeldCell) → o ≡ None → false ≡ differs base acknowledged (place + 1) cs ss
+        → false ≡ ((nat_le acknowledged place && is_another c o) || differs base acknowledged (place + 1) cs ss)
+    by_none None e later = later ∙ ap (λ (b : Bool). b || differs base acknowledged (place + 1) cs ss) (sym (and_false (nat_le acknowledged place)))
+    by_none (Some d) e later = absurd cc
+
+-- ---- copies of several octets
+
+pub known_passed : (base acknowledged place k : ℕ) (ns : List ℕ) (ss : List (Option HeldCell)) → k ≤ acknowledged - place → k ≤ length ns
+    → differs base acknowledged (place + k) (octets_of (drop k ns)) ss ≡ differs base acknowledged place (octets_of ns) ss
+unfolding differs
+known_passed base acknowledged place zero ns ss le few = let at : place + 0 ≡ place = omega arith in ap (λ (n : ℕ). differs base acknowledged n (octets_of ns) ss) at
+known_passed base acknowledged place (suc k) [] ss le few = absurd (omega (arith, few))
+known_passed base acknowledged place (suc k) (n ∷ ns) ss le few =
+    let at : place + suc k ≡ place + 1 + k = omega arith in
+    ap (λ (m : ℕ). differs base acknowledged m (octets_of (drop k ns)) ss) at ∙ known_passed base acknowledged (place + 1) k ns ss (omega (arith, le)) (omega (arith, few))
+    ∙ ap (λ (b : Bool). b || differs base acknowledged (place + 1) (octets_of ns) ss) (is_acknowledged acknowledged place (is_another (held.Octet n) (get_or ss (place - base) None)) (omega (arith, le)))
+
+-- these octets are held in one piece from a place on
+abbrev HoldsAt : ℕ → List ℕ → List (Option HeldCell) → Type 0
+HoldsAt i hs ss = (more : List (Option HeldCell)) × (drop i ss ≡ some_octets hs ++ more)
+
+holds_next : (i j h : ℕ) (hs : List ℕ) (ss : List (Option HeldCell)) → j ≡ i + 1 → HoldsAt i (h ∷ hs) ss → HoldsAt j hs ss
+holds_next i j h hs ss e there = (
+  there.0,
+  (let at : j ≡ i + 1 = e in ap (λ (k : ℕ). drop k ss) at) ∙ sym (drop-drop 1 i ss) ∙ ap (drop 1) there.1,
+)
+
+holds_first : (i h : ℕ) (hs : List ℕ) (ss : List (Option HeldCell)) → HoldsAt i (h ∷ hs) ss → get_or ss i None ≡ Some (held.Octet h)
+holds_first i h hs ss there =
+    (let at : i ≡ i + 0 = omega arith in ap (λ (k : ℕ). get_or ss k None) at) ∙ sym (get_or-drop i ss 0 None) ∙ ap (λ (z : List (Option HeldCell)). get_or z 0 None) there.1
+
+first_compared : (c h : ℕ) (b d : Bool) → (not (c == h) || (not b || d)) ≡ (not ((c == h) && b) || d)
+first_compared c h b d = by_test (c == h)
+  where
+    by_test : (e : Bool) → (not e || (not b || d)) ≡ (not (e && b) || d)
+    by_test true = refl
+    by_test false = refl
+
+copied : (base acknowledged place next : ℕ) (copy hs ns : List ℕ) (ss : List (Option HeldCell)) → length copy ≡ length hs → base ≤ place → acknowledged ≤ place → HoldsAt (place - base) hs ss
+    → next ≡ place + length copy
+    → differs base acknowledged place (octets_of (copy ++ ns)) ss ≡ (not (pointwise nat_eq copy hs) || differs base acknowledged next (octets_of ns) ss)
+unfolding differs
+copied base acknowledged place next [] [] ns ss e low free there at = (let same : place ≡ next = omega (arith, at) in ap (λ (n : ℕ). differs base acknowledged n (octets_of ns) ss) same)
+copied base acknowledged place next [] (h ∷ hs) ns ss e low free there at = absurd (omega (arith, e))
+copied base acknowledged place next (c ∷ copy) [] ns ss e low free there at = absurd (omega (arith, e))
+copied base acknowledged place next (c ∷ copy) (h ∷ hs) ns ss e low free there at =
+    ap (λ (b : Bool). b || differs base acknowledged (place + 1) (octets_of (copy ++ ns)) ss)
+    (sym (is_open acknowledged place (is_another (held.Octet c) (get_or ss (place - base) None)) free)
+    ∙ ap (λ (o : Option HeldCell). is_another (held.Octet c) o) (holds_first (place - base) h hs ss there))
+    ∙ ap (λ (b : Bool). not (c == h) || b)
+    (copied base acknowledged (place + 1) next copy hs ns ss (omega (arith, e)) (omega (arith, low)) (omega (arith, free))
+    (holds_next (place - base) (place + 1 - base) h hs ss (omega (arith, low)) there) (omega (arith, at)))
+    ∙ first_compared c h (pointwise nat_eq copy hs) (differs base acknowledged next (octets_of ns) ss)
+
+-- what is compared: so many octets of those in one piece, from a place on
+held_at : (k : Kept) (i count : ℕ) (kept : List ℕ) → kept ≡ take count (drop (min i (length k.octets)) k.octets) → count ≤ length (drop (min i (length k.octets)) k.octets)
+    → (i ≤ length k.octets) ⊎ (count ≡ 0) → HoldsAt i kept (all_of k)
+held_at k i count kept e le (inl near) =
+    let behind = drop (min i (length k.octets)) k.octets in
+    let at : min i (length k.octets) ≡ i = omega (arith, near) in
+    let none : i - length k.octets ≡ 0 = omega (arith, near) in (
+      some_octets (drop count behind) ++ k.others,
+      drop_all i k.octets k.others ∙ ap (λ (j : ℕ). some_octets (drop i k.octets) ++ drop j k.others) none
+          ∙ ap (λ (j : ℕ). some_octets (drop j k.octets) ++ k.others) (sym at)
+          ∙ ap (λ (z : List ℕ). some_octets z ++ k.others) (sym (take-append-drop count behind))
+          ∙ some_append (take count behind) (drop count behind) k.others
+          ∙ ap (λ (z : List ℕ). some_octets z ++ (some_octets (drop count behind) ++ k.others)) (sym e),
+    )
+held_at k i count kept e le (inr none) =
+    let nothing : kept ≡ [] = e ∙ ap (λ (n : ℕ). take n (drop (min i (length k.octets)) k.octets)) none in
+    (drop i (all_of k), ap (λ (z : List ℕ). some_octets z ++ drop i (all_of k)) (sym nothing))
+
+compared : (k : Kept) (base acknowledged place count next first : ℕ) (octets behind kept copy rest : List ℕ) → (base ≤ place) × (acknowledged ≤ place)
+    → first ≡ min (place - base) (length k.octets) → behind ≡ drop first k.octets → count ≡ min (length behind) (length octets)
+    → kept ≡ take count behind → copy ≡ take count octets → rest ≡ drop count octets → next ≡ place + count
+    → differs base acknowledged place (octets_of octets) (all_of k) ≡ (not (pointwise nat_eq copy kept) || differs base acknowledged next (octets_of rest) (all_of k))
+compared k base acknowledged place count next first octets behind kept copy rest low at e f g h r n =
+    let start : behind ≡ drop (min (place - base) (length k.octets)) k.octets = e ∙ ap (λ (i : ℕ). drop i k.octets) at in
+    let few : length behind ≡ length k.octets - first = ap (λ (z : List ℕ). length z) e ∙ length-drop first k.octets in
+    let same : length behind ≡ length (drop (min (place - base) (length k.octets)) k.octets) = ap (λ (z : List ℕ). length z) start in
+    let a : length copy ≡ min count (length octets) = ap (λ (z : List ℕ). length z) h ∙ length-take count octets in
+    let b : length kept ≡ min count (length behind) = ap (λ (z : List ℕ). length z) g ∙ length-take count behind in
+    ap (λ (z : List ℕ). differs base acknowledged place (octets_of z) (all_of k))
+    (sym (take-append-drop count octets) ∙ ap (λ (z : List ℕ). z ++ drop count octets) (sym h) ∙ ap (λ (z : List ℕ). copy ++ z) (sym r))
+    ∙ copied base acknowledged place next copy kept rest (all_of k) (omega (arith, a, b, f)) low.0 low.1
+    (held_at k (place - base) count kept (g ∙ ap (take count) start) (omega (arith, f, same))
+    (elim (cases_lt (length k.octets) (place - base)) [ inl lt ↦ inr (omega (arith, lt, at, few, f)) | inr ge ↦ inl ge ]))
+    (omega (arith, a, f, n))
+
+pub copy_differs : (k : Kept) (base acknowledged place count first : ℕ) (octets behind kept copy : List ℕ) → (base ≤ place) × (acknowledged ≤ place)
+    → first ≡ min (place - base) (length k.octets) → behind ≡ drop first k.octets → count ≡ min (length behind) (length octets)
+    → kept ≡ take count behind → copy ≡ take count octets → not (pointwise nat_eq copy kept) ≡ true → true ≡ differs base acknowledged place (octets_of octets) (all_of k)
+copy_differs k base acknowledged place count first octets behind kept copy low at e f g h other =
+    sym (compared k base acknowledged place count (place + count) first octets behind kept copy (drop count octets) low at e f g h refl refl
+    ∙ ap (λ (b : Bool). b || differs base acknowledged (place + count) (octets_of (drop count octets)) (all_of k)) other)
+
+pub copy_passed : (k : Kept) (base acknowledged place count next first : ℕ) (octets behind kept copy rest : List ℕ) → (base ≤ place) × (acknowledged ≤ place)
+    → first ≡ min (place - base) (length k.octets) → behind ≡ drop first k.octets → count ≡ min (length behind) (length octets)
+    → kept ≡ take count behind → copy ≡ take count octets → rest ≡ drop count octets → next ≡ place + count → not (pointwise nat_eq copy kept) ≡ false
+    → differs base acknowledged next (octets_of rest) (all_of k) ≡ differs base acknowledged place (octets_of octets) (all_of k)
+copy_passed k base acknowledged place count next first octets behind kept copy rest low at e f g h r n other =
+    sym (compared k base acknowledged place count next first octets behind kept copy rest low at e f g h r n
+    ∙ ap (λ (b : Bool). b || differs base acknowledged next (octets_of rest) (all_of k)) other)
 
 or_assoc : (a b c : Bool) → (a || (b || c)) ≡ ((a || b) || c)
 or_assoc true b c = refl

@@ -8,7 +8,7 @@ use Rattle.hsms_capture.specs.declared.held.Cell.{Cell as HeldCell}
 use Rattle.hsms_capture.specs.declared.held.Cell.TheVariants as held
 use Rattle.hsms_capture.specs.Wire.{End, Cell, syn, octet, Placed, or_else, cell_in, cell_at}
 use Rattle.hsms_capture.specs.Message.{cells_of}
-use Rattle.hsms_capture.specs.Held.{Store, wire_cell, IsStoreOf, PutsIn, laid_at, laid_all, flag_of, octets_of, held_of, SameCells, CellIs}
+use Rattle.hsms_capture.specs.Held.{Store, wire_cell, IsLaid, IsStoreOf, PutsIn, cell_from, laid_at, laid_all, flag_of, octets_of, held_of, SameCells, CellIs}
 use Rattle.hsms_capture.proofs.Ends.{same}
 use Rattle.hsms_capture.proofs.Longer.{cell_more}
 
@@ -128,9 +128,6 @@ held_length syns fins octets =
 
 -- ---- what is held then
 
-abbrev pub cell_from : ℕ → List HeldCell → ℕ → Option HeldCell
-cell_from place cs n = cond (nat_le place n) (slice_get cs (n - place)) None
-
 or_none : (x : Option HeldCell) → x ≡ or_else x None
 or_none None = refl
 or_none (Some c) = refl
@@ -206,21 +203,26 @@ brought ps p place n cs e f =
     by_place : cell_in p p.from n ≡ option_map wire_cell (cell_from place cs n)
     by_place = rw (same p.from, e, f) (by_test (nat_le place n))
 
-pub puts : (base place : ℕ) (cs : List HeldCell) (cells : List Cell) (old wide new : List (Option HeldCell)) → SameCells old wide → new ≡ laid_all base place cs wide
-    → place + length cs ≤ base + length wide → cells ≡ map wire_cell cs → PutsIn (record { place = base; cells = old }) place cells (record { place = base; cells = new })
-puts base place cs cells old wide new widened laid fits wire = (
+pub puts : (base place : ℕ) (cs : List HeldCell) (cells : List Cell) (old new : List (Option HeldCell)) → IsLaid base place cs old new
+    → cells ≡ map wire_cell cs → PutsIn (record { place = base; cells = old }) place cells (record { place = base; cells = new })
+puts base place cs cells old new laid wire = (
   refl,
   λ ps p h e f n le.
       let i = n - base in
       let at : base + i ≡ n = omega (arith, le) in
-      ap (λ (z : List (Option HeldCell)). option_map wire_cell (get_or z i None)) laid
-      ∙ ap (option_map wire_cell) (laid_held base place i cs wide fits)
-      ∙ map_or (get_or wide i None) (cell_from place cs (base + i))
-      ∙ ap (λ (z : Option HeldCell). or_else (option_map wire_cell z) (option_map wire_cell (cell_from place cs (base + i)))) (widened i)
+      ap (option_map wire_cell) (laid i)
+      ∙ map_or (get_or old i None) (cell_from place cs (base + i))
       ∙ ap (λ (m : ℕ). or_else (option_map wire_cell (get_or old i None)) (option_map wire_cell (cell_from place cs m))) at
       ∙ ap (λ (z : Option Cell). or_else z (option_map wire_cell (cell_from place cs n))) (h n le)
       ∙ sym (brought ps p place n cs e (f ∙ wire)),
 )
+
+-- cells that are laid one after another, where there is room for them
+pub laid_wide : (base place : ℕ) (cs : List HeldCell) (first old wide new : List (Option HeldCell)) → old ≡ first → SameCells old wide → new ≡ laid_all base place cs wide
+    → place + length cs ≤ base + length wide → IsLaid base place cs first new
+laid_wide base place cs first old wide new e widened laid fits i =
+    ap (λ (z : List (Option HeldCell)). get_or z i None) laid ∙ laid_held base place i cs wide fits
+    ∙ ap (λ (z : Option HeldCell). or_else z (cell_from place cs (base + i))) (widened i ∙ ap (λ (z : List (Option HeldCell)). get_or z i None) e)
 
 map_octets : (octets : List ℕ) (rest : List HeldCell) → map wire_cell (octets_of octets ++ rest) ≡ map (λ n. octet n) octets ++ map wire_cell rest
 map_octets [] rest = refl
@@ -239,11 +241,10 @@ length_wire (c ∷ cs) = ap (λ (k : ℕ). suc k) (length_wire cs)
 pub cells_length : (syns fins : Bool) (octets : List ℕ) → length (cells_of syns octets fins) ≡ length (held_of syns octets fins)
 cells_length syns fins octets = ap length (wire_is syns fins octets) ∙ length_wire (held_of syns octets fins)
 
-pub puts_in : (base place : ℕ) (syns fins : Bool) (octets : List ℕ) (old wide new : List (Option HeldCell)) → SameCells old wide
-    → new ≡ laid_all base place (held_of syns octets fins) wide → place + length (held_of syns octets fins) ≤ base + length wide
+pub puts_in : (base place : ℕ) (syns fins : Bool) (octets : List ℕ) (old new : List (Option HeldCell)) → IsLaid base place (held_of syns octets fins) old new
     → PutsIn (record { place = base; cells = old }) place (cells_of syns octets fins) (record { place = base; cells = new })
-puts_in base place syns fins octets old wide new widened laid fits =
-    puts base place (held_of syns octets fins) (cells_of syns octets fins) old wide new widened laid fits (wire_is syns fins octets)
+puts_in base place syns fins octets old new laid =
+    puts base place (held_of syns octets fins) (cells_of syns octets fins) old new laid (wire_is syns fins octets)
 
 pub puts_none : (s : Store) (place : ℕ) (syns fins : Bool) (octets : List ℕ) → length (held_of syns octets fins) ≡ 0 → PutsIn s place (cells_of syns octets fins) s
 puts_none s place syns fins octets none =

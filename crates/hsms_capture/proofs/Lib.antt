@@ -12,6 +12,7 @@ mod Draining
 mod Ends
 mod Finishing
 mod Fronts
+mod Joined
 mod Kept
 mod Laid
 mod Later

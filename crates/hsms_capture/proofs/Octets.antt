@@ -8,9 +8,9 @@ use Rattle.hsms_capture.specs.declared.held.Head.{Head}
 use Rattle.hsms_capture.specs.declared.held.Head.TheVariants as head
 use Rattle.hsms_capture.specs.Wire.{Cell, syn, octet, fin, or_else}
 use Rattle.hsms_capture.specs.Message.{cells_to, message_size, one_more}
-use Rattle.hsms_capture.specs.Held.{IsPiece, SameCells, Store, fitting, further, held_of, in_piece, laid_all, octets_of, wire_cell}
+use Rattle.hsms_capture.specs.Held.{IsLaid, IsPiece, Store, cell_from, fitting, further, held_of, in_piece, octets_of, wire_cell}
 use Rattle.hsms_capture.specs.Plain.{AreOctetsFrom, HeadSays, IsLonger, flags_end, is_octet}
-use Rattle.hsms_capture.proofs.Laid.{cell_from, gone, laid_held}
+use Rattle.hsms_capture.proofs.Laid.{gone}
 use Rattle.hsms_capture.proofs.Lists.{Each}
 
 -- ---- what is laid
@@ -41,22 +41,21 @@ of_packet true fins octets place n c le e = let none = too_late place n (held_of
 of_packet false true octets place n c le e = let none = too_late place n (held_of false octets true) le in absurd (let f = sym none ∙ e in cc)
 of_packet false false octets place n c le e = laid_octet place n octets c (sym (ap (λ (z : List HeldCell). cell_from place z n) (append-nil (octets_of octets))) ∙ e)
 
-pub octets_stay : (from base place : ℕ) (syns fins : Bool) (octets : List ℕ) (old wide new : List (Option HeldCell)) (next end : ℕ) → SameCells old wide
-    → new ≡ laid_all base place (held_of syns octets fins) wide → place + length (held_of syns octets fins) ≤ base + length wide
-    → end ≡ place + length (held_of syns octets fins) → next ≡ max from (flags_end syns fins end) → AreOctetsFrom from base old → AreOctetsFrom next base new
-octets_stay from base place syns fins octets old wide new next end same laid fits ends nexts h i c le e =
+pub octets_stay : (from base place : ℕ) (syns fins : Bool) (octets : List ℕ) (old new : List (Option HeldCell)) (next end : ℕ)
+    → IsLaid base place (held_of syns octets fins) old new → end ≡ place + length (held_of syns octets fins) → next ≡ max from (flags_end syns fins end)
+    → AreOctetsFrom from base old → AreOctetsFrom next base new
+octets_stay from base place syns fins octets old new next end laid ends nexts h i c le e =
     let cs = held_of syns octets fins in
     let at : flags_end syns fins (place + length cs) ≤ base + i =
     (let z : flags_end syns fins end ≡ flags_end syns fins (place + length cs) = ap (flags_end syns fins) ends in omega (arith, z, nexts, le)) in
-    by_held (get_or wide i None) refl (sym (ap (λ (z : List (Option HeldCell)). get_or z i None) laid ∙ laid_held base place i cs wide fits) ∙ e)
-    (λ f. of_packet syns fins octets place (base + i) c at f)
+    by_held (get_or old i None) refl (sym (laid i) ∙ e) (λ f. of_packet syns fins octets place (base + i) c at f)
   where
-    by_held : (o : Option HeldCell) → get_or wide i None ≡ o → or_else (get_or wide i None) (cell_from place (held_of syns octets fins) (base + i)) ≡ Some c
+    by_held : (o : Option HeldCell) → get_or old i None ≡ o → or_else (get_or old i None) (cell_from place (held_of syns octets fins) (base + i)) ≡ Some c
         → (cell_from place (held_of syns octets fins) (base + i) ≡ Some c → is_octet c ≡ true) → is_octet c ≡ true
     by_held None is all later = later (sym (ap (λ (z : Option HeldCell). or_else z (cell_from place (held_of syns octets fins) (base + i))) is) ∙ all)
     by_held (Some a) is all later =
         let b : Some a ≡ Some c = sym (ap (λ (z : Option HeldCell). or_else z (cell_from place (held_of syns octets fins) (base + i))) is) ∙ all in
-        h i c (omega (arith, nexts, le)) (sym (same i) ∙ is ∙ b)
+        h i c (omega (arith, nexts, le)) (is ∙ b)
 
 pub octets_none : (from base : ℕ) (ss : List (Option HeldCell)) → ss ≡ [] → AreOctetsFrom from base ss
 octets_none from base ss e i c le f = absurd (let g : get_or ss i None ≡ None = ap (λ (z : List (Option HeldCell)). get_or z i None) e in let k = sym g ∙ f in cc)

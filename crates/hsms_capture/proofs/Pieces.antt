@@ -1,10 +1,13 @@
 -- What the cells tell that are held in one piece.
-use Rattle.std.proofs.Common.{◌≡◌, ◌<◌, ◌≤◌, ◌+◌, ◌-◌, ◌++◌, ◌∷◌, ℕ, zero, suc, List, [], length, take, drop, get_or, Option, Some, None, sym, ap, ◌∙◌, arith}
+use Rattle.std.proofs.Common.{◌≡◌, ◌<◌, ◌≤◌, ◌+◌, ◌-◌, ◌++◌, ◌∷◌, ℕ, zero, suc, List, [], length, take, drop, get_or, Option, Some, None, sym, ap, ◌∙◌, arith, length-drop}
+use Rattle.std.proofs.lemmas.List.{append_assoc, append-nil}
 use Rattle.hsms_capture.specs.declared.held.Cell.{Cell as HeldCell}
 use Rattle.hsms_capture.specs.declared.held.Cell.TheVariants as held
+use Rattle.hsms_capture.specs.Cells.{Kept, all_of, some_octets}
 use Rattle.hsms_capture.specs.Wire.{End, Cell}
 use Rattle.hsms_capture.specs.Told.{Entry, entry, message, down, entry_of}
 use Rattle.hsms_capture.specs.Held.{in_piece, wire_cell}
+use Rattle.hsms_capture.proofs.Joined.{drop_all}
 use Rattle.hsms_capture.proofs.Whole.{piece_end, piece_next}
 
 -- what is left of so many cells tells, behind these octets, what all of them do
@@ -71,3 +74,20 @@ pub ends : (ss : List (Option HeldCell)) (count index : ℕ) (octets : List ℕ)
 ends ss count index octets le h fits d n =
     let none : count - index ≡ 0 = omega (arith, le) in
     (h.1 fits).1 d n ∙ ap (λ (k : ℕ). entry_of d n octets (take k (in_piece (drop index ss)))) none
+
+-- ---- octets in one piece
+
+told_octets : (k : ℕ) (ns before : List ℕ) (os : List (Option HeldCell)) (d : End) (n : ℕ) → k ≤ length ns
+    → entry_of d n before (take k (in_piece (some_octets ns ++ os))) ≡ entry n (message d (before ++ take k ns)) ∷ []
+told_octets zero ns before os d n le = ap (λ (z : List ℕ). entry n (message d z) ∷ []) (sym (append-nil before))
+told_octets (suc k) [] before os d n le = absurd (omega (arith, le))
+told_octets (suc k) (m ∷ ns) before os d n le =
+    told_octets k ns (before ++ m ∷ []) os d n (omega (arith, le)) ∙ ap (λ (z : List ℕ). entry n (message d z) ∷ []) (append_assoc before (m ∷ []) (take k ns))
+
+pub octets_tell : (k : Kept) (first count : ℕ) (octets found : List ℕ) → found ≡ take count (drop first k.octets) → octets ≡ found → first + count ≤ length k.octets
+    → Told (drop first (all_of k)) count (λ d n. entry n (message d octets) ∷ [])
+octets_tell k first count octets found e f le fits d n =
+    let left = length-drop first k.octets in
+    ap (λ (ss : List (Option HeldCell)). entry_of d n [] (take count (in_piece ss))) (drop_all first k.octets k.others)
+    ∙ told_octets count (drop first k.octets) [] (drop (first - length k.octets) k.others) d n (omega (arith, left, le))
+    ∙ ap (λ (z : List ℕ). entry n (message d z) ∷ []) (sym (f ∙ e))

@@ -1,5 +1,5 @@
 -- Messages in what is held in one piece.
-use Rattle.std.proofs.Common.{◌≡◌, ◌<◌, ◌≤◌, ◌+◌, ◌-◌, ◌*◌, ◌∷◌, ℕ, zero, suc, List, [], length, drop, get_or, Option, Some, None, is_some, true, refl, sym, ap, subst, ◌∙◌, ◌^◌, arith, inl, inr}
+use Rattle.std.proofs.Common.{◌≡◌, ◌<◌, ◌≤◌, ◌+◌, ◌-◌, ◌*◌, ◌∷◌, ℕ, zero, suc, List, [], length, drop, get_or, Option, Some, None, is_some, true, refl, sym, ap, subst, ◌∙◌, ◌^◌, ◌++◌, arith, inl, inr, length-drop}
 use Rattle.std.proofs.lemmas.Bool.{lt-ltb, le-ltb, cases_lt}
 use Rattle.std.proofs.lemmas.Grind.{pow_more}
 use Rattle.std.proofs.lemmas.List.{get_or-drop}
@@ -7,9 +7,11 @@ use Rattle.std.proofs.Math.ListN.{get_or-eq_default}
 use Rattle.std.specs.Option.{option_map}
 use Rattle.hsms_capture.specs.Laws.{IsHeld}
 use Rattle.hsms_capture.proofs.Ends.{end_is, not_past}
+use Rattle.hsms_capture.proofs.Joined.{drop_all}
 use Rattle.hsms_capture.proofs.Sizes.{is_size}
 use Rattle.hsms_capture.specs.declared.held.Cell.{Cell as HeldCell}
 use Rattle.hsms_capture.specs.declared.held.Cell.TheVariants as held
+use Rattle.hsms_capture.specs.Cells.{Kept, all_of, some_octets}
 use Rattle.hsms_capture.specs.Wire.{End, Cell, Placed, bound, cell_at, cells_up_to, end_of, stream_of}
 use Rattle.hsms_capture.specs.Message.{cells_to, message_size, one_more, size_by}
 use Rattle.hsms_capture.specs.Held.{Store, IsFront, IsPiece, IsStoreOf, fitting, in_piece, piece_from, further, octet_in, wire_cell}
@@ -78,6 +80,25 @@ pub rest_done : (left index : ℕ) (ss : List (Option HeldCell)) (w : Option ℕ
 unfolding cells_to
 rest_done zero index ss w e h = ap (λ (z : ℕ). Some z) (omega arith) ∙ h
 rest_done (suc left) index ss w e h = absurd (omega (arith, e))
+
+-- ---- octets in one piece
+
+pub octets_counted : (k : ℕ) (ns : List ℕ) (os : List (Option HeldCell)) → k ≤ length ns → cells_to k (in_piece (some_octets ns ++ os)) ≡ Some k
+unfolding cells_to
+octets_counted zero ns os le = refl
+octets_counted (suc k) [] os le = absurd (omega (arith, le))
+octets_counted (suc k) (n ∷ ns) os le =
+    ap one_more (octets_counted k ns os (omega (arith, le))) ∙ (let next : k + 1 ≡ suc k = omega arith in ap (λ (j : ℕ). Some j) next)
+
+pub octets_there : (first count : ℕ) (k : Kept) → 4 + count ≤ length k.octets - first
+    → Some (4 + count) ≡ further 4 (cells_to count (in_piece (drop 4 (drop first (all_of k)))))
+octets_there first count k le =
+    let left = length-drop first k.octets in
+    let rest = length-drop 4 (drop first k.octets) in
+    sym (
+    ap (λ (ss : List (Option HeldCell)). further 4 (cells_to count (in_piece ss))) (ap (drop 4) (drop_all first k.octets k.others) ∙ drop_all 4 (drop first k.octets) (drop (first - length k.octets) k.others))
+    ∙ ap (further 4) (octets_counted count (drop 4 (drop first k.octets)) (drop (4 - length (drop first k.octets)) (drop (first - length k.octets) k.others)) (omega (arith, left, rest, le)))
+    )
 
 -- ---- the length
 

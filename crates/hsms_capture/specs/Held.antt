@@ -1,5 +1,5 @@
 -- What is held of one direction by places, from a place on.
-use Rattle.std.specs.Prelude.{◌≡◌, ◌<◌, ◌≤◌, ◌-◌, ◌+◌, ◌++◌, ◌∷◌, ◌^◌, ◌⊎◌, ◌&&◌, ◌||◌, ℕ, Bool, false, nat_le, nat_lt, length, drop, if◌then◌else◌, List, [], map, get_or, slice_set, Option, Some, None}
+use Rattle.std.specs.Prelude.{◌≡◌, ◌<◌, ◌≤◌, ◌-◌, ◌+◌, ◌++◌, ◌∷◌, ◌^◌, ◌⊎◌, ◌&&◌, ◌||◌, ℕ, Bool, false, nat_le, nat_lt, length, drop, if◌then◌else◌, List, [], map, get_or, slice_get, slice_set, Option, Some, None}
 use Rattle.std.specs.Option.{option_map}
 use Rattle.hsms_capture.specs.declared.held.Cell.{Cell as HeldCell}
 use Rattle.hsms_capture.specs.declared.held.Cell.TheVariants as held
@@ -55,6 +55,14 @@ octets_of octets = map (λ n. held.Octet n) octets
 
 abbrev pub held_of : Bool → List ℕ → Bool → List HeldCell
 held_of syns octets fins = flag_of syns held.Syn ++ (octets_of octets ++ flag_of fins held.Fin)
+
+-- the cell in a place, of cells that come at another
+abbrev pub cell_from : ℕ → List HeldCell → ℕ → Option HeldCell
+cell_from place cs n = if nat_le place n then slice_get cs (n - place) else None
+
+-- Cells from a place on are held besides, where what is held begins at a base. What is held already stays.
+abbrev pub IsLaid : ℕ → ℕ → List HeldCell → List (Option HeldCell) → List (Option HeldCell) → Type 0
+IsLaid base place cs ss ts = (i : ℕ) → get_or ts i None ≡ or_else (get_or ss i None) (cell_from place cs (base + i))
 
 -- the same cells, where what is missing may be written out
 abbrev pub SameCells : List (Option HeldCell) → List (Option HeldCell) → Type 0

@@ -15,6 +15,7 @@ pub mod Plain
 pub mod Time
 pub mod Stopping
 pub mod Held
+pub mod Cells
 pub mod Early
 pub mod Laws
 pub mod Examples

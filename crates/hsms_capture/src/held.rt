@@ -1,16 +1,16 @@
 //! The cells of one direction by their places.
 
-ghost use Rattle.std.specs.Prelude.{◌≡◌, ◌≤◌, ◌<◌, ◌+◌, ◌^◌, ◌⊎◌, true, IfSome, IfOk, None, OnOk, OnErr, drop, get_or, length};
-ghost use Rattle.std.specs.VecDeque.{deque_len, deque_capacity};
-ghost use Rattle.hsms_capture.specs.Held.{SameCells, differs, differs_at, flag_of, further, held_of, in_piece, is_another, laid_all, laid_at, octet_in, octets_of, wire_cell};
+ghost use Rattle.std.specs.Prelude.{◌≡◌, ◌≤◌, ◌<◌, ◌+◌, ◌^◌, true, ◌-◌, max, take, false, [], IfSome, IfOk, None, OnOk, OnErr, drop, get_or, length};
+ghost use Rattle.hsms_capture.specs.Cells.{all_of};
+ghost use Rattle.hsms_capture.specs.Held.{IsLaid, differs, differs_at, flag_of, further, held_of, in_piece, is_another, laid_all, laid_at, octet_in, octets_of, wire_cell};
 ghost use Rattle.hsms_capture.specs.Message.{cells_to, message_size};
 ghost use Rattle.hsms_capture.specs.Plain.{HeadSays, IsLonger, flags_end};
 ghost use Rattle.hsms_capture.specs.Telling.{PieceTells};
 ghost use Rattle.hsms_capture.specs.Wire.{same_cell};
 
 use crate::asking::Flags;
+use crate::cells::Cells;
 use std::alloc::{AllocError, Global};
-use std::collections::VecDeque;
 use std::marker::Model;
 
 // So many cells are held at most.
@@ -66,20 +66,21 @@ impl From<AllocError> for HeldFault {
 #[derive(Drop)]
 pub struct Held {
     place: u64,
-    cells: VecDeque<Option<Cell>>,
+    cells: Cells,
     // No SYN and no FIN is held from this place on.
     octets_from: u64,
 }
 
 impl Model for Held {
     ghost use Rattle.hsms_capture.specs.Held.{Store};
+    ghost use Rattle.hsms_capture.specs.Cells.{all_of};
     ghost use Rattle.hsms_capture.specs.Plain.{AreOctetsFrom};
 
     ghost Value = { Store };
 
-    ghost view = { λ h. record { place = h.place; cells = h.cells.items } };
+    ghost view = { λ h. record { place = h.place; cells = all_of h.cells } };
 
-    ghost invariant = { λ h. AreOctetsFrom h.octets_from h.place h.cells.items };
+    ghost invariant = { λ h. AreOctetsFrom h.octets_from h.place (all_of h.cells) };
 }
 
 impl Held {
@@ -99,7 +100,7 @@ impl Held {
     {
         Held {
             place: 0,
-            cells: VecDeque::new(alloc),
+            cells: Cells::new(alloc),
             octets_from: 0,
         }
     }
@@ -130,8 +131,14 @@ impl Held {
         if wanted > MOST {
             return Err(HeldFault::Full);
         }
-        widen(&mut self.cells, wanted as usize)?;
-        lay_all(&mut self.cells, self.place, place, flags, octets);
+        hold(
+            &mut self.cells,
+            self.place,
+            wanted as usize,
+            place,
+            flags,
+            octets,
+        )?;
         self.octets_from = self.octets_from.max(flags_end(flags, end));
         Ok(())
     }
@@ -146,7 +153,7 @@ impl Held {
         let count = place
             .saturating_sub(self.place)
             .min(self.cells.len() as u64);
-        let_go(&mut self.cells, count as usize);
+        self.cells.let_go(count as usize);
         self.place = self.place.max(place);
     }
 
@@ -191,7 +198,7 @@ impl Held {
     pub(crate) fn piece(&self, alloc: Global, place: u64, count: u64) -> Result<Piece, AllocError>
         ensures { IfOk result (λ told. Tells self.now place count told) }
     {
-        piece_of(alloc, &self.cells, place.saturating_sub(self.place), count)
+        cut_piece(alloc, &self.cells, place.saturating_sub(self.place), count)
     }
 
     /// The cell in a place, if it is held.
@@ -202,19 +209,41 @@ impl Held {
         if place < self.place {
             return None;
         }
-        cell_of(&self.cells, place - self.place)
+        self.cells.get(place - self.place)
     }
+}
+
+// What so many cells from an index on tell: where they are octets in one piece, these.
+#[tactic(auto, using(crate::proofs::Pieces::octets_tell))]
+fn cut_piece(alloc: Global, cells: &Cells, first: u64, count: u64) -> Result<Piece, AllocError>
+    ensures { IfOk result (λ told. PieceTells (drop first (all_of cells.now)) count told) }
+{
+    match octets_at(cells.run(), first, count) {
+        Some(octets) => Ok(Piece::Message(Vec::from_slice(alloc, octets)?)),
+        None => piece_of(alloc, cells, first, count),
+    }
+}
+
+// So many octets from an index on, if they are there.
+fn octets_at(octets: &[u8], first: u64, count: u64) -> Option<&[u8]>
+    ensures octets { IfSome result (λ found. found.now ≡ take count (drop first octets.now)) }
+    ensures there { IfSome result (λ found. first + count ≤ length octets.now) }
+{
+    let Some(end) = first.checked_add(count) else {
+        return None;
+    };
+    if end > octets.len() as u64 {
+        return None;
+    }
+    let (_, behind) = octets.split_at(first as usize);
+    let (found, _) = behind.split_at(count as usize);
+    Some(found)
 }
 
 // What so many cells tell that are held in one piece from an index on.
 #[tactic(auto, using(crate::proofs::Pieces::begins, crate::proofs::Pieces::misses, crate::proofs::Pieces::ends))]
-fn piece_of(
-    alloc: Global,
-    cells: &VecDeque<Option<Cell>>,
-    first: u64,
-    count: u64,
-) -> Result<Piece, AllocError>
-    ensures { IfOk result (λ told. PieceTells (drop first cells.now.items) count told) }
+fn piece_of(alloc: Global, cells: &Cells, first: u64, count: u64) -> Result<Piece, AllocError>
+    ensures { IfOk result (λ told. PieceTells (drop first (all_of cells.now)) count told) }
 {
     let mut octets = Vec::new(alloc);
     let mut index = 0;
@@ -232,29 +261,6 @@ fn piece_of(
     Ok(Piece::Message(octets))
 }
 
-// The cell at an index, if it is there.
-#[tactic(auto, using(crate::proofs::Laid::is_there, crate::proofs::Laid::not_there))]
-fn cell_of(cells: &VecDeque<Option<Cell>>, index: u64) -> Option<Cell>
-    ensures { result ≡ get_or cells.now.items index None }
-{
-    if index >= cells.len() as u64 {
-        return None;
-    }
-    cells[index as usize]
-}
-
-// Lets go of so many cells at the front.
-#[tactic(auto, using(crate::proofs::Laid::one_gone))]
-fn let_go(cells: &mut VecDeque<Option<Cell>>, count: usize)
-    ensures { cells.new.items ≡ drop count cells.old.items }
-{
-    let mut left: usize = count;
-    while left > 0 {
-        cells.pop_front();
-        left -= 1;
-    }
-}
-
 // How many cells a packet brings.
 #[tactic(auto, using(crate::proofs::Laid::held_length))]
 fn count_of(flags: Flags, octets: &[u8]) -> u64
@@ -263,28 +269,64 @@ fn count_of(flags: Flags, octets: &[u8]) -> u64
     u64::from(flags.syn) + octets.len() as u64 + u64::from(flags.fin)
 }
 
-// Makes room for so many cells. A refused growth changes nothing.
-#[tactic(auto, using(crate::proofs::Laid::one_more_room, crate::proofs::Laid::same_cells))]
-fn widen(cells: &mut VecDeque<Option<Cell>>, count: usize) -> Result<(), AllocError>
-    ensures ok { OnOk result (SameCells cells.old.items cells.new.items) }
-    ensures room { OnOk result (count ≤ deque_len cells.new) }
-    ensures few { OnOk result ((deque_len cells.new ≤ deque_len cells.old) ⊎ (deque_len cells.new ≡ count)) }
-    ensures err { OnErr result (cells.new.items ≡ cells.old.items) }
+// Holds what a packet brings, from a place on, where there is to be room for so many cells. A refused growth changes
+// nothing.
+fn hold(
+    cells: &mut Cells,
+    base: u64,
+    room: usize,
+    place: u64,
+    flags: Flags,
+    octets: &[u8],
+) -> Result<(), AllocError>
+    requires room { place + length (held_of flags.syn octets.now flags.fin) ≤ base + room }
+    requires end { place + length (held_of flags.syn octets.now flags.fin) < 2 ^ 64 }
+    ensures ok { OnOk result (IsLaid base place (held_of flags.syn octets.now flags.fin) (all_of cells.old) (all_of cells.new)) }
+    ensures few { OnOk result (length (all_of cells.new) ≤ max (length (all_of cells.old)) room) }
+    ensures err { OnErr result (all_of cells.new ≡ all_of cells.old) }
 {
-    cells.reserve(count.saturating_sub(cells.len()))?;
-    while cells.len() < count {
-        cells.push_back_reserved(None);
+    cells.join()?;
+    if follows(cells, base, place, flags) {
+        return append(cells, base, place, octets);
     }
+    cells.widen(room)?;
+    lay_all(cells, base, place, flags, octets);
     Ok(())
+}
+
+// Whether octets alone come, and all cells that are held are octets without a gap up to their place, or past it.
+fn follows(cells: &Cells, base: u64, place: u64, flags: Flags) -> bool
+    ensures flags { result ≡ true → (flags.syn ≡ false) × (flags.fin ≡ false) }
+    ensures run { result ≡ true → (cells.now.others ≡ []) × (place - base ≤ length cells.now.octets) }
+{
+    if flags.syn || flags.fin {
+        return false;
+    }
+    cells.is_run() && place.saturating_sub(base) <= cells.run().len() as u64
+}
+
+// Puts octets that come at a place behind those that are held, without the first ones, as far as they are held or stand
+// before the first that is. A refused growth changes nothing.
+fn append(cells: &mut Cells, base: u64, place: u64, octets: &[u8]) -> Result<(), AllocError>
+    requires { (cells.old.others ≡ []) × (place - base ≤ length cells.old.octets) }
+    ensures ok { OnOk result (IsLaid base place (octets_of octets.now) (all_of cells.old) (all_of cells.new)) }
+    ensures few { OnOk result (length (all_of cells.new) ≤ max (length (all_of cells.old)) (place + length octets.now - base)) }
+    ensures err { OnErr result (cells.new ≡ cells.old) }
+{
+    let count = octets.len() as u64;
+    let before = base.saturating_sub(place).min(count);
+    let held = cells.run().len() as u64 - place.saturating_sub(base);
+    let (_, new) = octets.split_at((before + held).min(count) as usize);
+    cells.append(new)
 }
 
 // Lays what a packet brings, from its place on.
 #[tactic(auto, using(crate::proofs::Laid::in_parts, crate::proofs::Laid::held_length))]
-fn lay_all(cells: &mut VecDeque<Option<Cell>>, base: u64, place: u64, flags: Flags, octets: &[u8])
-    requires room { place + length (held_of flags.syn octets.now flags.fin) ≤ base + deque_len cells.old }
+fn lay_all(cells: &mut Cells, base: u64, place: u64, flags: Flags, octets: &[u8])
+    requires room { place + length (held_of flags.syn octets.now flags.fin) ≤ base + length (all_of cells.old) }
     requires end { place + length (held_of flags.syn octets.now flags.fin) < 2 ^ 64 }
-    ensures items { cells.new.items ≡ laid_all base place (held_of flags.syn octets.now flags.fin) cells.old.items }
-    ensures len { deque_len cells.new ≡ deque_len cells.old }
+    ensures items { all_of cells.new ≡ laid_all base place (held_of flags.syn octets.now flags.fin) (all_of cells.old) }
+    ensures len { length (all_of cells.new) ≡ length (all_of cells.old) }
 {
     let first = lay_flag(cells, base, place, flags.syn, Cell::Syn);
     let behind = lay_octets(cells, base, first, octets);
@@ -293,17 +335,11 @@ fn lay_all(cells: &mut VecDeque<Option<Cell>>, base: u64, place: u64, flags: Fla
 
 // Lays a cell, if it is there. Gives the place behind it.
 #[tactic(auto, using(crate::proofs::Laid::lays_none, crate::proofs::Laid::lays_one))]
-fn lay_flag(
-    cells: &mut VecDeque<Option<Cell>>,
-    base: u64,
-    place: u64,
-    is_set: bool,
-    cell: Cell,
-) -> u64
-    requires room { place + length (flag_of is_set cell) ≤ base + deque_len cells.old }
+fn lay_flag(cells: &mut Cells, base: u64, place: u64, is_set: bool, cell: Cell) -> u64
+    requires room { place + length (flag_of is_set cell) ≤ base + length (all_of cells.old) }
     requires end { place + length (flag_of is_set cell) < 2 ^ 64 }
-    ensures items { cells.new.items ≡ laid_all base place (flag_of is_set cell) cells.old.items }
-    ensures len { deque_len cells.new ≡ deque_len cells.old }
+    ensures items { all_of cells.new ≡ laid_all base place (flag_of is_set cell) (all_of cells.old) }
+    ensures len { length (all_of cells.new) ≡ length (all_of cells.old) }
     ensures behind { result ≡ place + length (flag_of is_set cell) }
 {
     if is_set {
@@ -315,11 +351,11 @@ fn lay_flag(
 
 // Lays octets from a place on. Gives the place behind them.
 #[tactic(auto, using(crate::proofs::Laid::lays_next, crate::proofs::Laid::lays_all))]
-fn lay_octets(cells: &mut VecDeque<Option<Cell>>, base: u64, place: u64, octets: &[u8]) -> u64
-    requires room { place + length octets.now ≤ base + deque_len cells.old }
+fn lay_octets(cells: &mut Cells, base: u64, place: u64, octets: &[u8]) -> u64
+    requires room { place + length octets.now ≤ base + length (all_of cells.old) }
     requires end { place + length octets.now < 2 ^ 64 }
-    ensures items { cells.new.items ≡ laid_all base place (octets_of octets.now) cells.old.items }
-    ensures len { deque_len cells.new ≡ deque_len cells.old }
+    ensures items { all_of cells.new ≡ laid_all base place (octets_of octets.now) (all_of cells.old) }
+    ensures len { length (all_of cells.new) ≡ length (all_of cells.old) }
     ensures behind { result ≡ place + length octets.now }
 {
     let mut place = place;
@@ -334,24 +370,21 @@ fn lay_octets(cells: &mut VecDeque<Option<Cell>>, base: u64, place: u64, octets:
 
 // Lays a cell in its place, if nothing is held there, and the place isn't before the first.
 #[tactic(auto, using(crate::proofs::Laid::lays, crate::proofs::Laid::stays, crate::proofs::Laid::passes))]
-fn lay_at(cells: &mut VecDeque<Option<Cell>>, base: u64, place: u64, cell: Cell)
-    requires { place < base + deque_len cells.old }
-    ensures items { cells.new.items ≡ laid_at base place cell cells.old.items }
-    ensures len { deque_len cells.new ≡ deque_len cells.old }
+fn lay_at(cells: &mut Cells, base: u64, place: u64, cell: Cell)
+    requires { place < base + length (all_of cells.old) }
+    ensures items { all_of cells.new ≡ laid_at base place cell (all_of cells.old) }
+    ensures len { length (all_of cells.new) ≡ length (all_of cells.old) }
 {
     if place < base {
         return;
     }
-    let index = (place - base) as usize;
-    if cells[index].is_none() {
-        cells[index] = Some(cell);
-    }
+    cells.lay((place - base) as usize, cell);
 }
 
 // Whether a packet brings a cell that differs.
 #[tactic(auto, using(crate::proofs::Differing::tells_syn, crate::proofs::Differing::tells_octets, crate::proofs::Differing::tells_fin, crate::proofs::Laid::held_length))]
 fn differs_in(
-    cells: &VecDeque<Option<Cell>>,
+    cells: &Cells,
     base: u64,
     acknowledged: u64,
     place: u64,
@@ -359,7 +392,7 @@ fn differs_in(
     octets: &[u8],
 ) -> bool
     requires { place + length (held_of flags.syn octets.now flags.fin) < 2 ^ 64 }
-    ensures { result ≡ differs base acknowledged place (held_of flags.syn octets.now flags.fin) cells.now.items }
+    ensures { result ≡ differs base acknowledged place (held_of flags.syn octets.now flags.fin) (all_of cells.now) }
 {
     let first = place + u64::from(flags.syn);
     let behind = first + octets.len() as u64;
@@ -375,14 +408,14 @@ fn differs_in(
 // Whether a cell differs, if it is there.
 #[tactic(auto, using(crate::proofs::Differing::one_differs, crate::proofs::Differing::none_differs))]
 fn flag_differs(
-    cells: &VecDeque<Option<Cell>>,
+    cells: &Cells,
     base: u64,
     acknowledged: u64,
     place: u64,
     is_set: bool,
     cell: Cell,
 ) -> bool
-    ensures { result ≡ differs base acknowledged place (flag_of is_set cell) cells.now.items }
+    ensures { result ≡ differs base acknowledged place (flag_of is_set cell) (all_of cells.now) }
 {
     if is_set {
         return cell_differs(cells, base, acknowledged, place, cell);
@@ -391,16 +424,54 @@ fn flag_differs(
 }
 
 // Whether some octet differs.
-#[tactic(auto, using(crate::proofs::Differing::octet_found, crate::proofs::Differing::octet_passed, crate::proofs::Differing::octets_end))]
-fn octets_differ(
-    cells: &VecDeque<Option<Cell>>,
-    base: u64,
-    acknowledged: u64,
-    place: u64,
-    octets: &[u8],
-) -> bool
+#[tactic(auto, using(crate::proofs::Differing::known_passed))]
+fn octets_differ(cells: &Cells, base: u64, acknowledged: u64, place: u64, octets: &[u8]) -> bool
     requires { place + length octets.now < 2 ^ 64 }
-    ensures { result ≡ differs base acknowledged place (octets_of octets.now) cells.now.items }
+    ensures { result ≡ differs base acknowledged place (octets_of octets.now) (all_of cells.now) }
+{
+    let known = acknowledged.saturating_sub(place).min(octets.len() as u64);
+    let (_, open) = octets.split_at(known as usize);
+    let place = place + known;
+    if place < base || place < acknowledged {
+        return some_differs(cells, base, acknowledged, place, open);
+    }
+    open_differ(cells, base, acknowledged, place, open)
+}
+
+// Whether some octet differs, where none is acknowledged: those in one piece are compared at once.
+fn open_differ(cells: &Cells, base: u64, acknowledged: u64, place: u64, octets: &[u8]) -> bool
+    requires open { (base ≤ place) × (acknowledged ≤ place) }
+    requires end { place + length octets.now < 2 ^ 64 }
+    ensures { result ≡ differs base acknowledged place (octets_of octets.now) (all_of cells.now) }
+{
+    let run = cells.run();
+    let (_, behind) = run.split_at((place - base).min(run.len() as u64) as usize);
+    let count = behind.len().min(octets.len());
+    let (held, _) = behind.split_at(count);
+    let (copy, rest) = octets.split_at(count);
+    if copy != held {
+        return true;
+    }
+    others_differ(cells, base, acknowledged, place + count as u64, rest)
+}
+
+// Whether some octet differs, which it doesn't where nothing is held.
+#[tactic(auto, using(crate::proofs::Differing::past_differs))]
+fn others_differ(cells: &Cells, base: u64, acknowledged: u64, place: u64, octets: &[u8]) -> bool
+    requires { place + length octets.now < 2 ^ 64 }
+    ensures { result ≡ differs base acknowledged place (octets_of octets.now) (all_of cells.now) }
+{
+    if place.saturating_sub(base) >= cells.len() as u64 {
+        return false;
+    }
+    some_differs(cells, base, acknowledged, place, octets)
+}
+
+// Whether some octet differs, one after another.
+#[tactic(auto, using(crate::proofs::Differing::octet_found, crate::proofs::Differing::octet_passed, crate::proofs::Differing::octets_end))]
+fn some_differs(cells: &Cells, base: u64, acknowledged: u64, place: u64, octets: &[u8]) -> bool
+    requires { place + length octets.now < 2 ^ 64 }
+    ensures { result ≡ differs base acknowledged place (octets_of octets.now) (all_of cells.now) }
 {
     let mut place = place;
     let mut rest = octets;
@@ -416,19 +487,13 @@ fn octets_differ(
 
 // Whether a cell isn't acknowledged and differs from what is held in its place.
 #[tactic(auto, using(crate::proofs::Differing::is_acknowledged, crate::proofs::Differing::is_open))]
-fn cell_differs(
-    cells: &VecDeque<Option<Cell>>,
-    base: u64,
-    acknowledged: u64,
-    place: u64,
-    cell: Cell,
-) -> bool
-    ensures { result ≡ differs_at base acknowledged place cell cells.now.items }
+fn cell_differs(cells: &Cells, base: u64, acknowledged: u64, place: u64, cell: Cell) -> bool
+    ensures { result ≡ differs_at base acknowledged place cell (all_of cells.now) }
 {
     if place < acknowledged {
         return false;
     }
-    is_another(cell, cell_of(cells, place.saturating_sub(base)))
+    is_another(cell, cells.get(place.saturating_sub(base)))
 }
 
 // Whether a cell is another one than is held.
@@ -489,22 +554,35 @@ fn is_longer(head: Head, room: u64) -> bool
 }
 
 // How many cells the message has that begins at an index, if it is there whole, by what its first cells say.
-fn size_of(cells: &VecDeque<Option<Cell>>, first: u64, head: Head) -> Option<u64>
-    requires { HeadSays (drop first cells.now.items) head }
-    ensures size { result ≡ message_size (in_piece (drop first cells.now.items)) }
+fn size_of(cells: &Cells, first: u64, head: Head) -> Option<u64>
+    requires { HeadSays (drop first (all_of cells.now)) head }
+    ensures size { result ≡ message_size (in_piece (drop first (all_of cells.now))) }
     ensures some { IfSome result (λ count. 0 < count) }
 {
     match head {
         Head::Missing => None,
         Head::Ends(count) => Some(count),
-        Head::Length(count) => size_behind(cells, first, 4, count),
+        Head::Length(count) => size_by_length(cells, first, count),
     }
+}
+
+// How many cells the message has that begins at an index with the length of so many octets, if it is there whole.
+#[tactic(auto, using(crate::proofs::Whole::octets_there))]
+fn size_by_length(cells: &Cells, first: u64, count: u64) -> Option<u64>
+    requires { count < 2 ^ 32 }
+    ensures size { result ≡ further 4 (cells_to count (in_piece (drop 4 (drop first (all_of cells.now))))) }
+    ensures some { IfSome result (λ all. 4 ≤ all) }
+{
+    if 4 + count <= (cells.run().len() as u64).saturating_sub(first) {
+        return Some(4 + count);
+    }
+    size_behind(cells, first, 4, count)
 }
 
 // What the first cells of a message say that begins at an index.
 #[tactic(auto, using(crate::proofs::Whole::size_none, crate::proofs::Whole::size_end, crate::proofs::Whole::next_kept, crate::proofs::Whole::size_done, crate::proofs::Whole::size_begins))]
-fn head_of(cells: &VecDeque<Option<Cell>>, first: u64) -> Head
-    ensures { HeadSays (drop first cells.now.items) result }
+fn head_of(cells: &Cells, first: u64) -> Head
+    ensures { HeadSays (drop first (all_of cells.now)) result }
 {
     let mut value = 0;
     let mut index = 0;
@@ -523,9 +601,9 @@ fn head_of(cells: &VecDeque<Option<Cell>>, first: u64) -> Head
 
 // How many cells stand before an index and, so many of them, behind it, up to one that is no octet.
 #[tactic(auto, using(crate::proofs::Whole::rest_none, crate::proofs::Whole::rest_end, crate::proofs::Whole::rest_next, crate::proofs::Whole::rest_done))]
-fn size_behind(cells: &VecDeque<Option<Cell>>, first: u64, index: u64, count: u64) -> Option<u64>
+fn size_behind(cells: &Cells, first: u64, index: u64, count: u64) -> Option<u64>
     requires { index + count < 2 ^ 63 }
-    ensures size { result ≡ further index (cells_to count (in_piece (drop index (drop first cells.now.items)))) }
+    ensures size { result ≡ further index (cells_to count (in_piece (drop index (drop first (all_of cells.now))))) }
     ensures some { IfSome result (λ all. index ≤ all) }
 {
     let mut index = index;
@@ -545,13 +623,13 @@ fn size_behind(cells: &VecDeque<Option<Cell>>, first: u64, index: u64, count: u6
 
 // The cell so many behind an index, if it is there.
 #[tactic(auto, using(crate::proofs::Whole::cell_there, crate::proofs::Whole::cell_far))]
-fn cell_behind(cells: &VecDeque<Option<Cell>>, first: u64, index: u64) -> Option<Cell>
-    ensures { result ≡ get_or (drop first cells.now.items) index None }
+fn cell_behind(cells: &Cells, first: u64, index: u64) -> Option<Cell>
+    ensures { result ≡ get_or (drop first (all_of cells.now)) index None }
 {
-    let Some(place) = first.checked_add(index) else {
+    if index >= (cells.len() as u64).saturating_sub(first) {
         return None;
-    };
-    cell_of(cells, place)
+    }
+    cells.get(first + index)
 }
 
 // The octet of a cell, if it is one.

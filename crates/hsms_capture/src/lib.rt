@@ -12,6 +12,7 @@
 #![tactic(auto)]
 
 mod asking;
+mod cells;
 mod connection;
 mod cutting;
 mod early;

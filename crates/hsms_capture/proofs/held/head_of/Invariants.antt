@@ -1,11 +1,12 @@
 use Rattle.std.proofs.Common.{◌≡◌, ◌<◌, ◌≤◌, ◌-◌, ◌^◌, drop}
+use Rattle.hsms_capture.specs.Cells.{all_of}
 use Rattle.hsms_capture.specs.Held.{further, in_piece}
 use Rattle.hsms_capture.specs.Message.{message_size, size_by}
 use Rattle.hsms_capture.proofs.held.head_of.Given as goal
 
 abbrev pub invariant-loop-index : goal.invariant-loop-index
 invariant-loop-index l =
-    (further l.index (size_by (4 - l.index) l.value (in_piece (drop l.index (drop l.first l.cells.items)))) ≡ message_size (in_piece (drop l.first l.cells.items)))
+    (further l.index (size_by (4 - l.index) l.value (in_piece (drop l.index (drop l.first (all_of l.cells))))) ≡ message_size (in_piece (drop l.first (all_of l.cells))))
     × (l.index ≤ 4) × (l.value < 256 ^ l.index)
 
 abbrev pub decreases-loop-index : goal.decreases-loop-index

@@ -1,5 +1,6 @@
 use Rattle.std.proofs.Common.{List, ℕ, sym, ap, ◌∙◌}
 use Rattle.std.proofs.lemmas.List.{nil_from_length}
+use Rattle.hsms_capture.specs.Cells.{all_of}
 use Rattle.hsms_capture.specs.Held.{laid_all, octets_of}
 use Rattle.hsms_capture.proofs.Laid.{lays_all}
 use Rattle.hsms_capture.proofs.held.lay_octets.Goals as goal
@@ -7,5 +8,5 @@ use Rattle.hsms_capture.proofs.held.lay_octets.Goals as goal
 pub returns-clause-items : goal.returns-clause-items
 returns-clause-items c =
     let none = nil_from_length c.loop-octet.rest.now c.in_default.ensures.cases in
-    sym (lays_all c.args.base c.loop-octet.place c.loop-octet.cells.items)
-    ∙ ap (λ (l : List ℕ). laid_all c.args.base c.loop-octet.place (octets_of l) c.loop-octet.cells.items) (sym none) ∙ c.loop-octet.invariant.0
+    sym (lays_all c.args.base c.loop-octet.place (all_of c.loop-octet.cells))
+    ∙ ap (λ (l : List ℕ). laid_all c.args.base c.loop-octet.place (octets_of l) (all_of c.loop-octet.cells)) (sym none) ∙ c.loop-octet.invariant.0

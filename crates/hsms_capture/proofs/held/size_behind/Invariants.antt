@@ -1,11 +1,12 @@
 use Rattle.std.proofs.Common.{◌≡◌, ◌≤◌, ◌+◌, drop}
+use Rattle.hsms_capture.specs.Cells.{all_of}
 use Rattle.hsms_capture.specs.Held.{further, in_piece}
 use Rattle.hsms_capture.specs.Message.{cells_to}
 use Rattle.hsms_capture.proofs.held.size_behind.Given as goal
 
 abbrev pub invariant-loop-left : goal.invariant-loop-left
 invariant-loop-left l =
-    (further l.index (cells_to l.left (in_piece (drop l.index (drop l.first l.cells.items)))) ≡ further l.fn.index (cells_to l.count (in_piece (drop l.fn.index (drop l.first l.cells.items)))))
+    (further l.index (cells_to l.left (in_piece (drop l.index (drop l.first (all_of l.cells))))) ≡ further l.fn.index (cells_to l.count (in_piece (drop l.fn.index (drop l.first (all_of l.cells))))))
     × (l.index + l.left ≡ l.fn.index + l.count) × (l.fn.index ≤ l.index)
 
 abbrev pub decreases-loop-left : goal.decreases-loop-left

@@ -1,4 +1,5 @@
 use Rattle.std.proofs.Common.{None, Some, subst, arith, sym, ◌∙◌}
+use Rattle.hsms_capture.specs.Cells.{all_of}
 use Rattle.hsms_capture.specs.Held.{IsFront, IsPiece, Store}
 use Rattle.hsms_capture.proofs.Whole.{front_none, front_past, front_stands, front_whole}
 use Rattle.hsms_capture.proofs.Octets.{front_longer}
@@ -6,14 +7,14 @@ use Rattle.hsms_capture.proofs.held.Held.front.Goals as goal
 
 pub returns-in_default-size_of-clause-front : goal.returns-in_default-size_of-clause-front
 returns-in_default-size_of-clause-front c =
-    let s : Store = record { place = c.self.inside.place; cells = c.self.inside.cells.items } in
+    let s : Store = record { place = c.self.inside.place; cells = all_of c.self.inside.cells } in
     subst (λ (s : Store). IsFront s c.args.place c.args.upto None) c.self.view_is
     (front_stands s c.args.place c.args.upto None
     (front_none s c.args.place c.args.upto c.in-Some.first (omega (arith, c.in-Some.ensures)) (sym c.in_default-size_of.is ∙ c.size_of.ensures.size)))
 
 pub returns-then-room-count-clause-front : goal.returns-then-room-count-clause-front
 returns-then-room-count-clause-front c =
-    let s : Store = record { place = c.self.inside.place; cells = c.self.inside.cells.items } in
+    let s : Store = record { place = c.self.inside.place; cells = all_of c.self.inside.cells } in
     subst (λ (s : Store). IsFront s c.args.place c.args.upto None) c.self.view_is
     (front_stands s c.args.place c.args.upto None
     (front_past s c.args.place c.args.upto c.in-Some.first c.in-Some-size_of.count (omega (arith, c.in-Some.ensures)) (sym c.in-Some-size_of.is ∙ c.size_of.ensures.size)
@@ -21,7 +22,7 @@ returns-then-room-count-clause-front c =
 
 pub returns-clause-front : goal.returns-clause-front
 returns-clause-front c =
-    let s : Store = record { place = c.self.inside.place; cells = c.self.inside.cells.items } in
+    let s : Store = record { place = c.self.inside.place; cells = all_of c.self.inside.cells } in
     subst (λ (s : Store). IsFront s c.args.place c.args.upto (Some c.in-Some-size_of.count)) c.self.view_is
     (front_stands s c.args.place c.args.upto (Some c.in-Some-size_of.count)
     (front_whole s c.args.place c.args.upto c.in-Some.first c.in-Some-size_of.count (omega (arith, c.in-Some.ensures)) (sym c.in-Some-size_of.is ∙ c.size_of.ensures.size)
@@ -29,14 +30,14 @@ returns-clause-front c =
 
 pub returns-then-is_longer-clause-piece : goal.returns-then-is_longer-clause-piece
 returns-then-is_longer-clause-piece c =
-    let s : Store = record { place = c.self.inside.place; cells = c.self.inside.cells.items } in
+    let s : Store = record { place = c.self.inside.place; cells = all_of c.self.inside.cells } in
     subst (λ (s : Store). IsPiece s c.args.place c.args.upto None) c.self.view_is
     (front_longer s c.self.inside.octets_from c.args.place c.args.upto c.in-Some.first c.saturating_sub-room.result c.head_of-head.result (omega (arith, c.in-Some.ensures))
     (omega (arith, c.in-Some.ensures)) c.saturating_sub-room.ensures c.if-self-place.true c.self.invariant c.head_of-head.ensures (c.is_longer.ensures (let e = c.if-is_longer.true in cc)))
 
 pub returns-then-is_longer-clause-front : goal.returns-then-is_longer-clause-front
 returns-then-is_longer-clause-front c =
-    let s : Store = record { place = c.self.inside.place; cells = c.self.inside.cells.items } in
+    let s : Store = record { place = c.self.inside.place; cells = all_of c.self.inside.cells } in
     subst (λ (s : Store). IsFront s c.args.place c.args.upto None) c.self.view_is
     (front_stands s c.args.place c.args.upto None
     (front_longer s c.self.inside.octets_from c.args.place c.args.upto c.in-Some.first c.saturating_sub-room.result c.head_of-head.result (omega (arith, c.in-Some.ensures))

@@ -1,4 +1,5 @@
 use Rattle.std.proofs.Common.{◌∙◌, ap, max, subst, arith}
+use Rattle.hsms_capture.specs.Cells.{all_of}
 use Rattle.hsms_capture.specs.Held.{PutsIn, Store}
 use Rattle.hsms_capture.specs.Message.{cells_of}
 use Rattle.hsms_capture.proofs.Laid.{puts_in, puts_none}
@@ -12,14 +13,11 @@ returns-then-count-eq0-clause-ok c =
 pub returns-clause-ok : goal.returns-clause-ok
 returns-clause-ok c =
     let cells = cells_of c.args.flags.syn c.args.octets.now c.args.flags.fin in
-    subst (λ (s : Store). PutsIn s c.args.place cells (record { place = c.self.inside.place; cells = c.lay_all.new.cells.items })) c.self.view_is
-    (puts_in c.self.inside.place c.args.place c.args.flags.syn c.args.flags.fin c.args.octets.now c.self.inside.cells.items c.widen.new.cells.items c.lay_all.new.cells.items
-    c.in_ok-widen.ensures.ok c.lay_all.ensures.items
-    (omega (arith, c.in_ok-widen.ensures.room, c.widen.new.cells.ok.0, c.count_of-count.ensures, c.in-Some.ensures, c.saturating_sub-wanted.ensures)))
+    subst (λ (s : Store). PutsIn s c.args.place cells (record { place = c.self.inside.place; cells = all_of c.hold.new.cells })) c.self.view_is
+    (puts_in c.self.inside.place c.args.place c.args.flags.syn c.args.flags.fin c.args.octets.now (all_of c.self.inside.cells) (all_of c.hold.new.cells) c.in_ok-hold.ensures.ok)
 
 pub invariant_of-self-2 : goal.invariant_of-self-2
 invariant_of-self-2 c =
-    octets_stay c.self.inside.octets_from c.self.inside.place c.args.place c.args.flags.syn c.args.flags.fin c.args.octets.now c.self.inside.cells.items c.widen.new.cells.items
-    c.lay_all.new.cells.items c.max-self-inside.result c.in-Some.end c.in_ok-widen.ensures.ok c.lay_all.ensures.items
-    (omega (arith, c.in_ok-widen.ensures.room, c.widen.new.cells.ok.0, c.count_of-count.ensures, c.in-Some.ensures, c.saturating_sub-wanted.ensures))
+    octets_stay c.self.inside.octets_from c.self.inside.place c.args.place c.args.flags.syn c.args.flags.fin c.args.octets.now (all_of c.self.inside.cells)
+    (all_of c.hold.new.cells) c.max-self-inside.result c.in-Some.end c.in_ok-hold.ensures.ok
     (omega (arith, c.count_of-count.ensures, c.in-Some.ensures)) (c.max-self-inside.ensures ∙ ap (max c.self.inside.octets_from) c.flags_end.ensures) c.self.invariant

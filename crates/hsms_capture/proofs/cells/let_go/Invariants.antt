@@ -1,5 +1,5 @@
 use Rattle.std.proofs.Common.{◌≡◌, drop}
-use Rattle.hsms_capture.proofs.held.let_go.Given as goal
+use Rattle.hsms_capture.proofs.cells.let_go.Given as goal
 
 abbrev pub invariant-loop-left : goal.invariant-loop-left
 invariant-loop-left l = drop l.left l.cells.items ≡ drop l.count l.fn.cells.items

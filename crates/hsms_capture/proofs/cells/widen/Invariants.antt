@@ -1,7 +1,7 @@
 use Rattle.std.proofs.Common.{◌≤◌, ◌⊎◌, ◌-◌}
 use Rattle.std.specs.VecDeque.{deque_len, deque_capacity}
 use Rattle.hsms_capture.specs.Held.{SameCells}
-use Rattle.hsms_capture.proofs.held.widen.Given as goal
+use Rattle.hsms_capture.proofs.cells.widen.Given as goal
 
 abbrev pub invariant-loop-cells : goal.invariant-loop-cells
 invariant-loop-cells l =
