@@ -1,5 +1,5 @@
-//! Capture files and packets whose octets are written out: tests of `hsms_packets`, in a crate of their own, since a crate
-//! is proved once more with its tests.
+//! Capture files and packets whose octets are written out, and octets within which a session begins: tests of
+//! `hsms_packets` and `hsms_joined`, in a crate of their own, since a crate is proved once more with its tests.
 #![tactic(auto)]
 
 #[cfg(test)]

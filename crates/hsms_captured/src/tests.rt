@@ -1,1 +1,2 @@
+mod joined;
 mod packets;
