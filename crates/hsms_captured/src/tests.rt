@@ -1,2 +1,3 @@
 mod connections;
+mod joined;
 mod packets;

@@ -1,0 +1,5 @@
+pub mod Beginning
+pub mod Front
+pub mod Laws
+pub mod Requests
+pub mod Supposed

@@ -1,0 +1,62 @@
+//! What stands at the front of octets of a session.
+
+ghost use Rattle.std.specs.Prelude.{◌≡◌, ◌≤◌, ◌↔◌, IsTrue};
+ghost use Rattle.secs_item.specs.Spelling.{IsText};
+ghost use Rattle.hsms_joined.specs.Front.{FrontAs, header_of};
+
+use crate::session::{Session, is_of};
+use hsms_frame::{HEADER_LENGTH, Header};
+use secs_item::measure_text;
+
+/// What stands at the front of octets.
+#[derive(Clone, Copy, Debug, PartialEq, Eq)]
+pub(crate) enum Found {
+    /// There are fewer than fourteen octets, which say nothing.
+    Missing,
+    /// The length and the header of a message of the session, of which some octets aren't there.
+    Begun,
+    /// A message of the session, of so many octets with those of its length.
+    Whole(usize),
+    /// No message of the session.
+    Other,
+}
+
+/// What stands at the front of octets, as far as they go. Takes no memory.
+pub(crate) fn front_of(session: Session, octets: &[u8]) -> Found
+    requires { session.depth ≤ 100 }
+    ensures { FrontAs session octets.now result }
+{
+    let Some((field, behind)) = octets.split_first_chunk::<4>() else {
+        return Found::Missing;
+    };
+    let Some((header, text)) = behind.split_first_chunk::<HEADER_LENGTH>() else {
+        return Found::Missing;
+    };
+    let length = u32::from_be_bytes(*field);
+    if !is_of(session, header_in(*header), length) {
+        return Found::Other;
+    }
+    let size = length as usize - HEADER_LENGTH;
+    if text.len() < size {
+        return Found::Begun;
+    }
+    if is_readable(&text[..size], session.depth) {
+        return Found::Whole(14 + size);
+    }
+    Found::Other
+}
+
+// The header that ten octets spell.
+fn header_in(octets: [u8; HEADER_LENGTH]) -> Header
+    ensures { result ≡ header_of octets }
+{
+    Header::of(octets)
+}
+
+// Whether octets are a message's text.
+fn is_readable(octets: &[u8], depth: u8) -> bool
+    requires { depth ≤ 100 }
+    ensures { IsTrue result ↔ IsText depth octets.now }
+{
+    measure_text(octets, depth).is_ok()
+}

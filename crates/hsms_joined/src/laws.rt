@@ -1,0 +1,27 @@
+//! What holds of the place at which a direction begins, whatever the code does.
+
+ghost use Rattle.hsms_joined.specs.Laws.{EndsOn, FoundAreMessages, LooksOn, MessagesAreFound, OneBeginning, OneBeginningAtEnd, SureAtEnd, SureStays};
+
+/// What is found to stand whole is a message of the session, and each one is found.
+pub fn messages_are_found()
+    ensures each { MessagesAreFound }
+    ensures only { FoundAreMessages }
+{}
+
+/// Octets have one beginning, and so have those behind which none follows.
+pub fn one_beginning()
+    ensures one { OneBeginning }
+    ensures at_end { OneBeginningAtEnd }
+{}
+
+/// A direction that surely begins does so whatever follows, and where nothing does.
+pub fn a_beginning_stays()
+    ensures stays { SureStays }
+    ensures at_end { SureAtEnd }
+{}
+
+/// As octets come one after another, nobody has to look again at places before the one that was open.
+pub fn places_are_passed_once()
+    ensures more { LooksOn }
+    ensures end { EndsOn }
+{}

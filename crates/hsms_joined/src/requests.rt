@@ -1,0 +1,119 @@
+//! Requests that a capture has, and responses to others.
+
+ghost use Rattle.std.specs.Prelude.{◌≡◌};
+ghost use Rattle.hsms_joined.specs.Requests.{asks_control, asks_data, is_response};
+
+use hsms_frame::{Header, Kind, kind};
+use indexmap::IndexSet;
+use std::alloc::{AllocError, Global};
+
+/// What one end has asked for since the capture began, by system bytes: those of data and those of control messages are
+/// told apart.
+pub struct Requests {
+    primaries: IndexSet<u32>,
+    controls: IndexSet<u32>,
+}
+
+// Written out: a proof over requests that are dropped then has one step for each set, not one for each of its parts.
+impl Drop for Requests {
+    fn drop(self) {
+        let Requests {
+            primaries,
+            controls,
+        } = self;
+        drop(primaries);
+        drop(controls);
+    }
+}
+
+impl Requests {
+    ghost use Rattle.std.specs.Prelude.{◌≡◌, [], ◌∷◌, ◌++◌, List, OnOk, OnErr};
+    ghost use Rattle.hsms_frame.specs.declared.header.Header.{Header};
+    ghost use Rattle.hsms_joined.specs.Requests.{KnowsOf, is_asked, is_left_out};
+
+    /// None so far.
+    pub fn new(alloc: Global) -> Requests
+        ensures { KnowsOf [] result }
+    {
+        Requests {
+            primaries: IndexSet::new(alloc),
+            controls: IndexSet::new(alloc),
+        }
+    }
+
+    /// The end sent a further message.
+    pub fn note(&mut self, message: Header) -> Result<(), AllocError>
+        ensures ok { (said : List Header) → KnowsOf said self.old → OnOk result (KnowsOf (said ++ message ∷ []) self.new) }
+        ensures err { (said : List Header) → KnowsOf said self.old → OnErr result (KnowsOf said self.new) }
+    {
+        if asks_data(message) {
+            self.primaries.insert(message.system)?;
+        }
+        if asks_control(message) {
+            self.controls.insert(message.system)?;
+        }
+        Ok(())
+    }
+
+    /// Whether the end has asked for this message of the other end.
+    pub fn has_asked_for(&self, response: Header) -> bool
+        ensures { (said : List Header) → KnowsOf said self.now → result ≡ is_asked response said }
+    {
+        match kind(response) {
+            Kind::Reply => self.primaries.contains(&response.system),
+            Kind::SelectRsp | Kind::LinktestRsp => self.controls.contains(&response.system),
+            Kind::Primary
+            | Kind::SelectReq
+            | Kind::LinktestReq
+            | Kind::Reject
+            | Kind::Separate
+            | Kind::OtherSType
+            | Kind::OtherPType => false,
+        }
+    }
+
+    /// Whether a message of the other end is left out: it is a response, up to so long behind the beginning of what is
+    /// there of both directions, and this end hasn't asked for it, so that the request may stand before the capture. What
+    /// comes later is late anyway. All times are in milliseconds.
+    pub fn leaves_out(&self, message: Header, begun: u64, t3: u32, time: u64) -> bool
+        ensures { (said : List Header) → KnowsOf said self.now → result ≡ is_left_out message said begun t3 time }
+    {
+        if !is_response(message) {
+            return false;
+        }
+        if self.has_asked_for(message) {
+            return false;
+        }
+        time.saturating_sub(begun) <= u64::from(t3)
+    }
+}
+
+// Whether a message is a response.
+fn is_response(message: Header) -> bool
+    ensures { result ≡ is_response message }
+{
+    match kind(message) {
+        Kind::Reply | Kind::SelectRsp | Kind::LinktestRsp => true,
+        _ => false,
+    }
+}
+
+// Whether a message asks for data.
+fn asks_data(message: Header) -> bool
+    ensures { result ≡ asks_data message }
+{
+    match kind(message) {
+        Kind::Primary => message.wait(),
+        _ => false,
+    }
+}
+
+// Whether a message asks for a control message.
+fn asks_control(message: Header) -> bool
+    ensures { result ≡ asks_control message }
+{
+    match kind(message) {
+        Kind::SelectReq | Kind::LinktestReq => true,
+        _ => false,
+    }
+}

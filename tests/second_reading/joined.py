@@ -1,0 +1,245 @@
+"""A session that was running before the capture: where each direction begins, what is supposed to stand before what was
+captured, and which responses are left out.
+
+It is read off all packets of the connection, of which none is a SYN. Where both directions have begun their packets are
+those of a connection whose SYNs stand before the first octets, and are read as such.
+"""
+from dataclasses import dataclass, field, replace
+from typing import Dict, List, Optional, Tuple
+
+from second_reading.capturing import Options
+from second_reading.items import fault_of_text
+from second_reading.messages import CONTROL_KINDS, HEADER, Frame
+from second_reading.wire import ACTIVE, FARTHEST, LATER, PASSIVE, Seen, Wire
+
+MODULUS = 1 << 32
+
+# So many octets say whose a message is, and so many messages one behind another are looked at.
+FRONT = 14
+LOOKED_AT = 3
+
+CONTROL_SESSION = 0xFFFF
+SUPPOSED_SYSTEM = "ffffffff"
+
+# Which requests a response answers: those of data, or those of control messages.
+ASKS = {"reply": "data", "select.rsp": "control", "linktest.rsp": "control"}
+
+
+# The place at which a direction begins.
+
+
+def is_of(frame: Frame, length: int, options: Options) -> bool:
+    """Whether a message of the session may have this header, and so many octets of header and text."""
+    if frame.is_data:
+        return frame.session == options.device
+    is_bare = length == HEADER and frame.kind in CONTROL_KINDS.values()
+    return is_bare and (frame.kind == "reject" or frame.session == CONTROL_SESSION)
+
+
+def size_at(octets: bytes, place: int, options: Options) -> Optional[int]:
+    """How many octets the message at a place has: 0 where it isn't there whole, None where something else stands."""
+    if len(octets) - place < FRONT:
+        return 0
+    length = int.from_bytes(octets[place:place + 4], "big")
+    frame = Frame(octets[place + 4:place + 4 + max(length, HEADER)])
+    if not HEADER <= length <= options.max or not is_of(frame, length, options):
+        return None
+    if place + 4 + length > len(octets):
+        return 0
+    return None if fault_of_text(frame.text, options.depth) else 4 + length
+
+
+def row(octets: bytes, place: int, options: Options) -> Optional[int]:
+    """How many messages stand whole one behind another, three at most; None where something else is among them."""
+    for count in range(LOOKED_AT):
+        size = size_at(octets, place, options)
+        if not size:
+            return None if size is None else count
+        place += size
+    return LOOKED_AT
+
+
+def begins_at(octets: bytes, options: Options) -> Optional[int]:
+    """The first place of octets, behind which none follow, from which on whole messages are read."""
+    return next((place for place in range(len(octets)) if row(octets, place, options)), None)
+
+
+def away(number: int, first: int) -> int:
+    return (number - first + MODULUS // 2) % MODULUS - MODULUS // 2
+
+
+def octets_by_place(seen: List[Seen], end: int, first: int) -> Dict[int, int]:
+    """The octets of a direction by their places, of which the first copy counts. One that only asks is none."""
+    found, acknowledged = {}, None
+    for one in seen:
+        if one.end != end:
+            if one.acknowledged is not None:
+                acknowledged = max(away(one.acknowledged, first), -FARTHEST if acknowledged is None else acknowledged)
+            continue
+        place = away(one.number, first)
+        asks = len(one.data) == 1 and not one.is_pushed and acknowledged is not None and place < acknowledged
+        if abs(place) <= FARTHEST and not asks:
+            for at, octet in enumerate(one.data, place):
+                found.setdefault(at, octet)
+    return found
+
+
+def beginning(seen: List[Seen], end: int, options: Options) -> int:
+    """The number of the octet at which a direction begins: behind its last one, where none begins a message."""
+    numbers = [one.number if one.end == end else one.acknowledged for one in seen]
+    first = next((number for number in numbers if number is not None), 0)
+    octets = octets_by_place(seen, end, first)
+    places = sorted(octets)
+    starts = [place for place in places if place - 1 not in octets]
+    for start in starts:
+        run = bytearray()
+        while start + len(run) in octets:
+            run.append(octets[start + len(run)])
+        found = begins_at(bytes(run), options)
+        if found is not None:
+            return (first + start + found) % MODULUS
+    return (first + (places[-1] + 1 if places else 0)) % MODULUS
+
+
+# What happens.
+
+
+@dataclass
+class Line:
+    """An entry of a log, or a response that is left out of it. `packet` is 0 where it is supposed."""
+
+    packet: int
+    time: int
+    what: str
+    end: int = ACTIVE
+    octets: bytes = b""
+
+
+@dataclass
+class Told:
+    """What is told of a connection, and the packet from which on something is missing."""
+
+    lines: List[Line] = field(default_factory=list)
+    missing: Optional[int] = None
+
+
+def behind(one: Seen, begins: List[int]) -> Seen:
+    """The part of a segment that stands from the beginning on."""
+    place = away(one.number, begins[one.end])
+    if place >= 0:
+        return one
+    return replace(one, number=begins[one.end], data=one.data[-place:] if -place < len(one.data) else b"")
+
+
+def both_have_begun(seen: List[Seen], begins: List[int]) -> Optional[int]:
+    """The position of the packet from which on something was captured of both directions, or acknowledged."""
+    begun = [False, False]
+    for position, one in enumerate(seen):
+        place = away(one.number, begins[one.end])
+        begun[one.end] |= place <= 0 <= place + len(one.data)
+        if one.acknowledged is not None:
+            begun[1 - one.end] |= away(one.acknowledged, begins[1 - one.end]) >= 0
+        if all(begun):
+            return position
+    return None
+
+
+def told_of(seen: List[Seen], options: Options) -> Told:
+    """What is told of a connection that was up before the capture, where these are all of its segments."""
+    begins = [beginning(seen, end, options) for end in (ACTIVE, PASSIVE)]
+    start = both_have_begun(seen, begins)
+    if start is None:
+        return Told()
+    bases = ((begins[ACTIVE] - 1) % MODULUS, (begins[PASSIVE] - 1) % MODULUS)
+    syns = [
+        Seen(ACTIVE, 0, 0, bases[ACTIVE], None, b"", has_syn=True),
+        Seen(PASSIVE, 0, 0, bases[PASSIVE], begins[ACTIVE], b"", has_syn=True),
+        Seen(ACTIVE, 0, 0, begins[ACTIVE], begins[PASSIVE], b""),
+    ]
+    wire = Wire(bases, syns + [behind(one, begins) for one in seen])
+    told = wire.told()
+    begun = max(one.time for one in seen[:start + 1])
+    messages = [
+        Line(one.packet, max(one.time, begun), one.what, one.end, one.octets)
+        for one in told.happenings if one.packet >= seen[start].packet
+    ]
+    is_over = told.is_down and told.happenings[-1].packet < seen[start].packet
+    missing = told.fault[1] if told.fault else None
+    return Told() if is_over else Told(supposed(messages, begun, options), missing)
+
+
+# What stands before.
+
+
+def is_asked(frame: Frame, said: List[Frame]) -> bool:
+    """Whether one of the messages of the other end asks for this response."""
+    return any(asks(one) == ASKS[frame.kind] and one.system == frame.system for one in said)
+
+
+def asks(frame: Frame) -> Optional[str]:
+    if frame.kind == "primary":
+        return "data" if frame.wait else None
+    return "control" if frame.kind in ("select.req", "linktest.req") else None
+
+
+def decided_by(frame: Frame, said: List[Frame]) -> Optional[Tuple[str, Optional[int]]]:
+    """What a message says of what stood before, if it decides that, and the system bytes of what it answers."""
+    if frame.is_data or frame.kind == "select.rsp" and frame.byte3 == 1:
+        return "selected", None
+    if frame.kind == "select.rsp":
+        return "asked", None if is_asked(frame, said) else frame.system
+    return None
+
+
+def first_decision(lines: List[Line]) -> Tuple[str, Optional[int], int]:
+    """What stood before, by the first message that decides it, and who sent what is supposed: selected, if none does."""
+    said: Tuple[List[Frame], List[Frame]] = ([], [])
+    for line in lines:
+        if line.what == "message":
+            frame = Frame(line.octets[4:])
+            decided = decided_by(frame, said[1 - line.end])
+            if decided:
+                return (*decided, 1 - line.end)
+            said[line.end].append(frame)
+    return "selected", None, ACTIVE
+
+
+def control(stype: int, system: str) -> bytes:
+    return bytes.fromhex(f"0000000affff0000{0:02x}{stype:02x}{system}")
+
+
+def supposed(lines: List[Line], begun: int, options: Options) -> List[Line]:
+    """The lines of a log: what is supposed, and what was captured, but for responses to what stood before."""
+    what, system, end = first_decision(lines)
+    found = [Line(0, begun, "up")]
+    said: Tuple[List[Frame], List[Frame]] = ([], [])
+    if what == "selected":
+        found.append(Line(0, begun, "message", ACTIVE, control(1, SUPPOSED_SYSTEM)))
+        found.append(Line(0, begun, "message", PASSIVE, control(2, SUPPOSED_SYSTEM)))
+    elif system is not None:
+        found.append(Line(0, begun, "message", end, control(1, f"{system:08x}")))
+        said[end].append(Frame(found[-1].octets[4:]))
+    for line in lines:
+        if line.what == "up":
+            continue
+        if line.what == "message":
+            frame = Frame(line.octets[4:])
+            if frame.kind in ASKS and not is_asked(frame, said[1 - line.end]) and line.time - begun <= options.t3:
+                line = replace(line, what="left out")
+            said[line.end].append(frame)
+        found.append(line)
+    return found
+
+
+def log_of(told: Told, end: int, options: Options) -> bytes:
+    """The log of an end."""
+    lines = [options.settings(end)]
+    for line in told.lines:
+        mark = ">" if line.end == end else "<"
+        text = line.octets[4:].hex()
+        lines.append(f"# packet {line.packet}" if line.packet else "# supposed")
+        if line.what == "message":
+            lines.append(f"{line.time} {mark} {text}")
+        else:
+            lines.append(f"{line.time} {line.what}" if line.what != "left out" else "# left out")
+    return "".join(line + "\n" for line in lines).encode()
