@@ -13,6 +13,9 @@ this does. Were it refused only because a proof no longer fits the changed text,
 So it has a twin, tests/twins/NAME.edit: an edit of the same place and the same shape, which means what the code means
 as it stands, and has to be proved. Its first line is `-- crate: CRATE`.
 
+An edit of what is no function, as of a constant or a definition, names by lines `only: PATH` the functions that it is
+tried on, as `rt check --only` takes them. It is tried by itself, as it may turn others too.
+
 Bodies of different functions are tried in one check of a copy of their crate, since a proof sees of another function
 its contract alone. A body is refused where the check names a goal of the function that it turns, or a line of this
 function's own proof that no longer fits, and not where only a function that it calls isn't proved. What such a check
@@ -45,6 +48,7 @@ EDITS = f"{TOP}/tests/must-fail"
 TWINS = f"{TOP}/tests/twins"
 WRONG_BODY = "-- wrong body: "
 OF_CRATE = "-- crate: "
+ONLY = "only: "
 
 # How long a check may take, in seconds.
 LONGEST_CHECK = 3600
@@ -91,6 +95,7 @@ class Edit:
     crate: str
     name: str
     changes: tuple
+    only: tuple = ()
 
     def texts(self, folder, texts=()):
         """The edited files, by their paths in the crate: as these texts have them, or else as the folder does."""
@@ -102,14 +107,19 @@ class Edit:
             texts[it.path] = text.replace(it.old, it.new)
         return texts
 
-    def functions(self):
+    def turned(self):
         """The functions that the edit turns, each by its module or type and its name, and None for what is no function."""
         return {function_at(self.crate, it) for it in self.changes}
 
+    def functions(self):
+        """The functions that the edit is tried on: those that it names, and else those that it turns."""
+        return {named(path.split("::")) for path in self.only} or self.turned()
+
     def paths(self):
-        """These functions, as `rt check --only` takes them; None where the edit turns more than functions."""
+        """These functions, as `rt check --only` takes them; None where it isn't known which they are."""
         found = self.functions()
-        return None if None in found else {"::".join([*owner.split("/"), name] if owner else [self.crate, name]) for owner, name in found}
+        whole = lambda owner, name: "::".join([*owner.split("/"), name] if owner else [self.crate, name])
+        return set(self.only) or (None if None in found else {whole(*it) for it in found})
 
 
 def text_of(path):
@@ -152,14 +162,20 @@ def changes_in(lines):
     return tuple(found)
 
 
+def named_in(lines):
+    """The functions that lines name."""
+    return tuple(line.removeprefix(ONLY).strip() for line in lines if line.startswith(ONLY))
+
+
 def edits_in(path, crate, name):
     """The edits of a file: one, or one behind each line `-- BODY`."""
     lines = text_of(path).split("\n")
     starts = [place for place, line in enumerate(lines) if re.fullmatch(r"-- \w+", line)]
     if not starts:
-        return [Edit(crate, name, changes_in(lines))]
+        return [Edit(crate, name, changes_in(lines), named_in(lines))]
     parts = zip(starts, [*starts[1:], len(lines)])
-    return [Edit(crate, f"{name} {lines[start][3:]}", changes_in(lines[start:end])) for start, end in parts]
+    made = [(f"{name} {lines[start][3:]}", lines[start:end]) for start, end in parts]
+    return [Edit(crate, body, changes_in(part), named_in(part)) for body, part in made]
 
 
 def names_in(folder):
@@ -177,7 +193,8 @@ def all_twins():
     found = []
     for name in names_in(TWINS):
         path = f"{TWINS}/{name}.edit"
-        found.append(Edit(text_of(path).split("\n")[0].removeprefix(OF_CRATE), name, changes_in(text_of(path).split("\n"))))
+        first, *lines = text_of(path).split("\n")
+        found.append(Edit(first.removeprefix(OF_CRATE), name, changes_in(lines), named_in(lines)))
     return found
 
 
@@ -262,11 +279,11 @@ def named(parts):
 
 def chosen(folder, edits, most):
     """Edits that can be tried in one check, of different functions, at most so many, and the texts with all of them. None
-    that takes a check of the whole crate is among others.
+    that turns more than functions is among others.
     """
     texts, taken, functions = {}, [], set()
     for edit in edits:
-        is_apart = taken and (edit.paths() is None) != (taken[0].paths() is None)
+        is_apart = taken and None in edit.turned() | taken[0].turned()
         if is_apart or functions & edit.functions() or len(taken) == most:
             continue
         try:
