@@ -192,7 +192,7 @@ def decided_by(frame: Frame, said: List[Frame]) -> Optional[Tuple[str, Optional[
 
 
 def first_decision(lines: List[Line]) -> Tuple[str, Optional[int], int]:
-    """What stood before, by the first message that decides it, and who sent what is supposed: selected, if none does."""
+    """What stood before, by the first message that decides it, and who sent what is supposed: selected, if none."""
     said: Tuple[List[Frame], List[Frame]] = ([], [])
     for line in lines:
         if line.what == "message":

@@ -15,7 +15,7 @@ use Rattle.hsms_joined.specs.declared.front.Found.TheVariants.{Whole}
 use Rattle.hsms_joined.specs.Front.{FrontAs, header_of, is_of, text_at}
 use Rattle.hsms_joined.specs.Laws.{IsMessageOf}
 
-frame_size : (f : Frame) → length (frame_octets f) ≡ 14 + length f.text
+pub frame_size : (f : Frame) → length (frame_octets f) ≡ 14 + length f.text
 frame_size f = length-append (to_be_bytes w32 (10 + length f.text) ++ header_octets f.header) f.text
 
 -- a session has no message whose length counts no header

@@ -1,5 +1,5 @@
 -- What holds of the place at which a direction begins, whatever the code does.
-use Rattle.std.specs.Prelude.{◌≡◌, ◌+◌, ◌++◌, ℕ, true, List, length}
+use Rattle.std.specs.Prelude.{◌≡◌, ◌+◌, ◌++◌, ℕ, true, List, [], ◌∷◌, length, drop, flat_map, Some}
 use Rattle.secs_item.specs.Spelling.{IsText}
 use Rattle.hsms_frame.specs.Frame.{Frame, frame_octets, IsFrame, IsOctets}
 use Rattle.hsms_joined.specs.declared.beginning.Beginning.{Beginning}
@@ -7,7 +7,7 @@ use Rattle.hsms_joined.specs.declared.beginning.Beginning.TheVariants.{Sure, Ope
 use Rattle.hsms_joined.specs.declared.front.Found.TheVariants.{Whole}
 use Rattle.hsms_joined.specs.declared.session.Session.{Session}
 use Rattle.hsms_joined.specs.Front.{FrontAs, is_of}
-use Rattle.hsms_joined.specs.Beginning.{BeginsAs, BeginsAtEnd}
+use Rattle.hsms_joined.specs.Beginning.{BeginsAs, BeginsAtEnd, CountsAs, most}
 
 -- ---- what stands whole is a message
 
@@ -27,6 +27,25 @@ abbrev pub FoundAreMessages : Type 0
 FoundAreMessages =
     (s : Session) (octets : List ℕ) (size : ℕ) → IsOctets octets → FrontAs s octets (Whole size)
     → (f : Frame) × (more : List ℕ) × IsMessageOf s f × (octets ≡ frame_octets f ++ more) × (size ≡ 14 + length f.text)
+
+-- messages of the session
+abbrev pub AreMessagesOf : Session → List Frame → Type 0
+AreMessagesOf s [] = Unit {0}
+AreMessagesOf s (f ∷ fs) = IsMessageOf s f × AreMessagesOf s fs
+
+-- so many messages of the session stand one behind another at the front
+abbrev pub Stand : Session → ℕ → List ℕ → Type 0
+Stand s count octets =
+    (fs : List Frame) × (more : List ℕ) × (length fs ≡ count) × AreMessagesOf s fs × (octets ≡ flat_map frame_octets fs ++ more)
+
+-- A direction surely begins where three messages of the session stand,
+abbrev pub SureIsThree : Type 0
+SureIsThree =
+    (s : Session) (octets : List ℕ) (from place : ℕ) → IsOctets octets → BeginsAs s octets from (Sure place) → Stand s 3 (drop place octets)
+
+-- and where they stand no place is refused.
+abbrev pub ThreeAreSure : Type 0
+ThreeAreSure = (s : Session) (octets : List ℕ) (place : ℕ) → Stand s 3 (drop place octets) → CountsAs s most (drop place octets) (Some 3)
 
 -- ---- one answer
 

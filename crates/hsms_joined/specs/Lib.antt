@@ -3,3 +3,4 @@ pub mod Front
 pub mod Laws
 pub mod Requests
 pub mod Supposed
+pub mod Numbers

@@ -1,11 +1,18 @@
 //! What holds of the place at which a direction begins, whatever the code does.
 
-ghost use Rattle.hsms_joined.specs.Laws.{EndsOn, FoundAreMessages, LooksOn, MessagesAreFound, OneBeginning, OneBeginningAtEnd, SureAtEnd, SureStays};
+ghost use Rattle.hsms_joined.specs.Laws.{EndsOn, FoundAreMessages, LooksOn, MessagesAreFound, OneBeginning, OneBeginningAtEnd, SureAtEnd, SureIsThree, SureStays, ThreeAreSure};
 
 /// What is found to stand whole is a message of the session, and each one is found.
 pub fn messages_are_found()
     ensures each { MessagesAreFound }
     ensures only { FoundAreMessages }
+{}
+
+/// A direction surely begins where three messages of the session stand one behind another, and where they stand the place
+/// isn't refused.
+pub fn three_messages_are_sure()
+    ensures sure { SureIsThree }
+    ensures stand { ThreeAreSure }
 {}
 
 /// Octets have one beginning, and so have those behind which none follows.

@@ -1,19 +1,22 @@
 //! Where the session stands in a capture that begins within it, and what is supposed to stand before.
 //!
 //! Such a capture has no SYN, and may begin anywhere within a message. [`begins`] finds the place at which a direction
-//! begins in its octets, as they come, and [`begins_at_end`] where none follows. What stood before is supposed, by the
-//! first message that says something of it ([`supposed_by`]); and a response is left out whose request may stand before
-//! ([`Requests`]). The definitions are in `specs/`; [`laws`] has what follows from them.
+//! begins in its octets, as they come, and [`begins_at_end`] where none follows; [`reaches`], [`octets_before`] and
+//! [`is_from`] hold segments against that place. What stood before is supposed, by the first message that says
+//! something of it ([`supposed_by`]); and a response is left out whose request may stand before ([`Requests`]). The
+//! definitions are in `specs/`; [`laws`] has what follows from them.
 #![tactic(auto)]
 
 mod beginning;
 mod front;
 pub mod laws;
+mod numbers;
 mod requests;
 mod session;
 mod supposed;
 
 pub use beginning::{Beginning, begins, begins_at_end};
+pub use numbers::{is_from, octets_before, reaches};
 pub use requests::Requests;
 pub use session::Session;
 pub use supposed::{Supposed, supposed_by};

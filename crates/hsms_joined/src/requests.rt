@@ -43,7 +43,8 @@ impl Requests {
 
     /// The end sent a further message.
     pub fn note(&mut self, message: Header) -> Result<(), AllocError>
-        ensures ok { (said : List Header) → KnowsOf said self.old → OnOk result (KnowsOf (said ++ message ∷ []) self.new) }
+        ensures ok { (said : List Header) → KnowsOf said self.old
+            → OnOk result (KnowsOf (said ++ message ∷ []) self.new) }
         ensures err { (said : List Header) → KnowsOf said self.old → OnErr result (KnowsOf said self.new) }
     {
         if asks_data(message) {
@@ -72,8 +73,8 @@ impl Requests {
         }
     }
 
-    /// Whether a message of the other end is left out: it is a response, up to so long behind the beginning of what is
-    /// there of both directions, and this end hasn't asked for it, so that the request may stand before the capture. What
+    /// Whether a message of the other end is left out: it is a response, up to T3 behind the time at which both
+    /// directions have begun, and this end hasn't asked for it, so that the request may stand before the capture. What
     /// comes later is late anyway. All times are in milliseconds.
     pub fn leaves_out(&self, message: Header, begun: u64, t3: u32, time: u64) -> bool
         ensures { (said : List Header) → KnowsOf said self.now → result ≡ is_left_out message said begun t3 time }

@@ -37,7 +37,8 @@ pub fn supposed_by(message: Header, requests: &Requests) -> Option<Supposed>
 
 // The same of a Select.rsp.
 fn supposed_by_response(response: Header, requests: &Requests) -> Supposed
-    ensures { (said : List Heading) → KnowsOf said requests.now → result ≡ by_status response.byte3 (is_asked response said) response.system }
+    ensures { (said : List Heading) → KnowsOf said requests.now
+        → result ≡ by_status response.byte3 (is_asked response said) response.system }
 {
     if response.byte3 == SELECTED_ALREADY {
         return Supposed::Selected;
