@@ -170,7 +170,7 @@ def cases_of_captures():
     yield Case(["capture"], 2, "Time packet=1", [time], one_timeless().octets)
     over = "here a connection comes up while another one is up, and a log has one at a time: without --log each is judged"
     yield Case(["capture", "--log", "host"], 2, "Overlap packet=6", [over], two_at_once().octets)
-    peer = "this connection is one of other addresses: take those of two alone, as tcpdump -r FILE -w PART host A and host B"
+    peer = "this connection is one of other addresses, and a log is of two: say by --with which peer is meant"
     yield Case(["capture", "--log", "host"], 2, "Peer packet=7", [peer], two_pairs().octets)
 
 
