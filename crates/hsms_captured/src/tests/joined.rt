@@ -1,7 +1,10 @@
 //! Octets within which a session begins, and messages by which something is supposed or left out.
 
 use hsms_frame::{Header, data_header, linktest_req, linktest_rsp, select_req, select_rsp};
-use hsms_joined::{Beginning, Requests, Session, Supposed, begins, begins_at_end, supposed_by};
+use hsms_joined::{
+    Beginning, Requests, Session, Supposed, begins, begins_at_end, is_from, octets_before, reaches,
+    supposed_by,
+};
 use std::alloc::{AllocError, Global};
 
 const SESSION: Session = Session {
@@ -42,6 +45,20 @@ fn beginnings_at_the_end(rt: std::rt::HostRuntime) {
     assert!(rt; begins_at_end(SESSION, &MIDST[..30], 0) == 3);
     assert!(rt; begins_at_end(SESSION, &MIDST[..46], 0) == 46);
     assert!(rt; begins_at_end(SESSION, &MIDST[..47], 0) == 31);
+}
+
+#[test]
+fn segments_at_the_beginning(rt: std::rt::HostRuntime) {
+    assert!(rt; octets_before(1000, 990, 14) == 10);
+    assert!(rt; octets_before(1000, 990, 4) == 4);
+    assert!(rt; octets_before(1000, 1000, 14) == 0);
+    assert!(rt; octets_before(4, 4294967290, 14) == 10);
+    assert!(rt; reaches(1000, 990, 10));
+    assert!(rt; !reaches(1000, 990, 9));
+    assert!(rt; !reaches(1000, 1001, 14));
+    assert!(rt; is_from(1000, 1000));
+    assert!(rt; !is_from(1000, 999));
+    assert!(rt; is_from(4294967290, 4));
 }
 
 // The header of data of device 0 and stream 1.
