@@ -1,5 +1,5 @@
 -- An audit that is told its text in pieces.
-use Rattle.std.proofs.Common.{◌≡◌, ◌++◌, ℕ, List, [], Some, subst}
+use Rattle.std.proofs.Common.{◌≡◌, ℕ, List, [], Some, subst}
 use Rattle.std.specs.Prelude.{Option, MatchOption}
 use Rattle.std.proofs.lemmas.List.{append-nil}
 use Rattle.hsms_log.specs.declared.verdict.Verdict.{Verdict}

@@ -93,9 +93,6 @@ pub lanes_loaded : (v : List ℕ) → v ≡ map (λ x. x) v
 lanes_loaded [] = refl
 lanes_loaded (x ∷ xs) = ap (λ r. x ∷ r) (lanes_loaded xs)
 
-pub lanes_of_each : (h f : ℕ → ℕ) (v : List ℕ) {a : List ℕ} → a ≡ map f v → map h a ≡ map (λ x. h (f x)) v
-lanes_of_each h f v p = ap (map h) p ∙ map-map h f v
-
 sel-map : (h f g : ℕ → ℕ) (xs : List ℕ) → sel_l (map (top 7) (map h xs)) (map f xs) (map g xs) ≡ map (λ x. cond (top 7 (h x)) (f x) (g x)) xs
 sel-map h f g [] = refl
 sel-map h f g (x ∷ xs) = ap (λ r. cond (top 7 (h x)) (f x) (g x) ∷ r) (sel-map h f g xs)

@@ -48,12 +48,10 @@ fn values_at(digits: &[u8], place: usize) -> u8x16
     ensures values { (k : ℕ) → k < 16 → IsValueOf (slice_index digits.now (place + k)) (slice_index result k) }
 {
     let octets = u8x16::from_slice(&digits[place..]);
-    let from_zero = octets - u8x16::splat(b'0');
+    let decimal = (octets - u8x16::splat(b'9' + 1)).simd_max(u8x16::splat(6)) + u8x16::splat(10);
     let from_a = (octets | u8x16::splat(0x20)) - u8x16::splat(b'a');
-    let letter = from_a.saturating_add(u8x16::splat(10));
-    from_zero
-        .simd_lt(u8x16::splat(10))
-        .select(from_zero, letter)
+    let letter = from_a.simd_min(u8x16::splat(245)) + u8x16::splat(10);
+    decimal.simd_min(letter)
 }
 
 /// Whether all of these are values of digits.

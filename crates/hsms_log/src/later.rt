@@ -7,7 +7,7 @@ ghost use Rattle.hsms_log.specs.Spelling.{Carries};
 ghost use Rattle.hsms_log.specs.Judging.{Tracks};
 
 use crate::fault::LineFault;
-use crate::reading::{FrameLine, Line, is_blank, read_frame_line, read_line};
+use crate::reading::{FrameLine, Line, frame_at_front, is_blank, read_line};
 use crate::session::Session;
 use crate::tally::Tally;
 use crate::verdict::Why;
@@ -37,9 +37,9 @@ pub fn later_line(
         tally.count_line();
         return Ok(None);
     }
-    match read_frame_line(line, octets)? {
-        Some(frame) => {
-            let (_, text) = octets.split_at(HEADER_LENGTH);
+    match frame_at_front(line, octets)? {
+        Some((frame, length)) => {
+            let (_, text) = octets[..length].split_at(HEADER_LENGTH);
             frame_line(session, tally, frame, text)
         }
         None => other_line(session, tally, alloc, line, max),

@@ -1,6 +1,6 @@
 //! What a line that is not the first carries.
 
-ghost use Rattle.std.specs.Prelude.{◌≡◌, ◌≢◌, ◌↔◌, ◌<◌, ◌≤◌, ◌^◌, ◌++◌, ◌∷◌, ℕ, List, Option, None, Ok, IsTrue, IfOk, IfErr, IfSome, length, vec_len, drop, codes};
+ghost use Rattle.std.specs.Prelude.{◌≡◌, ◌≢◌, ◌↔◌, ◌<◌, ◌≤◌, ◌/◌, ◌%◌, ◌^◌, ◌++◌, ◌∷◌, true, false, ℕ, List, Option, None, Ok, IsTrue, IfOk, IfErr, IfSome, OnOk, length, vec_len, take, drop, codes};
 ghost use Rattle.hsms_frame.specs.Frame.{Frame as Message};
 ghost use Rattle.hsms_machine.specs.declared.entry.Event.{Event as Happening};
 ghost use Rattle.hsms_machine.specs.declared.entry.Entry.{Entry as LogEntry};
@@ -116,16 +116,33 @@ pub fn read_frame_line(line: &[u8], octets: &mut Vec<u8>) -> Result<Option<Frame
     ensures found { IfOk result (λ answer. IfSome answer (λ x. SpellsEntry line.now (frame_entry x.time x.mark x.header (drop 10 octets.new.items)))) }
     ensures size { IfOk result (λ answer. IfSome answer (λ x. 10 ≤ length octets.new.items)) }
 {
+    let Some((frame, length)) = frame_at_front(line, octets)? else {
+        return Ok(None);
+    };
+    octets.truncate(length);
+    Ok(Some(frame))
+}
+
+/// Reads a line that carries a frame, and says how many octets its header and text have. `octets` begins with these then,
+/// in place of what it held: it isn't made shorter.
+pub fn frame_at_front(
+    line: &[u8],
+    octets: &mut Vec<u8>,
+) -> Result<Option<(FrameLine, usize)>, AllocError>
+    ensures found { IfOk result (λ answer. IfSome answer (λ x. SpellsEntry line.now
+        (frame_entry x.0.time x.0.mark x.0.header (drop 10 (take x.1 octets.new.items))))) }
+    ensures size { IfOk result (λ answer. IfSome answer (λ x. (10 ≤ x.1) × (x.1 ≤ vec_len octets.new))) }
+{
     let Some((time, text)) = number_at(line) else {
         return Ok(None);
     };
     let Some((mark, digits)) = mark_at(text) else {
         return Ok(None);
     };
-    let Some(header) = read_octets(digits, octets)? else {
+    let Some((header, length)) = read_octets(digits, octets)? else {
         return Ok(None);
     };
-    Ok(Some(FrameLine { time, mark, header }))
+    Ok(Some((FrameLine { time, mark, header }, length)))
 }
 
 /// The mark of a frame, and what follows it and a space.
@@ -146,9 +163,10 @@ fn read_message(alloc: Global, digits: &[u8]) -> Result<Frame, LineFault>
     ensures unreadable { IfErr result (λ fault. fault ≡ LineFault.Unreadable → (frame : Message) → IsHexOf digits.now (message_octets frame) → ⊥) }
 {
     let mut octets = Vec::new(alloc);
-    let Some(header) = read_octets(digits, &mut octets)? else {
+    let Some((header, length)) = read_octets(digits, &mut octets)? else {
         return Err(LineFault::Unreadable);
     };
+    octets.truncate(length);
     drop_front(&mut octets, HEADER_LENGTH);
     Ok(Frame {
         header,
@@ -156,12 +174,12 @@ fn read_message(alloc: Global, digits: &[u8]) -> Result<Frame, LineFault>
     })
 }
 
-/// Reads a message from hexadecimal digits, and gives its header, or None where they spell no message. `octets` holds
-/// the octets of its header and text then, in place of what it held.
+/// Reads a message from hexadecimal digits, and gives its header and how many octets header and text have, or None where
+/// they spell no message. `octets` begins with these octets then, in place of what it held.
 #[inline(always)]
-fn read_octets(digits: &[u8], octets: &mut Vec<u8>) -> Result<Option<Header>, AllocError>
-    ensures found { IfOk result (λ answer. IfSome answer (λ header. IsSpelled digits.now header (drop 10 octets.new.items))) }
-    ensures size { IfOk result (λ answer. IfSome answer (λ header. 10 ≤ length octets.new.items)) }
+fn read_octets(digits: &[u8], octets: &mut Vec<u8>) -> Result<Option<(Header, usize)>, AllocError>
+    ensures found { IfOk result (λ answer. IfSome answer (λ x. IsSpelled digits.now x.0 (drop 10 (take x.1 octets.new.items)))) }
+    ensures size { IfOk result (λ answer. IfSome answer (λ x. (10 ≤ x.1) × (x.1 ≤ vec_len octets.new))) }
     ensures none { result ≡ Ok None → (frame : Message) → IsHexOf digits.now (message_octets frame) → ⊥ }
 {
     if digits.len() < 20 {
@@ -170,14 +188,39 @@ fn read_octets(digits: &[u8], octets: &mut Vec<u8>) -> Result<Option<Header>, Al
     if digits.len() % 2 != 0 {
         return Ok(None);
     }
-    octets.resize(digits.len() / 2, 0)?;
-    if !decode(digits, octets.as_mut_slice()) {
+    let length = digits.len() / 2;
+    lengthen(octets, length)?;
+    if !decode_front(digits, octets.as_mut_slice()) {
         return Ok(None);
     }
     let Some((header, _)) = octets.split_first_chunk::<HEADER_LENGTH>() else {
         return Ok(None);
     };
-    Ok(Some(Header::of(*header)))
+    Ok(Some((Header::of(*header), length)))
+}
+
+/// Reads the octets that the digits spell to the front of others, and says whether all are digits.
+#[inline(always)]
+fn decode_front(digits: &[u8], octets: &mut [u8]) -> bool
+    requires even { length digits.now % 2 ≡ 0 }
+    requires some { 16 ≤ length digits.now }
+    requires room { length digits.now / 2 ≤ length octets.old }
+    ensures digits { result ≡ true → IsHexOf digits.now (take (length digits.now / 2) octets.new) }
+    ensures other { result ≡ false → (spelled : List ℕ) → IsHexOf digits.now spelled → ⊥ }
+    ensures len { length octets.new ≡ length octets.old }
+{
+    decode(digits, &mut octets[..digits.len() / 2])
+}
+
+/// Makes a vector longer, where it has fewer octets.
+#[inline(always)]
+fn lengthen(octets: &mut Vec<u8>, length: usize) -> Result<(), AllocError>
+    ensures { OnOk result (length ≤ vec_len octets.new) }
+{
+    if octets.len() < length {
+        octets.resize(length, 0)?;
+    }
+    Ok(())
 }
 
 /// Reads system bytes from eight hexadecimal digits.

@@ -7,4 +7,4 @@ use Rattle.hsms_log.proofs.number.front_number.Given as goal
 -- the octets that were passed are digits, and this is their number
 abbrev pub invariant-loop-i : goal.invariant-loop-i
 invariant-loop-i l =
-    (list_all is_ascii_digit (take l.i l.text) ≡ true) × (l.number ≡ digits_value 10 (take l.i l.text))
+    (list_all is_ascii_digit (take l.i l.front) ≡ true) × (l.number ≡ digits_value 10 (take l.i l.front))
