@@ -18,7 +18,7 @@ use crate::word::number;
 use secs_item::Format;
 
 /// Reads the type name after the `<` that stood at `opening`. Lists may be nested `depth` deep.
-#[inline(always)]
+#[inline(never)]
 fn type_name(tokens: &mut Tokens, opening: usize, depth: u8) -> Result<Format, TextFault>
     ensures reads { (rules : Rules) (b : Before) → length b.lists + depth ≡ rules.depth
         → Reads result (walk rules (type_wanted b opening) (left tokens.old))
@@ -64,7 +64,7 @@ fn count_after(tokens: &mut Tokens, opening: usize) -> Result<Count, TextFault>
 }
 
 /// Reads the count, if one is written.
-#[inline(always)]
+#[inline(never)]
 fn optional_count(tokens: &mut Tokens) -> Result<Option<Count>, TextFault>
     ensures reads { (rules : Rules) (b : Before) (v : Value)
         → Reads result (walk rules (after_type b v) (left tokens.old))

@@ -147,23 +147,6 @@ fn put_message<O: Output>(
     Ok(put_stop(out, block, at))
 }
 
-/// Gives an output a message's notation.
-fn give_message<O: Output>(
-    alloc: Global,
-    out: &mut O,
-    block: &mut [u8],
-    message: &Message,
-) -> Result<(), AllocError>
-    requires { length block.old ≡ 65536 }
-    ensures given { OnOk result ((given : List ℕ) → O.Given out.old given
-        → O.Given out.new (given ++ printed (content message.now))) }
-    ensures held { OnOk result (IsHeldMessage (content message.now)) }
-{
-    let end = put_message(alloc, out, block, message)?;
-    out.give(&block[..end]);
-    Ok(())
-}
-
 /// The notation as text, if it is whole.
 fn text_of(gathered: Gathered) -> Result<String, TextFault>
     requires { gathered.is_whole ≡ true → IsUtf8 gathered.octets.items }
@@ -194,7 +177,9 @@ pub fn print(alloc: Global, message: &Message) -> Result<String, TextFault>
         octets: Vec::new(alloc),
         is_whole: true,
     };
-    let mut block = vec![in alloc; 0u8; 65536]?;
-    give_message(alloc, &mut out, &mut block, message)?;
+    let mut room = vec![in alloc; 0u8; 65536]?;
+    let block = room.as_mut_slice();
+    let end = put_message(alloc, &mut out, block, message)?;
+    out.give(&block[..end]);
     text_of(out)
 }

@@ -16,28 +16,9 @@ use std::alloc::AllocError;
 /// How many values are read at a time.
 const RUN: usize = 64;
 
-/// Reads the words at the front, at most as many as there is room for, and tells how many.
+/// Reads the words at the front, at most as many as there is room for, and tells how many. No word goes on behind the
+/// last.
 #[inline(never)]
-fn read_words<const N: usize, W: ShortWord<N>>(text: &[u8], octets: &mut [u8; 64]) -> usize
-    requires some { 0 < N }
-    requires small { N < 256 }
-    ensures words { AreShortWords W.reads N (take result octets.new) text.now (drop (N * result) text.now) }
-    ensures few { result ≤ 64 }
-    ensures within { N * result ≤ length text.now }
-{
-    let (words, _) = text.as_chunks::<N>();
-    let most = words.len().min(RUN);
-    for i in 0..most {
-        let Some(octet) = W::read(&words[i]) else {
-            return i;
-        };
-        octets[i] = octet;
-    }
-    most
-}
-
-/// Reads the words at the front, and tells how many. No word goes on behind the last.
-#[inline(always)]
 fn read_run<const N: usize, W: ShortWord<N>>(text: &[u8], octets: &mut [u8; 64]) -> usize
     requires some { 0 < N }
     requires small { N < 256 }
@@ -46,23 +27,21 @@ fn read_run<const N: usize, W: ShortWord<N>>(text: &[u8], octets: &mut [u8; 64])
     ensures few { result ≤ 64 }
     ensures within { N * result ≤ length text.now }
 {
-    let count = read_words::<N, W>(text, octets);
+    let (words, _) = text.as_chunks::<N>();
+    let most = words.len().min(RUN);
+    let mut count = 0;
+    while count < most {
+        let Some(octet) = W::read(&words[count]) else {
+            break;
+        };
+        octets[count] = octet;
+        count += 1;
+    }
     let end = N * count;
     if count > 0 && end < text.len() && is_of_word(text[end]) {
         return count - 1;
     }
     count
-}
-
-/// Whether a word stands at the front. It may be said of none.
-#[inline(always)]
-fn begins_run<const N: usize, W: ShortWord<N>>(text: &[u8]) -> bool
-    requires { N < 256 }
-{
-    match text.first_chunk::<N>() {
-        Some(first) => W::read(first).is_some(),
-        None => false,
-    }
 }
 
 /// Adds the octets of the words that come next, as far as they stand as they are printed.
@@ -80,7 +59,10 @@ pub fn parse_run<const N: usize, W: ShortWord<N>>(
     ensures no_longer { octets_left tokens.new ≤ octets_left tokens.old }
 {
     let (_, rest) = tokens.text.split_at(tokens.place);
-    if !begins_run::<N, W>(rest) {
+    let Some(first) = rest.first_chunk::<N>() else {
+        return Ok(());
+    };
+    if W::read(first).is_none() {
         return Ok(());
     }
     let mut octets = [0; RUN];

@@ -43,10 +43,9 @@ fn push_value(out: &mut Vec<u8>, format: Format, word: &[u8]) -> Result<bool, Al
 {
     match format {
         Format::List => Ok(false),
-        Format::Binary => push_word::<1, Octets>(out, word),
-        Format::Ascii => push_word::<1, Octets>(out, word),
-        Format::Jis8 => push_word::<1, Octets>(out, word),
-        Format::Char2 => push_word::<1, Octets>(out, word),
+        Format::Binary | Format::Ascii | Format::Jis8 | Format::Char2 => {
+            push_word::<1, Octets>(out, word)
+        }
         Format::Boolean => push_word::<1, Truths>(out, word),
         Format::I1 => push_word::<1, Signed>(out, word),
         Format::I2 => push_word::<2, Signed>(out, word),
@@ -81,11 +80,10 @@ fn parse_printed(out: &mut Vec<u8>, tokens: &mut Tokens, format: Format) -> Resu
     ensures no_longer { octets_left tokens.new ≤ octets_left tokens.old }
 {
     match format {
-        Format::Binary => parse_run::<5, Octets>(out, tokens, Format::Binary),
-        Format::Ascii => parse_run::<5, Octets>(out, tokens, Format::Ascii),
-        Format::Jis8 => parse_run::<5, Octets>(out, tokens, Format::Jis8),
-        Format::Char2 => parse_run::<5, Octets>(out, tokens, Format::Char2),
-        Format::Boolean => parse_run::<2, Truths>(out, tokens, Format::Boolean),
+        Format::Binary | Format::Ascii | Format::Jis8 | Format::Char2 => {
+            parse_run::<5, Octets>(out, tokens, format)
+        }
+        Format::Boolean => parse_run::<2, Truths>(out, tokens, format),
         _ => Ok(()),
     }
 }

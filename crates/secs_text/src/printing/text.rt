@@ -9,6 +9,18 @@ ghost use Rattle.secs_text.specs.Printed.{printed_octet, printed_text};
 use crate::laying::{lay_byte, lay_octet, lay_slice, lay_word};
 use crate::octet::is_quotable;
 
+/// Lays the opening of a quote, unless one is open.
+#[inline(always)]
+fn lay_quote(block: &mut [u8], at: usize, quoted: bool) -> usize
+    requires { at + 2 ≤ length block.old }
+    ensures { Laid block.old block.new at (if quoted then [] else codes " \"") result }
+{
+    if quoted {
+        return at;
+    }
+    lay_slice(block, at, b" \"")
+}
+
 /// Lays an octet that may stand between quotes, where a quote is open or not.
 #[inline(always)]
 fn lay_quotable(block: &mut [u8], at: usize, in_quotes: bool, octet: u8) -> usize
@@ -17,10 +29,7 @@ fn lay_quotable(block: &mut [u8], at: usize, in_quotes: bool, octet: u8) -> usiz
     ensures laid { Laid block.old block.new at (printed_octet in_quotes octet) result }
     ensures near { result ≤ at + 16 }
 {
-    if in_quotes {
-        return lay_byte(block, at, octet);
-    }
-    let at = lay_slice(block, at, b" \"");
+    let at = lay_quote(block, at, in_quotes);
     lay_byte(block, at, octet)
 }
 
@@ -80,18 +89,6 @@ fn are_quotable<const N: usize>(octets: &[u8; N]) -> bool
         are_all &= is_quotable(*octet);
     }
     are_all
-}
-
-/// Lays the opening of a quote, unless one is open.
-#[inline(always)]
-fn lay_quote(block: &mut [u8], at: usize, quoted: bool) -> usize
-    requires { at + 2 ≤ length block.old }
-    ensures { Laid block.old block.new at (if quoted then [] else codes " \"") result }
-{
-    if quoted {
-        return at;
-    }
-    lay_slice(block, at, b" \"")
 }
 
 /// Lays eight octets of text, where a quote is open or not, and tells whether one is open behind them.

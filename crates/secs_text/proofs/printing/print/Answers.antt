@@ -9,19 +9,22 @@ use Rattle.secs_text.proofs.printing.print.Goals as goal
 
 pub text_of-requires : goal.text_of-requires
 text_of-requires c = λ whole.
-    let given = c.in_ok-give_message.ensures.given [] (λ e. c.new.ensures.items) in
+    let put = c.in_ok-end.ensures.puts.octets [] (λ e. c.new.ensures.items) in
+    let given = c.give.ensures put.0 put.1 in
     let m = content c.args.message.now in
-    subst (λ (o : List ℕ). IsUtf8 o) (sym (given whole)) (IsUtf8-from_ascii (printed m) (printed_is_ascii m c.in_ok-give_message.ensures.held))
+    subst (λ (o : List ℕ). IsUtf8 o) (sym (given whole ∙ put.2)) (IsUtf8-from_ascii (printed m) (printed_is_ascii m c.in_ok-end.ensures.held))
 
 pub returns-clause-text : goal.returns-clause-text
 returns-clause-text c =
-    let given = c.in_ok-give_message.ensures.given [] (λ e. c.new.ensures.items) in
-    if_ok_map c.text_of.result _ _ (λ text is. is.1 ∙ given is.0) c.text_of.ensures.text
+    let put = c.in_ok-end.ensures.puts.octets [] (λ e. c.new.ensures.items) in
+    let given = c.give.ensures put.0 put.1 in
+    if_ok_map c.text_of.result _ _ (λ text is. is.1 ∙ given is.0 ∙ put.2) c.text_of.ensures.text
 
 pub returns-clause-notation : goal.returns-clause-notation
 returns-clause-notation c =
-    let given = c.in_ok-give_message.ensures.given [] (λ e. c.new.ensures.items) in
-    if_ok_map c.text_of.result _ _ (λ text is. notation_of (content c.args.message.now) (string_bytes text) (is.1 ∙ given is.0) c.in_ok-give_message.ensures.held) c.text_of.ensures.text
+    let put = c.in_ok-end.ensures.puts.octets [] (λ e. c.new.ensures.items) in
+    let given = c.give.ensures put.0 put.1 in
+    if_ok_map c.text_of.result _ _ (λ text is. notation_of (content c.args.message.now) (string_bytes text) (is.1 ∙ given is.0 ∙ put.2) c.in_ok-end.ensures.held) c.text_of.ensures.text
 
 pub returns-clause-held : goal.returns-clause-held
-returns-clause-held c = on_ok c.text_of.result _ c.in_ok-give_message.ensures.held
+returns-clause-held c = on_ok c.text_of.result _ c.in_ok-end.ensures.held
