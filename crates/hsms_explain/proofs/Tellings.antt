@@ -1,17 +1,17 @@
 -- What was told of an input.
-use Rattle.std.proofs.Common.{◌≡◌, ◌++◌, ℕ, Bool, List, [], Some, Ok, Err, refl, sym, ◌∙◌, ap, subst, take, drop, append_assoc, take-append-drop, codes, inl, inr, get_or, arith, ◌≢◌}
+use Rattle.std.proofs.Common.{◌≡◌, ◌≤◌, ◌<◌, ◌+◌, ◌^◌, ◌++◌, ℕ, Bool, List, [], Some, Ok, Err, refl, sym, ◌∙◌, ap, subst, length, take, drop, append_assoc, length-append, take-append-drop, codes, inl, inr, get_or, arith, ◌≢◌}
 use Rattle.std.specs.Prelude.{Option, Result, IfOk, IfErr, OnErr}
 use Rattle.std.proofs.lemmas.List.{append-nil}
 use Rattle.hsms_frame.specs.Device.{WhereTold, Takes, Grows, GrowsByFront, IsAtEnd, Stays}
-use Rattle.hsms_log.specs.declared.auditor.Auditor.{Auditor}
-use Rattle.hsms_log.specs.Auditor.{HasHeard}
 use Rattle.hsms_log.specs.declared.verdict.Verdict.{Verdict}
 use Rattle.hsms_options.specs.declared.excerpt.Telling.{Telling}
 use Rattle.hsms_options.specs.declared.fault.ToolFault.{ToolFault}
 use Rattle.hsms_options.specs.declared.fault.ToolFault.TheVariants.{Refused, Device, Memory}
 use Rattle.hsms_tasks.specs.Show.{CountsFailure, LeavesPart, IsReadWriteOrEndless, IsWrite}
+use Rattle.hsms_explain.specs.declared.explainer.Explainer.{Explainer}
 use Rattle.hsms_explain.specs.Ending.{ending_of}
 use Rattle.hsms_explain.specs.Explain.{GrowsBySome, EndsWithVerdict, Concludes, ExplainsTo, IsOfTelling}
+use Rattle.hsms_explain.specs.Heard.{HasHeard}
 
 -- ---- what was written
 
@@ -59,39 +59,43 @@ on_err X (Err _) fact = fact
 
 -- ---- what was read
 
--- what was read of an input is the text that was heard
-abbrev pub HasRead : Option (List ℕ) → Auditor → Option (List ℕ) → Type 0
-HasRead old auditor new =
-    WhereTold old (λ input. (text rest : List ℕ) × (input ≡ text ++ rest) × (new ≡ Some rest) × HasHeard auditor text)
+-- what was read of an input, of so many octets at most, is the text that was heard
+abbrev pub HasRead : Option (List ℕ) → ℕ → Explainer → Option (List ℕ) → Type 0
+HasRead old most explainer new =
+    WhereTold old (λ input. (text rest : List ℕ) × (input ≡ text ++ rest) × (new ≡ Some rest) × (length text ≤ most) × HasHeard explainer text)
 
-pub none_read : (old : Option (List ℕ)) (auditor : Auditor) → HasHeard auditor [] → HasRead old auditor old
-none_read old auditor heard input told = ([], input, refl, told, heard)
+pub none_read : (old : Option (List ℕ)) (explainer : Explainer) → HasHeard explainer [] → HasRead old 0 explainer old
+none_read old explainer heard input told = ([], input, refl, told, omega arith, heard)
 
 -- one read more
-pub read_on : (old mid new : Option (List ℕ)) (n : ℕ) (buffer : List ℕ) (auditor next : Auditor) → HasRead old auditor mid
-    → Takes mid new n buffer → ((text : List ℕ) → HasHeard auditor text → HasHeard next (text ++ take n buffer)) → HasRead old next new
-read_on old mid new n buffer auditor next so_far takes on input told =
+pub read_on : (old mid new : Option (List ℕ)) (n most next_most : ℕ) (buffer : List ℕ) (explainer next : Explainer) → HasRead old most explainer mid
+    → Takes mid new n buffer → most + length (take n buffer) ≤ next_most
+    → ((text : List ℕ) → HasHeard explainer text → HasHeard next (text ++ take n buffer)) → HasRead old next_most next new
+read_on old mid new n most next_most buffer explainer next so_far takes fits on input told =
     let before = so_far input told in
     let text = before.0 in
     let rest = before.1 in
-    let step = takes rest before.3 in (
+    let step = takes rest before.3 in
+    let size = length-append text (take n buffer) in
+    let few = before.4 in (
       text ++ take n buffer,
       drop n rest,
       before.2 ∙ ap (λ l. text ++ l) (sym (take-append-drop n rest)) ∙ ap (λ l. text ++ (l ++ drop n rest)) (sym step.1)
           ∙ sym (append_assoc text (take n buffer) (drop n rest)),
       step.2,
-      on text before.4,
+      omega (arith, size, few, fits),
+      on text before.5,
     )
 
 -- a part of the input is left
-pub part_left : (old new : Option (List ℕ)) (auditor : Auditor) → HasRead old auditor new → WhereTold old (λ input. LeavesPart input new)
-part_left old new auditor so_far input told =
+pub part_left : (old new : Option (List ℕ)) (most : ℕ) (explainer : Explainer) → HasRead old most explainer new → WhereTold old (λ input. LeavesPart input new)
+part_left old new most explainer so_far input told =
     let before = so_far input told in (before.0, before.1, before.2, before.3)
 
 -- and after one read more, whatever was heard of it
-pub less_left : (old mid new : Option (List ℕ)) (n : ℕ) (buffer : List ℕ) (auditor : Auditor) → HasRead old auditor mid
+pub less_left : (old mid new : Option (List ℕ)) (n most : ℕ) (buffer : List ℕ) (explainer : Explainer) → HasRead old most explainer mid
     → Takes mid new n buffer → WhereTold old (λ input. LeavesPart input new)
-less_left old mid new n buffer auditor so_far takes input told =
+less_left old mid new n most buffer explainer so_far takes input told =
     let before = so_far input told in
     let text = before.0 in
     let rest = before.1 in
@@ -103,22 +107,24 @@ less_left old mid new n buffer auditor so_far takes input told =
     )
 
 -- or after one that failed
-pub same_left : (old mid new : Option (List ℕ)) (auditor : Auditor) → HasRead old auditor mid → Stays mid new → WhereTold old (λ input. LeavesPart input new)
-same_left old mid new auditor so_far same input told =
+pub same_left : (old mid new : Option (List ℕ)) (most : ℕ) (explainer : Explainer) → HasRead old most explainer mid → Stays mid new
+    → WhereTold old (λ input. LeavesPart input new)
+same_left old mid new most explainer so_far same input told =
     let before = so_far input told in (before.0, before.1, before.2, same before.1 before.3)
 
 -- the end was found
-pub all_read : (old mid new : Option (List ℕ)) (n : ℕ) (buffer : List ℕ) (auditor : Auditor) → HasRead old auditor mid
-    → Takes mid new n buffer → n ≡ 0 → IsAtEnd mid → WhereTold old (λ input. HasHeard auditor input × (new ≡ Some []))
-all_read old mid new n buffer auditor so_far takes none at_end input told =
+pub all_read : (old mid new : Option (List ℕ)) (n most : ℕ) (buffer : List ℕ) (explainer : Explainer) → HasRead old most explainer mid
+    → Takes mid new n buffer → n ≡ 0 → IsAtEnd mid → WhereTold old (λ input. (length input ≤ most) × HasHeard explainer input × (new ≡ Some []))
+all_read old mid new n most buffer explainer so_far takes none at_end input told =
     let before = so_far input told in
     let text = before.0 in
     let rest = before.1 in
     let rest_is : rest ≡ [] = at_end rest before.3 in
     let step = takes rest before.3 in
     let whole : text ≡ input = sym (before.2 ∙ ap (λ l. text ++ l) rest_is ∙ append-nil text) in
-    let P : List ℕ → Type 0 = λ l. HasHeard auditor l in
-    (subst P whole before.4, step.2 ∙ ap (λ k. Some (drop k rest)) none ∙ ap (λ l. Some l) rest_is)
+    let P : List ℕ → Type 0 = λ l. (length l ≤ most) × HasHeard explainer l in
+    let both = subst P whole (before.4, before.5) in
+    (both.0, both.1, step.2 ∙ ap (λ k. Some (drop k rest)) none ∙ ap (λ l. Some l) rest_is)
 
 -- ---- the answers
 
@@ -139,13 +145,13 @@ wider (Device word) is = inr (inl is)
 wider Memory word = tt
 
 -- what is told behind the lines, at the end of the input
-pub concluded : (form : Telling) (input : List ℕ) (r : Result Bool ToolFault) (auditor : Auditor) (left : Option (List ℕ)) (ended : Type 0) (old mid new : Option (List ℕ))
-    → HasHeard auditor input → left ≡ Some [] → ended → GrowsBySome old mid
-    → IfOk r (λ passes. (text : List ℕ) → HasHeard auditor text → Concludes form text passes mid new)
+pub concluded : (form : Telling) (input : List ℕ) (r : Result Bool ToolFault) (explainer : Explainer) (left : Option (List ℕ)) (ended : Type 0) (old mid new : Option (List ℕ))
+    → length input < 2 ^ 63 → HasHeard explainer input → left ≡ Some [] → ended → GrowsBySome old mid
+    → IfOk r (λ passes. (text : List ℕ) → length text < 2 ^ 63 → HasHeard explainer text → Concludes form text passes mid new)
     → OnErr r (GrowsBySome mid new) → IfErr r IsOfTelling → ExplainsTo form input r left ended old new
-concluded form input (Ok passes) auditor left ended old mid new heard none found before told some fault =
-    (concludes_behind form input passes old mid new before (told input heard), none, found)
-concluded form input (Err fault_is) auditor left ended old mid new heard none found before told some fault =
+concluded form input (Ok passes) explainer left ended old mid new few heard none found before told some fault =
+    (concludes_behind form input passes old mid new before (told input few heard), none, found)
+concluded form input (Err fault_is) explainer left ended old mid new few heard none found before told some fault =
     stops_early form input fault_is left ended old new fault (input, [], sym (append-nil input), none) (some_more old mid new before some)
 
 pub fault_wider : (r : Result Bool ToolFault) → IfErr r IsOfTelling → IfErr r IsReadWriteOrEndless

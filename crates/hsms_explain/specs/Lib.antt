@@ -1,6 +1,10 @@
 pub mod Alike
+pub mod Counting
 pub mod Course
 pub mod Ending
+pub mod Failing
+pub mod Heard
+pub mod Noted
 pub mod Sort
 pub mod Step
 pub mod Words

@@ -48,7 +48,7 @@ impl Model for Course {
 }
 
 impl Course {
-    ghost use Rattle.std.specs.Prelude.{◌≡◌, ◌+◌, ◌-◌, ◌^◌, min, [], Some, None, IfOk, IfSome, IfNone, IsSome, length};
+    ghost use Rattle.std.specs.Prelude.{◌≡◌, ◌+◌, ◌-◌, ◌^◌, min, [], Some, None, IfOk, OnOk, IfSome, IfNone, IsSome, length};
     ghost use Rattle.hsms_machine.specs.declared.entry.Event.{Event};
     ghost use Rattle.hsms_machine.specs.declared.rule.Rule.{Rule};
     ghost use Rattle.hsms_machine.specs.declared.rule.Rule.TheVariants.{SystemInUse, T3Overdue};
@@ -59,7 +59,8 @@ impl Course {
 
     /// The course of a log of which the first line was read.
     pub fn new(alloc: Global, settings: Settings) -> Course
-        ensures { HasCourse settings [] [] result }
+        ensures course { HasCourse settings [] [] result }
+        ensures line { result.line ≡ 1 }
     {
         Course {
             tracker: Tracker::new(alloc, settings),
@@ -92,7 +93,8 @@ impl Course {
 
     /// Judges an entry of the line. Where it is lawful it is taken in; else nothing is changed.
     pub fn judge(&mut self, entry: &EntryRef<'_>) -> Result<Judged, AllocError>
-        ensures { IfOk result (JudgesAs self.old entry.now self.new) }
+        ensures judged { IfOk result (JudgesAs self.old entry.now self.new) }
+        ensures line { OnOk result (self.new.line ≡ self.old.line) }
     {
         let closed = self.closed_by(entry);
         match self.step(entry)? {
@@ -152,6 +154,7 @@ impl Course {
         ensures answer { IfOk result (λ answer. IsBrokenAfter self.old.tracker entry.now answer) }
         ensures broken { IfOk result (λ answer. (rule : Rule) → answer ≡ Some rule → self.new ≡ self.old) }
         ensures lawful { IfLawful result (CourseLeadsTo self.old entry.now self.new) }
+        ensures line { OnOk result (self.new.line ≡ self.old.line) }
     {
         let broken = self.tracker.step_ref(entry)?;
         if broken.is_none() {

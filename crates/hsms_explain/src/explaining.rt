@@ -1,17 +1,17 @@
 //! `hsms explain`: what the lines of a log have to do with each other, and why they fail.
 
-ghost use Rattle.std.specs.Prelude.{◌≡◌, List, ℕ, [], IfOk, IfErr, OnErr, codes};
+ghost use Rattle.std.specs.Prelude.{◌≡◌, ◌<◌, ◌^◌, List, ℕ, IfOk, IfErr, OnOk, OnErr, codes, length};
 ghost use Rattle.hsms_frame.specs.Device.{WhereTold};
 ghost use Rattle.hsms_log.specs.Auditing.{HasEnded};
-ghost use Rattle.hsms_log.specs.Auditor.{HasHeard, HasRoom};
 ghost use Rattle.hsms_tasks.specs.Audit.{is_pass};
 ghost use Rattle.hsms_tasks.specs.Show.{CountsFailure, IsReadWriteOrEndless};
 ghost use Rattle.hsms_explain.specs.Explain.{Concludes, ExplainsTo, GrowsBySome, IsOfTelling};
+ghost use Rattle.hsms_explain.specs.Heard.{HasHeard};
 
 use crate::ending::ending;
 use crate::explainer::Explainer;
 use hsms_frame::{Sink, Source};
-use hsms_log::{Auditor, Verdict};
+use hsms_log::Verdict;
 use hsms_options::{Excerpt, Telling, ToolFault};
 use hsms_tasks::put;
 use std::alloc::Global;
@@ -49,7 +49,6 @@ pub fn explain_to<R: Source, W: Sink>(
     ensures reads { CountsFailure (codes "Read") result (R.state source.old).failures (R.state source.new).failures }
     ensures writes { CountsFailure (codes "Write") result (W.state sink.old).failures (W.state sink.new).failures }
 {
-    let mut auditor = Auditor::new(alloc);
     let mut explainer = Explainer::new(alloc, excerpt)?;
     let mut block = [0u8; BLOCK];
     for _ in 0..u32::MAX {
@@ -58,9 +57,8 @@ pub fn explain_to<R: Source, W: Sink>(
             Err(_) => return Err(ToolFault::Device("Read")),
         };
         if count == 0 {
-            return conclude(alloc, excerpt.form, sink, auditor, explainer);
+            return conclude(alloc, excerpt.form, sink, explainer);
         }
-        auditor.take(alloc, &block[..count])?;
         explainer.take(alloc, &block[..count])?;
         write_told(sink, &mut explainer)?;
     }
@@ -72,18 +70,15 @@ fn conclude<W: Sink>(
     alloc: Global,
     form: Telling,
     sink: &mut W,
-    auditor: Auditor,
     mut explainer: Explainer,
 ) -> Result<bool, ToolFault>
-    requires { HasRoom auditor [] }
-    ensures told { IfOk result (λ passes. (text : List ℕ) → HasHeard auditor text
+    ensures told { IfOk result (λ passes. (text : List ℕ) → length text < 2 ^ 63 → HasHeard explainer text
         → Concludes form text passes (W.state sink.old).written (W.state sink.new).written) }
     ensures some { OnErr result (GrowsBySome (W.state sink.old).written (W.state sink.new).written) }
     ensures fault { IfErr result IsOfTelling }
     ensures writes { CountsFailure (codes "Write") result (W.state sink.old).failures (W.state sink.new).failures }
 {
-    let verdict = auditor.finish(alloc)?;
-    explainer.finish(alloc)?;
+    let verdict = explainer.finish(alloc)?;
     write_told(sink, &mut explainer)?;
     let ending = ending(alloc, form, verdict)?;
     put(sink, ending.as_bytes())?;
@@ -102,9 +97,11 @@ fn passes(verdict: Verdict) -> bool
 // Writes what is told.
 fn write_told<W: Sink>(sink: &mut W, explainer: &mut Explainer) -> Result<(), ToolFault>
     ensures some { GrowsBySome (W.state sink.old).written (W.state sink.new).written }
+    ensures heard { OnOk result ((text : List ℕ) → HasHeard explainer.old text → HasHeard explainer.new text) }
     ensures fault { IfErr result IsOfTelling }
     ensures writes { CountsFailure (codes "Write") result (W.state sink.old).failures (W.state sink.new).failures }
 {
+    explainer.gather();
     let told = explainer.told()?;
     put(sink, told)?;
     explainer.let_go();

@@ -1,6 +1,6 @@
 //! Judging a step.
 
-ghost use Rattle.std.specs.Prelude.{IfOk};
+ghost use Rattle.std.specs.Prelude.{◌≡◌, IfOk, OnOk};
 ghost use Rattle.hsms_explain.specs.Course.{JudgesAs};
 ghost use Rattle.hsms_explain.specs.Step.{entry_by};
 
@@ -11,7 +11,8 @@ use std::alloc::AllocError;
 
 /// Judges a step, whose frame has this text. Where it is lawful it is taken in; else nothing is changed.
 pub fn judge_step(course: &mut Course, step: Step, text: &[u8]) -> Result<Judged, AllocError>
-    ensures { IfOk result (JudgesAs course.old (entry_by step text.now) course.new) }
+    ensures judged { IfOk result (JudgesAs course.old (entry_by step text.now) course.new) }
+    ensures line { OnOk result (course.new.line ≡ course.old.line) }
 {
     let Step { time, what } = step;
     match what {
@@ -24,7 +25,8 @@ pub fn judge_step(course: &mut Course, step: Step, text: &[u8]) -> Result<Judged
 }
 
 fn judge_plain(course: &mut Course, time: u64, event: Event) -> Result<Judged, AllocError>
-    ensures { IfOk result (JudgesAs course.old (record { time = time; event = event }) course.new) }
+    ensures judged { IfOk result (JudgesAs course.old (record { time = time; event = event }) course.new) }
+    ensures line { OnOk result (course.new.line ≡ course.old.line) }
 {
     let entry = Entry { time, event };
     course.judge(&entry.as_ref())

@@ -1,5 +1,8 @@
 //! What is known of a log so far.
 
+ghost use Rattle.std.specs.Prelude.{◌≡◌, []};
+ghost use Rattle.hsms_explain.specs.Course.{HasCourse};
+
 use crate::course::Course;
 use crate::past::Past;
 use crate::primaries::Primaries;
@@ -17,7 +20,11 @@ pub struct Known {
 
 impl Known {
     /// What is known of a log of which the first line was read.
-    pub fn new(alloc: Global, settings: Settings) -> Known {
+    pub fn new(alloc: Global, settings: Settings) -> Known
+        ensures settings { result.settings ≡ settings }
+        ensures course { HasCourse settings [] [] result.course }
+        ensures line { result.course.line ≡ 1 }
+    {
         Known {
             settings,
             course: Course::new(alloc, settings),

@@ -1,5 +1,11 @@
 //! An entry of the log, judged again and again until it is taken in or left out.
 
+ghost use Rattle.std.specs.Prelude.{◌≡◌, None, Some, OnOk};
+ghost use Rattle.hsms_log.specs.declared.verdict.Why.{Why as Reason};
+ghost use Rattle.hsms_log.specs.declared.verdict.Why.TheVariants.{Broken};
+ghost use Rattle.hsms_explain.specs.Noted.{either, first_why, why_of, FailsBy};
+ghost use Rattle.hsms_explain.specs.Step.{entry_by};
+
 use crate::course::{Failure, Judged, Opening};
 use crate::expecting::expected_of;
 use crate::judging::judge_step;
@@ -14,9 +20,9 @@ use hsms_machine::{Mark, Remedy, Rule};
 use hsms_options::sentence;
 use std::alloc::{AllocError, Global};
 
-// How many steps an entry takes at most, besides two for each primary that waits: it is raised, thrown away, put behind
-// a cut and a `down`, and left out.
-const STEPS: usize = 16;
+// How many steps an entry takes at most besides the first, and two for each primary that waits: it is raised, thrown
+// away, put behind a cut and a `down`, and left out.
+const STEPS: usize = 15;
 
 /// Judges the entry of a line, notes what it closes and each failure, and goes on by the remedies.
 pub fn judge_entry(
@@ -25,9 +31,36 @@ pub fn judge_entry(
     entry: Step,
     text: &[u8],
     notes: &mut Vec<Note>,
-) -> Result<(), AllocError> {
+) -> Result<(), AllocError>
+    ensures judged { OnOk result (first_why notes.old.items ≡ None
+        → FailsBy known.old.course (entry_by entry text.now) known.new.course (first_why notes.new.items)) }
+    ensures settings { OnOk result (known.new.settings ≡ known.old.settings) }
+    ensures line { OnOk result (known.new.course.line ≡ known.old.course.line) }
+{
+    let judged = judge_step(&mut known.course, entry, text)?;
+    note(known, entry, text, judged, notes)?;
+    match judged {
+        Judged::Lawful(closed) => take_in(alloc, known, entry, closed),
+        Judged::Broken(failure) => mend(alloc, known, entry, failure.remedy, text, notes),
+    }
+}
+
+// Goes on by the remedy of an entry's first failure, and by those of what is judged then. What becomes of the entry is
+// noted.
+fn mend(
+    alloc: Global,
+    known: &mut Known,
+    entry: Step,
+    remedy: Remedy,
+    text: &[u8],
+    notes: &mut Vec<Note>,
+) -> Result<(), AllocError>
+    ensures noted { OnOk result ((why : Reason) → first_why notes.old.items ≡ Some why → first_why notes.new.items ≡ Some why) }
+    ensures settings { OnOk result (known.new.settings ≡ known.old.settings) }
+    ensures line { OnOk result (known.new.course.line ≡ known.old.course.line) }
+{
     let mut pending = Vec::new(alloc);
-    pending.push(entry)?;
+    go_on(&mut pending, entry, remedy)?;
     let steps = known
         .course
         .waiting()
@@ -42,15 +75,26 @@ pub fn judge_entry(
             note(known, step, text, judged, notes)?;
         }
         match judged {
-            Judged::Lawful(closed) => {
-                let line = known.course.line();
-                known.past.note(line, step, closed.is_some())?;
-                known.primaries.note(alloc, line, step, closed)?;
-            }
+            Judged::Lawful(closed) => take_in(alloc, known, step, closed)?,
             Judged::Broken(failure) => go_on(&mut pending, step, failure.remedy)?,
         }
     }
     Ok(())
+}
+
+// Notes a lawful step where primaries and requests are kept.
+fn take_in(
+    alloc: Global,
+    known: &mut Known,
+    step: Step,
+    closed: Option<Opening>,
+) -> Result<(), AllocError>
+    ensures course { known.new.course ≡ known.old.course }
+    ensures settings { known.new.settings ≡ known.old.settings }
+{
+    let line = known.course.line();
+    known.past.note(line, step, closed.is_some())?;
+    known.primaries.note(alloc, line, step, closed)
 }
 
 // Notes what became of the entry of a line.
@@ -60,7 +104,9 @@ fn note(
     text: &[u8],
     judged: Judged,
     notes: &mut Vec<Note>,
-) -> Result<(), AllocError> {
+) -> Result<(), AllocError>
+    ensures { OnOk result (first_why notes.new.items ≡ either (first_why notes.old.items) (why_of judged)) }
+{
     match judged {
         Judged::Lawful(None) => {}
         Judged::Lawful(Some(opening)) => notes.push(Note::Closes(closing(step, opening)))?,
@@ -77,7 +123,9 @@ fn closing(step: Step, opening: Opening) -> Closing {
     }
 }
 
-fn failing(known: &Known, step: Step, text: &[u8], failure: Failure) -> Failing {
+fn failing(known: &Known, step: Step, text: &[u8], failure: Failure) -> Failing
+    ensures { result.why ≡ Broken failure.rule }
+{
     Failing {
         sort: sort_of(failure.rule, step.what),
         why: Why::Broken(failure.rule),

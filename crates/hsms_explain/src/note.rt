@@ -1,5 +1,9 @@
 //! What is told of a line besides what it says.
 
+ghost use Rattle.std.specs.Prelude.{◌≡◌, ◌∷◌, []};
+ghost use Rattle.hsms_log.specs.declared.verdict.Why.TheVariants.{Unreadable};
+ghost use Rattle.hsms_explain.specs.Noted.{first_why};
+
 use crate::alike::Groups;
 use crate::expecting::Expected;
 use crate::sort::UNREADABLE_SORT;
@@ -22,6 +26,18 @@ pub enum Note {
     FailsAlike(Alike),
 }
 
+impl Note {
+    /// Why the line fails, where the note says so and it isn't told by another line.
+    pub fn why(&self) -> Option<Why>
+        ensures { result ≡ first_why (self.now ∷ []) }
+    {
+        match self {
+            Note::Fails(failing) => Some(failing.why),
+            Note::Closes(_) | Note::FailsAlike(_) => None,
+        }
+    }
+}
+
 /// Why a line fails, in words too, what is alike in such failures, the line that this concerns, what would have been
 /// right, and how the log is gone on with. One that can't be read is left out.
 #[derive(Clone, Copy, Debug)]
@@ -36,7 +52,9 @@ pub struct Failing {
 
 impl Failing {
     /// That a line can't be read.
-    pub fn unreadable() -> Failing {
+    pub fn unreadable() -> Failing
+        ensures { result.why ≡ Unreadable }
+    {
         Failing {
             sort: UNREADABLE_SORT,
             why: Why::Unreadable,

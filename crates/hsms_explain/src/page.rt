@@ -99,13 +99,17 @@ impl Page {
         self.aside.octets()
     }
 
-    /// All that is told.
+    /// Puts all that is told into memory.
+    pub fn gather(&mut self) {
+        self.block.give_all(&mut self.told);
+    }
+
+    /// All that was gathered.
     ///
     /// # Errors
     ///
     /// Where memory was refused to it.
-    pub fn octets(&mut self) -> Result<&[u8], AllocError> {
-        self.block.give_all(&mut self.told);
+    pub fn octets(&self) -> Result<&[u8], AllocError> {
         self.told.octets()
     }
 

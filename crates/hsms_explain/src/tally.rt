@@ -1,44 +1,130 @@
-//! How often each rule was broken.
+//! How often each rule was broken, the first failure, and the verdict.
 
+ghost use Rattle.std.specs.Prelude.{◌≡◌, ℕ, List, [], OnOk, Some, None};
+ghost use Rattle.hsms_frame.specs.declared.header.Header.{Header};
+ghost use Rattle.hsms_machine.specs.Entry.{frame_entry};
+ghost use Rattle.hsms_log.specs.declared.verdict.Verdict.TheVariants.{Fail};
+ghost use Rattle.hsms_explain.specs.Counting.{counts_of, with_entry, with_kind};
+ghost use Rattle.hsms_explain.specs.Failing.{failed_at, unjudged_by, verdict_by};
+ghost use Rattle.hsms_explain.specs.Noted.{either, first_why};
+ghost use Rattle.hsms_explain.specs.Step.{entry_of_what};
+
+use crate::note::Note;
+use crate::step::What;
 use crate::words::name_of;
-use hsms_log::Why;
+use hsms_log::{Summary, Verdict, Why};
+use hsms_machine::Mark;
 use std::alloc::{AllocError, Global};
 
-/// How often lines failed, and why, in the order in which it first happened; and how many entries there were.
+/// A failure: the number of its line, from 1, and why it fails.
+#[derive(Clone, Copy, Debug)]
+pub struct Failed {
+    pub line: u64,
+    pub why: Why,
+}
+
+/// How often lines failed, and why, in the order in which it first happened; the first failure; and how many entries
+/// there were.
 #[derive(Drop)]
 pub struct Tally {
     failures: Vec<(Why, u64)>,
-    entries: u64,
+    first: Option<Failed>,
+    entries: Summary,
+}
+
+impl Failed {
+    fn verdict(self) -> Verdict
+        ensures { result ≡ Fail self.line self.why }
+    {
+        Verdict::Fail {
+            line: self.line,
+            why: self.why,
+        }
+    }
 }
 
 impl Tally {
-    pub fn new(alloc: Global) -> Tally {
+    /// No line yet.
+    pub fn new(alloc: Global) -> Tally
+        ensures first { result.first ≡ None }
+        ensures entries { result.entries ≡ counts_of [] }
+    {
         Tally {
             failures: Vec::new(alloc),
-            entries: 0,
+            first: None,
+            entries: Summary {
+                entries: 0,
+                sent: 0,
+                taken: 0,
+                discarded: 0,
+                expired: 0,
+                waiting: 0,
+            },
         }
     }
 
     /// One more entry.
-    pub fn count_entry(&mut self) {
-        self.entries = self.entries.saturating_add(1);
+    pub fn count_entry(&mut self, what: What)
+        ensures entries { (time : ℕ) (text : List ℕ) → self.new.entries ≡ with_entry self.old.entries (entry_of_what time what text) }
+        ensures first { self.new.first ≡ self.old.first }
+    {
+        self.entries = with(self.entries, what);
     }
 
-    /// One more failure.
-    pub fn count(&mut self, why: Why) -> Result<(), AllocError> {
-        for (found, count) in self.failures.iter_mut() {
-            if *found == why {
-                *count = count.saturating_add(1);
-                return Ok(());
+    /// The failures of a line by its notes.
+    pub fn count_notes(&mut self, line: u64, notes: &[Note]) -> Result<(), AllocError>
+        ensures first { OnOk result (self.new.first ≡ either self.old.first (failed_at line (first_why notes.now))) }
+        ensures entries { self.new.entries ≡ self.old.entries }
+    {
+        for note in notes {
+            if let Some(why) = note.why() {
+                self.count(line, why)?;
             }
         }
-        self.failures.push((why, 1))?;
         Ok(())
+    }
+
+    // One more failure.
+    fn count(&mut self, line: u64, why: Why) -> Result<(), AllocError>
+        ensures first { self.new.first ≡ either self.old.first (Some (record { line = line; why = why })) }
+        ensures entries { self.new.entries ≡ self.old.entries }
+    {
+        if self.first.is_none() {
+            self.first = Some(Failed { line, why });
+        }
+        count_why(&mut self.failures, why)
+    }
+
+    /// The verdict at the end of a log that was judged, in which so many primaries wait for a reply; or that of its first
+    /// failure.
+    pub fn verdict(&self, waiting: u64) -> Verdict
+        ensures { result ≡ verdict_by self.now.first self.now.entries waiting }
+    {
+        match self.first {
+            Some(failed) => failed.verdict(),
+            None => Verdict::Pass(Summary {
+                waiting,
+                ..self.entries
+            }),
+        }
+    }
+
+    /// The verdict where nothing was judged: line 1 can't be read, or there is none.
+    pub fn unjudged_verdict(&self) -> Verdict
+        ensures { result ≡ unjudged_by self.now.first }
+    {
+        match self.first {
+            Some(failed) => failed.verdict(),
+            None => Verdict::Fail {
+                line: 1,
+                why: Why::Unreadable,
+            },
+        }
     }
 
     /// Whether there was no entry.
     pub fn is_empty(&self) -> bool {
-        self.entries == 0
+        self.entries.entries == 0
     }
 
     /// How often it failed for each reason.
@@ -64,5 +150,56 @@ impl Tally {
             write!(words, " {name}={count}")?;
         }
         format!(in alloc; "failures={all}{words}")
+    }
+}
+
+// One more failure for this reason.
+fn count_why(failures: &mut Vec<(Why, u64)>, why: Why) -> Result<(), AllocError> {
+    for (found, count) in failures.iter_mut() {
+        if *found == why {
+            *count = count.saturating_add(1);
+            return Ok(());
+        }
+    }
+    failures.push((why, 1))?;
+    Ok(())
+}
+
+// The counts with one entry more.
+fn with(counts: Summary, what: What) -> Summary
+    ensures { (time : ℕ) (text : List ℕ) → result ≡ with_entry counts (entry_of_what time what text) }
+{
+    let entries = counts.entries.saturating_add(1);
+    let counts = Summary { entries, ..counts };
+    match what {
+        What::Frame(mark, _) => with_frame(counts, mark),
+        What::T3(_) => {
+            let expired = counts.expired.saturating_add(1);
+            Summary { expired, ..counts }
+        }
+        What::Up | What::Cut(_) | What::Down => counts,
+    }
+}
+
+// The counts with one frame more of this mark.
+fn with_frame(counts: Summary, mark: Mark) -> Summary
+    ensures { (time : ℕ) (header : Header) (text : List ℕ) → result ≡ with_kind counts (frame_entry time mark header text) }
+{
+    match mark {
+        Mark::Sent => {
+            let sent = counts.sent.saturating_add(1);
+            Summary { sent, ..counts }
+        }
+        Mark::Taken => {
+            let taken = counts.taken.saturating_add(1);
+            Summary { taken, ..counts }
+        }
+        Mark::Discarded => {
+            let discarded = counts.discarded.saturating_add(1);
+            Summary {
+                discarded,
+                ..counts
+            }
+        }
     }
 }

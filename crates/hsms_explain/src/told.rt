@@ -1,6 +1,10 @@
 //! A line of a log, as it is told.
 
-ghost use Rattle.std.specs.Prelude.{◌≤◌};
+ghost use Rattle.std.specs.Prelude.{◌≡◌, ◌≤◌, ℕ, [], IfOk};
+ghost use Rattle.hsms_machine.specs.Entry.{frame_entry};
+ghost use Rattle.hsms_log.specs.Spelling.{line_limit};
+ghost use Rattle.hsms_explain.specs.Noted.{IsCarried};
+ghost use Rattle.hsms_explain.specs.Step.{entry_by, entry_of_what};
 
 use crate::step::{Step, What};
 use hsms_frame::{Frame, HEADER_LENGTH};
@@ -21,6 +25,19 @@ pub struct Told<'l, 't> {
 }
 
 impl<'l> Told<'l, '_> {
+    /// A line of which no more is known than that it carries no entry: the first one, or one behind a first one that
+    /// can't be read.
+    pub fn plain(number: u64, line: &'l [u8]) -> Told<'l, 'static>
+        ensures { result.number ≡ number }
+    {
+        Told {
+            number,
+            octets: line,
+            limit: SETTINGS_LIMIT,
+            carried: Carried::Nothing,
+        }
+    }
+
     /// Its octets as far as they are told.
     pub fn shown(&self) -> &'l [u8] {
         let shown = self.octets.len().min(self.limit);
@@ -41,7 +58,8 @@ pub enum Carried<'a> {
 
 /// The greatest length of a line that isn't the first, without its end.
 pub fn limit_of(max: u32) -> usize
-    ensures { result ≤ 8589934654 }
+    ensures value { result ≡ line_limit max }
+    ensures small { result ≤ 8589934654 }
 {
     2 * max as usize + 64
 }
@@ -52,7 +70,9 @@ pub fn carried_by<'a>(
     line: &[u8],
     max: u32,
     octets: &'a mut Vec<u8>,
-) -> Result<Carried<'a>, AllocError> {
+) -> Result<Carried<'a>, AllocError>
+    ensures { IfOk result (IsCarried max line.now) }
+{
     if line.len() > limit_of(max) {
         return Ok(Carried::Unreadable);
     }
@@ -72,7 +92,9 @@ fn carried_besides<'a>(
     line: &[u8],
     max: u32,
     octets: &'a mut Vec<u8>,
-) -> Result<Carried<'a>, AllocError> {
+) -> Result<Carried<'a>, AllocError>
+    ensures { IfOk result (IsCarried max line.now) }
+{
     octets.clear();
     match read_line(alloc, line, max) {
         Ok(Line::Entry(entry)) => {
@@ -86,7 +108,9 @@ fn carried_besides<'a>(
 }
 
 // The step of an entry, whose text is put behind the octets.
-fn step_of(entry: &Entry, octets: &mut Vec<u8>) -> Result<Step, AllocError> {
+fn step_of(entry: &Entry, octets: &mut Vec<u8>) -> Result<Step, AllocError>
+    ensures { IfOk result (λ step. octets.old.items ≡ [] → entry_by step octets.new.items ≡ entry.now) }
+{
     let what = match &entry.event {
         Event::Up => What::Up,
         Event::Sent(frame) => framed(Mark::Sent, frame, octets)?,
@@ -102,7 +126,10 @@ fn step_of(entry: &Entry, octets: &mut Vec<u8>) -> Result<Step, AllocError> {
     })
 }
 
-fn framed(mark: Mark, frame: &Frame, octets: &mut Vec<u8>) -> Result<What, AllocError> {
+fn framed(mark: Mark, frame: &Frame, octets: &mut Vec<u8>) -> Result<What, AllocError>
+    ensures { IfOk result (λ what. octets.old.items ≡ []
+        → (time : ℕ) → entry_of_what time what octets.new.items ≡ frame_entry time mark frame.now.header frame.now.text) }
+{
     octets.extend_from_slice(frame.text.as_slice())?;
     Ok(What::Frame(mark, frame.header))
 }

@@ -4,17 +4,14 @@ use Rattle.hsms_explain.proofs.explaining.conclude.Goals as goal
 pub returns-in_err-verdict-clause-some : goal.returns-in_err-verdict-clause-some
 returns-in_err-verdict-clause-some g c = on_err _ c.from_residual.result (none_more _)
 
-pub returns-in_err-finish-clause-some : goal.returns-in_err-finish-clause-some
-returns-in_err-finish-clause-some g c = on_err _ c.from_residual-in_err-finish.result (none_more _)
-
 pub returns-in_err-put-clause-some : goal.returns-in_err-put-clause-some
 returns-in_err-put-clause-some g c =
     on_err _ c.from_residual-in_err-put.result (some_more _ _ _ c.in_ok-write_told.ensures.some (front_more _ _ _ c.in_err-put.ensures.err))
 
 pub returns-clause-told : goal.returns-clause-told
-returns-clause-told g c = λ text heard. (
+returns-clause-told g c = λ text few heard. (
   c.in_ok-verdict.verdict,
-  c.in_ok-verdict.ensures text heard,
+  c.in_ok-verdict.ensures text few heard,
   c.passes.ensures,
   verdict_last _ _ _ _ _ _ c.in_ok-write_told.ensures.some c.in_ok-put.ensures.ok (rw c.as_bytes.ensures.value c.in_ok-ending.ensures),
 )

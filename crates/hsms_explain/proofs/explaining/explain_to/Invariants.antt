@@ -1,5 +1,4 @@
 use Rattle.std.proofs.Common.{◌≡◌, ◌*◌}
-use Rattle.hsms_log.specs.Auditor.{HasAtMost}
 use Rattle.hsms_explain.specs.Explain.{GrowsBySome}
 use Rattle.hsms_explain.proofs.Tellings.{HasRead}
 use Rattle.hsms_explain.proofs.explaining.explain_to.Given as goal
@@ -9,8 +8,7 @@ abbrev pub invariant-loop : goal.invariant-loop
 invariant-loop g l =
     let old = g.R.Source.state l.initial.source in
     let now = g.R.Source.state l.source in
-    HasRead old.left l.auditor now.left
-    × HasAtMost (4096 * l.counter) l.auditor
+    HasRead old.left (4096 * l.counter) l.explainer now.left
     × (now.ends ≡ old.ends)
     × (now.failures ≡ old.failures)
     × GrowsBySome (g.W.Sink.state l.initial.sink).written (g.W.Sink.state l.sink).written

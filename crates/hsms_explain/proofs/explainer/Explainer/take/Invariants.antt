@@ -1,5 +1,12 @@
-use Rattle.std.proofs.Common.{length}
+use Rattle.std.proofs.Common.{◌≡◌, ◌++◌, List, ℕ, length}
+use Rattle.hsms_explain.specs.Heard.{HasHeard}
 use Rattle.hsms_explain.proofs.explainer.Explainer.take.Given as goal
+
+-- what was passed was heard
+abbrev pub invariant-loop-part : goal.invariant-loop-part
+invariant-loop-part l =
+    (done : List ℕ) × (l.octets ≡ done ++ l.rest)
+    × ((text : List ℕ) → HasHeard l.initial.self text → HasHeard l.self (text ++ done))
 
 abbrev pub decreases-loop-part : goal.decreases-loop-part
 decreases-loop-part l = length l.rest

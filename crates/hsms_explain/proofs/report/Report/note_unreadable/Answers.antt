@@ -1,0 +1,12 @@
+use Rattle.std.proofs.Common.{◌∙◌, Some, ap}
+use Rattle.hsms_log.specs.declared.verdict.Why.{Why}
+use Rattle.hsms_explain.specs.declared.note.Note.TheVariants.{Fails}
+use Rattle.hsms_explain.specs.Noted.{either, first_why}
+use Rattle.hsms_explain.proofs.Following.{first_why-push}
+use Rattle.hsms_explain.proofs.report.Report.note_unreadable.Goals as goal
+
+pub returns-clause-notes : goal.returns-clause-notes
+returns-clause-notes c =
+    let before = first_why c.args.self.now.notes.items in
+    ap first_why c.in_ok-push.ensures.items ∙ first_why-push c.args.self.now.notes.items (Fails c.unreadable.result)
+    ∙ ap (λ (w : Why). either before (Some w)) c.unreadable.ensures

@@ -1,0 +1,55 @@
+-- What is known of a text whose lines are told, in pieces and to its end.
+use Rattle.std.specs.Prelude.{◌≡◌, ◌+◌, ◌≤◌, ◌<◌, ◌⊎◌, ℕ, List, [], MatchOption, length, take}
+use Rattle.hsms_machine.specs.declared.entry.Entry.{Entry}
+use Rattle.hsms_log.specs.declared.verdict.Summary.{Summary}
+use Rattle.hsms_log.specs.Lines.{ended_lines, open_line}
+use Rattle.hsms_log.specs.Log.{SpellLog}
+use Rattle.hsms_log.specs.Spelling.{settings_limit, line_limit}
+use Rattle.hsms_explain.specs.declared.explainer.Explainer.{Explainer}
+use Rattle.hsms_explain.specs.declared.known.Known.{Known}
+use Rattle.hsms_explain.specs.declared.stage.Stage.{Stage}
+use Rattle.hsms_explain.specs.declared.stage.Stage.TheVariants.{Unjudged, Judged}
+use Rattle.hsms_explain.specs.declared.tally.Tally.{Tally}
+use Rattle.hsms_explain.specs.Alike.{counted}
+use Rattle.hsms_explain.specs.Counting.{counts_of}
+use Rattle.hsms_explain.specs.Course.{HasCourse}
+use Rattle.hsms_explain.specs.Failing.{FailsFirst}
+
+-- ---- lines
+
+-- the log is judged after these lines, which spell a run
+abbrev pub Tracks : Known → Summary → List (List ℕ) → Type 0
+Tracks known entries lines =
+    (log : List Entry) × (placed : List Entry) × SpellLog lines known.settings log × HasCourse known.settings log placed known.course
+    × (known.course.line ≡ counted (length lines)) × (entries ≡ counts_of log)
+
+-- the same, or this is the first failure
+abbrev pub KnownAfter : Known → Tally → List (List ℕ) → Type 0
+KnownAfter known tally lines = MatchOption tally.first (Tracks known tally.entries lines) (FailsFirst lines)
+
+-- no line came yet, or this is the first failure
+abbrev pub UnjudgedAfter : ℕ → Tally → List (List ℕ) → Type 0
+UnjudgedAfter before tally lines =
+    MatchOption tally.first ((lines ≡ []) × (before ≡ 0) × (tally.entries ≡ counts_of [])) (FailsFirst lines)
+
+-- no line came yet, or the log is judged, or this is the first failure
+abbrev pub ToldAfter : Stage → Tally → List (List ℕ) → Type 0
+ToldAfter (Unjudged before) tally lines = UnjudgedAfter before tally lines
+ToldAfter (Judged known) tally lines = KnownAfter known tally lines
+
+-- the greatest length of the next line, without its end
+abbrev pub limit_at : Stage → ℕ
+limit_at (Unjudged before) = settings_limit
+limit_at (Judged known) = line_limit known.settings.max
+
+-- of a line this is told: the whole, or where that is too long a front that is too long as well
+abbrev pub IsShown : ℕ → List ℕ → List ℕ → Type 0
+IsShown limit line shown = (line ≡ shown) ⊎ ((limit < length line) × (limit < length shown))
+
+-- ---- a text
+
+-- the lines of the text that have ended are told, and of the line that goes on no more is held than makes it too long
+pub record HasHeard (explainer : Explainer) (text : List ℕ) : Type 0 where
+  pub lines : ToldAfter explainer.stage explainer.report.tally (ended_lines text)
+  pub held : explainer.held.items ≡ take (limit_at explainer.stage + 2) (open_line text)
+  pub few : length (ended_lines text) ≤ length text

@@ -1,0 +1,58 @@
+-- The first failure that is noted of a line, and what it says of it.
+use Rattle.std.specs.Prelude.{◌≡◌, ℕ, List, [], ◌∷◌, ◌++◌, Option, Some, None}
+use Rattle.hsms_machine.specs.declared.entry.Entry.{Entry}
+use Rattle.hsms_machine.specs.Run.{Broken as IsFirstBroken}
+use Rattle.hsms_log.specs.declared.verdict.Why.{Why}
+use Rattle.hsms_log.specs.declared.verdict.Why.TheVariants.{Unreadable, Broken}
+use Rattle.hsms_log.specs.declared.verdict.Summary.{Summary}
+use Rattle.hsms_log.specs.Spelling.{Carries}
+use Rattle.hsms_explain.specs.declared.course.Judged.{Judged}
+use Rattle.hsms_explain.specs.declared.course.Judged.TheVariants as judged
+use Rattle.hsms_explain.specs.declared.note.Note.{Note}
+use Rattle.hsms_explain.specs.declared.note.Note.TheVariants.{Closes, Fails, FailsAlike}
+use Rattle.hsms_explain.specs.declared.told.Carried.{Carried}
+use Rattle.hsms_explain.specs.declared.told.Carried.TheVariants as carried
+use Rattle.hsms_explain.specs.Counting.{with_entry}
+use Rattle.hsms_explain.specs.Course.{Standing, ForEachCourse, CourseLeadsTo}
+use Rattle.hsms_explain.specs.Step.{entry_by}
+
+-- why a line fails first, by its notes
+abbrev pub first_why : List Note → Option Why
+first_why [] = None
+first_why (Closes closing ∷ notes) = first_why notes
+first_why (Fails failing ∷ notes) = Some failing.why
+first_why (FailsAlike alike ∷ notes) = first_why notes
+
+-- the first one of two, if there is one
+abbrev pub either : {A : Type 0} → Option A → Option A → Option A
+either None other = other
+either (Some one) other = Some one
+
+-- why an entry fails that was judged so
+abbrev pub why_of : Judged → Option Why
+why_of (judged.Lawful closed) = None
+why_of (judged.Broken failure) = Some (Broken failure.rule)
+
+-- the entry is lawful and is taken in, or this is the first rule that it breaks
+abbrev pub FailsBy : Standing → Entry → Standing → Option Why → Type 0
+FailsBy old entry new None = ForEachCourse old (λ settings log placed. IsFirstBroken settings log entry None) × CourseLeadsTo old entry new
+FailsBy old entry new (Some Unreadable) = ⊥
+FailsBy old entry new (Some (Broken rule)) = ForEachCourse old (λ settings log placed. IsFirstBroken settings log entry (Some rule))
+
+-- the line carries this
+abbrev pub IsCarried : ℕ → List ℕ → Carried → Type 0
+IsCarried max line (carried.Entry step text) = Carries max line (Some (entry_by step text.now))
+IsCarried max line carried.Nothing = Carries max line None
+IsCarried max line carried.Unreadable = (entry : Option Entry) → Carries max line entry → ⊥
+
+-- the counts of the entries, with what a line carries
+abbrev pub with_carried : Summary → Carried → Summary
+with_carried old (carried.Entry step text) = with_entry old (entry_by step text.now)
+with_carried old carried.Nothing = old
+with_carried old carried.Unreadable = old
+
+-- a line that carries this fails so, or goes on with the course
+abbrev pub LineFailsBy : Standing → Carried → Standing → Option Why → Type 0
+LineFailsBy old (carried.Entry step text) new why = FailsBy old (entry_by step text.now) new why
+LineFailsBy old carried.Nothing new why = (why ≡ None) × (new ≡ old)
+LineFailsBy old carried.Unreadable new why = why ≡ Some Unreadable

@@ -1,0 +1,131 @@
+//! A line of a log, judged and told.
+
+ghost use Rattle.std.specs.Prelude.{◌≡◌, ◌<◌, ◌++◌, ◌∷◌, [], ℕ, List, OnOk, IfOk};
+ghost use Rattle.hsms_machine.specs.Settings.{Parameters};
+ghost use Rattle.hsms_log.specs.Spelling.{SpellsSettings, line_limit, settings_limit};
+ghost use Rattle.hsms_explain.specs.Heard.{IsShown, KnownAfter, ToldAfter, UnjudgedAfter, limit_at};
+
+use crate::known::Known;
+use crate::report::Report;
+use crate::stage::Stage;
+use crate::told::{Told, carried_by, limit_of};
+use hsms_log::read_settings;
+use hsms_machine::Settings;
+use std::alloc::{AllocError, Global};
+
+/// Tells a line, of which as much is given as is told. `octets` is memory for the octets of its frame, used again from
+/// line to line.
+pub fn tell_line(
+    alloc: Global,
+    stage: &mut Stage,
+    octets: &mut Vec<u8>,
+    report: &mut Report,
+    line: &[u8],
+) -> Result<(), AllocError>
+    ensures { OnOk result ((before : List (List ℕ)) (real : List ℕ) → IsShown (limit_at stage.old) real line.now
+        → ToldAfter stage.old report.old.tally before → ToldAfter stage.new report.new.tally (before ++ real ∷ [])) }
+{
+    match stage {
+        Stage::Judged(known) => later_line(alloc, known, octets, report, line),
+        Stage::Unjudged(before) => {
+            *stage = unjudged_line(alloc, report, *before, line)?;
+            Ok(())
+        }
+    }
+}
+
+// Tells the first line, or one behind a first line that can't be read.
+fn unjudged_line(
+    alloc: Global,
+    report: &mut Report,
+    so_far: u64,
+    line: &[u8],
+) -> Result<Stage, AllocError>
+    ensures { IfOk result (λ stage. (before : List (List ℕ)) (real : List ℕ) → IsShown settings_limit real line.now
+        → UnjudgedAfter so_far report.old.tally before → ToldAfter stage report.new.tally (before ++ real ∷ [])) }
+{
+    if so_far > 0 {
+        further_line(alloc, report, so_far, line)
+    } else {
+        first_line(alloc, report, line)
+    }
+}
+
+// Tells a line behind a first line that can't be read.
+fn further_line(
+    alloc: Global,
+    report: &mut Report,
+    so_far: u64,
+    line: &[u8],
+) -> Result<Stage, AllocError>
+    ensures { IfOk result (λ stage. (before : List (List ℕ)) (real : List ℕ) → 0 < so_far
+        → UnjudgedAfter so_far report.old.tally before → ToldAfter stage report.new.tally (before ++ real ∷ [])) }
+{
+    let number = so_far.saturating_add(1);
+    report.clear_notes();
+    report.tell(alloc, Told::plain(number, line), 0)?;
+    Ok(Stage::Unjudged(number))
+}
+
+// Tells the first line.
+fn first_line(alloc: Global, report: &mut Report, line: &[u8]) -> Result<Stage, AllocError>
+    ensures { IfOk result (λ stage. (before : List (List ℕ)) (real : List ℕ) → IsShown settings_limit real line.now
+        → UnjudgedAfter 0 report.old.tally before → ToldAfter stage report.new.tally (before ++ real ∷ [])) }
+{
+    report.clear_notes();
+    match read_settings(line) {
+        Some(settings) => settings_line(alloc, report, line, settings),
+        None => unreadable_first(alloc, report, line),
+    }
+}
+
+// Tells the first line, of which nothing is noted, and which spells the settings.
+fn settings_line(
+    alloc: Global,
+    report: &mut Report,
+    line: &[u8],
+    settings: Settings,
+) -> Result<Stage, AllocError>
+    ensures { IfOk result (λ stage. (before : List (List ℕ)) (real : List ℕ) → IsShown settings_limit real line.now
+        → SpellsSettings line.now settings → report.old.notes.items ≡ []
+        → UnjudgedAfter 0 report.old.tally before → ToldAfter stage report.new.tally (before ++ real ∷ [])) }
+{
+    report.tell_ends(settings);
+    report.tell(alloc, Told::plain(1, line), 0)?;
+    Ok(Stage::Judged(Known::new(alloc, settings)))
+}
+
+// Tells the first line, of which nothing is noted yet, and which can't be read.
+fn unreadable_first(alloc: Global, report: &mut Report, line: &[u8]) -> Result<Stage, AllocError>
+    ensures { IfOk result (λ stage. (before : List (List ℕ)) (real : List ℕ) → IsShown settings_limit real line.now
+        → ((settings : Parameters) → SpellsSettings line.now settings → ⊥) → report.old.notes.items ≡ []
+        → UnjudgedAfter 0 report.old.tally before → ToldAfter stage report.new.tally (before ++ real ∷ [])) }
+{
+    report.note_unreadable()?;
+    report.tell(alloc, Told::plain(1, line), 0)?;
+    Ok(Stage::Unjudged(1))
+}
+
+// Tells a line that isn't the first.
+fn later_line(
+    alloc: Global,
+    known: &mut Known,
+    octets: &mut Vec<u8>,
+    report: &mut Report,
+    line: &[u8],
+) -> Result<(), AllocError>
+    ensures { OnOk result ((before : List (List ℕ)) (real : List ℕ) → IsShown (line_limit known.old.settings.max) real line.now
+        → KnownAfter known.old report.old.tally before → KnownAfter known.new report.new.tally (before ++ real ∷ [])) }
+{
+    let max = known.settings.max();
+    known.course.next_line();
+    let carried = carried_by(alloc, line, max, octets)?;
+    report.judge(alloc, known, carried)?;
+    let told = Told {
+        number: known.course.line(),
+        octets: line,
+        limit: limit_of(max),
+        carried,
+    };
+    report.tell(alloc, told, max)
+}

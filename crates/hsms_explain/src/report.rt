@@ -1,0 +1,182 @@
+//! What is told of a log, and what is noted of the line at hand.
+
+ghost use Rattle.std.specs.Prelude.{◌≡◌, ℕ, List, [], OnOk, IfOk, Some, None};
+ghost use Rattle.hsms_log.specs.declared.verdict.Why.TheVariants.{Unreadable};
+ghost use Rattle.hsms_explain.specs.Counting.{counts_of};
+ghost use Rattle.hsms_explain.specs.Failing.{failed_at, verdict_by, unjudged_by};
+ghost use Rattle.hsms_explain.specs.Noted.{either, first_why, with_carried, LineFailsBy};
+
+use crate::alike::Groups;
+use crate::known::Known;
+use crate::mending::judge_entry;
+use crate::note::{Failing, Note, group_notes};
+use crate::page::Page;
+use crate::primaries::Primaries;
+use crate::tally::Tally;
+use crate::telling::Teller;
+use crate::told::{Carried, Told};
+use crate::window::Window;
+use crate::words::Unjudged;
+use hsms_log::Verdict;
+use hsms_machine::Settings;
+use hsms_options::Excerpt;
+use std::alloc::{AllocError, Global};
+
+/// What is told, which lines are, the failures so far, and what is noted of the line at hand, also as it is told.
+#[derive(Drop)]
+pub struct Report {
+    teller: Teller,
+    page: Page,
+    tally: Tally,
+    window: Window,
+    groups: Groups,
+    notes: Vec<Note>,
+    grouped: Vec<Note>,
+}
+
+impl Report {
+    /// What is told before all lines.
+    pub fn new(alloc: Global, excerpt: Excerpt) -> Result<Report, AllocError>
+        ensures first { IfOk result (λ report. report.tally.first ≡ None) }
+        ensures entries { IfOk result (λ report. report.tally.entries ≡ counts_of []) }
+    {
+        let teller = Teller::new(excerpt);
+        let mut page = Page::new(alloc)?;
+        teller.begin(&mut page);
+        Ok(Report {
+            teller,
+            page,
+            tally: Tally::new(alloc),
+            window: Window::new(alloc, excerpt),
+            groups: Groups::new(alloc),
+            notes: Vec::new(alloc),
+            grouped: Vec::new(alloc),
+        })
+    }
+
+    /// Tells which ends a log with these settings is of.
+    pub fn tell_ends(&mut self, settings: Settings)
+        ensures tally { self.new.tally ≡ self.old.tally }
+        ensures notes { self.new.notes ≡ self.old.notes }
+    {
+        self.teller.ends(&mut self.page, settings);
+    }
+
+    /// Tells that lines are left out at the end of so many.
+    pub fn tell_gap(&mut self, alloc: Global, lines: u64) -> Result<(), AllocError> {
+        self.window.finish(alloc, &mut self.page, lines)
+    }
+
+    /// Tells that nothing was judged.
+    pub fn tell_unjudged(&mut self, alloc: Global, unjudged: Unjudged) -> Result<(), AllocError> {
+        self.teller.unjudged(alloc, &mut self.page, unjudged)
+    }
+
+    /// Tells the failures behind a log that was judged, and what became of its primaries.
+    pub fn tell_end(&mut self, alloc: Global, primaries: &Primaries) -> Result<(), AllocError> {
+        if self.tally.is_empty() {
+            self.tell_unjudged(alloc, Unjudged::NoEntry)?;
+        }
+        self.teller.groups(alloc, &mut self.page, &self.groups)?;
+        self.teller.failures(alloc, &mut self.page, &self.tally)?;
+        self.teller
+            .primaries(alloc, &mut self.page, self.window.links(), primaries)
+    }
+
+    /// The verdict at the end, where so many primaries wait, or that of the first failure.
+    pub fn verdict(&self, waiting: u64) -> Verdict
+        ensures { result ≡ verdict_by self.now.tally.first self.now.tally.entries waiting }
+    {
+        self.tally.verdict(waiting)
+    }
+
+    /// The verdict where nothing was judged.
+    pub fn unjudged_verdict(&self) -> Verdict
+        ensures { result ≡ unjudged_by self.now.tally.first }
+    {
+        self.tally.unjudged_verdict()
+    }
+
+    /// Tells a line, and what is noted of it, in a log whose frames have at most so many octets. Its failures are counted.
+    pub fn tell(&mut self, alloc: Global, told: Told<'_, '_>, max: u32) -> Result<(), AllocError>
+        ensures first { OnOk result (self.new.tally.first ≡ either self.old.tally.first (failed_at told.entry.number (first_why self.old.notes.items))) }
+        ensures entries { self.new.tally.entries ≡ self.old.tally.entries }
+    {
+        self.tally.count_notes(told.number, &self.notes)?;
+        if !self.window.has_line(told.number) {
+            return Ok(());
+        }
+        group_notes(
+            &mut self.groups,
+            &self.notes,
+            told.number,
+            &mut self.grouped,
+        )?;
+        self.window
+            .take(alloc, &mut self.page, told, &self.grouped, max)
+    }
+
+    /// Judges what a line carries, and notes what it closes and why it fails.
+    pub fn judge(
+        &mut self,
+        alloc: Global,
+        known: &mut Known,
+        carried: Carried<'_>,
+    ) -> Result<(), AllocError>
+        ensures judged { OnOk result (LineFailsBy known.old.course carried.entry known.new.course (first_why self.new.notes.items)) }
+        ensures settings { OnOk result (known.new.settings ≡ known.old.settings) }
+        ensures line { OnOk result (known.new.course.line ≡ known.old.course.line) }
+        ensures entries { OnOk result (self.new.tally.entries ≡ with_carried self.old.tally.entries carried.entry) }
+        ensures first { self.new.tally.first ≡ self.old.tally.first }
+    {
+        self.notes.clear();
+        match carried {
+            Carried::Entry(step, text) => {
+                self.tally.count_entry(step.what);
+                judge_entry(alloc, known, step, text, &mut self.notes)
+            }
+            Carried::Nothing => Ok(()),
+            Carried::Unreadable => self.note_unreadable(),
+        }
+    }
+
+    /// Forgets what is noted of the line before.
+    pub fn clear_notes(&mut self)
+        ensures notes { self.new.notes.items ≡ [] }
+        ensures tally { self.new.tally ≡ self.old.tally }
+    {
+        self.notes.clear();
+    }
+
+    /// Notes that a line can't be read.
+    pub fn note_unreadable(&mut self) -> Result<(), AllocError>
+        ensures notes { OnOk result (first_why self.new.notes.items ≡ either (first_why self.old.notes.items) (Some Unreadable)) }
+        ensures tally { self.new.tally ≡ self.old.tally }
+    {
+        self.notes.push(Note::Fails(Failing::unreadable()))?;
+        Ok(())
+    }
+
+    /// Puts what is told together, so that it can be written.
+    pub fn gather(&mut self)
+        ensures { self.new.tally ≡ self.old.tally }
+    {
+        self.page.gather();
+    }
+
+    /// What was gathered and not let go.
+    ///
+    /// # Errors
+    ///
+    /// Where memory was refused to it.
+    pub fn told(&self) -> Result<&[u8], AllocError> {
+        self.page.octets()
+    }
+
+    /// Lets go what is told.
+    pub fn let_go(&mut self)
+        ensures { self.new.tally ≡ self.old.tally }
+    {
+        self.page.clear();
+    }
+}
