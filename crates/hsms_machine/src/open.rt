@@ -21,8 +21,8 @@ const MANY: usize = 64;
 
 /// Open transactions, in order of opening: no two with the same system bytes, and none before an earlier one.
 ///
-/// The map has closed ones at its front, which are counted. They go together, once they are many and more than a half
-/// of it, so that closing the oldest moves none.
+/// The map has closed ones at its front, which are counted. They go together, once they are many and more than a half of
+/// it, so that closing the oldest moves none.
 #[derive(Debug)]
 pub struct Transactions {
     items: IndexMap<u32, Transaction>,
@@ -57,8 +57,8 @@ impl Transactions {
     ghost use Rattle.hsms_machine.specs.Timer.{least_in, due_times, due_at};
     ghost use Rattle.hsms_machine.specs.Transaction.{answers as is_answer, concludes as is_conclusion};
     ghost use Rattle.hsms_machine.specs.View.{oldest_of};
-    ghost use Rattle.indexmap.specs.IndexMap.{index_map_len};
-    ghost use Rattle.hsms_machine.specs.Ordered.{AreInOrder, AreApart, AreUntil, uses, first_of};
+    ghost use Rattle.indexmap.specs.IndexMap.{index_map_len, values};
+    ghost use Rattle.hsms_machine.specs.Ordered.{AreInOrder, AreApart, AreKeyed, AreKept, AreUntil, uses, first_of};
 
     /// No transaction.
     pub fn new(alloc: Global) -> Self
@@ -348,19 +348,8 @@ impl Transactions {
     }
 
     /// Takes out what the message, which goes in the other direction, answers or rejects.
-    #[inline(always)]
-    pub fn remove_concluded(&mut self, other: Message)
-        ensures { self.new ≡ filter (λ opened. not (is_conclusion opened.header other)) self.old }
-    {
-        if self.len() == 0 {
-            return;
-        }
-        self.remove_one_concluded(other);
-    }
-
-    /// Does so where some are open.
     #[inline(never)]
-    fn remove_one_concluded(&mut self, other: Message)
+    pub fn remove_concluded(&mut self, other: Message)
         ensures { self.new ≡ filter (λ opened. not (is_conclusion opened.header other)) self.old }
     {
         match self.place_concluded(other) {
