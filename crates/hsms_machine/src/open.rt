@@ -21,8 +21,8 @@ const MANY: usize = 64;
 
 /// Open transactions, in order of opening: no two with the same system bytes, and none before an earlier one.
 ///
-/// The map has closed ones at its front, which are counted. They go together, once they are many and more than a half of
-/// it, so that closing the oldest moves none.
+/// The map has closed ones at its front, which are counted. They go together, once they are many and more than a half
+/// of it, so that closing the oldest moves none.
 #[derive(Debug)]
 pub struct Transactions {
     items: IndexMap<u32, Transaction>,
