@@ -57,8 +57,8 @@ impl Transactions {
     ghost use Rattle.hsms_machine.specs.Timer.{least_in, due_times, due_at};
     ghost use Rattle.hsms_machine.specs.Transaction.{answers as is_answer, concludes as is_conclusion};
     ghost use Rattle.hsms_machine.specs.View.{oldest_of};
-    ghost use Rattle.indexmap.specs.IndexMap.{index_map_len};
-    ghost use Rattle.hsms_machine.specs.Ordered.{AreInOrder, AreApart, AreUntil, uses, first_of};
+    ghost use Rattle.indexmap.specs.IndexMap.{index_map_len, values};
+    ghost use Rattle.hsms_machine.specs.Ordered.{AreInOrder, AreApart, AreKeyed, AreKept, AreUntil, uses, first_of};
 
     /// No transaction.
     pub fn new(alloc: Global) -> Self
@@ -348,19 +348,8 @@ impl Transactions {
     }
 
     /// Takes out what the message, which goes in the other direction, answers or rejects.
-    #[inline(always)]
-    pub fn remove_concluded(&mut self, other: Message)
-        ensures { self.new ≡ filter (λ opened. not (is_conclusion opened.header other)) self.old }
-    {
-        if self.len() == 0 {
-            return;
-        }
-        self.remove_one_concluded(other);
-    }
-
-    /// Does so where some are open.
     #[inline(never)]
-    fn remove_one_concluded(&mut self, other: Message)
+    pub fn remove_concluded(&mut self, other: Message)
         ensures { self.new ≡ filter (λ opened. not (is_conclusion opened.header other)) self.old }
     {
         match self.place_concluded(other) {

@@ -1,8 +1,7 @@
-use Rattle.std.proofs.Common.{◌∙◌, not, sym}
+use Rattle.std.proofs.Common.{sym}
 use Rattle.hsms_machine.specs.Transaction.{concludes}
-use Rattle.hsms_machine.proofs.Kept.{filter-empty}
+use Rattle.hsms_machine.proofs.Mapped.{filter_none}
 use Rattle.hsms_machine.proofs.open.Transactions.remove_concluded.Goals as goal
 
-pub returns-then-len-eq0 : goal.returns-then-len-eq0
-returns-then-len-eq0 c =
-    filter-empty (λ opened. not (concludes opened.header c.args.other)) c.args.self.now (sym c.len.ensures.value ∙ c.if-len-eq0.true)
+pub returns-in-None : goal.returns-in-None
+returns-in-None c = sym (filter_none (λ opened. concludes opened.header c.args.other) c.args.self.now c.in-None.ensures.none)
