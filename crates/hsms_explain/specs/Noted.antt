@@ -1,5 +1,5 @@
 -- The first failure that is noted of a line, and what it says of it.
-use Rattle.std.specs.Prelude.{◌≡◌, ℕ, List, [], ◌∷◌, ◌++◌, Option, Some, None}
+use Rattle.std.specs.Prelude.{◌≡◌, ℕ, List, [], ◌∷◌, Option, Some, None}
 use Rattle.hsms_machine.specs.declared.entry.Entry.{Entry}
 use Rattle.hsms_machine.specs.Run.{Broken as IsFirstBroken}
 use Rattle.hsms_log.specs.declared.verdict.Why.{Why}

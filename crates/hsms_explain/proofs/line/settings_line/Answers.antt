@@ -1,8 +1,5 @@
 use Rattle.std.proofs.Common.{◌∙◌, refl, ap}
-use Rattle.hsms_log.specs.declared.verdict.Why.{Why}
 use Rattle.hsms_explain.specs.Failing.{failed_at}
-use Rattle.hsms_explain.specs.declared.note.Note.{Note}
-use Rattle.std.specs.Prelude.{List}
 use Rattle.hsms_explain.specs.Noted.{either, first_why}
 use Rattle.hsms_explain.proofs.Following.{first_follows}
 use Rattle.hsms_explain.proofs.line.settings_line.Goals as goal

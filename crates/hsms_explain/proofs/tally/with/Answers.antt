@@ -1,4 +1,4 @@
-use Rattle.std.proofs.Common.{◌≡◌, ◌∙◌, ℕ, sym, ap, subst}
+use Rattle.std.proofs.Common.{◌≡◌, ℕ, sym, subst}
 use Rattle.hsms_machine.specs.Entry.{frame_entry}
 use Rattle.hsms_explain.specs.declared.step.What.{What}
 use Rattle.hsms_explain.specs.Counting.{with_entry, with_kind}

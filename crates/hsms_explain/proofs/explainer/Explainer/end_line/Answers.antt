@@ -1,4 +1,4 @@
-use Rattle.std.proofs.Common.{◌≡◌, ◌∙◌, ◌++◌, ◌∷◌, [], ℕ, List, length, ap, subst, append_assoc, rules}
+use Rattle.std.proofs.Common.{◌≡◌, ◌++◌, ◌∷◌, [], ℕ, List, length, subst, append_assoc, rules}
 use Rattle.hsms_log.proofs.Parts.{empty_is}
 use Rattle.hsms_explain.specs.Heard.{HasHeard}
 use Rattle.hsms_explain.proofs.Following.{on_ok_more}

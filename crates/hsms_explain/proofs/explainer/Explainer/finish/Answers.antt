@@ -1,4 +1,4 @@
-use Rattle.std.proofs.Common.{◌≡◌, ◌≤◌, ◌<◌, ◌+◌, ◌^◌, length, arith}
+use Rattle.std.proofs.Common.{◌≤◌, ◌^◌, length, arith}
 use Rattle.hsms_log.specs.Lines.{lines_of}
 use Rattle.hsms_explain.proofs.explainer.Explainer.finish.Goals as goal
 

@@ -1,4 +1,4 @@
-use Rattle.std.proofs.Common.{◌≡◌, ◌∙◌, ◌+◌, ◌-◌, ◌++◌, min, ℕ, length, take, refl, ap, rules}
+use Rattle.std.proofs.Common.{◌≡◌, ◌∙◌, ◌+◌, ◌-◌, ◌++◌, min, length, take, refl, ap, rules}
 use Rattle.hsms_explain.specs.Heard.{limit_at}
 use Rattle.hsms_explain.proofs.Following.{on_ok_grown, on_ok_more}
 use Rattle.hsms_explain.proofs.Hearing.{heard_part}

@@ -1,5 +1,4 @@
-use Rattle.std.proofs.Common.{◌≡◌, ◌++◌, ◌∷◌, [], ℕ, List, ◌∙◌, refl, subst, append_assoc}
-use Rattle.std.proofs.lemmas.List.{append-nil}
+use Rattle.std.proofs.Common.{◌++◌, ◌∷◌, [], ℕ, List, subst, append_assoc}
 use Rattle.hsms_log.proofs.Standing.{parts_on, rest_whole}
 use Rattle.hsms_explain.specs.Heard.{HasHeard}
 use Rattle.hsms_explain.proofs.Following.{on_ok_more}

@@ -1,4 +1,4 @@
-use Rattle.std.proofs.Common.{◌∙◌, sym, ap, subst}
+use Rattle.std.proofs.Common.{sym, ap, subst}
 use Rattle.std.specs.Prelude.{OnOk}
 use Rattle.hsms_explain.specs.declared.told.Carried.{Carried}
 use Rattle.hsms_explain.specs.Noted.{LineFailsBy, first_why}
