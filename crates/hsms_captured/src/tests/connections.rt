@@ -1,8 +1,8 @@
 //! Places and ends whose numbers are written out.
 
 use hsms_capture::{
-    BothEnds, Cell, Connection, ConnectionFault, Ending, Event, Flags, Held, HeldFault, Losses, Packet,
-    Segment, Side, Span, Turns, TurnsFault, acknowledged_place, end_behind, nearest_place,
+    BothEnds, Cell, Connection, ConnectionFault, Ending, Event, Flags, Held, HeldFault, Losses,
+    Packet, Segment, Side, Span, Turns, TurnsFault, acknowledged_place, end_behind, nearest_place,
     numbered_place, only_asks,
 };
 use std::alloc::{AllocError, Global};
