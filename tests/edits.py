@@ -69,6 +69,9 @@ ITEM = re.compile(r"(?m)^(?=(?:pub(?:\(\w+\))? )?(?:unsafe )?(?:const|enum|fn|gh
 NAME_OF_TYPE = r"&?(?:\w+::)*(\w+)(?:<[^{]*?>)?"
 OF_TYPE = re.compile(rf"(?:unsafe )?impl(?:<[^{{]*?>)? {NAME_OF_TYPE}(?: for {NAME_OF_TYPE})? \{{")
 
+# What a check says of a function that isn't there.
+NO_FUNCTION = re.compile(r"has no function `([^`]+)`")
+
 # What a check says of a function that isn't proved, of a goal, and of a line of a proof by hand.
 NOT_PROVED = re.compile(r"^fn (\S+): (?:not proved|no proof)(.*)", re.MULTILINE)
 LINE_OF_A_PROOF = re.compile(r"^(?:note: )?(?:\./)?proofs/(\S+?)\.antt:\d+:\d+: error: (.*)", re.MULTILINE)
@@ -238,16 +241,23 @@ def checked(folder, texts, edits=()):
     """
     before = {path: text_of(f"{folder}/{path}") for path in texts}
     paths = [it.paths() for it in edits]
-    only = sorted(set().union(*paths)) if paths and None not in paths else []
-    words = ["nice", "-n", "19", "rt", "check", "--jobs", "1"]
+    asked = only = set().union(*paths) if paths and None not in paths else set()
     write_all(folder, texts)
     try:
-        status, output = run([*words, *(word for path in only for word in ("--only", path))], folder)
-        if status == NO_SUCH_FUNCTION and only:
-            status, output = run(words, folder)
+        status, output = check_of(only, folder)
+        while status == NO_SUCH_FUNCTION and only:
+            # a check names a function of an `impl` otherwise at times: then the others are tried, or the crate
+            only = only - (set(NO_FUNCTION.findall(output)) or only)
+            status, output = check_of(only, folder)
     finally:
         write_all(folder, before)
-    return status == 0, output
+    return status == 0 and (not only or only == asked), output
+
+
+def check_of(only, folder):
+    """A check of these functions, or of the crate where there are none: its status, and what it writes."""
+    asked = (word for path in sorted(only) for word in ("--only", path))
+    return run(["nice", "-n", "19", "rt", "check", "--jobs", "1", *asked], folder)
 
 
 def run(words, folder):
