@@ -1,6 +1,6 @@
 -- What is written is read back.
-use Rattle.std.proofs.Common.{◌≡◌, ◌<◌, ◌≤◌, ℕ, zero, suc, List, ◌∷◌, refl, arith}
-use Rattle.hex.specs.Hex.{encode_lower}
+use Rattle.std.proofs.Common.{◌≡◌, ◌<◌, ◌≤◌, ◌+◌, ℕ, zero, suc, List, ◌∷◌, slice_index, refl, arith}
+use Rattle.hex.specs.Hex.{encode_lower, lower_digits}
 use Rattle.hex.proofs.HexLemmas.{decode_of-encode_lower}
 use Rattle.hsms_frame.specs.declared.header.Header.{Header}
 use Rattle.hsms_frame.specs.Frame.{Frame, IsOctets}
@@ -69,3 +69,37 @@ entry_read_back max entry fits short =
 
 pub settings_read_back : (s t : Parameters) → SpellsSettings (settings_line s) t → IsWithinLimits s → t ≡ s
 settings_read_back s t h within = SpellsSettings-unique (settings_line s) t s h (settings_written s within)
+
+-- ---- hexadecimal digits
+
+pub figure : (n : ℕ) → n < 10 → 48 + n ≡ slice_index lower_digits n
+figure zero lt = refl
+figure (suc zero) lt = refl
+figure (suc (suc zero)) lt = refl
+figure (suc (suc (suc zero))) lt = refl
+figure (suc (suc (suc (suc zero)))) lt = refl
+figure (suc (suc (suc (suc (suc zero))))) lt = refl
+figure (suc (suc (suc (suc (suc (suc zero)))))) lt = refl
+figure (suc (suc (suc (suc (suc (suc (suc zero))))))) lt = refl
+figure (suc (suc (suc (suc (suc (suc (suc (suc zero)))))))) lt = refl
+figure (suc (suc (suc (suc (suc (suc (suc (suc (suc zero))))))))) lt = refl
+figure (suc (suc (suc (suc (suc (suc (suc (suc (suc (suc n)))))))))) lt = absurd (omega (arith, lt))
+
+pub letter : (n : ℕ) → n < 16 → 10 ≤ n → 87 + n ≡ slice_index lower_digits n
+letter zero lt le = absurd (omega (arith, le))
+letter (suc zero) lt le = absurd (omega (arith, le))
+letter (suc (suc zero)) lt le = absurd (omega (arith, le))
+letter (suc (suc (suc zero))) lt le = absurd (omega (arith, le))
+letter (suc (suc (suc (suc zero)))) lt le = absurd (omega (arith, le))
+letter (suc (suc (suc (suc (suc zero))))) lt le = absurd (omega (arith, le))
+letter (suc (suc (suc (suc (suc (suc zero)))))) lt le = absurd (omega (arith, le))
+letter (suc (suc (suc (suc (suc (suc (suc zero))))))) lt le = absurd (omega (arith, le))
+letter (suc (suc (suc (suc (suc (suc (suc (suc zero)))))))) lt le = absurd (omega (arith, le))
+letter (suc (suc (suc (suc (suc (suc (suc (suc (suc zero))))))))) lt le = absurd (omega (arith, le))
+letter (suc (suc (suc (suc (suc (suc (suc (suc (suc (suc zero)))))))))) lt le = refl
+letter (suc (suc (suc (suc (suc (suc (suc (suc (suc (suc (suc zero))))))))))) lt le = refl
+letter (suc (suc (suc (suc (suc (suc (suc (suc (suc (suc (suc (suc zero)))))))))))) lt le = refl
+letter (suc (suc (suc (suc (suc (suc (suc (suc (suc (suc (suc (suc (suc zero))))))))))))) lt le = refl
+letter (suc (suc (suc (suc (suc (suc (suc (suc (suc (suc (suc (suc (suc (suc zero)))))))))))))) lt le = refl
+letter (suc (suc (suc (suc (suc (suc (suc (suc (suc (suc (suc (suc (suc (suc (suc zero))))))))))))))) lt le = refl
+letter (suc (suc (suc (suc (suc (suc (suc (suc (suc (suc (suc (suc (suc (suc (suc (suc n)))))))))))))))) lt le = absurd (omega (arith, lt))

@@ -1,8 +1,8 @@
 //! Log text, written.
 
-ghost use Rattle.std.specs.Prelude.{◌≡◌, ◌≤◌, ◌++◌, [], ◌∷◌, length, decimal};
+ghost use Rattle.std.specs.Prelude.{◌≡◌, ◌≤◌, ◌<◌, ◌*◌, ◌++◌, [], ◌∷◌, length, decimal, slice_index};
 ghost use Rattle.std.specs.List.{flat_map};
-ghost use Rattle.hex.specs.Hex.{encode_lower};
+ghost use Rattle.hex.specs.Hex.{encode_lower, lower_digits};
 ghost use Rattle.hsms_frame.specs.Count.{count_failure};
 ghost use Rattle.hsms_log.specs.Writing.{Puts, version_text, words_of, opening_of, numbers_of, spaced};
 ghost use Rattle.hsms_log.specs.Spelling.{SpellsSettings, SpellsEntry, entry_line, settings_line, event_text, message_octets, system_octets};
@@ -87,8 +87,31 @@ fn put_chunk<W: Sink>(sink: &mut W, octets: &[u8]) -> Result<(), LogFault>
 {
     let mut room = [0u8; 2 * CHUNK];
     let digits = &mut room[..2 * octets.len()];
-    let _ = hex::encode_to_slice(octets, &mut *digits);
+    spell(octets, digits);
     put(sink, digits)
+}
+
+/// Spells octets by hexadecimal digits in lower case, two for each. Without a table, so that it is done to several octets at
+/// once.
+fn spell(octets: &[u8], digits: &mut [u8])
+    requires { length digits.old ≡ 2 * length octets.now }
+    ensures { digits.new ≡ encode_lower octets.now }
+{
+    'octets: for i in 0..octets.len() {
+        let octet = octets[i];
+        digits[2 * i] = digit(octet / 16);
+        digits[2 * i + 1] = digit(octet % 16);
+    }
+}
+
+/// The digit of a value.
+#[inline(always)]
+#[tactic(auto, using(crate::proofs::Written::figure, crate::proofs::Written::letter))]
+fn digit(value: u8) -> u8
+    requires { value < 16 }
+    ensures { result ≡ slice_index lower_digits value }
+{
+    if value < 10 { b'0' + value } else { b'a' - 10 + value }
 }
 
 fn put_number<W: Sink>(sink: &mut W, number: u64) -> Result<(), LogFault>
