@@ -1,5 +1,6 @@
 pub mod Mapped
 pub mod Kept
+pub mod Newest
 pub mod Least
 pub mod First
 pub mod Connection

@@ -24,6 +24,7 @@ mod flow;
 mod judge;
 pub mod laws;
 mod message;
+mod older;
 mod open;
 mod phase;
 mod places;

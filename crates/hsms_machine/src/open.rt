@@ -4,8 +4,8 @@ ghost use Rattle.std.specs.Prelude.{◌≡◌};
 ghost use Rattle.hsms_machine.specs.Timer.{least_of};
 
 use crate::message::{Message, answers, concludes};
+use crate::older::Older;
 use hsms_frame::Header;
-use indexmap::IndexMap;
 use std::alloc::{AllocError, Global};
 use std::marker::Model;
 
@@ -16,57 +16,52 @@ pub struct Transaction {
     pub header: Header,
 }
 
-/// How many closed transactions are kept before they go.
-const MANY: usize = 64;
+/// How many are open at most, which is more than memory has room for.
+const MOST: usize = usize::MAX / 4;
 
-/// Open transactions, in order of opening: no two with the same system bytes, and none before an earlier one.
-///
-/// The map has closed ones at its front, which are counted. They go together, once they are many and more than a half
-/// of it, so that closing the oldest moves none.
+/// Open transactions, in order of opening: no two with the same system bytes, and none before an earlier one. The newest
+/// stands beside the others: where one is open at a time, it is closed before it would be hashed.
 #[derive(Debug)]
 pub struct Transactions {
-    items: IndexMap<u32, Transaction>,
-    closed: usize,
+    older: Older,
+    newest: Option<Transaction>,
 }
 
 impl Model for Transactions {
-    ghost use Rattle.std.specs.Prelude.{List, drop};
-    ghost use Rattle.indexmap.specs.IndexMap.{values};
+    ghost use Rattle.std.specs.Prelude.{List, ◌++◌, option_to_list};
     ghost use Rattle.hsms_machine.specs.declared.open.Transaction.{Transaction};
-    ghost use Rattle.hsms_machine.specs.Ordered.{AreKept};
+    ghost use Rattle.hsms_machine.specs.Ordered.{AreListed};
 
     ghost Value = { List Transaction };
 
-    ghost view = { λ t. drop t.closed (values t.items) };
+    ghost view = { λ t. t.older ++ option_to_list t.newest };
 
-    ghost invariant = { λ t. AreKept t.closed t.items.entries };
+    ghost invariant = { λ t. AreListed t.older t.newest };
 }
 
-// Written out: a proof over a tracker that is dropped then has one step for each map, not one for each of its parts.
+// Written out: a proof over a tracker that is dropped then has one step for each list, not one for each of its parts.
 impl Drop for Transactions {
     fn drop(self) {
-        let Transactions { items, closed: _ } = self;
-        drop(items);
+        let Transactions { older, newest: _ } = self;
+        drop(older);
     }
 }
 
 impl Transactions {
-    ghost use Rattle.std.specs.Prelude.{◌≡◌, ◌-◌, ◌^◌, ◌<◌, ◌==◌, ◌&&◌, not, [], ◌∷◌, ◌++◌, ◌≤◌, length, drop, filter, remove, true, false, nat_lt, nat_le, OnOk, OnErr, IfSome, IfNone};
+    ghost use Rattle.std.specs.Prelude.{◌≡◌, ◌-◌, ◌^◌, ◌<◌, ◌==◌, ◌&&◌, not, [], ◌∷◌, ◌++◌, option_to_list, length, filter, true, false, nat_lt, nat_le, OnOk, OnErr, IfSome, IfNone};
     ghost use Rattle.std.specs.List.{list_any, find};
-    ghost use Rattle.std.specs.Option.{option_map};
     ghost use Rattle.hsms_machine.specs.Timer.{least_in, due_times, due_at};
     ghost use Rattle.hsms_machine.specs.Transaction.{answers as is_answer, concludes as is_conclusion};
     ghost use Rattle.hsms_machine.specs.View.{oldest_of};
-    ghost use Rattle.indexmap.specs.IndexMap.{index_map_len, values};
-    ghost use Rattle.hsms_machine.specs.Ordered.{AreInOrder, AreApart, AreKeyed, AreKept, AreUntil, uses, first_of};
+    ghost use Rattle.hsms_machine.specs.Ordered.{AreInOrder, AreApart, AreListed, AreUntil, uses, first_of};
 
     /// No transaction.
     pub fn new(alloc: Global) -> Self
         ensures { result ≡ [] }
     {
         Transactions {
-            items: IndexMap::new(alloc),
-            closed: 0,
+            older: Older::new(alloc),
+            newest: None,
         }
     }
 
@@ -75,7 +70,10 @@ impl Transactions {
         ensures value { result ≡ length self.now }
         ensures bound { result < 2 ^ 63 }
     {
-        self.items.len() - self.closed
+        match self.newest {
+            Some(_) => self.older.len() + 1,
+            None => self.older.len(),
+        }
     }
 
     /// Says that they are in order of opening, and no two with the same system bytes. Does nothing when it runs.
@@ -83,7 +81,7 @@ impl Transactions {
         ensures in_order { AreInOrder self.now }
         ensures apart { AreApart self.now }
     {
-        let _items = &self.items;
+        let _newest = &self.newest;
     }
 
     /// The transaction that was opened first.
@@ -91,9 +89,9 @@ impl Transactions {
         ensures first { result ≡ first_of self.now }
         ensures in_order { AreInOrder self.now }
     {
-        match self.items.get_index(self.closed) {
-            Some((_, opened)) => Some(*opened),
-            None => None,
+        match self.older.first() {
+            Some(opened) => Some(opened),
+            None => self.newest,
         }
     }
 
@@ -107,38 +105,16 @@ impl Transactions {
         }
     }
 
-    /// The transaction of these system bytes, and its place. The oldest is looked at first, without a hash: mostly
-    /// it is the one that is asked for.
-    #[inline(always)]
-    fn found(&self, system: u32) -> Option<(usize, Transaction)>
-        ensures found { option_map (λ x. x.1) result ≡ find (λ opened. opened.header.system == system) self.now }
-        ensures place { IfSome result (λ x. remove self.now x.0 ≡ filter (λ opened. not (opened.header.system == system)) self.now) }
-        ensures apart { AreApart self.now }
-    {
-        let Some((_, oldest)) = self.items.get_index(self.closed) else {
-            return None;
-        };
-        if oldest.header.system == system {
-            return Some((0, *oldest));
-        }
-        let Some((place, _, opened)) = self.items.get_full(&system) else {
-            return None;
-        };
-        if place < self.closed {
-            return None;
-        }
-        Some((place - self.closed, *opened))
-    }
-
     /// The transaction of these system bytes.
     #[inline(always)]
     pub fn get(&self, system: u32) -> Option<Transaction>
         ensures found { result ≡ find (λ opened. opened.header.system == system) self.now }
         ensures apart { AreApart self.now }
     {
-        match self.found(system) {
-            Some((_, opened)) => Some(opened),
-            None => None,
+        if Self::has_system(self.newest, system) {
+            self.newest
+        } else {
+            self.older.get(system)
         }
     }
 
@@ -160,31 +136,54 @@ impl Transactions {
         ensures ok { OnOk result (self.new ≡ self.old ++ transaction ∷ []) }
         ensures err { OnErr result (self.new ≡ self.old) }
     {
-        let system = transaction.header.system;
-        if self.items.insert(system, transaction)?.is_none() {
-            return Ok(());
-        }
-        // A closed one had these system bytes, and the transaction stands in its place.
-        Self::drop_front(&mut self.items, self.closed);
-        self.closed = 0;
-        self.items.insert(system, transaction)?;
+        Self::push_newest(&mut self.older, self.newest)?;
+        self.newest = Some(transaction);
         Ok(())
     }
 
-    /// Takes so many out at the front.
-    #[inline(never)]
-    fn drop_front(items: &mut IndexMap<u32, Transaction>, count: usize)
-        requires within { count ≤ index_map_len items.old }
-        ensures { items.new.entries ≡ drop count items.old.entries }
+    /// Puts what was the newest among the older ones.
+    #[inline(always)]
+    fn push_newest(older: &mut Older, newest: Option<Transaction>) -> Result<(), AllocError>
+        requires listed { AreListed older.old newest }
+        ensures ok { OnOk result (older.new ≡ older.old ++ option_to_list newest) }
+        ensures few { OnOk result (length older.new < 2 ^ 63 - 1) }
+        ensures err { OnErr result (older.new ≡ older.old) }
     {
-        let left = items.len() - count;
-        if left == 0 {
-            items.truncate(0);
-            return;
+        let Some(newest) = newest else {
+            return Ok(());
+        };
+        if older.len() >= MOST {
+            return Err(AllocError);
         }
-        items.reverse();
-        items.truncate(left);
-        items.reverse();
+        older.push(newest)
+    }
+
+    /// Whether it has these system bytes.
+    #[inline(always)]
+    fn has_system(newest: Option<Transaction>, system: u32) -> bool
+        ensures { result ≡ uses system (option_to_list newest) }
+    {
+        match newest {
+            Some(opened) => opened.header.system == system,
+            None => false,
+        }
+    }
+
+    /// What is left of it after the message.
+    #[inline(always)]
+    fn unconcluded(newest: Option<Transaction>, other: Message) -> Option<Transaction>
+        ensures { option_to_list result ≡ filter (λ opened. not (is_conclusion opened.header other)) (option_to_list newest) }
+    {
+        match newest {
+            Some(opened) => {
+                if concludes(opened.header, other) {
+                    None
+                } else {
+                    Some(opened)
+                }
+            }
+            None => None,
+        }
     }
 
     /// Whether some transaction has waited for longer than the limit.
@@ -254,24 +253,6 @@ impl Transactions {
         time.checked_add(u64::from(limit))
     }
 
-    /// The place of the transaction that the message, which goes in the other direction, answers or rejects.
-    #[inline(always)]
-    fn place_concluded(&self, other: Message) -> Option<usize>
-        ensures none { IfNone result (list_any (λ opened. is_conclusion opened.header other) self.now ≡ false) }
-        ensures place { IfSome result (λ place. remove self.now place ≡ filter (λ opened. not (is_conclusion opened.header other)) self.now) }
-    {
-        match self.found(other.header().system) {
-            Some((place, opened)) => {
-                if concludes(opened.header, other) {
-                    Some(place)
-                } else {
-                    None
-                }
-            }
-            None => None,
-        }
-    }
-
     /// When the transaction was opened that the message, which goes in the other direction, answers or rejects.
     pub fn time_concluded(&self, other: Message) -> Option<u64>
         ensures time { IfSome result (λ time. list_any (λ opened. is_conclusion opened.header other && (opened.time == time)) self.now ≡ true) }
@@ -293,58 +274,8 @@ impl Transactions {
     pub fn clear(&mut self)
         ensures { self.new ≡ [] }
     {
-        self.items.truncate(0);
-        self.closed = 0;
-    }
-
-    /// Takes out the one at this place. The oldest is counted as closed, and the last is taken off the end: none moves.
-    #[inline(always)]
-    fn remove_at(&mut self, place: usize)
-        ensures { self.new ≡ remove self.old place }
-    {
-        if place == 0 {
-            self.close_oldest();
-            self.let_go();
-        } else {
-            self.remove_later(place);
-        }
-    }
-
-    /// Counts the oldest as closed.
-    #[inline(always)]
-    fn close_oldest(&mut self)
-        ensures { self.new ≡ remove self.old 0 }
-    {
-        if self.closed < self.items.len() {
-            self.closed += 1;
-        }
-    }
-
-    /// Lets the closed ones go once they are many, and more than a half of the map.
-    #[inline(always)]
-    fn let_go(&mut self)
-        ensures { self.new ≡ self.old }
-    {
-        if self.closed >= MANY && self.closed > self.items.len() / 2 {
-            Self::drop_front(&mut self.items, self.closed);
-            self.closed = 0;
-        }
-    }
-
-    /// Takes out the one at this place, where a later one may move up. The last is taken off the end.
-    #[inline(never)]
-    fn remove_later(&mut self, place: usize)
-        ensures { self.new ≡ remove self.old place }
-    {
-        if place >= self.items.len() - self.closed {
-            return;
-        }
-        let at = self.closed + place;
-        if at == self.items.len() - 1 {
-            self.items.pop();
-        } else {
-            self.items.shift_remove_index(at);
-        }
+        self.older.clear();
+        self.newest = None;
     }
 
     /// Takes out what the message, which goes in the other direction, answers or rejects.
@@ -352,9 +283,10 @@ impl Transactions {
     pub fn remove_concluded(&mut self, other: Message)
         ensures { self.new ≡ filter (λ opened. not (is_conclusion opened.header other)) self.old }
     {
-        match self.place_concluded(other) {
-            Some(place) => self.remove_at(place),
-            None => {}
+        if Self::has_system(self.newest, other.header().system) {
+            self.newest = Self::unconcluded(self.newest, other);
+        } else {
+            self.older.remove_concluded(other);
         }
     }
 
@@ -362,9 +294,10 @@ impl Transactions {
     pub fn remove_system(&mut self, system: u32)
         ensures { self.new ≡ filter (λ opened. not (opened.header.system == system)) self.old }
     {
-        match self.found(system) {
-            Some((place, _)) => self.remove_at(place),
-            None => {}
+        if Self::has_system(self.newest, system) {
+            self.newest = None;
+        } else {
+            self.older.remove_system(system);
         }
     }
 }
