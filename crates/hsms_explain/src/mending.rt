@@ -34,6 +34,7 @@ pub fn judge_entry(
 ) -> Result<(), AllocError>
     ensures judged { OnOk result (first_why notes.old.items ≡ None
         → FailsBy known.old.course (entry_by entry text.now) known.new.course (first_why notes.new.items)) }
+    ensures mends { OnOk result (Mends known.old.course (entry_by entry text.now) known.new.course) }
     ensures settings { OnOk result (known.new.settings ≡ known.old.settings) }
     ensures line { OnOk result (known.new.course.line ≡ known.old.course.line) }
 {
@@ -56,6 +57,9 @@ fn mend(
     notes: &mut Vec<Note>,
 ) -> Result<(), AllocError>
     ensures noted { OnOk result ((why : Reason) → first_why notes.old.items ≡ Some why → first_why notes.new.items ≡ Some why) }
+    ensures mends { OnOk result (RowLeads known.old.course 1 (entry_by entry text.now ∷ [])
+        (changed (change_by remedy (entry_by entry text.now)) (entry_by entry text.now) []) known.old.course
+        → Mends known.old.course (entry_by entry text.now) known.new.course) }
     ensures settings { OnOk result (known.new.settings ≡ known.old.settings) }
     ensures line { OnOk result (known.new.course.line ≡ known.old.course.line) }
 {
@@ -151,7 +155,10 @@ fn sentence_of(what: What, rule: Rule) -> &'static str {
 }
 
 // What is judged next: the step as it is changed, or what is put before it, and then the step again.
-fn go_on(pending: &mut Vec<Step>, step: Step, remedy: Remedy) -> Result<(), AllocError> {
+fn go_on(pending: &mut Vec<Step>, step: Step, remedy: Remedy) -> Result<(), AllocError>
+    ensures { OnOk result ((text : List ℕ) → entries_of text pending.new.items
+        ≡ changed (change_by remedy (entry_by step text)) (entry_by step text) (entries_of text pending.old.items)) }
+{
     match remedy {
         Remedy::Raise(time) => put(pending, Step { time, ..step }),
         Remedy::Discard => put(pending, thrown_away(step)),
@@ -162,17 +169,24 @@ fn go_on(pending: &mut Vec<Step>, step: Step, remedy: Remedy) -> Result<(), Allo
     }
 }
 
-fn put_first(pending: &mut Vec<Step>, step: Step, time: u64, what: What) -> Result<(), AllocError> {
+fn put_first(pending: &mut Vec<Step>, step: Step, time: u64, what: What) -> Result<(), AllocError>
+    ensures { OnOk result ((text : List ℕ) → entries_of text pending.new.items
+        ≡ entry_of_what time what text ∷ entry_by step text ∷ entries_of text pending.old.items) }
+{
     put(pending, step)?;
     put(pending, Step { time, what })
 }
 
-fn put(pending: &mut Vec<Step>, step: Step) -> Result<(), AllocError> {
+fn put(pending: &mut Vec<Step>, step: Step) -> Result<(), AllocError>
+    ensures { OnOk result ((text : List ℕ) → entries_of text pending.new.items ≡ entry_by step text ∷ entries_of text pending.old.items) }
+{
     pending.push(step)?;
     Ok(())
 }
 
-fn thrown_away(step: Step) -> Step {
+fn thrown_away(step: Step) -> Step
+    ensures { (text : List ℕ) → entry_by result text ≡ entry_of_event step.time (without_taking (entry_by step text).event) }
+{
     match step.what {
         What::Frame(Mark::Taken, header) => Step {
             time: step.time,
