@@ -203,15 +203,20 @@ def answers(way, room):
             yield name, str(why)[:2000]
 
 
+def untried(why):
+    print(f"not tried: {why}\n0 passed, 0 failed")
+    return 0
+
+
 def main():
     missing = [tool for tool in TOOLS if not shutil.which(tool)]
     if missing or os.geteuid():
-        print(f"not tried: {f'no {missing[0]} here' if missing else 'only root may capture'}")
-        print("0 passed, 0 failed")
-        return 0
+        return untried(f"no {missing[0]} here" if missing else "only root may capture")
     try:
         with ThreadPoolExecutor(len(WAYS)) as pool:
             told = [answer for answers_of in pool.map(tried, WAYS) for answer in answers_of]
+    except PermissionError as why:
+        return untried(why)
     finally:
         Serving.stop_all()
     failed = [(name, wrong) for name, wrong in told if wrong]
