@@ -7,7 +7,7 @@ use Rattle.hsms_log.specs.declared.verdict.Verdict.{Verdict}
 use Rattle.hsms_options.specs.declared.excerpt.Telling.{Telling}
 use Rattle.hsms_options.specs.declared.fault.ToolFault.{ToolFault}
 use Rattle.hsms_options.specs.declared.fault.ToolFault.TheVariants.{Refused, Device, Memory}
-use Rattle.hsms_tasks.specs.Show.{CountsFailure, LeavesPart, IsReadWriteOrEndless, IsWrite}
+use Rattle.hsms_lines.specs.Devices.{CountsFailure, LeavesPart, IsReadWriteOrEndless, IsWrite}
 use Rattle.hsms_explain.specs.declared.explainer.Explainer.{Explainer}
 use Rattle.hsms_explain.specs.Ending.{ending_of}
 use Rattle.hsms_explain.specs.Explain.{GrowsBySome, EndsWithVerdict, Concludes, ExplainsTo, IsOfTelling}

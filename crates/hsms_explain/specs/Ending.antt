@@ -7,7 +7,7 @@ use Rattle.hsms_log.specs.declared.verdict.Verdict.TheVariants.{Pass, Fail}
 use Rattle.hsms_machine.specs.declared.rule.Rule.{Rule}
 use Rattle.hsms_options.specs.declared.excerpt.Telling.{Telling}
 use Rattle.hsms_options.specs.declared.excerpt.Telling.TheVariants.{Text, Json, Html}
-use Rattle.hsms_tasks.specs.Verdict.{rule_name, verdict_line_of}
+use Rattle.hsms_lines.specs.Verdict.{rule_name, verdict_line_of}
 
 -- ---- as an object of JSON (RFC 8259), in a line
 

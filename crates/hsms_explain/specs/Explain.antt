@@ -6,8 +6,8 @@ use Rattle.hsms_log.specs.declared.verdict.Verdict.{Verdict}
 use Rattle.hsms_options.specs.declared.excerpt.Telling.{Telling}
 use Rattle.hsms_options.specs.declared.fault.ToolFault.{ToolFault}
 use Rattle.hsms_options.specs.declared.fault.ToolFault.TheVariants.{Refused, Device, Memory}
-use Rattle.hsms_tasks.specs.Audit.{is_pass}
-use Rattle.hsms_tasks.specs.Show.{LeavesPart}
+use Rattle.hsms_lines.specs.Verdict.{is_pass}
+use Rattle.hsms_lines.specs.Devices.{LeavesPart}
 use Rattle.hsms_explain.specs.Ending.{ending_of}
 
 -- something was written behind what was there before

@@ -4,7 +4,7 @@ use Rattle.hsms_log.specs.declared.verdict.Why.{Why}
 use Rattle.hsms_log.specs.declared.verdict.Why.TheVariants.{Unreadable, Broken}
 use Rattle.hsms_machine.specs.declared.entry.Cause.{Cause}
 use Rattle.hsms_machine.specs.declared.entry.Cause.TheVariants.{T6, T7, T8, Length}
-use Rattle.hsms_tasks.specs.Verdict.{rule_name}
+use Rattle.hsms_lines.specs.Verdict.{rule_name}
 use Rattle.hsms_explain.specs.declared.words.Tie.{Tie}
 use Rattle.hsms_explain.specs.declared.words.Tie.TheVariants.{Answers, Rejects, Expires}
 use Rattle.hsms_explain.specs.declared.words.Closing.{Closing}

@@ -6,7 +6,7 @@ ghost use Rattle.hsms_explain.specs.Ending.{broken_object_of, ending_of, flow_me
 use hsms_log::{Summary, Verdict, Why};
 use hsms_machine::Rule;
 use hsms_options::Telling;
-use hsms_tasks::{rule_name, verdict_line};
+use hsms_lines::{rule_name, verdict_line};
 use std::alloc::{AllocError, Global};
 
 /// The verdict, in the form in which the log is told, with what stands behind it there.

@@ -3,8 +3,8 @@
 ghost use Rattle.std.specs.Prelude.{◌≡◌, ◌<◌, ◌^◌, List, ℕ, IfOk, IfErr, OnOk, OnErr, codes, length};
 ghost use Rattle.hsms_frame.specs.Device.{WhereTold};
 ghost use Rattle.hsms_log.specs.Auditing.{HasEnded};
-ghost use Rattle.hsms_tasks.specs.Audit.{is_pass};
-ghost use Rattle.hsms_tasks.specs.Show.{CountsFailure, IsReadWriteOrEndless};
+ghost use Rattle.hsms_lines.specs.Verdict.{is_pass};
+ghost use Rattle.hsms_lines.specs.Devices.{CountsFailure, IsReadWriteOrEndless};
 ghost use Rattle.hsms_explain.specs.Explain.{Concludes, ExplainsTo, GrowsBySome, IsOfTelling};
 ghost use Rattle.hsms_explain.specs.Heard.{HasHeard};
 
@@ -13,7 +13,7 @@ use crate::explainer::Explainer;
 use hsms_frame::{Sink, Source};
 use hsms_log::Verdict;
 use hsms_options::{Excerpt, Telling, ToolFault};
-use hsms_tasks::put;
+use hsms_lines::put;
 use std::alloc::Global;
 
 // The octets that one read takes at most.

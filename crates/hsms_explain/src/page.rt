@@ -3,7 +3,7 @@
 ghost use Rattle.std.specs.Prelude.{◌≤◌};
 
 use hsms_frame::Header;
-use hsms_tasks::give_line;
+use hsms_lines::give_line;
 use itoa::Buffer;
 use secs_text::{Block, Output};
 use std::alloc::{AllocError, Global};

@@ -6,7 +6,7 @@ ghost use Rattle.hsms_explain.specs.Words.{alike_text, cause_word, closing_text,
 use crate::moment::Moment;
 use hsms_log::Why;
 use hsms_machine::{Cause, Remedy};
-use hsms_tasks::rule_name;
+use hsms_lines::rule_name;
 use std::fmt;
 
 /// What an entry is to the transaction that it closes.

@@ -10,10 +10,11 @@ use Rattle.hsms_log.specs.declared.verdict.Verdict.{Verdict}
 use Rattle.hsms_log.specs.declared.verdict.Verdict.TheVariants.{Pass, Fail}
 use Rattle.hsms_options.specs.declared.fault.ToolFault.{ToolFault}
 use Rattle.hsms_options.specs.declared.fault.ToolFault.TheVariants.{Refused, Device, Memory}
-use Rattle.hsms_tasks.specs.Audit.{AuditsTo, CountsVerdict, IsEndless, Judged, TellsAudit, is_pass}
-use Rattle.hsms_tasks.specs.Show.{CountsFailure, IsReading, IsWrite}
-use Rattle.hsms_tasks.specs.Verdict.{verdict_line_of}
-use Rattle.hsms_tasks.proofs.Runs.{counts_as}
+use Rattle.hsms_lines.specs.Verdict.{is_pass}
+use Rattle.hsms_tasks.specs.Audit.{AuditsTo, CountsVerdict, IsEndless, Judged, TellsAudit}
+use Rattle.hsms_lines.specs.Devices.{CountsFailure, IsReading, IsWrite}
+use Rattle.hsms_lines.specs.Verdict.{verdict_line_of}
+use Rattle.hsms_lines.proofs.Devices.{counts_as}
 
 -- words that differ by their first letter
 write_is_no_endless : (given : List ℕ) → given ≡ codes "Write" → given ≢ codes "Endless"

@@ -9,8 +9,8 @@ use Rattle.hsms_options.specs.declared.options.Form.{Form}
 use Rattle.hsms_options.specs.declared.options.Form.TheVariants as forms
 use Rattle.hsms_tasks.specs.Doing.{IsDone, Prints, ShowsForm, well}
 use Rattle.hsms_tasks.specs.Encode.{EncodesAll}
-use Rattle.hsms_tasks.specs.Show.{CountsFailure, IsReadOrWrite, IsReadWriteOrEndless, IsWrite}
-use Rattle.hsms_tasks.proofs.Devices.{of_write, wider}
+use Rattle.hsms_lines.specs.Devices.{CountsFailure, IsReadOrWrite, IsReadWriteOrEndless, IsWrite}
+use Rattle.hsms_lines.proofs.Devices.{of_write, wider}
 
 shows_well : (form : Form) (max depth : ℕ) (input : List ℕ) (r : Result (Unit {0}) ToolFault) (left old new : Option (List ℕ))
     → ShowsForm form max depth input r left old new → ShowsForm form max depth input (well r) left old new

@@ -8,7 +8,7 @@ use Rattle.hsms_frame.specs.Device.{Grows, GrowsByFront, Stays}
 use Rattle.hsms_frame.specs.Frame.{Frame}
 use Rattle.hsms_options.specs.declared.fault.ToolFault.{ToolFault}
 use Rattle.hsms_options.specs.declared.fault.ToolFault.TheVariants.{Refused, Device, Memory}
-use Rattle.hsms_tasks.specs.Show.{IsWrite}
+use Rattle.hsms_lines.specs.Devices.{IsWrite}
 use Rattle.secs_text.specs.Fault.{NotesFault}
 use Rattle.secs_text.specs.declared.fault.TextFault.{TextFault}
 use Rattle.secs_text.specs.declared.fault.TextFault.TheVariants as text
@@ -111,3 +111,9 @@ not_notation device max depth hex system input (text.Deep at) (Refused words) (i
 not_notation device max depth hex system input (text.Deep at) (Refused words) (inl why) is = cc
 not_notation device max depth hex system input fault (Device word) why is = absurd is
 not_notation device max depth hex system input fault Memory why is = tt
+
+pub of_encoding : (device max depth : ℕ) (hex : Bool) (system : ℕ) (input : List ℕ) (fault : ToolFault) → IsNotEncoded device max depth hex system input fault
+    → IsReadOrWrite fault
+of_encoding device max depth hex system input (Refused words) why = tt
+of_encoding device max depth hex system input (Device given) why = absurd why
+of_encoding device max depth hex system input Memory why = tt

@@ -7,7 +7,7 @@ use Rattle.hsms_frame.specs.Device.{WhereTold, Takes, IsAtEnd, Stays, ends_after
 use Rattle.hsms_options.specs.declared.fault.ToolFault.{ToolFault}
 use Rattle.hsms_options.specs.declared.fault.ToolFault.TheVariants.{Refused, Device, Memory}
 use Rattle.hsms_tasks.specs.Encode.{IsReadPast, IsPartOfInput}
-use Rattle.hsms_tasks.specs.Show.{CountsFailure, HasWord, IsRead}
+use Rattle.hsms_lines.specs.Devices.{CountsFailure, HasWord, IsRead}
 use Rattle.hsms_options.specs.Status.{IsRefusedAs}
 
 -- these octets were read, and the others are left

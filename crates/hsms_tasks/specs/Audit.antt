@@ -10,12 +10,8 @@ use Rattle.hsms_log.specs.declared.verdict.Verdict.TheVariants.{Pass, Fail}
 use Rattle.hsms_log.specs.Auditing.{AuditsAs, HasEnded, RisesBy}
 use Rattle.hsms_options.specs.declared.fault.ToolFault.{ToolFault}
 use Rattle.hsms_options.specs.declared.fault.ToolFault.TheVariants.{Refused, Device, Memory}
-use Rattle.hsms_tasks.specs.Show.{CountsFailure}
-use Rattle.hsms_tasks.specs.Verdict.{verdict_line_of}
-
-abbrev pub is_pass : Verdict → Bool
-is_pass (Pass summary) = true
-is_pass (Fail line why) = false
+use Rattle.hsms_lines.specs.Devices.{CountsFailure}
+use Rattle.hsms_lines.specs.Verdict.{is_pass, verdict_line_of}
 
 -- all reads were used, and none found the end
 abbrev pub IsEndless : ToolFault → Type 0

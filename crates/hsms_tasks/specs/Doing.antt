@@ -11,8 +11,8 @@ use Rattle.hsms_options.specs.declared.options.Task.{Task}
 use Rattle.hsms_options.specs.declared.options.Task.TheVariants as asked
 use Rattle.hsms_tasks.specs.Audit.{AuditsTo}
 use Rattle.hsms_tasks.specs.Encode.{EncodesAll}
-use Rattle.hsms_tasks.specs.Show.{Shows}
-use Rattle.hsms_tasks.specs.ShowHex.{ShowsHex}
+use Rattle.hsms_show.specs.Show.{Shows}
+use Rattle.hsms_show.specs.ShowHex.{ShowsHex}
 
 -- a text is written, or a part of it where the write fails
 abbrev pub Prints : List ℕ → Result Bool ToolFault → Option (List ℕ) → Option (List ℕ) → Type 0

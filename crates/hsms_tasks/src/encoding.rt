@@ -7,12 +7,12 @@ ghost use Rattle.secs_text.specs.View.{contents};
 ghost use Rattle.hsms_frame.specs.Count.{next_count};
 ghost use Rattle.hsms_frame.specs.Device.{WhereTold};
 ghost use Rattle.hsms_tasks.specs.Encode.{EncodesAll, Encodes, IsNotEncoded, IsNotRead, IsToldText};
-ghost use Rattle.hsms_tasks.specs.Show.{CountsFailure, IsReadOrWrite};
+ghost use Rattle.hsms_lines.specs.Devices.{CountsFailure, IsReadOrWrite};
 
 use crate::frames::{Frames, Framing};
 use crate::input::read_whole;
-use crate::outlet::put;
 use hsms_frame::{Sink, Source};
+use hsms_lines::put;
 use hsms_options::ToolFault;
 use secs_text::{Message, TextFault, read_all, spell_all};
 use std::alloc::{AllocError, Global};

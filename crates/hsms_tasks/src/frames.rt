@@ -6,9 +6,9 @@ ghost use Rattle.secs_text.specs.Content.{Content};
 ghost use Rattle.hsms_frame.specs.Frame.{frame_octets};
 ghost use Rattle.hsms_tasks.specs.Encode.{output_of, HasRefused};
 
-use crate::digits::{digits_of_few, digits_of_sixteen};
 use crate::refusal::Refusal;
 use hsms_frame::{Header, data_header, front_octets};
+use hsms_lines::{digits_of_few, digits_of_sixteen};
 use hsms_options::{ToolFault, refused};
 use secs_text::{Head, Receiver};
 use std::alloc::{AllocError, Global};

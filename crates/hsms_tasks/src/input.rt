@@ -4,7 +4,7 @@ ghost use Rattle.std.specs.Prelude.{◌≡◌, ◌≤◌, ◌<◌, length, vec_l
 ghost use Rattle.hsms_frame.specs.Count.{next_count};
 ghost use Rattle.hsms_frame.specs.Device.{WhereTold, Takes, IsAtEnd, Stays, ends_after};
 ghost use Rattle.hsms_tasks.specs.Encode.{IsWholeInput, IsReadPast, IsPartOfInput};
-ghost use Rattle.hsms_tasks.specs.Show.{CountsFailure, HasWord, IsRead};
+ghost use Rattle.hsms_lines.specs.Devices.{CountsFailure, HasWord, IsRead};
 
 use hsms_frame::Source;
 use hsms_options::{ToolFault, refused};

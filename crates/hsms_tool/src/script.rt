@@ -5,7 +5,7 @@ ghost use Rattle.hsms_ends.specs.declared.step.Step.TheVariants.{Send, Separate}
 ghost use Rattle.hsms_frame.specs.Count.{next_count};
 ghost use Rattle.hsms_frame.specs.Device.{WhereTold};
 ghost use Rattle.hsms_tool.specs.Script.{IsNoScript, IsScript, is_reply, replies_of, steps_of as script_steps};
-ghost use Rattle.hsms_tasks.specs.Show.{CountsFailure, HasWord};
+ghost use Rattle.hsms_lines.specs.Devices.{CountsFailure, HasWord};
 
 use hsms_ends::Step;
 use hsms_frame::Source;

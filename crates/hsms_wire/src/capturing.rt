@@ -1,7 +1,7 @@
 //! `hsms capture`: a capture, read once.
 
 ghost use Rattle.std.specs.Prelude.{◌≡◌, IfErr, IfOk, OnOk, None, codes};
-ghost use Rattle.hsms_tasks.specs.Show.{CountsFailure, IsReadWriteOrEndless};
+ghost use Rattle.hsms_lines.specs.Devices.{CountsFailure, IsReadWriteOrEndless};
 ghost use Rattle.hsms_wire.specs.Capturing.{CapturesTo, GrowsBySome, IsMissingBy, IsWriteOrEndless};
 ghost use Rattle.hsms_wire.specs.Report.{Concludes, EndsWith, Tells, Writes};
 

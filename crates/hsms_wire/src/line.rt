@@ -2,7 +2,7 @@
 
 ghost use Rattle.std.specs.Prelude.{◌≡◌, ◌++◌, IfOk, OnOk, string_bytes};
 ghost use Rattle.hsms_log.specs.Spelling.{role_word};
-ghost use Rattle.hsms_tasks.specs.Verdict.{verdict_line_of};
+ghost use Rattle.hsms_lines.specs.Verdict.{verdict_line_of};
 ghost use Rattle.hsms_wire.specs.Line.{address_text, end_line_of, front_of, lack_words, side_word, told_words, verdict_line_at, verdict_line_by};
 
 use crate::account::Told;
@@ -11,7 +11,7 @@ use crate::shortfall::Shortfall;
 use hsms_capture::Side;
 use hsms_log::{Verdict, Why};
 use hsms_machine::Role;
-use hsms_tasks::{rule_name, verdict_line};
+use hsms_lines::{rule_name, verdict_line};
 use std::alloc::{AllocError, Global};
 use std::net::SocketAddr;
 

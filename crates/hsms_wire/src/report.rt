@@ -14,7 +14,7 @@ use hsms_frame::Sink;
 use hsms_log::Verdict;
 use hsms_machine::{Role, Settings};
 use hsms_options::{Capturing, ToolFault};
-use hsms_tasks::put;
+use hsms_lines::put;
 use std::alloc::Global;
 
 /// What is told: the verdicts on the logs of both ends, or the log of one end.
@@ -42,7 +42,7 @@ impl Report {
     ghost use Rattle.std.specs.Prelude.{◌≡◌, ◌⊎◌, ◌++◌, [], List, ℕ, None, Some, IfErr, OnOk, true};
     ghost use Rattle.hsms_frame.specs.Count.{count_failure};
     ghost use Rattle.hsms_frame.specs.Device.{Grows};
-    ghost use Rattle.hsms_tasks.specs.Show.{IsWrite};
+    ghost use Rattle.hsms_lines.specs.Devices.{IsWrite};
     ghost use Rattle.hsms_wire.specs.Capturing.{GrowsBySome};
     ghost use Rattle.hsms_wire.specs.declared.report.Manner.TheVariants.{Verdicts};
     ghost use Rattle.hsms_wire.specs.declared.stop.Stop.TheVariants.{Memory};

@@ -1,6 +1,6 @@
 use Rattle.std.proofs.lemmas.Result.{err_from_is_err_and}
 use Rattle.hsms_tasks.proofs.Audits.{counts_unjudged, counts_unlined, counts_unwritten, stops_unjudged, stops_unwritten}
-use Rattle.hsms_tasks.proofs.Devices.{of_reading, of_write, wider}
+use Rattle.hsms_lines.proofs.Devices.{of_reading, of_write, wider}
 use Rattle.hsms_tasks.proofs.auditing.audit_to.Goals as goal
 
 pub returns-in_err-verdict-clause-line : goal.returns-in_err-verdict-clause-line

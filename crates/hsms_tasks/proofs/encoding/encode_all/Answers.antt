@@ -1,6 +1,7 @@
 use Rattle.std.proofs.lemmas.Result.{err_from_is_err_and}
 use Rattle.hsms_tasks.proofs.Encodings.{stops_reading, stops_writing, writes_all}
-use Rattle.hsms_tasks.proofs.Devices.{of_encoding, of_read, of_write}
+use Rattle.hsms_tasks.proofs.Encodings.{of_encoding}
+use Rattle.hsms_lines.proofs.Devices.{of_read, of_write}
 use Rattle.hsms_tasks.proofs.encoding.encode_all.Goals as goal
 
 pub returns-in_err-input-clause-frames : goal.returns-in_err-input-clause-frames

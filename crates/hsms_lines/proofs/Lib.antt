@@ -1,0 +1,4 @@
+pub mod Devices
+pub mod DigitTable
+pub mod Givens
+pub mod Outlets

@@ -1,0 +1,4 @@
+pub mod Devices
+pub mod Held
+pub mod Line
+pub mod Verdict

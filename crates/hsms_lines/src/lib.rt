@@ -1,0 +1,23 @@
+//! The lines that the command writes, and what holds them on their way: the line of a message, that of a verdict, and octets
+//! in hexadecimal.
+//!
+//! [`lay_line`] lays the line of a message behind those that are held, [`put_out`] writes what is held, and [`put`] writes
+//! at once:
+//!
+//! ```
+//! lay_line(&mut sink, &mut held, header, text, 100)?;
+//! put_out(&mut sink, &mut held)?;
+//! ```
+#![tactic(auto)]
+
+mod digits;
+mod line;
+mod notation;
+mod outlet;
+mod parts;
+mod verdict;
+
+pub use digits::{digits_of_few, digits_of_sixteen};
+pub use line::give_line;
+pub use outlet::{lay_line, put, put_out};
+pub use verdict::{name as rule_name, verdict_line};

@@ -1,0 +1,67 @@
+//! The parts of a line, given to an output one after another.
+
+ghost use Rattle.std.specs.Prelude.{◌≡◌, ◌<◌, ◌++◌, codes, decimal, length};
+ghost use Rattle.hex.specs.Hex.{encode_lower};
+ghost use Rattle.secs_text.specs.Laid.{Lays};
+ghost use Rattle.hsms_lines.specs.Line.{address_of, text_of};
+
+use crate::digits::{address, digits_of_few, digits_of_sixteen};
+use hsms_frame::Header;
+use itoa::Buffer;
+use secs_text::{Block, Output};
+
+/// What a line begins with: a name, session ID and system bytes.
+#[inline(always)]
+pub fn give_front<O: Output>(out: &mut O, block: &mut Block, name: &[u8], header: Header)
+    ensures { Lays (O.Given out.old) block.old (O.Given out.new) block.new (name.now ++ address_of header) }
+{
+    block.lay(out, name);
+    block.lay(out, &address(header));
+}
+
+/// A number below 256 in decimal.
+pub fn give_decimal<O: Output>(out: &mut O, block: &mut Block, number: u8)
+    ensures { Lays (O.Given out.old) block.old (O.Given out.new) block.new (decimal number) }
+{
+    let mut buffer = Buffer::new();
+    block.lay(out, buffer.format(number).as_bytes());
+}
+
+/// A number below 256 in decimal, after a space.
+pub fn give_number<O: Output>(out: &mut O, block: &mut Block, number: u8)
+    ensures { Lays (O.Given out.old) block.old (O.Given out.new) block.new (codes " " ++ decimal number) }
+{
+    block.lay(out, b" ");
+    give_decimal(out, block, number);
+}
+
+/// The text of a message that isn't data, if it has one.
+pub fn give_text<O: Output>(out: &mut O, block: &mut Block, text: &[u8])
+    ensures { Lays (O.Given out.old) block.old (O.Given out.new) block.new (text_of text.now) }
+{
+    if !text.is_empty() {
+        block.lay(out, b" ! ");
+        give_hexadecimal(out, block, text);
+    }
+}
+
+/// Octets in hexadecimal.
+pub fn give_hexadecimal<O: Output>(out: &mut O, block: &mut Block, octets: &[u8])
+    ensures { Lays (O.Given out.old) block.old (O.Given out.new) block.new (encode_lower octets.now) }
+{
+    let mut rest = octets;
+    while let Some((front, others)) = rest.split_first_chunk::<16>() {
+        block.lay_array(out, &digits_of_sixteen(front));
+        rest = others;
+    }
+    give_few(out, block, rest);
+}
+
+// Fewer than sixteen octets in hexadecimal.
+fn give_few<O: Output>(out: &mut O, block: &mut Block, octets: &[u8])
+    requires { length octets.now < 16 }
+    ensures { Lays (O.Given out.old) block.old (O.Given out.new) block.new (encode_lower octets.now) }
+{
+    let digits = digits_of_few(octets);
+    block.lay(out, &digits[..2 * octets.len()]);
+}
