@@ -8,6 +8,8 @@ A must-fail edit is a wrong body, which the check has to refuse: a file tests/mu
     old: a text that stands once in the file
     new: what stands there in its place
 
+Further lines of a text stand each behind `and: `.
+
 Where a file has several bodies, each stands behind a line `-- BODY`. A file of one body says in its first line what
 this does. Were it refused only because a proof no longer fits the changed text, that would say nothing of a contract.
 So it has a twin, tests/twins/NAME.edit: an edit of the same place and the same shape, which means what the code means
@@ -37,7 +39,9 @@ import sys
 import tempfile
 import threading
 import time
-from concurrent.futures import FIRST_COMPLETED, ThreadPoolExecutor, wait
+from collections import Counter
+from concurrent.futures import ThreadPoolExecutor
+from contextlib import contextmanager
 from dataclasses import dataclass
 
 sys.dont_write_bytecode = True
@@ -152,16 +156,20 @@ def named_impl(first, second):
 
 def changes_in(lines):
     """The changes that lines tell."""
-    path = old = ""
+    path, texts, word = "", {}, ""
     found = []
-    for line in lines:
-        word, _, rest = line.partition(": ")
+    for line in [*lines, ""]:
+        key, _, rest = line.partition(": ")
+        if key == "and":
+            texts[word] += f"\n{rest}"
+            continue
+        if word == "new":
+            found.append(Change(path, texts["old"], texts["new"]))
+        word = key.rstrip(":")
         if word == "file":
             path = rest
-        elif word == "old":
-            old = rest
-        elif word in ("new", "new:"):
-            found.append(Change(path, old, rest))
+        elif word in ("old", "new"):
+            texts[word] = rest
     return tuple(found)
 
 
@@ -215,13 +223,13 @@ def without_a_fellow(crates, twins):
     return told
 
 
+def keep(source, target):
+    # a check replaces a file with what it proved, and changes none
+    (link if source.endswith(".oantt") else shutil.copy2)(source, target)
+
+
 def room_with_what_is_kept(crate, room):
     """A room for a crate, with what earlier checks kept of it."""
-
-    def keep(source, target):
-        # a check replaces a file with what it proved, and changes none
-        (link if source.endswith(".oantt") else shutil.copy2)(source, target)
-
     folder = room_for(crate, room)
     bring(crate, ("out",), room, keep)
     return folder
@@ -287,12 +295,26 @@ def named(parts):
     return owners[-1] if owners and owners[-1][0].isupper() else "/".join(owners), name
 
 
-def chosen(folder, edits, most):
-    """Edits that can be tried in one check, of different functions, at most so many, and the texts with all of them. None
-    that turns more than functions is among others.
+def in_lots(folder, edits):
+    """Edits in lots that can each be tried in one check: of different functions, and at most so many. None that turns more
+    than functions is among others. The later lots are of one size, so that they end together.
     """
+    first, texts = chosen(folder, edits)
+    left = [it for it in edits if it not in first]
+    lots = [first] if first else []
+    while left:
+        most = max(max(Counter(of for it in left for of in it.functions()).values()), -(-len(left) // TOGETHER))
+        lot, texts = chosen(folder, left, -(-len(left) // most))
+        left = [it for it in left if it not in lot]
+        lots.append(lot)
+    return lots
+
+
+def chosen(folder, edits, most=TOGETHER):
+    """Edits that can be tried in one check, those of the functions that have most of them first, and the texts with them."""
+    of_function = Counter(of for it in edits for of in it.functions())
     texts, taken, functions = {}, [], set()
-    for edit in edits:
+    for edit in sorted(edits, key=lambda it: -max(of_function[of] for of in it.functions())):
         is_apart = taken and None in edit.turned() | taken[0].turned()
         if is_apart or functions & edit.functions() or len(taken) == most:
             continue
@@ -305,86 +327,147 @@ def chosen(folder, edits, most):
     return taken, texts
 
 
+class Lanes:
+    """Room for some checks at once: whoever comes when all are taken waits."""
+
+    def __init__(self, most):
+        self.most, self.taken, self.freed = most, 0, threading.Condition()
+
+    def __enter__(self):
+        with self.freed:
+            while self.taken >= self.most():
+                self.freed.wait(PAUSE)
+            self.taken += 1
+
+    def __exit__(self, *why):
+        with self.freed:
+            self.taken -= 1
+            self.freed.notify()
+
+
+class Rooms:
+    """Rooms of a crate, one for each check that runs at once. Each later one begins with what the first has kept."""
+
+    def __init__(self, crate, home):
+        self.crate, self.home, self.taking = crate, home, threading.Lock()
+        self.first = room_with_what_is_kept(crate, f"{home}/0")
+        self.free, self.made = [self.first], 1
+
+    def make(self, most):
+        """Makes rooms, so that there are so many. No check may run meanwhile."""
+        for number in range(self.made, most):
+            folder = room_for(self.crate, f"{self.home}/{number}")
+            shutil.copytree(f"{self.first}/out", f"{folder}/out", copy_function=keep)
+            self.free.append(folder)
+        self.made = max(self.made, most)
+
+    @contextmanager
+    def one(self):
+        with self.taking:
+            folder = self.free.pop()
+        yield folder
+        self.free.append(folder)
+
+
 class Trial:
     """The trials of a crate's edits and twins."""
 
-    def __init__(self, crate, folder):
-        self.crate, self.folder = crate, folder
-        self.passed, self.failed, self.checks = 0, [], 0
+    def __init__(self, crate, home, lanes):
+        self.crate, self.rooms, self.lanes = crate, Rooms(crate, home), lanes
+        self.passed, self.failed, self.checks, self.counting = 0, [], 0, threading.Lock()
 
     def fail(self, edit, why):
         self.failed.append(f"{self.crate}/{edit.name}: {why}")
 
-    def check(self, texts, edits=()):
-        self.checks += 1
-        return checked(self.folder, texts, edits)
+    def count(self, passed=0, checks=0):
+        with self.counting:
+            self.passed += passed
+            self.checks += checks
+
+    def check(self, edits=(), of_crate=False):
+        """Checks the functions that edits turn, or the whole crate, with these edits."""
+        self.count(checks=1)
+        with self.lanes, self.rooms.one() as folder:
+            texts = {}
+            for edit in edits:
+                texts = edit.texts(folder, texts)
+            return checked(folder, texts, () if of_crate else edits)
 
     def applicable(self, edits):
         """Those that can be applied."""
         good = []
         for edit in edits:
             try:
-                edit.texts(self.folder)
+                edit.texts(self.rooms.first)
                 good.append(edit)
             except (BadEdit, OSError) as error:
                 self.fail(edit, f"BAD EDIT: {error}")
         return good
 
-    def refuse(self, edits):
-        """Tries wrong bodies: each has to be refused."""
-        left, most = self.applicable(edits), TOGETHER
-        among = dict.fromkeys(left, 0)
-        while left:
-            together, texts = chosen(self.folder, [it for it in left if among[it] < AMONG_OTHERS] or left[:1], most)
-            is_proved, output = self.check(texts, together)
-            if len(together) == 1:
-                self.alone(together[0], is_proved, output)
-                left.remove(together[0])
-                most = min(2 * most, TOGETHER)
-                continue
-            refused = refused_in(output)
-            if not refused:
-                # it came to no verdict, or one of them doesn't compile
-                most = len(together) // 2
-                continue
-            for edit in together:
-                among[edit] += 1
-                if any(it in refused for it in edit.functions()):
-                    self.passed += 1
-                    left.remove(edit)
+    def at_once(self, call, given):
+        """What a call gives for each, several at once. The first time one of them goes ahead, for others to begin with what it kept."""
+        done = []
+        if self.rooms.made == 1 and given:
+            done, given = [call(given[0])], given[1:]
+            self.rooms.make(min(processors(), len(given)))
+        with ThreadPoolExecutor(self.rooms.made) as pool:
+            return done + list(pool.map(call, given))
 
-    def alone(self, edit, is_proved, output):
-        """What came of a body that was tried by itself: if need be, in a check of the whole crate too."""
+    def lots(self, edits):
+        return in_lots(self.rooms.first, edits)
+
+    def refuse(self, bodies):
+        """Tries wrong bodies: each has to be refused."""
+        left = self.applicable(bodies)
+        for _ in range(AMONG_OTHERS):
+            left = sum(self.at_once(self.not_named, self.lots(left)), [])
+        self.at_once(self.alone, left)
+
+    def not_named(self, lot):
+        """Tries wrong bodies together, and gives those of which this says nothing."""
+        if len(lot) == 1:
+            return lot
+        _, output = self.check(lot)
+        refused = refused_in(output)
+        if not refused:
+            # it came to no verdict, or one of them doesn't compile
+            middle = len(lot) // 2
+            return self.not_named(lot[:middle]) + self.not_named(lot[middle:])
+        left = [it for it in lot if not any(of in refused for of in it.functions())]
+        self.count(passed=len(lot) - len(left))
+        return left
+
+    def alone(self, edit):
+        """Tries a wrong body by itself: if need be, in a check of the whole crate too."""
+        is_proved, output = self.check([edit])
         refused = refused_in(output)
         if not refused and edit.paths():
-            is_proved, output = self.check(edit.texts(self.folder))
+            is_proved, output = self.check([edit], of_crate=True)
             refused = refused_in(output)
         if is_proved:
             self.fail(edit, "NOT REFUSED: the crate is proved with it")
         elif not refused:
             self.fail(edit, f"BAD EDIT: no goal is refused: {first_error(output)}")
         else:
-            self.passed += 1
+            self.count(passed=1)
 
     def prove(self, twins):
         """Tries twins: each has to be proved."""
-        left = self.applicable(twins)
-        while left:
-            together, texts = chosen(self.folder, left, TOGETHER)
-            is_proved, output = self.check(texts, together)
-            left = [it for it in left if it not in together]
-            if is_proved:
-                self.passed += len(together)
-            else:
-                for edit in together:
-                    self.prove_alone(edit)
+        left = sum(self.at_once(self.not_proved, self.lots(self.applicable(twins))), [])
+        self.at_once(self.prove_alone, left)
+
+    def not_proved(self, lot):
+        """Tries twins together, and gives them back where they aren't all proved."""
+        is_proved, _ = self.check(lot)
+        self.count(passed=len(lot) if is_proved else 0)
+        return [] if is_proved else lot
 
     def prove_alone(self, edit):
-        is_proved, output = self.check(edit.texts(self.folder), [edit])
+        is_proved, output = self.check([edit])
         if not is_proved and edit.paths():
-            is_proved, output = self.check(edit.texts(self.folder))
+            is_proved, output = self.check([edit], of_crate=True)
         if is_proved:
-            self.passed += 1
+            self.count(passed=1)
         else:
             self.fail(edit, f"REFUSED, a twin: {first_error(output)}")
 
@@ -396,15 +479,15 @@ def first_error(output):
     return next((line for line in lines if tells.search(line)), lines[-1])[:300]
 
 
-def tried(crate, bodies, twins, is_proved):
+def tried(crate, bodies, twins, is_proved, lanes):
     """Tries the edits of a crate, which is proved already or not, and tells what came of them."""
     began = time.monotonic()
-    with tempfile.TemporaryDirectory(prefix="edits-") as room:
-        trial = Trial(crate, room_with_what_is_kept(crate, room))
+    with tempfile.TemporaryDirectory(prefix="edits-") as home:
+        trial = Trial(crate, home, lanes)
         try:
             output = ""
             if not is_proved:
-                is_proved, output = trial.check({})
+                is_proved, output = trial.check()
             if is_proved:
                 trial.refuse(bodies)
                 trial.prove(twins)
@@ -478,7 +561,7 @@ class Proofs:
         return {crate, *crates_below(crate, crates_listed())} <= told
 
     def lanes(self):
-        """How many crates may be worked on at once."""
+        """How many checks may run at once."""
         return processors() if self.ended() is not None else max(1, processors() // 2)
 
     def mark(self):
@@ -489,20 +572,15 @@ class Proofs:
 
 
 def each_in_its_turn(proofs, crates, call):
-    """What a call gives for each crate, the first of those that are proved first. None where `rt ci` has failed."""
-    left, running, results = list(crates), set(), []
-    with ThreadPoolExecutor(processors()) as pool:
-        while (left or running) and not proofs.ended():
-            ready = [it for it in left if proofs.are_there(it)]
-            for crate in ready[: max(0, proofs.lanes() - len(running))]:
+    """What a call gives for each crate, as soon as that is proved. None where `rt ci` has failed."""
+    left, running = list(crates), []
+    with ThreadPoolExecutor(len(crates)) as pool:
+        while left and not proofs.ended():
+            for crate in [it for it in left if proofs.are_there(it)]:
                 left.remove(crate)
-                running.add(pool.submit(call, crate))
-            if running:
-                done, running = wait(running, timeout=PAUSE, return_when=FIRST_COMPLETED)
-                results += [it.result() for it in done]
-            else:
-                time.sleep(PAUSE)
-    return None if proofs.ended() else results
+                running.append(pool.submit(call, crate))
+            time.sleep(PAUSE if left else 0)
+    return None if proofs.ended() else [it.result() for it in running]
 
 
 def main():
@@ -532,7 +610,8 @@ def main():
         print(f"{name}: {why}")
     crates.sort(key=size_of, reverse=True)
     twins_of = lambda crate: [it for it in twins if it.crate == crate]
-    of_crate = lambda crate: tried(crate, bodies.get(crate, []), twins_of(crate), crate in proofs.mark())
+    lanes = Lanes(proofs.lanes)
+    of_crate = lambda crate: tried(crate, bodies.get(crate, []), twins_of(crate), crate in proofs.mark(), lanes)
     results = each_in_its_turn(proofs, crates, of_crate)
     if results is None:
         return 1

@@ -9,8 +9,8 @@ use Rattle.hsms_machine.specs.declared.settings.Side.{Side}
 use Rattle.hsms_machine.specs.declared.settings.Side.TheVariants.{Active, Passive}
 use Rattle.hsms_machine.specs.Settings.{Parameters}
 use Rattle.hsms_options.specs.declared.capturing.Capturing.{Capturing}
-use Rattle.hsms_options.specs.Number.{Number, depth_number, device_number, max_number, number_in, option_of}
-use Rattle.hsms_options.specs.Service.{HasNumbers, role_word, text_option, time_rules}
+use Rattle.hsms_options.specs.Number.{Number, depth_number, device_number, max_number, number_in, option_of, text_option}
+use Rattle.hsms_options.specs.Service.{HasNumbers, role_word, time_rules}
 
 -- ---- the options
 

@@ -6,8 +6,7 @@ use Rattle.hsms_options.specs.declared.excerpt.Lines.{Lines}
 use Rattle.hsms_options.specs.declared.excerpt.Lines.TheVariants.{All, Failures}
 use Rattle.hsms_options.specs.declared.excerpt.Telling.{Telling}
 use Rattle.hsms_options.specs.declared.excerpt.Telling.TheVariants.{Text as TextForm, Json, Html}
-use Rattle.hsms_options.specs.Number.{IsFlag, Number, flag_option, number_in, option_of}
-use Rattle.hsms_options.specs.Service.{text_option}
+use Rattle.hsms_options.specs.Number.{IsFlag, Number, flag_option, number_in, option_of, text_option}
 
 -- how many lines are told around one that fails
 abbrev pub around_number : Number

@@ -1,5 +1,5 @@
 -- Options with numbers, and flags, by the way in which `clap` reads them.
-use Rattle.std.specs.Prelude.{◌≡◌, ℕ, Bool, false, not, is_some, pos, List, codes, Option, Some, None, if◌then◌else◌}
+use Rattle.std.specs.Prelude.{◌≡◌, ℕ, Bool, false, true, not, is_some, pos, List, codes, Option, Some, None, if◌then◌else◌}
 use Rattle.std.specs.Option.{option_map_or}
 use Rattle.std.specs.Str.{bytes_eq}
 use Rattle.std.specs.Str.Parse.{digits_value, without_leading_plus}
@@ -39,6 +39,18 @@ option_of n = record (new_rule n.name) {
   parser = Some (Signed (pos n.least) (pos n.greatest));
   required = not (is_some n.left_out);
 }
+
+-- an option with a text, `--NAME TEXT`
+abbrev pub text_option : Text → Rule
+text_option name = record (new_rule name) { long = Some name; value_names = 1 }
+
+-- the same with a number, which is from one to another
+abbrev pub ranged_option : Text → ℕ → ℕ → Rule
+ranged_option name least greatest = record (text_option name) { parser = Some (Signed (pos least) (pos greatest)) }
+
+-- an option with a text that has to be given
+abbrev pub needed_option : Text → Rule
+needed_option name = record (text_option name) { required = true }
 
 -- a flag, `--NAME`
 abbrev pub flag_option : Text → Rule

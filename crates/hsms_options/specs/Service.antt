@@ -1,7 +1,6 @@
 -- What the options of `hsms serve` are, and what they ask for.
-use Rattle.std.specs.Prelude.{◌≡◌, ◌++◌, ℕ, true, pos, List, [], ◌∷◌, codes, Some, None, string_bytes, unwrap_or}
-use Rattle.clap.specs.Words.{App, Row, Rule, Text, first_of, new_rule, with_rule}
-use Rattle.clap.specs.declared.builder.value_parser.ValueParser.TheVariants.{Signed}
+use Rattle.std.specs.Prelude.{◌≡◌, ◌++◌, ℕ, List, [], ◌∷◌, codes, Some, None, string_bytes, unwrap_or}
+use Rattle.clap.specs.Words.{Row, Rule, Text, first_of}
 use Rattle.hsms_machine.specs.declared.settings.Role.{Role}
 use Rattle.hsms_machine.specs.declared.settings.Role.TheVariants.{Host, Equipment}
 use Rattle.hsms_machine.specs.declared.settings.Side.{Side}
@@ -9,7 +8,7 @@ use Rattle.hsms_machine.specs.declared.settings.Side.TheVariants.{Active, Passiv
 use Rattle.hsms_machine.specs.Settings.{Parameters}
 use Rattle.hsms_options.specs.declared.repeating.Repeat.{Repeat}
 use Rattle.hsms_options.specs.declared.service.Service.{Service}
-use Rattle.hsms_options.specs.Number.{IsFlag, Number, depth_number, device_number, flag_option, max_number, number_in, option_of}
+use Rattle.hsms_options.specs.Number.{IsFlag, Number, depth_number, device_number, flag_option, max_number, needed_option, number_in, option_of, text_option}
 
 -- ---- the options
 
@@ -52,18 +51,6 @@ t5_number = time_number (codes "t5") 10000
 abbrev pub connections_number : Number
 connections_number = record { name = codes "connections"; least = 1; greatest = 4294967295; left_out = Some 4294967295 }
 
--- an option with a text, `--NAME TEXT`
-abbrev pub text_option : Text → Rule
-text_option name = record (new_rule name) { long = Some name; value_names = 1 }
-
--- the same with a number, which is from one to another
-abbrev pub ranged_option : Text → ℕ → ℕ → Rule
-ranged_option name least greatest = record (text_option name) { parser = Some (Signed (pos least) (pos greatest)) }
-
--- an option with a text that has to be given
-abbrev pub needed_option : Text → Rule
-needed_option name = record (text_option name) { required = true }
-
 abbrev pub connection_rules : List Rule
 connection_rules =
     needed_option (codes "role") ∷ needed_option (codes "link") ∷ needed_option (codes "address") ∷ option_of port_number
@@ -86,11 +73,6 @@ again_rules =
 
 abbrev pub serve_rules : List Rule
 serve_rules = connection_rules ++ (time_rules ++ (limit_rules ++ (desk_rules ++ again_rules)))
-
--- a command with these options more
-abbrev pub with_rules : App → List Rule → App
-with_rules app [] = app
-with_rules app (rule ∷ rules) = with_rules (with_rule app rule) rules
 
 -- ---- what they ask for
 

@@ -1,15 +1,14 @@
 //! The command as it is described to `clap`: its subcommands, their options, and the ranges of these.
 
-ghost use Rattle.std.specs.Prelude.{◌≡◌, IfOk, []};
+ghost use Rattle.std.specs.Prelude.{◌≡◌, IfOk, [], map};
 ghost use Rattle.clap.specs.Words.{app_of};
-ghost use Rattle.hsms_options.specs.Options.{audit_command, command_line, encode_command, explain_command, show_command};
+ghost use Rattle.hsms_options.specs.Described.{shape_described, with_subcommands};
+ghost use Rattle.hsms_options.specs.Options.{command_line};
 
-use crate::describing_capture::capture_command;
-use crate::describing_options::{
-    around_option, bare_option, depth_option, device_option, form_option, from_option,
-    hex_input_option, hex_option, max_option, only_option, system_option, to_option, utc_option,
-};
-use crate::describing_serve::serve_command;
+use crate::describing_capture::{CAPTURE_HELP, CAPTURE_OPTIONS, CAPTURE_USAGE};
+use crate::describing_options::{DEPTH, DEVICE, Described, MAX, Takes, with_options};
+use crate::describing_serve::{SERVE_HELP, SERVE_OPTIONS, SERVE_USAGE};
+use crate::limits::{FIRST_LINE, GREATEST_AROUND, LAST_LINE};
 use clap::Command;
 use std::alloc::{AllocError, Global};
 
@@ -69,6 +68,140 @@ const ENCODE_HELP: &str = "Example: echo 'S1F13 W <L> .' | hsms encode > message
 
 const VERSION: &str = "0.2 (session logs of versions 1 and 2)";
 
+/// A subcommand.
+#[derive(Clone, Copy)]
+pub struct Subcommand {
+    /// Its name.
+    pub name: &'static str,
+    /// What it does, in the list of subcommands.
+    pub about: &'static str,
+    /// How it is called, where that is to be said otherwise than by its options.
+    pub usage: Option<&'static str>,
+    /// What its help says behind its options.
+    pub help: &'static str,
+    /// Its options.
+    pub options: &'static [Described],
+}
+
+const SHOW_OPTIONS: [Described; 4] = [
+    MAX,
+    DEPTH,
+    Described {
+        name: "hex",
+        takes: Takes::Nothing,
+        is_needed: false,
+        help: "Read each message from a line of hexadecimal",
+    },
+    Described {
+        name: "bare",
+        takes: Takes::Nothing,
+        is_needed: false,
+        help: "With --hex: lines of header and text alone, as the hexadecimal of a log's lines",
+    },
+];
+
+const EXPLAIN_OPTIONS: [Described; 6] = [
+    Described {
+        name: "only",
+        takes: Takes::Word("failures"),
+        is_needed: false,
+        help: "Tell only the lines that fail, and those around them",
+    },
+    Described {
+        name: "around",
+        takes: Takes::Number("N", 0, GREATEST_AROUND),
+        is_needed: false,
+        help: "With --only: lines told before each of them, and behind it: 0 to 1000 [default: 5]",
+    },
+    Described {
+        name: "from",
+        takes: Takes::Number("N", FIRST_LINE, LAST_LINE),
+        is_needed: false,
+        help: "First line that is told; the log is judged from line 1 on [default: 1]",
+    },
+    Described {
+        name: "to",
+        takes: Takes::Number("N", FIRST_LINE, LAST_LINE),
+        is_needed: false,
+        help: "Last line that is told; the log is judged to its end [default: the last one]",
+    },
+    Described {
+        name: "form",
+        takes: Takes::Word("FORM"),
+        is_needed: false,
+        help: "Tell it as text; as json, an object a line; or as html, a page [default: text]",
+    },
+    Described {
+        name: "utc",
+        takes: Takes::Nothing,
+        is_needed: false,
+        help: "Tell times as dates, where the log has them in milliseconds since 1970",
+    },
+];
+
+const ENCODE_OPTIONS: [Described; 5] = [
+    DEVICE,
+    Described {
+        name: "system",
+        takes: Takes::Number("N", 0, u32::MAX),
+        is_needed: false,
+        help: "System bytes of the first message, from which they are counted up: 0 to 4294967295 [default: 1]",
+    },
+    MAX,
+    DEPTH,
+    Described {
+        name: "hex",
+        takes: Takes::Nothing,
+        is_needed: false,
+        help: "Write each message as a line of hexadecimal",
+    },
+];
+
+const SUBCOMMANDS: [Subcommand; 6] = [
+    Subcommand {
+        name: "show",
+        about: "Shows the HSMS messages of standard input, a line each",
+        usage: None,
+        help: SHOW_HELP,
+        options: &SHOW_OPTIONS,
+    },
+    Subcommand {
+        name: "audit",
+        about: "Audits the session log of standard input",
+        usage: Some(AUDIT_USAGE),
+        help: AUDIT_HELP,
+        options: &[],
+    },
+    Subcommand {
+        name: "explain",
+        about: "Shows a session log, what its lines answer, and each of its failures",
+        usage: Some(EXPLAIN_USAGE),
+        help: EXPLAIN_HELP,
+        options: &EXPLAIN_OPTIONS,
+    },
+    Subcommand {
+        name: "capture",
+        about: "Audits the connections of a packet capture, or writes the log of one end of them",
+        usage: Some(CAPTURE_USAGE),
+        help: CAPTURE_HELP,
+        options: &CAPTURE_OPTIONS,
+    },
+    Subcommand {
+        name: "encode",
+        about: "Encodes the messages of standard input, in notation, as HSMS octets",
+        usage: None,
+        help: ENCODE_HELP,
+        options: &ENCODE_OPTIONS,
+    },
+    Subcommand {
+        name: "serve",
+        about: "Serves one HSMS connection, and writes its log",
+        usage: Some(SERVE_USAGE),
+        help: SERVE_HELP,
+        options: &SERVE_OPTIONS,
+    },
+];
+
 /// The command `hsms`, which wants one of six subcommands.
 pub fn command<'a>(alloc: Global) -> Result<Command<'a>, AllocError>
     ensures { IfOk result (λ command. app_of command ≡ command_line) }
@@ -78,59 +211,35 @@ pub fn command<'a>(alloc: Global) -> Result<Command<'a>, AllocError>
         .about("Audits HSMS session logs, reads and writes HSMS messages, and serves a connection")
         .version(VERSION)
         .subcommand_required(true);
-    let hsms = hsms.subcommand(show_command(alloc)?)?;
-    let hsms = hsms.subcommand(audit_command(alloc))?;
-    let hsms = hsms.subcommand(explain_command(alloc)?)?;
-    let hsms = hsms.subcommand(capture_command(alloc)?)?;
-    let hsms = hsms.subcommand(encode_command(alloc)?)?;
-    hsms.subcommand(serve_command(alloc)?)
+    with_subcommands(alloc, hsms, &SUBCOMMANDS)
 }
 
-fn show_command<'a>(alloc: Global) -> Result<Command<'a>, AllocError>
-    ensures { IfOk result (λ command. app_of command ≡ record { top = show_command; subs = [] }) }
+// A command with these subcommands more.
+fn with_subcommands<'a>(
+    alloc: Global,
+    command: Command<'a>,
+    subcommands: &[Subcommand],
+) -> Result<Command<'a>, AllocError>
+    ensures { IfOk result (λ c. app_of c ≡ with_subcommands (app_of command.entry) (map shape_described subcommands.now)) }
 {
-    Command::new(alloc, "show")
-        .about("Shows the HSMS messages of standard input, a line each")
-        .after_help(SHOW_HELP)
-        .arg(max_option(alloc))?
-        .arg(depth_option(alloc))?
-        .arg(hex_input_option(alloc))?
-        .arg(bare_option(alloc))
+    let mut with_them = command;
+    for subcommand in subcommands {
+        with_them = with_them.subcommand(subcommand.command(alloc)?)?;
+    }
+    Ok(with_them)
 }
 
-fn audit_command<'a>(alloc: Global) -> Command<'a>
-    ensures { app_of result ≡ record { top = audit_command; subs = [] } }
-{
-    Command::new(alloc, "audit")
-        .about("Audits the session log of standard input")
-        .override_usage(AUDIT_USAGE)
-        .after_help(AUDIT_HELP)
-}
-
-fn explain_command<'a>(alloc: Global) -> Result<Command<'a>, AllocError>
-    ensures { IfOk result (λ command. app_of command ≡ record { top = explain_command; subs = [] }) }
-{
-    Command::new(alloc, "explain")
-        .about("Shows a session log, what its lines answer, and each of its failures")
-        .override_usage(EXPLAIN_USAGE)
-        .after_help(EXPLAIN_HELP)
-        .arg(only_option(alloc))?
-        .arg(around_option(alloc))?
-        .arg(from_option(alloc))?
-        .arg(to_option(alloc))?
-        .arg(form_option(alloc))?
-        .arg(utc_option(alloc))
-}
-
-fn encode_command<'a>(alloc: Global) -> Result<Command<'a>, AllocError>
-    ensures { IfOk result (λ command. app_of command ≡ record { top = encode_command; subs = [] }) }
-{
-    Command::new(alloc, "encode")
-        .about("Encodes the messages of standard input, in notation, as HSMS octets")
-        .after_help(ENCODE_HELP)
-        .arg(device_option(alloc))?
-        .arg(system_option(alloc))?
-        .arg(max_option(alloc))?
-        .arg(depth_option(alloc))?
-        .arg(hex_option(alloc))
+impl Subcommand {
+    fn command<'a>(self, alloc: Global) -> Result<Command<'a>, AllocError>
+        ensures { IfOk result (λ command. app_of command ≡ record { top = shape_described self; subs = [] }) }
+    {
+        let command = Command::new(alloc, self.name)
+            .about(self.about)
+            .after_help(self.help);
+        let command = match self.usage {
+            Some(usage) => command.override_usage(usage),
+            None => command,
+        };
+        with_options(alloc, command, self.options)
+    }
 }

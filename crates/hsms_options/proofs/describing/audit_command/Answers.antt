@@ -1,4 +1,0 @@
-use Rattle.hsms_options.proofs.describing.audit_command.Goals as goal
-
-pub returns : goal.returns
-returns c = rw (c.after_help.ensures, c.override_usage.ensures, c.about.ensures) c.new.ensures.app
