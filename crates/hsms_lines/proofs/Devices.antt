@@ -3,7 +3,7 @@ use Rattle.std.proofs.Common.{ℕ, Bool, List, Ok, Err, inl, inr, codes}
 use Rattle.std.specs.Prelude.{Result, IfErr}
 use Rattle.hsms_options.specs.declared.fault.ToolFault.{ToolFault}
 use Rattle.hsms_options.specs.declared.fault.ToolFault.TheVariants.{Refused, Device, Memory}
-use Rattle.hsms_lines.specs.Devices.{HasWord, IsOfInput, IsReadOrWrite, IsReadWriteOrEndless, IsReading, IsWrite}
+use Rattle.hsms_lines.specs.Devices.{CountsFailure, HasWord, IsOfInput, IsReadOrWrite, IsReadWriteOrEndless, IsReading, IsWrite}
 
 pub of_read : (fault : ToolFault) → HasWord (codes "Read") fault → IsReadOrWrite fault
 of_read (Refused words) word = tt

@@ -1,5 +1,5 @@
 -- Faults of the command's devices: what was read of an input, which word a fault has, and how often a device failed.
-use Rattle.std.specs.Prelude.{◌≡◌, ◌≢◌, ◌⊎◌, ◌++◌, ℕ, List, codes, Unit, Option, Some, Result, Ok, Err}
+use Rattle.std.specs.Prelude.{◌≡◌, ◌≢◌, ◌⊎◌, ◌++◌, ℕ, List, codes, Option, Some, Result, Ok, Err}
 use Rattle.hsms_frame.specs.Count.{next_count}
 use Rattle.hsms_options.specs.declared.fault.ToolFault.{ToolFault}
 use Rattle.hsms_options.specs.declared.fault.ToolFault.TheVariants.{Refused, Device, Memory}

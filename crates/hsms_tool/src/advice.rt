@@ -142,65 +142,148 @@ fn link_words(
     }
 }
 
-/// What a fault of a capture of this name says, and what to do; those of any input are in the other table.
+// What a fault of a name says, and what to do. It is the one table of these words.
+const SENTENCES: [(&str, &str); 19] = [
+    ("command", "see hsms --help, and --help behind a command"),
+    (
+        "TooShort",
+        "a message's length is below 10, so these aren't HSMS messages, or some octets are missing before it",
+    ),
+    (
+        "TooLong",
+        "a message is longer than --max: give a greater one, or see whether the input is what it should be",
+    ),
+    (
+        "CutOff",
+        "the input ends within a message: its last octets are missing",
+    ),
+    (
+        "NoHex",
+        "this line isn't octets in hexadecimal digits: without --hex the input is read as octets",
+    ),
+    (
+        "NoMessage",
+        "this line isn't one message within --max: lines of a log have no length, and ask for --bare too",
+    ),
+    (
+        "Input",
+        "the input is longer than 67108864 octets: give it in parts",
+    ),
+    (
+        "Syntax",
+        "this can't stand here; a message is S1F1 W <A \"text\"> ., its end is a full stop",
+    ),
+    (
+        "Number",
+        "this is no value of its type, or out of its range",
+    ),
+    (
+        "Count",
+        "the number in these brackets isn't how many values follow",
+    ),
+    (
+        "Deep",
+        "lists are nested deeper here than --depth: give a greater one, or fewer lists",
+    ),
+    (
+        "TooLarge",
+        "a value or a list of a message has more than 16777215 octets or elements",
+    ),
+    (
+        "Endless",
+        "there is more than the command counts: give the input in parts",
+    ),
+    (
+        "Read",
+        "standard input can't be read: see that it is open, and no folder",
+    ),
+    (
+        "Write",
+        "standard output can't be written: see that the disk isn't full, and that its reader goes on",
+    ),
+    (
+        "Log",
+        "the log can't be written: see that standard output is open, the disk isn't full, and its reader goes on",
+    ),
+    (
+        "Link",
+        "the connection broke: the other end reset it, or took nothing for T8. The log tells how far it came",
+    ),
+    (
+        "Turns",
+        "all turns are used, and the connection was up: give more --turns",
+    ),
+    (
+        "Memory",
+        "memory is wanting: give the command more, or a smaller input",
+    ),
+];
+
+// The same of the faults of a capture, whose words are other ones.
+const CAPTURE_SENTENCES: [(&str, &str); 10] = [
+    (
+        "Lost",
+        "octets are missing from this packet on: capture again at the end itself, whole packets (-s 0), and none dropped",
+    ),
+    (
+        "Length",
+        "a message is shorter than 10 octets or longer than --max: is this the port of HSMS? Else give a greater --max",
+    ),
+    (
+        "Differs",
+        "what this packet brings again isn't what came first: capture nearer to the end, where one device alone sends it",
+    ),
+    (
+        "Full",
+        "too much waits for octets that are missing: capture again at the end itself, whole packets and none dropped",
+    ),
+    (
+        "CutOff",
+        "the capture ends within a packet, or is empty: end the program that writes it first, or see what cut it off",
+    ),
+    (
+        "Capture",
+        "here the file isn't one of pcap or pcapng: give the one that tcpdump, tshark or Wireshark wrote, unpacked",
+    ),
+    (
+        "Time",
+        "this packet has no time, or none that a log can have: capture again with times, or leave the packet out",
+    ),
+    (
+        "Overlap",
+        "here a connection comes up while another one is up, and a log has one at a time: without --log each is judged",
+    ),
+    (
+        "Peer",
+        "this connection is one of other addresses, and a log is of two: say by --with which peer is meant",
+    ),
+    (
+        "NoConnection",
+        "no connection came up at --port: is this the port of HSMS, and does the capture begin before the connection does?",
+    ),
+];
+
+/// What a fault of a capture says, and what to do.
 fn capture_sentence(name: &str) -> &'static str {
-    match first_word(name) {
-        "Lost" =>
-            "octets are missing from this packet on: capture again at the end itself, whole packets (-s 0), and none dropped",
-        "Length" =>
-            "a message is shorter than 10 octets or longer than --max: is this the port of HSMS? Else give a greater --max",
-        "Differs" =>
-            "what this packet brings again isn't what came first: capture nearer to the end, where one device alone sends it",
-        "Full" =>
-            "too much waits for octets that are missing: capture again at the end itself, whole packets and none dropped",
-        "CutOff" =>
-            "the capture ends within a packet, or is empty: end the program that writes it first, or see what cut it off",
-        "Capture" =>
-            "here the file isn't one of pcap or pcapng: give the one that tcpdump, tshark or Wireshark wrote, unpacked",
-        "Time" =>
-            "this packet has no time, or none that a log can have: capture again with times, or leave the packet out",
-        "Overlap" =>
-            "here a connection comes up while another one is up, and a log has one at a time: without --log each is judged",
-        "Peer" =>
-            "this connection is one of other addresses, and a log is of two: say by --with which peer is meant",
-        "NoConnection" =>
-            "no connection came up at --port: is this the port of HSMS, and does the capture begin before the connection does?",
-        _ => sentence(name),
+    match said_of(first_word(name), &CAPTURE_SENTENCES) {
+        Some(said) => said,
+        None => sentence(name),
     }
 }
 
-/// What a fault of this name says, and what to do. It is the one table of these words.
+/// What a fault of this name says, and what to do.
 fn sentence(name: &str) -> &'static str {
-    match first_word(name) {
-        "command" => "see hsms --help, and --help behind a command",
-        "TooShort" =>
-            "a message's length is below 10, so these aren't HSMS messages, or some octets are missing before it",
-        "TooLong" =>
-            "a message is longer than --max: give a greater one, or see whether the input is what it should be",
-        "CutOff" => "the input ends within a message: its last octets are missing",
-        "NoHex" =>
-            "this line isn't octets in hexadecimal digits: without --hex the input is read as octets",
-        "NoMessage" =>
-            "this line isn't one message within --max: lines of a log have no length, and ask for --bare too",
-        "Input" => "the input is longer than 67108864 octets: give it in parts",
-        "Syntax" =>
-            "this can't stand here; a message is S1F1 W <A \"text\"> ., its end is a full stop",
-        "Number" => "this is no value of its type, or out of its range",
-        "Count" => "the number in these brackets isn't how many values follow",
-        "Deep" => "lists are nested deeper here than --depth: give a greater one, or fewer lists",
-        "TooLarge" => "a value or a list of a message has more than 16777215 octets or elements",
-        "Endless" => "there is more than the command counts: give the input in parts",
-        "Read" => "standard input can't be read: see that it is open, and no folder",
-        "Write" =>
-            "standard output can't be written: see that the disk isn't full, and that its reader goes on",
-        "Log" =>
-            "the log can't be written: see that standard output is open, the disk isn't full, and its reader goes on",
-        "Link" =>
-            "the connection broke: the other end reset it, or took nothing for T8. The log tells how far it came",
-        "Turns" => "all turns are used, and the connection was up: give more --turns",
-        "Memory" => "memory is wanting: give the command more, or a smaller input",
-        _ => "see docs/FORMATS.md",
+    said_of(first_word(name), &SENTENCES).unwrap_or("see docs/FORMATS.md")
+}
+
+// What a table says of a word.
+fn said_of(word: &str, table: &[(&'static str, &'static str)]) -> Option<&'static str> {
+    for (name, said) in table {
+        if *name == word {
+            return Some(said);
+        }
     }
+    None
 }
 
 // The word of a fault, without its place.
