@@ -1,12 +1,16 @@
 -- The text of a log that goes on.
-use Rattle.std.proofs.Common.{◌≡◌, ◌++◌, ℕ, List, [], ◌∷◌, Option, Some, sym, ◌∙◌, ap, subst, take, drop, append_assoc, take-append-drop}
-use Rattle.std.specs.Prelude.{Result, Ok, Err, OnOk, IfSome, flat_map}
+use Rattle.std.proofs.Common.{◌≡◌, ◌+◌, ◌++◌, ℕ, List, [], ◌∷◌, Option, Some, sym, ◌∙◌, ap, subst, take, drop, length, min, arith, append_assoc, length-append, take-append-drop}
+use Rattle.std.specs.Prelude.{Result, Ok, Err, OnOk, IfSome, decimal, flat_map}
+use Rattle.std.proofs.Math.Seq.{drop-append_seam}
+use Rattle.hsms_frame.specs.Frame.{Frame}
+use Rattle.hsms_machine.specs.declared.entry.Event.TheVariants.{Sent, Taken}
+use Rattle.hsms_wire.specs.declared.account.Remark.{Remark}
 use Rattle.std.proofs.lemmas.List.{append-nil}
 use Rattle.std.proofs.lemmas.Grind.{flat_map-append}
 use Rattle.hsms_machine.specs.Settings.{Parameters}
-use Rattle.hsms_log.specs.Spelling.{settings_line}
-use Rattle.hsms_wire.specs.Account.{HasAudited, HasAuditedBy, HasLogged, Note, Standing, log_text, note_text}
-use Rattle.hsms_wire.specs.Ends.{Adds}
+use Rattle.hsms_log.specs.Spelling.{entry_line, event_text, settings_line}
+use Rattle.hsms_wire.specs.Account.{HasAudited, HasAuditedBy, HasLogged, Note, Standing, log_text, note_text, remark_text}
+use Rattle.hsms_wire.specs.Ends.{Adds, note_of}
 
 -- an audit goes on by lines
 abbrev pub GoesOn : Standing → Standing → Type 0
@@ -44,3 +48,52 @@ spelled octets header text front rest =
 
 pub some_has : {A : Type 0} (found : Option A) (x : A) (P : A → Type 0) → found ≡ Some x → IfSome found P → P x
 some_has found x P is holds = subst (λ f. IfSome f P) is holds
+
+-- ---- lines of the other end
+
+marked : (front time behind : List ℕ) (mark : ℕ) → front ++ ((time ++ 32 ∷ mark ∷ 32 ∷ behind) ++ 10 ∷ [])
+    ≡ ((front ++ time) ++ 32 ∷ mark ∷ 32 ∷ []) ++ (behind ++ 10 ∷ [])
+marked front time behind mark =
+    ap (λ (z : List ℕ). front ++ z) (append_assoc time (32 ∷ mark ∷ 32 ∷ behind) (10 ∷ []))
+    ∙ sym (append_assoc front time (32 ∷ mark ∷ 32 ∷ (behind ++ 10 ∷ [])))
+    ∙ sym (append_assoc (front ++ time) (32 ∷ mark ∷ 32 ∷ []) (behind ++ 10 ∷ []))
+
+same_length : (front time : List ℕ) (a b : ℕ) → length ((front ++ time) ++ 32 ∷ a ∷ 32 ∷ []) ≡ length ((front ++ time) ++ 32 ∷ b ∷ 32 ∷ [])
+same_length front time a b =
+    let x = length-append (front ++ time) (32 ∷ a ∷ 32 ∷ []) in
+    let y = length-append (front ++ time) (32 ∷ b ∷ 32 ∷ []) in
+    omega (arith, x, y)
+
+-- what stands behind the mark
+digits : Frame → List ℕ
+digits frame = drop 2 (event_text (Sent frame))
+
+note_marked : (remark : Remark) (time : ℕ) (frame : Frame)
+    → (note_text (note_of remark time (Sent frame)) ≡ ((remark_text remark ++ decimal time) ++ 32 ∷ 62 ∷ 32 ∷ []) ++ (digits frame ++ 10 ∷ []))
+    × (note_text (note_of remark time (Taken frame)) ≡ ((remark_text remark ++ decimal time) ++ 32 ∷ 60 ∷ 32 ∷ []) ++ (digits frame ++ 10 ∷ []))
+unfolding entry_line digits
+note_marked remark time frame = (
+  marked (remark_text remark) (decimal time) (digits frame) 62,
+  marked (remark_text remark) (decimal time) (digits frame) 60,
+)
+
+-- what stands behind the mark is taken from the lines of the other end
+pub taken_behind : (remark : Remark) (time count : ℕ) (sent front behind new : List ℕ) → front ≡ (remark_text remark ++ decimal time) ++ 32 ∷ 60 ∷ 32 ∷ []
+    → count ≡ min (length front) (length sent) → behind ≡ drop count sent → new ≡ front ++ behind
+    → (frame : Frame) → sent ≡ note_text (note_of remark time (Sent frame)) → new ≡ note_text (note_of remark time (Taken frame))
+taken_behind remark time count sent front behind new is few rest all frame e =
+    let text = note_marked remark time frame in
+    let opening = (remark_text remark ++ decimal time) ++ 32 ∷ 62 ∷ 32 ∷ [] in
+    let tail = digits frame ++ 10 ∷ [] in
+    let whole : sent ≡ opening ++ tail = e ∙ text.0 in
+    let many : length sent ≡ length opening + length tail = ap (λ (z : List ℕ). length z) whole ∙ length-append opening tail in
+    let same : length front ≡ length opening = ap (λ (z : List ℕ). length z) is ∙ same_length (remark_text remark) (decimal time) 60 62 in
+    let at : count ≡ length opening = omega (arith, few, many, same) in
+    all ∙ ap (λ (z : List ℕ). front ++ z) (rest ∙ ap (drop count) whole ∙ ap (λ (n : ℕ). drop n (opening ++ tail)) at ∙ drop-append_seam opening tail)
+    ∙ ap (λ (z : List ℕ). z ++ tail) is ∙ sym text.1
+
+pub taken_over : {E : Type 0} (result : Result (Unit {0}) E) (old mid new : Standing) (remark : Remark) (time : ℕ) (sent : List ℕ) → mid.auditor ≡ old.auditor
+    → ((frame : Frame) → sent ≡ note_text (note_of remark time (Sent frame)) → mid.text ≡ note_text (note_of remark time (Taken frame)))
+    → OnOk result (GoesOn mid new) → OnOk result ((frame : Frame) → sent ≡ note_text (note_of remark time (Sent frame)) → Adds (note_of remark time (Taken frame)) old new)
+taken_over (Ok done) old mid new remark time sent auditor text goes = λ frame e. adds old mid new (note_of remark time (Taken frame)) auditor (text frame e) goes
+taken_over (Err fault) old mid new remark time sent auditor text goes = goes

@@ -3,8 +3,6 @@
 use Rattle.std.specs.Prelude.{ℕ, Option, None, Some, List, [], ◌∷◌, ◌++◌, flat_map, codes, decimal}
 use Rattle.hsms_machine.specs.Settings.{Parameters}
 use Rattle.hsms_machine.specs.declared.entry.Entry.{Entry}
-use Rattle.hsms_machine.specs.declared.entry.Event.{Event}
-use Rattle.hsms_machine.specs.declared.entry.Event.TheVariants.{Up, Sent, Taken, Discarded, T3, Cut, Down}
 use Rattle.hsms_log.specs.Spelling.{entry_line, settings_line}
 use Rattle.hsms_log.specs.Auditor.{HasHeard}
 use Rattle.hsms_log.specs.declared.auditor.Auditor.{Auditor}
@@ -46,16 +44,3 @@ HasAudited text account = HasAuditedBy account.auditor text
 -- the audit has heard the log of these settings and entries
 abbrev pub HasLogged : Parameters → List Note → Standing → Type 0
 HasLogged settings notes account = HasAudited (log_text settings notes) account
-
--- what the other end logs
-abbrev pub received_event : Event → Event
-received_event Up = Up
-received_event (Sent frame) = Taken frame
-received_event (Taken frame) = Taken frame
-received_event (Discarded frame) = Discarded frame
-received_event (T3 system) = T3 system
-received_event (Cut cause) = Cut cause
-received_event Down = Down
-
-abbrev pub received_of : Entry → Entry
-received_of entry = record { time = entry.time; event = received_event entry.event }

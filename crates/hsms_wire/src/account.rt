@@ -3,7 +3,10 @@
 ghost use Rattle.std.specs.Prelude.{◌≡◌, ◌+◌, ◌++◌, [], ◌∷◌, ℕ, List, IfOk, OnOk, codes, decimal, length};
 ghost use Rattle.hsms_log.specs.Auditor.{HasAtMost, HasHeard, HasRoom};
 ghost use Rattle.hsms_log.specs.Spelling.{entry_line, settings_line};
+ghost use Rattle.hsms_frame.specs.Frame.{Frame};
+ghost use Rattle.hsms_machine.specs.declared.entry.Event.TheVariants.{Sent, Taken};
 ghost use Rattle.hsms_wire.specs.Account.{note_text, remark_text};
+ghost use Rattle.hsms_wire.specs.Ends.{note_of};
 
 use crate::stop::Stop;
 use crate::text::Text;
@@ -52,8 +55,10 @@ impl Account {
     ghost use Rattle.std.specs.Prelude.{◌≡◌, ◌≤◌, ◌++◌, [], ◌∷◌, List, ℕ, IfOk, OnOk, OnErr, IsSome, None};
     ghost use Rattle.hsms_log.specs.Verdict.{Judges};
     ghost use Rattle.hsms_machine.specs.Settings.{Parameters};
-    ghost use Rattle.hsms_wire.specs.Account.{HasAudited, HasLogged, Note, log_text};
-    ghost use Rattle.hsms_wire.specs.Ends.{Adds};
+    ghost use Rattle.hsms_frame.specs.Frame.{Frame};
+    ghost use Rattle.hsms_machine.specs.declared.entry.Event.TheVariants.{Sent, Taken};
+    ghost use Rattle.hsms_wire.specs.Account.{HasAudited, HasLogged, Note, log_text, note_text};
+    ghost use Rattle.hsms_wire.specs.Ends.{Adds, note_of};
 
     /// The log of an end with these settings, without an entry.
     ///
@@ -84,6 +89,7 @@ impl Account {
     #[tactic(auto, using(crate::proofs::Logs::noted))]
     pub fn note(&mut self, alloc: Global, remark: Remark, entry: &Entry) -> Result<(), Stop>
         ensures added { OnOk result (Adds (record { remark = remark; entry = entry.now }) self.old self.new) }
+        ensures lines { OnOk result (self.new.text ≡ note_text (record { remark = remark; entry = entry.now })) }
         ensures there { OnOk result (IsSome self.old.auditor) }
         ensures gone { OnErr result (self.new.auditor ≡ None) }
     {
@@ -91,11 +97,41 @@ impl Account {
         self.text.clear();
         match lay_note(&mut self.text, remark, entry) {
             Ok(()) => self.audit(alloc),
-            Err(_) => {
-                self.auditor = None;
-                Err(Stop::Memory)
-            }
+            Err(_) => Err(self.give_up()),
         }
+    }
+
+    /// One more entry, behind a comment: this end took the message that the other one sent, which has it in these lines.
+    /// Behind their marks the lines of both ends are the same, so the digits of a message are written once.
+    ///
+    /// # Errors
+    ///
+    /// As of [`note`](Account::note).
+    #[tactic(auto, using(crate::proofs::Logs::taken_over))]
+    pub fn take_over(
+        &mut self,
+        alloc: Global,
+        remark: Remark,
+        time: u64,
+        sent: &[u8],
+    ) -> Result<(), Stop>
+        ensures added { OnOk result ((frame : Frame) → sent.now ≡ note_text (note_of remark time (Sent frame))
+            → Adds (note_of remark time (Taken frame)) self.old self.new) }
+        ensures there { OnOk result (IsSome self.old.auditor) }
+        ensures gone { OnErr result (self.new.auditor ≡ None) }
+    {
+        self.packet = packet_of(remark, self.packet);
+        match lay_taken(&mut self.text, remark, time, sent) {
+            Ok(()) => self.audit(alloc),
+            Err(_) => Err(self.give_up()),
+        }
+    }
+
+    /// The lines that were written last.
+    pub fn lines(&self) -> &[u8]
+        ensures { result.now ≡ self.now.text }
+    {
+        self.text.octets()
     }
 
     /// The verdict of the audit on the log, which ends here, and where it fails the number of the packet of the line.
@@ -124,10 +160,19 @@ impl Account {
         }
     }
 
+    // Memory was refused, so nothing more is noted.
+    fn give_up(&mut self) -> Stop
+        ensures { self.new.auditor ≡ None }
+    {
+        self.auditor = None;
+        Stop::Memory
+    }
+
     // Audits the lines that were written.
     fn audit(&mut self, alloc: Global) -> Result<(), Stop>
         ensures heard { OnOk result
             ((text : List ℕ) → HasAudited text self.old → HasAudited (text ++ self.old.text) self.new) }
+        ensures lines { self.new.text ≡ self.old.text }
         ensures there { OnOk result (IsSome self.old.auditor) }
         ensures gone { OnErr result (self.new.auditor ≡ None) }
     {
@@ -188,6 +233,28 @@ pub fn lay_note(text: &mut Text, remark: Remark, entry: &Entry) -> Result<(), Al
 {
     lay_remark(text, remark)?;
     lay_entry(text, entry)
+}
+
+// Lays an entry and the comment above it alone: an end took the message that the other one sent, which has it in these
+// lines.
+fn lay_taken(lines: &mut Text, remark: Remark, time: u64, sent: &[u8]) -> Result<(), AllocError>
+    ensures { OnOk result ((frame : Frame) → sent.now ≡ note_text (note_of remark time (Sent frame))
+        → lines.new.octets ≡ note_text (note_of remark time (Taken frame))) }
+{
+    lay_mark(lines, remark, time)?;
+    let (_, behind) = sent.split_at(lines.octets().len().min(sent.len()));
+    lines.lay(behind)
+}
+
+// Lays what stands before the digits of a message that was taken, alone.
+fn lay_mark(lines: &mut Text, remark: Remark, time: u64) -> Result<(), AllocError>
+    ensures { OnOk result (lines.new.octets ≡ (remark_text remark ++ decimal time) ++ 32 ∷ 60 ∷ 32 ∷ []) }
+{
+    let mut buffer = Buffer::new();
+    lines.clear();
+    lay_remark(lines, remark)?;
+    lines.lay(buffer.format(time).as_bytes())?;
+    lines.lay(b" < ")
 }
 
 // Lays the comment above an entry behind a text.

@@ -1,12 +1,12 @@
 //! The logs of both ends of a connection.
 
 ghost use Rattle.std.specs.Prelude.{◌≡◌, ◌<◌, ◌≤◌, ◌+◌, ◌⊎◌, IfOk, IfSome, OnOk, None, length, drop};
-ghost use Rattle.hsms_wire.specs.Account.{received_of};
-ghost use Rattle.hsms_wire.specs.Ends.{Adds};
+ghost use Rattle.hsms_machine.specs.declared.entry.Event.TheVariants.{Sent, Taken};
+ghost use Rattle.hsms_wire.specs.Ends.{Adds, note_of};
 ghost use Rattle.hsms_log.specs.Spelling.{message_octets};
 
 use crate::account::{Account, Remark, Told};
-use crate::entries::{LENGTH, frame_of, received};
+use crate::entries::{LENGTH, frame_of};
 use crate::stop::Stop;
 use hsms_capture::{Event as Happens, Happening, Side};
 use hsms_frame::Frame;
@@ -140,30 +140,32 @@ impl Ends {
             (Adds (note_of remark self.old.time (event_of Passive from frame)) self.old.passive self.new.passive) }
         ensures same { OnOk result ((self.new.time ≡ self.old.time) × (self.new.max ≡ self.old.max)) }
     {
-        let sent = Entry {
-            time: self.time,
-            event: Event::Sent(frame),
-        };
+        let (time, active, passive) = (self.time, &mut self.active, &mut self.passive);
         match from {
-            Side::Active => pass(alloc, remark, sent, &mut self.active, &mut self.passive),
-            Side::Passive => pass(alloc, remark, sent, &mut self.passive, &mut self.active),
+            Side::Active => pass(alloc, remark, time, frame, active, passive),
+            Side::Passive => pass(alloc, remark, time, frame, passive, active),
         }
     }
 }
 
-// The end that sends logs an entry, and the other one what it takes.
+// The end that sends a message logs it, and the other one that it takes it.
 fn pass(
     alloc: Global,
     remark: Remark,
-    sent: Entry,
+    time: u64,
+    frame: Frame,
     sender: &mut Account,
     taker: &mut Account,
 ) -> Result<(), Stop>
-    ensures sender { OnOk result (Adds (record { remark = remark; entry = sent }) sender.old sender.new) }
-    ensures taker { OnOk result (Adds (record { remark = remark; entry = received_of sent }) taker.old taker.new) }
+    ensures sender { OnOk result (Adds (note_of remark time (Sent frame)) sender.old sender.new) }
+    ensures taker { OnOk result (Adds (note_of remark time (Taken frame)) taker.old taker.new) }
 {
+    let sent = Entry {
+        time,
+        event: Event::Sent(frame),
+    };
     sender.note(alloc, remark, &sent)?;
-    taker.note(alloc, remark, &received(sent))
+    taker.take_over(alloc, remark, time, sender.lines())
 }
 
 /// The message of these octets, those of its length first, where header and text have from ten octets up to so many.

@@ -2,10 +2,8 @@
 
 ghost use Rattle.std.specs.Prelude.{◌≡◌, ◌<◌, IfOk, IfSome, None, length, drop};
 ghost use Rattle.hsms_log.specs.Spelling.{message_octets};
-ghost use Rattle.hsms_wire.specs.Account.{received_of};
 
 use hsms_frame::{Frame, HEADER_LENGTH, Header};
-use hsms_machine::{Entry, Event};
 use std::alloc::{AllocError, Global};
 
 /// The octets of a message's length.
@@ -38,21 +36,4 @@ fn header_in(octets: &[u8]) -> [u8; HEADER_LENGTH]
     let mut header = [0u8; HEADER_LENGTH];
     header.copy_from_slice(octets);
     header
-}
-
-/// What the other end logs of what an end logs: it takes what is sent.
-pub fn received(entry: Entry) -> Entry
-    ensures { result ≡ received_of entry }
-{
-    let Entry { time, event } = entry;
-    let event = match event {
-        Event::Sent(frame) => Event::Taken(frame),
-        Event::Up => Event::Up,
-        Event::Taken(frame) => Event::Taken(frame),
-        Event::Discarded(frame) => Event::Discarded(frame),
-        Event::T3(system) => Event::T3(system),
-        Event::Cut(cause) => Event::Cut(cause),
-        Event::Down => Event::Down,
-    };
-    Entry { time, event }
 }

@@ -50,8 +50,9 @@ pub struct Open {
 /// What was logged of a connection.
 #[derive(Drop)]
 struct Logs {
-    /// The logs of its ends, where they are audited and it came up.
-    ends: Option<Ends>,
+    /// The logs of its ends, where they are audited and it came up. They stand apart, since a connection is moved with each
+    /// packet.
+    ends: Option<Box<Ends>>,
     is_up: bool,
     /// The numbers of its packets that reset it and acknowledge nothing.
     bare_resets: Vec<u64>,
@@ -396,5 +397,13 @@ fn conclude(
     if !logs.is_up && shortfall.is_none() {
         return Ok(());
     }
-    report.conclude(alloc, pair, logs.ends, shortfall)
+    report.conclude(alloc, pair, unboxed(logs.ends), shortfall)
+}
+
+// The logs of the ends of a connection, which don't stand apart any more.
+fn unboxed(ends: Option<Box<Ends>>) -> Option<Ends> {
+    match ends {
+        Some(ends) => Some(Box::into_inner(ends)),
+        None => None,
+    }
 }

@@ -99,7 +99,7 @@ impl Report {
         &mut self,
         alloc: Global,
         pair: &Pair,
-        ends: &mut Option<Ends>,
+        ends: &mut Option<Box<Ends>>,
         happening: Happening,
     ) -> Result<Heard, Stop>
         ensures told { OnOk result (Tells self.old self.new) }
@@ -113,10 +113,14 @@ impl Report {
     }
 
     // Begins the logs of the ends of a connection, where they are audited.
-    fn begin(&self, alloc: Global, ends: &mut Option<Ends>) -> Result<(), Stop> {
+    fn begin(&self, alloc: Global, ends: &mut Option<Box<Ends>>) -> Result<(), Stop> {
         match &self.manner {
             Manner::Verdicts if ends.is_none() => {
-                *ends = Some(Ends::new(alloc, &self.active, &self.passive)?);
+                let new = Ends::new(alloc, &self.active, &self.passive)?;
+                let Ok(new) = Box::new(alloc, new) else {
+                    return Err(Stop::Memory);
+                };
+                *ends = Some(new);
                 Ok(())
             }
             Manner::Verdicts | Manner::Log(_) => Ok(()),
@@ -125,7 +129,7 @@ impl Report {
 
     /// The connection is replaced by a later one of the same pair, and was up.
     #[tactic(auto, using(crate::proofs::Tellings::tells_nothing, crate::proofs::Tellings::log_tells))]
-    pub fn replace(&mut self, alloc: Global, ends: &mut Option<Ends>) -> Result<(), Stop>
+    pub fn replace(&mut self, alloc: Global, ends: &mut Option<Box<Ends>>) -> Result<(), Stop>
         ensures told { OnOk result (Tells self.old self.new) }
     {
         match (&mut self.manner, ends) {
