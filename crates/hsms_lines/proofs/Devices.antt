@@ -1,5 +1,5 @@
 -- The words of a device's fault.
-use Rattle.std.proofs.Common.{ℕ, Bool, List, Ok, Err, inl, inr, codes}
+use Rattle.std.proofs.Common.{ℕ, List, Ok, Err, inl, inr, codes}
 use Rattle.std.specs.Prelude.{Result, IfErr}
 use Rattle.hsms_options.specs.declared.fault.ToolFault.{ToolFault}
 use Rattle.hsms_options.specs.declared.fault.ToolFault.TheVariants.{Refused, Device, Memory}

@@ -3,7 +3,6 @@ use Rattle.std.specs.Prelude.{◌≡◌, ◌≢◌, ◌<◌, ◌≤◌, ◌+◌,
 use Rattle.std.specs.List.{flat_map}
 use Rattle.hsms_frame.specs.declared.fault.ReadFault.{ReadFault}
 use Rattle.hsms_frame.specs.declared.fault.ReadFault.TheVariants as read
-use Rattle.hsms_frame.specs.Count.{next_count}
 use Rattle.hsms_frame.specs.Device.{WhereTold, Grows, GrowsByFront}
 use Rattle.hsms_frame.specs.Fault.{read_fault_text}
 use Rattle.hsms_frame.specs.Frame.{Frame, frame_octets, IsFrame}
@@ -11,6 +10,7 @@ use Rattle.hsms_frame.specs.Reading.{ReadsAs, StopsWithin}
 use Rattle.hsms_options.specs.declared.fault.ToolFault.{ToolFault}
 use Rattle.hsms_options.specs.declared.fault.ToolFault.TheVariants.{Refused, Device, Memory}
 use Rattle.hsms_lines.specs.Held.{GrowsHolding}
+use Rattle.hsms_lines.specs.Devices.{LeavesPart}
 use Rattle.hsms_lines.specs.Line.{LineOf}
 
 -- a message whose header and text are within the limit

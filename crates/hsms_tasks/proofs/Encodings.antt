@@ -8,7 +8,7 @@ use Rattle.hsms_frame.specs.Device.{Grows, GrowsByFront, Stays}
 use Rattle.hsms_frame.specs.Frame.{Frame}
 use Rattle.hsms_options.specs.declared.fault.ToolFault.{ToolFault}
 use Rattle.hsms_options.specs.declared.fault.ToolFault.TheVariants.{Refused, Device, Memory}
-use Rattle.hsms_lines.specs.Devices.{IsWrite}
+use Rattle.hsms_lines.specs.Devices.{IsReadOrWrite, IsWrite}
 use Rattle.secs_text.specs.Fault.{NotesFault}
 use Rattle.secs_text.specs.declared.fault.TextFault.{TextFault}
 use Rattle.secs_text.specs.declared.fault.TextFault.TheVariants as text

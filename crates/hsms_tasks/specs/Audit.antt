@@ -1,12 +1,11 @@
 -- What `hsms audit` answers to an input, and what it writes.
-use Rattle.std.specs.Prelude.{◌≡◌, ◌≤◌, ◌+◌, ◌⊎◌, ℕ, List, codes, Bool, true, false, Option, Result, Ok, Err, IfOk, IfErr}
+use Rattle.std.specs.Prelude.{◌≡◌, ◌≤◌, ◌+◌, ◌⊎◌, ℕ, List, codes, Bool, Option, Result, Ok, Err, IfOk, IfErr}
 use Rattle.std.specs.Bool.{OnTrue}
 use Rattle.hsms_frame.specs.Device.{SourceState, Stays, Grows, GrowsByFront}
 use Rattle.hsms_log.specs.declared.fault.AuditFault.{AuditFault}
 use Rattle.hsms_log.specs.declared.fault.AuditFault.TheVariants.{Endless, Read}
 use Rattle.hsms_log.specs.declared.fault.AuditFault.TheVariants as audit
 use Rattle.hsms_log.specs.declared.verdict.Verdict.{Verdict}
-use Rattle.hsms_log.specs.declared.verdict.Verdict.TheVariants.{Pass, Fail}
 use Rattle.hsms_log.specs.Auditing.{AuditsAs, HasEnded, RisesBy}
 use Rattle.hsms_options.specs.declared.fault.ToolFault.{ToolFault}
 use Rattle.hsms_options.specs.declared.fault.ToolFault.TheVariants.{Refused, Device, Memory}

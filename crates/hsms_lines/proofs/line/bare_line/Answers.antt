@@ -1,4 +1,4 @@
-use Rattle.std.proofs.Common.{◌≡◌, ◌+◌, ◌++◌, ◌∷◌, [], ℕ, List, length, take, drop, refl, sym, ap, ap₂, ◌∙◌, arith}
+use Rattle.std.proofs.Common.{◌≡◌, ◌+◌, ◌++◌, ◌∷◌, [], ℕ, List, length, take, drop, sym, ap, ap₂, ◌∙◌}
 use Rattle.hex.specs.Hex.{encode_with}
 use Rattle.hsms_lines.specs.Line.{address_of}
 use Rattle.std.proofs.lemmas.List.{append_assoc, length-append, take_at}

@@ -1,4 +1,3 @@
-use Rattle.std.proofs.Common.{refl}
 use Rattle.std.proofs.lemmas.Result.{err_from_is_err_and}
 use Rattle.hsms_show.proofs.Runs.{find_stops, lay_shows, lay_stops}
 use Rattle.hsms_show.proofs.showing.show_read.Goals as goal
