@@ -3,10 +3,10 @@
 ghost use Rattle.std.specs.Prelude.{◌≡◌, ◌++◌, IfOk, OnOk, string_bytes};
 ghost use Rattle.hsms_explain.specs.Ending.{broken_object_of, ending_of, flow_members_of, loss_members_of, mark_of, member_of, page_end_of, pass_object_of, unreadable_object_of, verdict_object_of};
 
+use hsms_lines::{rule_name, verdict_line};
 use hsms_log::{Summary, Verdict, Why};
 use hsms_machine::Rule;
 use hsms_options::Telling;
-use hsms_lines::{rule_name, verdict_line};
 use std::alloc::{AllocError, Global};
 
 /// The verdict, in the form in which the log is told, with what stands behind it there.

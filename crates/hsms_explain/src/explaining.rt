@@ -11,9 +11,9 @@ ghost use Rattle.hsms_explain.specs.Heard.{HasHeard};
 use crate::ending::ending;
 use crate::explainer::Explainer;
 use hsms_frame::{Sink, Source};
+use hsms_lines::put;
 use hsms_log::Verdict;
 use hsms_options::{Excerpt, Telling, ToolFault};
-use hsms_lines::put;
 use std::alloc::Global;
 
 // The octets that one read takes at most.

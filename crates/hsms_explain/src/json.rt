@@ -12,40 +12,61 @@ use crate::tally::Tally;
 use crate::told::{Carried, Told};
 use crate::words::{Alike, Closing, Gap, GoingOn, Put, Rest, Unjudged, name_of, word, word_of};
 use hsms_frame::{Header, Kind, kind};
-use hsms_machine::{Cause, GREATEST_DEPTH, Mark};
+use hsms_machine::{Cause, GREATEST_DEPTH, Mark, Remedy};
 use serde::{Described, Serialize, Serializer};
 use std::alloc::{AllocError, Global};
 use std::fmt;
 
-// Words, as a string.
+// An object of members, by their names.
 #[derive(Clone, Copy)]
-struct Words<D> {
-    words: D,
+struct Object<'m, 'a>(&'m [(&'static str, Member<'a>)]);
+
+// What a member of an object holds.
+#[derive(Clone, Copy)]
+enum Member<'a> {
+    // Nothing: the object has no such member.
+    Nothing,
+    Number(u64),
+    Text(&'a str),
+    Expected(Expected),
+    Remedy(GoingOn),
+    Put(Put),
+    Unjudged(Unjudged),
+    Rules(&'a Tally),
 }
 
-impl<D> Words<D> {
-    fn new(words: D) -> Words<D> {
-        Words { words }
-    }
-}
+impl Described for Object<'_, '_> {}
 
-impl<D> Described for Words<D> {}
-
-impl<D: fmt::Display> Serialize for Words<D> {
+impl Serialize for Object<'_, '_> {
     fn serialize<S: Serializer>(&self, out: &mut S) -> Result<(), S::Error> {
-        out.collect_str(&self.words)
+        out.begin_map(None)?;
+        for (name, member) in self.0 {
+            member.send(out, name)?;
+        }
+        out.end_map()
     }
 }
 
-// What stands in a line.
-#[derive(Clone, Copy, Serialize)]
-#[serde(tag = "type", rename_all = "lowercase")]
-enum Object<'a> {
-    Gap { from: u64, to: u64 },
-    Unjudged { text: Words<Unjudged> },
-    Rest(RestObject),
-    Failures { count: u64, rules: Rules<'a> },
-    Primaries(PrimariesObject),
+impl Member<'_> {
+    fn of(number: Option<u64>) -> Member<'static> {
+        match number {
+            Some(number) => Member::Number(number),
+            None => Member::Nothing,
+        }
+    }
+
+    fn send<S: Serializer>(&self, out: &mut S, name: &str) -> Result<(), S::Error> {
+        match self {
+            Member::Nothing => Ok(()),
+            Member::Number(number) => send_number(out, name, *number),
+            Member::Text(text) => send_text(out, name, text),
+            Member::Expected(words) => send_words(out, name, words),
+            Member::Remedy(words) => send_words(out, name, words),
+            Member::Put(words) => send_words(out, name, words),
+            Member::Unjudged(words) => send_words(out, name, words),
+            Member::Rules(tally) => send_rules(out, name, tally),
+        }
+    }
 }
 
 // A line of the log, with what is noted of it.
@@ -131,6 +152,25 @@ fn send_text<S: Serializer>(out: &mut S, name: &str, text: &str) -> Result<(), S
 fn send_number<S: Serializer>(out: &mut S, name: &str, number: u64) -> Result<(), S::Error> {
     out.key(name)?;
     out.u64(number)
+}
+
+fn send_words<S: Serializer, D: fmt::Display>(
+    out: &mut S,
+    name: &str,
+    words: &D,
+) -> Result<(), S::Error> {
+    out.key(name)?;
+    out.collect_str(words)
+}
+
+// Sends how often each rule was broken, as an object: by the name of the rule.
+fn send_rules<S: Serializer>(out: &mut S, name: &str, tally: &Tally) -> Result<(), S::Error> {
+    out.key(name)?;
+    out.begin_map(None)?;
+    for (why, count) in tally.counts() {
+        send_number(out, name_of(*why), *count)?;
+    }
+    out.end_map()
 }
 
 // Sends the time of an entry, and with `utc` its date.
@@ -228,8 +268,8 @@ impl Serialize for Failures<'_> {
         out.begin_seq(None)?;
         for note in self.notes {
             match note {
-                Note::Fails(failing) => FailureObject::of(failing, self.utc).serialize(out)?,
-                Note::FailsAlike(alike) => FailureObject::alike(alike).serialize(out)?,
+                Note::Fails(failing) => Object(&told_whole(failing, self.utc)).serialize(out)?,
+                Note::FailsAlike(alike) => Object(&told_alike(alike)).serialize(out)?,
                 Note::Closes(_) => {}
             }
         }
@@ -237,111 +277,50 @@ impl Serialize for Failures<'_> {
     }
 }
 
-// A failure that is told whole, or by the line of one.
-#[derive(Clone, Copy, Serialize)]
-struct FailureObject {
-    rule: &'static str,
-    #[serde(skip_serializing_if = "Option::is_none")]
-    sentence: Option<&'static str>,
-    #[serde(skip_serializing_if = "Option::is_none")]
-    concerns: Option<u64>,
-    #[serde(skip_serializing_if = "Option::is_none")]
-    expected: Option<Words<Expected>>,
-    #[serde(skip_serializing_if = "Option::is_none")]
-    expected_line: Option<u64>,
-    #[serde(skip_serializing_if = "Option::is_none")]
-    remedy: Option<Words<GoingOn>>,
-    #[serde(skip_serializing_if = "Option::is_none")]
-    put: Option<Words<Put>>,
-    #[serde(skip_serializing_if = "Option::is_none")]
-    like: Option<u64>,
-    #[serde(skip_serializing_if = "Option::is_none")]
-    times: Option<u64>,
+// A failure that is told whole.
+fn told_whole(failing: &Failing, utc: bool) -> [(&'static str, Member<'static>); 7] {
+    [
+        ("rule", Member::Text(name_of(failing.why))),
+        ("sentence", Member::Text(failing.sentence)),
+        ("concerns", Member::of(failing.concerns)),
+        ("expected", told_expected(failing.expected)),
+        (
+            "expected_line",
+            Member::of(failing.expected.and_then(Expected::line)),
+        ),
+        ("remedy", told_remedy(failing.remedy, utc)),
+        ("put", told_put(failing.remedy)),
+    ]
 }
 
-impl FailureObject {
-    fn of(failing: &Failing, utc: bool) -> FailureObject {
-        FailureObject {
-            rule: name_of(failing.why),
-            sentence: Some(failing.sentence),
-            concerns: failing.concerns,
-            expected: failing.expected.map(Words::new),
-            expected_line: failing.expected.and_then(Expected::line),
-            remedy: failing
-                .remedy
-                .map(|remedy| Words::new(GoingOn { remedy, utc })),
-            put: failing.remedy.and_then(Put::of).map(Words::new),
-            like: None,
-            times: None,
-        }
-    }
-
-    fn alike(alike: &Alike) -> FailureObject {
-        FailureObject {
-            rule: name_of(alike.why),
-            sentence: None,
-            concerns: None,
-            expected: None,
-            expected_line: None,
-            remedy: None,
-            put: None,
-            like: Some(alike.line),
-            times: Some(alike.times),
-        }
+fn told_expected(expected: Option<Expected>) -> Member<'static> {
+    match expected {
+        Some(expected) => Member::Expected(expected),
+        None => Member::Nothing,
     }
 }
 
-// How many more lines fail as a line does, up to the last one.
-#[derive(Clone, Copy, Serialize)]
-struct RestObject {
-    rule: &'static str,
-    count: u64,
-    like: u64,
-    last: u64,
-}
-
-// How often each rule was broken, as an object: by the name of the rule.
-#[derive(Clone, Copy)]
-struct Rules<'a>(&'a Tally);
-
-impl Described for Rules<'_> {}
-
-impl Serialize for Rules<'_> {
-    fn serialize<S: Serializer>(&self, out: &mut S) -> Result<(), S::Error> {
-        out.begin_map(None)?;
-        for (why, count) in self.0.counts() {
-            out.key(name_of(*why))?;
-            count.serialize(out)?;
-        }
-        out.end_map()
+fn told_remedy(remedy: Option<Remedy>, utc: bool) -> Member<'static> {
+    match remedy {
+        Some(remedy) => Member::Remedy(GoingOn { remedy, utc }),
+        None => Member::Nothing,
     }
 }
 
-// What became of the primaries of a kind.
-#[derive(Clone, Copy, Serialize)]
-struct PrimariesObject {
-    #[serde(skip_serializing_if = "Option::is_none")]
-    stream: Option<u8>,
-    #[serde(skip_serializing_if = "Option::is_none")]
-    function: Option<u8>,
-    direction: &'static str,
-    opened: u64,
-    answered: u64,
-    aborted: u64,
-    expired: u64,
-    rejected: u64,
-    ended: u64,
-    waiting: u64,
-    #[serde(skip_serializing_if = "Option::is_none")]
-    least: Option<u64>,
-    #[serde(skip_serializing_if = "Option::is_none")]
-    median: Option<u64>,
-    #[serde(skip_serializing_if = "Option::is_none")]
-    p99: Option<u64>,
-    #[serde(skip_serializing_if = "Option::is_none")]
-    greatest: Option<u64>,
-    #[serde(skip_serializing_if = "Option::is_none")]
-    line: Option<u64>,
+fn told_put(remedy: Option<Remedy>) -> Member<'static> {
+    match remedy.and_then(Put::of) {
+        Some(put) => Member::Put(put),
+        None => Member::Nothing,
+    }
+}
+
+// A failure that is told by the line of one.
+fn told_alike(alike: &Alike) -> [(&'static str, Member<'static>); 3] {
+    [
+        ("rule", Member::Text(name_of(alike.why))),
+        ("like", Member::Number(alike.line)),
+        ("times", Member::Number(alike.times)),
+    ]
 }
 
 fn mark_word(mark: Mark) -> &'static str {
@@ -362,6 +341,14 @@ fn write<T: Serialize>(alloc: Global, page: &mut Page, object: &T) -> Result<(),
         }
         Err(_) => Err(AllocError),
     }
+}
+
+fn write_object(
+    alloc: Global,
+    page: &mut Page,
+    members: &[(&'static str, Member<'_>)],
+) -> Result<(), AllocError> {
+    write(alloc, page, &Object(members))
 }
 
 /// Writes a line of the log and its notes: with `utc` the date of its time besides. What isn't UTF-8 in a line that
@@ -403,7 +390,15 @@ fn shown(alloc: Global, page: &mut Page, told: Told<'_, '_>) -> Result<String, A
 /// Writes that lines are left out.
 pub fn write_gap(alloc: Global, page: &mut Page, gap: Gap) -> Result<(), AllocError> {
     let Gap { from, to } = gap;
-    write(alloc, page, &Object::Gap { from, to })
+    write_object(
+        alloc,
+        page,
+        &[
+            ("type", Member::Text("gap")),
+            ("from", Member::Number(from)),
+            ("to", Member::Number(to)),
+        ],
+    )
 }
 
 /// Writes that nothing was judged.
@@ -412,8 +407,14 @@ pub fn write_unjudged(
     page: &mut Page,
     unjudged: Unjudged,
 ) -> Result<(), AllocError> {
-    let text = Words::new(unjudged);
-    write(alloc, page, &Object::Unjudged { text })
+    write_object(
+        alloc,
+        page,
+        &[
+            ("type", Member::Text("unjudged")),
+            ("text", Member::Unjudged(unjudged)),
+        ],
+    )
 }
 
 /// Writes of each group how many failures weren't told whole.
@@ -428,22 +429,30 @@ pub fn write_rests(alloc: Global, page: &mut Page, groups: &Groups) -> Result<()
 
 // Writes how many failures of a group weren't told whole.
 fn write_rest(alloc: Global, page: &mut Page, rest: Rest) -> Result<(), AllocError> {
-    let object = RestObject {
-        rule: name_of(rest.why),
-        count: rest.count,
-        like: rest.line,
-        last: rest.last,
-    };
-    write(alloc, page, &Object::Rest(object))
+    write_object(
+        alloc,
+        page,
+        &[
+            ("type", Member::Text("rest")),
+            ("rule", Member::Text(name_of(rest.why))),
+            ("count", Member::Number(rest.count)),
+            ("like", Member::Number(rest.line)),
+            ("last", Member::Number(rest.last)),
+        ],
+    )
 }
 
 /// Writes how often each rule was broken.
 pub fn write_failures(alloc: Global, page: &mut Page, tally: &Tally) -> Result<(), AllocError> {
-    let object = Object::Failures {
-        count: tally.all(),
-        rules: Rules(tally),
-    };
-    write(alloc, page, &object)
+    write_object(
+        alloc,
+        page,
+        &[
+            ("type", Member::Text("failures")),
+            ("count", Member::Number(tally.all())),
+            ("rules", Member::Rules(tally)),
+        ],
+    )
 }
 
 /// Writes of each kind of primaries what became of them.
@@ -462,41 +471,69 @@ pub fn write_primaries(
 
 // Writes what became of the primaries of a kind.
 fn write_outcome(alloc: Global, page: &mut Page, outcome: Outcome) -> Result<(), AllocError> {
-    write(
+    let [stream, function] = function_members(outcome.function());
+    let [least, median, most, greatest, line] = time_members(outcome.times);
+    let Counts {
+        opened,
+        answered,
+        aborted,
+        expired,
+        rejected,
+        ..
+    } = outcome.counts;
+    write_object(
         alloc,
         page,
-        &Object::Primaries(PrimariesObject::of(outcome)),
+        &[
+            ("type", Member::Text("primaries")),
+            ("stream", stream),
+            ("function", function),
+            ("direction", Member::Text(outcome.way())),
+            ("opened", Member::Number(opened)),
+            ("answered", Member::Number(answered)),
+            ("aborted", Member::Number(aborted)),
+            ("expired", Member::Number(expired)),
+            ("rejected", Member::Number(rejected)),
+            ("ended", Member::Number(outcome.ended())),
+            ("waiting", Member::Number(outcome.waiting)),
+            ("least", least),
+            ("median", median),
+            ("p99", most),
+            ("greatest", greatest),
+            ("line", line),
+        ],
     )
 }
 
-impl PrimariesObject {
-    fn of(outcome: Outcome) -> PrimariesObject {
-        let Counts {
-            opened,
-            answered,
-            aborted,
-            expired,
-            rejected,
-            ..
-        } = outcome.counts;
-        let function = outcome.function();
-        let times = outcome.times;
-        PrimariesObject {
-            stream: function.map(|f: Function| f.stream),
-            function: function.map(|f: Function| f.function),
-            direction: outcome.way(),
-            opened,
-            answered,
-            aborted,
-            expired,
-            rejected,
-            ended: outcome.ended(),
-            waiting: outcome.waiting,
-            least: times.map(|t: Times| t.least),
-            median: times.map(|t: Times| t.median),
-            p99: times.map(|t: Times| t.most),
-            greatest: times.map(|t: Times| t.greatest),
-            line: times.map(|t: Times| t.line),
-        }
+// The stream and the function of a kind, if it has one.
+fn function_members(function: Option<Function>) -> [Member<'static>; 2] {
+    match function {
+        Some(Function { stream, function }) => [
+            Member::Number(u64::from(stream)),
+            Member::Number(u64::from(function)),
+        ],
+        None => [Member::Nothing; 2],
+    }
+}
+
+// The times of replies, if there are any: the least, the median, what 99 of 100 don't exceed, the greatest, and its line.
+fn time_members(times: Option<Times>) -> [Member<'static>; 5] {
+    match times {
+        Some(
+            Times {
+                least,
+                median,
+                most,
+                greatest,
+                line,
+            },
+        ) => [
+            Member::Number(least),
+            Member::Number(median),
+            Member::Number(most),
+            Member::Number(greatest),
+            Member::Number(line),
+        ],
+        None => [Member::Nothing; 5],
     }
 }

@@ -4,9 +4,9 @@ ghost use Rattle.std.specs.Prelude.{◌≡◌, Some, codes};
 ghost use Rattle.hsms_explain.specs.Words.{alike_text, cause_word, closing_text, concern_text, rest_text, tie_word, why_name};
 
 use crate::moment::Moment;
+use hsms_lines::rule_name;
 use hsms_log::Why;
 use hsms_machine::{Cause, Remedy};
-use hsms_lines::rule_name;
 use std::fmt;
 
 /// What an entry is to the transaction that it closes.
