@@ -1,4 +1,4 @@
-use Rattle.std.proofs.Common.{◌≡◌, ◌<◌, ℕ, List, length, get_or, Some, sym, ap, ◌∙◌, arith, rules}
+use Rattle.std.proofs.Common.{◌≡◌, ◌<◌, ℕ, List, length, get_or, Some, ap, ◌∙◌, arith, rules}
 use Rattle.std.specs.Prelude.{Option}
 use Rattle.hsms_log.proofs.Numbers.{number_here}
 use Rattle.hsms_log.proofs.number.number_at.Goals as goal

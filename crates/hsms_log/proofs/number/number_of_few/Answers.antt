@@ -1,5 +1,4 @@
-use Rattle.std.proofs.Common.{◌≡◌, ◌<◌, ◌≤◌, ◌+◌, ◌-◌, ◌*◌, ◌^◌, ◌%◌, length, get_or, true, sym, ap, ◌∙◌, arith, rules}
-use Rattle.std.specs.Char.{is_ascii_digit}
+use Rattle.std.proofs.Common.{◌<◌, ◌+◌, ◌-◌, ◌*◌, ◌^◌, ◌%◌, length, get_or, ap, ◌∙◌, arith, rules}
 use Rattle.hsms_log.proofs.Numbers.{front_fits, front_more, digit_below}
 use Rattle.hsms_log.proofs.number.number_of_few.Goals as goal
 
