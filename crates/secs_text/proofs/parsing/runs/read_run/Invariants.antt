@@ -1,4 +1,4 @@
-use Rattle.std.proofs.Common.{◌≡◌, ◌≤◌, ◌-◌, ◌*◌, length, take, drop}
+use Rattle.std.proofs.Common.{◌≤◌, ◌-◌, ◌*◌, take, drop}
 use Rattle.secs_text.specs.ShortWord.{AreShortWords}
 use Rattle.secs_text.proofs.parsing.runs.read_run.Given as goal
 
