@@ -1,5 +1,5 @@
 -- Decimal numbers and words.
-use Rattle.std.proofs.Common.{◌≡◌, ◌<◌, ◌≤◌, ◌+◌, ◌-◌, ◌*◌, ◌^◌, ◌++◌, ℕ, List, [], ◌∷◌, length, take, drop, take-append-drop, get_or, true, false, eqb, ltb, Ok, Err, Some, None, refl, sym, ap, ◌∙◌, subst, arith, inl, inr, ⊎_elim}
+use Rattle.std.proofs.Common.{◌≡◌, ◌<◌, ◌≤◌, ◌+◌, ◌-◌, ◌*◌, ◌^◌, ◌%◌, ◌++◌, ℕ, List, [], ◌∷◌, length, take, drop, take-append-drop, get_or, true, false, eqb, ltb, Ok, Err, Some, None, refl, sym, ap, ◌∙◌, subst, arith, inl, inr, ⊎_elim}
 use Rattle.std.specs.Borrow.{Bor}
 use Rattle.std.specs.Prelude.{◌≢◌, MatchResult, IfSome, IfNone, Option, Result, decimal, nat_lt, option_map}
 use Rattle.std.specs.Result.{result_ok}
@@ -8,7 +8,7 @@ use Rattle.std.proofs.lemmas.Str.{IsUtf8-from_ascii}
 use Rattle.std.specs.List.{list_all}
 use Rattle.std.specs.Char.{is_ascii_digit, digit_value}
 use Rattle.std.specs.Str.Parse.{digits_value, ParsesUnsigned}
-use Rattle.std.proofs.lemmas.Bool.{leb-true, and_parts, and_from, lt-ltb, ltb-true, eqb-true, ne_eqb, not-true, eqb-false, cases_eq, false_from_ne_true, cases_Bool, not_from_false, and_cases, and_left, and_right, le-ltb, ltb-false}
+use Rattle.std.proofs.lemmas.Bool.{leb-true, le-leb, and_parts, and_from, lt-ltb, ltb-true, eqb-true, ne_eqb, not-true, eqb-false, cases_eq, false_from_ne_true, cases_Bool, not_from_false, and_cases, and_left, and_right, le-ltb, ltb-false}
 use Rattle.std.proofs.lemmas.Str.{digit_value_digit}
 use Rattle.std.proofs.lemmas.Int.Digits.{digits_value_more}
 use Rattle.std.proofs.lemmas.List.Folds.{list_all_more}
@@ -228,8 +228,12 @@ digit_is c h =
     let same = digit_value_digit c (low, high) in
     omega (arith, same, low)
 
-pub digit_small : (c : ℕ) → is_ascii_digit c ≡ true → c ≤ 57
-digit_small c h = let parts = and_parts _ _ h in leb-true c 57 parts.1
+-- an octet is a digit where what it is above the digit 0, modulo 2 ^ 64, is at most 9
+pub digit_below : (c d : ℕ) → c < 256 → d ≡ (c + (2 ^ 64 - 48)) % 2 ^ 64 → d ≤ 9 → (is_ascii_digit c ≡ true) × (d ≡ c - 48)
+digit_below c d octet is small =
+    let low : 48 ≤ c = omega (arith, octet, is, small) in
+    let high : c ≤ 57 = omega (arith, octet, is, small) in
+    (and_from _ _ (le-leb 48 c low) (le-leb c 57 high), omega (arith, octet, is, small))
 
 -- one digit more
 pub front_more : (text : List ℕ) (i n : ℕ) → i < length text → is_ascii_digit (get_or text i 0) ≡ true → list_all is_ascii_digit (take i text) ≡ true

@@ -8,6 +8,7 @@ use std::simd::prelude::*;
 
 /// Reads the octets that digits of either case spell, at least eight octets, and says whether all are digits. Octets
 /// are read eight at a time; where their number is no multiple of eight, some of the last eight are read twice.
+#[inline(always)]
 pub fn decode(digits: &[u8], octets: &mut [u8]) -> bool
     requires size { length digits.now ≡ 2 * length octets.old }
     requires some { 8 ≤ length octets.old }

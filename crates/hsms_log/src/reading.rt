@@ -123,6 +123,9 @@ pub fn read_frame_line(line: &[u8], octets: &mut Vec<u8>) -> Result<Option<Frame
     Ok(Some(frame))
 }
 
+/// How many octets a line that carries a frame has at least: a digit, a space, the mark, a space, and the header's digits.
+const SHORTEST: usize = 4 + 2 * HEADER_LENGTH;
+
 /// Reads a line that carries a frame, and says how many octets its header and text have. `octets` begins with these then,
 /// in place of what it held: it isn't made shorter.
 pub fn frame_at_front(
@@ -133,6 +136,9 @@ pub fn frame_at_front(
         (frame_entry x.0.time x.0.mark x.0.header (drop 10 (take x.1 octets.new.items))))) }
     ensures size { IfOk result (λ answer. IfSome answer (λ x. (10 ≤ x.1) × (x.1 ≤ vec_len octets.new))) }
 {
+    if line.len() < SHORTEST {
+        return Ok(None);
+    }
     let Some((time, text)) = number_at(line) else {
         return Ok(None);
     };

@@ -1,5 +1,6 @@
 pub mod Mapped
 pub mod Kept
+pub mod Beside
 pub mod Least
 pub mod First
 pub mod Connection

@@ -19,7 +19,7 @@ pub or_parts : (a b : Bool) → (a || b) ≡ false → (a ≡ false) × (b ≡ f
 or_parts true b e = absurd (let d : true ≡ false = e in cc)
 or_parts false b e = (refl, e)
 
-or_false : (a b : Bool) → b ≡ false → (a || b) ≡ a
+pub or_false : (a b : Bool) → b ≡ false → (a || b) ≡ a
 or_false true b e = refl
 or_false false b e = e
 
@@ -75,7 +75,7 @@ module _ (test : Transaction → Bool) (system : ℕ) (only : (x : Transaction) 
     | inr f ↦ f
   ]
 
-  any_none : (xs : List Transaction) → uses system xs ≡ false → list_any test xs ≡ false
+  pub any_none : (xs : List Transaction) → uses system xs ≡ false → list_any test xs ≡ false
   any_none [] none = refl
   any_none (x ∷ xs) none =
       let parts = or_parts (x.header.system == system) (uses system xs) none in

@@ -1,6 +1,6 @@
 -- Open transactions of one direction and kind are in order of opening. After that, how they are kept: each under the
 -- system bytes of its request. Private functions alone speak of this last part.
-use Rattle.std.specs.Prelude.{◌≡◌, ℕ, ◌≤◌, ◌==◌, Bool, false, List, [], ◌∷◌, length, drop, Option, Some, None}
+use Rattle.std.specs.Prelude.{◌≡◌, ℕ, ◌-◌, ◌^◌, ◌<◌, ◌≤◌, ◌==◌, Bool, false, List, [], ◌∷◌, ◌++◌, length, drop, option_to_list, Option, Some, None}
 use Rattle.std.specs.List.{AllByRecursion, list_any}
 use Rattle.std.specs.Map.{values_of}
 use Rattle.hsms_machine.specs.declared.open.Transaction.{Transaction}
@@ -56,3 +56,9 @@ pub record AreKept (closed : ℕ) (entries : List (ℕ × Transaction)) : Type 0
   pub keyed : AreKeyed entries
   pub apart : AreApart (values_of entries)
   pub in_order : AreInOrder (drop closed (values_of entries))
+
+-- what is kept of the open ones, of which the oldest may stand beside the others
+pub record AreListed (oldest : Option Transaction) (queue : List Transaction) : Type 0 where
+  pub few : length queue < 2 ^ 63 - 1
+  pub apart : AreApart (option_to_list oldest ++ queue)
+  pub in_order : AreInOrder (option_to_list oldest ++ queue)

@@ -27,6 +27,7 @@ mod message;
 mod open;
 mod phase;
 mod places;
+mod queue;
 mod remedy;
 mod rule;
 mod settings;

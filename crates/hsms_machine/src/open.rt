@@ -4,8 +4,8 @@ ghost use Rattle.std.specs.Prelude.{◌≡◌};
 ghost use Rattle.hsms_machine.specs.Timer.{least_of};
 
 use crate::message::{Message, answers, concludes};
+use crate::queue::Queue;
 use hsms_frame::Header;
-use indexmap::IndexMap;
 use std::alloc::{AllocError, Global};
 use std::marker::Model;
 
@@ -16,57 +16,53 @@ pub struct Transaction {
     pub header: Header,
 }
 
-/// How many closed transactions are kept before they go.
-const MANY: usize = 64;
+/// How many are open at most, which is more than memory has room for.
+const MOST: usize = usize::MAX / 4;
 
-/// Open transactions, in order of opening: no two with the same system bytes, and none before an earlier one.
-///
-/// The map has closed ones at its front, which are counted. They go together, once they are many and more than a half
-/// of it, so that closing the oldest moves none.
+/// Open transactions, in order of opening: no two with the same system bytes, and none before an earlier one. One that
+/// is opened where no other is open stands beside the map of those that are opened behind it: where one is open at a
+/// time, none is hashed.
 #[derive(Debug)]
 pub struct Transactions {
-    items: IndexMap<u32, Transaction>,
-    closed: usize,
+    oldest: Option<Transaction>,
+    queue: Queue,
 }
 
 impl Model for Transactions {
-    ghost use Rattle.std.specs.Prelude.{List, drop};
-    ghost use Rattle.indexmap.specs.IndexMap.{values};
+    ghost use Rattle.std.specs.Prelude.{List, ◌++◌, option_to_list};
     ghost use Rattle.hsms_machine.specs.declared.open.Transaction.{Transaction};
-    ghost use Rattle.hsms_machine.specs.Ordered.{AreKept};
+    ghost use Rattle.hsms_machine.specs.Ordered.{AreListed};
 
     ghost Value = { List Transaction };
 
-    ghost view = { λ t. drop t.closed (values t.items) };
+    ghost view = { λ t. option_to_list t.oldest ++ t.queue };
 
-    ghost invariant = { λ t. AreKept t.closed t.items.entries };
+    ghost invariant = { λ t. AreListed t.oldest t.queue };
 }
 
-// Written out: a proof over a tracker that is dropped then has one step for each map, not one for each of its parts.
+// Written out: a proof over a tracker that is dropped then has one step for each list, not one for each of its parts.
 impl Drop for Transactions {
     fn drop(self) {
-        let Transactions { items, closed: _ } = self;
-        drop(items);
+        let Transactions { oldest: _, queue } = self;
+        drop(queue);
     }
 }
 
 impl Transactions {
-    ghost use Rattle.std.specs.Prelude.{◌≡◌, ◌-◌, ◌^◌, ◌<◌, ◌==◌, ◌&&◌, not, [], ◌∷◌, ◌++◌, ◌≤◌, length, drop, filter, remove, true, false, nat_lt, nat_le, OnOk, OnErr, IfSome, IfNone};
+    ghost use Rattle.std.specs.Prelude.{◌≡◌, ◌-◌, ◌^◌, ◌<◌, ◌==◌, ◌&&◌, not, [], ◌∷◌, ◌++◌, option_to_list, length, filter, true, false, nat_lt, nat_le, OnOk, OnErr, IfSome, IfNone};
     ghost use Rattle.std.specs.List.{list_any, find};
-    ghost use Rattle.std.specs.Option.{option_map};
     ghost use Rattle.hsms_machine.specs.Timer.{least_in, due_times, due_at};
     ghost use Rattle.hsms_machine.specs.Transaction.{answers as is_answer, concludes as is_conclusion};
     ghost use Rattle.hsms_machine.specs.View.{oldest_of};
-    ghost use Rattle.indexmap.specs.IndexMap.{index_map_len, values};
-    ghost use Rattle.hsms_machine.specs.Ordered.{AreInOrder, AreApart, AreKeyed, AreKept, AreUntil, uses, first_of};
+    ghost use Rattle.hsms_machine.specs.Ordered.{AreInOrder, AreApart, AreListed, AreUntil, uses, first_of};
 
     /// No transaction.
     pub fn new(alloc: Global) -> Self
         ensures { result ≡ [] }
     {
         Transactions {
-            items: IndexMap::new(alloc),
-            closed: 0,
+            oldest: None,
+            queue: Queue::new(alloc),
         }
     }
 
@@ -75,7 +71,10 @@ impl Transactions {
         ensures value { result ≡ length self.now }
         ensures bound { result < 2 ^ 63 }
     {
-        self.items.len() - self.closed
+        match self.oldest {
+            Some(_) => self.queue.len() + 1,
+            None => self.queue.len(),
+        }
     }
 
     /// Says that they are in order of opening, and no two with the same system bytes. Does nothing when it runs.
@@ -83,7 +82,7 @@ impl Transactions {
         ensures in_order { AreInOrder self.now }
         ensures apart { AreApart self.now }
     {
-        let _items = &self.items;
+        let _oldest = &self.oldest;
     }
 
     /// The transaction that was opened first.
@@ -91,9 +90,9 @@ impl Transactions {
         ensures first { result ≡ first_of self.now }
         ensures in_order { AreInOrder self.now }
     {
-        match self.items.get_index(self.closed) {
-            Some((_, opened)) => Some(*opened),
-            None => None,
+        match self.oldest {
+            Some(opened) => Some(opened),
+            None => self.queue.first(),
         }
     }
 
@@ -107,38 +106,16 @@ impl Transactions {
         }
     }
 
-    /// The transaction of these system bytes, and its place. The oldest is looked at first, without a hash: mostly
-    /// it is the one that is asked for.
-    #[inline(always)]
-    fn found(&self, system: u32) -> Option<(usize, Transaction)>
-        ensures found { option_map (λ x. x.1) result ≡ find (λ opened. opened.header.system == system) self.now }
-        ensures place { IfSome result (λ x. remove self.now x.0 ≡ filter (λ opened. not (opened.header.system == system)) self.now) }
-        ensures apart { AreApart self.now }
-    {
-        let Some((_, oldest)) = self.items.get_index(self.closed) else {
-            return None;
-        };
-        if oldest.header.system == system {
-            return Some((0, *oldest));
-        }
-        let Some((place, _, opened)) = self.items.get_full(&system) else {
-            return None;
-        };
-        if place < self.closed {
-            return None;
-        }
-        Some((place - self.closed, *opened))
-    }
-
     /// The transaction of these system bytes.
     #[inline(always)]
     pub fn get(&self, system: u32) -> Option<Transaction>
         ensures found { result ≡ find (λ opened. opened.header.system == system) self.now }
         ensures apart { AreApart self.now }
     {
-        match self.found(system) {
-            Some((_, opened)) => Some(opened),
-            None => None,
+        if Self::has_system(self.oldest, system) {
+            self.oldest
+        } else {
+            self.queue.get(system)
         }
     }
 
@@ -154,37 +131,49 @@ impl Transactions {
     }
 
     /// Puts a transaction at the end.
+    #[inline(always)]
     pub fn push(&mut self, transaction: Transaction) -> Result<(), AllocError>
         requires fresh { uses transaction.header.system self.old ≡ false }
         requires later { AreUntil transaction.time self.old }
         ensures ok { OnOk result (self.new ≡ self.old ++ transaction ∷ []) }
         ensures err { OnErr result (self.new ≡ self.old) }
     {
-        let system = transaction.header.system;
-        if self.items.insert(system, transaction)?.is_none() {
+        if self.len() == 0 {
+            self.oldest = Some(transaction);
             return Ok(());
         }
-        // A closed one had these system bytes, and the transaction stands in its place.
-        Self::drop_front(&mut self.items, self.closed);
-        self.closed = 0;
-        self.items.insert(system, transaction)?;
-        Ok(())
+        if self.queue.len() >= MOST {
+            return Err(AllocError);
+        }
+        self.queue.push(transaction)
     }
 
-    /// Takes so many out at the front.
-    #[inline(never)]
-    fn drop_front(items: &mut IndexMap<u32, Transaction>, count: usize)
-        requires within { count ≤ index_map_len items.old }
-        ensures { items.new.entries ≡ drop count items.old.entries }
+    /// Whether it has these system bytes.
+    #[inline(always)]
+    fn has_system(oldest: Option<Transaction>, system: u32) -> bool
+        ensures { result ≡ uses system (option_to_list oldest) }
     {
-        let left = items.len() - count;
-        if left == 0 {
-            items.truncate(0);
-            return;
+        match oldest {
+            Some(opened) => opened.header.system == system,
+            None => false,
         }
-        items.reverse();
-        items.truncate(left);
-        items.reverse();
+    }
+
+    /// What is left of it after the message.
+    #[inline(always)]
+    fn unconcluded(oldest: Option<Transaction>, other: Message) -> Option<Transaction>
+        ensures { option_to_list result ≡ filter (λ opened. not (is_conclusion opened.header other)) (option_to_list oldest) }
+    {
+        match oldest {
+            Some(opened) => {
+                if concludes(opened.header, other) {
+                    None
+                } else {
+                    Some(opened)
+                }
+            }
+            None => None,
+        }
     }
 
     /// Whether some transaction has waited for longer than the limit.
@@ -254,24 +243,6 @@ impl Transactions {
         time.checked_add(u64::from(limit))
     }
 
-    /// The place of the transaction that the message, which goes in the other direction, answers or rejects.
-    #[inline(always)]
-    fn place_concluded(&self, other: Message) -> Option<usize>
-        ensures none { IfNone result (list_any (λ opened. is_conclusion opened.header other) self.now ≡ false) }
-        ensures place { IfSome result (λ place. remove self.now place ≡ filter (λ opened. not (is_conclusion opened.header other)) self.now) }
-    {
-        match self.found(other.header().system) {
-            Some((place, opened)) => {
-                if concludes(opened.header, other) {
-                    Some(place)
-                } else {
-                    None
-                }
-            }
-            None => None,
-        }
-    }
-
     /// When the transaction was opened that the message, which goes in the other direction, answers or rejects.
     pub fn time_concluded(&self, other: Message) -> Option<u64>
         ensures time { IfSome result (λ time. list_any (λ opened. is_conclusion opened.header other && (opened.time == time)) self.now ≡ true) }
@@ -293,68 +264,19 @@ impl Transactions {
     pub fn clear(&mut self)
         ensures { self.new ≡ [] }
     {
-        self.items.truncate(0);
-        self.closed = 0;
-    }
-
-    /// Takes out the one at this place. The oldest is counted as closed, and the last is taken off the end: none moves.
-    #[inline(always)]
-    fn remove_at(&mut self, place: usize)
-        ensures { self.new ≡ remove self.old place }
-    {
-        if place == 0 {
-            self.close_oldest();
-            self.let_go();
-        } else {
-            self.remove_later(place);
-        }
-    }
-
-    /// Counts the oldest as closed.
-    #[inline(always)]
-    fn close_oldest(&mut self)
-        ensures { self.new ≡ remove self.old 0 }
-    {
-        if self.closed < self.items.len() {
-            self.closed += 1;
-        }
-    }
-
-    /// Lets the closed ones go once they are many, and more than a half of the map.
-    #[inline(always)]
-    fn let_go(&mut self)
-        ensures { self.new ≡ self.old }
-    {
-        if self.closed >= MANY && self.closed > self.items.len() / 2 {
-            Self::drop_front(&mut self.items, self.closed);
-            self.closed = 0;
-        }
-    }
-
-    /// Takes out the one at this place, where a later one may move up. The last is taken off the end.
-    #[inline(never)]
-    fn remove_later(&mut self, place: usize)
-        ensures { self.new ≡ remove self.old place }
-    {
-        if place >= self.items.len() - self.closed {
-            return;
-        }
-        let at = self.closed + place;
-        if at == self.items.len() - 1 {
-            self.items.pop();
-        } else {
-            self.items.shift_remove_index(at);
-        }
+        self.oldest = None;
+        self.queue.clear();
     }
 
     /// Takes out what the message, which goes in the other direction, answers or rejects.
-    #[inline(never)]
+    #[inline(always)]
     pub fn remove_concluded(&mut self, other: Message)
         ensures { self.new ≡ filter (λ opened. not (is_conclusion opened.header other)) self.old }
     {
-        match self.place_concluded(other) {
-            Some(place) => self.remove_at(place),
-            None => {}
+        if Self::has_system(self.oldest, other.header().system) {
+            self.oldest = Self::unconcluded(self.oldest, other);
+        } else if !self.queue.is_empty() {
+            self.queue.remove_concluded(other);
         }
     }
 
@@ -362,9 +284,10 @@ impl Transactions {
     pub fn remove_system(&mut self, system: u32)
         ensures { self.new ≡ filter (λ opened. not (opened.header.system == system)) self.old }
     {
-        match self.found(system) {
-            Some((place, _)) => self.remove_at(place),
-            None => {}
+        if Self::has_system(self.oldest, system) {
+            self.oldest = None;
+        } else {
+            self.queue.remove_system(system);
         }
     }
 }

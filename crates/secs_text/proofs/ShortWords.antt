@@ -1,5 +1,5 @@
 -- Words of values that are single octets, each behind a space, and runs of them.
-use Rattle.std.proofs.Common.{◌≡◌, ℕ, zero, suc, ◌+◌, ◌*◌, ◌/◌, ◌<◌, ◌≤◌, Bool, true, false, ◌&&◌, ◌||◌, List, [], ◌∷◌, ◌++◌, length, drop, take, get_or, refl, sym, ap, ◌∙◌, subst, arith, if◌then◌else◌, append_assoc, append-nil, length-append}
+use Rattle.std.proofs.Common.{◌≡◌, ℕ, zero, suc, ◌+◌, ◌*◌, ◌/◌, ◌%◌, ◌^◌, ◌<◌, ◌≤◌, Bool, true, false, ◌&&◌, ◌||◌, List, [], ◌∷◌, ◌++◌, length, drop, take, get_or, refl, sym, ap, ◌∙◌, subst, arith, if◌then◌else◌, append_assoc, append-nil, length-append}
 use Rattle.std.specs.Simd.{first_chunks}
 use Rattle.std.specs.Prelude.{Option, Some, None, IfSome, option_map, nat_le, ◌-◌, ◌==◌}
 use Rattle.std.proofs.Math.Nat.{le-div_iff_mul-le}
@@ -121,6 +121,16 @@ pub f_spells : option_map octet_of_truth (truth_of (0x46 ∷ [])) ≡ Some (0 �
 unfolding truth_of
 f_spells = refl
 
+-- four octets of which no more is left than one octet behind the space, the zero and the x
+pub front_of_word : (a b c d n left : ℕ) → a < 256 → b < 256 → c < 256 → d < 256 → n ≡ a * 16777216 + b * 65536 + c * 256 + d → left ≡ (n + (2 ^ 32 - 0x20307800)) % 2 ^ 32 → left ≤ 255
+    → (a ≡ 0x20) × (b ≡ 0x30) × (c ≡ 0x78) × (left ≡ d)
+front_of_word a b c d n left first second third fourth is rest small =
+    let sum : n ≡ 0x20307800 + left = omega (arith, first, second, third, fourth, is, rest, small) in
+    let space : a ≡ 0x20 = omega (arith, first, second, third, fourth, is, sum, small) in
+    let zero_is : b ≡ 0x30 = omega (arith, second, third, fourth, is, sum, small, space) in
+    let x_is : c ≡ 0x78 = omega (arith, third, fourth, is, sum, small, space, zero_is) in
+    (space, zero_is, x_is, omega (arith, is, sum, space, zero_is, x_is))
+
 -- ---- runs of them
 
 times_more : (size n : ℕ) → size * suc n ≡ size + size * n
@@ -142,6 +152,13 @@ pub part_within : (size i n : ℕ) → 0 < size → i < n / size → size * i + 
 part_within size i n some less =
     let h : (i + 1) * size ≤ n = (le-div_iff_mul-le some).0 (omega arith) in
     let same : (i + 1) * size ≡ size * i + size = grind arith in
+    omega (arith, h, same)
+
+-- so many parts lie within
+pub parts_within : (size i n : ℕ) → 0 < size → i ≤ n / size → size * i ≤ n
+parts_within size i n some less =
+    let h : i * size ≤ n = (le-div_iff_mul-le some).0 less in
+    let same : i * size ≡ size * i = grind arith in
     omega (arith, h, same)
 
 module _ (reads : List ℕ → Option (List ℕ)) (size : ℕ) where

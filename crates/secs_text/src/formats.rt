@@ -70,10 +70,12 @@ impl ShortWord<5> for Octets {
     #[inline(always)]
     fn read(text: &[u8; 5]) -> Option<u8> {
         let [space, zero, x, high, low] = *text;
-        if u32::from_be_bytes([space, zero, x, high]) >> 8 != 0x20_30_78 {
+        // Behind the space, the zero and the x the first digit alone is left of the four octets.
+        let digit = u32::from_be_bytes([space, zero, x, high]).wrapping_sub(0x20_30_78_00);
+        if digit > 0xff {
             return None;
         }
-        octet_of_digits(high, low)
+        octet_of_digits(digit as u8, low)
     }
 }
 

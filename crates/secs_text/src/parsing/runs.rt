@@ -1,6 +1,6 @@
 //! Runs of values that are single octets, each a short word behind one space, as they are printed.
 
-ghost use Rattle.std.specs.Prelude.{◌≡◌, ◌≤◌, ◌<◌, ◌+◌, ◌*◌, ℕ, List, Option, true, length, take, drop, OnOk};
+ghost use Rattle.std.specs.Prelude.{◌≡◌, ◌≤◌, ◌<◌, ◌+◌, ◌*◌, ◌/◌, ℕ, List, Option, true, length, take, drop, OnOk};
 ghost use Rattle.secs_item.specs.Format.{value_size};
 ghost use Rattle.secs_text.specs.AsPrinted.{EndsWord};
 ghost use Rattle.secs_text.specs.Left.{left, octets_left};
@@ -16,6 +16,39 @@ use std::alloc::AllocError;
 /// How many values are read at a time.
 const RUN: usize = 64;
 
+/// How many words are read before it is asked whether there are more.
+const GROUP: usize = 8;
+
+/// Reads words, from one place among them up to another, as far as they are right, and tells how far.
+#[inline(always)]
+fn read_words<const N: usize, W: ShortWord<N>>(
+    text: &[u8],
+    from: usize,
+    to: usize,
+    octets: &mut [u8; 64],
+) -> usize
+    requires some { 0 < N }
+    requires small { N < 256 }
+    requires ordered { from ≤ to }
+    requires few { to ≤ 64 }
+    requires there { to ≤ length text.now / N }
+    requires words { AreShortWords W.reads N (take from octets.old) text.now (drop (N * from) text.now) }
+    ensures words { AreShortWords W.reads N (take result octets.new) text.now (drop (N * result) text.now) }
+    ensures onward { from ≤ result }
+    ensures before { result ≤ to }
+    ensures within { N * result ≤ length text.now }
+{
+    let (words, _) = text.as_chunks::<N>();
+    let part = &words[from..to];
+    for i in 0..part.len() {
+        let Some(octet) = W::read(&part[i]) else {
+            return from + i;
+        };
+        octets[from + i] = octet;
+    }
+    to
+}
+
 /// Reads the words at the front, at most as many as there is room for, and tells how many. No word goes on behind the
 /// last.
 #[inline(never)]
@@ -27,16 +60,16 @@ fn read_run<const N: usize, W: ShortWord<N>>(text: &[u8], octets: &mut [u8; 64])
     ensures few { result ≤ 64 }
     ensures within { N * result ≤ length text.now }
 {
-    let (words, _) = text.as_chunks::<N>();
-    let most = words.len().min(RUN);
-    let mut count = 0;
-    while count < most {
-        let Some(octet) = W::read(&words[count]) else {
+    let most = (text.len() / N).min(RUN);
+    let mut read = 0;
+    while most - read >= GROUP {
+        let end = read_words::<N, W>(text, read, read + GROUP, octets);
+        if end == read {
             break;
-        };
-        octets[count] = octet;
-        count += 1;
+        }
+        read = end;
     }
+    let count = read_words::<N, W>(text, read, most, octets);
     let end = N * count;
     if count > 0 && end < text.len() && is_of_word(text[end]) {
         return count - 1;

@@ -2,7 +2,7 @@ use Rattle.std.proofs.Common.{◌∙◌, ap, sym, subst}
 use Rattle.std.specs.Map.{values_of}
 use Rattle.hsms_machine.specs.Ordered.{AreKept}
 use Rattle.hsms_machine.proofs.Kept.{kept-dropped, values-drop}
-use Rattle.hsms_machine.proofs.open.Transactions.let_go.Goals as goal
+use Rattle.hsms_machine.proofs.queue.Queue.let_go.Goals as goal
 
 pub invariant_of-self : goal.invariant_of-self
 invariant_of-self c =

@@ -2,7 +2,7 @@ use Rattle.std.proofs.Common.{◌≡◌, ◌+◌, ◌-◌, ◌<◌, ◌∙◌, a
 use Rattle.std.specs.Map.{values_of}
 use Rattle.hsms_machine.specs.Ordered.{AreKept}
 use Rattle.hsms_machine.proofs.Kept.{kept-remove, open-remove, last_removed}
-use Rattle.hsms_machine.proofs.open.Transactions.remove_later.Goals as goal
+use Rattle.hsms_machine.proofs.queue.Queue.remove_later.Goals as goal
 
 pub invariant_of-self : goal.invariant_of-self
 invariant_of-self c =

@@ -1,7 +1,7 @@
 use Rattle.std.proofs.Common.{◌-◌, ◌≤◌, ◌∙◌, ap, sym, reverse, take, length, arith}
 use Rattle.std.proofs.Math.ListN.{drop_of_length-le}
 use Rattle.hsms_machine.proofs.Kept.{front_dropped}
-use Rattle.hsms_machine.proofs.open.Transactions.drop_front.Goals as goal
+use Rattle.hsms_machine.proofs.queue.Queue.drop_front.Goals as goal
 
 pub returns-then-left-eq0 : goal.returns-then-left-eq0
 returns-then-left-eq0 c =

@@ -1,7 +1,7 @@
 use Rattle.std.proofs.Common.{◌+◌, ◌<◌, ◌∙◌, ap, remove, length, arith, refl}
 use Rattle.std.specs.Map.{values_of}
 use Rattle.hsms_machine.proofs.Kept.{kept-close, close-first}
-use Rattle.hsms_machine.proofs.open.Transactions.close_oldest.Goals as goal
+use Rattle.hsms_machine.proofs.queue.Queue.close_oldest.Goals as goal
 
 pub invariant_of-self : goal.invariant_of-self
 invariant_of-self c =

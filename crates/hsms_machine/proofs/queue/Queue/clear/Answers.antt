@@ -1,7 +1,7 @@
 use Rattle.std.proofs.Common.{ap, sym, subst, arith}
 use Rattle.std.specs.Map.{values_of}
 use Rattle.hsms_machine.specs.Ordered.{AreKept}
-use Rattle.hsms_machine.proofs.open.Transactions.clear.Goals as goal
+use Rattle.hsms_machine.proofs.queue.Queue.clear.Goals as goal
 
 pub invariant_of-self : goal.invariant_of-self
 invariant_of-self c =

@@ -6,7 +6,7 @@ use Rattle.hsms_machine.specs.declared.open.Transaction.{Transaction}
 use Rattle.hsms_machine.specs.Ordered.{AreApart, uses}
 use Rattle.hsms_machine.proofs.Mapped.{lookup-find, find-some}
 use Rattle.hsms_machine.proofs.Kept.{value-behind, found_passes, found_at, removed_at, unused_behind, unused_none, uses-drop, apart-drop}
-use Rattle.hsms_machine.proofs.open.Transactions.found.Goals as goal
+use Rattle.hsms_machine.proofs.queue.Queue.found.Goals as goal
 
 -- the oldest
 pub returns-then-oldest-system-clause-found : goal.returns-then-oldest-system-clause-found

@@ -3,7 +3,7 @@ use Rattle.std.specs.List.{list_any, find}
 use Rattle.hsms_machine.specs.declared.open.Transaction.{Transaction}
 use Rattle.hsms_machine.specs.Transaction.{passes, concludes}
 use Rattle.hsms_machine.proofs.Mapped.{any_at, filter_one, concludes_only}
-use Rattle.hsms_machine.proofs.open.Transactions.place_concluded.Goals as goal
+use Rattle.hsms_machine.proofs.queue.Queue.place_concluded.Goals as goal
 
 pub returns-then-concludes-clause-place : goal.returns-then-concludes-clause-place
 returns-then-concludes-clause-place c =
