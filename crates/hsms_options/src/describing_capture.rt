@@ -8,7 +8,7 @@ ghost use Rattle.hsms_options.specs.Options.{capture_command};
 ghost use Rattle.hsms_options.specs.Service.{text_option, with_rules};
 
 use crate::describing_options::{
-    depth_option, device_option, max_option, number_option, word_option,
+    depth_option, device_option, flag, max_option, number_option, word_option,
 };
 use crate::describing_serve::with_times;
 use crate::limits::{GREATEST_PORT, LEAST_PORT};
@@ -62,6 +62,11 @@ fn with_place<'a>(alloc: Global, command: Command<'a>) -> Result<Command<'a>, Al
             alloc,
             "log",
             "Write the log of this end, host or equipment, and judge nothing",
+        ))?
+        .arg(flag(
+            alloc,
+            "joined",
+            "Judge sessions too that were running before the capture; what stood before is supposed",
         ))?
         .arg(device_option(alloc))
 }

@@ -164,7 +164,7 @@ fn capture_sentence(name: &str) -> &'static str {
         "Peer" =>
             "this connection is one of other addresses, and a log is of two: say by --with which peer is meant",
         "NoConnection" =>
-            "no connection came up at --port: is this the port of HSMS, and does the capture begin before the connection does?",
+            "no connection came up at --port: is this the port of HSMS, and does the capture begin before the connection does, or is --joined given?",
         _ => sentence(name),
     }
 }

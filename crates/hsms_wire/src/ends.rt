@@ -1,6 +1,6 @@
 //! The logs of both ends of a connection.
 
-ghost use Rattle.std.specs.Prelude.{◌≡◌, ◌<◌, ◌≤◌, ◌+◌, ◌⊎◌, IfOk, IfSome, OnOk, None, length, drop};
+ghost use Rattle.std.specs.Prelude.{◌≡◌, ◌<◌, ◌≤◌, ◌+◌, ◌⊎◌, IfOk, IfSome, OnOk, None, Some, length, drop};
 ghost use Rattle.hsms_wire.specs.Account.{received_of};
 ghost use Rattle.hsms_wire.specs.Ends.{Adds};
 ghost use Rattle.hsms_log.specs.Spelling.{message_octets};
@@ -40,9 +40,9 @@ impl Ends {
     ghost use Rattle.hsms_log.specs.Verdict.{Judges};
     ghost use Rattle.hsms_machine.specs.Settings.{Parameters};
     ghost use Rattle.hsms_wire.specs.Account.{HasLogged, Note, log_text};
-    ghost use Rattle.hsms_machine.specs.declared.entry.Event.TheVariants.{Down};
-    ghost use Rattle.hsms_wire.specs.declared.account.Remark.TheVariants.{Replaced};
-    ghost use Rattle.hsms_wire.specs.Ends.{Adds, HearsAs, event_of, note_of};
+    ghost use Rattle.hsms_machine.specs.declared.entry.Event.TheVariants.{Down, Up};
+    ghost use Rattle.hsms_wire.specs.declared.account.Remark.TheVariants.{LeftOut, Replaced, Supposed};
+    ghost use Rattle.hsms_wire.specs.Ends.{Adds, HearsAs, event_of, note_of, remark_alone};
 
     /// The logs of ends with these settings, without an entry.
     pub fn new(alloc: Global, active: &Settings, passive: &Settings) -> Result<Ends, Stop>
@@ -112,6 +112,38 @@ impl Ends {
         self.both(alloc, Remark::Replaced, Event::Down)
     }
 
+    /// Both ends log that the connection came up at a time, or at that of the entry before, as it is supposed.
+    pub fn suppose_up(&mut self, alloc: Global, time: u64) -> Result<(), Stop>
+        ensures active { OnOk result (Adds (note_of Supposed (max self.old.time time) Up) self.old.active self.new.active) }
+        ensures passive { OnOk result (Adds (note_of Supposed (max self.old.time time) Up) self.old.passive self.new.passive) }
+        ensures time { OnOk result (self.new.time ≡ max self.old.time time) }
+        ensures max { OnOk result (self.new.max ≡ self.old.max) }
+    {
+        self.time = self.time.max(time);
+        self.both(alloc, Remark::Supposed, Event::Up)
+    }
+
+    /// Both ends log a message that one of them sent, as it is supposed, at the time of the entry before.
+    pub fn suppose_message(&mut self, alloc: Global, from: Side, frame: Frame) -> Result<(), Stop>
+        ensures active { OnOk result
+            (Adds (note_of Supposed self.old.time (event_of Active from frame)) self.old.active self.new.active) }
+        ensures passive { OnOk result
+            (Adds (note_of Supposed self.old.time (event_of Passive from frame)) self.old.passive self.new.passive) }
+        ensures same { OnOk result ((self.new.time ≡ self.old.time) × (self.new.max ≡ self.old.max)) }
+    {
+        self.message(alloc, Remark::Supposed, from, frame)
+    }
+
+    /// Both logs say that there is no entry of a packet: what it answers may stand before the capture.
+    pub fn leave_out(&mut self, alloc: Global, packet: u64) -> Result<(), Stop>
+        ensures active { OnOk result (Adds (remark_alone (LeftOut packet)) self.old.active self.new.active) }
+        ensures passive { OnOk result (Adds (remark_alone (LeftOut packet)) self.old.passive self.new.passive) }
+        ensures same { OnOk result ((self.new.time ≡ self.old.time) × (self.new.max ≡ self.old.max)) }
+    {
+        self.active.remark(alloc, Remark::LeftOut(packet))?;
+        self.passive.remark(alloc, Remark::LeftOut(packet))
+    }
+
     // Both log the same.
     fn both(&mut self, alloc: Global, remark: Remark, event: Event) -> Result<(), Stop>
         ensures active { OnOk result (Adds (note_of remark self.old.time event) self.old.active self.new.active) }
@@ -159,8 +191,8 @@ fn pass(
     sender: &mut Account,
     taker: &mut Account,
 ) -> Result<(), Stop>
-    ensures sender { OnOk result (Adds (record { remark = remark; entry = sent }) sender.old sender.new) }
-    ensures taker { OnOk result (Adds (record { remark = remark; entry = received_of sent }) taker.old taker.new) }
+    ensures sender { OnOk result (Adds (record { remark = remark; entry = Some sent }) sender.old sender.new) }
+    ensures taker { OnOk result (Adds (record { remark = remark; entry = Some (received_of sent) }) taker.old taker.new) }
 {
     sender.note(alloc, remark, &sent)?;
     taker.note(alloc, remark, &received(sent))

@@ -9,4 +9,5 @@ returns c =
     let two = c.in_ok-arg-2.ensures.shape c.peer_option.ensures.local ∙ ap₂ with_rule one c.peer_option.ensures.rule in
     let three = c.in_ok-arg-3.ensures.shape c.role_option.ensures.local ∙ ap₂ with_rule two c.role_option.ensures.rule in
     let four = c.in_ok-arg-4.ensures.shape c.role_option-2.ensures.local ∙ ap₂ with_rule three c.role_option-2.ensures.rule in
-    IfOk-weaker c.arg-5.result _ _ (λ command adds. adds.shape c.device_option.ensures.local ∙ ap₂ with_rule four c.device_option.ensures.rule) c.arg-5.ensures
+    let five = c.in_ok-arg-5.ensures.shape c.flag.ensures.local ∙ ap₂ with_rule four c.flag.ensures.rule in
+    IfOk-weaker c.arg-6.result _ _ (λ command adds. adds.shape c.device_option.ensures.local ∙ ap₂ with_rule five c.device_option.ensures.rule) c.arg-6.ensures
