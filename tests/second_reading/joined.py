@@ -224,7 +224,7 @@ def decided_by(frame: Frame, said: List[Frame]) -> Optional[Tuple[str, Optional[
 def first_decision(lines: List[Line]) -> Tuple[str, Optional[int], int]:
     """What stood before, by the first message that decides it, and who sent what is supposed: selected, if none."""
     said: Tuple[List[Frame], List[Frame]] = ([], [])
-    for line in lines[:LATER]:
+    for line in lines[:LATER + 1]:
         if line.what == "message":
             frame = Frame(line.octets[4:])
             decided = decided_by(frame, said[1 - line.end])
