@@ -19,7 +19,7 @@ _hsms() {
       encode) words='--device --system --max --depth --hex --help' ;;
       audit) words='--help' ;;
       explain) words='--only --around --from --to --form --utc --help' ;;
-      capture) words='--port --with --active --log --device --t3 --t6 --t7 --t8 --max --depth --help' ;;
+      capture) words='--port --with --active --log --joined --device --t3 --t6 --t7 --t8 --max --depth --help' ;;
       serve)
         words='--role --link --address --port --device --t3 --t6 --t7 --t8 --linktest --max --depth --first-system'
         words+=' --turns --mdln --softrev --send --answer --all-sent --again --once --connections --t5 --help'

@@ -38,6 +38,7 @@ SMALL = [
     (["explain", "--form", "json"], "examples/late-reply.log"),
     (["capture", "--t3", "1000"], "examples/late-reply.pcap"),
     (["capture", "--log", "equipment"], "examples/late-reply.pcap"),
+    (["capture", "--joined", "--log", "host"], "tests/captures/joined-status-1.pcap"),
     (["show"], "examples/cut-off.bin"),
 ]
 

@@ -1,25 +1,29 @@
 #!/usr/bin/env python3
-"""Reads sessions that were running before the capture by the second reading, whose truth is known.
+"""Compares what `hsms capture --joined` writes of sessions that were running before the capture with a second reading.
 
-`hsms capture` doesn't read such ones yet, so no program is asked, and the gate doesn't run this. Random lawful sessions
-(made_sessions.py) go over the wire, and the capture lacks all packets up to some packet, or all of one direction. No
-log of them may fail, and none of the messages may be made up or stand in another order. Where no packet is swapped and
-nothing is told to be missing, all is told from some message on. The smallest captures are read first, in captures/.
+Random lawful sessions (made_sessions.py) go over the wire, and the capture lacks all packets up to some packet, or all
+of one direction. Each capture is judged, and written as the log of the host and of the equipment: output, standard
+error and status have to be those of the second reading, octet by octet. No log of a lawful session may fail, and none
+of the messages may be made up or stand in another order. Where no packet is swapped and nothing is told to be missing,
+all is told from some message on. The smallest captures are read first, in captures/, and each without `--joined`,
+which shows no connection.
 
-Use: tests/joined.py [SESSIONS] [SEED]. SESSIONS is how many, 2,000 if left out, and SEED is 1. The last line is
-`N passed, M failed`.
+Use: tests/joined.py [SESSIONS] [SEED]. SESSIONS is how many, 1,000 if left out, and SEED is 1. It runs what `rt ci` has
+built, or `--program P`; with `--alone` no program, and the second reading is compared with what is known. The last line
+is `N passed, M failed`.
 """
 import argparse
 import random
 import sys
-from typing import List, Optional
+from dataclasses import replace
+from typing import List, Optional, Tuple
 
 # The modules below leave no compiled files in the repository.
 sys.dont_write_bytecode = True
 
-from command import TOP
-from made_captures import ACK, ACTIVE, BEGIN, FIN, PASSIVE, PUSH, RST, SYN
-from made_sessions import NUMBERS, Session, captured_of, random_session
+from command import PROGRAM, TOP, Answer, answer_of
+from made_captures import ACTIVE, BEGIN, FIN, PASSIVE, PUSH, RST, SELECT, SYN, Capture, Talk
+from made_sessions import Session, captured_of, random_session
 from second_reading import joined
 from second_reading.capturing import Options
 from second_reading.packets import read_file, segment_of
@@ -27,6 +31,8 @@ from second_reading.session import audit
 from second_reading.wire import Seen
 
 PORT = 5000
+NAMES = "10.0.0.1:40000 10.0.0.2:5000"
+SIDES = ["active", "passive"]
 
 # What each end of the smallest captures says, and from which packet on something is missing.
 SMALLEST = {
@@ -38,18 +44,7 @@ SMALLEST = {
 }
 
 
-def verdicts(told: joined.Told, options: Options) -> List[str]:
-    return [audit(joined.log_of(told, end, options)).verdict for end in (ACTIVE, PASSIVE)]
-
-
-def wrong_with_smallest(name: str) -> Optional[str]:
-    with open(f"{TOP}/tests/captures/joined-{name}.pcap", "rb") as file:
-        octets = file.read()
-    told = joined.told_of(seen_in(octets), Options())
-    *wanted, missing = SMALLEST[name]
-    found = verdicts(told, Options())
-    is_right = all(one.startswith(front) for one, front in zip(found, wanted)) and told.missing == missing
-    return None if is_right else f"joined-{name}: {found}, missing from {told.missing} on"
+# What the second reading answers.
 
 
 def seen_in(octets: bytes) -> List[Seen]:
@@ -63,15 +58,110 @@ def seen_in(octets: bytes) -> List[Seen]:
     return found
 
 
-def seen_of(session: Session) -> List[Seen]:
-    """The segments of a session, as they are captured."""
-    found, when = [], BEGIN
-    for number, packet in enumerate(session.captured, 1):
-        when += packet.pause
-        flags = [bool(packet.flags & flag) for flag in (SYN, FIN, PUSH, RST)]
-        acknowledged = packet.acknowledged % NUMBERS if packet.flags & ACK else None
-        found.append(Seen(packet.way, number, when // 1000, packet.number % NUMBERS, acknowledged, packet.data, *flags))
+def verdicts(told: joined.Told, options: Options) -> List[str]:
+    """The verdicts on both logs, where it is one that came up, with the packet of a line that fails."""
+    found = []
+    for end in (ACTIVE, PASSIVE):
+        words = [f"incomplete packet={told.missing}"] if told.fault else []
+        if told.lines:
+            log = joined.log_of(told, end, options)
+            audited = audit(log)
+            packet = packet_of(log, audited.line) if audited.verdict.startswith("fail") else 0
+            words.append(audited.verdict.replace(" rule", f" packet={packet} rule"))
+        found.append(" ".join(words))
     return found
+
+
+def packet_of(log: bytes, line: int) -> int:
+    """The packet of a line of a log, which the last comment above it names."""
+    comments = [words.split() for words in log.decode().splitlines()[:line] if words.startswith("# packet ")]
+    return max((int(words[2]) for words in comments if len(words) == 3), default=0)
+
+
+def second(told: joined.Told, options: Options) -> Answer:
+    """What the second reading answers to a capture of one connection, of which this is told."""
+    fault = "{} packet={}".format(*told.fault) if told.fault else None if told.lines else "NoConnection"
+    error = f"hsms: {fault}\n".encode() if fault else b""
+    status = 2 if fault else 0
+    if options.log:
+        end = ACTIVE if options.log == options.active else PASSIVE
+        return Answer(status, joined.log_of(told, end, options) if told.lines else b"", error)
+    if not told.lines and not told.fault:
+        return Answer(status, b"", error)
+    said = verdicts(told, options)
+    lines = [f"{NAMES} {options.role_of(end)} {SIDES[end]}: {said[end]}\n" for end in (ACTIVE, PASSIVE)]
+    if any("fail line=" in verdict for verdict in said):
+        status, error = 1, b""
+    return Answer(status, "".join(lines).encode(), error)
+
+
+def differs(octets: bytes, told: joined.Told, options: Options, program: Optional[str]) -> Optional[str]:
+    """What is wrong with the command's answers to a capture, of which this is told."""
+    for role in (None, "host", "equipment") if program else ():
+        asked = replace(options, log=role)
+        words = ["capture", "--joined", *asked.words()]
+        found, wanted = answer_of(words, octets, program), second(told, asked)
+        if found != wanted:
+            return f"{' '.join(words)}\n  second reading: {wanted}\n  command: {found}"
+    return None
+
+
+# The smallest captures.
+
+
+def wrong_with_smallest(name: str, program: Optional[str]) -> Optional[str]:
+    with open(f"{TOP}/tests/captures/joined-{name}.pcap", "rb") as file:
+        octets = file.read()
+    told = joined.told_of(seen_in(octets), Options())
+    *wanted, missing = SMALLEST[name]
+    found = verdicts(told, Options())
+    lack = f"incomplete packet={missing} " if missing else ""
+    if not all(one.startswith(lack + front) for one, front in zip(found, wanted)):
+        return f"{found}, missing from {told.missing} on"
+    if program and answer_of(["capture"], octets, program) != Answer(2, b"", b"hsms: NoConnection\n"):
+        return "without --joined it is passed over"
+    return differs(octets, told, Options(), program)
+
+
+def replaced() -> bytes:
+    """A session that was running, and then the next connection of the same ends, with no end of the first one."""
+    talk = Talk(Capture(), shakes_hands=False)
+    for number in range(3):
+        talk.say(10 * number + 1, ACTIVE, f"000081010000{number:08x}")
+        talk.say(10 * number + 2, PASSIVE, f"000001020000{number:08x}")
+    later = Talk(talk.capture, firsts=(70000, 80000), when=talk.when + 1_000_000)
+    later.say(1, *SELECT[0])
+    later.say(2, *SELECT[1])
+    return talk.capture.octets
+
+
+def wrong_with_replaced(program: Optional[str]) -> Optional[str]:
+    if not program:
+        return None
+    counts = ["entries=10 sent=4 taken=4", "entries=10 sent=4 taken=4", "entries=3 sent=1 taken=1", "entries=3 sent=1 taken=1"]
+    ends = ["host active", "equipment passive"] * 2
+    lines = [f"{NAMES} {end}: pass {count} discarded=0 expired=0 waiting=0\n" for end, count in zip(ends, counts)]
+    found = answer_of(["capture", "--joined"], replaced(), program)
+    return None if found == Answer(0, "".join(lines).encode(), b"") else str(found)
+
+
+# Random sessions.
+
+
+def made(rng, session: Session) -> Tuple[bytes, bool]:
+    """A capture of a session that lacks its beginning, and maybe a direction, and whether it lacks one."""
+    syns = [place for place, packet in enumerate(session.captured) if packet.flags & SYN]
+    first = max(syns, default=-1) + 1
+    captured = session.captured[rng.randrange(first, len(session.captured)):] if first < len(session.captured) else []
+    is_one_way = rng.random() < 0.1
+    if is_one_way:
+        way = rng.choice([ACTIVE, PASSIVE])
+        captured = [packet for packet in captured if packet.way == way]
+    capture, when = Capture(), BEGIN
+    for packet in captured:
+        when += packet.pause
+        capture.segment(when, packet.way, packet.number, packet.flags, packet.data, packet.acknowledged)
+    return capture.octets, is_one_way
 
 
 def is_within(said: List, session: List) -> bool:
@@ -80,24 +170,18 @@ def is_within(said: List, session: List) -> bool:
     return all(any(one == other for other in left) for one in said)
 
 
-def wrong_with(seed: str) -> Optional[str]:
+def wrong_with(seed: str, program: Optional[str]) -> Optional[str]:
     """What is wrong with what is read of a random session."""
     rng = random.Random(f"joined {seed}")
     session = random_session(rng, (1, 2), (40000, PORT), rng.random() < 0.3)
     swaps, losses = rng.choice([0, 0, 0.1, 0.3]), rng.choice([0, 0, 1])
     captured_of(rng, session, swaps, losses)
-    seen = seen_of(session)
-    syns = max((place for place, one in enumerate(seen) if one.has_syn), default=-1)
-    from_on = rng.randrange(syns + 1, len(seen)) if syns + 1 < len(seen) else len(seen)
-    seen = seen[from_on:]
-    is_one_way = rng.random() < 0.1
-    if is_one_way:
-        end = rng.choice([ACTIVE, PASSIVE])
-        seen = [one for one in seen if one.end == end]
-    options = Options(active=rng.choice(["host", "equipment"]))
-    told = joined.told_of(seen, options)
-    if not told.lines:
-        return None
+    octets, is_one_way = made(rng, session)
+    options = Options(active=rng.choice(["host", "equipment"]), t3=rng.choice([45000, 45000, 45000, 5]))
+    told = joined.told_of(seen_in(octets), options)
+    wrong = differs(octets, told, options, program)
+    if wrong or not told.lines:
+        return wrong
     said = [(line.end, line.octets[4:].hex()) for line in told.lines if line.octets and line.packet]
     if not is_within(said, session.frames):
         return f"no session said {said}"
@@ -105,16 +189,22 @@ def wrong_with(seed: str) -> Optional[str]:
     if is_plain and told.missing is None and said != session.frames[len(session.frames) - len(said):]:
         return f"not all is told: {said} of {session.frames}"
     found = verdicts(told, options)
-    return f"a lawful session fails: {found}" if any(one.startswith("fail") for one in found) else None
+    fails = options.t3 == 45000 and any("fail" in one for one in found)
+    return f"a lawful session fails: {found}" if fails else None
 
 
 def main():
     parser = argparse.ArgumentParser(description=__doc__, formatter_class=argparse.RawDescriptionHelpFormatter)
-    parser.add_argument("sessions", nargs="?", type=int, default=2000)
+    parser.add_argument("sessions", nargs="?", type=int, default=1000)
     parser.add_argument("seed", nargs="?", default="1")
+    parser.add_argument("--program", default=PROGRAM)
+    parser.add_argument("--alone", action="store_true")
     given = parser.parse_args()
+    program = None if given.alone else given.program
     seeds = [f"{given.seed} {number}" for number in range(given.sessions)]
-    wrong = [(name, wrong_with_smallest(name)) for name in SMALLEST] + [(seed, wrong_with(seed)) for seed in seeds]
+    wrong = [(f"joined-{name}", wrong_with_smallest(name, program)) for name in SMALLEST]
+    wrong += [("replaced", wrong_with_replaced(program))]
+    wrong += [(seed, wrong_with(seed, program)) for seed in seeds]
     told = [f"{name}: {why}" for name, why in wrong if why]
     print("\n".join(told + [f"{len(wrong) - len(told)} passed, {len(told)} failed"]))
     return 1 if told else 0

@@ -157,7 +157,7 @@ def cases_of_captures():
     yield Case(["capture"], 2, "CutOff", [cut], captures.half_a_packet().octets)
     other = "here the file isn't one of pcap or pcapng: give the one that tcpdump, tshark or Wireshark wrote, unpacked"
     yield Case(["capture"], 2, "Capture Unknown octet=0", [other], captures.other_octets().octets + bytes(24))
-    none = "no connection came up at --port: is this the port of HSMS, and does the capture begin before the connection does?"
+    none = "no connection came up at --port: is this the port of HSMS, and does the capture begin before the connection does, or is --joined given?"
     yield Case(["capture"], 2, "NoConnection", [none], captures.no_connection().octets)
     yield Case(["capture", "--port", "5001"], 2, "NoConnection", [none], captures.late_reply().octets)
     lost = "octets are missing from this packet on: capture again at the end itself, whole packets (-s 0), and none dropped"

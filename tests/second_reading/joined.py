@@ -1,7 +1,8 @@
 """A session that was running before the capture: where each direction begins, what is supposed to stand before what was
 captured, and which responses are left out.
 
-It is read off all packets of the connection, of which none is a SYN. Where both directions have begun their packets are
+It is read off all packets of the connection, of which none is a SYN. Its first packets are kept, and looked at whenever
+they are as many as a power of two, until three messages stand at the beginning of each direction. Then its packets are
 those of a connection whose SYNs stand before the first octets, and are read as such.
 """
 from dataclasses import dataclass, field, replace
@@ -13,6 +14,9 @@ from second_reading.messages import CONTROL_KINDS, HEADER, Frame
 from second_reading.wire import ACTIVE, FARTHEST, LATER, PASSIVE, Seen, Wire
 
 MODULUS = 1 << 32
+
+# How far an octet may be from the first number that is known of its direction.
+REACH = 1 << 25
 
 # So many octets say whose a message is, and so many messages one behind another are looked at.
 FRONT = 14
@@ -70,22 +74,23 @@ def away(number: int, first: int) -> int:
 
 def octets_by_place(seen: List[Seen], end: int, first: int) -> Dict[int, int]:
     """The octets of a direction by their places, of which the first copy counts. One that only asks is none."""
-    found, acknowledged = {}, None
+    found, acknowledged = {}, 0
     for one in seen:
         if one.end != end:
             if one.acknowledged is not None:
-                acknowledged = max(away(one.acknowledged, first), -FARTHEST if acknowledged is None else acknowledged)
+                acknowledged = max(acknowledged, (one.acknowledged - first + REACH) % MODULUS)
             continue
-        place = away(one.number, first)
-        asks = len(one.data) == 1 and not one.is_pushed and acknowledged is not None and place < acknowledged
-        if abs(place) <= FARTHEST and not asks:
+        place = (one.number - first + REACH) % MODULUS
+        asks = len(one.data) == 1 and not one.is_pushed and place < acknowledged
+        if place + len(one.data) <= 2 * REACH and not asks:
             for at, octet in enumerate(one.data, place):
                 found.setdefault(at, octet)
     return found
 
 
-def beginning(seen: List[Seen], end: int, options: Options) -> int:
-    """The number of the octet at which a direction begins: behind its last one, where none begins a message."""
+def beginning(seen: List[Seen], end: int, options: Options) -> Tuple[int, bool]:
+    """The number of the octet at which a direction begins, and whether three messages stand there. Where none begins a
+    message it is that behind the last octet, or the first one that is known, whichever comes later."""
     numbers = [one.number if one.end == end else one.acknowledged for one in seen]
     first = next((number for number in numbers if number is not None), 0)
     octets = octets_by_place(seen, end, first)
@@ -97,8 +102,22 @@ def beginning(seen: List[Seen], end: int, options: Options) -> int:
             run.append(octets[start + len(run)])
         found = begins_at(bytes(run), options)
         if found is not None:
-            return (first + start + found) % MODULUS
-    return (first + (places[-1] + 1 if places else 0)) % MODULUS
+            return (first + start + found - REACH) % MODULUS, row(bytes(run), found, options) == LOOKED_AT
+    last = max([place + 1 for place in places], default=REACH)
+    return (first + max(last, REACH) - REACH) % MODULUS, False
+
+
+def beginnings(seen: List[Seen], options: Options) -> List[int]:
+    """The numbers at which both directions begin, by the packets that are kept."""
+    count = octets = 0
+    for count, one in enumerate(seen, 1):
+        octets += len(one.data)
+        is_last = one.is_reset or count in (LATER, len(seen)) or octets >= FARTHEST
+        if is_last or count & (count - 1) == 0:
+            found = [beginning(seen[:count], end, options) for end in (ACTIVE, PASSIVE)]
+            if is_last or all(is_sure for _, is_sure in found):
+                return [number for number, _ in found]
+    return [0, 0]
 
 
 # What happens.
@@ -117,18 +136,25 @@ class Line:
 
 @dataclass
 class Told:
-    """What is told of a connection, and the packet from which on something is missing."""
+    """What is told of a connection, and the fault and packet from which on something is missing."""
 
     lines: List[Line] = field(default_factory=list)
-    missing: Optional[int] = None
+    fault: Optional[Tuple[str, int]] = None
+
+    @property
+    def missing(self) -> Optional[int]:
+        return self.fault[1] if self.fault else None
 
 
 def behind(one: Seen, begins: List[int]) -> Seen:
     """The part of a segment that stands from the beginning on."""
-    place = away(one.number, begins[one.end])
+    begin = begins[one.end]
+    place = away(one.number, begin)
+    has_fin = one.has_fin and away(one.number + len(one.data), begin) >= 0
     if place >= 0:
-        return one
-    return replace(one, number=begins[one.end], data=one.data[-place:] if -place < len(one.data) else b"")
+        return replace(one, has_syn=False, has_fin=has_fin)
+    kept = one.data[-place:] if -place < len(one.data) else b""
+    return replace(one, number=begin, data=kept, has_syn=False, has_fin=has_fin)
 
 
 def both_have_begun(seen: List[Seen], begins: List[int]) -> Optional[int]:
@@ -146,7 +172,7 @@ def both_have_begun(seen: List[Seen], begins: List[int]) -> Optional[int]:
 
 def told_of(seen: List[Seen], options: Options) -> Told:
     """What is told of a connection that was up before the capture, where these are all of its segments."""
-    begins = [beginning(seen, end, options) for end in (ACTIVE, PASSIVE)]
+    begins = beginnings(seen, options)
     start = both_have_begun(seen, begins)
     if start is None:
         return Told()
@@ -156,16 +182,20 @@ def told_of(seen: List[Seen], options: Options) -> Told:
         Seen(PASSIVE, 0, 0, bases[PASSIVE], begins[ACTIVE], b"", has_syn=True),
         Seen(ACTIVE, 0, 0, begins[ACTIVE], begins[PASSIVE], b""),
     ]
-    wire = Wire(bases, syns + [behind(one, begins) for one in seen])
-    told = wire.told()
+    told = Wire(bases, syns + [behind(one, begins) for one in seen]).told()
     begun = max(one.time for one in seen[:start + 1])
-    messages = [
-        Line(one.packet, max(one.time, begun), one.what, one.end, one.octets)
-        for one in told.happenings if one.packet >= seen[start].packet
-    ]
-    is_over = told.is_down and told.happenings[-1].packet < seen[start].packet
-    missing = told.fault[1] if told.fault else None
-    return Told() if is_over else Told(supposed(messages, begun, options), missing)
+    bare = [one.packet for one in seen if one.is_reset and one.acknowledged is None]
+    messages = []
+    for one in told.happenings:
+        if one.what == "down" and one.packet < seen[start].packet:
+            return Told()
+        if one.what == "up" or one.packet < seen[start].packet:
+            continue
+        if one.what == "message" and not HEADER <= len(one.octets) - 4 <= options.max:
+            return Told(supposed(messages, begun, options), ("Length", one.packet))
+        is_bare = one.what == "down" and one.packet in bare
+        messages.append(Line(one.packet, 0 if is_bare else max(one.time, begun), one.what, one.end, one.octets))
+    return Told(supposed(messages, begun, options), told.fault)
 
 
 # What stands before.
@@ -194,7 +224,7 @@ def decided_by(frame: Frame, said: List[Frame]) -> Optional[Tuple[str, Optional[
 def first_decision(lines: List[Line]) -> Tuple[str, Optional[int], int]:
     """What stood before, by the first message that decides it, and who sent what is supposed: selected, if none."""
     said: Tuple[List[Frame], List[Frame]] = ([], [])
-    for line in lines:
+    for line in lines[:LATER + 1]:
         if line.what == "message":
             frame = Frame(line.octets[4:])
             decided = decided_by(frame, said[1 - line.end])
@@ -210,6 +240,8 @@ def control(stype: int, system: str) -> bytes:
 
 def supposed(lines: List[Line], begun: int, options: Options) -> List[Line]:
     """The lines of a log: what is supposed, and what was captured, but for responses to what stood before."""
+    if not any(line.what == "message" for line in lines):
+        return []
     what, system, end = first_decision(lines)
     found = [Line(0, begun, "up")]
     said: Tuple[List[Frame], List[Frame]] = ([], [])
@@ -220,13 +252,13 @@ def supposed(lines: List[Line], begun: int, options: Options) -> List[Line]:
         found.append(Line(0, begun, "message", end, control(1, f"{system:08x}")))
         said[end].append(Frame(found[-1].octets[4:]))
     for line in lines:
-        if line.what == "up":
-            continue
         if line.what == "message":
             frame = Frame(line.octets[4:])
             if frame.kind in ASKS and not is_asked(frame, said[1 - line.end]) and line.time - begun <= options.t3:
                 line = replace(line, what="left out")
             said[line.end].append(frame)
+        if line.what == "down":  # one whose time isn't known has that of the line before
+            line = replace(line, time=max(line.time, *(one.time for one in found if one.what != "left out")))
         found.append(line)
     return found
 
@@ -236,10 +268,11 @@ def log_of(told: Told, end: int, options: Options) -> bytes:
     lines = [options.settings(end)]
     for line in told.lines:
         mark = ">" if line.end == end else "<"
-        text = line.octets[4:].hex()
-        lines.append(f"# packet {line.packet}" if line.packet else "# supposed")
-        if line.what == "message":
-            lines.append(f"{line.time} {mark} {text}")
-        else:
-            lines.append(f"{line.time} {line.what}" if line.what != "left out" else "# left out")
+        comment = f"# packet {line.packet}" if line.packet else "# supposed"
+        if line.what == "left out":
+            lines.append(f"{comment} left out: what it answers isn't in the capture")
+            continue
+        lines.append(comment)
+        said = f"{mark} {line.octets[4:].hex()}" if line.what == "message" else line.what
+        lines.append(f"{line.time} {said}")
     return "".join(line + "\n" for line in lines).encode()

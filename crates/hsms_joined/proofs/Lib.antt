@@ -1,5 +1,11 @@
 pub mod Rows
 pub mod Unique
 pub mod Staying
+pub mod Found
 pub mod Messages
+pub mod PiecesFrom
+pub mod Places
 pub mod Standing
+pub mod Holding
+pub mod Starts
+pub mod Spots

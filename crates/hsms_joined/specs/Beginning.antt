@@ -1,6 +1,6 @@
 -- Where a direction begins: at the first place from which on messages of the session stand one behind another, as far as
 -- the octets go.
-use Rattle.std.specs.Prelude.{◌≡◌, ◌≤◌, ◌<◌, ◌+◌, ◌⊎◌, ℕ, zero, suc, List, length, drop, Option, Some, None}
+use Rattle.std.specs.Prelude.{◌≡◌, ◌≤◌, ◌<◌, ◌+◌, ◌⊎◌, ℕ, zero, suc, Bool, true, false, List, length, drop, Option, Some, None}
 use Rattle.hsms_joined.specs.declared.beginning.Beginning.{Beginning}
 use Rattle.hsms_joined.specs.declared.beginning.Beginning.TheVariants.{Sure, Open}
 use Rattle.hsms_joined.specs.declared.front.Found.{Found}
@@ -65,3 +65,8 @@ pub record BeginsAtEnd (s : Session) (octets : List ℕ) (from place : ℕ) : Ty
   pub within : place ≤ length octets
   pub others : (q : ℕ) → from ≤ q → q < place → NoneStands s (drop q octets)
   pub here : (place ≡ length octets) ⊎ SomeStands s (drop place octets)
+
+-- whether three messages stand there
+abbrev pub IsSureBy : Session → List ℕ → Bool → Type 0
+IsSureBy s octets true = CountsAs s most octets (Some 3)
+IsSureBy s octets false = (count : Option ℕ) × CountsAs s most octets count × (count ≡ Some 3 → ⊥)

@@ -1,5 +1,8 @@
 pub mod Beginning
 pub mod Front
+pub mod Gathered
+pub mod Gathering
+pub mod Joining
 pub mod Laws
 pub mod Requests
 pub mod Supposed

@@ -1,7 +1,7 @@
 //! Where a direction begins.
 
 ghost use Rattle.std.specs.Prelude.{◌≡◌, ◌≤◌, true, false, IfSome, IfNone, length};
-ghost use Rattle.hsms_joined.specs.Beginning.{BeginsAs, BeginsAtEnd, BeginsHere, CountsAs, IsRefused, NoneStands, SomeStands};
+ghost use Rattle.hsms_joined.specs.Beginning.{BeginsAs, BeginsAtEnd, BeginsHere, CountsAs, IsRefused, NoneStands, SomeStands, IsSureBy};
 
 use crate::front::{Found, front_of};
 use crate::session::Session;
@@ -100,6 +100,23 @@ fn stands(session: Session, octets: &[u8]) -> bool
 {
     match row(session, octets, MOST) {
         Some(count) => count > 0,
+        None => false,
+    }
+}
+
+/// Whether three messages of the session stand one behind another at the front. Takes no memory.
+#[tactic(auto, using(crate::proofs::Places::is_sure))]
+pub(crate) fn is_sure(session: Session, octets: &[u8]) -> bool
+    requires { session.depth ≤ 100 }
+    ensures { IsSureBy session octets.now result }
+{
+    match row(session, octets, MOST) {
+        Some(count) => {
+            if count == MOST {
+                return true;
+            }
+            false
+        }
         None => false,
     }
 }

@@ -8,15 +8,27 @@
 #![tactic(auto)]
 
 mod beginning;
+mod finding;
 mod front;
+mod gathered;
+mod gathering;
+mod joining;
 pub mod laws;
 mod numbers;
+mod piece;
+mod pieces;
 mod requests;
 mod session;
+mod spot;
+mod start;
 mod supposed;
 
 pub use beginning::{Beginning, begins, begins_at_end};
+pub use gathered::{Begun, Gathered};
+pub use gathering::{Beginnings, Gathering};
+pub use joining::{opening, segment_from, start_of};
 pub use numbers::{is_from, octets_before, reaches};
 pub use requests::Requests;
 pub use session::Session;
+pub use start::Start;
 pub use supposed::{Supposed, supposed_by};

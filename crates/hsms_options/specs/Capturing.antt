@@ -9,7 +9,7 @@ use Rattle.hsms_machine.specs.declared.settings.Side.{Side}
 use Rattle.hsms_machine.specs.declared.settings.Side.TheVariants.{Active, Passive}
 use Rattle.hsms_machine.specs.Settings.{Parameters}
 use Rattle.hsms_options.specs.declared.capturing.Capturing.{Capturing}
-use Rattle.hsms_options.specs.Number.{Number, depth_number, device_number, max_number, number_in, option_of, text_option}
+use Rattle.hsms_options.specs.Number.{IsFlag, Number, depth_number, device_number, flag_option, max_number, number_in, option_of, text_option}
 use Rattle.hsms_options.specs.Service.{HasNumbers, role_word, time_rules}
 
 -- ---- the options
@@ -21,7 +21,7 @@ captured_number = record { name = codes "port"; least = 1; greatest = 65535; lef
 abbrev pub place_rules : List Rule
 place_rules =
     option_of captured_number ∷ text_option (codes "with") ∷ text_option (codes "active") ∷ text_option (codes "log")
-    ∷ option_of device_number ∷ []
+    ∷ flag_option (codes "joined") ∷ option_of device_number ∷ []
 
 abbrev pub size_rules : List Rule
 size_rules = option_of max_number ∷ option_of depth_number ∷ []
@@ -63,7 +63,7 @@ abbrev pub HasCapturing : List Row → Capturing → Type 0
 HasCapturing rows capturing =
     (number_in captured_number rows ≡ Some capturing.port) × HasPeer rows capturing.peer
     × (first_of (codes "log") rows ≡ log_word capturing.log) × HasActive rows capturing.active.role × HasEnd rows capturing.active.role Active capturing.active
-    × HasEnd rows (other_role capturing.active.role) Passive capturing.passive
+    × HasEnd rows (other_role capturing.active.role) Passive capturing.passive × IsFlag (codes "joined") rows capturing.joined
 
 -- its port is within its limits; the numbers of settings are by their type
 abbrev pub IsCapturingWithinLimits : Capturing → Type 0

@@ -12,7 +12,7 @@ ghost use Rattle.hsms_options.specs.declared.capturing.Capturing.{Capturing};
 
 use crate::limits::{DEFAULT_PORT, GREATEST_PORT, LEAST_PORT};
 use crate::service::{role_named, settings_with};
-use crate::values::{number_of, text_of};
+use crate::values::{flag_of, number_of, text_of};
 use clap::ArgMatches;
 use hsms_machine::{Role, Settings, Side};
 use std::net::IpAddr;
@@ -26,6 +26,8 @@ pub struct Capturing {
     pub peer: Option<IpAddr>,
     /// The role whose log is written. Where there is none, verdicts on the logs of both ends are told.
     pub log: Option<Role>,
+    /// Whether sessions are looked at that were running before the capture.
+    pub joined: bool,
     /// The settings of an end that connects, for a log of several connections.
     pub active: Settings,
     /// Those of an end that listens: it has the other role, and else the same numbers.
@@ -49,6 +51,7 @@ pub fn capturing_of(options: &ArgMatches<'_>) -> Option<Capturing>
         port,
         peer,
         log,
+        joined: flag_of(options, "joined"),
         active,
         passive,
     })

@@ -22,7 +22,7 @@ pub const CAPTURE_HELP: &str =
     stays told.\n\n\
     With -v a fault is told in words too.";
 
-pub const CAPTURE_OPTIONS: [Described; 11] = [
+pub const CAPTURE_OPTIONS: [Described; 12] = [
     Described {
         name: "port",
         takes: Takes::Number("N", LEAST_PORT as u32, GREATEST_PORT as u32),
@@ -46,6 +46,12 @@ pub const CAPTURE_OPTIONS: [Described; 11] = [
         takes: Takes::Word("ROLE"),
         is_needed: false,
         help: "Write the log of this end, host or equipment, and judge nothing",
+    },
+    Described {
+        name: "joined",
+        takes: Takes::Nothing,
+        is_needed: false,
+        help: "Judge sessions too that were running before the capture; what stood before is supposed",
     },
     DEVICE,
     T3,

@@ -259,7 +259,7 @@ const CAPTURE_SENTENCES: [(&str, &str); 10] = [
     ),
     (
         "NoConnection",
-        "no connection came up at --port: is this the port of HSMS, and does the capture begin before the connection does?",
+        "no connection came up at --port: is this the port of HSMS, and does the capture begin before the connection does, or is --joined given?",
     ),
 ];
 

@@ -16,8 +16,11 @@ AddsAt time happening event old new = Adds (note_of (remark.Packet happening.pac
 pub notes : (before time : ℕ) (side : Side) (happening : Happening) (event : Event) (old new : Standing)
     → time ≡ max before happening.time → LogsAs side happening.event event → AddsAt time happening event old new
     → HasNoted before side happening old new
-notes before time side happening event old new is logs adds =
-    (note_of (remark.Packet happening.packet) time event, record { remark = refl; time = is; event = logs }, adds)
+notes before time side happening event old new is logs adds = (
+  note_of (remark.Packet happening.packet) time event,
+  record { entry = record { time = time; event = event }; remark = refl; there = refl; time = is; event = logs },
+  adds,
+)
 
 pub up : (before time : ℕ) (side : Side) (happening : Happening) (old new : Standing) → time ≡ max before happening.time
     → happening.event ≡ happens.Up → AddsAt time happening Up old new → HasNoted before side happening old new

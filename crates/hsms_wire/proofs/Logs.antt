@@ -10,7 +10,7 @@ use Rattle.std.proofs.lemmas.Grind.{flat_map-append}
 use Rattle.hsms_machine.specs.Settings.{Parameters}
 use Rattle.hsms_log.specs.Spelling.{entry_line, event_text, settings_line}
 use Rattle.hsms_wire.specs.Account.{HasAudited, HasAuditedBy, HasLogged, Note, Standing, log_text, note_text, remark_text}
-use Rattle.hsms_wire.specs.Ends.{Adds, note_of}
+use Rattle.hsms_wire.specs.Ends.{Adds, note_of, remark_alone}
 
 -- an audit goes on by lines
 abbrev pub GoesOn : Standing → Standing → Type 0
@@ -35,6 +35,11 @@ pub noted : {E : Type 0} (result : Result (Unit {0}) E) (old mid new : Standing)
     → mid.text ≡ note_text note → OnOk result (GoesOn mid new) → OnOk result (Adds note old new)
 noted (Ok done) old mid new note auditor text goes = adds old mid new note auditor text goes
 noted (Err fault) old mid new note auditor text goes = goes
+
+pub remarked : {E : Type 0} (result : Result (Unit {0}) E) (old mid new : Standing) (remark : Remark) → mid.auditor ≡ old.auditor
+    → mid.text ≡ remark_text remark → OnOk result (GoesOn mid new) → OnOk result (Adds (remark_alone remark) old new)
+remarked result old mid new remark auditor text goes =
+    noted result old mid new (remark_alone remark) auditor (text ∙ sym (append-nil (remark_text remark))) goes
 
 pub begins : (mid new : Standing) (settings : Parameters) → HasAudited [] mid → mid.text ≡ settings_line settings ++ 10 ∷ []
     → GoesOn mid new → HasLogged settings [] new

@@ -9,18 +9,24 @@ use Rattle.hsms_log.specs.declared.auditor.Auditor.{Auditor}
 use Rattle.hsms_wire.specs.declared.account.Remark.{Remark}
 use Rattle.hsms_wire.specs.declared.account.Remark.TheVariants as remark
 
--- the comment above an entry
+-- the comment above an entry, or in the place of one
 abbrev pub remark_text : Remark → List ℕ
 remark_text (remark.Packet packet) = codes "# packet " ++ (decimal packet ++ 10 ∷ [])
 remark_text remark.Replaced = codes "# replaced\n"
+remark_text remark.Supposed = codes "# supposed\n"
+remark_text (remark.LeftOut packet) = codes "# packet " ++ (decimal packet ++ codes " left out: what it answers isn't in the capture\n")
 
--- an entry of a log, and the comment above it
+-- an entry of a log, and the comment above it, or a comment alone
 pub record Note : Type 0 where
   pub remark : Remark
-  pub entry : Entry
+  pub entry : Option Entry
+
+abbrev pub entry_text : Option Entry → List ℕ
+entry_text None = []
+entry_text (Some entry) = entry_line entry ++ 10 ∷ []
 
 abbrev pub note_text : Note → List ℕ
-note_text note = remark_text note.remark ++ (entry_line note.entry ++ 10 ∷ [])
+note_text note = remark_text note.remark ++ entry_text note.entry
 
 -- the text of a log
 abbrev pub log_text : Parameters → List Note → List ℕ

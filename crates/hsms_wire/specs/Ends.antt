@@ -1,7 +1,8 @@
 -- What both ends of a connection log of what happens on it.
-use Rattle.std.specs.Prelude.{◌≡◌, ◌<◌, ◌+◌, ◌⊎◌, ℕ, Bool, true, false, if◌then◌else◌, List, [], ◌∷◌, ◌++◌, length, drop, max}
+use Rattle.std.specs.Prelude.{◌≡◌, ◌<◌, ◌+◌, ◌⊎◌, ℕ, Bool, true, false, if◌then◌else◌, List, [], ◌∷◌, ◌++◌, length, drop, max, Some, None}
 use Rattle.hsms_frame.specs.Frame.{Frame}
 use Rattle.hsms_machine.specs.Settings.{Parameters}
+use Rattle.hsms_machine.specs.declared.entry.Entry.{Entry}
 use Rattle.hsms_machine.specs.declared.entry.Event.{Event}
 use Rattle.hsms_machine.specs.declared.entry.Event.TheVariants.{Up, Sent, Taken, Down}
 use Rattle.hsms_log.specs.Spelling.{message_octets}
@@ -34,12 +35,18 @@ LogsAs side happens.Down event = event ≡ Down
 
 -- the entry of an end says what happened, when, and at which packet
 pub record Records (before : ℕ) (side : Side) (happening : Happening) (note : Note) : Type 0 where
+  pub entry : Entry
   pub remark : note.remark ≡ remark.Packet happening.packet
-  pub time : note.entry.time ≡ max before happening.time
-  pub event : LogsAs side happening.event note.entry.event
+  pub there : note.entry ≡ Some entry
+  pub time : entry.time ≡ max before happening.time
+  pub event : LogsAs side happening.event entry.event
 
 abbrev pub note_of : Remark → ℕ → Event → Note
-note_of remark time event = record { remark = remark; entry = record { time = time; event = event } }
+note_of remark time event = record { remark = remark; entry = Some (record { time = time; event = event }) }
+
+-- a comment alone
+abbrev pub remark_alone : Remark → Note
+remark_alone remark = record { remark = remark; entry = None }
 
 -- the log has one entry more
 abbrev pub Adds : Note → Standing → Standing → Type 0

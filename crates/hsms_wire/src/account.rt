@@ -1,12 +1,13 @@
 //! The log of one end of a connection, and what the audit says of it.
 
-ghost use Rattle.std.specs.Prelude.{◌≡◌, ◌+◌, ◌++◌, [], ◌∷◌, ℕ, List, IfOk, OnOk, codes, decimal, length};
+ghost use Rattle.std.specs.Prelude.{◌≡◌, ◌+◌, ◌++◌, [], ◌∷◌, ℕ, List, IfOk, OnOk, Some, codes, decimal, length};
 ghost use Rattle.hsms_log.specs.Auditor.{HasAtMost, HasHeard, HasRoom};
 ghost use Rattle.hsms_log.specs.Spelling.{entry_line, settings_line};
 ghost use Rattle.hsms_frame.specs.Frame.{Frame};
 ghost use Rattle.hsms_machine.specs.declared.entry.Event.TheVariants.{Sent, Taken};
 ghost use Rattle.hsms_wire.specs.Account.{note_text, remark_text};
 ghost use Rattle.hsms_wire.specs.Ends.{note_of};
+ghost use Rattle.hsms_wire.specs.declared.account.Remark.TheVariants.{LeftOut};
 
 use crate::stop::Stop;
 use crate::text::Text;
@@ -19,13 +20,17 @@ use std::marker::Model;
 // How many octets a log may have.
 const GREATEST: u64 = 1 << 62;
 
-/// The comment above an entry.
+/// The comment above an entry, or in the place of one.
 #[derive(Clone, Copy, Debug, PartialEq, Eq)]
 pub enum Remark {
     /// It happened at the packet with this number.
     Packet(u64),
     /// It is supposed, since a later connection of the same ends follows.
     Replaced,
+    /// It is supposed, since the capture begins within the session.
+    Supposed,
+    /// There is none of the packet with this number: what it answers may stand before the capture.
+    LeftOut(u64),
 }
 
 /// The log of one end of a connection, of which the lines are audited as they come and none is held. Contracts see the
@@ -52,13 +57,13 @@ impl Model for Account {
 }
 
 impl Account {
-    ghost use Rattle.std.specs.Prelude.{◌≡◌, ◌≤◌, ◌++◌, [], ◌∷◌, List, ℕ, IfOk, OnOk, OnErr, IsSome, None};
+    ghost use Rattle.std.specs.Prelude.{◌≡◌, ◌≤◌, ◌++◌, [], ◌∷◌, List, ℕ, IfOk, OnOk, OnErr, IsSome, None, Some};
     ghost use Rattle.hsms_log.specs.Verdict.{Judges};
     ghost use Rattle.hsms_machine.specs.Settings.{Parameters};
     ghost use Rattle.hsms_frame.specs.Frame.{Frame};
     ghost use Rattle.hsms_machine.specs.declared.entry.Event.TheVariants.{Sent, Taken};
     ghost use Rattle.hsms_wire.specs.Account.{HasAudited, HasLogged, Note, log_text, note_text};
-    ghost use Rattle.hsms_wire.specs.Ends.{Adds, note_of};
+    ghost use Rattle.hsms_wire.specs.Ends.{Adds, note_of, remark_alone};
 
     /// The log of an end with these settings, without an entry.
     ///
@@ -88,14 +93,32 @@ impl Account {
     /// `Memory`; `Endless` where the log has more than 2^62 octets. Then it has no verdict, and nothing more is noted.
     #[tactic(auto, using(crate::proofs::Logs::noted))]
     pub fn note(&mut self, alloc: Global, remark: Remark, entry: &Entry) -> Result<(), Stop>
-        ensures added { OnOk result (Adds (record { remark = remark; entry = entry.now }) self.old self.new) }
-        ensures lines { OnOk result (self.new.text ≡ note_text (record { remark = remark; entry = entry.now })) }
+        ensures added { OnOk result (Adds (record { remark = remark; entry = Some entry.now }) self.old self.new) }
+        ensures lines { OnOk result (self.new.text ≡ note_text (record { remark = remark; entry = Some entry.now })) }
         ensures there { OnOk result (IsSome self.old.auditor) }
         ensures gone { OnErr result (self.new.auditor ≡ None) }
     {
         self.packet = packet_of(remark, self.packet);
-        self.text.clear();
+        self.begin();
         match lay_note(&mut self.text, remark, entry) {
+            Ok(()) => self.audit(alloc),
+            Err(_) => Err(self.give_up()),
+        }
+    }
+
+    /// A comment alone.
+    ///
+    /// # Errors
+    ///
+    /// As of an entry.
+    #[tactic(auto, using(crate::proofs::Logs::remarked))]
+    pub fn remark(&mut self, alloc: Global, remark: Remark) -> Result<(), Stop>
+        ensures added { OnOk result (Adds (remark_alone remark) self.old self.new) }
+        ensures there { OnOk result (IsSome self.old.auditor) }
+        ensures gone { OnErr result (self.new.auditor ≡ None) }
+    {
+        self.begin();
+        match lay_remark(&mut self.text, remark) {
             Ok(()) => self.audit(alloc),
             Err(_) => Err(self.give_up()),
         }
@@ -160,6 +183,13 @@ impl Account {
         }
     }
 
+    // The lines that were written were heard.
+    fn begin(&mut self)
+        ensures { self.new ≡ record self.old { text = [] } }
+    {
+        self.text.clear();
+    }
+
     // Memory was refused, so nothing more is noted.
     fn give_up(&mut self) -> Stop
         ensures { self.new.auditor ≡ None }
@@ -215,7 +245,7 @@ fn failed_by(failed: Option<u64>, auditor: &Auditor, packet: u64) -> Option<u64>
 fn packet_of(remark: Remark, before: u64) -> u64 {
     match remark {
         Remark::Packet(packet) => packet,
-        Remark::Replaced => before,
+        Remark::Replaced | Remark::Supposed | Remark::LeftOut(_) => before,
     }
 }
 
@@ -229,7 +259,7 @@ pub struct Told {
 /// Lays an entry and the comment above it behind a text.
 pub fn lay_note(text: &mut Text, remark: Remark, entry: &Entry) -> Result<(), AllocError>
     ensures { OnOk result
-        (text.new.octets ≡ text.old.octets ++ note_text (record { remark = remark; entry = entry.now })) }
+        (text.new.octets ≡ text.old.octets ++ note_text (record { remark = remark; entry = Some entry.now })) }
 {
     lay_remark(text, remark)?;
     lay_entry(text, entry)
@@ -257,13 +287,15 @@ fn lay_mark(lines: &mut Text, remark: Remark, time: u64) -> Result<(), AllocErro
     lines.lay(b" < ")
 }
 
-// Lays the comment above an entry behind a text.
-fn lay_remark(text: &mut Text, remark: Remark) -> Result<(), AllocError>
+/// Lays a comment behind a text.
+pub fn lay_remark(text: &mut Text, remark: Remark) -> Result<(), AllocError>
     ensures { OnOk result (text.new.octets ≡ text.old.octets ++ remark_text remark) }
 {
     match remark {
         Remark::Packet(packet) => lay_packet(text, packet),
         Remark::Replaced => text.lay(b"# replaced\n"),
+        Remark::Supposed => text.lay(b"# supposed\n"),
+        Remark::LeftOut(packet) => lay_left_out(text, packet),
     }
 }
 
@@ -271,10 +303,26 @@ fn lay_remark(text: &mut Text, remark: Remark) -> Result<(), AllocError>
 fn lay_packet(text: &mut Text, packet: u64) -> Result<(), AllocError>
     ensures { OnOk result (text.new.octets ≡ text.old.octets ++ (codes "# packet " ++ (decimal packet ++ 10 ∷ []))) }
 {
+    lay_number(text, packet)?;
+    text.lay(b"\n")
+}
+
+// Lays the front of a comment that names a packet.
+fn lay_number(text: &mut Text, packet: u64) -> Result<(), AllocError>
+    ensures { OnOk result (text.new.octets ≡ text.old.octets ++ (codes "# packet " ++ decimal packet)) }
+{
     let mut buffer = Buffer::new();
     text.lay(b"# packet ")?;
     text.lay(buffer.format(packet).as_bytes())?;
-    text.lay(b"\n")
+    Ok(())
+}
+
+// Lays the comment that names a packet of which there is no entry.
+fn lay_left_out(text: &mut Text, packet: u64) -> Result<(), AllocError>
+    ensures { OnOk result (text.new.octets ≡ text.old.octets ++ remark_text (LeftOut packet)) }
+{
+    lay_number(text, packet)?;
+    text.lay(b" left out: what it answers isn't in the capture\n")
 }
 
 // Lays the line of an entry behind a text.

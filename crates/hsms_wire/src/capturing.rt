@@ -45,7 +45,7 @@ pub fn capture_to<R: Source, W: Sink>(
         (W.state sink.old).written (W.state sink.new).written well) }
 {
     let mut report = Report::new(alloc, &options);
-    let mut table = Table::new(alloc, options.port, options.peer);
+    let mut table = Table::new(alloc, options.port, options.peer, options.joined);
     match Packets::open(alloc, source) {
         Ok(packets) => {
             let missing = read_all(alloc, packets, source, sink, &mut table, &mut report)?;

@@ -1,6 +1,6 @@
 //! The logs of both ends of a connection.
 
-ghost use Rattle.std.specs.Prelude.{◌≡◌, ◌<◌, ◌≤◌, ◌+◌, ◌⊎◌, IfOk, IfSome, OnOk, None, length, drop};
+ghost use Rattle.std.specs.Prelude.{◌≡◌, ◌<◌, ◌≤◌, ◌+◌, ◌⊎◌, IfOk, IfSome, OnOk, None, Some, length, drop};
 ghost use Rattle.hsms_machine.specs.declared.entry.Event.TheVariants.{Sent, Taken};
 ghost use Rattle.hsms_wire.specs.Ends.{Adds, note_of};
 ghost use Rattle.hsms_log.specs.Spelling.{message_octets};
@@ -40,9 +40,9 @@ impl Ends {
     ghost use Rattle.hsms_log.specs.Verdict.{Judges};
     ghost use Rattle.hsms_machine.specs.Settings.{Parameters};
     ghost use Rattle.hsms_wire.specs.Account.{HasLogged, Note, log_text};
-    ghost use Rattle.hsms_machine.specs.declared.entry.Event.TheVariants.{Down};
-    ghost use Rattle.hsms_wire.specs.declared.account.Remark.TheVariants.{Replaced};
-    ghost use Rattle.hsms_wire.specs.Ends.{Adds, HearsAs, event_of, note_of};
+    ghost use Rattle.hsms_machine.specs.declared.entry.Event.TheVariants.{Down, Up};
+    ghost use Rattle.hsms_wire.specs.declared.account.Remark.TheVariants.{LeftOut, Replaced, Supposed};
+    ghost use Rattle.hsms_wire.specs.Ends.{Adds, HearsAs, event_of, note_of, remark_alone};
 
     /// The logs of ends with these settings, without an entry.
     pub fn new(alloc: Global, active: &Settings, passive: &Settings) -> Result<Ends, Stop>
@@ -112,6 +112,38 @@ impl Ends {
         self.both(alloc, Remark::Replaced, Event::Down)
     }
 
+    /// Both ends log that the connection came up at a time, or at that of the entry before, as it is supposed.
+    pub fn suppose_up(&mut self, alloc: Global, time: u64) -> Result<(), Stop>
+        ensures active { OnOk result (Adds (note_of Supposed (max self.old.time time) Up) self.old.active self.new.active) }
+        ensures passive { OnOk result (Adds (note_of Supposed (max self.old.time time) Up) self.old.passive self.new.passive) }
+        ensures time { OnOk result (self.new.time ≡ max self.old.time time) }
+        ensures max { OnOk result (self.new.max ≡ self.old.max) }
+    {
+        self.time = self.time.max(time);
+        self.both(alloc, Remark::Supposed, Event::Up)
+    }
+
+    /// Both ends log a message that one of them sent, as it is supposed, at the time of the entry before.
+    pub fn suppose_message(&mut self, alloc: Global, from: Side, frame: Frame) -> Result<(), Stop>
+        ensures active { OnOk result
+            (Adds (note_of Supposed self.old.time (event_of Active from frame)) self.old.active self.new.active) }
+        ensures passive { OnOk result
+            (Adds (note_of Supposed self.old.time (event_of Passive from frame)) self.old.passive self.new.passive) }
+        ensures same { OnOk result ((self.new.time ≡ self.old.time) × (self.new.max ≡ self.old.max)) }
+    {
+        self.message(alloc, Remark::Supposed, from, frame)
+    }
+
+    /// Both logs say that there is no entry of a packet: what it answers may stand before the capture.
+    pub fn leave_out(&mut self, alloc: Global, packet: u64) -> Result<(), Stop>
+        ensures active { OnOk result (Adds (remark_alone (LeftOut packet)) self.old.active self.new.active) }
+        ensures passive { OnOk result (Adds (remark_alone (LeftOut packet)) self.old.passive self.new.passive) }
+        ensures same { OnOk result ((self.new.time ≡ self.old.time) × (self.new.max ≡ self.old.max)) }
+    {
+        self.active.remark(alloc, Remark::LeftOut(packet))?;
+        self.passive.remark(alloc, Remark::LeftOut(packet))
+    }
+
     // Both log the same.
     fn both(&mut self, alloc: Global, remark: Remark, event: Event) -> Result<(), Stop>
         ensures active { OnOk result (Adds (note_of remark self.old.time event) self.old.active self.new.active) }
@@ -166,6 +198,14 @@ fn pass(
     };
     sender.note(alloc, remark, &sent)?;
     taker.take_over(alloc, remark, time, sender.lines())
+}
+
+/// The logs of the ends of a connection, which don't stand apart any more.
+pub fn unboxed(ends: Option<Box<Ends>>) -> Option<Ends> {
+    match ends {
+        Some(ends) => Some(Box::into_inner(ends)),
+        None => None,
+    }
 }
 
 /// The message of these octets, those of its length first, where header and text have from ten octets up to so many.

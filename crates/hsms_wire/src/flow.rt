@@ -1,23 +1,28 @@
-//! A connection of a capture, from its first SYN on.
+//! A connection of a capture, from its first SYN on, or from the first packet of a session that was running before.
 
 ghost use Rattle.std.specs.Prelude.{OnOk};
 ghost use Rattle.hsms_wire.specs.Report.{Tells};
 
-use crate::ends::{Ends, Heard};
+use crate::course::Course;
+use crate::ends::{Ends, unboxed};
+use crate::joining::{Joining, begin, gather};
 use crate::pair::Pair;
 use crate::report::Report;
 use crate::shortfall::Shortfall;
 use crate::stop::Stop;
+use crate::within::Within;
 use hsms_capture::{Connection, ConnectionFault, Ending, Event, Happening, Segment, Side};
+use hsms_joined::Gathering;
 use std::alloc::{AllocError, Global};
 
 // How many packets may wait for the number of the passive end's SYN.
 const GREATEST_WAIT: usize = 4096;
 
-/// A connection: the number of the active end's SYN, how many connections had begun before, and how far it is.
+/// A connection: the number of the active end's SYN, unless it was running before, how many connections had begun before,
+/// and how far it is.
 #[derive(Drop)]
 pub struct Flow {
-    pub syn: u32,
+    pub syn: Option<u32>,
     pub born: u64,
     pub stage: Stage,
 }
@@ -29,6 +34,10 @@ pub enum Stage {
     Opening(Vec<Waiting>),
     /// It is followed.
     Open(Open),
+    /// It was running before, and these packets wait until both directions have begun.
+    Joining(Gathering),
+    /// It was running before, and is followed.
+    Within(Within),
     /// Nothing more is told of it.
     Over,
 }
@@ -58,13 +67,6 @@ struct Logs {
     bare_resets: Vec<u64>,
 }
 
-// Whether more of a connection is told, or what it lacks.
-#[derive(Clone, Copy)]
-enum Course {
-    Goes,
-    Over(Option<Shortfall>),
-}
-
 // What a connection has come to with a packet: more may follow, or it has ended, and may lack something.
 #[derive(Drop)]
 enum Followed {
@@ -76,16 +78,25 @@ impl Flow {
     /// A connection that begins with a SYN of this number.
     pub fn new(alloc: Global, syn: u32, born: u64) -> Flow {
         Flow {
-            syn,
+            syn: Some(syn),
             born,
             stage: Stage::Opening(Vec::new(alloc)),
+        }
+    }
+
+    /// A session that was running before the capture.
+    pub fn joined(alloc: Global, born: u64) -> Flow {
+        Flow {
+            syn: None,
+            born,
+            stage: Stage::Joining(Gathering::new(alloc)),
         }
     }
 
     /// Whether more may be told of it.
     pub fn is_live(&self) -> bool {
         match self.stage {
-            Stage::Opening(_) | Stage::Open(_) => true,
+            Stage::Opening(_) | Stage::Open(_) | Stage::Joining(_) | Stage::Within(_) => true,
             Stage::Over => false,
         }
     }
@@ -94,7 +105,8 @@ impl Flow {
     pub fn is_idle(&self) -> bool {
         match &self.stage {
             Stage::Opening(waiting) => !waiting.iter().any(shows_loss),
-            Stage::Open(_) => false,
+            Stage::Joining(gathering) => gathering.is_silent(),
+            Stage::Open(_) | Stage::Within(_) => false,
             Stage::Over => true,
         }
     }
@@ -132,13 +144,13 @@ impl Logs {
     }
 }
 
-/// Takes a packet of a connection that begins with a SYN of this number.
+/// Takes a packet of a connection that begins with a SYN of this number, if it does with one.
 #[tactic(auto, using(crate::proofs::Tellings::tells_nothing, crate::proofs::Tellings::tells_then, crate::proofs::Tellings::ok_then))]
 pub fn take(
     alloc: Global,
     report: &mut Report,
     pair: &Pair,
-    syn: u32,
+    syn: Option<u32>,
     stage: Stage,
     segment: Segment,
     octets: &[u8],
@@ -148,20 +160,60 @@ pub fn take(
     match stage {
         Stage::Over => Ok(Stage::Over),
         Stage::Open(open) => follow(alloc, report, pair, open, segment, octets),
-        Stage::Opening(waiting) if !answers(syn, &segment) => {
-            wait(alloc, report, pair, waiting, segment, octets)
-        }
-        Stage::Opening(waiting) => {
-            let open = Open {
-                connection: Connection::new(alloc, syn, segment.number),
-                logs: Logs::new(alloc),
-            };
-            let stage = follow_all(alloc, report, pair, open, waiting)?;
-            match stage {
-                Stage::Open(open) => follow(alloc, report, pair, open, segment, octets),
-                Stage::Opening(_) | Stage::Over => Ok(Stage::Over),
+        Stage::Joining(gathering) => join(alloc, report, pair, gathering, segment, octets),
+        Stage::Within(within) => go_within(alloc, report, pair, within, segment, octets),
+        Stage::Opening(waiting) => match answered(syn, &segment) {
+            Some(syn) => {
+                let open = Open {
+                    connection: Connection::new(alloc, syn, segment.number),
+                    logs: Logs::new(alloc),
+                };
+                match follow_all(alloc, report, pair, open, waiting)? {
+                    Stage::Open(open) => follow(alloc, report, pair, open, segment, octets),
+                    Stage::Opening(_) | Stage::Joining(_) | Stage::Within(_) | Stage::Over => {
+                        Ok(Stage::Over)
+                    }
+                }
             }
-        }
+            None => wait(alloc, report, pair, waiting, segment, octets),
+        },
+    }
+}
+
+// Keeps a packet of a session that was running before.
+#[tactic(auto, using(crate::proofs::Tellings::tells_nothing, crate::proofs::Tellings::tells_then, crate::proofs::Tellings::ok_then))]
+fn join(
+    alloc: Global,
+    report: &mut Report,
+    pair: &Pair,
+    gathering: Gathering,
+    segment: Segment,
+    octets: &[u8],
+) -> Result<Stage, Stop>
+    ensures told { OnOk result (Tells report.old report.new) }
+{
+    match gather(alloc, report, pair, gathering, segment, octets)? {
+        Joining::Gathers(gathering) => Ok(Stage::Joining(gathering)),
+        Joining::Within(within) => Ok(Stage::Within(within)),
+        Joining::Over => Ok(Stage::Over),
+    }
+}
+
+// Takes a packet of such a session.
+#[tactic(auto, using(crate::proofs::Tellings::tells_nothing, crate::proofs::Tellings::tells_then, crate::proofs::Tellings::ok_then))]
+fn go_within(
+    alloc: Global,
+    report: &mut Report,
+    pair: &Pair,
+    within: Within,
+    segment: Segment,
+    octets: &[u8],
+) -> Result<Stage, Stop>
+    ensures told { OnOk result (Tells report.old report.new) }
+{
+    match within.take(alloc, report, pair, segment, octets)? {
+        Some(within) => Ok(Stage::Within(within)),
+        None => Ok(Stage::Over),
     }
 }
 
@@ -181,26 +233,44 @@ pub fn end(
     match stage {
         Stage::Over => Ok(()),
         Stage::Opening(waiting) => give_up(alloc, report, pair, &waiting),
-        Stage::Open(open) => {
-            let Open {
-                connection,
-                mut logs,
-            } = open;
-            let mut told = Vec::new(alloc);
-            let ending = match connection.end(alloc, &mut told) {
-                Ok(ending) => ending,
-                Err(_) => return Err(Stop::Memory),
-            };
-            let course = hear_all(alloc, report, pair, &mut logs, told)?;
-            let shortfall = match course {
-                Course::Over(shortfall) => shortfall,
-                Course::Goes => Shortfall::of_ending(ending).or(missing),
-            };
-            let is_left = matches!(course, Course::Goes) && shortfall.is_none();
-            go_down(alloc, report, &mut logs, is_replaced && is_left)?;
-            conclude(alloc, report, pair, logs, shortfall)
-        }
+        Stage::Open(open) => end_open(alloc, report, pair, open, is_replaced, missing),
+        Stage::Within(within) => within.end(alloc, report, pair, is_replaced, missing),
+        Stage::Joining(gathering) => match begin(alloc, report, pair, gathering, true)? {
+            Joining::Within(within) => within.end(alloc, report, pair, is_replaced, missing),
+            Joining::Gathers(_) | Joining::Over => Ok(()),
+        },
     }
+}
+
+// The same of one that is followed.
+#[tactic(auto, using(crate::proofs::Tellings::tells_nothing, crate::proofs::Tellings::tells_then, crate::proofs::Tellings::ok_then))]
+fn end_open(
+    alloc: Global,
+    report: &mut Report,
+    pair: &Pair,
+    open: Open,
+    is_replaced: bool,
+    missing: Option<Shortfall>,
+) -> Result<(), Stop>
+    ensures told { OnOk result (Tells report.old report.new) }
+{
+    let Open {
+        connection,
+        mut logs,
+    } = open;
+    let mut told = Vec::new(alloc);
+    let ending = match connection.end(alloc, &mut told) {
+        Ok(ending) => ending,
+        Err(_) => return Err(Stop::Memory),
+    };
+    let course = hear_all(alloc, report, pair, &mut logs, told)?;
+    let shortfall = match course {
+        Course::Over(shortfall) => shortfall,
+        Course::Goes => Shortfall::of_ending(ending).or(missing),
+    };
+    let is_left = matches!(course, Course::Goes) && shortfall.is_none();
+    go_down(alloc, report, &mut logs, is_replaced && is_left)?;
+    conclude(alloc, report, pair, logs, shortfall)
 }
 
 // A connection that is up goes down, where a later one replaces it.
@@ -219,10 +289,15 @@ fn go_down(
     Ok(())
 }
 
-// Whether a segment is the passive end's SYN, which acknowledges that of the active end.
-fn answers(syn: u32, segment: &Segment) -> bool {
+// The number of the active end's SYN, where a segment is that of the passive end and acknowledges it.
+fn answered(syn: Option<u32>, segment: &Segment) -> Option<u32> {
+    let syn = syn?;
     let is_answer = segment.acknowledged == Some(syn.wrapping_add(1));
-    segment.flags.syn && segment.from == Side::Passive && is_answer
+    if segment.flags.syn && segment.from == Side::Passive && is_answer {
+        Some(syn)
+    } else {
+        None
+    }
 }
 
 // A packet waits, or too many do.
@@ -290,7 +365,7 @@ fn follow_all(
             Stage::Open(open) => {
                 follow(alloc, report, pair, open, packet.segment, &packet.octets)?
             }
-            Stage::Opening(_) | Stage::Over => Stage::Over,
+            Stage::Opening(_) | Stage::Joining(_) | Stage::Within(_) | Stage::Over => Stage::Over,
         };
     }
     Ok(stage)
@@ -374,10 +449,10 @@ fn hear_all(
     for happening in told {
         let packet = happening.packet;
         let happening = logs.timed(happening);
-        match report.hear(alloc, pair, &mut logs.ends, happening)? {
-            Heard::Goes => {}
-            Heard::Down => return Ok(Course::Over(None)),
-            Heard::Length => return Ok(Course::Over(Some(Shortfall::Length(packet)))),
+        let heard = report.hear(alloc, pair, &mut logs.ends, happening)?;
+        match Course::behind(heard, packet) {
+            Course::Goes => {}
+            Course::Over(shortfall) => return Ok(Course::Over(shortfall)),
         }
     }
     Ok(Course::Goes)
@@ -398,12 +473,4 @@ fn conclude(
         return Ok(());
     }
     report.conclude(alloc, pair, unboxed(logs.ends), shortfall)
-}
-
-// The logs of the ends of a connection, which don't stand apart any more.
-fn unboxed(ends: Option<Box<Ends>>) -> Option<Ends> {
-    match ends {
-        Some(ends) => Some(Box::into_inner(ends)),
-        None => None,
-    }
 }

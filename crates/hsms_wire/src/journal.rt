@@ -1,11 +1,12 @@
 //! The log of one end, of one connection after another.
 
-use crate::account::{Remark, lay_note, lay_settings};
+use crate::account::{Remark, lay_note, lay_remark, lay_settings};
 use crate::ends::{Heard, frame_within};
 use crate::pair::Pair;
 use crate::stop::Stop;
 use crate::text::Text;
 use hsms_capture::{Event as Happens, Happening, Side};
+use hsms_frame::Frame;
 use hsms_machine::{Entry, Event, Settings};
 use std::alloc::Global;
 
@@ -102,6 +103,85 @@ impl Journal {
             Err(stop) => {
                 page.cut(length);
                 Err(stop)
+            }
+        }
+    }
+
+    /// Tells on a page that the connection of a pair came up at a time, as it is supposed of a capture whose packet of
+    /// this number is the first that counts.
+    ///
+    /// # Errors
+    ///
+    /// As what happens. The page stays as it was then.
+    pub fn suppose_up(
+        &mut self,
+        alloc: Global,
+        page: &mut Text,
+        pair: &Pair,
+        packet: u64,
+        time: u64,
+    ) -> Result<(), Stop> {
+        let length = page.octets().len();
+        let told = self.tell_supposed_up(alloc, page, pair, packet, time);
+        if told.is_err() {
+            page.cut(length);
+        }
+        told
+    }
+
+    // The same, where what is told before a fault may stay on the page.
+    fn tell_supposed_up(
+        &mut self,
+        alloc: Global,
+        page: &mut Text,
+        pair: &Pair,
+        packet: u64,
+        time: u64,
+    ) -> Result<(), Stop> {
+        self.time = self.time.max(time);
+        self.come_up(alloc, page, pair, packet)?;
+        self.write(page, Remark::Supposed, Event::Up, Heard::Goes)?;
+        Ok(())
+    }
+
+    /// Tells on a page a message that an end sent, as it is supposed.
+    ///
+    /// # Errors
+    ///
+    /// `Memory`. The page stays as it was then.
+    pub fn suppose_message(
+        &mut self,
+        page: &mut Text,
+        from: Side,
+        frame: Frame,
+    ) -> Result<(), Stop> {
+        let length = page.octets().len();
+        let event = if from == self.side {
+            Event::Sent(frame)
+        } else {
+            Event::Taken(frame)
+        };
+        match self.write(page, Remark::Supposed, event, Heard::Goes) {
+            Ok(_) => Ok(()),
+            Err(stop) => {
+                page.cut(length);
+                Err(stop)
+            }
+        }
+    }
+
+    /// Tells on a page that there is no entry of a packet: what it answers may stand before the capture.
+    ///
+    /// # Errors
+    ///
+    /// `Memory`. The page stays as it was then.
+    pub fn leave_out(&self, page: &mut Text, packet: u64) -> Result<(), Stop> {
+        let length = page.octets().len();
+        match lay_remark(page, Remark::LeftOut(packet)) {
+            Ok(()) => Ok(()),
+            Err(_) => {
+                page.cut(length);
+                Err(Stop::Memory)
             }
         }
     }

@@ -13,18 +13,23 @@
 
 mod account;
 mod capturing;
+mod course;
 mod ends;
 mod entries;
 mod flow;
+mod joined;
+mod joining;
 mod journal;
 mod left_out;
 mod line;
 mod pair;
 mod report;
+mod said;
 mod shortfall;
 mod stop;
 mod table;
 mod text;
+mod within;
 
 pub use account::{Account, Remark, Told};
 pub use capturing::capture_to;

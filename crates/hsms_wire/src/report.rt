@@ -10,7 +10,8 @@ use crate::shortfall::Shortfall;
 use crate::stop::Stop;
 use crate::text::Text;
 use hsms_capture::{Happening, Side};
-use hsms_frame::Sink;
+use hsms_frame::{Frame, Sink};
+use hsms_joined::Session;
 use hsms_log::Verdict;
 use hsms_machine::{Role, Settings};
 use hsms_options::{Capturing, ToolFault};
@@ -39,7 +40,7 @@ pub struct Report {
 }
 
 impl Report {
-    ghost use Rattle.std.specs.Prelude.{◌≡◌, ◌⊎◌, ◌++◌, [], List, ℕ, None, Some, IfErr, OnOk, true};
+    ghost use Rattle.std.specs.Prelude.{◌≡◌, ◌≤◌, ◌⊎◌, ◌++◌, [], List, ℕ, None, Some, IfErr, OnOk, true};
     ghost use Rattle.hsms_frame.specs.Count.{count_failure};
     ghost use Rattle.hsms_frame.specs.Device.{Grows};
     ghost use Rattle.hsms_lines.specs.Devices.{IsWrite};
@@ -137,6 +138,85 @@ impl Report {
             (Manner::Verdicts, Some(ends)) => ends.replace(alloc),
             (Manner::Verdicts, None) => Ok(()),
         }
+    }
+
+    /// The connection of a pair came up at a time, as it is supposed: the packet with this number is the first that
+    /// counts.
+    #[tactic(auto, using(crate::proofs::Tellings::tells_nothing, crate::proofs::Tellings::log_tells))]
+    pub fn suppose_up(
+        &mut self,
+        alloc: Global,
+        pair: &Pair,
+        ends: &mut Option<Box<Ends>>,
+        packet: u64,
+        time: u64,
+    ) -> Result<(), Stop>
+        ensures told { OnOk result (Tells self.old self.new) }
+    {
+        self.begin(alloc, ends)?;
+        match (&mut self.manner, ends) {
+            (Manner::Log(journal), _) => {
+                journal.suppose_up(alloc, &mut self.page, pair, packet, time)
+            }
+            (Manner::Verdicts, Some(ends)) => ends.suppose_up(alloc, time),
+            (Manner::Verdicts, None) => Ok(()),
+        }
+    }
+
+    /// An end sent a message, as it is supposed.
+    #[tactic(auto, using(crate::proofs::Tellings::tells_nothing, crate::proofs::Tellings::log_tells))]
+    pub fn suppose_message(
+        &mut self,
+        alloc: Global,
+        ends: &mut Option<Box<Ends>>,
+        from: Side,
+        frame: Frame,
+    ) -> Result<(), Stop>
+        ensures told { OnOk result (Tells self.old self.new) }
+    {
+        match (&mut self.manner, ends) {
+            (Manner::Log(journal), _) => journal.suppose_message(&mut self.page, from, frame),
+            (Manner::Verdicts, Some(ends)) => ends.suppose_message(alloc, from, frame),
+            (Manner::Verdicts, None) => Ok(()),
+        }
+    }
+
+    /// There is no entry of a packet: what it answers may stand before the capture.
+    #[tactic(auto, using(crate::proofs::Tellings::tells_nothing, crate::proofs::Tellings::log_tells))]
+    pub fn leave_out(
+        &mut self,
+        alloc: Global,
+        ends: &mut Option<Box<Ends>>,
+        packet: u64,
+    ) -> Result<(), Stop>
+        ensures told { OnOk result (Tells self.old self.new) }
+    {
+        match (&mut self.manner, ends) {
+            (Manner::Log(journal), _) => journal.leave_out(&mut self.page, packet),
+            (Manner::Verdicts, Some(ends)) => ends.leave_out(alloc, packet),
+            (Manner::Verdicts, None) => Ok(()),
+        }
+    }
+
+    /// By what the messages of a session are known.
+    pub fn session(&self) -> Session
+        ensures { result.depth ≤ 100 }
+    {
+        Session {
+            device: self.active.device(),
+            max: self.active.max(),
+            depth: self.active.depth(),
+        }
+    }
+
+    /// How many octets header and text of a message have at most.
+    pub fn max(&self) -> u32 {
+        self.active.max()
+    }
+
+    /// T3 of the ends, in milliseconds.
+    pub fn t3(&self) -> u32 {
+        self.active.t3()
     }
 
     /// A connection is over that came up, with the logs of its ends, or one that did not and lacks something. In the log

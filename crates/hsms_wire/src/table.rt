@@ -32,6 +32,8 @@ pub struct Table {
     port: u16,
     // the address that one end of each has, if it is known
     peer: Option<IpAddr>,
+    // whether sessions are looked at that were running before the capture
+    is_joined: bool,
     flows: IndexMap<Pair, Flow>,
     begun: u64,
 }
@@ -41,11 +43,13 @@ impl Table {
     ghost use Rattle.hsms_wire.specs.Pair.{IsOfPeer};
     ghost use Rattle.hsms_wire.specs.Report.{Tells};
 
-    /// No connection, at this port of passive ends, with an end of this address, where there is one.
-    pub fn new(alloc: Global, port: u16, peer: Option<IpAddr>) -> Table {
+    /// No connection, at this port of passive ends, with an end of this address, where there is one; those that were
+    /// running before the capture are looked at or not.
+    pub fn new(alloc: Global, port: u16, peer: Option<IpAddr>, is_joined: bool) -> Table {
         Table {
             port,
             peer,
+            is_joined,
             flows: IndexMap::new(alloc),
             begun: 0,
         }
@@ -66,14 +70,19 @@ impl Table {
             return Ok(None);
         };
         let syn = syn_of(segment, from).filter(|syn| !self.has(&pair, *syn));
-        if syn.is_none() && !self.is_live(&pair) {
+        let joins = self.joins(&pair, segment);
+        if syn.is_none() && !self.is_live(&pair) && !joins {
             return Ok(None);
         }
         let Some(time) = capture.time.and_then(|time| u64::try_from(time).ok()) else {
             return Ok(Some(Shortfall::Time(capture.packet)));
         };
         if let Some(syn) = syn {
-            self.begin(alloc, report, pair, syn)?;
+            let flow = Flow::new(alloc, syn, self.begun);
+            self.begin(alloc, report, pair, flow)?;
+        } else if joins {
+            let flow = Flow::joined(alloc, self.begun);
+            self.begin(alloc, report, pair, flow)?;
         }
         let segment = segment_of(segment, from, capture.packet, time);
         self.follow(alloc, report, &pair, segment, capture.octets)?;
@@ -124,7 +133,13 @@ impl Table {
 
     // Whether the connection of a pair has this number of its SYN.
     fn has(&self, pair: &Pair, syn: u32) -> bool {
-        self.flow(pair).is_some_and(|flow| flow.syn == syn)
+        self.flow(pair).is_some_and(|flow| flow.syn == Some(syn))
+    }
+
+    // Whether a segment is the first of a session that was running before the capture.
+    fn joins(&self, pair: &Pair, segment: &packets::Segment) -> bool {
+        let begins = !is_set(segment, SYN) && !is_set(segment, RST);
+        self.is_joined && begins && self.flow(pair).is_none()
     }
 
     // Whether more may be told of the connection of a pair.
@@ -146,14 +161,13 @@ impl Table {
         alloc: Global,
         report: &mut Report,
         pair: Pair,
-        syn: u32,
+        flow: Flow,
     ) -> Result<(), Stop>
         ensures told { OnOk result (Tells report.old report.new) }
     {
         if let Some(before) = self.flows.shift_remove(&pair) {
             end(alloc, report, &pair, before.stage, true, None)?;
         }
-        let flow = Flow::new(alloc, syn, self.begun);
         if self.flows.insert(pair, flow).is_err() {
             return Err(Stop::Memory);
         }

@@ -1,0 +1,7 @@
+use Rattle.hsms_joined.proofs.Spots.{spots}
+use Rattle.hsms_joined.proofs.finding.spot_of.Goals as goal
+
+pub returns : goal.returns
+returns c =
+    spots c.args.session c.args.pieces.now c.lowest-from.result c.highest-upto.result c.in_ok-held.held c.find.result
+    c.lowest-from.ensures.value c.highest-upto.ensures.value c.in_ok-held.ensures.held c.find.ensures

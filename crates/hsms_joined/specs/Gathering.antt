@@ -1,0 +1,20 @@
+-- The packets of a session, until both directions have begun.
+use Rattle.std.specs.Prelude.{◌≡◌, ◌++◌, ◌∷◌, ℕ, true, List, []}
+use Rattle.hsms_capture.specs.declared.packet.Segment.{Segment}
+use Rattle.hsms_capture.specs.declared.packet.Side.TheVariants.{Active, Passive}
+use Rattle.hsms_joined.specs.declared.gathered.Gathered.{Gathered}
+use Rattle.hsms_joined.specs.declared.gathering.Beginnings.{Beginnings}
+use Rattle.hsms_joined.specs.declared.session.Session.{Session}
+use Rattle.hsms_joined.specs.Gathered.{BeginsWith}
+
+-- one packet more is kept, with these octets
+abbrev pub Gathers : Segment → List ℕ → List Gathered → List Gathered → Type 0
+Gathers segment octets old new =
+    (g : Gathered) × (g.segment ≡ segment) × (g.octets.items ≡ octets) × (new ≡ old ++ g ∷ [])
+
+-- both directions begin so, as far as these packets tell
+abbrev pub AreBeginnings : Session → List Gathered → Beginnings → Type 0
+AreBeginnings s gs both = BeginsWith s Active gs both.active × BeginsWith s Passive gs both.passive
+
+abbrev pub AreSure : Beginnings → Type 0
+AreSure both = (both.active.is_sure ≡ true) × (both.passive.is_sure ≡ true)

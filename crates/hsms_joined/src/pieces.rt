@@ -1,0 +1,180 @@
+//! The octets of a direction by their places, as packets brought them.
+
+ghost use Rattle.std.specs.Prelude.{◌≡◌, ◌≤◌, IfOk, map};
+ghost use Rattle.hsms_capture.specs.declared.packet.Side.{Side as Direction};
+ghost use Rattle.hsms_joined.specs.Gathered.{acknowledged_after, counts, first_number, highest, is_same, lowest, midst, number_at, number_told, piece_of, pieces_from, place_by, placed_by, placed_of};
+
+use crate::gathered::Gathered;
+use crate::piece::Piece;
+use hsms_capture::{Flags, Side, only_asks};
+use std::alloc::{AllocError, Global};
+
+// The place of the first number that is known of a direction.
+pub(crate) const MIDST: u32 = 1 << 25;
+
+// The place behind the last one that an octet may have.
+const END: u64 = 1 << 26;
+
+/// The first number that is known of a direction.
+pub(crate) fn first_number(packets: &[Gathered], side: Side) -> u32
+    ensures { result ≡ first_number side packets.now }
+{
+    let mut rest = packets;
+    while let Some((packet, others)) = rest.split_first() {
+        if let Some(number) = number_told(packet, side) {
+            return number;
+        }
+        rest = others;
+    }
+    0
+}
+
+// What a packet tells of a direction.
+fn number_told(packet: &Gathered, side: Side) -> Option<u32>
+    ensures { result ≡ number_told side packet.now }
+{
+    if is_same(packet.segment.from, side) {
+        Some(packet.segment.number)
+    } else {
+        packet.segment.acknowledged
+    }
+}
+
+/// Whether two sides are the same.
+pub(crate) fn is_same(one: Side, other: Side) -> bool
+    ensures { result ≡ is_same one other }
+{
+    match one {
+        Side::Active => match other {
+            Side::Active => true,
+            Side::Passive => false,
+        },
+        Side::Passive => match other {
+            Side::Active => false,
+            Side::Passive => true,
+        },
+    }
+}
+
+// The place of a number.
+fn place_by(first: u32, number: u32) -> u32
+    ensures { result ≡ place_by first number }
+{
+    number.wrapping_sub(first).wrapping_add(MIDST)
+}
+
+/// The number of a place.
+pub(crate) fn number_at(first: u32, place: u64) -> u32
+    ensures { result ≡ number_at first place }
+{
+    first.wrapping_add(((place % (1 << 32)) as u32).wrapping_sub(MIDST))
+}
+
+/// The octets of a direction, packet by packet, by the first number that is known of it.
+#[tactic(auto, unfolding(crate::specs::Gathered::pieces_from), using(crate::proofs::PiecesFrom::one_more, crate::proofs::PiecesFrom::as_before))]
+pub(crate) fn pieces_of(
+    alloc: Global,
+    packets: &[Gathered],
+    side: Side,
+    first: u32,
+) -> Result<Vec<Piece>, AllocError>
+    ensures { IfOk result (λ pieces. map (placed_by side) pieces.items ≡ pieces_from side first 0 packets.now) }
+{
+    let mut pieces = Vec::new(alloc);
+    let mut acknowledged = 0;
+    let mut rest = packets;
+    while let Some((packet, others)) = rest.split_first() {
+        match piece_of(alloc, packet, side, first, acknowledged)? {
+            Some(piece) => pieces.push(piece)?,
+            None => {}
+        }
+        acknowledged = acknowledged_after(packet, side, first, acknowledged);
+        rest = others;
+    }
+    Ok(pieces)
+}
+
+// What a packet brings of a direction, if it counts.
+fn piece_of(
+    alloc: Global,
+    packet: &Gathered,
+    side: Side,
+    first: u32,
+    acknowledged: u32,
+) -> Result<Option<Piece>, AllocError>
+    ensures { IfOk result (λ piece. placed_of side piece ≡ piece_of side first acknowledged packet.now) }
+{
+    if !is_same(packet.segment.from, side) {
+        return Ok(None);
+    }
+    let place = place_by(first, packet.segment.number);
+    if !counts(packet, place, acknowledged) {
+        return Ok(None);
+    }
+    Ok(Some(Piece {
+        place,
+        octets: Vec::from_slice(alloc, &packet.octets)?,
+    }))
+}
+
+// Whether the octets of a packet count at a place.
+fn counts(packet: &Gathered, place: u32, acknowledged: u32) -> bool
+    ensures { result ≡ counts acknowledged place packet.now }
+{
+    let octets = packet.octets.as_slice();
+    if octets.is_empty() {
+        return false;
+    }
+    if octets.len() as u64 > END.saturating_sub(u64::from(place)) {
+        return false;
+    }
+    let flags = Flags {
+        syn: false,
+        fin: false,
+        pushed: packet.segment.flags.pushed,
+    };
+    !only_asks(u64::from(acknowledged), u64::from(place), flags, octets)
+}
+
+// The greatest place of a direction that is acknowledged behind a packet.
+fn acknowledged_after(packet: &Gathered, side: Side, first: u32, before: u32) -> u32
+    ensures { result ≡ acknowledged_after side first before packet.now }
+{
+    if is_same(packet.segment.from, side) {
+        return before;
+    }
+    match packet.segment.acknowledged {
+        Some(number) => before.max(place_by(first, number)),
+        None => before,
+    }
+}
+
+/// The first place that was captured, or that of the first number that is known.
+#[tactic(auto, unfolding(crate::specs::Gathered::lowest))]
+pub(crate) fn lowest(pieces: &[Piece]) -> u64
+    ensures value { (side : Direction) → result ≡ lowest midst (map (placed_by side) pieces.now) }
+    ensures most { result ≤ midst }
+{
+    let mut low = u64::from(MIDST);
+    let mut rest = pieces;
+    while let Some((piece, others)) = rest.split_first() {
+        low = low.min(u64::from(piece.place));
+        rest = others;
+    }
+    low
+}
+
+/// The place behind the last one that was captured, or that of the first number that is known.
+#[tactic(auto, unfolding(crate::specs::Gathered::highest), using(crate::proofs::PiecesFrom::cells_length))]
+pub(crate) fn highest(pieces: &[Piece]) -> u64
+    ensures value { (side : Direction) → result ≡ highest midst (map (placed_by side) pieces.now) }
+    ensures least { midst ≤ result }
+{
+    let mut high = u64::from(MIDST);
+    let mut rest = pieces;
+    while let Some((piece, others)) = rest.split_first() {
+        high = high.max(u64::from(piece.place) + piece.octets.len() as u64);
+        rest = others;
+    }
+    high
+}

@@ -1,0 +1,22 @@
+//! Whether more is told of a connection.
+
+use crate::ends::Heard;
+use crate::shortfall::Shortfall;
+
+/// Whether more of a connection is told, or what it lacks.
+#[derive(Clone, Copy)]
+pub enum Course {
+    Goes,
+    Over(Option<Shortfall>),
+}
+
+impl Course {
+    /// Whether more is told behind what was heard of a packet.
+    pub fn behind(heard: Heard, packet: u64) -> Course {
+        match heard {
+            Heard::Goes => Course::Goes,
+            Heard::Down => Course::Over(None),
+            Heard::Length => Course::Over(Some(Shortfall::Length(packet))),
+        }
+    }
+}

@@ -1,0 +1,82 @@
+//! A session that was running before the capture, until both of its directions have begun.
+
+ghost use Rattle.std.specs.Prelude.{OnOk};
+ghost use Rattle.hsms_wire.specs.Report.{Tells};
+
+use crate::pair::Pair;
+use crate::report::Report;
+use crate::stop::Stop;
+use crate::within::{Within, take_all};
+use hsms_capture::Segment;
+use hsms_joined::{Beginnings, Gathering, start_of};
+use std::alloc::Global;
+
+/// How far such a session is: some packets are kept, both directions have begun, or nothing more is told of it.
+#[derive(Drop)]
+pub enum Joining {
+    Gathers(Gathering),
+    Within(Within),
+    Over,
+}
+
+/// One packet more is kept, and taken with those before it once both directions have begun.
+#[tactic(auto, using(crate::proofs::Tellings::tells_nothing, crate::proofs::Tellings::tells_then, crate::proofs::Tellings::ok_then))]
+pub fn gather(
+    alloc: Global,
+    report: &mut Report,
+    pair: &Pair,
+    gathering: Gathering,
+    segment: Segment,
+    octets: &[u8],
+) -> Result<Joining, Stop>
+    ensures told { OnOk result (Tells report.old report.new) }
+{
+    let mut gathering = gathering;
+    gathering.take(alloc, segment, octets)?;
+    let is_last = segment.reset || gathering.is_full();
+    if !is_last && !gathering.is_due() {
+        return Ok(Joining::Gathers(gathering));
+    }
+    begin(alloc, report, pair, gathering, is_last)
+}
+
+/// The packets that are kept are taken, where both directions surely begin or no more are kept.
+#[tactic(auto, using(crate::proofs::Tellings::tells_nothing, crate::proofs::Tellings::tells_then, crate::proofs::Tellings::ok_then))]
+pub fn begin(
+    alloc: Global,
+    report: &mut Report,
+    pair: &Pair,
+    gathering: Gathering,
+    is_last: bool,
+) -> Result<Joining, Stop>
+    ensures told { OnOk result (Tells report.old report.new) }
+{
+    let Some(beginnings) = gathering.beginnings(alloc, report.session(), is_last)? else {
+        return Ok(Joining::Gathers(gathering));
+    };
+    match take_from(alloc, report, pair, &gathering, beginnings)? {
+        Some(within) => Ok(Joining::Within(within)),
+        None => Ok(Joining::Over),
+    }
+}
+
+// The packets that are kept are taken as those of a session whose directions begin so.
+#[tactic(auto, using(crate::proofs::Tellings::tells_nothing, crate::proofs::Tellings::tells_then, crate::proofs::Tellings::ok_then))]
+fn take_from(
+    alloc: Global,
+    report: &mut Report,
+    pair: &Pair,
+    gathering: &Gathering,
+    beginnings: Beginnings,
+) -> Result<Option<Within>, Stop>
+    ensures told { OnOk result (Tells report.old report.new) }
+{
+    let packets = gathering.packets();
+    let active = beginnings.active.number;
+    let passive = beginnings.passive.number;
+    let Some(start) = start_of(packets, active, passive) else {
+        return Ok(None);
+    };
+    let within = Within::new(alloc, beginnings, start)?;
+    take_all(alloc, report, pair, within, packets)
+}

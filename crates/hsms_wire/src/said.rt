@@ -1,0 +1,47 @@
+//! What both ends have asked for.
+
+use hsms_capture::Side;
+use hsms_frame::Header;
+use hsms_joined::{Requests, Supposed, supposed_by};
+use std::alloc::{AllocError, Global};
+
+/// What each end has asked for.
+#[derive(Drop)]
+pub struct Said {
+    active: Requests,
+    passive: Requests,
+}
+
+impl Said {
+    /// Nothing so far.
+    pub fn new(alloc: Global) -> Said {
+        Said {
+            active: Requests::new(alloc),
+            passive: Requests::new(alloc),
+        }
+    }
+
+    /// An end sent a further message.
+    pub fn note(&mut self, from: Side, message: Header) -> Result<(), AllocError> {
+        match from {
+            Side::Active => self.active.note(message),
+            Side::Passive => self.passive.note(message),
+        }
+    }
+
+    /// What a message of an end says of what stood before, if it decides that.
+    pub fn decided_by(&self, from: Side, message: Header) -> Option<Supposed> {
+        match from {
+            Side::Active => supposed_by(message, &self.passive),
+            Side::Passive => supposed_by(message, &self.active),
+        }
+    }
+
+    /// Whether a message of an end is left out, up to T3 behind a time.
+    pub fn leaves_out(&self, from: Side, message: Header, begun: u64, t3: u32, time: u64) -> bool {
+        match from {
+            Side::Active => self.passive.leaves_out(message, begun, t3, time),
+            Side::Passive => self.active.leaves_out(message, begun, t3, time),
+        }
+    }
+}

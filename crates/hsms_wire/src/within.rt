@@ -1,0 +1,297 @@
+//! A connection of a session that was running before the capture, once both of its directions have begun.
+
+ghost use Rattle.std.specs.Prelude.{OnOk};
+ghost use Rattle.hsms_wire.specs.Report.{Tells};
+
+use crate::course::Course;
+use crate::joined::Joined;
+use crate::pair::Pair;
+use crate::report::Report;
+use crate::shortfall::Shortfall;
+use crate::stop::Stop;
+use hsms_capture::{Connection, ConnectionFault, Ending, Event, Happening, Segment, Side};
+use hsms_joined::{Beginnings, Gathered, Start, octets_before, opening, segment_from};
+use std::alloc::{AllocError, Global};
+
+// So many packets of the connection weren't captured: those by which it came up.
+const OPENING: u64 = 3;
+
+/// Such a connection: it is followed as one that came up just before, by three packets that weren't captured.
+#[derive(Drop)]
+pub struct Within {
+    connection: Connection,
+    // The numbers at which its directions begin.
+    active: u32,
+    passive: u32,
+    // The numbers of its packets that reset it and acknowledge nothing.
+    bare_resets: Vec<u64>,
+    joined: Joined,
+}
+
+// What a connection has come to with a packet: more may follow, or it has ended, and may lack something.
+#[derive(Drop)]
+enum Followed {
+    Goes(Connection),
+    Ends(Option<Shortfall>),
+}
+
+impl Within {
+    /// The connection of a session whose directions begin at these numbers, and have begun with this packet.
+    ///
+    /// # Errors
+    ///
+    /// `Memory`.
+    pub fn new(alloc: Global, beginnings: Beginnings, start: Start) -> Result<Within, Stop> {
+        let active = beginnings.active.number;
+        let passive = beginnings.passive.number;
+        let connection = Connection::new(alloc, active.wrapping_sub(1), passive.wrapping_sub(1));
+        let [syn, answer, acknowledgement] = opening(active, passive);
+        let connection = opened(alloc, connection, syn)?;
+        let connection = opened(alloc, connection, answer)?;
+        Ok(Within {
+            connection: opened(alloc, connection, acknowledgement)?,
+            active,
+            passive,
+            bare_resets: Vec::new(alloc),
+            joined: Joined::new(alloc, start),
+        })
+    }
+
+    /// It takes a packet; none is left where nothing more is told of it.
+    #[tactic(auto, using(crate::proofs::Tellings::tells_nothing, crate::proofs::Tellings::tells_then, crate::proofs::Tellings::ok_then))]
+    pub fn take(
+        self,
+        alloc: Global,
+        report: &mut Report,
+        pair: &Pair,
+        segment: Segment,
+        octets: &[u8],
+    ) -> Result<Option<Within>, Stop>
+        ensures told { OnOk result (Tells report.old report.new) }
+    {
+        let mut within = self;
+        if segment.reset && segment.acknowledged.is_none() {
+            note_reset(&mut within.bare_resets, segment.packet)?;
+        }
+        let begin = within.begin_of(segment.from);
+        let mut told = Vec::new(alloc);
+        let Within {
+            connection,
+            active,
+            passive,
+            bare_resets,
+            mut joined,
+        } = within;
+        let followed = take_segment(alloc, connection, begin, segment, octets, &mut told)?;
+        let course = hear_all(alloc, report, pair, &bare_resets, &mut joined, told)?;
+        match over_by(course, followed) {
+            Followed::Goes(connection) => Ok(Some(Within {
+                connection,
+                active,
+                passive,
+                bare_resets,
+                joined,
+            })),
+            Followed::Ends(shortfall) => {
+                finish(alloc, report, pair, joined, shortfall)?;
+                Ok(None)
+            }
+        }
+    }
+
+    /// Tells what is left of it, where no packet follows: since a later connection replaces it, or at the end of what is
+    /// read, where something may be missing.
+    #[tactic(auto, using(crate::proofs::Tellings::tells_nothing, crate::proofs::Tellings::tells_then, crate::proofs::Tellings::ok_then))]
+    pub fn end(
+        self,
+        alloc: Global,
+        report: &mut Report,
+        pair: &Pair,
+        is_replaced: bool,
+        missing: Option<Shortfall>,
+    ) -> Result<(), Stop>
+        ensures told { OnOk result (Tells report.old report.new) }
+    {
+        let Within {
+            connection,
+            active: _,
+            passive: _,
+            bare_resets,
+            mut joined,
+        } = self;
+        let mut told = Vec::new(alloc);
+        let ending = match connection.end(alloc, &mut told) {
+            Ok(ending) => ending,
+            Err(_) => return Err(Stop::Memory),
+        };
+        let course = hear_all(alloc, report, pair, &bare_resets, &mut joined, told)?;
+        let shortfall = match course {
+            Course::Over(shortfall) => return finish(alloc, report, pair, joined, shortfall),
+            Course::Goes => shortfall_of(ending).or(missing),
+        };
+        if is_replaced && shortfall.is_none() {
+            return replace(alloc, report, pair, joined);
+        }
+        finish(alloc, report, pair, joined, shortfall)
+    }
+
+    // Where a direction begins.
+    fn begin_of(&self, side: Side) -> u32 {
+        match side {
+            Side::Active => self.active,
+            Side::Passive => self.passive,
+        }
+    }
+}
+
+/// Takes the packets that were kept until both directions had begun.
+#[tactic(auto, using(crate::proofs::Tellings::tells_nothing, crate::proofs::Tellings::tells_then, crate::proofs::Tellings::ok_then))]
+pub fn take_all(
+    alloc: Global,
+    report: &mut Report,
+    pair: &Pair,
+    within: Within,
+    packets: &[Gathered],
+) -> Result<Option<Within>, Stop>
+    ensures told { OnOk result (Tells report.old report.new) }
+{
+    let mut left = Some(within);
+    for packet in packets.iter() {
+        left = match left {
+            Some(within) => within.take(alloc, report, pair, packet.segment, &packet.octets)?,
+            None => None,
+        };
+    }
+    Ok(left)
+}
+
+// Notes a packet that resets it and acknowledges nothing.
+fn note_reset(bare_resets: &mut Vec<u64>, packet: u64) -> Result<(), AllocError> {
+    bare_resets.push(packet)?;
+    Ok(())
+}
+
+// A connection takes one of the packets by which it came up.
+fn opened(alloc: Global, connection: Connection, segment: Segment) -> Result<Connection, Stop> {
+    let mut told = Vec::new(alloc);
+    match connection.take(alloc, segment, &[], &mut told) {
+        Ok(connection) => Ok(connection),
+        Err(_) => Err(Stop::Memory),
+    }
+}
+
+// A connection takes the part of a packet that stands from the beginning of its direction on.
+fn take_segment(
+    alloc: Global,
+    connection: Connection,
+    begin: u32,
+    segment: Segment,
+    octets: &[u8],
+    told: &mut Vec<Happening>,
+) -> Result<Followed, Stop> {
+    let (_, kept) = octets.split_at(octets_before(begin, segment.number, octets.len()));
+    let cut = segment_from(begin, segment, octets.len());
+    let counted = Segment {
+        packet: segment.packet.saturating_add(OPENING),
+        ..cut
+    };
+    match connection.take(alloc, counted, kept, told) {
+        Ok(connection) => match connection.ending() {
+            None => Ok(Followed::Goes(connection)),
+            Some(ending) => Ok(Followed::Ends(shortfall_of(ending))),
+        },
+        Err(ConnectionFault::Memory) => Err(Stop::Memory),
+        Err(_) => Ok(Followed::Ends(Some(Shortfall::Full(segment.packet)))),
+    }
+}
+
+// What is missing by how a connection ends.
+fn shortfall_of(ending: Ending) -> Option<Shortfall> {
+    match ending {
+        Ending::Complete => None,
+        Ending::Lost(packet) => Some(Shortfall::Lost(captured(packet))),
+        Ending::Differs(packet) => Some(Shortfall::Differs(captured(packet))),
+    }
+}
+
+// The number of a packet in the capture.
+fn captured(packet: u64) -> u64 {
+    packet.saturating_sub(OPENING)
+}
+
+// A connection is over by what was heard of it, or goes on as it did.
+fn over_by(course: Course, followed: Followed) -> Followed {
+    match course {
+        Course::Goes => followed,
+        Course::Over(shortfall) => Followed::Ends(shortfall),
+    }
+}
+
+// Hears what happens. A connection goes down at the time of the entry before where a reset acknowledges nothing.
+#[tactic(auto, using(crate::proofs::Tellings::tells_nothing, crate::proofs::Tellings::tells_then, crate::proofs::Tellings::ok_then))]
+fn hear_all(
+    alloc: Global,
+    report: &mut Report,
+    pair: &Pair,
+    bare_resets: &[u64],
+    joined: &mut Joined,
+    told: Vec<Happening>,
+) -> Result<Course, Stop>
+    ensures told { OnOk result (Tells report.old report.new) }
+{
+    for happening in told {
+        let happening = timed(bare_resets, happening);
+        match joined.hear(alloc, report, pair, happening)? {
+            Course::Goes => {}
+            Course::Over(shortfall) => return Ok(Course::Over(shortfall)),
+        }
+    }
+    Ok(Course::Goes)
+}
+
+// What happens, at its packet of the capture.
+fn timed(bare_resets: &[u64], happening: Happening) -> Happening {
+    let packet = captured(happening.packet);
+    let time = match &happening.event {
+        Event::Down if bare_resets.contains(&packet) => 0,
+        Event::Down | Event::Up | Event::Message { .. } => happening.time,
+    };
+    Happening {
+        packet,
+        time,
+        ..happening
+    }
+}
+
+// It is over, and what waits is told before.
+#[tactic(auto, using(crate::proofs::Tellings::tells_nothing, crate::proofs::Tellings::tells_then, crate::proofs::Tellings::ok_then))]
+fn finish(
+    alloc: Global,
+    report: &mut Report,
+    pair: &Pair,
+    joined: Joined,
+    shortfall: Option<Shortfall>,
+) -> Result<(), Stop>
+    ensures told { OnOk result (Tells report.old report.new) }
+{
+    let mut joined = joined;
+    match joined.settle(alloc, report, pair)? {
+        Course::Goes => joined.conclude(alloc, report, pair, shortfall),
+        Course::Over(other) => joined.conclude(alloc, report, pair, other.or(shortfall)),
+    }
+}
+
+// It is over since a later one replaces it, and lacks nothing. What waits is told before.
+#[tactic(auto, using(crate::proofs::Tellings::tells_nothing, crate::proofs::Tellings::tells_then, crate::proofs::Tellings::ok_then))]
+fn replace(alloc: Global, report: &mut Report, pair: &Pair, joined: Joined) -> Result<(), Stop>
+    ensures told { OnOk result (Tells report.old report.new) }
+{
+    let mut joined = joined;
+    match joined.settle(alloc, report, pair)? {
+        Course::Goes => {
+            joined.replace(alloc, report)?;
+            joined.conclude(alloc, report, pair, None)
+        }
+        Course::Over(shortfall) => joined.conclude(alloc, report, pair, shortfall),
+    }
+}
