@@ -1,8 +1,10 @@
 mod Courses
 mod Following
+mod Going
 mod Halvings
 mod Hearing
 mod Outcomes
+mod Rows
 mod Sorts
 mod Tellings
 mod Verdicts

@@ -3,8 +3,10 @@ pub mod Counting
 pub mod Course
 pub mod Ending
 pub mod Failing
+pub mod Gone
 pub mod Heard
 pub mod Noted
+pub mod Row
 pub mod Sort
 pub mod Step
 pub mod Words

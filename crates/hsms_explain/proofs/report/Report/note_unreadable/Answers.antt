@@ -10,3 +10,6 @@ returns-clause-notes c =
     let before = first_why c.args.self.now.notes.items in
     ap first_why c.in_ok-push.ensures.items ∙ first_why-push c.args.self.now.notes.items (Fails c.unreadable.result)
     ∙ ap (λ (w : Why). either before (Some w)) c.unreadable.ensures
+
+pub returns-clause-adds : goal.returns-clause-adds
+returns-clause-adds c = (c.unreadable.result, c.unreadable.ensures, c.in_ok-push.ensures.items)
