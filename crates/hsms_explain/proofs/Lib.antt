@@ -4,6 +4,7 @@ mod Going
 mod Halvings
 mod Hearing
 mod Outcomes
+mod Pages
 mod Rows
 mod Sorts
 mod Tellings

@@ -1,5 +1,5 @@
 -- The log that is gone on with behind each failure, line by line.
-use Rattle.std.specs.Prelude.{◌≡◌, ◌+◌, ◌⊎◌, ℕ, List, [], ◌∷◌, ◌++◌, Option, Some, None, map, length}
+use Rattle.std.specs.Prelude.{◌≡◌, ◌+◌, ◌⊎◌, codes, ℕ, List, [], ◌∷◌, ◌++◌, Option, Some, None, map, length}
 use Rattle.hsms_machine.specs.declared.entry.Entry.{Entry}
 use Rattle.hsms_machine.specs.Placed.{at_place}
 use Rattle.hsms_machine.specs.Settings.{Parameters}
@@ -19,7 +19,9 @@ use Rattle.hsms_explain.specs.Step.{entry_by}
 
 -- that a line can't be read is noted
 abbrev pub NotesUnreadable : List Note → List Note → Type 0
-NotesUnreadable before after = (failing : Failing) × (failing.why ≡ Unreadable) × (after ≡ before ++ Fails failing ∷ [])
+NotesUnreadable before after =
+    (failing : Failing) × (failing.why ≡ Unreadable) × (failing.sentence.now ≡ codes "it can't be read")
+    × (after ≡ before ++ Fails failing ∷ [])
 
 -- the course goes on with what a line carries, and this is noted of it
 abbrev pub LineMends : Standing → Carried → Standing → List Note → Type 0

@@ -18,6 +18,7 @@ use Rattle.hsms_explain.specs.declared.note.Failing.{Failing}
 use Rattle.hsms_explain.specs.Alike.{counted}
 use Rattle.hsms_explain.specs.Course.{Standing, HasCourse, ForEachCourse, JudgesAs}
 use Rattle.hsms_explain.specs.Step.{entry_by}
+use Rattle.hsms_explain.specs.Words.{SaysRule}
 
 -- ---- one judgement
 
@@ -112,6 +113,7 @@ NoteSays (Lawful (Some opening)) notes = (closing : Closing) × (notes ≡ Close
 NoteSays (Broken failure) notes =
     (failing : Failing) × (notes ≡ Fails failing ∷ []) × (failing.why ≡ why.Broken failure.rule)
     × (failing.concerns ≡ failure.concerns) × (failing.remedy ≡ Some failure.remedy)
+    × SaysRule failure.rule failing.sentence.now
 
 abbrev pub NotesSay : List Judged → List Note → Type 0
 NotesSay [] notes = notes ≡ []

@@ -9,6 +9,7 @@ ghost use Rattle.hsms_explain.specs.declared.course.Judged.TheVariants.{Lawful};
 ghost use Rattle.hsms_explain.specs.Noted.{either, first_why, why_of, FailsBy};
 ghost use Rattle.hsms_explain.specs.Row.{LeadsOn, Mends, Notes, StepsOn, changed, entries_of, most_steps, told_with};
 ghost use Rattle.hsms_explain.specs.Step.{entry_by, entry_of_what};
+ghost use Rattle.hsms_explain.specs.Words.{SaysRule};
 
 use crate::course::{Failure, Judged, Opening};
 use crate::expecting::expected_of;
@@ -192,6 +193,7 @@ fn failing(known: &Known, step: Step, text: &[u8], failure: Failure) -> Failing
     ensures why { result.why ≡ Broken failure.rule }
     ensures concerns { result.concerns ≡ failure.concerns }
     ensures remedy { result.remedy ≡ Some failure.remedy }
+    ensures sentence { SaysRule failure.rule result.sentence.now }
 {
     Failing {
         sort: sort_of(failure.rule, step.what),
@@ -204,7 +206,9 @@ fn failing(known: &Known, step: Step, text: &[u8], failure: Failure) -> Failing
 }
 
 // The rule in a few words. Besides replies those primaries may ask for no reply by which equipment tells of errors.
-fn sentence_of(what: What, rule: Rule) -> &'static str {
+fn sentence_of(what: What, rule: Rule) -> &'static str
+    ensures { SaysRule rule result.now }
+{
     match what {
         What::Frame(_, header) => {
             if rule == Rule::WBit && kind(header) == Kind::Primary {

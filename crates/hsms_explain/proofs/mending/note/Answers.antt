@@ -34,4 +34,4 @@ returns-in_ok-push-in-Broken-clause-says c =
     let says = c.failing.ensures in
     subst P (sym c.in-Broken.is)
     (one_note c.args.notes.now.items c.push.new.self.items (Fails c.failing.result ∷ []) (Broken c.in-Broken.failure)
-    (c.failing.result, refl, says.why, says.concerns, says.remedy) c.in_ok-push-in-Broken.ensures.items)
+    (c.failing.result, refl, says.why, says.concerns, says.remedy, says.sentence) c.in_ok-push-in-Broken.ensures.items)
