@@ -28,7 +28,7 @@ use Rattle.hsms_explain.specs.Alike.{counted}
 use Rattle.hsms_explain.specs.Counting.{counts_of, one_more, with_entry}
 use Rattle.hsms_explain.specs.Course.{Standing, HasCourse, CourseLeadsTo, JudgesAs}
 use Rattle.hsms_explain.specs.Failing.{FailsFirst, failed_at}
-use Rattle.hsms_explain.specs.Heard.{IsShown, KnownAfter, Tracks, UnjudgedAfter}
+use Rattle.hsms_explain.specs.Heard.{IsShown, Tracks, TracksOrFails, BeginsOrFails}
 use Rattle.hsms_explain.specs.Noted.{either, first_why, why_of, with_carried, FailsBy, IsCarried, LineFailsBy}
 use Rattle.hsms_explain.specs.Step.{entry_by}
 
@@ -261,7 +261,7 @@ pub later_follows : (old new : Known) (mid : Standing) (tally next : Tally) (bef
     → mid ≡ next_course old.course → IsShown (line_limit old.settings.max) line shown → IsCarried old.settings.max shown what
     → new.settings ≡ old.settings → new.course.line ≡ mid.line → number ≡ new.course.line → next.entries ≡ with_carried tally.entries what
     → next.first ≡ either tally.first (failed_at number why) → LineFailsBy mid what new.course why
-    → KnownAfter old tally before → KnownAfter new next (before ++ line ∷ [])
+    → TracksOrFails old tally before → TracksOrFails new next (before ++ line ∷ [])
 later_follows old new mid tally next before line shown what number why mid_is is_shown is_carried settings line_is number_is entries first fails after =
     let facts : LineFacts old new mid tally.entries next.entries line what = record {
       mid_is = mid_is;
@@ -286,7 +286,7 @@ pub first_follows : (known : Known) (tally next : Tally) (so_far : ℕ) (before 
     → tally.first ≡ first → next.first ≡ either tally.first None → next.entries ≡ tally.entries
     → IsShown settings_limit line shown → SpellsSettings shown settings → known.settings ≡ settings → HasCourse settings [] [] known.course
     → known.course.line ≡ 1
-    → MatchOption first ((before ≡ []) × (so_far ≡ 0) × (tally.entries ≡ counts_of [])) (FailsFirst before) → KnownAfter known next (before ++ line ∷ [])
+    → MatchOption first ((before ≡ []) × (so_far ≡ 0) × (tally.entries ≡ counts_of [])) (FailsFirst before) → TracksOrFails known next (before ++ line ∷ [])
 first_follows known tally next so_far before line shown settings (Some failed) first next_is entries is_shown spelled same has number after =
     let lines = before ++ line ∷ [] in
     let P : Option Failed → Type 0 = λ f. MatchOption f (Tracks known next.entries lines) (FailsFirst lines) in
@@ -305,7 +305,7 @@ first_follows known tally next so_far before line shown settings None first next
 pub first_fails : (tally next : Tally) (so_far number : ℕ) (before : List (List ℕ)) (line shown : List ℕ) (first : Option Failed)
     → tally.first ≡ first → next.first ≡ either tally.first (Some (record { line = 1; why = Unreadable }))
     → IsShown settings_limit line shown → ((s : Parameters) → SpellsSettings shown s → ⊥)
-    → MatchOption first ((before ≡ []) × (so_far ≡ 0) × (tally.entries ≡ counts_of [])) (FailsFirst before) → UnjudgedAfter number next (before ++ line ∷ [])
+    → MatchOption first ((before ≡ []) × (so_far ≡ 0) × (tally.entries ≡ counts_of [])) (FailsFirst before) → BeginsOrFails number next (before ++ line ∷ [])
 first_fails tally next so_far number before line shown (Some failed) first next_is is_shown none after =
     let lines = before ++ line ∷ [] in
     let P : Option Failed → Type 0 = λ f. MatchOption f ((lines ≡ []) × (number ≡ 0) × (next.entries ≡ counts_of [])) (FailsFirst lines) in
@@ -321,7 +321,7 @@ first_fails tally next so_far number before line shown None first next_is is_sho
 -- a line behind it
 pub further_fails : (tally next : Tally) (so_far number : ℕ) (before : List (List ℕ)) (line : List ℕ) (first : Option Failed)
     → tally.first ≡ first → next.first ≡ either tally.first None → 0 < so_far
-    → MatchOption first ((before ≡ []) × (so_far ≡ 0) × (tally.entries ≡ counts_of [])) (FailsFirst before) → UnjudgedAfter number next (before ++ line ∷ [])
+    → MatchOption first ((before ≡ []) × (so_far ≡ 0) × (tally.entries ≡ counts_of [])) (FailsFirst before) → BeginsOrFails number next (before ++ line ∷ [])
 further_fails tally next so_far number before line (Some failed) first next_is more after =
     let lines = before ++ line ∷ [] in
     let P : Option Failed → Type 0 = λ f. MatchOption f ((lines ≡ []) × (number ≡ 0) × (next.entries ≡ counts_of [])) (FailsFirst lines) in

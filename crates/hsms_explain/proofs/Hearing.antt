@@ -97,7 +97,7 @@ front_none n = take_all n [] (omega arith)
 pub none_told : (tally : Tally) → tally.first ≡ None → tally.entries ≡ counts_of [] → UnjudgedAfter 0 tally []
 none_told tally first entries =
     let P : Option Failed → Type 0 = λ f. MatchOption f ((◌≡◌ {A = List (List ℕ)} [] []) × (◌≡◌ {A = ℕ} 0 0) × (tally.entries ≡ counts_of [])) (FailsFirst []) in
-    subst P (sym first) (refl, refl, entries)
+    (subst P (sym first) (refl, refl, entries), refl)
 
 pub heard_none : (explainer : Explainer) → explainer.held.items ≡ [] → ToldAfter explainer.stage explainer.report.tally [] → HasHeard explainer []
 heard_none explainer none told =

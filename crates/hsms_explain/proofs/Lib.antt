@@ -1,8 +1,11 @@
 mod Courses
 mod Following
+mod Going
 mod Halvings
 mod Hearing
 mod Outcomes
+mod Pages
+mod Rows
 mod Sorts
 mod Tellings
 mod Verdicts

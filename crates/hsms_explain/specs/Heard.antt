@@ -14,6 +14,7 @@ use Rattle.hsms_explain.specs.Alike.{counted}
 use Rattle.hsms_explain.specs.Counting.{counts_of}
 use Rattle.hsms_explain.specs.Course.{HasCourse}
 use Rattle.hsms_explain.specs.Failing.{FailsFirst}
+use Rattle.hsms_explain.specs.Gone.{GoesOn}
 
 -- ---- lines
 
@@ -24,13 +25,21 @@ Tracks known entries lines =
     × (known.course.line ≡ counted (length lines)) × (entries ≡ counts_of log)
 
 -- the same, or this is the first failure
+abbrev pub TracksOrFails : Known → Tally → List (List ℕ) → Type 0
+TracksOrFails known tally lines = MatchOption tally.first (Tracks known tally.entries lines) (FailsFirst lines)
+
+-- the same, and behind a failure too the log is gone on with
 abbrev pub KnownAfter : Known → Tally → List (List ℕ) → Type 0
-KnownAfter known tally lines = MatchOption tally.first (Tracks known tally.entries lines) (FailsFirst lines)
+KnownAfter known tally lines = TracksOrFails known tally lines × GoesOn known lines
 
 -- no line came yet, or this is the first failure
-abbrev pub UnjudgedAfter : ℕ → Tally → List (List ℕ) → Type 0
-UnjudgedAfter before tally lines =
+abbrev pub BeginsOrFails : ℕ → Tally → List (List ℕ) → Type 0
+BeginsOrFails before tally lines =
     MatchOption tally.first ((lines ≡ []) × (before ≡ 0) × (tally.entries ≡ counts_of [])) (FailsFirst lines)
+
+-- the same, behind so many lines
+abbrev pub UnjudgedAfter : ℕ → Tally → List (List ℕ) → Type 0
+UnjudgedAfter before tally lines = BeginsOrFails before tally lines × (before ≡ counted (length lines))
 
 -- no line came yet, or the log is judged, or this is the first failure
 abbrev pub ToldAfter : Stage → Tally → List (List ℕ) → Type 0

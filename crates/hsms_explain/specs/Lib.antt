@@ -3,11 +3,15 @@ pub mod Counting
 pub mod Course
 pub mod Ending
 pub mod Failing
+pub mod Gone
 pub mod Heard
 pub mod Noted
+pub mod Page
+pub mod Row
 pub mod Sort
 pub mod Step
 pub mod Words
+pub mod Written
 pub mod Explain
 pub mod Histogram
 pub mod Replies

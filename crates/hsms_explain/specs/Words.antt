@@ -1,10 +1,17 @@
 -- The words that stand below a line.
-use Rattle.std.specs.Prelude.{ℕ, List, [], ◌++◌, codes, decimal, nat_lt, if◌then◌else◌}
+use Rattle.std.specs.Prelude.{◌≡◌, ◌⊎◌, ℕ, List, [], ◌++◌, codes, decimal, nat_lt, if◌then◌else◌}
 use Rattle.hsms_log.specs.declared.verdict.Why.{Why}
 use Rattle.hsms_log.specs.declared.verdict.Why.TheVariants.{Unreadable, Broken}
 use Rattle.hsms_machine.specs.declared.entry.Cause.{Cause}
 use Rattle.hsms_machine.specs.declared.entry.Cause.TheVariants.{T6, T7, T8, Length}
+<<<<<<< HEAD
 use Rattle.hsms_lines.specs.Verdict.{rule_name}
+=======
+use Rattle.hsms_machine.specs.declared.rule.Rule.{Rule}
+use Rattle.hsms_machine.specs.declared.rule.Rule.TheVariants.{WBit}
+use Rattle.hsms_options.specs.Sentence.{sentence_of}
+use Rattle.hsms_tasks.specs.Verdict.{rule_name}
+>>>>>>> 6fafc6cc41e703aec43ef649c27fbfdf87e3f6d4
 use Rattle.hsms_explain.specs.declared.words.Tie.{Tie}
 use Rattle.hsms_explain.specs.declared.words.Tie.TheVariants.{Answers, Rejects, Expires}
 use Rattle.hsms_explain.specs.declared.words.Closing.{Closing}
@@ -33,6 +40,11 @@ cause_word Length = codes "length"
 abbrev pub why_name : Why → List ℕ
 why_name Unreadable = codes "unreadable"
 why_name (Broken rule) = rule_name rule
+
+-- what is said of a rule, and of a primary of stream 9 with the W bit
+abbrev pub SaysRule : Rule → List ℕ → Type 0
+SaysRule rule words =
+    (words ≡ sentence_of rule) ⊎ ((rule ≡ WBit) × (words ≡ codes "a primary of stream 9 that asks for a reply"))
 
 -- the line by which failures are told, and how many
 abbrev pub alike_text : Alike → List ℕ

@@ -1,7 +1,8 @@
-//! Laws of the definitions by which failures and primaries are counted. A law is a function that does nothing: its
-//! contract is what is proved.
+//! Laws of the definitions by which a log is gone on with, and failures and primaries are counted. A law is a function
+//! that does nothing: its contract is what is proved.
 
 ghost use Rattle.hsms_explain.specs.Replies.{FatesAddUp};
+ghost use Rattle.hsms_explain.specs.Row.{RowMends};
 ghost use Rattle.hsms_explain.specs.Sort.{FramesAreApart, SortsAreApart};
 
 /// Failures of the same sort break the same rule, by the same event, of frames of the same number.
@@ -17,4 +18,10 @@ pub fn frames_are_apart()
 /// What was closed was answered, aborted, given up or rejected, and one of these alone.
 pub fn fates_add_up()
     ensures { FatesAddUp }
+{}
+
+/// Where the judgements of an entry leave none, what they put behind the log stands in its place, by the definition of
+/// a repaired log. Of that log the laws of `hsms_machine` speak.
+pub fn judged_entry_is_mended()
+    ensures { RowMends }
 {}

@@ -1,6 +1,6 @@
 //! What is told of a line besides what it says.
 
-ghost use Rattle.std.specs.Prelude.{◌≡◌, ◌∷◌, []};
+ghost use Rattle.std.specs.Prelude.{◌≡◌, ◌∷◌, [], codes};
 ghost use Rattle.hsms_log.specs.declared.verdict.Why.TheVariants.{Unreadable};
 ghost use Rattle.hsms_explain.specs.Noted.{first_why};
 
@@ -53,7 +53,8 @@ pub struct Failing {
 impl Failing {
     /// That a line can't be read.
     pub fn unreadable() -> Failing
-        ensures { result.why ≡ Unreadable }
+        ensures why { result.why ≡ Unreadable }
+        ensures sentence { result.sentence.now ≡ codes "it can't be read" }
     {
         Failing {
             sort: UNREADABLE_SORT,

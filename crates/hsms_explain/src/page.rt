@@ -1,6 +1,8 @@
 //! What is told, until it is written.
 
-ghost use Rattle.std.specs.Prelude.{◌≤◌};
+ghost use Rattle.std.specs.Prelude.{◌≡◌, ◌≤◌, ℕ, List, [], replicate, decimal};
+ghost use Rattle.hsms_lines.specs.Line.{LineOf};
+ghost use Rattle.hsms_explain.specs.Page.{Adds, padded};
 
 use hsms_frame::Header;
 use hsms_lines::give_line;
@@ -33,7 +35,9 @@ impl Memory {
 }
 
 impl Output for Memory {
-    ghost Given = { λ out given. ⊥ };
+    ghost use Rattle.hsms_explain.specs.Page.{HasMemory};
+
+    ghost Given = { HasMemory };
 
     fn give(&mut self, octets: &[u8]) {
         if !self.is_refused {
@@ -63,23 +67,35 @@ impl Page {
     }
 
     /// Lays octets.
-    pub fn lay(&mut self, octets: &[u8]) {
+    pub fn lay(&mut self, octets: &[u8])
+        ensures { Adds self.old self.new octets.now }
+    {
         self.block.lay(&mut self.told, octets);
     }
 
-    /// Lays a number in decimal, behind blanks where it has fewer digits than this.
-    pub fn lay_number(&mut self, number: u64, width: usize) {
-        let mut buffer = Buffer::new();
-        let digits = buffer.format(number);
-        for _ in digits.len()..width {
+    /// Lays so many blanks.
+    pub fn lay_blanks(&mut self, count: usize)
+        ensures { Adds self.old self.new (replicate count 32) }
+    {
+        for _ in 0..count {
             self.lay(b" ");
         }
+    }
+
+    /// Lays a number in decimal, behind blanks where it has fewer digits than this.
+    pub fn lay_number(&mut self, number: u64, width: usize)
+        ensures { Adds self.old self.new (padded width (decimal number)) }
+    {
+        let mut buffer = Buffer::new();
+        let digits = buffer.format(number);
+        self.lay_blanks(width.saturating_sub(digits.len()));
         self.lay(digits.as_bytes());
     }
 
     /// Lays the line of a message, with its end, as `hsms show` shows it.
     pub fn lay_message(&mut self, header: Header, text: &[u8], depth: u8)
         requires { depth ≤ 100 }
+        ensures { (line : List ℕ) × LineOf depth (record { header = header; text = text.now }) line × Adds self.old self.new line }
     {
         give_line(&mut self.told, &mut self.block, header, text, depth);
     }

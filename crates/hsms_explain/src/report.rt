@@ -4,6 +4,7 @@ ghost use Rattle.std.specs.Prelude.{◌≡◌, ℕ, List, [], OnOk, IfOk, Some, 
 ghost use Rattle.hsms_log.specs.declared.verdict.Why.TheVariants.{Unreadable};
 ghost use Rattle.hsms_explain.specs.Counting.{counts_of};
 ghost use Rattle.hsms_explain.specs.Failing.{failed_at, verdict_by, unjudged_by};
+ghost use Rattle.hsms_explain.specs.Gone.{LineMends, NotesUnreadable};
 ghost use Rattle.hsms_explain.specs.Noted.{either, first_why, with_carried, LineFailsBy};
 
 use crate::alike::Groups;
@@ -124,6 +125,7 @@ impl Report {
         carried: Carried<'_>,
     ) -> Result<(), AllocError>
         ensures judged { OnOk result (LineFailsBy known.old.course carried.entry known.new.course (first_why self.new.notes.items)) }
+        ensures mends { OnOk result (LineMends known.old.course carried.entry known.new.course self.new.notes.items) }
         ensures settings { OnOk result (known.new.settings ≡ known.old.settings) }
         ensures line { OnOk result (known.new.course.line ≡ known.old.course.line) }
         ensures entries { OnOk result (self.new.tally.entries ≡ with_carried self.old.tally.entries carried.entry) }
@@ -151,6 +153,7 @@ impl Report {
     /// Notes that a line can't be read.
     pub fn note_unreadable(&mut self) -> Result<(), AllocError>
         ensures notes { OnOk result (first_why self.new.notes.items ≡ either (first_why self.old.notes.items) (Some Unreadable)) }
+        ensures adds { OnOk result (NotesUnreadable self.old.notes.items self.new.notes.items) }
         ensures tally { self.new.tally ≡ self.old.tally }
     {
         self.notes.push(Note::Fails(Failing::unreadable()))?;

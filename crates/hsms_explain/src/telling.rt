@@ -1,5 +1,10 @@
 //! The form in which a log is told.
 
+ghost use Rattle.std.specs.Prelude.{◌≡◌, ℕ, List, OnOk};
+ghost use Rattle.hsms_options.specs.declared.excerpt.Telling.TheVariants.{Text};
+ghost use Rattle.hsms_explain.specs.Page.{Adds};
+ghost use Rattle.hsms_explain.specs.Written.{LineTold};
+
 use crate::alike::Groups;
 use crate::links::Links;
 use crate::note::Note;
@@ -61,7 +66,10 @@ impl Teller {
         links: &mut Links,
         told: Told<'_, '_>,
         notes: &[Note],
-    ) -> Result<(), AllocError> {
+    ) -> Result<(), AllocError>
+        ensures { OnOk result (self.form ≡ Text
+            → (words : List ℕ) × LineTold told.entry notes.now words × Adds page.old page.new words) }
+    {
         match self.form {
             Telling::Text => text::write_line(alloc, page, told, notes, self.utc),
             Telling::Json => json::write_line(alloc, page, told, notes, self.utc),

@@ -1,6 +1,12 @@
 //! A line and its notes, as text.
 
+ghost use Rattle.std.specs.Prelude.{◌≡◌, ◌++◌, ℕ, List, IfSome, OnOk, codes};
+ghost use Rattle.hsms_explain.specs.Page.{Adds, AddsSome};
+ghost use Rattle.hsms_explain.specs.Words.{why_name};
+ghost use Rattle.hsms_explain.specs.Written.{CarriedSaid, LineSaid, LineTold, NoteTold, WhatSaid, below, mark_text, rule_words};
+
 use crate::alike::Groups;
+use crate::expecting::Expected;
 use crate::moment::Moment;
 use crate::note::{Failing, Note};
 use crate::page::Page;
@@ -10,7 +16,7 @@ use crate::tally::Tally;
 use crate::told::{Carried, Told};
 use crate::words::{Concern, GoingOn, name_of};
 use hsms_log::split_at_first;
-use hsms_machine::{GREATEST_DEPTH, Mark};
+use hsms_machine::{GREATEST_DEPTH, Mark, Remedy};
 use std::alloc::{AllocError, Global};
 use std::fmt;
 
@@ -31,7 +37,9 @@ pub fn write_line(
     told: Told<'_, '_>,
     notes: &[Note],
     utc: bool,
-) -> Result<(), AllocError> {
+) -> Result<(), AllocError>
+    ensures { OnOk result ((words : List ℕ) × LineTold told.entry notes.now words × Adds page.old page.new words) }
+{
     write_said(alloc, page, told, utc)?;
     for note in notes {
         write_note(alloc, page, note, utc)?;
@@ -50,7 +58,10 @@ pub fn write_words<D: fmt::Display>(
     alloc: Global,
     page: &mut Page,
     words: &D,
-) -> Result<(), AllocError> {
+) -> Result<(), AllocError>
+    ensures { OnOk result ((said : List ℕ) × IfSome (D.output words.now) (λ output. said ≡ output)
+        × Adds page.old page.new (said ++ codes "\n")) }
+{
     let words = words.to_string(alloc)?;
     page.lay(words.as_bytes());
     page.lay(b"\n");
@@ -95,54 +106,92 @@ fn write_said(
     page: &mut Page,
     told: Told<'_, '_>,
     utc: bool,
-) -> Result<(), AllocError> {
+) -> Result<(), AllocError>
+    ensures { OnOk result ((words : List ℕ) × LineSaid told.entry words × Adds page.old page.new words) }
+{
     page.lay_number(told.number, NUMBER);
     page.lay(b" ");
+    write_carried(alloc, page, told, utc)
+}
+
+// Writes what a line carries, or the line as it is.
+fn write_carried(
+    alloc: Global,
+    page: &mut Page,
+    told: Told<'_, '_>,
+    utc: bool,
+) -> Result<(), AllocError>
+    ensures { OnOk result ((words : List ℕ) × CarriedSaid told.entry.carried words × Adds page.old page.new words) }
+{
     match told.carried {
-        Carried::Entry(step, text) => {
-            write_time(alloc, page, step.time, utc)?;
-            write_entry(page, told, step, text);
+        Carried::Entry(step, text) => write_entry(alloc, page, told, step, text, utc),
+        Carried::Nothing | Carried::Unreadable => {
+            write_plain(page, told, utc);
+            Ok(())
         }
-        Carried::Nothing | Carried::Unreadable => write_plain(page, told, utc),
     }
-    Ok(())
 }
 
 // Writes the time of an entry.
-fn write_time(alloc: Global, page: &mut Page, time: u64, utc: bool) -> Result<(), AllocError> {
+fn write_time(alloc: Global, page: &mut Page, time: u64, utc: bool) -> Result<(), AllocError>
+    ensures { OnOk result (AddsSome page.old page.new) }
+{
     if !utc {
         page.lay_number(time, TIME);
         return Ok(());
     }
     let moment = Moment { time, utc };
     let words = moment.to_string(alloc)?;
-    lay_blanks(page, DATE.saturating_sub(words.len()));
+    page.lay_blanks(DATE.saturating_sub(words.len()));
     page.lay(words.as_bytes());
     Ok(())
 }
 
-fn lay_blanks(page: &mut Page, count: usize) {
-    for _ in 0..count {
-        page.lay(b" ");
-    }
+// Writes an entry behind its time.
+fn write_entry(
+    alloc: Global,
+    page: &mut Page,
+    told: Told<'_, '_>,
+    step: Step,
+    text: &[u8],
+    utc: bool,
+) -> Result<(), AllocError>
+    ensures { OnOk result ((time : List ℕ) × (happened : List ℕ) × WhatSaid step.what text.now happened
+        × Adds page.old page.new (time ++ codes " " ++ happened)) }
+{
+    write_time(alloc, page, step.time, utc)?;
+    page.lay(b" ");
+    write_what(page, told, step.what, text);
+    Ok(())
 }
 
-// Writes an entry: a frame as `hsms show` shows it, the words of another one.
-fn write_entry(page: &mut Page, told: Told<'_, '_>, step: Step, text: &[u8]) {
-    page.lay(b" ");
-    match step.what {
+// Writes what happened: a frame as `hsms show` shows it, the words of another entry.
+fn write_what(page: &mut Page, told: Told<'_, '_>, what: What, text: &[u8])
+    ensures { (words : List ℕ) × WhatSaid what text.now words × Adds page.old page.new words }
+{
+    match what {
         What::Frame(mark, header) => {
             page.lay(mark_word(mark));
             page.lay_message(header, text, GREATEST_DEPTH);
         }
-        What::Up | What::T3(_) | What::Cut(_) | What::Down => {
-            page.lay(behind_time(told.octets));
-            page.lay(b"\n");
-        }
+        What::Up => write_rest(page, told),
+        What::T3(_) => write_rest(page, told),
+        What::Cut(_) => write_rest(page, told),
+        What::Down => write_rest(page, told),
     }
 }
 
-fn mark_word(mark: Mark) -> &'static [u8] {
+// Writes what a line says behind its time, as it stands there.
+fn write_rest(page: &mut Page, told: Told<'_, '_>)
+    ensures { AddsSome page.old page.new }
+{
+    page.lay(behind_time(told.octets));
+    page.lay(b"\n");
+}
+
+fn mark_word(mark: Mark) -> &'static [u8]
+    ensures { result.now ≡ mark_text mark }
+{
     match mark {
         Mark::Sent => b"> ",
         Mark::Taken => b"< ",
@@ -159,13 +208,17 @@ pub fn behind_time(line: &[u8]) -> &[u8] {
 }
 
 // Writes a line as it is, where other lines have their entries.
-fn write_plain(page: &mut Page, told: Told<'_, '_>, utc: bool) {
-    lay_blanks(page, 1 + if utc { DATE } else { TIME });
+fn write_plain(page: &mut Page, told: Told<'_, '_>, utc: bool)
+    ensures { AddsSome page.old page.new }
+{
+    page.lay_blanks(1 + if utc { DATE } else { TIME });
     page.lay(told.shown());
     page.lay(b"\n");
 }
 
-fn write_note(alloc: Global, page: &mut Page, note: &Note, utc: bool) -> Result<(), AllocError> {
+fn write_note(alloc: Global, page: &mut Page, note: &Note, utc: bool) -> Result<(), AllocError>
+    ensures { OnOk result ((words : List ℕ) × NoteTold note.now words × Adds page.old page.new words) }
+{
     match note {
         Note::Closes(closing) => write_below(alloc, page, closing),
         Note::Fails(failing) => write_failing(alloc, page, failing, utc),
@@ -178,21 +231,58 @@ fn write_failing(
     page: &mut Page,
     failing: &Failing,
     utc: bool,
-) -> Result<(), AllocError> {
+) -> Result<(), AllocError>
+    ensures { OnOk result ((further : List ℕ)
+        × Adds page.old page.new (rule_words (why_name failing.now.why) failing.now.sentence.now ++ further)) }
+{
     write_rule(page, name_of(failing.why), failing.sentence);
-    if let Some(line) = failing.concerns {
-        write_further(alloc, page, &Concern { line })?;
-    }
-    if let Some(expected) = failing.expected {
-        write_further(alloc, page, &expected)?;
-    }
-    if let Some(remedy) = failing.remedy {
-        write_further(alloc, page, &GoingOn { remedy, utc })?;
-    }
-    Ok(())
+    write_concern(alloc, page, failing.concerns)?;
+    write_expected(alloc, page, failing.expected)?;
+    write_remedy(alloc, page, failing.remedy, utc)
 }
 
-fn write_rule(page: &mut Page, name: &str, sentence: &str) {
+// Writes which line a failure concerns, where it does one.
+fn write_concern(alloc: Global, page: &mut Page, concerns: Option<u64>) -> Result<(), AllocError>
+    ensures { OnOk result (AddsSome page.old page.new) }
+{
+    match concerns {
+        Some(line) => write_further(alloc, page, &Concern { line }),
+        None => Ok(()),
+    }
+}
+
+// Writes what would have been right, where it is known.
+fn write_expected(
+    alloc: Global,
+    page: &mut Page,
+    expected: Option<Expected>,
+) -> Result<(), AllocError>
+    ensures { OnOk result (AddsSome page.old page.new) }
+{
+    match expected {
+        Some(expected) => write_further(alloc, page, &expected),
+        None => Ok(()),
+    }
+}
+
+// Writes how the log is gone on with, where the line can be read.
+fn write_remedy(
+    alloc: Global,
+    page: &mut Page,
+    remedy: Option<Remedy>,
+    utc: bool,
+) -> Result<(), AllocError>
+    ensures { OnOk result (AddsSome page.old page.new) }
+{
+    match remedy {
+        Some(remedy) => write_further(alloc, page, &GoingOn { remedy, utc }),
+        None => Ok(()),
+    }
+}
+
+fn write_rule(page: &mut Page, name: &str, sentence: &str)
+    ensures { Adds page.old page.new (rule_words name.now sentence.now) }
+{
     page.lay(BELOW);
     page.lay(b"FAIL ");
     page.lay(name.as_bytes());
@@ -202,11 +292,10 @@ fn write_rule(page: &mut Page, name: &str, sentence: &str) {
 }
 
 // Writes words below a line.
-fn write_below<D: fmt::Display>(
-    alloc: Global,
-    page: &mut Page,
-    words: &D,
-) -> Result<(), AllocError> {
+fn write_below<D: fmt::Display>(alloc: Global, page: &mut Page, words: &D) -> Result<(), AllocError>
+    ensures { OnOk result ((said : List ℕ) × IfSome (D.output words.now) (λ output. said ≡ output)
+        × Adds page.old page.new (below said)) }
+{
     page.lay(BELOW);
     write_words(alloc, page, words)
 }
@@ -216,7 +305,9 @@ fn write_further<D: fmt::Display>(
     alloc: Global,
     page: &mut Page,
     words: &D,
-) -> Result<(), AllocError> {
+) -> Result<(), AllocError>
+    ensures { OnOk result (AddsSome page.old page.new) }
+{
     page.lay(b"     ");
     write_below(alloc, page, words)
 }

@@ -1,14 +1,19 @@
-use Rattle.std.proofs.Common.{◌∙◌, refl, ap}
+use Rattle.std.proofs.Common.{◌≡◌, ◌+◌, ◌∙◌, refl, ap, rules}
+use Rattle.hsms_explain.specs.Alike.{counted}
 use Rattle.hsms_explain.specs.Failing.{failed_at}
 use Rattle.hsms_explain.specs.Noted.{either, first_why}
 use Rattle.hsms_explain.proofs.Following.{further_fails}
+use Rattle.hsms_explain.proofs.Going.{number_more}
 use Rattle.hsms_explain.proofs.line.further_line.Goals as goal
 
 pub returns : goal.returns
-returns c = λ before real some.
+returns c = λ before real some after.
     let old = c.args.report.now.tally in
-    further_fails old c.tell.new.self.tally c.args.so_far c.saturating_add-number.result before real old.first refl
-    (c.in_ok-tell.ensures.first
-    ∙ ap (λ t. either t.first (failed_at c.plain.result.number (first_why c.clear_notes.new.self.notes.items))) c.clear_notes.ensures.tally
-    ∙ ap (λ n. either old.first (failed_at c.plain.result.number (first_why n))) c.clear_notes.ensures.notes)
-    some
+    let number : c.saturating_add-number.result ≡ counted (c.args.so_far + 1) = search rules in (
+      further_fails old c.tell.new.self.tally c.args.so_far c.saturating_add-number.result before real old.first refl
+          (c.in_ok-tell.ensures.first
+          ∙ ap (λ t. either t.first (failed_at c.plain.result.number (first_why c.clear_notes.new.self.notes.items))) c.clear_notes.ensures.tally
+          ∙ ap (λ n. either old.first (failed_at c.plain.result.number (first_why n))) c.clear_notes.ensures.notes)
+          some after.0,
+      number_more c.args.so_far c.saturating_add-number.result before real number after.1,
+    )

@@ -1,21 +1,37 @@
-use Rattle.std.proofs.Common.{◌≡◌, ◌∙◌, Some, sym, ap, subst}
+use Rattle.std.proofs.Common.{◌≡◌, ◌∙◌, [], ◌∷◌, Some, refl, sym, ap, subst}
 use Rattle.hsms_log.specs.declared.verdict.Why.{Why}
 use Rattle.hsms_explain.specs.declared.course.Judged.{Judged}
-use Rattle.hsms_explain.specs.declared.note.Note.TheVariants.{Closes, Fails}
+use Rattle.hsms_explain.specs.declared.course.Judged.TheVariants.{Broken}
+use Rattle.hsms_explain.specs.declared.note.Note.TheVariants.{Fails}
 use Rattle.hsms_explain.specs.Noted.{either, first_why, why_of}
-use Rattle.hsms_explain.proofs.Following.{first_why-push}
+use Rattle.hsms_explain.specs.Row.{Notes}
+use Rattle.hsms_explain.proofs.Following.{either_none, first_why-push, on_ok_more}
+use Rattle.hsms_explain.proofs.Rows.{one_note}
 use Rattle.hsms_explain.proofs.mending.note.Goals as goal
 
-pub returns-in_ok-push-in-Lawful-Some : goal.returns-in_ok-push-in-Lawful-Some
-returns-in_ok-push-in-Lawful-Some c =
-    let P : Judged → Type 0 = λ j. first_why c.push.new.self.items ≡ either (first_why c.args.notes.now.items) (why_of j) in
-    subst P (sym c.in-Lawful-Some.is)
-    (ap first_why c.in_ok-push-in-Lawful-Some.ensures.items ∙ first_why-push c.args.notes.now.items (Closes c.closing.result))
-
-pub returns-in_ok-push-in-Broken : goal.returns-in_ok-push-in-Broken
-returns-in_ok-push-in-Broken c =
+pub returns-in-Lawful-clause-why : goal.returns-in-Lawful-clause-why
+returns-in-Lawful-clause-why c =
     let before = first_why c.args.notes.now.items in
-    let P : Judged → Type 0 = λ j. first_why c.push-in-Broken.new.self.items ≡ either before (why_of j) in
+    let P : Judged → Type 0 = λ j. first_why c.note_closing.new.notes.items ≡ either before (why_of j) in
+    on_ok_more _ _ c.note_closing.result (λ same. subst P (sym c.in-Lawful.is) (same ∙ sym (either_none before))) c.note_closing.ensures.why
+
+pub returns-in-Lawful-clause-says : goal.returns-in-Lawful-clause-says
+returns-in-Lawful-clause-says c =
+    let P : Judged → Type 0 = λ j. Notes c.args.notes.now.items (j ∷ []) c.note_closing.new.notes.items in
+    on_ok_more _ _ c.note_closing.result (λ says. subst P (sym c.in-Lawful.is) says) c.note_closing.ensures.says
+
+pub returns-in_ok-push-in-Broken-clause-why : goal.returns-in_ok-push-in-Broken-clause-why
+returns-in_ok-push-in-Broken-clause-why c =
+    let before = first_why c.args.notes.now.items in
+    let P : Judged → Type 0 = λ j. first_why c.push.new.self.items ≡ either before (why_of j) in
     subst P (sym c.in-Broken.is)
     (ap first_why c.in_ok-push-in-Broken.ensures.items ∙ first_why-push c.args.notes.now.items (Fails c.failing.result)
-    ∙ ap (λ (w : Why). either before (Some w)) c.failing.ensures)
+    ∙ ap (λ (w : Why). either before (Some w)) c.failing.ensures.why)
+
+pub returns-in_ok-push-in-Broken-clause-says : goal.returns-in_ok-push-in-Broken-clause-says
+returns-in_ok-push-in-Broken-clause-says c =
+    let P : Judged → Type 0 = λ j. Notes c.args.notes.now.items (j ∷ []) c.push.new.self.items in
+    let says = c.failing.ensures in
+    subst P (sym c.in-Broken.is)
+    (one_note c.args.notes.now.items c.push.new.self.items (Fails c.failing.result ∷ []) (Broken c.in-Broken.failure)
+    (c.failing.result, refl, says.why, says.concerns, says.remedy, says.sentence) c.in_ok-push-in-Broken.ensures.items)

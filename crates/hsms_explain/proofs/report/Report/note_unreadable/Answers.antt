@@ -9,4 +9,7 @@ pub returns-clause-notes : goal.returns-clause-notes
 returns-clause-notes c =
     let before = first_why c.args.self.now.notes.items in
     ap first_why c.in_ok-push.ensures.items ∙ first_why-push c.args.self.now.notes.items (Fails c.unreadable.result)
-    ∙ ap (λ (w : Why). either before (Some w)) c.unreadable.ensures
+    ∙ ap (λ (w : Why). either before (Some w)) c.unreadable.ensures.why
+
+pub returns-clause-adds : goal.returns-clause-adds
+returns-clause-adds c = (c.unreadable.result, c.unreadable.ensures.why, c.unreadable.ensures.sentence, c.in_ok-push.ensures.items)

@@ -1,0 +1,43 @@
+-- What is laid on a page.
+use Rattle.std.proofs.Common.{◌≡◌, ◌+◌, ◌++◌, ℕ, List, [], ◌∷◌, refl, sym, ap, ◌∙◌, subst, append_assoc, replicate}
+use Rattle.std.proofs.lemmas.List.{append-nil, replicate_more}
+use Rattle.secs_text.specs.Laid.{Lays}
+use Rattle.hsms_explain.specs.declared.note.Note.{Note}
+use Rattle.hsms_explain.specs.declared.page.Page.{Page}
+use Rattle.hsms_explain.specs.Page.{Adds, AddsSome, HasMemory, HasTold}
+use Rattle.hsms_explain.specs.Written.{NotesTold, NoteTold}
+
+pub adds_laid : (old new : Page) (words : List ℕ) → Lays (HasMemory old.told) old.block (HasMemory new.told) new.block words → Adds old new words
+adds_laid old new words lays = record {
+  grows = λ text told.
+      let (given, has, is) = told in
+      let (now, has_now, now_is) = lays given has in
+      (now, has_now, ap (λ t. t ++ words) is ∙ sym now_is);
+}
+
+pub adds_none : (page : Page) → Adds page page []
+adds_none page = record { grows = λ text has. let P : List ℕ → Type 0 = λ t. HasTold page t in subst P (sym (append-nil text)) has }
+
+pub adds_then : (old mid new : Page) (one other : List ℕ) → Adds old mid one → Adds mid new other → Adds old new (one ++ other)
+adds_then old mid new one other first second = record {
+  grows = λ text has.
+      let P : List ℕ → Type 0 = λ t. HasTold new t in
+      subst P (append_assoc text one other) (second.grows (text ++ one) (first.grows text has));
+}
+
+pub some_then : (old mid new : Page) → AddsSome old mid → AddsSome mid new → AddsSome old new
+some_then old mid new (one, first) (other, second) = (one ++ other, adds_then old mid new one other first second)
+
+pub adds_is : (old new : Page) (one other : List ℕ) → one ≡ other → Adds old new one → Adds old new other
+adds_is old new one other is adds = let P : List ℕ → Type 0 = λ w. Adds old new w in subst P is adds
+
+-- what the notes before said, and one more
+pub notes_told_more : (notes : List Note) (note : Note) (words more : List ℕ) → NotesTold notes words → NoteTold note more → NotesTold (notes ++ note ∷ []) (words ++ more)
+notes_told_more [] note words more none told =
+    let P : List ℕ → Type 0 = λ w. NotesTold (note ∷ []) (w ++ more) in
+    subst P (sym none) (more, [], told, refl, sym (append-nil more))
+notes_told_more (first ∷ others) note words more (one, rest, one_told, rest_told, is) told =
+    (one, rest ++ more, one_told, notes_told_more others note rest more rest_told told, ap (λ w. w ++ more) is ∙ append_assoc one rest more)
+
+pub blank_more : (n : ℕ) → ◌++◌ {A = ℕ} (replicate n 32) (32 ∷ []) ≡ replicate (n + 1) 32
+blank_more n = let blank : ℕ = 32 in replicate_more n blank

@@ -1,0 +1,30 @@
+use Rattle.std.proofs.Common.{◌≡◌, ◌++◌, [], List, take, refl, sym, subst, arith, append_assoc}
+use Rattle.std.proofs.lemmas.List.{append-nil, take_all, take_more}
+use Rattle.hsms_explain.specs.declared.note.Note.{Note}
+use Rattle.hsms_explain.specs.Written.{NotesTold}
+use Rattle.hsms_explain.proofs.Pages.{adds_is, adds_then, notes_told_more}
+use Rattle.hsms_explain.proofs.text.write_line.Goals as goal
+
+pub loop-note-init : goal.loop-note-init
+loop-note-init c =
+    let said = c.in_ok-write_said.ensures in
+    (said.0, [], said.1, refl, adds_is _ _ _ _ (sym (append-nil said.0)) said.2)
+
+pub loop-note-preserved : goal.loop-note-preserved
+loop-note-preserved c =
+    let inv = c.loop-note.invariant in
+    let note = c.in_ok-write_note.ensures in
+    let P : List Note → Type 0 = λ n. NotesTold n (inv.1 ++ note.0) in (
+      inv.0,
+      inv.1 ++ note.0,
+      inv.2,
+      subst P (sym (take_more c.args.notes.now c.loop-note.note-index _ c.loop-note-test.true)) (notes_told_more _ _ _ _ inv.3 note.1),
+      adds_is _ _ _ _ (append_assoc inv.0 inv.1 note.0) (adds_then _ _ _ _ _ inv.4 note.2),
+    )
+
+pub returns : goal.returns
+returns c =
+    let inv = c.loop-note.invariant in
+    let P : List Note → Type 0 = λ n. NotesTold n inv.1 in
+    let all : take c.loop-note.note-index c.args.notes.now ≡ c.args.notes.now = take_all c.loop-note.note-index c.args.notes.now (omega (arith, c.loop-note-test.false)) in
+    (inv.0 ++ inv.1, (inv.0, inv.1, inv.2, subst P all inv.3, refl), inv.4)
