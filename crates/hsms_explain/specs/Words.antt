@@ -4,14 +4,10 @@ use Rattle.hsms_log.specs.declared.verdict.Why.{Why}
 use Rattle.hsms_log.specs.declared.verdict.Why.TheVariants.{Unreadable, Broken}
 use Rattle.hsms_machine.specs.declared.entry.Cause.{Cause}
 use Rattle.hsms_machine.specs.declared.entry.Cause.TheVariants.{T6, T7, T8, Length}
-<<<<<<< HEAD
-use Rattle.hsms_lines.specs.Verdict.{rule_name}
-=======
 use Rattle.hsms_machine.specs.declared.rule.Rule.{Rule}
 use Rattle.hsms_machine.specs.declared.rule.Rule.TheVariants.{WBit}
 use Rattle.hsms_options.specs.Sentence.{sentence_of}
-use Rattle.hsms_tasks.specs.Verdict.{rule_name}
->>>>>>> 6fafc6cc41e703aec43ef649c27fbfdf87e3f6d4
+use Rattle.hsms_lines.specs.Verdict.{rule_name}
 use Rattle.hsms_explain.specs.declared.words.Tie.{Tie}
 use Rattle.hsms_explain.specs.declared.words.Tie.TheVariants.{Answers, Rejects, Expires}
 use Rattle.hsms_explain.specs.declared.words.Closing.{Closing}
