@@ -9,9 +9,9 @@ use crate::account::Told;
 use crate::pair::Pair;
 use crate::shortfall::Shortfall;
 use hsms_capture::Side;
+use hsms_lines::{rule_name, verdict_line};
 use hsms_log::{Verdict, Why};
 use hsms_machine::Role;
-use hsms_lines::{rule_name, verdict_line};
 use std::alloc::{AllocError, Global};
 use std::net::SocketAddr;
 

@@ -12,10 +12,10 @@ use crate::text::Text;
 use hsms_capture::{Happening, Side};
 use hsms_frame::{Frame, Sink};
 use hsms_joined::Session;
+use hsms_lines::put;
 use hsms_log::Verdict;
 use hsms_machine::{Role, Settings};
 use hsms_options::{Capturing, ToolFault};
-use hsms_lines::put;
 use std::alloc::Global;
 
 /// What is told: the verdicts on the logs of both ends, or the log of one end.
