@@ -105,6 +105,27 @@ def small_notation(size):
     return unit * (size // len(unit))
 
 
+# the most octets of an item, nearly
+LONG = 16_000_000
+
+
+def long_texts(size):
+    """How long the texts are of a message of so many octets, or nearly."""
+    return [min(LONG, size - 40 - place) for place in range(0, size - 40, LONG)]
+
+
+def long_message(size):
+    """A message of so many octets: a list of texts."""
+    texts = [b"\x43" + length.to_bytes(3, "big") + b"r" * length for length in long_texts(size)]
+    return frame("00008703000000000002", bytes([1, len(texts)]) + b"".join(texts))
+
+
+def long_notation(size):
+    """Such a message in notation."""
+    texts = [b'<A "' + b"r" * length + b'">' for length in long_texts(size)]
+    return b"S7F3 W <L " + b" ".join(texts) + b"> .\n"
+
+
 def log(size):
     lines = [
         "hsms-log 1 equipment passive 0 45000 6000 10000 5000 1048576 32",
@@ -202,15 +223,19 @@ def main():
         ("show", "lists of empty lists", empty_lists, size),
         ("show", "texts that are no item", no_items, size),
         ("show", "BOOLEANs", booleans, size),
+        ("show --max 33554432", "one message", long_message, 33 * MB),
         ("encode", "ordinary traffic", notation, min(size, 67 * MB)),
         ("encode", "small messages", small_notation, min(size, 67 * MB)),
         ("encode", "lists nested to 32", notation_of(NESTED), min(size, 67 * MB)),
         ("encode", "texts of 32 octets", notation_of(TEXTS), min(size, 67 * MB)),
         ("encode", "BOOLEANs", notation_of(BOOLEANS), min(size, 67 * MB)),
         ("encode --hex", "small messages", small_notation, min(size, 67 * MB)),
+        ("encode --hex --max 33554432", "one message", long_notation, 33 * MB),
         ("audit", "ordinary traffic", log, size),
         ("explain --only failures", "ordinary traffic", log, size),
         ("explain", "ordinary traffic", log, size),
+        ("explain --form json", "ordinary traffic", log, size),
+        ("explain --form html", "ordinary traffic", log, size),
         ("capture", "ordinary traffic, each message in a packet", captured, size),
         ("capture", "messages of 16 kB in segments of 1,460 octets", captured_long, size),
         ("capture --log host", "ordinary traffic, each message in a packet", captured, size),

@@ -22,7 +22,7 @@ comment. Any other one that isn't read is refused by its number: nothing is pass
 `hsms encode`, once SML's own forms are written as it takes them: TRUE and FALSE, values of F4 and F8 in decimals,
 numbers of I and U in hexadecimal, those of B in decimals, texts in single quotes, `/* */` and `//`.
 
-The status is 0; 2 where a line is refused or none is read, and then nothing is written.
+The status is 0; 2 where a line is refused, none is read or `hsms` can't be run, and then nothing is written.
 """
 import argparse
 import re
@@ -146,10 +146,13 @@ def control(parts, number):
 def encoded(messages, words):
     """The octets of messages in digits, by `hsms encode`. Each is a line's number and its notation."""
     lines = [notation for _, notation in messages]
-    ran = subprocess.run(
-        [words.hsms, "encode", "--hex", "--max", str(words.max), "--device", str(words.device)],
-        input="\n".join(lines), capture_output=True, text=True, check=False,
-    )
+    try:
+        ran = subprocess.run(
+            [words.hsms, "encode", "--hex", "--max", str(words.max), "--device", str(words.device)],
+            input="\n".join(lines), capture_output=True, text=True, check=False,
+        )
+    except OSError as why:
+        raise Refused(0, f"{words.hsms} can't be run, which --hsms names: {why.strerror}") from None
     if ran.returncode != 0:
         fault = ran.stderr.strip().split("hsms: ")[-1]
         raise Refused(refused_line(messages, fault), f"hsms encode says {fault}")

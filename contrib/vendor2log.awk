@@ -10,11 +10,12 @@
 #     2024-03-01 10:00:50.000 DISCONNECT
 #
 # Octets may go on in lines that begin with a space: as they are, or behind an offset and before a column of what they
-# are as text, as hex dumps have them. Each other line becomes a comment.
+# are as text, as hex dumps have them. Each other line becomes a comment, but for one that shows a message which isn't
+# read: ten octets or more, or the digits of fourteen in one word, the first of them 00.
 #
-# Where no line is any of these, or a message hasn't as many octets as its length says, a word goes to standard error,
-# the status is 2, and nothing more is written. Nothing at all is written before the first line that is read, so that no
-# log is made in which there is nothing to judge.
+# Where no line is any of these, where there is such a message, or one hasn't as many octets as its length says, a word
+# goes to standard error, the status is 2, and nothing more is written. Nothing at all is written before the first line
+# that is read, so that no log is made in which there is nothing to judge.
 
 BEGIN {
   FOUR = "[0-9A-Fa-f][0-9A-Fa-f][0-9A-Fa-f][0-9A-Fa-f]"
@@ -22,6 +23,11 @@ BEGIN {
   if (link == "") link = "active"
   if (t3 == "") t3 = 45000
   OFFSET = "^" FOUR "(" FOUR ")?:?$"
+  PAIR = "[0-9A-Fa-f][0-9A-Fa-f]"
+  TEN = "(^|[^0-9A-Fa-f])" PAIR
+  for (i = 1; i < 10; i++) TEN = TEN "[ \t]+" PAIR
+  WORD = "(^|[ \t])00"
+  for (i = 1; i < 14; i++) WORD = WORD PAIR
   # (version 2: the log may go over several connections)
   first = "hsms-log 2 " role " " link " " (device + 0) " " t3 " 6000 10000 5000 1048576 32"
 }
@@ -99,6 +105,7 @@ $3 == "DISCONNECT" { put(moment($1, $2) " down"); next }
 $3 == "SEND" { begin_message(">"); next }
 $3 == "RECV" { begin_message("<"); next }
 $3 == "T3" { put(moment($1, $2) " t3 " tolower($NF)); next }
+$0 ~ TEN || $0 ~ WORD { refuse("line " NR ": octets that no SEND or RECV stands before") }
 first == "" { print "# " $0 }
 
 END {

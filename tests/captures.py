@@ -1,33 +1,27 @@
 #!/usr/bin/env python3
-"""Has contrib/wire2log.py read captures that are written here, and compares its logs with the sessions they are of.
+"""Has `hsms capture` read captures that are written here, and compares its logs with the sessions they are of.
 
 Random sessions go over the wire in pieces that are cut anywhere, come again, overlap or change places, in files of each
 form that is read. Each log has to hold the frames in the order and at the milliseconds of their last octets, and has to
 pass `hsms audit`. Then sessions of which packets weren't captured, or are captured in another order: each log has to
 hold the frames up to a loss, pass, and say that something is missing exactly where it is. Then come captures of what
-goes wrong, each with its log, verdict or refusal, and the smallest capture of each rule of the wire, in captures/.
+goes wrong, each with its log, verdict or refusal.
 
 `captures.py` runs what `rt ci` has built. Its last line is `N passed, M failed`. `captures.py --example FILE` writes
 the capture that the documents show.
 """
-import os
 import random
-import re
-import subprocess
 import sys
-import tempfile
 
 # The modules below leave no compiled files in the repository.
 sys.dont_write_bytecode = True
 
+from command import answer_of
 from made_captures import (
     ACK, ACTIVE, BEGIN, FIN, FORMS, LINKS, PASSIVE, PUSH, RST, SELECT, Capture, Talk, message, pieces,
 )
 
-TOP = os.path.dirname(os.path.dirname(os.path.abspath(__file__)))
-PROGRAM = f"{TOP}/crates/hsms_tool/out/hsms_tool"
-SCRIPT = f"{TOP}/contrib/wire2log.py"
-SETTINGS = "hsms-log 1 {} {} 0 45000 6000 10000 5000 1048576 32"
+SETTINGS = "hsms-log 2 {} 0 45000 6000 10000 5000 1048576 32"
 RANDOM = 60
 LOSSY = 150
 
@@ -47,7 +41,7 @@ def random_case(seed):
     capture = Capture(rng.choice(FORMS), rng.choice(list(LINKS)), rng.random() < 0.3)
     firsts = [rng.choice([0, 1000, 2**32 - 300, rng.getrandbits(32)]) for _ in range(2)]
     talk = Talk(capture, firsts, BEGIN + rng.randrange(10**6))
-    frames, lines = random_frames(rng), ["0 up"]
+    frames, lines = random_frames(rng), [f"{at(talk)} up"]
     while frames:
         way, count = frames[0][0], 1
         while count < min(3, len(frames)) and frames[count][0] == way:
@@ -63,12 +57,17 @@ def random_case(seed):
             talk.segment(way, place, PUSH | ACK, data)
             have[place:place + len(data)] = [True] * len(data)
             while done < len(group) and all(have[:ends[done]]):
-                lines.append(f"{talk.milliseconds()} {'><'[way]} {group[done]}")
+                lines.append(f"{at(talk)} {'><'[way]} {group[done]}")
                 done += 1
         talk.next[way] += len(stream)
     talk.when += 2000
     talk.segment(rng.randrange(2), 0, RST | ACK)
-    return capture, [*lines, f"{talk.milliseconds()} down"]
+    return capture, [*lines, f"{at(talk)} down"]
+
+
+def at(talk):
+    """The time of a talk, in milliseconds since the beginning of captures."""
+    return talk.when // 1000 - BEGIN // 1000
 
 
 def lossy_case(seed):
@@ -99,12 +98,11 @@ def lossy_case(seed):
 
 
 def is_seen(captured, segments, lost):
-    """Whether the capture shows that octets are missing: acknowledged, or in front of others."""
+    """Whether the capture shows that octets are missing: acknowledged, or in front of other packets."""
     for place in lost:
         way, begin, _, data, _ = segments[place]
-        for other, start, flags, octets, acknowledged in captured:
-            is_behind = other == way and start > begin and (octets or flags & FIN)
-            if data and (other != way and acknowledged > begin or is_behind):
+        for other, start, _, _, acknowledged in captured:
+            if data and (acknowledged > begin if other != way else start > begin):
                 return True
     return False
 
@@ -262,7 +260,7 @@ def damaged():
 
 
 def other_packets():
-    """Packets that carry no TCP, or whose headers or form aren't read, within a session."""
+    """Packets that carry no TCP, or whose headers or form aren't read, within a session; a RST far from it."""
     capture = Capture()
     talk = Talk(capture)
     talk.say(1, *SELECT[0])
@@ -287,108 +285,71 @@ def other_octets():
     return capture
 
 
-HOST, EQUIPMENT = ["host", "active"], ["equipment", "passive"]
+HOST, EQUIPMENT = ["--log", "host"], ["--log", "equipment"]
+ENDS = {"host": "host active", "equipment": "equipment passive"}
 SELECTED = ["1 > ffff0000000100000001", "2 < ffff0000000200000001"]
+AGAIN = ["1000 up", "1001 > ffff0000000100000001", "1002 < ffff0000000200000001"]
 
-# A capture, the words behind it on the command line, then the lines of the log, without comments where these have none;
-# the verdict; the status; what standard error has. Where one of them is None it isn't compared.
+# A capture, the options of `hsms capture`, then the lines of the log without comments; the verdict; the status; what
+# standard error has. Where one of them is None it isn't compared.
 CASES = [
     (late_reply, [*HOST, "--t3", "1000"], None, "fail line=15 rule=T3Overdue", 0, ""),
     (late_reply, [*EQUIPMENT, "--t3", "1000"], None,
      "pass entries=12 sent=4 taken=6 discarded=0 expired=0 waiting=0", 0, ""),
-    (late_reply, [*HOST, "--t3", "1000", "--assume"], None,
-     "pass entries=14 sent=6 taken=3 discarded=1 expired=2 waiting=0", 0, ""),
     (late_reply, [*HOST, "--t3", "1250"], None,
      "pass entries=12 sent=6 taken=4 discarded=0 expired=0 waiting=1", 0, ""),
-    (joined, HOST, [], "", 2, "wire2log: the capture lacks the beginning of connection 0: see --joined\n"),
-    (joined, [*HOST, "--joined", "5000"],
+    (joined, HOST, [], "", 2, "hsms: NoConnection\n"),
+    (joined, [*HOST, "--joined"],
      ["0 up", "0 > ffff00000001ffffffff", "0 < ffff00000002ffffffff", "20 > 00008101000000000008",
       "30 < 00000102000000000008", "40 down"],
      "pass entries=6 sent=2 taken=2 discarded=0 expired=0 waiting=0", 0, ""),
-    (joined, [*HOST, "--joined", "5001"], [], "", 2, None),
-    (two_connections, [*HOST, "--connection", "0", "--joined", "5000"], [], "", 2, None),
+    (joined, [*HOST, "--joined", "--port", "5001"], [], "", 2, "hsms: NoConnection\n"),
     (gap, HOST, ["0 up", *SELECTED, "3 < 0000060b000000000001"],
-     "pass entries=4 sent=1 taken=2 discarded=0 expired=0 waiting=0", 1, None),
-    (cut_short, HOST, ["0 up", *SELECTED], "pass entries=3 sent=1 taken=1 discarded=0 expired=0 waiting=0", 1, None),
-    (wrong_length, HOST, ["0 up", *SELECTED], "pass entries=3 sent=1 taken=1 discarded=0 expired=0 waiting=0", 1, None),
-    (after_separate, HOST, None, "pass entries=5 sent=2 taken=1 discarded=0 expired=0 waiting=0", 0, ""),
+     "pass entries=4 sent=1 taken=2 discarded=0 expired=0 waiting=0", 2, "hsms: Lost packet=7\n"),
+    (cut_short, HOST, ["0 up", *SELECTED],
+     "pass entries=3 sent=1 taken=1 discarded=0 expired=0 waiting=0", 2, "hsms: Lost packet=7\n"),
+    (wrong_length, HOST, ["0 up", *SELECTED],
+     "pass entries=3 sent=1 taken=1 discarded=0 expired=0 waiting=0", 2, "hsms: Length packet=6\n"),
+    (after_separate, HOST, ["0 up", *SELECTED, "3 > ffff0000000900000002", "5 down"],
+     "pass entries=5 sent=2 taken=1 discarded=0 expired=0 waiting=0", 0, ""),
     (after_separate, EQUIPMENT, None, "pass entries=5 sent=1 taken=2 discarded=0 expired=0 waiting=0", 0, ""),
-    (after_separate, [*HOST, "--assume"], None,
-     "pass entries=6 sent=2 taken=1 discarded=1 expired=0 waiting=0", 0, ""),
     (never_selected, EQUIPMENT, ["0 up", "10020 down"], "fail line=5 rule=LinkOverdue", 0, ""),
-    (never_selected, [*EQUIPMENT, "--assume"], ["0 up", "10020 cut t7", "10020 down"],
-     "pass entries=3 sent=0 taken=0 discarded=0 expired=0 waiting=0", 0, ""),
-    (slow_message, HOST,
-     ["# packet 3: ACK of the SYN and ACK", "0 up", "# packet 4: select.req 00000001", "1 > ffff0000000100000001",
-      "# packet 6: 6000 ms between octets of a message, past T8",
-      "# packet 6: select.rsp 00000001", "6002 < ffff0000000200000001"], None, 0, ""),
-    (slow_message, [*HOST, "--t8", "6000"],
-     ["0 up", "1 > ffff0000000100000001", "6002 < ffff0000000200000001"], None, 0, ""),
-    (clock_set_back, HOST, ["0 up", "5 > ffff0000000100000001", "5 < ffff0000000200000001"], None, 0,
-     "wire2log: 1 packets are earlier than those before them, whose time they got\n"),
-    (data_after_fin, HOST, ["0 up", *SELECTED, "3 down"], None, 0,
-     "wire2log: 1 packets with octets after the first FIN or RST are left out\n"),
-    (late_reply, [*HOST, "--t3", "0"], [], None, 2, None),
-    (late_reply, ["host"], [], None, 2, None),
+    (slow_message, HOST, ["0 up", SELECTED[0], "6002 < ffff0000000200000001"], None, 0, ""),
+    (clock_set_back, HOST, ["0 up", "5 > ffff0000000100000001", "5 < ffff0000000200000001"], None, 0, ""),
+    (data_after_fin, HOST, ["0 up", *SELECTED, "3 down"], None, 0, ""),
     (ends_out_of_order, HOST, ["0 up", *SELECTED, "4 < ffff0000000900000003", "4 down"],
      "pass entries=5 sent=1 taken=2 discarded=0 expired=0 waiting=0", 0, ""),
-    (two_connections, HOST, [], "", 2, None),
-    (two_connections, [*HOST, "--connection", "1"], ["0 up", *SELECTED, "4 down"], None, 0, ""),
-    (two_connections, [*HOST, "--connection", "2"], [], "", 2, None),
-    (half_a_packet, [*HOST, "--connection", "1"], ["0 up", *SELECTED], None, 0,
-     "wire2log: the capture file ends within a packet, which is left out\n"),
-    (other_packets, HOST, ["0 up", *SELECTED, "2 down"], None, 0,
-     "wire2log: packet 7 with a fragment of IP is left out\n"
-     "wire2log: packet 8 cut off within its headers is left out, and 1 more\n"),
-    (damaged, HOST, [], "", 2, "wire2log: the capture file is damaged behind packet 1\n"),
-    (no_connection, HOST, [], "", 2, "wire2log: the capture has no TCP connection\n"),
-    (no_connection, [], [], "", 0, "wire2log: the capture has no TCP connection\n"),
-    (other_octets, HOST, [], "", 2,
-     "wire2log: the file begins with 68736d73, so it is neither pcap nor pcapng\n"),
+    (two_connections, HOST, ["0 up", *SELECTED, "3 down", *AGAIN, "1004 down"],
+     "pass entries=8 sent=2 taken=2 discarded=0 expired=0 waiting=0", 0, ""),
+    (half_a_packet, HOST, ["0 up", *SELECTED, "3 down", *AGAIN],
+     "pass entries=7 sent=2 taken=2 discarded=0 expired=0 waiting=0", 2, "hsms: CutOff\n"),
+    (other_packets, HOST, ["0 up", *SELECTED], "pass entries=3 sent=1 taken=1 discarded=0 expired=0 waiting=0", 0, ""),
+    (damaged, HOST, [], "", 2, "hsms: Capture Interface octet=176\n"),
+    (no_connection, HOST, [], "", 2, "hsms: NoConnection\n"),
+    (other_octets, HOST, [], "", 2, "hsms: Capture Unknown octet=0\n"),
 ]
 
 
-# The smallest capture of each rule of the wire, by its file: the verdicts on the active host and the passive equipment,
-# without their summary's tail; the status; the packet at which something is missing.
-SMALLEST = {
-    "refused": (None, 2, None),
-    "up-late": ("entries=3 sent=1 taken=1", 0, None),
-    "syn-ack-again": ("entries=3 sent=1 taken=1", 0, None),
-    "half-open": (None, 2, None),
-    "rst-behind-gap": ("entries=4 sent=2 taken=1", 1, 9),
-    "rst-without-ack": ("entries=5 sent=1 taken=2", 0, None),
-    "separate-crossed": ("entries=4 sent=2 taken=1", 0, None),
-    "separate-again": ("entries=4 sent=2 taken=1", 0, None),
-    "keep-alive-fills": ("entries=4 sent=2 taken=1", 1, 9),
-    "span-and-loss": ("entries=3 sent=1 taken=1", 1, 8),
-    "own-order": ("entries=5 sent=2 taken=2", 0, None),
-    "stale-ack": ("entries=3 sent=1 taken=1", 0, None),
-    "gap-at-end": ("entries=3 sent=1 taken=1", 1, 7),
-    "joined-status-1": ("entries=7 sent=3 taken=3", 0, None),
-    "joined-linktest": ("entries=5 sent=2 taken=2", 0, None),
-    "joined-one-way": ("entries=4 sent=2 taken=1", 1, 2),
-    "joined-two-pieces": ("entries=6 sent=3 taken=2", 0, None),
-    "joined-false-front": ("entries=5 sent=1 taken=3", 0, None),
-    "clock": ("entries=5 sent=2 taken=2", 0, None),
-}
+class Read:
+    """What `hsms capture` writes of a capture with these options, and ends with."""
 
+    def __init__(self, capture, words):
+        answer = answer_of(["capture", *words], bytes(capture.octets))
+        self.log, self.error, self.status = answer.output, answer.error.decode(), answer.status
 
-def made(path, capture, words):
-    with open(path, "wb") as file:
-        file.write(capture.octets)
-    return asked(path, words)
+    @property
+    def settings(self):
+        return self.log.decode().splitlines()[:1]
 
+    @property
+    def lines(self):
+        """The entries, at times since the beginning of captures."""
+        lines = [line for line in self.log.decode().splitlines()[1:] if not line.startswith("#")]
+        return [f"{int(time) - BEGIN // 1000} {words}" for time, words in (line.split(" ", 1) for line in lines)]
 
-def asked(path, words):
-    return subprocess.run([sys.executable, SCRIPT, path, *words], capture_output=True, text=True, timeout=60)
-
-
-def verdict(log):
-    return subprocess.run([PROGRAM, "audit"], input=log, capture_output=True, text=True).stdout.rstrip("\n")
-
-
-def entries(log, with_comments=False):
-    return [line for line in log.splitlines()[1:] if with_comments or not line.startswith("#")]
+    @property
+    def verdict(self):
+        return answer_of(["audit"], self.log).output.decode().rstrip("\n") if self.log else ""
 
 
 def flipped(lines):
@@ -396,61 +357,31 @@ def flipped(lines):
     return [line.translate(str.maketrans("<>", "><")) for line in lines]
 
 
-def random_answers(path):
+def random_answers():
     for seed in range(RANDOM):
         capture, lines = random_case(seed)
         for words, wanted in ((HOST, lines), (EQUIPMENT, flipped(lines))):
-            ended = made(path, capture, words)
-            first = ended.stdout.splitlines()[:1]
-            told = [first, entries(ended.stdout), verdict(ended.stdout)[:4], ended.returncode, ended.stderr]
-            yield f"random session {seed} {words}", told, [[SETTINGS.format(*words)], wanted, "pass", 0, ""]
+            read = Read(capture, words)
+            told = [read.settings, read.lines, read.verdict[:4], read.status, read.error]
+            yield f"random session {seed} {words}", told, [[SETTINGS.format(ENDS[words[1]])], wanted, "pass", 0, ""]
 
 
-def lossy_answers(path):
+def lossy_answers():
     for seed in range(LOSSY):
         capture, frames, is_told = lossy_case(seed)
         for words in (HOST, EQUIPMENT):
-            ended = made(path, capture, words)
-            lines = [line.split(" ", 1)[1] for line in entries(ended.stdout)]
-            found = [line for line in lines if line not in ("up", "down")]
+            read = Read(capture, words)
+            said = [line.split(" ", 1)[1] for line in read.lines]
+            found = [line for line in said if line not in ("up", "down")]
             wanted = (frames if words is HOST else flipped(frames))[:len(found)]
-            told = [found, verdict(ended.stdout)[:4], ended.returncode]
-            yield f"lossy session {seed} {words}", told, [wanted, "pass", int(is_told)]
+            told = [found, read.verdict[:4], read.status]
+            yield f"lossy session {seed} {words}", told, [wanted, "pass", 2 if is_told else 0]
 
 
-def smallest_answers(_):
-    for name, (counts, status, missing) in SMALLEST.items():
-        joined = ["--joined", "5000"] if name.startswith("joined") else []
-        for words in (HOST, EQUIPMENT):
-            ended = asked(f"{TOP}/tests/captures/{name}.pcap", [*words, *joined])
-            place = re.search(r"packet (\d+): ", ended.stderr if missing else "")
-            told = [verdict(ended.stdout).split(" discarded")[0] if ended.stdout else None, ended.returncode,
-                    int(place.group(1)) if place else None]
-            swapped = counts and re.sub(r"sent=(\d) taken=(\d)", r"sent=\2 taken=\1", counts)
-            wanted = counts if words is HOST else swapped
-            yield f"{name} {words}", told, [wanted and "pass " + wanted, status, missing]
-
-
-def refused_answers(path):
-    """A capture through a pipe isn't read."""
-    with open(path, "wb") as file:
-        file.write(late_reply().octets)
-    command = f"cat {path} | {sys.executable} {SCRIPT} /dev/stdin host active"
-    ended = subprocess.run(command, shell=True, capture_output=True, text=True, timeout=60)
-    wanted = "wire2log: /dev/stdin is no file: the capture is read twice, so it can't come through a pipe\n"
-    yield "a pipe", [ended.stdout, ended.stderr, ended.returncode], ["", wanted, 2]
-
-
-def worked_answers(path):
-    for capture, words, lines, judged, status, errors in CASES:
-        ended = made(path, capture(), words)
-        found = [
-            entries(ended.stdout, any(line.startswith("#") for line in lines or [])),
-            verdict(ended.stdout) if ended.stdout else "",
-            ended.stderr,
-            ended.returncode,
-        ]
-        wanted = [lines, judged, errors, status]
+def worked_answers():
+    for capture, words, *wanted in CASES:
+        read = Read(capture(), words)
+        found = [read.lines, read.verdict, read.status, read.error]
         told = [None if wish is None else answer for wish, answer in zip(wanted, found)]
         yield f"{capture.__name__} {words}", told, wanted
 
@@ -461,12 +392,11 @@ def main():
             file.write(late_reply().octets)
         return 0
     passed = failed = 0
-    with tempfile.TemporaryDirectory(prefix="hsms-captures-") as room:
-        for answers in (random_answers, lossy_answers, worked_answers, smallest_answers, refused_answers):
-            for name, told, wanted in answers(f"{room}/capture"):
-                passed, failed = passed + (told == wanted), failed + (told != wanted)
-                if told != wanted:
-                    print(f"{name}\nwanted {wanted}\ntold {told}")
+    for answers in (random_answers, lossy_answers, worked_answers):
+        for name, told, wanted in answers():
+            passed, failed = passed + (told == wanted), failed + (told != wanted)
+            if told != wanted:
+                print(f"{name}\nwanted {wanted}\ntold {told}")
     print(f"{passed} passed, {failed} failed")
     return 1 if failed else 0
 

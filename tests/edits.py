@@ -13,7 +13,8 @@ Further lines of a text stand each behind `and: `.
 Where a file has several bodies, each stands behind a line `-- BODY`. A file of one body says in its first line what
 this does. Were it refused only because a proof no longer fits the changed text, that would say nothing of a contract.
 So it has a twin, tests/twins/NAME.edit: an edit of the same place and the same shape, which means what the code means
-as it stands, and has to be proved. Its first line is `-- crate: CRATE`.
+as it stands, and has to be proved. Its first line is `-- crate: CRATE`. Twins are tried by hand, where what they stand
+for has changed; the gate sees that each wrong body has one, and that it can be applied.
 
 An edit of what is no function, as of a constant or a definition, names by lines `only: PATH` the functions that it is
 tried on, as `rt check --only` takes them. It is tried by itself, as it may turn others too.
@@ -23,12 +24,12 @@ its contract alone. A body is refused where the check names a goal of the functi
 function's own proof that no longer fits, and not where only a function that it calls isn't proved. What such a check
 doesn't name is tried again among others, and at last alone. The last line is `N passed, M failed`.
 
-Use: tests/edits.py [CRATE..] tries all edits and twins of these crates, or of each that has a folder in
-tests/must-fail/. What they stand on is built first, by ./build, where neither that nor `rt ci` has built it.
+Use: tests/edits.py [CRATE..] tries all edits of these crates, or of each that has a folder in tests/must-fail/. What
+they stand on is built first, by ./build, where neither that nor `rt ci` has built it.
 tests/edits.py --beside FOLDER does so while `rt ci` runs: the edits of a crate once it is proved, by a log `proofs` in
 the folder, to which a file `ended` comes with the status of `rt ci`. All checks give way to its proofs.
-tests/edits.py --one CRATE NAME [BODY] tries one edit and writes what the check says, and tests/edits.py --twins NAME..
-tries some twins.
+tests/edits.py --one CRATE NAME [BODY] tries one edit and writes what the check says, and tests/edits.py --twins [NAME..]
+tries all twins, or some.
 """
 import argparse
 import os
@@ -480,7 +481,10 @@ def first_error(output):
 
 
 def tried(crate, bodies, twins, is_proved, lanes):
-    """Tries the edits of a crate, which is proved already or not, and tells what came of them."""
+    """Tries the wrong bodies of a crate, which is proved already or not, or else its twins, and tells what came of them.
+
+    Beside wrong bodies twins are only seen to be edits that can be applied.
+    """
     began = time.monotonic()
     with tempfile.TemporaryDirectory(prefix="edits-") as home:
         trial = Trial(crate, home, lanes)
@@ -488,8 +492,10 @@ def tried(crate, bodies, twins, is_proved, lanes):
             output = ""
             if not is_proved:
                 is_proved, output = trial.check()
-            if is_proved:
+            if is_proved and bodies:
                 trial.refuse(bodies)
+                trial.applicable(twins)
+            elif is_proved:
                 trial.prove(twins)
             else:
                 trial.failed = [f"{crate}: it isn't proved without an edit: {first_error(output)}"]
@@ -497,8 +503,8 @@ def tried(crate, bodies, twins, is_proved, lanes):
             trial.failed.append(f"{crate}: {error}")
     for it in trial.failed:
         print(it)
-    told = f"{len(bodies)} wrong bodies, {len(twins)} twins in {trial.checks} checks"
-    print(f"{crate}: {told}, {time.monotonic() - began:.0f} s", flush=True)
+    told = f"{len(bodies)} wrong bodies" if bodies else f"{len(twins)} twins"
+    print(f"{crate}: {told} in {trial.checks} checks, {time.monotonic() - began:.0f} s", flush=True)
     return trial.passed, len(trial.failed)
 
 
@@ -587,7 +593,7 @@ def main():
     parser = argparse.ArgumentParser(description=__doc__, formatter_class=argparse.RawDescriptionHelpFormatter)
     parser.add_argument("names", nargs="*", metavar="CRATE")
     parser.add_argument("--one", action="store_true", help="tries one edit: CRATE NAME [BODY]")
-    parser.add_argument("--twins", action="store_true", help="tries twins by their names")
+    parser.add_argument("--twins", action="store_true", help="tries all twins, or those of these names")
     parser.add_argument("--beside", default="", metavar="FOLDER", help="tries them while `rt ci` runs, which tells there what is proved")
     asked = parser.parse_args()
     if asked.one:
@@ -596,7 +602,7 @@ def main():
     every = [it for it in crates_listed() if bodies_of(it)]
     wrong = without_a_fellow(every, twins)
     if asked.twins:
-        twins = [it for it in twins if it.name in asked.names]
+        twins = [it for it in twins if not asked.names or it.name in asked.names]
         crates, wrong, bodies = sorted({it.crate for it in twins}), {}, {}
     else:
         crates = [it for it in every if it in (asked.names or os.listdir(EDITS))]

@@ -145,6 +145,39 @@ def wrong_with_replaced(program: Optional[str]) -> Optional[str]:
     return None if found == Answer(0, "".join(lines).encode(), b"") else str(found)
 
 
+def left_out(is_told: bool) -> bytes:
+    """A session of which a reply and a Linktest.rsp were captured, maybe a request that isn't left out, and then the next
+    connection of the same ends."""
+    talk = Talk(Capture(), shakes_hands=False)
+    talk.say(1, PASSIVE, "00000102000000000001")
+    talk.say(2, PASSIVE, "ffff0000000600000002")
+    if is_told:
+        talk.say(3, ACTIVE, "ffff0000000500000003")
+    later = Talk(talk.capture, firsts=(70000, 80000), when=talk.when + 1_000_000)
+    later.say(1, *SELECT[0])
+    later.say(2, *SELECT[1])
+    return talk.capture.octets
+
+
+def wrong_with_left_out(program: Optional[str]) -> Optional[str]:
+    """A session whose messages are all left out isn't one, and of another one they stand behind what is supposed."""
+    for is_told in (False, True) if program else ():
+        counts = ["entries=5 sent=2 taken=1", "entries=5 sent=1 taken=2"] if is_told else []
+        counts += ["entries=3 sent=1 taken=1"] * 2
+        ends = ["host active", "equipment passive"] * 2
+        lines = [f"{NAMES} {end}: pass {count} discarded=0 expired=0 waiting=0\n" for end, count in zip(ends, counts)]
+        octets = left_out(is_told)
+        found = answer_of(["capture", "--joined"], octets, program)
+        if found != Answer(0, "".join(lines).encode(), b""):
+            return str(found)
+        log = answer_of(["capture", "--joined", "--log", "host"], octets, program).output.decode()
+        if log.count(" up\n") != (2 if is_told else 1) or log.count("left out") != (2 if is_told else 0):
+            return log
+        if is_told and not log.index("ffffffff\n") < log.index("# packet 1 left out") < log.index("# packet 3\n"):
+            return log
+    return None
+
+
 # Random sessions.
 
 
@@ -204,6 +237,7 @@ def main():
     seeds = [f"{given.seed} {number}" for number in range(given.sessions)]
     wrong = [(f"joined-{name}", wrong_with_smallest(name, program)) for name in SMALLEST]
     wrong += [("replaced", wrong_with_replaced(program))]
+    wrong += [("left out", wrong_with_left_out(program))]
     wrong += [(seed, wrong_with(seed, program)) for seed in seeds]
     told = [f"{name}: {why}" for name, why in wrong if why]
     print("\n".join(told + [f"{len(wrong) - len(told)} passed, {len(told)} failed"]))

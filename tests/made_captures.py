@@ -135,9 +135,6 @@ class Talk:
     def at(self, milliseconds):
         self.when = self.zero + milliseconds * 1000
 
-    def milliseconds(self):
-        return (self.when - self.zero) // 1000
-
     def say(self, milliseconds, way, *frames, **more):
         """Frames in one segment."""
         self.at(milliseconds)

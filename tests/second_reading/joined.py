@@ -1,11 +1,13 @@
 """A session that was running before the capture: where each direction begins, what is supposed to stand before what was
 captured, and which responses are left out.
 
-It is read off all packets of the connection, of which none is a SYN. Its first packets are kept, and looked at whenever
-they are as many as a power of two, until three messages stand at the beginning of each direction. Then its packets are
-those of a connection whose SYNs stand before the first octets, and are read as such.
+It is read off all packets of the connection, of which none is a SYN, from the first one on that doesn't reset it. Its
+first packets are kept, and looked at whenever they are as many as a power of two, until three messages stand at the
+beginning of each direction. Then its packets are those of a connection whose SYNs stand before the first octets, and are
+read as such.
 """
 from dataclasses import dataclass, field, replace
+from itertools import dropwhile
 from typing import Dict, List, Optional, Tuple
 
 from second_reading.capturing import Options
@@ -172,6 +174,7 @@ def both_have_begun(seen: List[Seen], begins: List[int]) -> Optional[int]:
 
 def told_of(seen: List[Seen], options: Options) -> Told:
     """What is told of a connection that was up before the capture, where these are all of its segments."""
+    seen = list(dropwhile(lambda one: one.is_reset, seen))
     begins = beginnings(seen, options)
     start = both_have_begun(seen, begins)
     if start is None:
@@ -239,7 +242,8 @@ def control(stype: int, system: str) -> bytes:
 
 
 def supposed(lines: List[Line], begun: int, options: Options) -> List[Line]:
-    """The lines of a log: what is supposed, and what was captured, but for responses to what stood before."""
+    """The lines of a log: what is supposed, and what was captured, but for responses to what stood before. None where no
+    message is told."""
     if not any(line.what == "message" for line in lines):
         return []
     what, system, end = first_decision(lines)
@@ -260,7 +264,7 @@ def supposed(lines: List[Line], begun: int, options: Options) -> List[Line]:
         if line.what == "down":  # one whose time isn't known has that of the line before
             line = replace(line, time=max(line.time, *(one.time for one in found if one.what != "left out")))
         found.append(line)
-    return found
+    return found if any(line.what == "message" and line.packet for line in found) else []
 
 
 def log_of(told: Told, end: int, options: Options) -> bytes:

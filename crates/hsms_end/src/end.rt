@@ -15,12 +15,25 @@ use std::marker::Model;
 ///
 /// Each call is accepted, or refused by the first fault of [`EndFault`] that it meets, which changes nothing; or memory
 /// was refused, and from then on each call but the readers answers `Spent`.
-#[derive(Drop)]
 pub struct End<D> {
     alloc: Global,
     desk: D,
     state: State,
     spent: bool,
+}
+
+// Written out: a proof over one that is dropped has one step for it, not one for each of its parts.
+impl<D: Drop> Drop for End<D> {
+    fn drop(self) {
+        let End {
+            alloc: _,
+            desk,
+            state,
+            spent: _,
+        } = self;
+        drop(desk);
+        drop(state);
+    }
 }
 
 impl<D> Model for End<D> {

@@ -1,6 +1,7 @@
 mod Courses
 mod Following
 mod Going
+mod Grouping
 mod Halvings
 mod Hearing
 mod Outcomes

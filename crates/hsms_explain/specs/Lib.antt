@@ -4,6 +4,7 @@ pub mod Course
 pub mod Ending
 pub mod Failing
 pub mod Gone
+pub mod Grouped
 pub mod Heard
 pub mod Noted
 pub mod Page

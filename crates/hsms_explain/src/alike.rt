@@ -17,7 +17,7 @@ const WHOLE: u64 = 3;
 pub const MOST: usize = 256;
 
 /// Failures that are alike: why they fail, how many came so far, and the lines of the first and of the last.
-#[derive(Clone, Copy, Debug)]
+#[derive(Clone, Copy)]
 pub struct Group {
     pub why: Why,
     pub count: u64,
@@ -107,6 +107,7 @@ impl Groups {
             → HasGroups (fault_at sort line ∷ faults) self.new.items) }
         ensures told { IfOk result (λ like. (faults : List Fault) → HasGroups faults self.old.items
             → IsTold (index_map_len self.old.items) (lines_of sort (fault_at sort line ∷ faults)) like) }
+        ensures more { OnOk result (index_map_len self.old.items ≤ index_map_len self.new.items) }
     {
         match self.grown(sort, why, line) {
             Some(group) => {

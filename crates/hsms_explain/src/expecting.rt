@@ -10,7 +10,7 @@ use secs_item::{ItemFault, measure_text};
 use std::fmt;
 
 /// A stream and a function of SECS-II.
-#[derive(Clone, Copy, Debug)]
+#[derive(Clone, Copy)]
 pub struct Function {
     pub stream: u8,
     pub function: u8,
@@ -34,7 +34,7 @@ impl Function {
 }
 
 /// What would have been right in place of an entry that fails, as far as that is known, or why it may not stand there.
-#[derive(Clone, Copy, Debug)]
+#[derive(Clone, Copy)]
 pub enum Expected {
     /// The open primary of the line, which has its system bytes, awaits another function.
     Function {
@@ -210,35 +210,77 @@ impl fmt::Display for Expected {
                 line,
                 expected,
                 came,
-            } => write!(f, "{expected} expected by line {line}, {came} came"),
-            Expected::NoWait(line) => {
-                write!(f, "line {line} has its system bytes, and asks for no reply")
-            }
-            Expected::ThrownAway(line) => {
-                write!(f, "line {line} has its system bytes, and was thrown away")
-            }
-            Expected::Closed { line, tie, by } => {
-                let tie = closed_word(tie);
-                write!(f, "line {line} has its system bytes, and {tie} line {by}")
-            }
+            } => write_function(f, line, expected, came),
+            Expected::NoWait(line) => write_namesake(f, line, "asks for no reply"),
+            Expected::ThrownAway(line) => write_namesake(f, line, "was thrown away"),
+            Expected::Closed { line, tie, by } => write_closed(f, line, tie, by),
             Expected::OnlyOne {
                 line,
                 expected,
                 system,
-            } => write!(
-                f,
-                "line {line} alone awaits a reply: {expected} {system:08x}"
-            ),
-            Expected::Session { expected, came } => {
-                write!(f, "session {expected:04x} expected, {came:04x} came")
-            }
+            } => write_only_one(f, line, expected, system),
+            Expected::Session { expected, came } => write_session(f, expected, came),
             Expected::Text { fault, at } => write!(f, "{fault} at={at} of its text"),
-            Expected::Selected(Some(line)) => {
-                write!(f, "no select.rsp with status 0 answers line {line}")
-            }
-            Expected::Selected(None) => write!(f, "its connection has no select.req yet"),
+            Expected::Selected(request) => write_selected(f, request),
             Expected::Over(line) => write!(f, "over since line {line}"),
         }
+    }
+}
+
+// The words of each case in a function of its own: a proof of all in one grows faster than they do.
+
+fn write_function<W: fmt::Write>(
+    f: &mut fmt::Formatter<W>,
+    line: u64,
+    expected: Function,
+    came: Function,
+) -> fmt::Result {
+    write!(f, "{expected} expected by line {line}, {came} came")
+}
+
+// The line has its system bytes, and this is the matter with it.
+fn write_namesake<W: fmt::Write>(
+    f: &mut fmt::Formatter<W>,
+    line: u64,
+    matter: &str,
+) -> fmt::Result {
+    write!(f, "line {line} has its system bytes, and {matter}")
+}
+
+fn write_closed<W: fmt::Write>(
+    f: &mut fmt::Formatter<W>,
+    line: u64,
+    tie: Tie,
+    by: u64,
+) -> fmt::Result {
+    write_namesake(f, line, closed_word(tie))?;
+    write!(f, " line {by}")
+}
+
+fn write_only_one<W: fmt::Write>(
+    f: &mut fmt::Formatter<W>,
+    line: u64,
+    expected: Function,
+    system: u32,
+) -> fmt::Result {
+    write!(
+        f,
+        "line {line} alone awaits a reply: {expected} {system:08x}"
+    )
+}
+
+fn write_session<W: fmt::Write>(
+    f: &mut fmt::Formatter<W>,
+    expected: u16,
+    came: u16,
+) -> fmt::Result {
+    write!(f, "session {expected:04x} expected, {came:04x} came")
+}
+
+fn write_selected<W: fmt::Write>(f: &mut fmt::Formatter<W>, request: Option<u64>) -> fmt::Result {
+    match request {
+        Some(line) => write!(f, "no select.rsp with status 0 answers line {line}"),
+        None => write!(f, "its connection has no select.req yet"),
     }
 }
 

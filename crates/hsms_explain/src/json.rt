@@ -27,6 +27,7 @@ enum Member<'a> {
     // Nothing: the object has no such member.
     Nothing,
     Number(u64),
+    Truth(bool),
     Text(&'a str),
     Expected(Expected),
     Remedy(GoingOn),
@@ -40,11 +41,20 @@ impl Described for Object<'_, '_> {}
 impl Serialize for Object<'_, '_> {
     fn serialize<S: Serializer>(&self, out: &mut S) -> Result<(), S::Error> {
         out.begin_map(None)?;
-        for (name, member) in self.0 {
-            member.send(out, name)?;
-        }
+        send_members(out, self.0)?;
         out.end_map()
     }
+}
+
+// Sends members of an object, one after the other.
+fn send_members<S: Serializer>(
+    out: &mut S,
+    members: &[(&'static str, Member<'_>)],
+) -> Result<(), S::Error> {
+    for (name, member) in members {
+        member.send(out, name)?;
+    }
+    Ok(())
 }
 
 impl Member<'_> {
@@ -59,6 +69,7 @@ impl Member<'_> {
         match self {
             Member::Nothing => Ok(()),
             Member::Number(number) => send_number(out, name, *number),
+            Member::Truth(truth) => send_truth(out, name, *truth),
             Member::Text(text) => send_text(out, name, text),
             Member::Expected(words) => send_words(out, name, words),
             Member::Remedy(words) => send_words(out, name, words),
@@ -87,18 +98,23 @@ impl Described for LineObject<'_, '_> {}
 impl Serialize for LineObject<'_, '_> {
     fn serialize<S: Serializer>(&self, out: &mut S) -> Result<(), S::Error> {
         out.begin_map(None)?;
-        send_text(out, "type", "line")?;
-        send_number(out, "line", self.number)?;
-        match self.entry {
-            Some(step) => self.send_entry(out, step)?,
-            None => send_text(out, "text", self.shown)?,
-        }
+        self.send_line(out)?;
         send_notes(out, self.notes, self.utc)?;
         out.end_map()
     }
 }
 
 impl LineObject<'_, '_> {
+    // Sends what the line is, and what it says.
+    fn send_line<S: Serializer>(&self, out: &mut S) -> Result<(), S::Error> {
+        send_text(out, "type", "line")?;
+        send_number(out, "line", self.number)?;
+        match self.entry {
+            Some(step) => self.send_entry(out, step),
+            None => send_text(out, "text", self.shown),
+        }
+    }
+
     fn send_entry<S: Serializer>(&self, out: &mut S, step: Step) -> Result<(), S::Error> {
         let Step { time, what } = step;
         send_time(out, time, self.utc)?;
@@ -154,6 +170,11 @@ fn send_number<S: Serializer>(out: &mut S, name: &str, number: u64) -> Result<()
     out.u64(number)
 }
 
+fn send_truth<S: Serializer>(out: &mut S, name: &str, truth: bool) -> Result<(), S::Error> {
+    out.key(name)?;
+    out.bool(truth)
+}
+
 fn send_words<S: Serializer, D: fmt::Display>(
     out: &mut S,
     name: &str,
@@ -198,11 +219,15 @@ fn send_cut<S: Serializer>(out: &mut S, cause: Cause) -> Result<(), S::Error> {
 
 // Sends what a data message says behind its system bytes.
 fn send_data<S: Serializer>(out: &mut S, header: Header, notation: &str) -> Result<(), S::Error> {
-    send_number(out, "stream", u64::from(header.stream()))?;
-    send_number(out, "function", u64::from(header.function()))?;
-    out.key("wait")?;
-    out.bool(header.wait())?;
-    send_text(out, "notation", notation)
+    send_members(
+        out,
+        &[
+            ("stream", Member::Number(u64::from(header.stream()))),
+            ("function", Member::Number(u64::from(header.function()))),
+            ("wait", Member::Truth(header.wait())),
+            ("notation", Member::Text(notation)),
+        ],
+    )
 }
 
 // Sends the numbers of a control message.
@@ -268,13 +293,23 @@ impl Serialize for Failures<'_> {
         out.begin_seq(None)?;
         for note in self.notes {
             match note {
-                Note::Fails(failing) => Object(&told_whole(failing, self.utc)).serialize(out)?,
-                Note::FailsAlike(alike) => Object(&told_alike(alike)).serialize(out)?,
+                Note::Fails(failing) => send_failing(out, failing, self.utc)?,
+                Note::FailsAlike(alike) => send_alike(out, alike)?,
                 Note::Closes(_) => {}
             }
         }
         out.end_seq()
     }
+}
+
+// Sends a failure that is told whole.
+fn send_failing<S: Serializer>(out: &mut S, failing: &Failing, utc: bool) -> Result<(), S::Error> {
+    Object(&told_whole(failing, utc)).serialize(out)
+}
+
+// Sends a failure that is told by the line of one.
+fn send_alike<S: Serializer>(out: &mut S, alike: &Alike) -> Result<(), S::Error> {
+    Object(&told_alike(alike)).serialize(out)
 }
 
 // A failure that is told whole.

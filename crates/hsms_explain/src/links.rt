@@ -7,7 +7,7 @@ use std::collections::VecDeque;
 const KEPT: usize = 1024;
 
 // Lines of the log, one behind the other: the first of them and the last.
-#[derive(Clone, Copy, Debug)]
+#[derive(Clone, Copy)]
 struct Run {
     from: u64,
     to: u64,

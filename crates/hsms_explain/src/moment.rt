@@ -5,7 +5,7 @@ use std::fmt;
 
 /// A time in ms: told as it is, or with `utc` as the date so long after the beginning of 1970, in UTC and to the
 /// millisecond, up to the end of the year 9999.
-#[derive(Clone, Copy, Debug)]
+#[derive(Clone, Copy)]
 pub struct Moment {
     pub time: u64,
     pub utc: bool,
@@ -36,7 +36,7 @@ impl fmt::Display for Moment {
 }
 
 /// A date and its time in UTC, to the millisecond.
-#[derive(Clone, Copy, Debug)]
+#[derive(Clone, Copy)]
 pub struct Date {
     timestamp: Timestamp,
 }

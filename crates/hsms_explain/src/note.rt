@@ -1,7 +1,11 @@
 //! What is told of a line besides what it says.
 
-ghost use Rattle.std.specs.Prelude.{◌≡◌, ◌∷◌, [], codes};
+ghost use Rattle.std.specs.Prelude.{◌≡◌, ◌≤◌, ◌∷◌, ◌++◌, [], ℕ, List, IfOk, IfSome, OnOk, codes, true};
+ghost use Rattle.std.specs.List.{list_any};
+ghost use Rattle.indexmap.specs.IndexMap.{index_map_len};
 ghost use Rattle.hsms_log.specs.declared.verdict.Why.TheVariants.{Unreadable};
+ghost use Rattle.hsms_explain.specs.Alike.{Fault, HasGroups};
+ghost use Rattle.hsms_explain.specs.Grouped.{AreGrouped, NoteIsTold, PutsNote, StandsFor, failure_by, faults_with, first_whole, is_whole};
 ghost use Rattle.hsms_explain.specs.Noted.{first_why};
 
 use crate::alike::Groups;
@@ -16,7 +20,7 @@ use std::alloc::AllocError;
 pub const UNREADABLE: &str = "it can't be read";
 
 /// What is told of a line besides what it says.
-#[derive(Clone, Copy, Debug)]
+#[derive(Clone, Copy)]
 pub enum Note {
     /// It closes the transaction that another line opened.
     Closes(Closing),
@@ -40,7 +44,7 @@ impl Note {
 
 /// Why a line fails, in words too, what is alike in such failures, the line that this concerns, what would have been
 /// right, and how the log is gone on with. One that can't be read is left out.
-#[derive(Clone, Copy, Debug)]
+#[derive(Clone, Copy)]
 pub struct Failing {
     pub sort: u64,
     pub why: Why,
@@ -65,10 +69,26 @@ impl Failing {
             remedy: None,
         }
     }
+
+    // The failure as it is told: whole, or by this line.
+    fn told_by(self, like: Option<u64>) -> Note
+        ensures { result ≡ failure_by self like }
+    {
+        match like {
+            Some(line) => Note::FailsAlike(Alike {
+                why: self.why,
+                line,
+                times: 1,
+            }),
+            None => Note::Fails(self),
+        }
+    }
 }
 
 /// Whether the line of these notes fails in a way that is told whole.
-pub fn has_failure(notes: &[Note]) -> bool {
+pub fn has_failure(notes: &[Note]) -> bool
+    ensures { result ≡ list_any is_whole notes.now }
+{
     notes.iter().any(|note| matches!(note, Note::Fails(_)))
 }
 
@@ -79,29 +99,77 @@ pub fn group_notes(
     notes: &[Note],
     line: u64,
     grouped: &mut Vec<Note>,
-) -> Result<(), AllocError> {
+) -> Result<(), AllocError>
+    ensures groups { OnOk result ((faults : List Fault) → HasGroups faults groups.old.items
+        → HasGroups (faults_with line notes.now faults) groups.new.items) }
+    ensures told { OnOk result ((faults : List Fault) → HasGroups faults groups.old.items
+        → AreGrouped (index_map_len groups.new.items) line faults notes.now grouped.new.items) }
+    ensures first { OnOk result (HasGroups [] groups.old.items → first_whole grouped.new.items ≡ first_whole notes.now) }
+{
     grouped.clear();
     for note in notes {
-        match note {
-            Note::Fails(failing) => match groups.count(failing.sort, failing.why, line)? {
-                Some(like) => push_alike(grouped, failing.why, like)?,
-                None => grouped.push(*note)?,
-            },
-            Note::Closes(_) | Note::FailsAlike(_) => grouped.push(*note)?,
+        let told = told_note(groups, *note, line)?;
+        put_note(grouped, told)?;
+    }
+    Ok(())
+}
+
+// The note of a line as it is told. A failure is counted.
+fn told_note(groups: &mut Groups, note: Note, line: u64) -> Result<Note, AllocError>
+    ensures groups { OnOk result ((faults : List Fault) → HasGroups faults groups.old.items
+        → HasGroups (faults_with line (note ∷ []) faults) groups.new.items) }
+    ensures told { IfOk result (λ told. (faults : List Fault) → HasGroups faults groups.old.items
+        → NoteIsTold (index_map_len groups.new.items) line faults note told) }
+    ensures more { OnOk result (index_map_len groups.old.items ≤ index_map_len groups.new.items) }
+{
+    match note {
+        Note::Fails(failing) => {
+            let like = groups.count(failing.sort, failing.why, line)?;
+            Ok(failing.told_by(like))
+        }
+        Note::Closes(_) => Ok(note),
+        Note::FailsAlike(_) => Ok(note),
+    }
+}
+
+// Puts a note behind those that are told. What is told by the same line as the last one is counted with it.
+fn put_note(grouped: &mut Vec<Note>, note: Note) -> Result<(), AllocError>
+    ensures { OnOk result (PutsNote grouped.old.items note grouped.new.items) }
+{
+    let Some(last) = grouped.pop() else {
+        grouped.push(note)?;
+        return Ok(());
+    };
+    match joined(last, note) {
+        Some(both) => grouped.push(both)?,
+        None => {
+            grouped.push(last)?;
+            grouped.push(note)?;
         }
     }
     Ok(())
 }
 
-// Puts a failure that is told by a line. Where the last one is told by it too, they are counted.
-fn push_alike(grouped: &mut Vec<Note>, why: Why, line: u64) -> Result<(), AllocError> {
-    if let Some(Note::FailsAlike(last)) = grouped.last_mut() {
-        if last.why == why && last.line == line {
-            last.times = last.times.saturating_add(1);
-            return Ok(());
-        }
+// Two notes as one, where both tell failures by the same line.
+fn joined(last: Note, note: Note) -> Option<Note>
+    ensures { IfSome result (λ both. (notes : List Note) → StandsFor last notes → StandsFor both (notes ++ note ∷ [])) }
+{
+    let Note::FailsAlike(alike) = last else {
+        return None;
+    };
+    let Note::FailsAlike(other) = note else {
+        return None;
+    };
+    if are_alike(alike, other) {
+        let times = alike.times.saturating_add(other.times);
+        return Some(Note::FailsAlike(Alike { times, ..alike }));
     }
-    let times = 1;
-    grouped.push(Note::FailsAlike(Alike { why, line, times }))?;
-    Ok(())
+    None
+}
+
+// Whether failures are told by the same line.
+fn are_alike(one: Alike, other: Alike) -> bool
+    ensures { result ≡ true → (other.why ≡ one.why) × (other.line ≡ one.line) }
+{
+    one.why == other.why && one.line == other.line
 }

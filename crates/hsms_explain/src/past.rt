@@ -11,7 +11,7 @@ use std::collections::VecDeque;
 const KEPT: usize = 256;
 
 /// A primary, a Select.req or a Linktest.req: its line, its header, and whether it was thrown away.
-#[derive(Clone, Copy, Debug)]
+#[derive(Clone, Copy)]
 pub struct Request {
     pub line: u64,
     pub header: Header,
@@ -19,7 +19,7 @@ pub struct Request {
 }
 
 /// That a line closed a transaction of these system bytes.
-#[derive(Clone, Copy, Debug)]
+#[derive(Clone, Copy)]
 pub struct Closed {
     pub tie: Tie,
     pub line: u64,

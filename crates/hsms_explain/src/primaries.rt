@@ -14,7 +14,7 @@ use std::alloc::{AllocError, Global};
 use std::fmt;
 
 // Which way a primary went.
-#[derive(Clone, Copy, Debug)]
+#[derive(Clone, Copy)]
 enum Direction {
     Sent,
     Received,
@@ -44,7 +44,7 @@ pub struct Primaries {
 }
 
 /// What became of the primaries of a kind, and the times of their replies, if there are such.
-#[derive(Clone, Copy, Debug)]
+#[derive(Clone, Copy)]
 pub struct Outcome {
     kind: u32,
     pub counts: Counts,
@@ -55,7 +55,7 @@ pub struct Outcome {
 
 /// Of the times of replies in ms the least, the median, what 99 of 100 don't exceed, and the greatest, with the line of
 /// the last reply that took it.
-#[derive(Clone, Copy, Debug)]
+#[derive(Clone, Copy)]
 pub struct Times {
     pub least: u64,
     pub median: u64,
@@ -275,6 +275,18 @@ impl Outcome {
             .iter()
             .fold(opened, |left, count| left.saturating_sub(*count))
     }
+
+    // What became of them, and how many became so.
+    fn fates(&self) -> [(&'static str, u64); 6] {
+        [
+            ("answered", self.counts.answered),
+            ("aborted", self.counts.aborted),
+            ("expired", self.counts.expired),
+            ("rejected", self.counts.rejected),
+            ("ended", self.ended()),
+            ("waiting", self.waiting),
+        ]
+    }
 }
 
 impl Outcome {
@@ -289,24 +301,23 @@ impl Outcome {
     }
 }
 
-// How many there are of something, if there are any.
-fn write_count<W: fmt::Write>(f: &mut fmt::Formatter<W>, name: &str, count: u64) -> fmt::Result {
-    if count == 0 {
-        return Ok(());
+// How many there are of each, where there are any.
+fn write_counts<W: fmt::Write>(
+    f: &mut fmt::Formatter<W>,
+    counts: [(&'static str, u64); 6],
+) -> fmt::Result {
+    for (name, count) in counts {
+        if count > 0 {
+            write!(f, " {name}={count}")?;
+        }
     }
-    write!(f, " {name}={count}")
+    Ok(())
 }
 
 impl fmt::Display for Outcome {
     fn fmt<W: fmt::Write>(&self, f: &mut fmt::Formatter<W>) -> fmt::Result {
-        let counts = self.counts;
         self.write_kind(f)?;
-        write_count(f, "answered", counts.answered)?;
-        write_count(f, "aborted", counts.aborted)?;
-        write_count(f, "expired", counts.expired)?;
-        write_count(f, "rejected", counts.rejected)?;
-        write_count(f, "ended", self.ended())?;
-        write_count(f, "waiting", self.waiting)?;
+        write_counts(f, self.fates())?;
         match self.times {
             Some(times) => write_times(f, times),
             None => Ok(()),

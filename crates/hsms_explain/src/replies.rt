@@ -12,7 +12,7 @@ use std::alloc::{AllocError, Global};
 const MOST: usize = 64;
 
 /// What ended the wait for a reply.
-#[derive(Clone, Copy, Debug, PartialEq, Eq)]
+#[derive(Clone, Copy, PartialEq, Eq)]
 pub enum Fate {
     Answered,
     Aborted,
@@ -22,7 +22,7 @@ pub enum Fate {
 
 /// How many primaries of a kind there were, and what became of them; of the times after which they were answered the
 /// least and the greatest, and the line at which this one's reply stands.
-#[derive(Clone, Copy, Debug)]
+#[derive(Clone, Copy)]
 pub struct Counts {
     pub opened: u64,
     pub answered: u64,

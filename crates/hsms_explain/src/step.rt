@@ -5,7 +5,7 @@ use hsms_frame::{Header, Kind, kind};
 use hsms_machine::{Cause, Mark};
 
 /// What an entry says that happened, but for the text of its frame.
-#[derive(Clone, Copy, Debug)]
+#[derive(Clone, Copy)]
 pub enum What {
     Up,
     Frame(Mark, Header),
@@ -31,7 +31,7 @@ impl What {
 }
 
 /// An entry but for the text of its frame. Its time is in ms.
-#[derive(Clone, Copy, Debug)]
+#[derive(Clone, Copy)]
 pub struct Step {
     pub time: u64,
     pub what: What,

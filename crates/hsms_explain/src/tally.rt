@@ -17,7 +17,7 @@ use hsms_machine::Mark;
 use std::alloc::{AllocError, Global};
 
 /// A failure: the number of its line, from 1, and why it fails.
-#[derive(Clone, Copy, Debug)]
+#[derive(Clone, Copy)]
 pub struct Failed {
     pub line: u64,
     pub why: Why,

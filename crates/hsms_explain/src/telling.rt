@@ -19,7 +19,7 @@ use hsms_options::{Excerpt, Telling};
 use std::alloc::{AllocError, Global};
 
 /// Writes what is told in the form that is asked for, with times as they are or as dates.
-#[derive(Clone, Copy, Debug)]
+#[derive(Clone, Copy)]
 pub struct Teller {
     form: Telling,
     utc: bool,

@@ -16,7 +16,7 @@ use std::alloc::{AllocError, Global};
 pub const SETTINGS_LIMIT: usize = 256;
 
 /// A line: its number from 1, its octets without its end, how many of them are told at most, and what it carries.
-#[derive(Clone, Copy, Debug)]
+#[derive(Clone, Copy)]
 pub struct Told<'l, 't> {
     pub number: u64,
     pub octets: &'l [u8],
@@ -46,7 +46,7 @@ impl<'l> Told<'l, '_> {
 }
 
 /// What a line carries.
-#[derive(Clone, Copy, Debug)]
+#[derive(Clone, Copy)]
 pub enum Carried<'a> {
     /// An entry, with the text of its frame.
     Entry(Step, &'a [u8]),

@@ -10,7 +10,7 @@ use hsms_machine::{Cause, Remedy};
 use std::fmt;
 
 /// What an entry is to the transaction that it closes.
-#[derive(Clone, Copy, Debug, PartialEq, Eq)]
+#[derive(Clone, Copy, PartialEq, Eq)]
 pub enum Tie {
     Answers,
     Rejects,
@@ -29,7 +29,7 @@ pub fn word_of(tie: Tie) -> &'static str
 }
 
 /// That an entry closes the transaction which a line opened, so many ms after it.
-#[derive(Clone, Copy, Debug)]
+#[derive(Clone, Copy)]
 pub struct Closing {
     pub tie: Tie,
     pub line: u64,
@@ -48,7 +48,7 @@ impl fmt::Display for Closing {
 }
 
 /// That a failure concerns a line.
-#[derive(Clone, Copy, Debug)]
+#[derive(Clone, Copy)]
 pub struct Concern {
     pub line: u64,
 }
@@ -63,7 +63,7 @@ impl fmt::Display for Concern {
 }
 
 /// That a line fails as another one before it does, so many times.
-#[derive(Clone, Copy, Debug)]
+#[derive(Clone, Copy)]
 pub struct Alike {
     pub why: Why,
     pub line: u64,
@@ -86,7 +86,7 @@ impl fmt::Display for Alike {
 }
 
 /// That so many more lines fail as a line does, up to the last one.
-#[derive(Clone, Copy, Debug)]
+#[derive(Clone, Copy)]
 pub struct Rest {
     pub why: Why,
     pub count: u64,
@@ -110,14 +110,14 @@ impl fmt::Display for Rest {
 }
 
 /// Lines that are left out: the first of them, and the last.
-#[derive(Clone, Copy, Debug)]
+#[derive(Clone, Copy)]
 pub struct Gap {
     pub from: u64,
     pub to: u64,
 }
 
 /// Why nothing of a log was judged.
-#[derive(Clone, Copy, Debug)]
+#[derive(Clone, Copy)]
 pub enum Unjudged {
     /// Its first line can't be read.
     Unreadable,
@@ -145,21 +145,21 @@ pub fn name_of(why: Why) -> &'static str
 }
 
 /// How the log is gone on with behind a failure, where with `utc` a time is told as a date.
-#[derive(Clone, Copy, Debug)]
+#[derive(Clone, Copy)]
 pub struct GoingOn {
     pub remedy: Remedy,
     pub utc: bool,
 }
 
 /// An entry that is put before a line, as it would stand in the log.
-#[derive(Clone, Copy, Debug)]
+#[derive(Clone, Copy)]
 pub struct Put {
     time: u64,
     what: Missing,
 }
 
 // What is missing.
-#[derive(Clone, Copy, Debug)]
+#[derive(Clone, Copy)]
 enum Missing {
     T3(u32),
     Cut(Cause),

@@ -1,15 +1,14 @@
 -- A direction's first place from which on whole messages are read, by what is held.
-use Rattle.std.proofs.Common.{◌≡◌, ◌<◌, ◌≤◌, ◌-◌, ◌+◌, ◌++◌, ◌∷◌, ℕ, zero, suc, List, [], length, drop, Option, Some, None, refl, sym, ap, ◌∙◌, subst, append_assoc, inl, inr, arith}
-use Rattle.std.specs.Prelude.{Bool, true, false}
+use Rattle.std.proofs.Common.{◌≡◌, ◌<◌, ◌≤◌, ◌-◌, ◌+◌, ◌++◌, ◌∷◌, ℕ, List, [], length, drop, Option, Some, None, refl, sym, ap, ◌∙◌, subst, append_assoc, inl, inr, arith}
+use Rattle.std.specs.Prelude.{Bool, false}
 use Rattle.std.proofs.lemmas.Bool.{cases_lt}
 use Rattle.std.proofs.lemmas.List.{append-nil, drop_all}
 use Rattle.hsms_capture.specs.Held.{CellIs, IsStoreOf, Store}
 use Rattle.hsms_capture.specs.Wire.{End, Placed}
 use Rattle.hsms_capture.specs.declared.held.Cell.{Cell as HeldCell}
 use Rattle.hsms_joined.specs.declared.session.Session.{Session}
-use Rattle.hsms_joined.specs.declared.spot.Spot.{Spot}
 use Rattle.hsms_joined.specs.Beginning.{BeginsAtEnd, IsSureBy, NoneStands, SomeStands}
-use Rattle.hsms_joined.specs.Gathered.{BeginsBy, FindsIn, held_octet, octet_at, octets_in, octets_upto}
+use Rattle.hsms_joined.specs.Gathered.{FindsIn, held_octet, octet_at, octets_in, octets_upto}
 use Rattle.hsms_joined.proofs.Places.{dropped, next_octet, no_octet, none_is_sure, none_stands, octet_is}
 
 abbrev pub NoneSoFar : Session → Store → ℕ → ℕ → ℕ → Type 0

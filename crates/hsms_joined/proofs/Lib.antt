@@ -9,3 +9,4 @@ pub mod Standing
 pub mod Holding
 pub mod Starts
 pub mod Spots
+pub mod Keeping

@@ -1,8 +1,8 @@
 -- The octets of a direction, packet by packet.
-use Rattle.std.proofs.Common.{◌≡◌, ◌++◌, ◌∷◌, ◌+◌, ℕ, List, [], length, map, Option, Some, None, refl, sym, ap, ◌∙◌, append_assoc, arith, false}
-use Rattle.std.proofs.lemmas.List.{append-nil, length-append, length-map, map-append}
+use Rattle.std.proofs.Common.{◌≡◌, ◌++◌, ◌∷◌, ℕ, List, [], length, map, Option, Some, None, sym, ap, ◌∙◌, append_assoc, false}
+use Rattle.std.proofs.lemmas.List.{append-nil, length-map, map-append}
 use Rattle.hsms_capture.specs.Message.{cells_of}
-use Rattle.hsms_capture.specs.Wire.{Cell, octet, Placed}
+use Rattle.hsms_capture.specs.Wire.{octet, Placed}
 use Rattle.hsms_capture.specs.declared.packet.Side.{Side}
 use Rattle.hsms_joined.specs.declared.gathered.Gathered.{Gathered}
 use Rattle.hsms_joined.specs.declared.piece.Piece.{Piece}

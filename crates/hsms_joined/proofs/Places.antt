@@ -1,12 +1,11 @@
 -- Octets by their places.
-use Rattle.std.proofs.Common.{◌≡◌, ◌<◌, ◌≤◌, ◌-◌, ◌+◌, ◌++◌, ◌∷◌, ℕ, zero, suc, List, [], length, drop, Option, Some, None, refl, sym, ap, ◌∙◌, subst, inl, inr, true, false, arith}
+use Rattle.std.proofs.Common.{◌≡◌, ◌<◌, ◌≤◌, ◌-◌, ◌+◌, ◌∷◌, ℕ, zero, suc, List, [], length, drop, Option, Some, None, refl, sym, ap, ◌∙◌, subst, inr, true, false, arith}
 use Rattle.std.specs.Option.{option_map}
 use Rattle.hsms_capture.specs.declared.held.Cell.{Cell as HeldCell}
 use Rattle.hsms_capture.specs.declared.held.Cell.TheVariants as held
 use Rattle.hsms_capture.specs.Held.{CellIs, IsStoreOf, Store, wire_cell}
 use Rattle.hsms_capture.specs.Wire.{End, Placed}
 use Rattle.hsms_joined.specs.declared.session.Session.{Session}
-use Rattle.hsms_joined.specs.Front.{FrontAs}
 use Rattle.hsms_joined.specs.Beginning.{CountsAs, IsSureBy, NoneStands, most}
 use Rattle.hsms_joined.specs.Gathered.{and_more, held_octet, octet_at, octet_of, octets_in, octets_upto}
 use Rattle.hsms_joined.proofs.Rows.{missing_counts}

@@ -1,16 +1,15 @@
 -- The place at which pieces begin.
-use Rattle.std.proofs.Common.{◌≡◌, ℕ, List, Option, map, sym, ap, ◌∙◌, subst}
+use Rattle.std.proofs.Common.{◌≡◌, ℕ, List, Option, map, ap, ◌∙◌, subst}
 use Rattle.std.specs.Prelude.{Result, Ok, Err, IfOk}
 use Rattle.hsms_capture.specs.Held.{IsStoreOf, Store}
 use Rattle.hsms_capture.specs.Known.{end_at}
 use Rattle.hsms_capture.specs.Wire.{End, Placed}
 use Rattle.hsms_capture.specs.declared.packet.Side.{Side}
-use Rattle.hsms_joined.specs.declared.gathered.Begun.{Begun}
 use Rattle.hsms_joined.specs.declared.gathered.Gathered.{Gathered}
 use Rattle.hsms_joined.specs.declared.piece.Piece.{Piece}
 use Rattle.hsms_joined.specs.declared.session.Session.{Session}
 use Rattle.hsms_joined.specs.declared.spot.Spot.{Spot}
-use Rattle.hsms_joined.specs.Gathered.{BeginsWith, FindsIn, IsSpotOf, first_number, highest, lowest, midst, number_at, octet_at, pieces, pieces_from, placed_by}
+use Rattle.hsms_joined.specs.Gathered.{BeginsWith, FindsIn, IsSpotOf, first_number, highest, lowest, midst, number_at, octet_at, pieces_from, placed_by}
 
 at_limits : (s : Session) (at : ℕ → Option ℕ) (from upto low high : ℕ) (spot : Spot) → from ≡ low → upto ≡ high → FindsIn s at from upto spot → FindsIn s at low high spot
 at_limits s at from upto low high spot first last finds =

@@ -5,7 +5,6 @@ use Rattle.std.proofs.lemmas.List.{append-nil}
 use Rattle.std.proofs.lemmas.List.Folds.{list_any-append}
 use Rattle.hsms_capture.specs.declared.packet.Side.TheVariants.{Active, Passive}
 use Rattle.hsms_joined.specs.declared.gathered.Gathered.{Gathered}
-use Rattle.hsms_joined.specs.declared.start.Start.{Start}
 use Rattle.hsms_joined.specs.Joining.{IsStart, has_both, latest, shows}
 
 or-false : (b : Bool) → (b || false) ≡ b

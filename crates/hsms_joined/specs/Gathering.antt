@@ -1,5 +1,6 @@
 -- The packets of a session, until both directions have begun.
-use Rattle.std.specs.Prelude.{◌≡◌, ◌++◌, ◌∷◌, ℕ, true, List, []}
+use Rattle.std.specs.Prelude.{◌≡◌, ◌≤◌, ◌^◌, ◌⊎◌, ◌++◌, ◌∷◌, ℕ, true, List, [], All, length, sum_by}
+use Rattle.std.specs.Int.{IsPowerOfTwo}
 use Rattle.hsms_capture.specs.declared.packet.Segment.{Segment}
 use Rattle.hsms_capture.specs.declared.packet.Side.TheVariants.{Active, Passive}
 use Rattle.hsms_joined.specs.declared.gathered.Gathered.{Gathered}
@@ -18,3 +19,19 @@ AreBeginnings s gs both = BeginsWith s Active gs both.active × BeginsWith s Pas
 
 abbrev pub AreSure : Beginnings → Type 0
 AreSure both = (both.active.is_sure ≡ true) × (both.passive.is_sure ≡ true)
+
+-- how many octets these packets bring
+abbrev pub octets_brought : List Gathered → ℕ
+octets_brought gs = sum_by (λ g. length g.octets.items) gs
+
+-- no more are kept: they are 4,096, or bring 2^26 octets
+abbrev pub IsFull : List Gathered → Type 0
+IsFull gs = (4096 ≤ length gs) ⊎ (2 ^ 26 ≤ octets_brought gs)
+
+-- they are looked at: they are as many as some power of two, or no more are kept
+abbrev pub IsDue : List Gathered → Type 0
+IsDue gs = IsPowerOfTwo (length gs) ⊎ IsFull gs
+
+-- none brings an octet
+abbrev pub AreSilent : List Gathered → Type 0
+AreSilent gs = All (λ g. g.octets.items ≡ []) gs

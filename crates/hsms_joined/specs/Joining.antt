@@ -1,16 +1,13 @@
 -- The packets of a session, as those of a connection whose SYNs stand before the places at which its directions begin.
-use Rattle.std.specs.Prelude.{◌≡◌, ◌+◌, ◌-◌, ◌%◌, ◌^◌, ◌&&◌, ◌||◌, ◌++◌, ℕ, Bool, true, false, max, if◌then◌else◌, List, [], ◌∷◌, length, drop, map, Option, Some, None}
+use Rattle.std.specs.Prelude.{◌≡◌, ◌+◌, ◌-◌, ◌%◌, ◌^◌, ◌&&◌, ◌++◌, ℕ, Bool, true, false, max, if◌then◌else◌, List, [], ◌∷◌, length, Option, Some, None}
 use Rattle.std.specs.List.{list_any}
-use Rattle.hsms_capture.specs.declared.asking.Flags.{Flags}
 use Rattle.hsms_capture.specs.declared.packet.Segment.{Segment}
 use Rattle.hsms_capture.specs.declared.packet.Side.{Side}
 use Rattle.hsms_capture.specs.declared.packet.Side.TheVariants.{Active, Passive}
-use Rattle.hsms_capture.specs.Known.{seen_of}
-use Rattle.hsms_capture.specs.Wire.{Seen}
 use Rattle.hsms_joined.specs.declared.gathered.Gathered.{Gathered}
 use Rattle.hsms_joined.specs.declared.start.Start.{Start}
 use Rattle.hsms_joined.specs.Gathered.{is_same}
-use Rattle.hsms_joined.specs.Numbers.{before_by, from_by, number_behind, number_by, reaches_by}
+use Rattle.hsms_joined.specs.Numbers.{from_by, number_behind, number_by, reaches_by}
 
 -- ---- the packet with which both directions have begun
 

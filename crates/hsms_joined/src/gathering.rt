@@ -5,6 +5,7 @@ use crate::gathered::{Begun, Gathered};
 use crate::session::Session;
 use hsms_capture::{Segment, Side};
 use std::alloc::{AllocError, Global};
+use std::marker::Model;
 
 // So many packets are kept at most.
 const MOST_PACKETS: usize = 4096;
@@ -23,16 +24,30 @@ pub struct Beginnings {
 #[derive(Drop)]
 pub struct Gathering {
     packets: Vec<Gathered>,
+    // How many octets they bring, or the greatest number where they are more.
     octets: u64,
 }
 
+impl Model for Gathering {
+    ghost use Rattle.std.specs.Prelude.{◌≡◌, ◌^◌, ◌-◌, List, min};
+    ghost use Rattle.hsms_joined.specs.declared.gathered.Gathered.{Gathered};
+    ghost use Rattle.hsms_joined.specs.Gathering.{octets_brought};
+
+    ghost Value = { List Gathered };
+
+    ghost view = { λ g. g.packets.items };
+
+    ghost invariant = { λ g. g.octets ≡ min (octets_brought g.packets.items) (2 ^ 64 - 1) };
+}
+
 impl Gathering {
-    ghost use Rattle.std.specs.Prelude.{◌≡◌, ◌≤◌, [], false, IfOk, IfSome, OnOk, OnErr};
-    ghost use Rattle.hsms_joined.specs.Gathering.{AreBeginnings, AreSure, Gathers};
+    ghost use Rattle.std.specs.Int.{IsPowerOfTwo};
+    ghost use Rattle.std.specs.Prelude.{◌≡◌, ◌≤◌, ◌↔◌, [], true, false, None, IfOk, IfSome, IsTrue, OnOk, OnErr, length};
+    ghost use Rattle.hsms_joined.specs.Gathering.{AreBeginnings, AreSilent, AreSure, Gathers, IsDue, IsFull};
 
     /// No packet.
     pub fn new(alloc: Global) -> Gathering
-        ensures { result.packets.items ≡ [] }
+        ensures { result ≡ [] }
     {
         Gathering {
             packets: Vec::new(alloc),
@@ -42,8 +57,8 @@ impl Gathering {
 
     /// One packet more.
     pub fn take(&mut self, alloc: Global, segment: Segment, octets: &[u8]) -> Result<(), AllocError>
-        ensures ok { OnOk result (Gathers segment octets.now self.old.packets.items self.new.packets.items) }
-        ensures err { OnErr result (self.new.packets.items ≡ self.old.packets.items) }
+        ensures ok { OnOk result (Gathers segment octets.now self.old self.new) }
+        ensures err { OnErr result (self.new ≡ self.old) }
     {
         let octets = Vec::from_slice(alloc, octets)?;
         let count = octets.len() as u64;
@@ -53,23 +68,38 @@ impl Gathering {
     }
 
     /// Whether no more are kept: they are 4,096, or have 2^26 octets.
-    pub fn is_full(&self) -> bool {
+    pub fn is_full(&self) -> bool
+        ensures { IsTrue result ↔ IsFull self.now }
+    {
         self.packets.len() >= MOST_PACKETS || self.octets >= MOST_OCTETS
     }
 
     /// Whether they are looked at: they are as many as a power of two, or no more are kept.
-    pub fn is_due(&self) -> bool {
-        self.packets.len().is_power_of_two() || self.is_full()
+    #[tactic(auto, using(crate::proofs::Keeping::due_by_power, crate::proofs::Keeping::due_by_full))]
+    pub fn is_due(&self) -> bool
+        ensures { IsTrue result ↔ IsDue self.now }
+    {
+        self.has_due_count() || self.is_full()
+    }
+
+    // Whether they are as many as a power of two.
+    #[tactic(auto, using(crate::proofs::Keeping::power_by))]
+    fn has_due_count(&self) -> bool
+        ensures { IsTrue result ↔ IsPowerOfTwo (length self.now) }
+    {
+        self.packets.len().is_power_of_two()
     }
 
     /// Whether none of them brings an octet.
-    pub fn is_silent(&self) -> bool {
+    pub fn is_silent(&self) -> bool
+        ensures { IsTrue result ↔ AreSilent self.now }
+    {
         self.octets == 0
     }
 
     /// The packets.
     pub fn packets(&self) -> &[Gathered]
-        ensures { result.now ≡ self.now.packets.items }
+        ensures { result.now ≡ self.now }
     {
         self.packets.as_slice()
     }
@@ -86,8 +116,9 @@ impl Gathering {
         is_last: bool,
     ) -> Result<Option<Beginnings>, AllocError>
         requires { session.depth ≤ 100 }
-        ensures begin { IfOk result (λ found. IfSome found (AreBeginnings session self.now.packets.items)) }
+        ensures begin { IfOk result (λ found. IfSome found (AreBeginnings session self.now)) }
         ensures sure { IfOk result (λ found. is_last ≡ false → IfSome found AreSure) }
+        ensures none { IfOk result (λ found. found ≡ None → is_last ≡ false) }
     {
         let active = begun_of(alloc, session, &self.packets, Side::Active)?;
         let passive = begun_of(alloc, session, &self.packets, Side::Passive)?;

@@ -1,5 +1,5 @@
 -- The line that shows a message.
-use Rattle.std.specs.Prelude.{◌≡◌, ◌⊎◌, ℕ, ◌+◌, ◌%◌, List, [], ◌∷◌, ◌++◌, ◌==◌, nat_lt, if◌then◌else◌, length, codes, decimal, Option}
+use Rattle.std.specs.Prelude.{◌≡◌, ◌⊎◌, ℕ, List, [], ◌∷◌, ◌++◌, ◌==◌, if◌then◌else◌, length, codes, decimal, Option}
 use Rattle.std.specs.Int.{w16, w32, to_be_bytes}
 use Rattle.hex.specs.Hex.{encode_lower}
 use Rattle.secs_item.specs.Item.{Value}
@@ -23,10 +23,6 @@ name_of Reject = codes "reject"
 name_of Separate = codes "separate"
 name_of OtherSType = codes "other-stype"
 name_of OtherPType = codes "other-ptype"
-
--- the digit of a value below sixteen; of a greater one, some octet
-abbrev pub digit_of : ℕ → ℕ
-digit_of value = (value + (if nat_lt value 10 then 48 else 87)) % 256
 
 -- session ID and system bytes, in hexadecimal
 abbrev pub address_of : Header → List ℕ

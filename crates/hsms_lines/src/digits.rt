@@ -1,11 +1,10 @@
-//! Octets in hexadecimal, as they stand in a line.
+//! Session ID and system bytes in hexadecimal, as they stand in a line.
 
-ghost use Rattle.std.specs.Prelude.{◌≡◌, ◌≤◌, ◌*◌, ◌++◌, [], ◌∷◌, length, map, take};
+ghost use Rattle.std.specs.Prelude.{◌≡◌, ◌++◌, [], ◌∷◌};
 ghost use Rattle.hex.specs.Hex.{encode_lower};
-ghost use Rattle.hsms_lines.specs.Line.{address_of, digit_of};
+ghost use Rattle.hsms_lines.specs.Line.{address_of};
 
 use hsms_frame::Header;
-use std::simd::prelude::*;
 
 // The two digits of each octet.
 static DIGITS: [[u8; 2]; 256] = [
@@ -64,52 +63,4 @@ pub fn address_and_end(header: Header) -> [u8; 15]
 {
     let [a, b, c, d, e, f, g, h, i, j, k, l, m, n] = address(header);
     [a, b, c, d, e, f, g, h, i, j, k, l, m, n, b'\n']
-}
-
-/// The digits of sixteen octets.
-#[inline(always)]
-pub fn digits_of_sixteen(octets: &[u8; 16]) -> [u8; 32]
-    ensures { result ≡ encode_lower octets.now }
-{
-    let octets = u8x16::from_array(*octets);
-    let high = digits_of_values(octets >> u8x16::splat(4));
-    let low = digits_of_values(octets & u8x16::splat(15));
-    let mut digits = [0u8; 32];
-    let (first, second) = high.interleave(low);
-    first.copy_to_slice(&mut digits);
-    second.copy_to_slice(&mut digits[16..]);
-    digits
-}
-
-/// The digits of at most sixteen octets. What stands behind them doesn't count.
-#[inline(always)]
-pub fn digits_of_few(octets: &[u8]) -> [u8; 32]
-    requires { length octets.now ≤ 16 }
-    ensures { take (2 * length octets.now) result ≡ encode_lower octets.now }
-{
-    let sixteen = sixteen_of_few(octets);
-    digits_of_sixteen(&sixteen)
-}
-
-// Sixteen octets that begin with these.
-#[inline(always)]
-fn sixteen_of_few(octets: &[u8]) -> [u8; 16]
-    requires { length octets.now ≤ 16 }
-    ensures { take (length octets.now) result ≡ octets.now }
-{
-    let mut sixteen = [0u8; 16];
-    sixteen[..octets.len()].copy_from_slice(octets);
-    sixteen
-}
-
-// The digit of each value, where that is below sixteen.
-#[inline(always)]
-fn digits_of_values(values: u8x16) -> u8x16
-    ensures { result ≡ map digit_of values }
-{
-    let is_letter = values.simd_ge(u8x16::splat(10));
-    is_letter.select(
-        values + u8x16::splat(b'a' - 10),
-        values + u8x16::splat(b'0'),
-    )
 }

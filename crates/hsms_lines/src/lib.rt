@@ -1,5 +1,4 @@
-//! The lines that the command writes, and what holds them on their way: the line of a message, that of a verdict, and octets
-//! in hexadecimal.
+//! The lines that the command writes, and what holds them on their way: the line of a message, and that of a verdict.
 //!
 //! [`lay_line`] lays the line of a message behind those that are held, [`put_out`] writes what is held, and [`put`] writes
 //! at once:
@@ -17,7 +16,6 @@ mod outlet;
 mod parts;
 mod verdict;
 
-pub use digits::{digits_of_few, digits_of_sixteen};
 pub use line::give_line;
 pub use outlet::{lay_line, put, put_out};
 pub use verdict::{name as rule_name, verdict_line};

@@ -5,8 +5,9 @@ ghost use Rattle.hex.specs.Hex.{encode_lower};
 ghost use Rattle.secs_text.specs.Laid.{Lays};
 ghost use Rattle.hsms_lines.specs.Line.{address_of, text_of};
 
-use crate::digits::{address, digits_of_few, digits_of_sixteen};
+use crate::digits::address;
 use hsms_frame::Header;
+use hsms_log::{digits_of_few, digits_of_sixteen};
 use itoa::Buffer;
 use secs_text::{Block, Output};
 

@@ -100,7 +100,7 @@ onward_more text more n why fails rest =
     let P : List ℕ → Type 0 = λ l. Fails l n why in subst P (sym (append_assoc text more rest)) (fails (more ++ rest))
 
 -- the line that has ended fails
-line_fails : (old : Reading) (start : Judge) (text part line : List ℕ) (why : Why) → HasNone 10 part → start ≡ old.judge
+pub line_fails : (old : Reading) (start : Judge) (text part line : List ℕ) (why : Why) → HasNone 10 part → start ≡ old.judge
     → line ≡ strip_carriage_return (old.held ++ part)
     → ((before : List (List ℕ)) → Follows start before → FailsAfter before line why)
     → Stands old text → FailsOnward (text ++ (part ++ 10 ∷ [])) (old.judge.tally.lines + 1) why
@@ -167,7 +167,7 @@ judged_onward text (Fail n why) fails =
 
 -- ---- the octets of one call
 
-fails_at : (text : List ℕ) (verdict : Verdict) (m n : ℕ) (why : Why) → verdict ≡ Fail m why → m ≡ n → FailsOnward text n why → FailsAs text verdict
+pub fails_at : (text : List ℕ) (verdict : Verdict) (m n : ℕ) (why : Why) → verdict ≡ Fail m why → m ≡ n → FailsOnward text n why → FailsAs text verdict
 fails_at text verdict m n why verdict_is same fails =
     let P : Verdict → Type 0 = λ v. FailsAs text v in
     let Q : ℕ → Type 0 = λ k. FailsOnward text k why in subst P (sym verdict_is) (subst Q (sym same) fails)

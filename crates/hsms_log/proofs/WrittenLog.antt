@@ -3,6 +3,7 @@ use Rattle.std.proofs.Common.{◌≡◌, ◌≢◌, ◌<◌, ◌≤◌, ◌-◌,
 use Rattle.std.specs.Prelude.{All, Bool, Some, codes, decimal, slice_index, nat_lt}
 use Rattle.std.specs.List.{flat_map, list_all}
 use Rattle.std.specs.Str.{all_ascii_digits}
+use Rattle.std.specs.Str.Lines.{strip_carriage_return}
 use Rattle.std.proofs.lemmas.Bool.{and_parts, and_from, ltb-true, lt-ltb, leb-true, ne_eqb, cases_Bool}
 use Rattle.std.proofs.lemmas.Fmt.{digits_decimal}
 use Rattle.std.proofs.lemmas.List.Elements.{All-cons, All-nil, All-head, All-tail}
@@ -19,7 +20,7 @@ use Rattle.hsms_machine.specs.declared.settings.Side.{Side}
 use Rattle.hsms_machine.specs.declared.settings.Side.TheVariants.{Active, Passive}
 use Rattle.hsms_machine.specs.Settings.{Parameters, IsWithinLimits}
 use Rattle.hsms_log.specs.Lines.{HasNone, lines_of, ended_lines, open_line}
-use Rattle.hsms_log.specs.Spelling.{IsEntry, IsEvent, entry_line, event_text, settings_line, line_limit, message_octets, system_octets, role_word, link_word}
+use Rattle.hsms_log.specs.Spelling.{IsBlank, IsComment, IsEntry, IsEvent, entry_line, event_text, settings_line, settings_limit, line_limit, message_octets, system_octets, role_word, link_word}
 use Rattle.hsms_log.specs.Log.{CarryLog, LogText, SpellLog, written_log}
 use Rattle.hsms_log.specs.Writing.{version_text, words_of, opening_of, numbers_of, spaced}
 use Rattle.hsms_log.proofs.Numbers.{own}
@@ -49,7 +50,7 @@ last_of (x ∷ octets) h e =
     at xs i all within =
         elim (cases_Bool (ltb 13 (get_or xs i 0))) [ inl yes_it ↦ yes_it | inr no_it ↦ absurd (cc (all, list_all_at (nat_lt 13) xs i 0 within no_it)) ]
 
-joined : (xs ys : List ℕ) → on_line xs ≡ true → on_line ys ≡ true → on_line (xs ++ ys) ≡ true
+pub joined : (xs ys : List ℕ) → on_line xs ≡ true → on_line ys ≡ true → on_line (xs ++ ys) ≡ true
 joined xs ys h k = list_all-append (nat_lt 13) xs ys ∙ and_from _ _ h k
 
 -- ---- what is written stands on a line
@@ -61,7 +62,7 @@ digits_on_line (d ∷ ds) h =
     let low : 48 ≤ d = leb-true 48 d (and_parts _ _ parts.0).0 in
     and_from _ _ (lt-ltb 13 d (omega (arith, low))) (digits_on_line ds parts.1)
 
-decimal_on_line : (n : ℕ) → n < 2 ^ 64 → on_line (decimal n) ≡ true
+pub decimal_on_line : (n : ℕ) → n < 2 ^ 64 → on_line (decimal n) ≡ true
 decimal_on_line n h = digits_on_line (decimal n) (digits_decimal own n h)
 
 digit_on_line : (i : ℕ) → i < 16 → ltb 13 (slice_index lower_digits i) ≡ true
@@ -94,6 +95,18 @@ entry_on_line : (entry : Entry) → IsEntry entry → on_line (entry_line entry)
 unfolding entry_line
 entry_on_line entry fits =
     joined (decimal entry.time) (32 ∷ event_text entry.event) (decimal_on_line entry.time fits.time) (event_on_line entry.event fits.event)
+
+-- the line of an entry is one line, and all of it counts
+pub entry_one : (entry : Entry) → IsEntry entry → HasNone 10 (entry_line entry)
+entry_one entry fits = none_of 10 (entry_line entry) (omega arith) (entry_on_line entry fits)
+
+pub entry_whole : (entry : Entry) → IsEntry entry → strip_carriage_return (entry_line entry) ≡ entry_line entry
+entry_whole entry fits = strip_kept (entry_line entry) (last_of (entry_line entry) (entry_on_line entry fits))
+
+-- what begins as a comment, stands on a line and is short is one
+pub comment_from : (line : List ℕ) → IsBlank line → on_line line ≡ true → length line ≤ settings_limit → IsComment line
+comment_from line blank on fits =
+    record { blank = blank; one = none_of 10 line (omega arith) on; whole = strip_kept line (last_of line on); fits = fits }
 
 numbers_on_line : (ns : List ℕ) → list_all (λ n. nat_lt n (2 ^ 64)) ns ≡ true → on_line (flat_map spaced ns) ≡ true
 numbers_on_line [] h = refl

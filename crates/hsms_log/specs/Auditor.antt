@@ -1,6 +1,8 @@
 -- What is known of a text that is audited in pieces, to its end.
-use Rattle.std.specs.Prelude.{◌≡◌, ◌+◌, ◌-◌, ◌<◌, ◌≤◌, ◌^◌, ℕ, List, None, MatchOption, length}
+use Rattle.std.specs.Prelude.{◌≡◌, ◌+◌, ◌-◌, ◌<◌, ◌≤◌, ◌^◌, ℕ, List, [], None, IsSome, MatchOption, length}
+use Rattle.hsms_machine.specs.declared.entry.Entry.{Entry}
 use Rattle.hsms_log.specs.declared.auditor.Auditor.{Auditor}
+use Rattle.hsms_log.specs.Judging.{Allows}
 use Rattle.hsms_log.specs.LineReader.{Stands, FailsAs}
 
 -- the audit has heard this text: no line of it fails so far, or the verdict is that of each text that begins with it
@@ -14,3 +16,14 @@ HasAtMost n auditor = auditor.found ≡ None → auditor.reader.judge.tally.line
 -- while none fails, the lines of these octets can be counted
 abbrev pub HasRoom : Auditor → List ℕ → Type 0
 HasRoom auditor octets = auditor.found ≡ None → auditor.reader.judge.tally.lines + length octets < 2 ^ 64 - 1
+
+-- while none fails, the settings were read, no line has begun since the last one ended, and they allow the message of
+-- this entry: so it can be told by itself
+abbrev pub CanHear : Auditor → Entry → Type 0
+CanHear auditor entry =
+    auditor.found ≡ None → (auditor.reader.held ≡ []) × Allows auditor.reader.judge.session entry
+
+-- while none fails, the settings were read, and no line has begun since the last one ended
+abbrev pub IsBetween : Auditor → Type 0
+IsBetween auditor =
+    auditor.found ≡ None → (auditor.reader.held ≡ []) × IsSome auditor.reader.judge.session

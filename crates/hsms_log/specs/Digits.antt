@@ -1,5 +1,5 @@
--- Hexadecimal digits that are read many at once, for private contracts.
-use Rattle.std.specs.Prelude.{◌≡◌, ℕ, ◌+◌, ◌*◌, ◌<◌, ◌≤◌, List, length, slice_index, unwrap_or, false}
+-- Hexadecimal digits that are read and written many at once, for private contracts.
+use Rattle.std.specs.Prelude.{◌≡◌, ℕ, ◌+◌, ◌*◌, ◌%◌, ◌<◌, ◌≤◌, List, length, slice_index, unwrap_or, false, nat_lt, if◌then◌else◌}
 use Rattle.hex.specs.Hex.{hex_digit_value, is_hex_digit}
 
 -- the value of a digit, and 255 of another octet
@@ -26,3 +26,7 @@ AreRead digits octets count =
 -- one of them is no digit
 abbrev pub HasOther : List ℕ → Type 0
 HasOther digits = (k : ℕ) × (k < length digits) × (is_hex_digit (slice_index digits k) ≡ false)
+
+-- the digit of a value below sixteen; of a greater one, some octet
+abbrev pub digit_of : ℕ → ℕ
+digit_of value = (value + (if nat_lt value 10 then 48 else 87)) % 256

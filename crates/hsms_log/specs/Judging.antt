@@ -1,6 +1,8 @@
 -- What the judge of a log knows between two lines.
-use Rattle.std.specs.Prelude.{◌≡◌, ◌+◌, if◌then◌else◌, ℕ, List, [], length, count_by, Option, Some, None, MatchOption}
+use Rattle.std.specs.Prelude.{◌≡◌, ◌+◌, ◌≤◌, if◌then◌else◌, ℕ, List, [], length, count_by, Option, Some, None, MatchOption}
 use Rattle.hsms_machine.specs.declared.entry.Entry.{Entry}
+use Rattle.hsms_machine.specs.declared.entry.Event.{Event}
+use Rattle.hsms_machine.specs.declared.entry.Event.TheVariants.{Up, Sent, Taken, Discarded, T3, Cut, Down}
 use Rattle.hsms_machine.specs.View.{HasView}
 use Rattle.hsms_log.specs.declared.session.Session.{Session}
 use Rattle.hsms_log.specs.declared.judging.Judge.{Judge}
@@ -42,3 +44,18 @@ pub record Follows (judge : Judge) (lines : List (List ℕ)) : Type 0 where
 abbrev pub limit_after : Option Session → ℕ
 limit_after None = settings_limit
 limit_after (Some session) = line_limit session.settings.max
+
+-- how many octets have header and text of the message of an event
+abbrev pub message_size : Event → ℕ
+message_size Up = 0
+message_size (Sent frame) = 10 + length frame.text
+message_size (Taken frame) = 10 + length frame.text
+message_size (Discarded frame) = 10 + length frame.text
+message_size (T3 system) = 0
+message_size (Cut cause) = 0
+message_size Down = 0
+
+-- the settings were read, and they allow the message of an entry
+abbrev pub Allows : Option Session → Entry → Type 0
+Allows None entry = ⊥
+Allows (Some session) entry = message_size entry.event ≤ session.settings.max

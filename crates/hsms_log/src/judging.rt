@@ -1,9 +1,13 @@
-use crate::later::later_line;
+ghost use Rattle.std.specs.Prelude.{◌≡◌};
+ghost use Rattle.hsms_log.specs.Judging.{message_size};
+
+use crate::later::{later_entry, later_line};
+use crate::range::settings_are_in_range;
 use crate::session::Session;
 use crate::settings_line::read_settings;
 use crate::tally::Tally;
 use crate::verdict::{Verdict, Why};
-use hsms_machine::Tracker;
+use hsms_machine::{Entry, Event, Tracker};
 use std::alloc::{AllocError, Global};
 
 /// How many octets the line of the settings has at most, without its end.
@@ -18,9 +22,10 @@ pub struct Judge {
 }
 
 impl Judge {
-    ghost use Rattle.std.specs.Prelude.{◌≡◌, ◌+◌, ◌-◌, ◌<◌, ◌^◌, ◌++◌, [], ◌∷◌, List, ℕ, None, Ok, IfOk, IfSome, IsSome};
+    ghost use Rattle.std.specs.Prelude.{◌≡◌, ◌↔◌, ◌+◌, ◌-◌, ◌<◌, ◌^◌, ◌++◌, [], ◌∷◌, List, ℕ, None, Ok, IfOk, IfSome, IsSome, IsTrue};
     ghost use Rattle.hsms_log.specs.Verdict.{FailsAfter, LinesJudged};
-    ghost use Rattle.hsms_log.specs.Judging.{Follows, limit_after};
+    ghost use Rattle.hsms_log.specs.Judging.{Allows, Follows, limit_after};
+    ghost use Rattle.hsms_log.specs.Spelling.{IsComment, entry_line};
 
     pub fn new(alloc: Global) -> Judge
         ensures { Follows result [] }
@@ -43,6 +48,44 @@ impl Judge {
         match &mut self.session {
             None => Ok(self.first_line(alloc, line)),
             Some(session) => { later_line(session, &mut self.tally, &mut self.octets, alloc, line) }
+        }
+    }
+
+    /// Judges an entry in place of its line, and says why it fails.
+    pub fn entry(&mut self, entry: &Entry) -> Result<Option<Why>, AllocError>
+        requires room { self.old.tally.lines < 2 ^ 64 - 1 }
+        requires allowed { Allows self.old.session entry.now }
+        ensures follows { result ≡ Ok None → (before : List (List ℕ)) → Follows self.old before → Follows self.new (before ++ entry_line entry.now ∷ []) }
+        ensures number { result ≡ Ok None → self.new.tally.lines ≡ self.old.tally.lines + 1 }
+        ensures same { IfOk result (λ answer. IsSome answer → self.new.tally.lines ≡ self.old.tally.lines) }
+        ensures fails { IfOk result (λ answer. IfSome answer (λ why. (before : List (List ℕ)) → Follows self.old before → FailsAfter before (entry_line entry.now) why)) }
+    {
+        match &mut self.session {
+            None => Ok(Some(Why::Unreadable)),
+            Some(session) => later_entry(session, &mut self.tally, entry),
+        }
+    }
+
+    /// Whether an entry can be judged in place of its line.
+    pub fn allows(&self, entry: &Entry) -> bool
+        ensures { IsTrue result ↔ Allows self.now.session entry.now }
+    {
+        match &self.session {
+            None => false,
+            Some(session) => size_of(&entry.event) <= u64::from(session.settings.max()),
+        }
+    }
+
+    /// Counts a line that is a comment.
+    pub fn comment(&mut self)
+        requires room { self.old.tally.lines < 2 ^ 64 - 1 }
+        requires settings { IsSome self.old.session }
+        ensures follows { (before : List (List ℕ)) (line : List ℕ) → IsComment line → Follows self.old before → Follows self.new (before ++ line ∷ []) }
+        ensures number { self.new.tally.lines ≡ self.old.tally.lines + 1 }
+    {
+        if let Some(session) = &self.session {
+            settings_are_in_range(&session.settings);
+            self.tally.count_line();
         }
     }
 
@@ -100,5 +143,15 @@ impl Judge {
             None => SETTINGS_LIMIT,
             Some(session) => 2 * session.settings.max() as usize + 64,
         }
+    }
+}
+
+/// How many octets have header and text of the message of an event.
+fn size_of(event: &Event) -> u64
+    ensures { result ≡ message_size event.now }
+{
+    match event {
+        Event::Sent(frame) | Event::Taken(frame) | Event::Discarded(frame) => frame.length(),
+        Event::Up | Event::T3(_) | Event::Cut(_) | Event::Down => 0,
     }
 }

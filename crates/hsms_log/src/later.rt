@@ -1,18 +1,19 @@
 //! Judging a line that is not the first.
 
-ghost use Rattle.std.specs.Prelude.{◌≡◌, ◌+◌, ◌-◌, ◌<◌, ◌^◌, ◌++◌, [], ◌∷◌, List, ℕ, Some, None, Ok, IfOk, IfSome, IsSome};
+ghost use Rattle.std.specs.Prelude.{◌≡◌, ◌+◌, ◌-◌, ◌<◌, ◌≤◌, ◌^◌, ◌++◌, [], ◌∷◌, List, ℕ, Some, None, Ok, IfOk, IfSome, IsSome};
 ghost use Rattle.hsms_log.specs.Verdict.{FailsAfter};
 ghost use Rattle.hsms_machine.specs.Entry.{frame_entry};
-ghost use Rattle.hsms_log.specs.Spelling.{Carries};
-ghost use Rattle.hsms_log.specs.Judging.{Tracks};
+ghost use Rattle.hsms_log.specs.Spelling.{Carries, entry_line};
+ghost use Rattle.hsms_log.specs.Judging.{Tracks, message_size};
 
 use crate::fault::LineFault;
+use crate::range::entry_is_in_range;
 use crate::reading::{FrameLine, Line, frame_at_front, is_blank, read_line};
 use crate::session::Session;
 use crate::tally::Tally;
 use crate::verdict::Why;
 use hsms_frame::HEADER_LENGTH;
-use hsms_machine::EntryRef;
+use hsms_machine::{Entry, EntryRef};
 use std::alloc::{AllocError, Global};
 
 /// Judges a line that is not the first. `octets` is memory for the octets of its frame, used again from line to line.
@@ -95,9 +96,43 @@ fn other_line(
         Err(LineFault::Unreadable) => return Ok(Some(Why::Unreadable)),
         Err(LineFault::Memory) => return Err(AllocError),
     };
-    if let Some(rule) = session.tracker.step(&entry)? {
+    carried_entry(session, tally, &entry)
+}
+
+/// Judges an entry by itself, as it is judged by its line.
+pub fn later_entry(
+    session: &mut Session,
+    tally: &mut Tally,
+    entry: &Entry,
+) -> Result<Option<Why>, AllocError>
+    requires room { tally.old.lines < 2 ^ 64 - 1 }
+    requires fits { message_size entry.now.event ≤ session.old.settings.max }
+    ensures follows { result ≡ Ok None → (before : List (List ℕ)) → Tracks session.old tally.old before → Tracks session.new tally.new (before ++ entry_line entry.now ∷ []) }
+    ensures same { IfOk result (λ answer. IsSome answer → tally.new.lines ≡ tally.old.lines) }
+    ensures number { result ≡ Ok None → tally.new.lines ≡ tally.old.lines + 1 }
+    ensures fails { IfOk result (λ answer. IfSome answer (λ why. (before : List (List ℕ)) → Tracks session.old tally.old before → FailsAfter before (entry_line entry.now) why)) }
+{
+    entry_is_in_range(entry);
+    carried_entry(session, tally, entry)
+}
+
+/// Judges the entry that a line carries.
+fn carried_entry(
+    session: &mut Session,
+    tally: &mut Tally,
+    entry: &Entry,
+) -> Result<Option<Why>, AllocError>
+    requires { tally.old.lines < 2 ^ 64 - 1 }
+    ensures follows { result ≡ Ok None → (line : List ℕ) → Carries session.old.settings.max line (Some entry.now)
+        → (before : List (List ℕ)) → Tracks session.old tally.old before → Tracks session.new tally.new (before ++ line ∷ []) }
+    ensures same { IfOk result (λ answer. IsSome answer → tally.new.lines ≡ tally.old.lines) }
+    ensures number { result ≡ Ok None → tally.new.lines ≡ tally.old.lines + 1 }
+    ensures fails { IfOk result (λ answer. IfSome answer (λ why. (line : List ℕ) → Carries session.old.settings.max line (Some entry.now)
+        → (before : List (List ℕ)) → Tracks session.old tally.old before → FailsAfter before line why)) }
+{
+    if let Some(rule) = session.tracker.step(entry)? {
         return Ok(Some(Why::Broken(rule)));
     }
-    tally.count_entry(&entry);
+    tally.count_entry(entry);
     Ok(None)
 }

@@ -7,16 +7,26 @@ ghost use Rattle.hsms_log.specs.Judging.{Follows};
 
 use crate::judging::Judge;
 use crate::line::{is_overlong, split_at_first, without_carriage_return};
+use crate::range::entry_is_in_range;
 use crate::verdict::{Verdict, Why};
+use hsms_machine::Entry;
 use std::alloc::{AllocError, Global};
 use std::marker::Model;
 
 /// Judges a text that comes in pieces. The lines that have ended are judged; of the line that may go on the octets are
 /// held, at most one more than the line's limit.
-#[derive(Drop)]
 pub struct LineReader {
     judge: Judge,
     held: Vec<u8>,
+}
+
+// Written out: a proof over one that is dropped has one step for it, not one for each of its parts.
+impl Drop for LineReader {
+    fn drop(self) {
+        let LineReader { judge, held } = self;
+        drop(judge);
+        drop(held);
+    }
 }
 
 impl Model for LineReader {
@@ -32,11 +42,12 @@ impl Model for LineReader {
 }
 
 impl LineReader {
-    ghost use Rattle.std.specs.Prelude.{◌≡◌, ◌+◌, ◌-◌, ◌<◌, ◌≤◌, ◌^◌, ◌++◌, [], ◌∷◌, List, ℕ, None, Ok, IfOk, IfSome, IsSome, length};
+    ghost use Rattle.std.specs.Prelude.{◌≡◌, ◌↔◌, ◌+◌, ◌-◌, ◌<◌, ◌≤◌, ◌^◌, ◌++◌, [], ◌∷◌, List, ℕ, None, Ok, IfOk, IfSome, IsSome, IsTrue, length};
     ghost use Rattle.hsms_log.specs.Lines.{HasNone, IsOverlong};
     ghost use Rattle.hsms_log.specs.Verdict.{Judges, FailsOnward};
-    ghost use Rattle.hsms_log.specs.Judging.{limit_after};
+    ghost use Rattle.hsms_log.specs.Judging.{Allows, limit_after};
     ghost use Rattle.hsms_log.specs.LineReader.{Stands, FailsAs, IsFailure};
+    ghost use Rattle.hsms_log.specs.Spelling.{IsComment, entry_line};
 
     /// The reader of a text of which nothing was read.
     pub fn new(alloc: Global) -> LineReader
@@ -69,6 +80,48 @@ impl LineReader {
             return Ok(Some(self.judge.failure(why)));
         }
         Ok(None)
+    }
+
+    /// Judges an entry in place of its line. Where it fails, it gives the failure.
+    pub fn entry(&mut self, entry: &Entry) -> Result<Option<Verdict>, AllocError>
+        requires room { self.old.judge.tally.lines < 2 ^ 64 - 1 }
+        requires between { self.old.held ≡ [] }
+        requires allowed { Allows self.old.judge.session entry.now }
+        ensures stands { result ≡ Ok None → (text : List ℕ) → Stands self.old text → Stands self.new (text ++ (entry_line entry.now ++ 10 ∷ [])) }
+        ensures number { result ≡ Ok None → self.new.judge.tally.lines ≡ self.old.judge.tally.lines + 1 }
+        ensures failure { IfOk result (λ answer. IfSome answer IsFailure) }
+        ensures fails { IfOk result (λ answer. IfSome answer (λ verdict. (text : List ℕ) → Stands self.old text → FailsAs (text ++ (entry_line entry.now ++ 10 ∷ [])) verdict)) }
+    {
+        entry_is_in_range(entry);
+        if let Some(why) = self.judge.entry(entry)? {
+            return Ok(Some(self.judge.failure(why)));
+        }
+        Ok(None)
+    }
+
+    /// Whether an entry can be judged in place of its line.
+    pub fn allows(&self, entry: &Entry) -> bool
+        ensures { IsTrue result ↔ (self.now.held ≡ []) × Allows self.now.judge.session entry.now }
+    {
+        self.held.is_empty() && self.judge.allows(entry)
+    }
+
+    /// Takes the line of a comment.
+    pub fn comment(&mut self)
+        requires room { self.old.judge.tally.lines < 2 ^ 64 - 1 }
+        requires between { self.old.held ≡ [] }
+        requires settings { IsSome self.old.judge.session }
+        ensures stands { (text comment : List ℕ) → IsComment comment → Stands self.old text → Stands self.new (text ++ (comment ++ 10 ∷ [])) }
+        ensures number { self.new.judge.tally.lines ≡ self.old.judge.tally.lines + 1 }
+    {
+        self.judge.comment();
+    }
+
+    /// Whether the settings were read, and no line has begun since the last one ended.
+    pub fn is_between(&self) -> bool
+        ensures { IsTrue result ↔ (self.now.held ≡ []) × IsSome self.now.judge.session }
+    {
+        self.held.is_empty() && self.judge.session.is_some()
     }
 
     /// Judges the line that ends with this part. Where nothing is held, it is judged where it lies.

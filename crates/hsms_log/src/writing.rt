@@ -1,6 +1,6 @@
 //! Log text, written.
 
-ghost use Rattle.std.specs.Prelude.{◌≡◌, ◌≤◌, ◌++◌, [], ◌∷◌, length, decimal};
+ghost use Rattle.std.specs.Prelude.{◌≡◌, ◌<◌, ◌++◌, [], ◌∷◌, length, decimal};
 ghost use Rattle.std.specs.List.{flat_map};
 ghost use Rattle.hex.specs.Hex.{encode_lower};
 ghost use Rattle.hsms_frame.specs.Count.{count_failure};
@@ -8,6 +8,7 @@ ghost use Rattle.hsms_log.specs.Writing.{Puts, version_text, words_of, opening_o
 ghost use Rattle.hsms_log.specs.Spelling.{SpellsSettings, SpellsEntry, entry_line, settings_line, event_text, message_octets, system_octets};
 
 use crate::fault::LogFault;
+use crate::hexadecimal::{digits_of_few, digits_of_sixteen};
 use crate::range::{entry_is_in_range, settings_are_in_range};
 use hsms_frame::{Frame, Sink, give_all};
 use hsms_machine::{Cause, Entry, Event, Role, Settings, Side};
@@ -64,31 +65,36 @@ fn put_system<W: Sink>(sink: &mut W, system: u32) -> Result<(), LogFault>
     put(sink, b"\n")
 }
 
-const CHUNK: usize = 64;
-
-/// Writes octets as hexadecimal digits in lower case.
+/// Writes octets as hexadecimal digits in lower case, sixteen octets at once.
 fn put_hex<W: Sink>(sink: &mut W, octets: &[u8]) -> Result<(), LogFault>
     ensures written { Puts result (W.state sink.old).written (W.state sink.new).written (encode_lower octets.now) }
     ensures failures { (W.state sink.new).failures ≡ count_failure result (W.state sink.old).failures }
 {
     let mut rest = octets;
-    while !rest.is_empty() {
-        let (front, others) = rest.split_at(rest.len().min(CHUNK));
-        put_chunk(sink, front)?;
+    while let Some((front, others)) = rest.split_first_chunk::<16>() {
+        put_sixteen(sink, front)?;
         rest = others;
     }
-    Ok(())
+    put_few(sink, rest)
 }
 
-fn put_chunk<W: Sink>(sink: &mut W, octets: &[u8]) -> Result<(), LogFault>
-    requires { length octets.now ≤ 64 }
+/// Writes the digits of sixteen octets.
+#[inline(always)]
+fn put_sixteen<W: Sink>(sink: &mut W, octets: &[u8; 16]) -> Result<(), LogFault>
     ensures written { Puts result (W.state sink.old).written (W.state sink.new).written (encode_lower octets.now) }
     ensures failures { (W.state sink.new).failures ≡ count_failure result (W.state sink.old).failures }
 {
-    let mut room = [0u8; 2 * CHUNK];
-    let digits = &mut room[..2 * octets.len()];
-    let _ = hex::encode_to_slice(octets, &mut *digits);
-    put(sink, digits)
+    put(sink, &digits_of_sixteen(octets))
+}
+
+/// Writes the digits of fewer than sixteen octets.
+fn put_few<W: Sink>(sink: &mut W, octets: &[u8]) -> Result<(), LogFault>
+    requires { length octets.now < 16 }
+    ensures written { Puts result (W.state sink.old).written (W.state sink.new).written (encode_lower octets.now) }
+    ensures failures { (W.state sink.new).failures ≡ count_failure result (W.state sink.old).failures }
+{
+    let digits = digits_of_few(octets);
+    put(sink, &digits[..2 * octets.len()])
 }
 
 fn put_number<W: Sink>(sink: &mut W, number: u64) -> Result<(), LogFault>

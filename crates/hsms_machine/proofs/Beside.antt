@@ -75,7 +75,7 @@ module _ (test : Transaction → Bool) where
       by_case later true = (h.0, later)
       by_case later false = later
 
-  in_order-filter : (xs : List Transaction) → AreInOrder xs → AreInOrder (filter test xs)
+  pub in_order-filter : (xs : List Transaction) → AreInOrder xs → AreInOrder (filter test xs)
   in_order-filter [] h = tt
   in_order-filter (x ∷ xs) h = by_case (in_order-filter xs h.1) (test x)
     where

@@ -18,5 +18,6 @@ pub mod Listed
 pub mod Joins
 pub mod Placed
 pub mod Mending
+pub mod Expiring
 pub mod Oldest
 pub mod Namesakes

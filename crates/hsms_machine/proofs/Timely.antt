@@ -41,7 +41,7 @@ view_until-le time later le view h = record {
   taken_control = until-le time later le view.taken_control h.taken_control;
 }
 
-until-filter : (time : ℕ) (test : Transaction → Bool) (xs : List Transaction) → AreUntil time xs → AreUntil time (filter test xs)
+pub until-filter : (time : ℕ) (test : Transaction → Bool) (xs : List Transaction) → AreUntil time xs → AreUntil time (filter test xs)
 until-filter time test [] h = tt
 until-filter time test (x ∷ xs) h = by_case (until-filter time test xs h.1) (test x)
   where

@@ -1,6 +1,7 @@
 //! Laws over the definitions of a run. Each is the contract of a function that does nothing.
 
 ghost use Rattle.hsms_machine.specs.Laws.{EachResponseAnswersOne, DataFlowsWhileSelected, ExpiryIsLoggedFirst, RepliesComeWithinT3, SystemBytesAreUnique, OneConnectionInVersionOne, EachConnectionFollowsDown, NothingIsOpenOverUp, VersionOneKeepsRuns, VersionOneKeepsAnswers, VersionOneIsOneConnection, ViewListsWhatIsOpen, LawfulEntryExtendsRun, FrontOfRunIsRun, NextOfRunIsLawful, EachEntryHasAnAnswer, NoEntryHasTwoAnswers, EmptyLogIsRun, RunIsRunOfSeveral, SingleRunOfSeveralIsRun, JoinedRunsAreARun, JoinedConnectionsAreARun};
+ghost use Rattle.hsms_machine.specs.Put.{ExpiryPutIsLawful};
 ghost use Rattle.hsms_machine.specs.Repair.{RepairedLogPasses, LawfulEntryIsKept, RunIsItsRepair, FrontIsKept};
 
 /// Each sent or taken response of a run answers exactly one open transaction, which it closes.
@@ -87,4 +88,9 @@ pub fn repaired_log_passes()
     ensures kept { LawfulEntryIsKept }
     ensures run { RunIsItsRepair }
     ensures front { FrontIsKept }
+{}
+
+/// An expiry of T3 that is put before an entry, where a log is gone on with, breaks no rule there.
+pub fn expiry_put_is_lawful()
+    ensures { ExpiryPutIsLawful }
 {}

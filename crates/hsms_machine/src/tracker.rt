@@ -14,9 +14,17 @@ use std::marker::Model;
 /// time of the last `up` and of the last entry, and the open transactions, each with its time and header: what
 /// the rules need to know of the entries so far. It stores no log; some lawful log has led to it. In a log of several
 /// connections (`Settings::several`) what is open and the phase are those of the connection since the last `up`.
-#[derive(Debug, Drop)]
+#[derive(Debug)]
 pub struct Tracker {
     view: View,
+}
+
+// Written out: a proof over one that is dropped has one step for it, not one for each of its parts.
+impl Drop for Tracker {
+    fn drop(self) {
+        let Tracker { view } = self;
+        drop(view);
+    }
 }
 
 impl Model for Tracker {

@@ -13,9 +13,8 @@ use Rattle.hsms_frame.specs.Frame.{Frame, frame_octets, length_field, IsFaultles
 use Rattle.hsms_frame.specs.Framing.{FrontAs}
 use Rattle.hsms_options.specs.declared.fault.ToolFault.{ToolFault}
 use Rattle.hsms_options.specs.declared.fault.ToolFault.TheVariants.{Refused, Device, Memory}
-use Rattle.hsms_show.specs.Ahead.{EndsAs, FindsNext, IsStopped, IsUnread, TellsFound, is_open, of_reading}
+use Rattle.hsms_show.specs.Ahead.{EndsAs, FindsNext, IsStopped, IsUnread, Tells, TellsFound, is_open}
 use Rattle.hsms_lines.specs.Devices.{LeavesPart}
-use Rattle.hsms_show.specs.Show.{Tells}
 
 pub if_ok_map : {T E : Type 0} (r : Result T E) (P Q : T → Type 0) → ((x : T) → P x → Q x) → IfOk r P → IfOk r Q
 if_ok_map (Ok x) P Q f h = f x h
@@ -68,8 +67,8 @@ at_the_end max input ahead (Ok None) left same is begun (none, found) = (same �
 at_the_end max input ahead (Err (Refused words)) left same is begun (some, told) =
     let P : List ℕ → Type 0 = λ o. (o ≢ []) × IsFaultless max o × IsProperFront o in
     let cut_off = subst P (sym same) (some, begun.0, begun.1) in
-    ((CutOff, Some [], (cut_off.0, cut_off.1, cut_off.2, refl), told.0, told.1, told.2), all_of input left is)
-at_the_end max input ahead (Err (Device word)) left same is begun (some, told) = let read = told.0 in cc
+    ((CutOff, Some [], (cut_off.0, cut_off.1, cut_off.2, refl), (λ memory. cc), (λ read. cc), told), all_of input left is)
+at_the_end max input ahead (Err (Device word)) left same is begun (some, told) = absurd told
 at_the_end max input ahead (Err Memory) left same is begun ends = all_of input left is
 
 -- ---- a fault at the front
@@ -102,17 +101,17 @@ part_left : (input ahead rest : List ℕ) (left : Option (List ℕ)) → left �
 part_left input ahead rest left is parts = (ahead, rest, parts, is)
 
 stopped_at : (max : ℕ) (input ahead rest : List ℕ) (fault : FrameFault) (tool : ToolFault) (left : Option (List ℕ)) → left ≡ Some rest
-    → input ≡ ahead ++ rest → FrontAs max ahead (Err fault) → Tells (of_reading fault) tool → IsStopped max input tool left
+    → input ≡ ahead ++ rest → FrontAs max ahead (Err fault) → Tells fault tool → IsStopped max input tool left
 stopped_at max input ahead rest frame.Memory tool left is parts front told = absurd front
-stopped_at max input ahead rest (frame.TooShort n) (Refused words) left is parts front (a, b, words_are) =
+stopped_at max input ahead rest (frame.TooShort n) (Refused words) left is parts front (some, words_are) =
     let P : List ℕ → Type 0 = λ o. IsTooShort o n in
-    ((TooShort n, Some (drop 4 input), (subst P (sym parts) (too_short ahead rest n front), refl), a, b, words_are), part_left input ahead rest left is parts)
-stopped_at max input ahead rest (frame.TooShort n) (Device word) left is parts front (read, word_is) = cc
+    ((TooShort n, Some (drop 4 input), (subst P (sym parts) (too_short ahead rest n front), refl), (λ memory. cc), (λ read. cc), words_are), part_left input ahead rest left is parts)
+stopped_at max input ahead rest (frame.TooShort n) (Device word) left is parts front told = absurd told
 stopped_at max input ahead rest (frame.TooShort n) Memory left is parts front told = part_left input ahead rest left is parts
-stopped_at max input ahead rest (frame.TooLong n h) (Refused words) left is parts front (a, b, words_are) =
+stopped_at max input ahead rest (frame.TooLong n h) (Refused words) left is parts front (some, words_are) =
     let P : List ℕ → Type 0 = λ o. IsTooLong max o n h in
-    ((TooLong n h, Some (drop 14 input), (subst P (sym parts) (too_long max ahead rest n h front), refl), a, b, words_are), part_left input ahead rest left is parts)
-stopped_at max input ahead rest (frame.TooLong n h) (Device word) left is parts front (read, word_is) = cc
+    ((TooLong n h, Some (drop 14 input), (subst P (sym parts) (too_long max ahead rest n h front), refl), (λ memory. cc), (λ read. cc), words_are), part_left input ahead rest left is parts)
+stopped_at max input ahead rest (frame.TooLong n h) (Device word) left is parts front told = absurd told
 stopped_at max input ahead rest (frame.TooLong n h) Memory left is parts front told = part_left input ahead rest left is parts
 
 -- what is at the front, as the command tells it

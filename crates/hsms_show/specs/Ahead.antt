@@ -2,16 +2,16 @@
 use Rattle.std.specs.Prelude.{◌≡◌, ◌≢◌, ◌<◌, ◌⊎◌, ◌++◌, ℕ, List, [], length, codes, string_bytes, Bool, true, false, Option, Some, None, Result, Ok, Err}
 use Rattle.hsms_frame.specs.declared.fault.FrameFault.{FrameFault}
 use Rattle.hsms_frame.specs.declared.fault.FrameFault.TheVariants as frame
-use Rattle.hsms_frame.specs.declared.fault.ReadFault.{ReadFault}
-use Rattle.hsms_frame.specs.declared.fault.ReadFault.TheVariants.{TooShort, TooLong, Memory, CutOff}
 use Rattle.hsms_frame.specs.declared.header.Header.{Header}
+use Rattle.hsms_frame.specs.Fault.{frame_fault_text}
 use Rattle.hsms_frame.specs.Reading.{StopsWithin}
 use Rattle.hsms_options.specs.declared.fault.ToolFault.{ToolFault}
 use Rattle.hsms_options.specs.declared.fault.ToolFault.TheVariants as tool
+use Rattle.hsms_options.specs.Status.{IsRefusedAs}
 use Rattle.hsms_frame.specs.Device.{Grows, GrowsByFront}
 use Rattle.hsms_lines.specs.Held.{GrowsHolding}
 use Rattle.hsms_lines.specs.Devices.{HasWord, IsWrite, LeavesPart}
-use Rattle.hsms_show.specs.Show.{IsRefused, Tells}
+use Rattle.hsms_show.specs.Show.{IsRefused}
 
 -- what is left of an input: what was read ahead, and what the source has left
 abbrev pub behind : List ℕ → Option (List ℕ) → Option (List ℕ)
@@ -53,21 +53,21 @@ is_open (Ok (Some found)) = false
 is_open (Ok None) = true
 is_open (Err fault) = false
 
--- a fault at the front, as one of reading
-abbrev pub of_reading : FrameFault → ReadFault
-of_reading (frame.TooShort n) = TooShort n
-of_reading (frame.TooLong n h) = TooLong n h
-of_reading frame.Memory = Memory
+-- a fault at the front, as the command tells it: in its words, which may want memory
+abbrev pub Tells : FrameFault → ToolFault → Type 0
+Tells fault (tool.Refused words) = (fault ≢ frame.Memory) × (string_bytes words ≡ frame_fault_text fault)
+Tells fault (tool.Device word) = ⊥
+Tells fault tool.Memory = Unit {0}
 
 -- what is found at the front, as the command tells it
 abbrev pub TellsFound : Result (Option (Header × ℕ)) FrameFault → Result (Option (Header × ℕ)) ToolFault → Type 0
 TellsFound (Ok found) told = told ≡ Ok found
-TellsFound (Err fault) told = (tool : ToolFault) × (told ≡ Err tool) × Tells (of_reading fault) tool
+TellsFound (Err fault) told = (tool : ToolFault) × (told ≡ Err tool) × Tells fault tool
 
 -- the answer where the input ends, and these octets belong to no message
 abbrev pub EndsAs : List ℕ → Result (Option (Header × ℕ)) ToolFault → Type 0
 EndsAs octets (Ok found) = (octets ≡ []) × (found ≡ None)
-EndsAs octets (Err tool) = (octets ≢ []) × Tells CutOff tool
+EndsAs octets (Err tool) = (octets ≢ []) × IsRefusedAs (codes "CutOff") tool
 
 -- what is left after a call that shows a message: also what was read ahead, unless the call stopped or found the end
 abbrev pub left_after : Result Bool ToolFault → List ℕ → Option (List ℕ) → Option (List ℕ)

@@ -95,9 +95,3 @@ IsEnded max input (Err (Device word)) left =
     ((word.now ≡ codes "Read") × StopsWithin max input left)
     ⊎ ((word.now ≡ codes "Endless") × (f : Frame) × (after : List ℕ) × Begins max input f after × LeavesPart after left)
 IsEnded max input (Err Memory) left = LeavesPart input left
-
--- the fault of a reading, as the command tells it; the words may want memory
-abbrev pub Tells : ReadFault → ToolFault → Type 0
-Tells fault (Refused words) = (fault ≢ read.Memory) × (fault ≢ read.Read) × (string_bytes words ≡ read_fault_text fault)
-Tells fault (Device word) = (fault ≡ read.Read) × (word.now ≡ codes "Read")
-Tells fault Memory = fault ≢ read.Read

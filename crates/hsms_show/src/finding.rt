@@ -5,13 +5,12 @@ ghost use Rattle.hsms_frame.specs.Count.{next_count};
 ghost use Rattle.hsms_frame.specs.Ahead.{ReadsMore};
 ghost use Rattle.hsms_frame.specs.Device.{WhereTold, IsAtEnd};
 ghost use Rattle.hsms_frame.specs.Framing.{IsFrontOf};
-ghost use Rattle.hsms_show.specs.Ahead.{FindsHolding, FindsNext, IsUnread, TellsFound, EndsAs, is_open, of_reading};
+ghost use Rattle.hsms_show.specs.Ahead.{FindsHolding, FindsNext, IsUnread, Tells, TellsFound, EndsAs, is_open};
 ghost use Rattle.hsms_lines.specs.Devices.{CountsFailure, HasWord, IsReadOrWrite};
-ghost use Rattle.hsms_show.specs.Show.{Tells};
 
-use hsms_frame::{Ahead, AheadFault, FrameFault, Header, ReadFault, Sink, Source, front};
+use hsms_frame::{Ahead, AheadFault, FrameFault, Header, Sink, Source, front};
 use hsms_lines::put_out;
-use hsms_options::ToolFault;
+use hsms_options::{ToolFault, refused};
 use secs_text::Block;
 use std::alloc::Global;
 
@@ -129,7 +128,7 @@ fn at_end(alloc: Global, octets: &[u8]) -> Result<Option<(Header, usize)>, ToolF
     if octets.is_empty() {
         return Ok(None);
     }
-    Err(told(alloc, ReadFault::CutOff))
+    Err(refused(alloc, "CutOff"))
 }
 
 #[inline(always)]
@@ -143,27 +142,17 @@ fn told_found(
 {
     match found {
         Ok(found) => Ok(found),
-        Err(fault) => Err(told(alloc, as_read(fault))),
+        Err(fault) => Err(told(alloc, fault)),
     }
 }
 
-fn as_read(fault: FrameFault) -> ReadFault
-    ensures { result ≡ of_reading fault }
-{
-    match fault {
-        FrameFault::TooShort { length } => ReadFault::TooShort { length },
-        FrameFault::TooLong { length, header } => ReadFault::TooLong { length, header },
-        FrameFault::Memory => ReadFault::Memory,
-    }
-}
-
-fn told(alloc: Global, fault: ReadFault) -> ToolFault
+// A fault of octets in words, or want of memory for them.
+fn told(alloc: Global, fault: FrameFault) -> ToolFault
     ensures { Tells fault result }
 {
     match fault {
-        ReadFault::Memory => ToolFault::Memory,
-        ReadFault::Read => ToolFault::Device("Read"),
-        ReadFault::TooShort { .. } | ReadFault::TooLong { .. } | ReadFault::CutOff => {
+        FrameFault::Memory => ToolFault::Memory,
+        FrameFault::TooShort { .. } | FrameFault::TooLong { .. } => {
             match fault.to_string(alloc) {
                 Ok(words) => ToolFault::Refused(words),
                 Err(_) => ToolFault::Memory,

@@ -8,7 +8,7 @@ ghost use Rattle.hsms_tasks.specs.Encode.{output_of, HasRefused};
 
 use crate::refusal::Refusal;
 use hsms_frame::{Header, data_header, front_octets};
-use hsms_lines::{digits_of_few, digits_of_sixteen};
+use hsms_log::{digits_of_few, digits_of_sixteen};
 use hsms_options::{ToolFault, refused};
 use secs_text::{Head, Receiver};
 use std::alloc::{AllocError, Global};

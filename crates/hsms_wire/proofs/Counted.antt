@@ -1,8 +1,8 @@
 -- What is told where verdicts are.
 use Rattle.std.proofs.Common.{◌≡◌, Option, Some, sym, subst}
 use Rattle.std.specs.Prelude.{Result, Ok, Err, OnOk}
-use Rattle.hsms_wire.specs.declared.ends.Ends.{Ends}
-use Rattle.hsms_wire.specs.declared.pair.Pair.{Pair}
+use Rattle.hsms_accounts.specs.declared.ends.Ends.{Ends}
+use Rattle.hsms_accounts.specs.declared.pair.Pair.{Pair}
 use Rattle.hsms_wire.specs.declared.report.Manner.{Manner}
 use Rattle.hsms_wire.specs.declared.report.Manner.TheVariants.{Verdicts}
 use Rattle.hsms_wire.specs.declared.report.Report.{Report}

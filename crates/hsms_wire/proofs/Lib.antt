@@ -1,5 +1,4 @@
 mod Counted
-mod Hears
-mod Logs
 mod Tellings
 mod Written
+mod Quiet

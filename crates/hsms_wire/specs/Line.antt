@@ -10,8 +10,8 @@ use Rattle.hsms_log.specs.declared.verdict.Verdict.TheVariants.{Pass, Fail}
 use Rattle.hsms_lines.specs.Verdict.{rule_name, verdict_line_of}
 use Rattle.hsms_capture.specs.declared.packet.Side.{Side}
 use Rattle.hsms_capture.specs.declared.packet.Side.TheVariants.{Active, Passive}
-use Rattle.hsms_wire.specs.declared.account.Told.{Told}
-use Rattle.hsms_wire.specs.declared.pair.Pair.{Pair}
+use Rattle.hsms_accounts.specs.declared.account.Told.{Told}
+use Rattle.hsms_accounts.specs.declared.pair.Pair.{Pair}
 use Rattle.hsms_wire.specs.declared.shortfall.Shortfall.{Shortfall}
 use Rattle.hsms_wire.specs.declared.shortfall.Shortfall.TheVariants.{Lost, Differs, Length, Full, Time, File}
 

@@ -10,16 +10,16 @@ use Rattle.hsms_capture.specs.declared.packet.Side.{Side}
 use Rattle.hsms_capture.specs.declared.packet.Side.TheVariants.{Active, Passive}
 use Rattle.hsms_wire.specs.Line.{end_line_of}
 use Rattle.hsms_wire.specs.Stop.{TellsShortfall}
-use Rattle.hsms_wire.specs.Account.{HasLogged, Note, Standing, log_text}
-use Rattle.hsms_wire.specs.declared.account.Told.{Told}
-use Rattle.hsms_wire.specs.declared.ends.Ends.{Ends}
-use Rattle.hsms_wire.specs.declared.pair.Pair.{Pair}
+use Rattle.hsms_accounts.specs.Account.{HasLogged, Note, Standing, log_text}
+use Rattle.hsms_accounts.specs.declared.account.Told.{Told}
+use Rattle.hsms_accounts.specs.declared.ends.Ends.{Ends}
+use Rattle.hsms_accounts.specs.declared.pair.Pair.{Pair}
 use Rattle.hsms_wire.specs.declared.report.Manner.{Manner}
 use Rattle.hsms_wire.specs.declared.report.Manner.TheVariants.{Verdicts, Log}
 use Rattle.hsms_wire.specs.declared.report.Report.{Report}
 use Rattle.hsms_wire.specs.declared.shortfall.Shortfall.{Shortfall}
-use Rattle.hsms_wire.specs.declared.stop.Stop.{Stop}
-use Rattle.hsms_wire.specs.declared.stop.Stop.TheVariants as stop
+use Rattle.hsms_accounts.specs.declared.stop.Stop.{Stop}
+use Rattle.hsms_accounts.specs.declared.stop.Stop.TheVariants as stop
 
 -- of what is missing, what was found first
 abbrev pub first_of : Option Shortfall → Shortfall → Shortfall

@@ -5,8 +5,8 @@ use Rattle.hsms_options.specs.declared.fault.ToolFault.{ToolFault}
 use Rattle.hsms_options.specs.declared.fault.ToolFault.TheVariants as tool
 use Rattle.hsms_wire.specs.Line.{shortfall_words}
 use Rattle.hsms_wire.specs.declared.shortfall.Shortfall.{Shortfall}
-use Rattle.hsms_wire.specs.declared.stop.Stop.{Stop}
-use Rattle.hsms_wire.specs.declared.stop.Stop.TheVariants as stop
+use Rattle.hsms_accounts.specs.declared.stop.Stop.{Stop}
+use Rattle.hsms_accounts.specs.declared.stop.Stop.TheVariants as stop
 
 -- in the same words, or by the word of its name
 abbrev pub TellsStop : Stop → ToolFault → Type 0

@@ -7,8 +7,9 @@ ghost use Rattle.hsms_wire.specs.Report.{Concludes, EndsWith, Tells, Writes};
 
 use crate::report::Report;
 use crate::shortfall::Shortfall;
-use crate::stop::{Stop, fault_of};
+use crate::stop::fault_of;
 use crate::table::{Capture, Table};
+use hsms_accounts::Stop;
 use hsms_frame::{Sink, Source};
 use hsms_options::{Capturing, ToolFault};
 use hsms_packets::{FileFault, Packets, Record, Segment, Shown, Step, octets_of, segment_of};
@@ -27,7 +28,7 @@ use std::alloc::Global;
 /// - `Refused`: where what is told is incomplete and no log fails, by what was missing first; where no connection came
 ///   up; and where the log of an end would be one of two connections at once, or of other addresses. What is sure was
 ///   written before.
-/// - `Device`: `Read` or `Write`, where a device failed, and `Endless`, where a log has more than 2^62 octets, or the
+/// - `Device`: `Read` or `Write`, where a device failed, and `Endless`, where a log may have more than 2^62 lines, or the
 ///   capture has more than 2^64 blocks.
 /// - `Memory`.
 #[tactic(auto, using(crate::proofs::Written::none_more, crate::proofs::Written::some_more))]

@@ -1,7 +1,7 @@
 //! Whether more is told of a connection.
 
-use crate::ends::Heard;
 use crate::shortfall::Shortfall;
+use hsms_accounts::Heard;
 
 /// Whether more of a connection is told, or what it lacks.
 #[derive(Clone, Copy)]

@@ -4,13 +4,11 @@ ghost use Rattle.std.specs.Prelude.{OnOk};
 ghost use Rattle.hsms_wire.specs.Report.{Tells};
 
 use crate::course::Course;
-use crate::ends::{Ends, unboxed};
 use crate::joining::{Joining, begin, gather};
-use crate::pair::Pair;
 use crate::report::Report;
 use crate::shortfall::Shortfall;
-use crate::stop::Stop;
 use crate::within::Within;
+use hsms_accounts::{Ends, Pair, Stop, unboxed};
 use hsms_capture::{Connection, ConnectionFault, Ending, Event, Happening, Segment, Side};
 use hsms_joined::Gathering;
 use std::alloc::{AllocError, Global};
@@ -28,7 +26,6 @@ pub struct Flow {
 }
 
 /// How far a connection is.
-#[derive(Drop)]
 pub enum Stage {
     /// The number of the passive end's SYN isn't known, and these packets wait for it.
     Opening(Vec<Waiting>),
@@ -57,7 +54,6 @@ pub struct Open {
 }
 
 /// What was logged of a connection.
-#[derive(Drop)]
 struct Logs {
     /// The logs of its ends, where they are audited and it came up. They stand apart, since a connection is moved with each
     /// packet.
@@ -65,6 +61,19 @@ struct Logs {
     is_up: bool,
     /// The numbers of its packets that reset it and acknowledge nothing.
     bare_resets: Vec<u64>,
+}
+
+// Written out: a proof over logs that are dropped has one step for them, not one for each of their parts.
+impl Drop for Logs {
+    fn drop(self) {
+        let Logs {
+            ends,
+            is_up: _,
+            bare_resets,
+        } = self;
+        drop(ends);
+        drop(bare_resets);
+    }
 }
 
 // What a connection has come to with a packet: more may follow, or it has ended, and may lack something.
@@ -112,7 +121,84 @@ impl Flow {
     }
 }
 
+// Written out: a proof over one that is dropped has one step for it, not one for each of its cases.
+impl Drop for Stage {
+    fn drop(self) {
+        match self {
+            Stage::Opening(waiting) => drop(waiting),
+            Stage::Open(open) => drop(open),
+            Stage::Joining(gathering) => drop(gathering),
+            Stage::Within(within) => drop(within),
+            Stage::Over => {}
+        }
+    }
+}
+
+impl Stage {
+    ghost use Rattle.std.specs.Prelude.{OnOk};
+    ghost use Rattle.hsms_wire.specs.Report.{Tells};
+
+    /// Takes a packet of a connection that begins with a SYN of this number, if it does with one.
+    #[tactic(auto, using(crate::proofs::Tellings::tells_nothing, crate::proofs::Tellings::tells_then, crate::proofs::Tellings::ok_then))]
+    pub fn take(
+        self,
+        alloc: Global,
+        report: &mut Report,
+        pair: &Pair,
+        syn: Option<u32>,
+        segment: Segment,
+        octets: &[u8],
+    ) -> Result<Stage, Stop>
+        ensures told { OnOk result (Tells report.old report.new) }
+    {
+        match self {
+            Stage::Over => Ok(Stage::Over),
+            Stage::Open(open) => {
+                let left = follow(alloc, report, pair, open, segment, octets)?;
+                Ok(stage_of(left))
+            }
+            Stage::Joining(gathering) => join(alloc, report, pair, gathering, segment, octets),
+            Stage::Within(within) => go_within(alloc, report, pair, within, segment, octets),
+            Stage::Opening(waiting) => match answered(syn, &segment) {
+                Some(syn) => {
+                    let left = begin_with(alloc, report, pair, syn, waiting, segment, octets)?;
+                    Ok(stage_of(left))
+                }
+                None => wait(alloc, report, pair, waiting, segment, octets),
+            },
+        }
+    }
+
+    /// Tells what is left of a connection of which no packet follows: since a later one replaces it, or at the end of what
+    /// is read, where something may be missing.
+    #[tactic(auto, using(crate::proofs::Tellings::tells_nothing, crate::proofs::Tellings::tells_then, crate::proofs::Tellings::ok_then))]
+    pub fn end(
+        self,
+        alloc: Global,
+        report: &mut Report,
+        pair: &Pair,
+        is_replaced: bool,
+        missing: Option<Shortfall>,
+    ) -> Result<(), Stop>
+        ensures told { OnOk result (Tells report.old report.new) }
+    {
+        match self {
+            Stage::Over => Ok(()),
+            Stage::Opening(waiting) => give_up(alloc, report, pair, &waiting),
+            Stage::Open(open) => end_open(alloc, report, pair, open, is_replaced, missing),
+            Stage::Within(within) => within.end(alloc, report, pair, is_replaced, missing),
+            Stage::Joining(gathering) => match begin(alloc, report, pair, gathering, true)? {
+                Joining::Within(within) => within.end(alloc, report, pair, is_replaced, missing),
+                Joining::Gathers(_) | Joining::Over => Ok(()),
+            },
+        }
+    }
+}
+
 impl Logs {
+    ghost use Rattle.std.specs.Prelude.{OnOk};
+    ghost use Rattle.hsms_wire.specs.Report.{Tells};
+
     fn new(alloc: Global) -> Logs {
         Logs {
             ends: None,
@@ -142,41 +228,58 @@ impl Logs {
         };
         Happening { time, ..happening }
     }
+
+    // The connection is over. One that never came up and lacks nothing isn't told.
+    #[tactic(auto, using(crate::proofs::Tellings::tells_nothing, crate::proofs::Tellings::tells_then, crate::proofs::Tellings::ok_then))]
+    fn conclude(
+        self,
+        alloc: Global,
+        report: &mut Report,
+        pair: &Pair,
+        shortfall: Option<Shortfall>,
+    ) -> Result<(), Stop>
+        ensures told { OnOk result (Tells report.old report.new) }
+    {
+        let Logs {
+            ends,
+            is_up,
+            bare_resets: _,
+        } = self;
+        if !is_up && shortfall.is_none() {
+            return Ok(());
+        }
+        report.conclude(alloc, pair, unboxed(ends), shortfall)
+    }
 }
 
-/// Takes a packet of a connection that begins with a SYN of this number, if it does with one.
+// How far a connection is that is followed, as long as it isn't over.
+fn stage_of(left: Option<Open>) -> Stage {
+    match left {
+        Some(open) => Stage::Open(open),
+        None => Stage::Over,
+    }
+}
+
+// Takes the passive end's SYN, and before it the packets that waited. None is left of a connection that is over.
 #[tactic(auto, using(crate::proofs::Tellings::tells_nothing, crate::proofs::Tellings::tells_then, crate::proofs::Tellings::ok_then))]
-pub fn take(
+fn begin_with(
     alloc: Global,
     report: &mut Report,
     pair: &Pair,
-    syn: Option<u32>,
-    stage: Stage,
+    syn: u32,
+    waiting: Vec<Waiting>,
     segment: Segment,
     octets: &[u8],
-) -> Result<Stage, Stop>
+) -> Result<Option<Open>, Stop>
     ensures told { OnOk result (Tells report.old report.new) }
 {
-    match stage {
-        Stage::Over => Ok(Stage::Over),
-        Stage::Open(open) => follow(alloc, report, pair, open, segment, octets),
-        Stage::Joining(gathering) => join(alloc, report, pair, gathering, segment, octets),
-        Stage::Within(within) => go_within(alloc, report, pair, within, segment, octets),
-        Stage::Opening(waiting) => match answered(syn, &segment) {
-            Some(syn) => {
-                let open = Open {
-                    connection: Connection::new(alloc, syn, segment.number),
-                    logs: Logs::new(alloc),
-                };
-                match follow_all(alloc, report, pair, open, waiting)? {
-                    Stage::Open(open) => follow(alloc, report, pair, open, segment, octets),
-                    Stage::Opening(_) | Stage::Joining(_) | Stage::Within(_) | Stage::Over => {
-                        Ok(Stage::Over)
-                    }
-                }
-            }
-            None => wait(alloc, report, pair, waiting, segment, octets),
-        },
+    let open = Open {
+        connection: Connection::new(alloc, syn, segment.number),
+        logs: Logs::new(alloc),
+    };
+    match follow_all(alloc, report, pair, open, waiting)? {
+        Some(open) => follow(alloc, report, pair, open, segment, octets),
+        None => Ok(None),
     }
 }
 
@@ -217,32 +320,7 @@ fn go_within(
     }
 }
 
-/// Tells what is left of a connection of which no packet follows: since a later one replaces it, or at the end of what
-/// is read, where something may be missing.
-#[tactic(auto, using(crate::proofs::Tellings::tells_nothing, crate::proofs::Tellings::tells_then, crate::proofs::Tellings::ok_then))]
-pub fn end(
-    alloc: Global,
-    report: &mut Report,
-    pair: &Pair,
-    stage: Stage,
-    is_replaced: bool,
-    missing: Option<Shortfall>,
-) -> Result<(), Stop>
-    ensures told { OnOk result (Tells report.old report.new) }
-{
-    match stage {
-        Stage::Over => Ok(()),
-        Stage::Opening(waiting) => give_up(alloc, report, pair, &waiting),
-        Stage::Open(open) => end_open(alloc, report, pair, open, is_replaced, missing),
-        Stage::Within(within) => within.end(alloc, report, pair, is_replaced, missing),
-        Stage::Joining(gathering) => match begin(alloc, report, pair, gathering, true)? {
-            Joining::Within(within) => within.end(alloc, report, pair, is_replaced, missing),
-            Joining::Gathers(_) | Joining::Over => Ok(()),
-        },
-    }
-}
-
-// The same of one that is followed.
+// Tells what is left of a connection that is followed.
 #[tactic(auto, using(crate::proofs::Tellings::tells_nothing, crate::proofs::Tellings::tells_then, crate::proofs::Tellings::ok_then))]
 fn end_open(
     alloc: Global,
@@ -270,7 +348,7 @@ fn end_open(
     };
     let is_left = matches!(course, Course::Goes) && shortfall.is_none();
     go_down(alloc, report, &mut logs, is_replaced && is_left)?;
-    conclude(alloc, report, pair, logs, shortfall)
+    logs.conclude(alloc, report, pair, shortfall)
 }
 
 // A connection that is up goes down, where a later one replaces it.
@@ -348,7 +426,7 @@ fn shows_loss(packet: &Waiting) -> bool {
     acknowledges || !packet.octets.is_empty()
 }
 
-// Takes the packets that waited.
+// Takes the packets that waited. None is left of a connection that is over.
 #[tactic(auto, using(crate::proofs::Tellings::tells_nothing, crate::proofs::Tellings::tells_then, crate::proofs::Tellings::ok_then))]
 fn follow_all(
     alloc: Global,
@@ -356,22 +434,20 @@ fn follow_all(
     pair: &Pair,
     open: Open,
     waiting: Vec<Waiting>,
-) -> Result<Stage, Stop>
+) -> Result<Option<Open>, Stop>
     ensures told { OnOk result (Tells report.old report.new) }
 {
-    let mut stage = Stage::Open(open);
+    let mut left = Some(open);
     for packet in waiting {
-        stage = match stage {
-            Stage::Open(open) => {
-                follow(alloc, report, pair, open, packet.segment, &packet.octets)?
-            }
-            Stage::Opening(_) | Stage::Joining(_) | Stage::Within(_) | Stage::Over => Stage::Over,
+        left = match left {
+            Some(open) => follow(alloc, report, pair, open, packet.segment, &packet.octets)?,
+            None => None,
         };
     }
-    Ok(stage)
+    Ok(left)
 }
 
-// Takes a packet of a connection that is followed.
+// Takes a packet of a connection that is followed. None is left of one that is over.
 #[tactic(auto, using(crate::proofs::Tellings::tells_nothing, crate::proofs::Tellings::tells_then, crate::proofs::Tellings::ok_then))]
 fn follow(
     alloc: Global,
@@ -380,7 +456,7 @@ fn follow(
     open: Open,
     segment: Segment,
     octets: &[u8],
-) -> Result<Stage, Stop>
+) -> Result<Option<Open>, Stop>
     ensures told { OnOk result (Tells report.old report.new) }
 {
     let Open {
@@ -421,18 +497,18 @@ fn go_on(
     logs: Logs,
     course: Course,
     followed: Followed,
-) -> Result<Stage, Stop>
+) -> Result<Option<Open>, Stop>
     ensures told { OnOk result (Tells report.old report.new) }
 {
     let shortfall = match course {
         Course::Over(shortfall) => shortfall,
         Course::Goes => match followed {
-            Followed::Goes(connection) => return Ok(Stage::Open(Open { connection, logs })),
+            Followed::Goes(connection) => return Ok(Some(Open { connection, logs })),
             Followed::Ends(shortfall) => shortfall,
         },
     };
-    conclude(alloc, report, pair, logs, shortfall)?;
-    Ok(Stage::Over)
+    logs.conclude(alloc, report, pair, shortfall)?;
+    Ok(None)
 }
 
 // Hears what happens, up to a `down`, or a message that no end takes.
@@ -456,21 +532,4 @@ fn hear_all(
         }
     }
     Ok(Course::Goes)
-}
-
-// A connection is over. One that never came up and lacks nothing isn't told.
-#[tactic(auto, using(crate::proofs::Tellings::tells_nothing, crate::proofs::Tellings::tells_then, crate::proofs::Tellings::ok_then))]
-fn conclude(
-    alloc: Global,
-    report: &mut Report,
-    pair: &Pair,
-    logs: Logs,
-    shortfall: Option<Shortfall>,
-) -> Result<(), Stop>
-    ensures told { OnOk result (Tells report.old report.new) }
-{
-    if !logs.is_up && shortfall.is_none() {
-        return Ok(());
-    }
-    report.conclude(alloc, pair, unboxed(logs.ends), shortfall)
 }

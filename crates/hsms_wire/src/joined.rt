@@ -1,16 +1,14 @@
 //! What is told of a session that was running before the capture.
 
 ghost use Rattle.std.specs.Prelude.{OnOk};
+ghost use Rattle.hsms_wire.specs.Joined.{IsQuiet};
 ghost use Rattle.hsms_wire.specs.Report.{Tells};
 
 use crate::course::Course;
-use crate::ends::{Ends, unboxed};
-use crate::entries::header_at;
-use crate::pair::Pair;
 use crate::report::Report;
 use crate::said::Said;
 use crate::shortfall::Shortfall;
-use crate::stop::Stop;
+use hsms_accounts::{Ends, Pair, Stop, header_at, unboxed};
 use hsms_capture::{Event, Happening, Side};
 use hsms_frame::{Frame, Header, select_req, select_rsp};
 use hsms_joined::{Start, Supposed};
@@ -24,22 +22,63 @@ const GREATEST_WAIT: usize = 4096;
 const SUPPOSED_SYSTEM: u32 = u32::MAX;
 
 /// What is told of such a session, from the packet on with which both of its directions have begun.
-#[derive(Drop)]
 pub struct Joined {
     start: Start,
     /// The logs of its ends, where they are audited and it came up.
     ends: Option<Box<Ends>>,
-    // Whether it is decided what stood before.
+    // Whether it came up: what is supposed is told, and then a message. Before nothing is told of it.
     is_up: bool,
+    // Whether it is decided what stood before.
+    is_decided: bool,
+    // What is supposed, and which end has asked, where one has: that the session was selected, unless a message says
+    // otherwise.
+    supposed: Supposed,
+    asker: Side,
     // The messages that wait for one that decides it.
     waiting: Vec<Happening>,
+    // The packets of the messages that are left out before the first one that isn't.
+    left_out: Vec<u64>,
     // What both ends have asked for since then, or, once it is decided, with what is supposed; none past T3.
     said: Option<Said>,
 }
 
+// Written out: a proof over one that is dropped has one step for it, not one for each of its parts.
+impl Drop for Joined {
+    fn drop(self) {
+        let Joined {
+            start: _,
+            ends,
+            is_up: _,
+            is_decided: _,
+            supposed: _,
+            asker: _,
+            waiting,
+            left_out,
+            said,
+        } = self;
+        drop(ends);
+        drop(waiting);
+        drop(left_out);
+        drop(said);
+    }
+}
+
+// What becomes of what happens.
+#[derive(Clone, Copy)]
+enum Part {
+    // It is a message, which is told.
+    Message,
+    // It is a response to what may stand before the capture.
+    LeftOut,
+    // It is no message that an end takes: the session is over with it.
+    End,
+}
+
 impl Joined {
-    ghost use Rattle.std.specs.Prelude.{OnOk};
-    ghost use Rattle.hsms_wire.specs.Report.{Tells};
+    ghost use Rattle.std.specs.Prelude.{◌≡◌, ◌≢◌, ◌⊎◌, None, OnOk, false, true};
+    ghost use Rattle.hsms_wire.specs.declared.joined.Part.TheVariants.{Message};
+    ghost use Rattle.hsms_wire.specs.Joined.{IsQuiet};
+    ghost use Rattle.hsms_wire.specs.Report.{Tells, TellsBy};
 
     /// A session of which nothing is told.
     pub fn new(alloc: Global, start: Start) -> Joined {
@@ -47,13 +86,17 @@ impl Joined {
             start,
             ends: None,
             is_up: false,
+            is_decided: false,
+            supposed: Supposed::Selected,
+            asker: Side::Active,
             waiting: Vec::new(alloc),
+            left_out: Vec::new(alloc),
             said: Some(Said::new(alloc)),
         }
     }
 
     /// Something happens on it. What happened before both directions had begun is left out.
-    #[tactic(auto, using(crate::proofs::Tellings::tells_nothing, crate::proofs::Tellings::tells_then, crate::proofs::Tellings::ok_then))]
+    #[tactic(auto, using(crate::proofs::Quiet::quiet_steps))]
     pub fn hear(
         &mut self,
         alloc: Global,
@@ -62,6 +105,7 @@ impl Joined {
         happening: Happening,
     ) -> Result<Course, Stop>
         ensures told { OnOk result (Tells report.old report.new) }
+        ensures quiet { OnOk result (IsQuiet self.old.is_up self.new.is_up report.old report.new) }
     {
         let is_early = happening.packet < self.start.packet;
         match &happening.event {
@@ -78,7 +122,7 @@ impl Joined {
     }
 
     // A message is sent, with this header, if it has one.
-    #[tactic(auto, using(crate::proofs::Tellings::tells_nothing, crate::proofs::Tellings::tells_then, crate::proofs::Tellings::ok_then))]
+    #[tactic(auto, using(crate::proofs::Quiet::quiet_steps))]
     fn hear_message(
         &mut self,
         alloc: Global,
@@ -89,8 +133,9 @@ impl Joined {
         happening: Happening,
     ) -> Result<Course, Stop>
         ensures told { OnOk result (Tells report.old report.new) }
+        ensures quiet { OnOk result (IsQuiet self.old.is_up self.new.is_up report.old report.new) }
     {
-        if self.is_up {
+        if self.is_decided {
             return self.tell(alloc, report, pair, happening);
         }
         let Some(message) = message else {
@@ -99,7 +144,7 @@ impl Joined {
         let Some(supposed) = self.decided_by(from, message) else {
             return self.wait(alloc, report, pair, from, message, happening);
         };
-        self.decide(alloc, report, pair, supposed, other(from))?;
+        self.decide(alloc, supposed, other(from))?;
         match self.tell_waiting(alloc, report, pair)? {
             Course::Goes => self.tell(alloc, report, pair, happening),
             Course::Over(shortfall) => Ok(Course::Over(shortfall)),
@@ -115,7 +160,7 @@ impl Joined {
     }
 
     // A message waits, or too many do.
-    #[tactic(auto, using(crate::proofs::Tellings::tells_nothing, crate::proofs::Tellings::tells_then, crate::proofs::Tellings::ok_then))]
+    #[tactic(auto, using(crate::proofs::Quiet::quiet_steps))]
     fn wait(
         &mut self,
         alloc: Global,
@@ -126,6 +171,7 @@ impl Joined {
         happening: Happening,
     ) -> Result<Course, Stop>
         ensures told { OnOk result (Tells report.old report.new) }
+        ensures quiet { OnOk result (IsQuiet self.old.is_up self.new.is_up report.old report.new) }
     {
         self.note(from, message)?;
         if self.waiting.push(happening).is_err() {
@@ -138,7 +184,9 @@ impl Joined {
     }
 
     // An end sent a message.
-    fn note(&mut self, from: Side, message: Header) -> Result<(), Stop> {
+    fn note(&mut self, from: Side, message: Header) -> Result<(), Stop>
+        ensures same { self.new.is_up ≡ self.old.is_up }
+    {
         match &mut self.said {
             Some(said) => Ok(said.note(from, message)?),
             None => Ok(()),
@@ -146,7 +194,7 @@ impl Joined {
     }
 
     // What waits is told, and then what happens.
-    #[tactic(auto, using(crate::proofs::Tellings::tells_nothing, crate::proofs::Tellings::tells_then, crate::proofs::Tellings::ok_then))]
+    #[tactic(auto, using(crate::proofs::Quiet::quiet_steps))]
     fn settle_and_tell(
         &mut self,
         alloc: Global,
@@ -155,15 +203,16 @@ impl Joined {
         happening: Happening,
     ) -> Result<Course, Stop>
         ensures told { OnOk result (Tells report.old report.new) }
+        ensures quiet { OnOk result (IsQuiet self.old.is_up self.new.is_up report.old report.new) }
     {
         match self.settle(alloc, report, pair)? {
-            Course::Goes => self.tell_if_up(alloc, report, pair, happening),
+            Course::Goes => self.tell(alloc, report, pair, happening),
             Course::Over(shortfall) => Ok(Course::Over(shortfall)),
         }
     }
 
     /// What waits is told, where no message decides what stood before: it was selected.
-    #[tactic(auto, using(crate::proofs::Tellings::tells_nothing, crate::proofs::Tellings::tells_then, crate::proofs::Tellings::ok_then))]
+    #[tactic(auto, using(crate::proofs::Quiet::quiet_steps))]
     pub fn settle(
         &mut self,
         alloc: Global,
@@ -171,37 +220,55 @@ impl Joined {
         pair: &Pair,
     ) -> Result<Course, Stop>
         ensures told { OnOk result (Tells report.old report.new) }
+        ensures quiet { OnOk result (IsQuiet self.old.is_up self.new.is_up report.old report.new) }
     {
         if self.waiting.is_empty() {
             return Ok(Course::Goes);
         }
-        self.decide(alloc, report, pair, Supposed::Selected, Side::Active)?;
+        self.decide(alloc, Supposed::Selected, Side::Active)?;
         self.tell_waiting(alloc, report, pair)
     }
 
-    // What stood before is decided: what is supposed is told. An end may have asked.
-    #[tactic(auto, using(crate::proofs::Tellings::tells_nothing, crate::proofs::Tellings::tells_then, crate::proofs::Tellings::ok_then))]
-    fn decide(
-        &mut self,
-        alloc: Global,
-        report: &mut Report,
-        pair: &Pair,
-        supposed: Supposed,
-        asker: Side,
-    ) -> Result<(), Stop>
-        ensures told { OnOk result (Tells report.old report.new) }
+    // What stood before is decided. An end may have asked.
+    fn decide(&mut self, alloc: Global, supposed: Supposed, asker: Side) -> Result<(), Stop>
+        ensures same { self.new.is_up ≡ self.old.is_up }
     {
-        let start = self.start;
-        report.suppose_up(alloc, pair, &mut self.ends, start.packet, start.time)?;
-        self.is_up = true;
+        self.is_decided = true;
+        self.supposed = supposed;
+        self.asker = asker;
         self.said = Some(Said::new(alloc));
         match supposed {
+            Supposed::Asked(system) => self.note(asker, select_req(system)),
+            Supposed::Selected | Supposed::Nothing => Ok(()),
+        }
+    }
+
+    // It comes up with the first message that is told: what is supposed is told, and what was left out.
+    #[tactic(auto, using(crate::proofs::Tellings::tells_nothing, crate::proofs::Tellings::tells_then, crate::proofs::Tellings::ok_then))]
+    fn come_up(&mut self, alloc: Global, report: &mut Report, pair: &Pair) -> Result<(), Stop>
+        ensures told { OnOk result (Tells report.old report.new) }
+        ensures up { OnOk result (self.new.is_up ≡ true) }
+    {
+        if self.is_up {
+            return Ok(());
+        }
+        let start = self.start;
+        report.suppose_up(alloc, pair, &mut self.ends, start.packet, start.time)?;
+        self.suppose_before(alloc, report)?;
+        self.tell_left_out(alloc, report)?;
+        self.is_up = true;
+        Ok(())
+    }
+
+    // What is supposed is told, besides that the connection came up.
+    #[tactic(auto, using(crate::proofs::Tellings::tells_nothing, crate::proofs::Tellings::tells_then, crate::proofs::Tellings::ok_then))]
+    fn suppose_before(&mut self, alloc: Global, report: &mut Report) -> Result<(), Stop>
+        ensures told { OnOk result (Tells report.old report.new) }
+    {
+        let asker = self.asker;
+        match self.supposed {
             Supposed::Selected => self.suppose_select(alloc, report),
-            Supposed::Asked(system) => {
-                let request = select_req(system);
-                self.note(asker, request)?;
-                self.suppose(alloc, report, asker, request)
-            }
+            Supposed::Asked(system) => self.suppose(alloc, report, asker, select_req(system)),
             Supposed::Nothing => Ok(()),
         }
     }
@@ -234,8 +301,20 @@ impl Joined {
         report.suppose_message(alloc, &mut self.ends, from, frame)
     }
 
-    // The messages that waited are told.
+    // The messages are told that were left out so far.
     #[tactic(auto, using(crate::proofs::Tellings::tells_nothing, crate::proofs::Tellings::tells_then, crate::proofs::Tellings::ok_then))]
+    fn tell_left_out(&mut self, alloc: Global, report: &mut Report) -> Result<(), Stop>
+        ensures told { OnOk result (Tells report.old report.new) }
+    {
+        let left_out = mem::replace(&mut self.left_out, Vec::new(alloc));
+        for packet in left_out {
+            report.leave_out(alloc, &mut self.ends, packet)?;
+        }
+        Ok(())
+    }
+
+    // The messages that waited are told.
+    #[tactic(auto, using(crate::proofs::Quiet::quiet_steps))]
     fn tell_waiting(
         &mut self,
         alloc: Global,
@@ -243,6 +322,7 @@ impl Joined {
         pair: &Pair,
     ) -> Result<Course, Stop>
         ensures told { OnOk result (Tells report.old report.new) }
+        ensures quiet { OnOk result (IsQuiet self.old.is_up self.new.is_up report.old report.new) }
     {
         let waiting = mem::replace(&mut self.waiting, Vec::new(alloc));
         for happening in waiting {
@@ -254,29 +334,8 @@ impl Joined {
         Ok(Course::Goes)
     }
 
-    // What happens is told, where the session is one; what is over without is none.
-    #[tactic(auto, using(crate::proofs::Tellings::tells_nothing, crate::proofs::Tellings::tells_then, crate::proofs::Tellings::ok_then))]
-    fn tell_if_up(
-        &mut self,
-        alloc: Global,
-        report: &mut Report,
-        pair: &Pair,
-        happening: Happening,
-    ) -> Result<Course, Stop>
-        ensures told { OnOk result (Tells report.old report.new) }
-    {
-        if self.is_up {
-            return self.tell(alloc, report, pair, happening);
-        }
-        match happening.event {
-            Event::Up => Ok(Course::Goes),
-            Event::Down => Ok(Course::Over(None)),
-            Event::Message { .. } => Ok(Course::Over(Some(Shortfall::Length(happening.packet)))),
-        }
-    }
-
     // What happens is told, or left out.
-    #[tactic(auto, using(crate::proofs::Tellings::tells_nothing, crate::proofs::Tellings::tells_then, crate::proofs::Tellings::ok_then))]
+    #[tactic(auto, using(crate::proofs::Quiet::quiet_steps))]
     fn tell(
         &mut self,
         alloc: Global,
@@ -285,36 +344,117 @@ impl Joined {
         happening: Happening,
     ) -> Result<Course, Stop>
         ensures told { OnOk result (Tells report.old report.new) }
+        ensures quiet { OnOk result (IsQuiet self.old.is_up self.new.is_up report.old report.new) }
     {
-        let packet = happening.packet;
-        if self.leaves_out(&happening, report)? {
-            report.leave_out(alloc, &mut self.ends, packet)?;
-            return Ok(Course::Goes);
-        }
-        let heard = report.hear(alloc, pair, &mut self.ends, happening)?;
-        Ok(Course::behind(heard, packet))
+        let part = self.part_of(&happening, report)?;
+        self.tell_as(alloc, report, pair, part, happening)
     }
 
-    // Whether what happens is left out: a response to what may stand before the capture. A request is noted.
-    fn leaves_out(&mut self, happening: &Happening, report: &Report) -> Result<bool, Stop> {
+    // What happens is told by what becomes of it. It comes up with a message that is told, and with nothing else.
+    #[tactic(auto, using(crate::proofs::Quiet::quiet_steps))]
+    fn tell_as(
+        &mut self,
+        alloc: Global,
+        report: &mut Report,
+        pair: &Pair,
+        part: Part,
+        happening: Happening,
+    ) -> Result<Course, Stop>
+        ensures told { OnOk result (Tells report.old report.new) }
+        ensures quiet { OnOk result (IsQuiet self.old.is_up self.new.is_up report.old report.new) }
+        ensures up { OnOk result (self.new.is_up ≡ true → (self.old.is_up ≡ true) ⊎ (part ≡ Message)) }
+    {
+        match part {
+            Part::Message => {
+                self.come_up(alloc, report, pair)?;
+                self.tell_up(alloc, report, pair, happening)
+            }
+            Part::LeftOut => self.leave_out(alloc, report, happening.packet),
+            Part::End => self.tell_end(alloc, report, pair, happening),
+        }
+    }
+
+    // What becomes of what happens. A message is noted.
+    fn part_of(&mut self, happening: &Happening, report: &Report) -> Result<Part, Stop>
+        ensures same { self.new.is_up ≡ self.old.is_up }
+    {
         let begun = self.start.time;
         let t3 = report.t3();
         if happening.time.saturating_sub(begun) > u64::from(t3) {
             self.said = None;
         }
-        match (&happening.event, &mut self.said) {
-            (Event::Message { from, octets }, Some(said)) => {
-                let Some(message) = header_at(octets.as_slice(), report.max()) else {
-                    return Ok(false);
-                };
-                said.note(*from, message)?;
-                Ok(said.leaves_out(*from, message, begun, t3, happening.time))
+        match (message_of(happening, report.max()), &mut self.said) {
+            (None, _) => Ok(Part::End),
+            (Some(_), None) => Ok(Part::Message),
+            (Some((from, message)), Some(said)) => {
+                said.note(from, message)?;
+                if said.leaves_out(from, message, begun, t3, happening.time) {
+                    return Ok(Part::LeftOut);
+                }
+                Ok(Part::Message)
             }
-            (Event::Message { .. } | Event::Up | Event::Down, _) => Ok(false),
         }
     }
 
-    /// The session is over. Where nothing was said nothing is told, unless something is missing.
+    // A message is left out: the comment in its place is told, once the session came up.
+    #[tactic(auto, using(crate::proofs::Quiet::quiet_steps))]
+    fn leave_out(&mut self, alloc: Global, report: &mut Report, packet: u64) -> Result<Course, Stop>
+        ensures told { OnOk result (Tells report.old report.new) }
+        ensures quiet { OnOk result (IsQuiet self.old.is_up self.new.is_up report.old report.new) }
+        ensures same { self.new.is_up ≡ self.old.is_up }
+    {
+        if self.is_up {
+            report.leave_out(alloc, &mut self.ends, packet)?;
+            return Ok(Course::Goes);
+        }
+        if self.left_out.push(packet).is_err() {
+            return Err(Stop::Memory);
+        }
+        Ok(Course::Goes)
+    }
+
+    // It is over. Where it never came up nothing is told of that.
+    #[tactic(auto, using(crate::proofs::Quiet::quiet_steps))]
+    fn tell_end(
+        &mut self,
+        alloc: Global,
+        report: &mut Report,
+        pair: &Pair,
+        happening: Happening,
+    ) -> Result<Course, Stop>
+        ensures told { OnOk result (Tells report.old report.new) }
+        ensures quiet { OnOk result (IsQuiet self.old.is_up self.new.is_up report.old report.new) }
+        ensures same { self.new.is_up ≡ self.old.is_up }
+    {
+        if self.is_up {
+            return self.tell_up(alloc, report, pair, happening);
+        }
+        match happening.event {
+            Event::Up => Ok(Course::Goes),
+            Event::Down => Ok(Course::Over(None)),
+            Event::Message { .. } => Ok(Course::Over(Some(Shortfall::Length(happening.packet)))),
+        }
+    }
+
+    // What happens is told of a session that came up.
+    #[tactic(auto, using(crate::proofs::Tellings::tells_nothing, crate::proofs::Tellings::tells_then, crate::proofs::Tellings::ok_then))]
+    fn tell_up(
+        &mut self,
+        alloc: Global,
+        report: &mut Report,
+        pair: &Pair,
+        happening: Happening,
+    ) -> Result<Course, Stop>
+        ensures told { OnOk result (Tells report.old report.new) }
+        ensures same { self.new.is_up ≡ self.old.is_up }
+    {
+        let packet = happening.packet;
+        let heard = report.hear(alloc, pair, &mut self.ends, happening)?;
+        Ok(Course::behind(heard, packet))
+    }
+
+    /// The session is over. Where it never came up nothing is told, unless something is missing: then that it has no
+    /// verdict.
     #[tactic(auto, using(crate::proofs::Tellings::tells_nothing, crate::proofs::Tellings::tells_then, crate::proofs::Tellings::ok_then))]
     pub fn conclude(
         self,
@@ -324,29 +464,51 @@ impl Joined {
         shortfall: Option<Shortfall>,
     ) -> Result<(), Stop>
         ensures told { OnOk result (Tells report.old report.new) }
+        ensures quiet { self.is_up ≡ false → shortfall ≡ None → OnOk result (report.new ≡ report.old) }
+        ensures missing { self.is_up ≡ false → shortfall ≢ None
+            → OnOk result (TellsBy report.old.manner pair.now shortfall None report.old report.new) }
     {
         let Joined {
             start: _,
             ends,
             is_up,
+            is_decided: _,
+            supposed: _,
+            asker: _,
             waiting: _,
+            left_out: _,
             said: _,
         } = self;
-        if !is_up && shortfall.is_none() {
+        if is_up {
+            return report.conclude(alloc, pair, unboxed(ends), shortfall);
+        }
+        if shortfall.is_none() {
             return Ok(());
         }
-        report.conclude(alloc, pair, unboxed(ends), shortfall)
+        report.conclude(alloc, pair, None, shortfall)
     }
 
     /// A later connection of the same ends replaces it.
     #[tactic(auto, using(crate::proofs::Tellings::tells_nothing, crate::proofs::Tellings::tells_then, crate::proofs::Tellings::ok_then))]
     pub fn replace(&mut self, alloc: Global, report: &mut Report) -> Result<(), Stop>
         ensures told { OnOk result (Tells report.old report.new) }
+        ensures quiet { self.old.is_up ≡ false → OnOk result (report.new ≡ report.old) }
     {
-        if self.is_up {
-            return report.replace(alloc, &mut self.ends);
+        if !self.is_up {
+            return Ok(());
         }
-        Ok(())
+        report.replace(alloc, &mut self.ends)
+    }
+}
+
+// The header of a message that an end takes, and which one sent it.
+fn message_of(happening: &Happening, max: u32) -> Option<(Side, Header)> {
+    match &happening.event {
+        Event::Message { from, octets } => match header_at(octets.as_slice(), max) {
+            Some(message) => Some((*from, message)),
+            None => None,
+        },
+        Event::Up | Event::Down => None,
     }
 }
 

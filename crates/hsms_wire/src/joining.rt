@@ -3,10 +3,9 @@
 ghost use Rattle.std.specs.Prelude.{OnOk};
 ghost use Rattle.hsms_wire.specs.Report.{Tells};
 
-use crate::pair::Pair;
 use crate::report::Report;
-use crate::stop::Stop;
 use crate::within::{Within, take_all};
+use hsms_accounts::{Pair, Stop};
 use hsms_capture::Segment;
 use hsms_joined::{Beginnings, Gathering, start_of};
 use std::alloc::Global;

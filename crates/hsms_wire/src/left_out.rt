@@ -4,7 +4,7 @@ use hsms_packets::Reason;
 use std::alloc::{AllocError, Global};
 
 /// How many packets were left out that may have carried segments, by the reason.
-#[derive(Clone, Copy, Debug)]
+#[derive(Clone, Copy)]
 pub struct LeftOut {
     link: u64,
     short: u64,

@@ -5,9 +5,8 @@ ghost use Rattle.hsms_log.specs.Spelling.{role_word};
 ghost use Rattle.hsms_lines.specs.Verdict.{verdict_line_of};
 ghost use Rattle.hsms_wire.specs.Line.{address_text, end_line_of, front_of, lack_words, side_word, told_words, verdict_line_at, verdict_line_by};
 
-use crate::account::Told;
-use crate::pair::Pair;
 use crate::shortfall::Shortfall;
+use hsms_accounts::{Pair, Told};
 use hsms_capture::Side;
 use hsms_lines::{rule_name, verdict_line};
 use hsms_log::{Verdict, Why};

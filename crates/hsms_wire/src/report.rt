@@ -1,14 +1,9 @@
 //! What is told of the connections of a capture.
 
-use crate::account::Told;
-use crate::ends::{Ends, Heard};
-use crate::journal::Journal;
 use crate::left_out::LeftOut;
 use crate::line::end_line;
-use crate::pair::Pair;
 use crate::shortfall::Shortfall;
-use crate::stop::Stop;
-use crate::text::Text;
+use hsms_accounts::{Ends, Heard, Journal, Pair, Stop, Text, Told};
 use hsms_capture::{Happening, Side};
 use hsms_frame::{Frame, Sink};
 use hsms_joined::Session;
@@ -46,7 +41,7 @@ impl Report {
     ghost use Rattle.hsms_lines.specs.Devices.{IsWrite};
     ghost use Rattle.hsms_wire.specs.Capturing.{GrowsBySome};
     ghost use Rattle.hsms_wire.specs.declared.report.Manner.TheVariants.{Verdicts};
-    ghost use Rattle.hsms_wire.specs.declared.stop.Stop.TheVariants.{Memory};
+    ghost use Rattle.hsms_accounts.specs.declared.stop.Stop.TheVariants.{Memory};
     ghost use Rattle.hsms_wire.specs.Line.{end_line_of};
     ghost use Rattle.hsms_wire.specs.Report.{Finishes, IsTold, Tells, TellsBy, TellsVerdicts, failed_after, first_of, found_of, missing_after, nothing_found, role_at};
 

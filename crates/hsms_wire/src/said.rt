@@ -13,8 +13,15 @@ pub struct Said {
 }
 
 impl Said {
+    ghost use Rattle.std.specs.Prelude.{◌≡◌, OnOk};
+    ghost use Rattle.hsms_joined.specs.Requests.{is_left_out};
+    ghost use Rattle.hsms_joined.specs.Supposed.{supposed_by};
+    ghost use Rattle.hsms_wire.specs.Said.{KnowsBoth, Spoken, nothing_spoken, spoken_to, with_message};
+
     /// Nothing so far.
-    pub fn new(alloc: Global) -> Said {
+    pub fn new(alloc: Global) -> Said
+        ensures { KnowsBoth nothing_spoken result }
+    {
         Said {
             active: Requests::new(alloc),
             passive: Requests::new(alloc),
@@ -22,7 +29,10 @@ impl Said {
     }
 
     /// An end sent a further message.
-    pub fn note(&mut self, from: Side, message: Header) -> Result<(), AllocError> {
+    pub fn note(&mut self, from: Side, message: Header) -> Result<(), AllocError>
+        ensures { (spoken : Spoken) → KnowsBoth spoken self.old
+            → OnOk result (KnowsBoth (with_message from message spoken) self.new) }
+    {
         match from {
             Side::Active => self.active.note(message),
             Side::Passive => self.passive.note(message),
@@ -30,7 +40,10 @@ impl Said {
     }
 
     /// What a message of an end says of what stood before, if it decides that.
-    pub fn decided_by(&self, from: Side, message: Header) -> Option<Supposed> {
+    pub fn decided_by(&self, from: Side, message: Header) -> Option<Supposed>
+        ensures { (spoken : Spoken) → KnowsBoth spoken self.now
+            → result ≡ supposed_by message (spoken_to from spoken) }
+    {
         match from {
             Side::Active => supposed_by(message, &self.passive),
             Side::Passive => supposed_by(message, &self.active),
@@ -38,7 +51,10 @@ impl Said {
     }
 
     /// Whether a message of an end is left out, up to T3 behind a time.
-    pub fn leaves_out(&self, from: Side, message: Header, begun: u64, t3: u32, time: u64) -> bool {
+    pub fn leaves_out(&self, from: Side, message: Header, begun: u64, t3: u32, time: u64) -> bool
+        ensures { (spoken : Spoken) → KnowsBoth spoken self.now
+            → result ≡ is_left_out message (spoken_to from spoken) begun t3 time }
+    {
         match from {
             Side::Active => self.passive.leaves_out(message, begun, t3, time),
             Side::Passive => self.active.leaves_out(message, begun, t3, time),

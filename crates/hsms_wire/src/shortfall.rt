@@ -1,13 +1,13 @@
 //! Why what is told is incomplete.
 
-use crate::stop::Stop;
+use hsms_accounts::Stop;
 use hsms_capture::Ending;
 use hsms_packets::FileFault;
 use std::alloc::Global;
 use std::fmt;
 
 /// Why what is told of connections is incomplete, with the number of the packet from which on it isn't told.
-#[derive(Clone, Copy, Debug, PartialEq, Eq)]
+#[derive(Clone, Copy)]
 pub enum Shortfall {
     /// The capture lost something.
     Lost(u64),

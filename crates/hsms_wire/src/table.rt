@@ -1,10 +1,9 @@
 //! The connections of a capture at a port.
 
-use crate::flow::{Flow, Stage, end, take};
-use crate::pair::{Pair, pairs_of};
+use crate::flow::{Flow, Stage};
 use crate::report::Report;
 use crate::shortfall::Shortfall;
-use crate::stop::Stop;
+use hsms_accounts::{Pair, Stop, pairs_of};
 use hsms_capture::{Flags, Segment, Side};
 use hsms_packets as packets;
 use indexmap::IndexMap;
@@ -27,7 +26,6 @@ pub struct Capture<'a> {
 }
 
 /// The connections at a port, by the addresses of their ends: of each pair the last one.
-#[derive(Drop)]
 pub struct Table {
     port: u16,
     // the address that one end of each has, if it is known
@@ -38,9 +36,23 @@ pub struct Table {
     begun: u64,
 }
 
+// Written out: a proof over one that is dropped has one step for it, not one for each of its parts.
+impl Drop for Table {
+    fn drop(self) {
+        let Table {
+            port: _,
+            peer: _,
+            is_joined: _,
+            flows,
+            begun: _,
+        } = self;
+        drop(flows);
+    }
+}
+
 impl Table {
     ghost use Rattle.std.specs.Prelude.{OnOk, IfSome};
-    ghost use Rattle.hsms_wire.specs.Pair.{IsOfPeer};
+    ghost use Rattle.hsms_accounts.specs.Pair.{IsOfPeer};
     ghost use Rattle.hsms_wire.specs.Report.{Tells};
 
     /// No connection, at this port of passive ends, with an end of this address, where there is one; those that were
@@ -77,12 +89,8 @@ impl Table {
         let Some(time) = capture.time.and_then(|time| u64::try_from(time).ok()) else {
             return Ok(Some(Shortfall::Time(capture.packet)));
         };
-        if let Some(syn) = syn {
-            let flow = Flow::new(alloc, syn, self.begun);
-            self.begin(alloc, report, pair, flow)?;
-        } else if joins {
-            let flow = Flow::joined(alloc, self.begun);
-            self.begin(alloc, report, pair, flow)?;
+        if syn.is_some() || joins {
+            self.begin(alloc, report, pair, syn)?;
         }
         let segment = segment_of(segment, from, capture.packet, time);
         self.follow(alloc, report, &pair, segment, capture.octets)?;
@@ -99,8 +107,15 @@ impl Table {
     ) -> Result<(), Stop>
         ensures told { OnOk result (Tells report.old report.new) }
     {
-        for (pair, flow) in self.flows {
-            end(alloc, report, &pair, flow.stage, false, missing)?;
+        let Table {
+            port: _,
+            peer: _,
+            is_joined: _,
+            flows,
+            begun: _,
+        } = self;
+        for (pair, flow) in flows {
+            flow.stage.end(alloc, report, &pair, false, missing)?;
         }
         Ok(())
     }
@@ -154,20 +169,24 @@ impl Table {
             .filter(|flow| !is_forgotten(flow, self.begun))
     }
 
-    // Begins a connection of a pair, and ends the one before.
+    // Begins a connection of a pair, with a SYN of this number if there is one, and ends the one before.
     #[tactic(auto, using(crate::proofs::Tellings::tells_nothing, crate::proofs::Tellings::tells_then, crate::proofs::Tellings::ok_then))]
     fn begin(
         &mut self,
         alloc: Global,
         report: &mut Report,
         pair: Pair,
-        flow: Flow,
+        syn: Option<u32>,
     ) -> Result<(), Stop>
         ensures told { OnOk result (Tells report.old report.new) }
     {
         if let Some(before) = self.flows.shift_remove(&pair) {
-            end(alloc, report, &pair, before.stage, true, None)?;
+            before.stage.end(alloc, report, &pair, true, None)?;
         }
+        let flow = match syn {
+            Some(syn) => Flow::new(alloc, syn, self.begun),
+            None => Flow::joined(alloc, self.begun),
+        };
         if self.flows.insert(pair, flow).is_err() {
             return Err(Stop::Memory);
         }
@@ -195,7 +214,7 @@ impl Table {
             return Ok(());
         };
         let stage = mem::replace(&mut flow.stage, Stage::Over);
-        flow.stage = take(alloc, report, pair, flow.syn, stage, segment, octets)?;
+        flow.stage = stage.take(alloc, report, pair, flow.syn, segment, octets)?;
         Ok(())
     }
 }

@@ -5,10 +5,9 @@ ghost use Rattle.hsms_wire.specs.Report.{Tells};
 
 use crate::course::Course;
 use crate::joined::Joined;
-use crate::pair::Pair;
 use crate::report::Report;
 use crate::shortfall::Shortfall;
-use crate::stop::Stop;
+use hsms_accounts::{Pair, Stop};
 use hsms_capture::{Connection, ConnectionFault, Ending, Event, Happening, Segment, Side};
 use hsms_joined::{Beginnings, Gathered, Start, octets_before, opening, segment_from};
 use std::alloc::{AllocError, Global};
@@ -17,7 +16,6 @@ use std::alloc::{AllocError, Global};
 const OPENING: u64 = 3;
 
 /// Such a connection: it is followed as one that came up just before, by three packets that weren't captured.
-#[derive(Drop)]
 pub struct Within {
     connection: Connection,
     // The numbers at which its directions begin.
@@ -26,6 +24,22 @@ pub struct Within {
     // The numbers of its packets that reset it and acknowledge nothing.
     bare_resets: Vec<u64>,
     joined: Joined,
+}
+
+// Written out: a proof over one that is dropped has one step for it, not one for each of its parts.
+impl Drop for Within {
+    fn drop(self) {
+        let Within {
+            connection,
+            active: _,
+            passive: _,
+            bare_resets,
+            joined,
+        } = self;
+        drop(connection);
+        drop(bare_resets);
+        drop(joined);
+    }
 }
 
 // What a connection has come to with a packet: more may follow, or it has ended, and may lack something.
@@ -69,19 +83,16 @@ impl Within {
     ) -> Result<Option<Within>, Stop>
         ensures told { OnOk result (Tells report.old report.new) }
     {
-        let mut within = self;
-        if segment.reset && segment.acknowledged.is_none() {
-            note_reset(&mut within.bare_resets, segment.packet)?;
-        }
-        let begin = within.begin_of(segment.from);
-        let mut told = Vec::new(alloc);
+        let begin = self.begin_of(segment.from);
         let Within {
             connection,
             active,
             passive,
-            bare_resets,
+            mut bare_resets,
             mut joined,
-        } = within;
+        } = self;
+        note_reset(&mut bare_resets, &segment)?;
+        let mut told = Vec::new(alloc);
         let followed = take_segment(alloc, connection, begin, segment, octets, &mut told)?;
         let course = hear_all(alloc, report, pair, &bare_resets, &mut joined, told)?;
         match over_by(course, followed) {
@@ -166,8 +177,10 @@ pub fn take_all(
 }
 
 // Notes a packet that resets it and acknowledges nothing.
-fn note_reset(bare_resets: &mut Vec<u64>, packet: u64) -> Result<(), AllocError> {
-    bare_resets.push(packet)?;
+fn note_reset(bare_resets: &mut Vec<u64>, segment: &Segment) -> Result<(), AllocError> {
+    if segment.reset && segment.acknowledged.is_none() {
+        bare_resets.push(segment.packet)?;
+    }
     Ok(())
 }
 

@@ -1,2 +1,3 @@
 mod items;
 mod notation;
+mod owned;

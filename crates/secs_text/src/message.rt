@@ -6,13 +6,26 @@ use secs_item::Item;
 
 /// A message of SEMI E5: its stream (below 128) and function, whether a reply is wanted (the W bit), and
 /// perhaps an item.
-#[derive(Debug, Drop)]
+#[derive(Debug)]
 pub struct Message {
     stream: u8,
     function: u8,
     wait: bool,
     item: Option<Item>,
     ghost stream_in_range: { stream < 128 },
+}
+
+// Written out: a proof over one that is dropped has one step for it, not one for each format of an item.
+impl Drop for Message {
+    fn drop(self) {
+        let Message {
+            stream: _,
+            function: _,
+            wait: _,
+            item,
+        } = self;
+        drop(item);
+    }
 }
 
 impl Message {

@@ -82,9 +82,10 @@ fn message(
         Token::Less => item(alloc, tokens, next.at, depth)?,
         _ => return Err(TextFault::Syntax { at: next.at }),
     };
+    let message = Message::new(stream, function, wait, Some(item));
     let next = tokens.next();
     match next.token {
-        Token::Stop => Ok(Message::new(stream, function, wait, Some(item))),
+        Token::Stop => Ok(message),
         _ => Err(TextFault::Syntax { at: next.at }),
     }
 }

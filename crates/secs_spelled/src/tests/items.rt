@@ -1,5 +1,6 @@
 ghost use Rattle.std.specs.Prelude.{◌≤◌};
 
+use super::owned::{OwnItem, front_of, own, text_of};
 use secs_item::{
     Format, Item, ItemFault, body_octets, decode_front, decode_text, encode, item_of_values,
     measure_front, measure_text, nesting,
@@ -22,8 +23,11 @@ fn assert_item(rt: &impl Abort, item: &Item, want: &Item) {
     assert_eq!(rt; item, want);
 }
 
-fn assert_text(rt: &impl Abort, item: Option<&Item>, want: &Item) {
-    assert!(rt; item == Some(want));
+fn assert_text(rt: &impl Abort, text: &Option<OwnItem>, want: &Item) {
+    match text {
+        Some(text) => assert_item(rt, &text.item, want),
+        None => panic!(rt; "a text that is an item"),
+    }
 }
 
 fn assert_measured(
@@ -35,8 +39,8 @@ fn assert_measured(
 }
 
 fn judge_copy(rt: &impl Abort, alloc: Global, item: &Item) -> Result<(), AllocError> {
-    let copy = item.copy(alloc)?;
-    assert_item(rt, &copy, item);
+    let copy = own(item.copy(alloc)?);
+    assert_item(rt, &copy.item, item);
     Ok(())
 }
 
@@ -52,8 +56,8 @@ fn judge_encoded(
 }
 
 fn judge_text(rt: &impl Abort, alloc: Global, octets: &[u8], item: &Item) -> Result<(), ItemFault> {
-    let text = decode_text(alloc, octets, DEPTH)?;
-    assert_text(rt, text.as_ref(), item);
+    let text = text_of(alloc, octets, DEPTH)?;
+    assert_text(rt, &text, item);
     Ok(())
 }
 
@@ -67,9 +71,9 @@ fn judge_item(rt: &impl Abort, alloc: Global, item: &Item, shortest: &[u8]) -> R
 /// The octets are one item, whose shortest octets are these.
 fn recode(rt: &impl Abort, alloc: Global, octets: &[u8], shortest: &[u8]) -> Result<(), Fail> {
     assert_length(rt, measure_front(octets, DEPTH)?, octets.len());
-    let (item, length) = decode_front(alloc, octets, DEPTH)?;
+    let (read, length) = front_of(alloc, octets, DEPTH)?;
     assert_length(rt, length, octets.len());
-    judge_item(rt, alloc, &item, shortest)
+    judge_item(rt, alloc, &read.item, shortest)
 }
 
 #[test]
@@ -100,12 +104,20 @@ fn judge_body(rt: &impl Abort, alloc: Global, item: &Item, body: &[u8]) -> Resul
 #[test]
 fn bodies(rt: HostRuntime) -> Result<(), Fail> {
     let alloc = rt.alloc();
-    let numbers = Item::U2([1u16, 258].to_vec(alloc)?);
-    judge_body(&rt, alloc, &numbers, b"\x00\x01\x01\x02")?;
-    judge_body(&rt, alloc, &Item::Ascii(b"AB".to_vec(alloc)?), b"AB")?;
-    judge_body(&rt, alloc, &Item::List(Vec::new(alloc)), b"")?;
-    let read = item_of_values(alloc, Format::U2, b"\x00\x01\x01\x02")?;
-    assert_item(&rt, &read, &numbers);
+    let text = own(Item::Ascii(b"AB".to_vec(alloc)?));
+    judge_body(&rt, alloc, &text.item, b"AB")?;
+    let list = own(Item::List(Vec::new(alloc)));
+    judge_body(&rt, alloc, &list.item, b"")?;
+    Ok(())
+}
+
+#[test]
+fn values(rt: HostRuntime) -> Result<(), Fail> {
+    let alloc = rt.alloc();
+    let numbers = own(Item::U2([1u16, 258].to_vec(alloc)?));
+    judge_body(&rt, alloc, &numbers.item, b"\x00\x01\x01\x02")?;
+    let read = own(item_of_values(alloc, Format::U2, b"\x00\x01\x01\x02")?);
+    assert_item(&rt, &read.item, &numbers.item);
     Ok(())
 }
 
@@ -115,8 +127,8 @@ fn judge_front(
     octets: &[u8],
     item: &Item,
 ) -> Result<(), ItemFault> {
-    let (read, _) = decode_front(alloc, octets, DEPTH)?;
-    assert_item(rt, &read, item);
+    let (read, _) = front_of(alloc, octets, DEPTH)?;
+    assert_item(rt, &read.item, item);
     Ok(())
 }
 
@@ -129,7 +141,8 @@ fn judge_both(rt: &impl Abort, alloc: Global, octets: &[u8], item: &Item) -> Res
 
 /// The octets spell this item, and it is encoded so.
 fn both_directions(rt: &impl Abort, alloc: Global, octets: &[u8], item: Item) -> Result<(), Fail> {
-    judge_both(rt, alloc, octets, &item)
+    let written = own(item);
+    judge_both(rt, alloc, octets, &written.item)
 }
 
 #[test]
@@ -169,26 +182,29 @@ fn assert_differ(rt: &impl Abort, item: &Item, other: &Item) {
 #[test]
 fn lists(rt: HostRuntime) -> Result<(), Fail> {
     let alloc = rt.alloc();
-    let (item, length) = decode_front(alloc, b"\x01\x01\x01\x00\x00\x00", 2)?;
-    assert_lists(&rt, &item, length);
-    judge_copy(&rt, alloc, &item)?;
-    judge_encoded(&rt, alloc, &item, LISTS)?;
-    assert_differ(&rt, &item, &Item::List(Vec::new(alloc)));
-    assert_differ(
-        &rt,
-        &Item::Ascii(Vec::new(alloc)),
-        &Item::Jis8(Vec::new(alloc)),
-    );
+    let (read, length) = front_of(alloc, b"\x01\x01\x01\x00\x00\x00", 2)?;
+    assert_lists(&rt, &read.item, length);
+    judge_copy(&rt, alloc, &read.item)?;
+    judge_encoded(&rt, alloc, &read.item, LISTS)?;
+    let empty = own(Item::List(Vec::new(alloc)));
+    assert_differ(&rt, &read.item, &empty.item);
     Ok(())
 }
 
-fn assert_no_text(rt: &impl Abort, item: Option<&Item>) {
-    assert!(rt; item.is_none());
+#[test]
+fn formats_differ(rt: HostRuntime) {
+    let characters = own(Item::Ascii(Vec::new(rt.alloc())));
+    let others = own(Item::Jis8(Vec::new(rt.alloc())));
+    assert_differ(&rt, &characters.item, &others.item);
 }
 
-fn assert_text_lists(rt: &impl Abort, item: Option<&Item>) {
-    match item {
-        Some(item) => assert_eq!(rt; nesting(item), 2),
+fn assert_no_text(rt: &impl Abort, text: &Option<OwnItem>) {
+    assert!(rt; text.is_none());
+}
+
+fn assert_text_lists(rt: &impl Abort, text: &Option<OwnItem>) {
+    match text {
+        Some(text) => assert_eq!(rt; nesting(&text.item), 2),
         None => panic!(rt; "a text that is an item"),
     }
 }
@@ -202,21 +218,22 @@ fn assert_measured_text(
 }
 
 fn judge_text_lists(rt: &impl Abort, alloc: Global) -> Result<(), ItemFault> {
-    let lists = decode_text(alloc, LISTS, 2)?;
-    assert_text_lists(rt, lists.as_ref());
+    let lists = text_of(alloc, LISTS, 2)?;
+    assert_text_lists(rt, &lists);
     Ok(())
 }
 
 fn judge_no_text(rt: &impl Abort, alloc: Global) -> Result<(), ItemFault> {
-    let none = decode_text(alloc, b"", DEPTH)?;
-    assert_no_text(rt, none.as_ref());
+    let none = text_of(alloc, b"", DEPTH)?;
+    assert_no_text(rt, &none);
     Ok(())
 }
 
 /// An item of no characters nests in no list.
 fn judge_empty(rt: &impl Abort, alloc: Global) -> Result<(), ItemFault> {
-    let empty = decode_text(alloc, b"\x41\x00", 0)?;
-    assert_text(rt, empty.as_ref(), &Item::Ascii(Vec::new(alloc)));
+    let empty = text_of(alloc, b"\x41\x00", 0)?;
+    let want = own(Item::Ascii(Vec::new(alloc)));
+    assert_text(rt, &empty, &want.item);
     Ok(())
 }
 
@@ -374,8 +391,8 @@ fn judge_kind(
     octets: &[u8],
     want: (&str, usize),
 ) -> Result<(), ItemFault> {
-    let (item, _) = decode_front(alloc, octets, DEPTH)?;
-    assert_kind(rt, &item, want);
+    let (read, _) = front_of(alloc, octets, DEPTH)?;
+    assert_kind(rt, &read.item, want);
     Ok(())
 }
 
@@ -392,7 +409,7 @@ fn every_two_octets(rt: HostRuntime) {
     let mut counts = [0u32; 6];
     for first in 0..=255u8 {
         for second in 0..=255u8 {
-            let kind = match decode_front(rt.alloc(), &[first, second], 1) {
+            let kind = match front_of(rt.alloc(), &[first, second], 1) {
                 Ok(_) => 0,
                 Err(ItemFault::NoLength { .. }) => 1,
                 Err(ItemFault::Format { .. }) => 2,
@@ -411,7 +428,8 @@ fn every_two_octets(rt: HostRuntime) {
 fn greatest_length(rt: HostRuntime) -> Result<(), Fail> {
     let mut text = vec![in rt.alloc(); 0u8; 0x100_0000]?;
     text.truncate(0xff_ffff);
-    let octets = encode(rt.alloc(), &Item::Ascii(text))?;
+    let item = own(Item::Ascii(text));
+    let octets = encode(rt.alloc(), &item.item)?;
     assert_eq!(rt; octets.len(), 4 + 0xff_ffff);
     assert!(rt; octets.as_slice().starts_with(b"\x43\xff\xff\xff"));
     Ok(())
@@ -422,14 +440,16 @@ fn expect_too_large(rt: &impl Abort, alloc: Global, item: &Item) {
 }
 
 fn judge_too_large(rt: &impl Abort, alloc: Global, item: Item) {
-    expect_too_large(rt, alloc, &item);
+    let large = own(item);
+    expect_too_large(rt, alloc, &large.item);
 }
 
 /// An item that is too large stands behind one that isn't.
 fn judge_too_large_within(rt: &impl Abort, alloc: Global) -> Result<(), AllocError> {
-    let small = Item::Ascii(b"AB".to_vec(alloc)?);
-    let large = Item::Jis8(vec![in alloc; 0u8; 0x100_0000]?);
-    judge_too_large(rt, alloc, Item::List(vec![in alloc; small, large]?));
+    let small = b"AB".to_vec(alloc)?;
+    let large = vec![in alloc; 0u8; 0x100_0000]?;
+    let elements = vec![in alloc; Item::Ascii(small), Item::Jis8(large)]?;
+    judge_too_large(rt, alloc, Item::List(elements));
     Ok(())
 }
 

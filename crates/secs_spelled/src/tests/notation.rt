@@ -1,3 +1,4 @@
+use super::owned::own;
 use secs_item::{Item, ItemFault};
 use secs_text::{
     Block, Head, Message, Output, Receiver, TextFault, print, print_text, read, read_all, spell_all,
@@ -139,8 +140,8 @@ fn assert_item(rt: &impl Abort, message: &Message, item: &Item) {
 }
 
 fn judge_read(rt: &impl Abort, alloc: Global, message: &Message) -> Result<(), AllocError> {
-    let item = Item::Ascii(Vec::from_slice(alloc, b"a\n")?);
-    assert_item(rt, message, &item);
+    let want = own(Item::Ascii(Vec::from_slice(alloc, b"a\n")?));
+    assert_item(rt, message, &want.item);
     Ok(())
 }
 

@@ -1,6 +1,6 @@
-use Rattle.std.proofs.Common.{◌≡◌, ◌≤◌, ◌<◌, ◌+◌, List, ℕ, length, drop, sym, ap, ◌∙◌, subst, arith}
+use Rattle.std.proofs.Common.{◌≤◌, ◌<◌, List, ℕ, length, drop, sym, ap, ◌∙◌, subst, arith}
 use Rattle.hsms_joined.specs.Beginning.{BeginsAtEnd}
-use Rattle.hsms_joined.proofs.Found.{Gives, NoneSoFar, found, found_none, none_behind, none_on}
+use Rattle.hsms_joined.proofs.Found.{NoneSoFar, found, found_none, none_behind, none_on}
 use Rattle.hsms_joined.proofs.finding.find.Goals.{then-place-upto, else-place-upto}
 use Rattle.hsms_joined.proofs.finding.find.Goals as goal
 

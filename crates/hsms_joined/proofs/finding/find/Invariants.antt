@@ -1,4 +1,4 @@
-use Rattle.std.proofs.Common.{◌≡◌, ◌≤◌, ◌-◌}
+use Rattle.std.proofs.Common.{◌≤◌, ◌-◌}
 use Rattle.hsms_joined.proofs.Found.{NoneSoFar}
 use Rattle.hsms_joined.proofs.finding.find.Given as goal
 

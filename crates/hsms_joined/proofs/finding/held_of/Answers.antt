@@ -1,4 +1,4 @@
-use Rattle.std.proofs.Common.{◌≡◌, ℕ, ap, rules, subst, false}
+use Rattle.std.proofs.Common.{ℕ, rules, subst, false}
 use Rattle.hsms_capture.specs.Held.{PutsIn}
 use Rattle.hsms_capture.specs.Message.{cells_of}
 use Rattle.hsms_joined.proofs.Holding.{holds_more}

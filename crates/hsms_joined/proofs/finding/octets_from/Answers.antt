@@ -1,4 +1,4 @@
-use Rattle.std.proofs.Common.{◌≡◌, ◌≤◌, ◌∷◌, ◌++◌, ◌+◌, [], List, ℕ, sym, ap, subst, length, length-append, arith, inl}
+use Rattle.std.proofs.Common.{◌∷◌, ◌+◌, [], List, ℕ, sym, ap, subst, length, length-append, arith, inl}
 use Rattle.hsms_joined.proofs.Found.{GivesSoFar, gives_all, gives_more, gives_to_end}
 use Rattle.hsms_joined.proofs.finding.octets_from.Goals as goal
 

@@ -1,6 +1,7 @@
-use Rattle.std.proofs.Common.{refl, ℕ, None, Some, subst}
+use Rattle.std.proofs.Common.{ℕ, None, Some, subst}
 use Rattle.hsms_log.specs.Spelling.{Carries}
-use Rattle.hsms_log.proofs.JudgeLaws.{tracks_nothing, tracks_entry}
+use Rattle.hsms_log.proofs.JudgeLaws.{tracks_nothing}
+use Rattle.hsms_log.proofs.Told.{line_answered}
 use Rattle.hsms_log.proofs.later.other_line.Goals as goal
 
 pub returns-in-Ok-Nothing-clause-follows : goal.returns-in-Ok-Nothing-clause-follows
@@ -13,6 +14,10 @@ pub returns-clause-follows : goal.returns-clause-follows
 returns-clause-follows c =
     let P : ℕ → Type 0 = λ max. Carries max c.args.line.now (Some c.in-Ok-Entry.entry) in
     let found = rw c.in-Ok-Entry.field-0-is at c.in-Ok-Entry.ensures.found in
-    let lawful = rw c.in_default.is at c.in_ok-rule.ensures.lawful in
-    λ e before. tracks_entry c.args.session.now c.step.new.self c.args.tally.now c.count_entry.new.self before c.args.line.now c.in-Ok-Entry.entry
-    (subst P c.requires.max found) (lawful refl) c.count_entry.ensures
+    λ e. c.carried_entry.ensures.follows e c.args.line.now (subst P c.requires.max found)
+
+pub returns-clause-fails : goal.returns-clause-fails
+returns-clause-fails c =
+    let P : ℕ → Type 0 = λ max. Carries max c.args.line.now (Some c.in-Ok-Entry.entry) in
+    let found = rw c.in-Ok-Entry.field-0-is at c.in-Ok-Entry.ensures.found in
+    line_answered c.carried_entry.result c.args.session.now c.args.tally.now c.in-Ok-Entry.entry c.args.line.now (subst P c.requires.max found) c.carried_entry.ensures.fails

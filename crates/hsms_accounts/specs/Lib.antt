@@ -1,0 +1,4 @@
+pub mod Text
+pub mod Pair
+pub mod Account
+pub mod Ends

@@ -1,0 +1,379 @@
+//! The log of one end of a connection, and what the audit says of it.
+
+ghost use Rattle.std.specs.Prelude.{◌≡◌, ◌+◌, ◌++◌, [], ◌∷◌, ℕ, List, IfOk, OnOk, Some, codes, decimal, length};
+ghost use Rattle.hsms_log.specs.Auditor.{HasAtMost, HasHeard, HasRoom};
+ghost use Rattle.hsms_log.specs.Spelling.{entry_line, settings_line};
+ghost use Rattle.hsms_accounts.specs.Account.{note_text, remark_text};
+ghost use Rattle.hsms_accounts.specs.declared.account.Remark.TheVariants.{LeftOut};
+
+use crate::stop::Stop;
+use crate::text::Text;
+use hsms_log::{Auditor, Verdict, write_entry, write_settings};
+use hsms_machine::{Entry, Settings};
+use itoa::Buffer;
+use std::alloc::{AllocError, Global};
+use std::marker::Model;
+
+// How many lines a log may have.
+const GREATEST: u64 = 1 << 62;
+
+/// The comment above an entry, or in the place of one.
+#[derive(Clone, Copy, Debug, PartialEq, Eq)]
+pub enum Remark {
+    /// It happened at the packet with this number.
+    Packet(u64),
+    /// It is supposed, since a later connection of the same ends follows.
+    Replaced,
+    /// It is supposed, since the capture begins within the session.
+    Supposed,
+    /// There is none of the packet with this number: what it answers may stand before the capture.
+    LeftOut(u64),
+}
+
+/// The log of one end of a connection, which is audited as it comes. None of its lines is held, and an entry is told to
+/// the audit without being written. Contracts see the audit, which is gone where memory was refused.
+pub struct Account {
+    auditor: Option<Auditor>,
+    // How many lines the log has at most.
+    lines: u64,
+    packet: u64,
+    failed: Option<u64>,
+}
+
+// Written out: a proof over one that is dropped has one step for it, not one for each of its parts.
+impl Drop for Account {
+    fn drop(self) {
+        let Account {
+            auditor,
+            lines: _,
+            packet: _,
+            failed: _,
+        } = self;
+        drop(auditor);
+    }
+}
+
+impl Model for Account {
+    ghost use Rattle.std.specs.Prelude.{◌≤◌, ◌^◌, IfSome};
+    ghost use Rattle.hsms_log.specs.Auditor.{HasAtMost};
+    ghost use Rattle.hsms_accounts.specs.Account.{Standing};
+
+    ghost Value = { Standing };
+
+    ghost view = { λ a. record { auditor = a.auditor; lines = a.lines } };
+
+    ghost invariant = { λ a. IfSome a.auditor (HasAtMost a.lines) × (a.lines ≤ 2 ^ 62) };
+}
+
+impl Account {
+    ghost use Rattle.std.specs.Prelude.{◌≡◌, ◌≤◌, ◌++◌, [], ◌∷◌, List, ℕ, IfOk, IfSome, IsTrue, OnOk, OnErr, IsSome, None, Some};
+    ghost use Rattle.hsms_log.specs.Auditor.{CanHear, IsBetween};
+    ghost use Rattle.hsms_log.specs.Spelling.{IsComment, entry_line};
+    ghost use Rattle.hsms_log.specs.Verdict.{Judges};
+    ghost use Rattle.hsms_machine.specs.Settings.{Parameters};
+    ghost use Rattle.hsms_accounts.specs.Account.{HasLogged, Hears, Note, log_text, remark_text};
+    ghost use Rattle.hsms_accounts.specs.Ends.{Adds, remark_alone};
+
+    /// The log of an end with these settings, without an entry.
+    ///
+    /// # Errors
+    ///
+    /// `Memory`.
+    #[tactic(auto, using(crate::proofs::Logs::begins))]
+    pub fn new(alloc: Global, settings: &Settings) -> Result<Account, Stop>
+        ensures { IfOk result (HasLogged settings.now []) }
+    {
+        let mut account = Account {
+            auditor: Some(Auditor::new(alloc)),
+            lines: 0,
+            packet: 0,
+            failed: None,
+        };
+        let mut text = Text::new(alloc);
+        lay_settings(&mut text, settings)?;
+        account.hear(alloc, text.octets())?;
+        Ok(account)
+    }
+
+    /// One more entry, behind a comment.
+    ///
+    /// # Errors
+    ///
+    /// `Memory`; `Endless` where the log may have more than 2^62 lines. Then it has no verdict, and nothing more is noted.
+    #[tactic(auto, using(crate::proofs::Logs::noted))]
+    pub fn note(&mut self, alloc: Global, remark: Remark, entry: &Entry) -> Result<(), Stop>
+        ensures added { OnOk result (Adds (record { remark = remark; entry = Some entry.now }) self.old self.new) }
+        ensures there { OnOk result (IsSome self.old.auditor) }
+        ensures gone { OnErr result (self.new.auditor ≡ None) }
+    {
+        self.packet = packet_of(remark, self.packet);
+        self.comment(alloc, remark)?;
+        self.enter(alloc, entry)
+    }
+
+    /// A comment alone.
+    ///
+    /// # Errors
+    ///
+    /// As of an entry.
+    #[tactic(auto, using(crate::proofs::Logs::remarked))]
+    pub fn remark(&mut self, alloc: Global, remark: Remark) -> Result<(), Stop>
+        ensures added { OnOk result (Adds (remark_alone remark) self.old self.new) }
+        ensures there { OnOk result (IsSome self.old.auditor) }
+        ensures gone { OnErr result (self.new.auditor ≡ None) }
+    {
+        self.comment(alloc, remark)
+    }
+
+    /// The verdict of the audit on the log, which ends here, and where it fails the number of the packet of the line.
+    ///
+    /// # Errors
+    ///
+    /// Where memory is refused, or was refused to the log.
+    pub fn verdict(self, alloc: Global) -> Result<Told, AllocError>
+        ensures judges { IfOk result (λ told. (settings : Parameters) (notes : List Note)
+            → HasLogged settings notes self → Judges (log_text settings notes) told.verdict) }
+        ensures there { OnOk result (IsSome self.auditor) }
+    {
+        let Account {
+            auditor,
+            lines: _,
+            packet: _,
+            failed: packet,
+        } = self;
+        match auditor {
+            Some(auditor) => {
+                let verdict = auditor.finish(alloc)?;
+                Ok(Told { verdict, packet })
+            }
+            None => Err(AllocError),
+        }
+    }
+
+    // A comment: told by itself where that can be, and else by its octets.
+    #[tactic(auto, using(crate::proofs::Logs::passed))]
+    fn comment(&mut self, alloc: Global, remark: Remark) -> Result<(), Stop>
+        ensures heard { OnOk result (Hears (remark_text remark) self.old self.new) }
+        ensures there { OnOk result (IsSome self.old.auditor) }
+        ensures gone { OnErr result (self.new.auditor ≡ None) }
+    {
+        if self.is_between() {
+            return self.pass_comment();
+        }
+        let mut text = Text::new(alloc);
+        match lay_remark(&mut text, remark) {
+            Ok(()) => self.hear(alloc, text.octets()),
+            Err(_) => Err(self.give_up(Stop::Memory)),
+        }
+    }
+
+    // An entry: told by itself where that can be, and else by its line.
+    fn enter(&mut self, alloc: Global, entry: &Entry) -> Result<(), Stop>
+        ensures heard { OnOk result (Hears (entry_line entry.now ++ 10 ∷ []) self.old self.new) }
+        ensures there { OnOk result (IsSome self.old.auditor) }
+        ensures gone { OnErr result (self.new.auditor ≡ None) }
+    {
+        if self.can_hear(entry) {
+            return self.tell(entry);
+        }
+        let mut text = Text::new(alloc);
+        match lay_entry(&mut text, entry) {
+            Ok(()) => self.hear(alloc, text.octets()),
+            Err(_) => Err(self.give_up(Stop::Memory)),
+        }
+    }
+
+    // Whether the audit can be told a comment by itself.
+    fn is_between(&self) -> bool
+        ensures { IsTrue result → IfSome self.now.auditor IsBetween }
+    {
+        match &self.auditor {
+            Some(auditor) => auditor.is_between(),
+            None => false,
+        }
+    }
+
+    // Whether the audit can be told an entry by itself.
+    fn can_hear(&self, entry: &Entry) -> bool
+        ensures { IsTrue result → IfSome self.now.auditor (λ auditor. CanHear auditor entry.now) }
+    {
+        match &self.auditor {
+            Some(auditor) => auditor.can_hear(entry),
+            None => false,
+        }
+    }
+
+    // Tells the audit a comment, whichever it is.
+    fn pass_comment(&mut self) -> Result<(), Stop>
+        requires { IfSome self.old.auditor IsBetween }
+        ensures heard { OnOk result ((comment : List ℕ) → IsComment comment → Hears (comment ++ 10 ∷ []) self.old self.new) }
+        ensures there { OnOk result (IsSome self.old.auditor) }
+        ensures gone { OnErr result (self.new.auditor ≡ None) }
+    {
+        if self.lines >= GREATEST {
+            return Err(self.give_up(Stop::Endless));
+        }
+        let Some(auditor) = &mut self.auditor else {
+            return Err(Stop::Memory);
+        };
+        auditor.take_comment();
+        self.lines += 1;
+        Ok(())
+    }
+
+    // Tells the audit an entry.
+    fn tell(&mut self, entry: &Entry) -> Result<(), Stop>
+        requires { IfSome self.old.auditor (λ auditor. CanHear auditor entry.now) }
+        ensures heard { OnOk result (Hears (entry_line entry.now ++ 10 ∷ []) self.old self.new) }
+        ensures there { OnOk result (IsSome self.old.auditor) }
+        ensures gone { OnErr result (self.new.auditor ≡ None) }
+    {
+        if self.lines >= GREATEST {
+            return Err(self.give_up(Stop::Endless));
+        }
+        let Some(auditor) = &mut self.auditor else {
+            return Err(Stop::Memory);
+        };
+        match auditor.take_entry(entry) {
+            Ok(()) => {
+                self.failed = failed_by(self.failed, auditor, self.packet);
+                self.lines += 1;
+                Ok(())
+            }
+            Err(_) => {
+                self.auditor = None;
+                Err(Stop::Memory)
+            }
+        }
+    }
+
+    // The audit hears octets.
+    fn hear(&mut self, alloc: Global, octets: &[u8]) -> Result<(), Stop>
+        ensures heard { OnOk result (Hears octets.now self.old self.new) }
+        ensures there { OnOk result (IsSome self.old.auditor) }
+        ensures gone { OnErr result (self.new.auditor ≡ None) }
+    {
+        let Some(auditor) = self.auditor.take() else {
+            return Err(Stop::Memory);
+        };
+        let count = octets.len() as u64;
+        if count > GREATEST - self.lines {
+            return Err(Stop::Endless);
+        }
+        let next = hear(alloc, auditor, octets)?;
+        self.failed = failed_by(self.failed, &next, self.packet);
+        self.lines += count;
+        self.auditor = Some(next);
+        Ok(())
+    }
+
+    // Nothing more is noted.
+    fn give_up(&mut self, stop: Stop) -> Stop
+        ensures gone { self.new.auditor ≡ None }
+        ensures same { result ≡ stop }
+    {
+        self.auditor = None;
+        stop
+    }
+}
+
+// An audit goes on by octets.
+fn hear(alloc: Global, auditor: Auditor, octets: &[u8]) -> Result<Auditor, AllocError>
+    requires { HasRoom auditor octets.now }
+    ensures heard { IfOk result (λ next. (text : List ℕ) → HasHeard auditor text → HasHeard next (text ++ octets.now)) }
+    ensures lines { IfOk result (λ next. (n : ℕ) → HasAtMost n auditor → HasAtMost (n + length octets.now) next) }
+{
+    let mut next = auditor;
+    next.take(alloc, octets)?;
+    Ok(next)
+}
+
+// The packet of the line that fails: the last one, where none has failed before.
+fn failed_by(failed: Option<u64>, auditor: &Auditor, packet: u64) -> Option<u64> {
+    match (failed, auditor.failure()) {
+        (None, Some(_)) => Some(packet),
+        (None, None) | (Some(_), _) => failed,
+    }
+}
+
+// The packet that a comment names, or the one before.
+fn packet_of(remark: Remark, before: u64) -> u64 {
+    match remark {
+        Remark::Packet(packet) => packet,
+        Remark::Replaced | Remark::Supposed | Remark::LeftOut(_) => before,
+    }
+}
+
+/// What the audit says of a log: the verdict, and where it is a failure the number of the packet of the line.
+#[derive(Clone, Copy, Debug)]
+pub struct Told {
+    pub verdict: Verdict,
+    pub packet: Option<u64>,
+}
+
+/// Lays an entry and the comment above it behind a text.
+pub fn lay_note(text: &mut Text, remark: Remark, entry: &Entry) -> Result<(), AllocError>
+    ensures { OnOk result
+        (text.new.octets ≡ text.old.octets ++ note_text (record { remark = remark; entry = Some entry.now })) }
+{
+    lay_remark(text, remark)?;
+    lay_entry(text, entry)
+}
+
+/// Lays a comment behind a text.
+pub fn lay_remark(text: &mut Text, remark: Remark) -> Result<(), AllocError>
+    ensures { OnOk result (text.new.octets ≡ text.old.octets ++ remark_text remark) }
+{
+    match remark {
+        Remark::Packet(packet) => lay_packet(text, packet),
+        Remark::Replaced => text.lay(b"# replaced\n"),
+        Remark::Supposed => text.lay(b"# supposed\n"),
+        Remark::LeftOut(packet) => lay_left_out(text, packet),
+    }
+}
+
+// Lays the comment that names a packet.
+fn lay_packet(text: &mut Text, packet: u64) -> Result<(), AllocError>
+    ensures { OnOk result (text.new.octets ≡ text.old.octets ++ (codes "# packet " ++ (decimal packet ++ 10 ∷ []))) }
+{
+    lay_number(text, packet)?;
+    text.lay(b"\n")
+}
+
+// Lays the front of a comment that names a packet.
+fn lay_number(text: &mut Text, packet: u64) -> Result<(), AllocError>
+    ensures { OnOk result (text.new.octets ≡ text.old.octets ++ (codes "# packet " ++ decimal packet)) }
+{
+    let mut buffer = Buffer::new();
+    text.lay(b"# packet ")?;
+    text.lay(buffer.format(packet).as_bytes())?;
+    Ok(())
+}
+
+// Lays the comment that names a packet of which there is no entry.
+fn lay_left_out(text: &mut Text, packet: u64) -> Result<(), AllocError>
+    ensures { OnOk result (text.new.octets ≡ text.old.octets ++ remark_text (LeftOut packet)) }
+{
+    lay_number(text, packet)?;
+    text.lay(b" left out: what it answers isn't in the capture\n")
+}
+
+// Lays the line of an entry behind a text.
+fn lay_entry(text: &mut Text, entry: &Entry) -> Result<(), AllocError>
+    ensures { OnOk result (text.new.octets ≡ text.old.octets ++ (entry_line entry.now ++ 10 ∷ [])) }
+{
+    match write_entry(text, entry) {
+        Ok(()) => Ok(()),
+        Err(_) => Err(AllocError),
+    }
+}
+
+/// Lays the line of the settings behind a text.
+pub fn lay_settings(text: &mut Text, settings: &Settings) -> Result<(), AllocError>
+    ensures { OnOk result (text.new.octets ≡ text.old.octets ++ (settings_line settings.now ++ 10 ∷ [])) }
+{
+    match write_settings(text, settings) {
+        Ok(()) => Ok(()),
+        Err(_) => Err(AllocError),
+    }
+}

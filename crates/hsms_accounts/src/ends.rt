@@ -1,0 +1,254 @@
+//! The logs of both ends of a connection.
+
+ghost use Rattle.std.specs.Prelude.{◌≡◌, ◌<◌, ◌≤◌, ◌+◌, ◌⊎◌, IfOk, IfSome, OnOk, None, Some, length, drop};
+ghost use Rattle.hsms_frame.specs.Frame.{Frame as Message};
+ghost use Rattle.hsms_machine.specs.declared.entry.Event.TheVariants.{Sent, Taken};
+ghost use Rattle.hsms_accounts.specs.Ends.{Adds, note_of};
+ghost use Rattle.hsms_log.specs.Spelling.{message_octets};
+
+use crate::account::{Account, Remark, Told};
+use crate::entries::{LENGTH, frame_of};
+use crate::stop::Stop;
+use hsms_capture::{Event as Happens, Happening, Side};
+use hsms_frame::Frame;
+use hsms_machine::{Entry, Event, Settings};
+use std::alloc::{AllocError, Global};
+
+/// The logs of both ends of a connection: the one that connected, and the one that was connected to.
+pub struct Ends {
+    pub active: Account,
+    pub passive: Account,
+    // The time of the last entry.
+    time: u64,
+    max: u32,
+}
+
+// Written out: a proof over one that is dropped has one step for it, not one for each of its parts.
+impl Drop for Ends {
+    fn drop(self) {
+        let Ends {
+            active,
+            passive,
+            time: _,
+            max: _,
+        } = self;
+        drop(active);
+        drop(passive);
+    }
+}
+
+/// Whether what happens has an entry.
+#[derive(Clone, Copy)]
+pub enum Heard {
+    /// It has one, and more may follow.
+    Goes,
+    /// It has one, and the connection went down.
+    Down,
+    /// It is a message that no end takes, by its length.
+    Length,
+}
+
+impl Ends {
+    ghost use Rattle.std.specs.Prelude.{◌≡◌, ◌++◌, [], ◌∷◌, List, IfOk, OnOk, max};
+    ghost use Rattle.hsms_capture.specs.declared.packet.Side.TheVariants.{Active, Passive};
+    ghost use Rattle.hsms_log.specs.Verdict.{Judges};
+    ghost use Rattle.hsms_machine.specs.Settings.{Parameters};
+    ghost use Rattle.hsms_accounts.specs.Account.{HasLogged, Note, log_text};
+    ghost use Rattle.hsms_machine.specs.declared.entry.Event.TheVariants.{Down, Up};
+    ghost use Rattle.hsms_accounts.specs.declared.account.Remark.TheVariants.{LeftOut, Replaced, Supposed};
+    ghost use Rattle.hsms_accounts.specs.Ends.{Adds, HearsAs, event_of, note_of, remark_alone};
+
+    /// The logs of ends with these settings, without an entry.
+    pub fn new(alloc: Global, active: &Settings, passive: &Settings) -> Result<Ends, Stop>
+        ensures active { IfOk result (λ ends. HasLogged active.now [] ends.active) }
+        ensures passive { IfOk result (λ ends. HasLogged passive.now [] ends.passive) }
+        ensures max { IfOk result (λ ends. ends.max ≡ active.now.max) }
+        ensures time { IfOk result (λ ends. ends.time ≡ 0) }
+    {
+        Ok(Ends {
+            active: Account::new(alloc, active)?,
+            passive: Account::new(alloc, passive)?,
+            time: 0,
+            max: active.max(),
+        })
+    }
+
+    /// Both ends log what happens, where it is no message that none takes: at its time, or at that of the entry before,
+    /// where it is later.
+    pub fn hear(&mut self, alloc: Global, happening: Happening) -> Result<Heard, Stop>
+        ensures active { IfOk result (λ heard. HearsAs self.old.max self.old.time Active happening heard self.old.active self.new.active) }
+        ensures passive { IfOk result (λ heard. HearsAs self.old.max self.old.time Passive happening heard self.old.passive self.new.passive) }
+        ensures time { OnOk result (self.new.time ≡ max self.old.time happening.time) }
+        ensures max { OnOk result (self.new.max ≡ self.old.max) }
+    {
+        let remark = Remark::Packet(happening.packet);
+        self.time = self.time.max(happening.time);
+        match happening.event {
+            Happens::Up => {
+                self.both(alloc, remark, Event::Up)?;
+                Ok(Heard::Goes)
+            }
+            Happens::Down => {
+                self.both(alloc, remark, Event::Down)?;
+                Ok(Heard::Down)
+            }
+            Happens::Message { from, octets } => {
+                let Some(frame) = frame_within(self.max, octets) else {
+                    return Ok(Heard::Length);
+                };
+                self.message(alloc, remark, from, frame)?;
+                Ok(Heard::Goes)
+            }
+        }
+    }
+
+    /// The verdicts on both logs, which end here: of the active end's, and of the passive end's.
+    pub fn verdicts(self, alloc: Global) -> Result<(Told, Told), AllocError>
+        ensures active { IfOk result (λ both. (settings : Parameters) (notes : List Note)
+            → HasLogged settings notes self.active → Judges (log_text settings notes) both.0.verdict) }
+        ensures passive { IfOk result (λ both. (settings : Parameters) (notes : List Note)
+            → HasLogged settings notes self.passive → Judges (log_text settings notes) both.1.verdict) }
+    {
+        let Ends {
+            active,
+            passive,
+            time: _,
+            max: _,
+        } = self;
+        Ok((active.verdict(alloc)?, passive.verdict(alloc)?))
+    }
+
+    /// Both ends log that the connection went down, since a later one follows, at the time of the entry before.
+    pub fn replace(&mut self, alloc: Global) -> Result<(), Stop>
+        ensures active { OnOk result (Adds (note_of Replaced self.old.time Down) self.old.active self.new.active) }
+        ensures passive { OnOk result (Adds (note_of Replaced self.old.time Down) self.old.passive self.new.passive) }
+    {
+        self.both(alloc, Remark::Replaced, Event::Down)
+    }
+
+    /// Both ends log that the connection came up at a time, or at that of the entry before, as it is supposed.
+    pub fn suppose_up(&mut self, alloc: Global, time: u64) -> Result<(), Stop>
+        ensures active { OnOk result (Adds (note_of Supposed (max self.old.time time) Up) self.old.active self.new.active) }
+        ensures passive { OnOk result (Adds (note_of Supposed (max self.old.time time) Up) self.old.passive self.new.passive) }
+        ensures time { OnOk result (self.new.time ≡ max self.old.time time) }
+        ensures max { OnOk result (self.new.max ≡ self.old.max) }
+    {
+        self.time = self.time.max(time);
+        self.both(alloc, Remark::Supposed, Event::Up)
+    }
+
+    /// Both ends log a message that one of them sent, as it is supposed, at the time of the entry before.
+    pub fn suppose_message(&mut self, alloc: Global, from: Side, frame: Frame) -> Result<(), Stop>
+        ensures active { OnOk result
+            (Adds (note_of Supposed self.old.time (event_of Active from frame)) self.old.active self.new.active) }
+        ensures passive { OnOk result
+            (Adds (note_of Supposed self.old.time (event_of Passive from frame)) self.old.passive self.new.passive) }
+        ensures same { OnOk result ((self.new.time ≡ self.old.time) × (self.new.max ≡ self.old.max)) }
+    {
+        self.message(alloc, Remark::Supposed, from, frame)
+    }
+
+    /// Both logs say that there is no entry of a packet: what it answers may stand before the capture.
+    pub fn leave_out(&mut self, alloc: Global, packet: u64) -> Result<(), Stop>
+        ensures active { OnOk result (Adds (remark_alone (LeftOut packet)) self.old.active self.new.active) }
+        ensures passive { OnOk result (Adds (remark_alone (LeftOut packet)) self.old.passive self.new.passive) }
+        ensures same { OnOk result ((self.new.time ≡ self.old.time) × (self.new.max ≡ self.old.max)) }
+    {
+        self.active.remark(alloc, Remark::LeftOut(packet))?;
+        self.passive.remark(alloc, Remark::LeftOut(packet))
+    }
+
+    // Both log the same.
+    fn both(&mut self, alloc: Global, remark: Remark, event: Event) -> Result<(), Stop>
+        ensures active { OnOk result (Adds (note_of remark self.old.time event) self.old.active self.new.active) }
+        ensures passive { OnOk result (Adds (note_of remark self.old.time event) self.old.passive self.new.passive) }
+        ensures same { OnOk result ((self.new.time ≡ self.old.time) × (self.new.max ≡ self.old.max)) }
+    {
+        let entry = Entry {
+            time: self.time,
+            event,
+        };
+        self.active.note(alloc, remark, &entry)?;
+        self.passive.note(alloc, remark, &entry)
+    }
+
+    // One logs that it sent a message, and the other one that it took it.
+    fn message(
+        &mut self,
+        alloc: Global,
+        remark: Remark,
+        from: Side,
+        frame: Frame,
+    ) -> Result<(), Stop>
+        ensures active { OnOk result
+            (Adds (note_of remark self.old.time (event_of Active from frame)) self.old.active self.new.active) }
+        ensures passive { OnOk result
+            (Adds (note_of remark self.old.time (event_of Passive from frame)) self.old.passive self.new.passive) }
+        ensures same { OnOk result ((self.new.time ≡ self.old.time) × (self.new.max ≡ self.old.max)) }
+    {
+        let (time, active, passive) = (self.time, &mut self.active, &mut self.passive);
+        match from {
+            Side::Active => pass(alloc, remark, time, frame, active, passive),
+            Side::Passive => pass(alloc, remark, time, frame, passive, active),
+        }
+    }
+}
+
+// The end that sends a message logs it, and the other one that it takes it.
+fn pass(
+    alloc: Global,
+    remark: Remark,
+    time: u64,
+    frame: Frame,
+    sender: &mut Account,
+    taker: &mut Account,
+) -> Result<(), Stop>
+    ensures sender { OnOk result (Adds (note_of remark time (Sent frame)) sender.old sender.new) }
+    ensures taker { OnOk result (Adds (note_of remark time (Taken frame)) taker.old taker.new) }
+{
+    let sent = Entry {
+        time,
+        event: Event::Sent(frame),
+    };
+    sender.note(alloc, remark, &sent)?;
+    let taken = Entry {
+        time,
+        event: taken(sent.event),
+    };
+    taker.note(alloc, remark, &taken)
+}
+
+// What the other end logs of a message that one sent.
+fn taken(sent: Event) -> Event
+    ensures { (frame : Message) → sent ≡ Sent frame → result ≡ Taken frame }
+{
+    match sent {
+        Event::Sent(frame) => Event::Taken(frame),
+        Event::Up => Event::Up,
+        Event::Taken(frame) => Event::Taken(frame),
+        Event::Discarded(frame) => Event::Discarded(frame),
+        Event::T3(system) => Event::T3(system),
+        Event::Cut(cause) => Event::Cut(cause),
+        Event::Down => Event::Down,
+    }
+}
+
+/// The logs of the ends of a connection, which don't stand apart any more.
+pub fn unboxed(ends: Option<Box<Ends>>) -> Option<Ends> {
+    match ends {
+        Some(ends) => Some(Box::into_inner(ends)),
+        None => None,
+    }
+}
+
+/// The message of these octets, those of its length first, where header and text have from ten octets up to so many.
+pub fn frame_within(max: u32, octets: Vec<u8>) -> Option<Frame>
+    ensures some { IfSome result (λ frame. drop 4 octets.items ≡ message_octets frame) }
+    ensures none { result ≡ None → (length octets.items < 14) ⊎ (max + 4 < length octets.items) }
+    ensures most { IfSome result (λ frame. length octets.items ≤ max + 4) }
+{
+    if octets.len() as u64 > u64::from(max) + LENGTH as u64 {
+        return None;
+    }
+    frame_of(octets)
+}

@@ -1,6 +1,0 @@
-use Rattle.std.proofs.Common.{◌*◌, ◌∙◌, ap, length, take}
-use Rattle.hsms_lines.proofs.DigitTable.{first_digits}
-use Rattle.hsms_lines.proofs.digits.digits_of_few.Goals as goal
-
-pub returns : goal.returns
-returns c = ap (take (2 * length c.args.octets.now)) c.digits_of_sixteen.ensures ∙ first_digits c.args.octets.now c.sixteen_of_few-sixteen.result c.sixteen_of_few-sixteen.ensures

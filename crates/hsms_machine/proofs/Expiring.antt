@@ -1,0 +1,192 @@
+-- An expiry that is put before an entry breaks no rule there.
+use Rattle.std.proofs.Common.{◌≡◌, ℕ, ◌+◌, ◌-◌, ◌<◌, ◌≤◌, ◌==◌, ◌&&◌, ◌++◌, min, Bool, true, false, not, cond, List, [], ◌∷◌, length, filter, Option, Some, None, option_to_list, inl, inr, refl, sym, ap, subst, ◌∙◌, nat_lt, nat_le, arith, if◌then◌else◌}
+use Rattle.std.specs.List.{list_any}
+use Rattle.std.proofs.lemmas.Bool.{cases_lt, eq-eqb, ltb-true, ltb-false, lt-ltb, le-leb}
+use Rattle.std.proofs.lemmas.List.{append-nil, append_assoc}
+use Rattle.hsms_frame.specs.declared.header.Header.{Header}
+use Rattle.hsms_machine.specs.declared.entry.Entry.{Entry}
+use Rattle.hsms_machine.specs.declared.entry.Event.{Event}
+use Rattle.hsms_machine.specs.declared.entry.Event.TheVariants.{Up, Sent, Taken, Discarded, T3, Cut, Down}
+use Rattle.hsms_machine.specs.declared.rule.Rule.{Rule}
+use Rattle.hsms_machine.specs.declared.rule.Rule.TheVariants.{Backwards, NotUp, Ended, T3Overdue, NoCause}
+use Rattle.hsms_machine.specs.declared.open.Transaction.{Transaction}
+use Rattle.hsms_machine.specs.declared.view.View.{View}
+use Rattle.hsms_machine.specs.Entry.{entry_at, is_up, connection_of}
+use Rattle.hsms_machine.specs.Message.{is_data_request}
+use Rattle.hsms_machine.specs.Ordered.{AreInOrder, AreUntil, first_of}
+use Rattle.hsms_machine.specs.Put.{ExpiryPutIsLawful}
+use Rattle.hsms_machine.specs.Repair.{First, change_by, entry_of_event, expired, expiry_of, remedy_of}
+use Rattle.hsms_machine.specs.Rule.{Breaks, IsFirst, IsNotUp, all_rules, format_rules, timer_rules, transaction_rules}
+use Rattle.hsms_machine.specs.Run.{Broken, IsRun}
+use Rattle.hsms_machine.specs.Session.{facts_before}
+use Rattle.hsms_machine.specs.Settings.{Parameters}
+use Rattle.hsms_machine.specs.Step.{IsUntil, is_closed_by, pool_after, view_after}
+use Rattle.hsms_machine.specs.Timer.{IsT3Overdue}
+use Rattle.hsms_machine.specs.Transaction.{SentData, SomeOpen, opened_as, opened_as_at, passes}
+use Rattle.hsms_machine.specs.View.{open_of, view_of}
+use Rattle.hsms_machine.proofs.Beside.{in_order-filter}
+use Rattle.hsms_machine.proofs.Connection.{on-before}
+use Rattle.hsms_machine.proofs.Kept.{in_order-push}
+use Rattle.hsms_machine.proofs.Mapped.{any_first, overdue_falls}
+use Rattle.hsms_machine.proofs.Push.{view-push}
+use Rattle.hsms_machine.proofs.Runs.{run-front, run-next}
+use Rattle.hsms_machine.proofs.SameFacts.{Never, never_from, none_never}
+use Rattle.hsms_machine.proofs.Timely.{new_until, until_after, until-filter, view_until-le}
+use Rattle.hsms_machine.proofs.ViewsOfRuns.{past_from, past_to, pool_told, told_pool}
+
+-- ---- the open primaries of a run are in order of opening
+
+module _ (P : List Entry → Type 0) (more : (log : List Entry) (entry : Entry) → P log → P (log ++ entry ∷ [])) where
+  from_front : (front back : List Entry) → P front → P (front ++ back)
+  from_front front [] p = subst P (sym (append-nil front)) p
+  from_front front (entry ∷ back) p = subst P (append_assoc front (entry ∷ []) back) (from_front (front ++ entry ∷ []) back (more front entry p))
+
+not_before : (settings : Parameters) (log : List Entry) (entry : Entry) → Broken settings log entry None → (view_of settings log).last_time ≤ entry.time
+unfolding Broken
+not_before settings log entry lawful =
+    let never = never_from (Breaks (facts_before log (length log)) settings entry) all_rules lawful in
+    elim (cases_lt entry.time (view_of settings log).last_time) [
+      | inl before ↦ absurd (never.0 (past_to log entry.time before))
+      | inr le ↦ le
+    ]
+
+one_ordered : (xs : List Transaction) (time : ℕ) (header : Header) (b : Bool) → AreInOrder xs → AreUntil time xs
+    → AreInOrder (xs ++ option_to_list (cond b (Some (record { time = time; header = header })) None))
+one_ordered xs time header true ordered until = in_order-push xs (record { time = time; header = header }) ordered until
+one_ordered xs time header false ordered until = subst AreInOrder (sym (append-nil xs)) ordered
+
+opened_ordered : (xs : List Transaction) (time : ℕ) (event : Event) → AreInOrder xs → AreUntil time xs
+    → AreInOrder (xs ++ option_to_list (opened_as_at SentData time event))
+opened_ordered xs time (Sent frame) ordered until = one_ordered xs time frame.header (is_data_request frame.header) ordered until
+opened_ordered xs time event ordered until = subst AreInOrder (sym (append-nil xs)) ordered
+
+pool_ordered : (xs : List Transaction) (entry : Entry) → AreInOrder xs → AreUntil entry.time xs → AreInOrder (pool_after SentData xs entry)
+pool_ordered xs entry ordered until = by_case (is_up entry.event) where
+  kept : List Transaction
+  kept = filter (λ opened. not (is_closed_by SentData entry.event opened)) xs
+
+  by_case : (b : Bool) → AreInOrder (cond b [] (filter (λ opened. not (is_closed_by SentData entry.event opened)) xs ++ option_to_list (opened_as SentData entry)))
+  by_case true = tt
+  by_case false =
+      opened_ordered (filter (λ opened. not (is_closed_by SentData entry.event opened)) xs) entry.time entry.event
+      (in_order-filter (λ opened. not (is_closed_by SentData entry.event opened)) xs ordered)
+      (until-filter entry.time (λ opened. not (is_closed_by SentData entry.event opened)) xs until)
+
+-- what is open of a run is in order, and was opened by the time of its last entry
+pub record AreTimely (view : View) : Type 0 where
+  pub ordered : AreInOrder view.sent_data
+  pub until : IsUntil view.last_time view
+
+abbrev IsTimelyRun : Parameters → List Entry → Type 0
+IsTimelyRun settings log = IsRun settings log → AreTimely (view_of settings log)
+
+none_timely : (settings : Parameters) → IsTimelyRun settings []
+unfolding connection_of
+none_timely settings run = record { ordered = tt; until = new_until settings (view_of settings []) refl }
+
+timely_more : (settings : Parameters) (log : List Entry) (entry : Entry) → IsTimelyRun settings log → IsTimelyRun settings (log ++ entry ∷ [])
+timely_more settings log entry before run =
+    let timely = before (run-front settings log (entry ∷ []) run) in
+    let view = view_of settings log in
+    let le = not_before settings log entry (run-next settings log entry [] run) in
+    let until = view_until-le view.last_time entry.time le view timely.until in
+    let after = view-push settings log entry in
+    record {
+      ordered = subst (λ v. AreInOrder v.sent_data) (sym after) (pool_ordered view.sent_data entry timely.ordered until.sent_data);
+      until = until_after view (view_of settings (log ++ entry ∷ [])) entry until after;
+    }
+
+pub run_timely : (settings : Parameters) (log : List Entry) → IsRun settings log → AreTimely (view_of settings log)
+run_timely settings log = from_front (IsTimelyRun settings) (timely_more settings) [] log (none_timely settings)
+
+-- ---- the expiry
+
+applies : (Applies : Rule → Type 0) (rules : List Rule) (rule : Rule) → IsFirst Applies rules (Some rule) → Applies rule
+applies Applies [] rule h = absurd (let d : ◌≡◌ {A = Option Rule} (Some rule) None = h in cc)
+applies Applies (x ∷ xs) rule h = elim h [
+  | inl p ↦ let same : x ≡ rule = (let e : ◌≡◌ {A = Option Rule} (Some rule) (Some x) = p.1 in cc) in subst Applies same p.0
+  | inr q ↦ applies Applies xs rule q.1
+]
+
+not_first : (Applies : Rule → Type 0) (x : Rule) (xs : List Rule) (rule : Rule) → (x ≡ rule → ⊥) → IsFirst Applies (x ∷ xs) (Some rule)
+    → (Applies x → ⊥) × IsFirst Applies xs (Some rule)
+not_first Applies x xs rule other h = elim h [
+  | inl p ↦ absurd (other (let e : ◌≡◌ {A = Option Rule} (Some rule) (Some x) = p.1 in cc))
+  | inr q ↦ (q.0, q.1)
+]
+
+-- the rules behind the first two
+abbrev behind_up : List Rule
+behind_up = Ended ∷ (timer_rules ++ (format_rules ++ (transaction_rules ++ (NoCause ∷ []))))
+
+-- an expiry lacks its `up` no more than an entry before which it is due does
+not_lacking : (log : List Entry) (settings : Parameters) (event : Event) (system : ℕ) → 0 < length log
+    → ((facts_before log (length log)).FollowsDown → ⊥) → (IsNotUp (facts_before log (length log)) settings event → ⊥)
+    → IsNotUp (facts_before log (length log)) settings (T3 system) → ⊥
+not_lacking log settings Up system some not_down up lacks = up (some, λ c. not_down c.1)
+not_lacking log settings (Sent frame) system some not_down up lacks = up lacks
+not_lacking log settings (Taken frame) system some not_down up lacks = up lacks
+not_lacking log settings (Discarded frame) system some not_down up lacks = up lacks
+not_lacking log settings (T3 other) system some not_down up lacks = up lacks
+not_lacking log settings (Cut cause) system some not_down up lacks = up lacks
+not_lacking log settings Down system some not_down up lacks = up lacks
+
+late_by : (last moment time : ℕ) (b : Bool) → nat_lt last moment ≡ b → (last ≤ (if b then moment else last)) × (moment ≤ (if b then moment else last))
+late_by last moment time true is = let lt : last < moment = ltb-true last moment is in (omega arith, omega arith)
+late_by last moment time false is = let le : moment ≤ last = ltb-false last moment is in (omega arith, omega arith)
+
+-- it is due, and no earlier than the entry before
+when_due : (view : View) (time since : ℕ) → view.settings.t3 < time - since
+    → (view.last_time ≤ expiry_of view time since view.settings.t3) × (view.settings.t3 ≤ expiry_of view time since view.settings.t3 - since)
+when_due view time since late =
+    let moment = min (since + view.settings.t3) time in
+    let (last, due) = late_by view.last_time moment time (nat_lt view.last_time moment) refl in
+    (last, omega (arith, due, late))
+
+any_of_first : (test : Transaction → Bool) (xs : List Transaction) (opened : Transaction) → first_of xs ≡ Some opened → test opened ≡ true → list_any test xs ≡ true
+any_of_first test [] opened e so = absurd cc
+any_of_first test (x ∷ xs) opened e so =
+    let is : x ≡ opened = cc in
+    let here : test x ≡ true = ap test is ∙ so in
+    rw here refl
+
+expiry_lawful : (settings : Parameters) (log : List Entry) (entry : Entry) (opened : Transaction) → IsRun settings log
+    → IsFirst (Breaks (facts_before log (length log)) settings entry) all_rules (Some T3Overdue) → first_of (open_of SentData log) ≡ Some opened
+    → IsFirst (Breaks (facts_before log (length log)) settings (entry_of_event (expiry_of (view_of settings log) entry.time opened.time settings.t3) (T3 opened.header.system)))
+    all_rules None
+expiry_lawful settings log entry opened run h first =
+    let F = facts_before log (length log) in
+    let view = view_of settings log in
+    let not_up = (not_first (Breaks F settings entry) NotUp behind_up T3Overdue (λ e. cc) (not_first (Breaks F settings entry) Backwards (NotUp ∷ behind_up) T3Overdue (λ e. cc) h).1).0 in
+    let overdue = applies (Breaks F settings entry) all_rules T3Overdue h in
+    let timed = overdue.1.0 in
+    let some_late = overdue.1.1 in
+    let some : 0 < length log = (let lt = on-before log some_late.0 (length log) some_late.1.earlier in omega (arith, lt)) in
+    let late_test : ℕ → Bool = λ time. nat_lt settings.t3 (entry.time - time) in
+    let any_late = told_pool SentData log (λ other. late_test other.time) some_late in
+    let oldest : passes (λ other. late_test other.time) (first_of (open_of SentData log)) ≡ true =
+    sym (any_first late_test (overdue_falls entry.time settings.t3) (open_of SentData log) (run_timely settings log run).ordered) ∙ any_late in
+    let late : nat_lt settings.t3 (entry.time - opened.time) ≡ true = sym (ap (passes (λ other. late_test other.time)) first) ∙ oldest in
+    let due = when_due view entry.time opened.time (ltb-true settings.t3 (entry.time - opened.time) late) in
+    let time = expiry_of view entry.time opened.time settings.t3 in
+    let system = opened.header.system in
+    let here : ((opened.header.system == system) && nat_le settings.t3 (time - opened.time)) ≡ true =
+    rw (eq-eqb opened.header.system system refl) (le-leb settings.t3 (time - opened.time) due.1) in
+    let found = pool_told SentData log (λ other. (other.header.system == system) && nat_le settings.t3 (time - other.time))
+    (any_of_first (λ other. (other.header.system == system) && nat_le settings.t3 (time - other.time)) (open_of SentData log) opened first here) in
+    none_never (Breaks F settings (entry_of_event time (T3 system))) all_rules
+    ((λ past. let lt = past_from log time past in absurd (omega (arith, lt, due.0))), ((not_lacking log settings entry.event system some timed.1 not_up), ((λ ended. timed.0 ended.1), ((λ other. other.0 refl), ((λ other. other.0 refl), ((λ early. early found), ((λ never. never), ((λ never. never), ((λ never. never), ((λ never. never), ((λ never. never), ((λ never. never), ((λ never. never), ((λ never. never), ((λ never. never), ((λ never. never), ((λ never. never), ((λ never. never), ((λ never. never), tt)))))))))))))))))))
+
+put_by : (settings : Parameters) (log : List Entry) (entry first : Entry) (oldest : Option Transaction) → IsRun settings log
+    → IsFirst (Breaks (facts_before log (length log)) settings entry) all_rules (Some T3Overdue) → first_of (open_of SentData log) ≡ oldest
+    → change_by (expired (view_of settings log) entry.time oldest) entry ≡ First first
+    → IsFirst (Breaks (facts_before log (length log)) settings first) all_rules None
+put_by settings log entry first None run h is put = absurd cc
+put_by settings log entry first (Some opened) run h is put =
+    let same : entry_of_event (expiry_of (view_of settings log) entry.time opened.time settings.t3) (T3 opened.header.system) ≡ first = cc in
+    let P : Entry → Type 0 = λ e. IsFirst (Breaks (facts_before log (length log)) settings e) all_rules None in
+    subst P same (expiry_lawful settings log entry opened run h is)
+
+pub expiry_put : ExpiryPutIsLawful
+unfolding Broken
+expiry_put settings log entry first run h put = put_by settings log entry first (first_of (open_of SentData log)) run h refl put

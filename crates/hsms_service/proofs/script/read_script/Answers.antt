@@ -1,0 +1,38 @@
+use Rattle.std.proofs.Common.{◌≡◌, ℕ, Bool, List, inl, subst}
+use Rattle.std.specs.Prelude.{Option}
+use Rattle.std.proofs.lemmas.Result.{err_from_is_err_and}
+use Rattle.secs_text.specs.declared.message.Message.{Message}
+use Rattle.secs_text.specs.Content.{AllWithin}
+use Rattle.secs_text.specs.Notation.{Notations}
+use Rattle.secs_text.specs.View.{contents}
+use Rattle.hsms_options.specs.declared.fault.ToolFault.{ToolFault}
+use Rattle.hsms_options.specs.declared.fault.ToolFault.TheVariants.{Refused, Device, Memory}
+use Rattle.hsms_tasks.specs.Encode.{IsPartOfInput, IsWholeInput, input_limit}
+use Rattle.hsms_service.specs.declared.script.Script.{Script}
+use Rattle.hsms_service.specs.Script.{IsNoScript, IsScript, replies_of, steps_of}
+use Rattle.hsms_service.proofs.script.read_script.Goals as goal
+
+-- an input that was not read whole
+stops_reading : (depth : ℕ) (input : List ℕ) (fault : ToolFault) (left : Option (List ℕ)) → IsPartOfInput input_limit input fault left
+    → IsNoScript depth input fault left
+stops_reading depth input (Refused words) left part = inl part
+stops_reading depth input (Device word) left part = part
+stops_reading depth input Memory left part = tt
+
+-- an input that was read whole, and is the notation of messages
+reads_script : (depth : ℕ) (send answer : Bool) (octets input : List ℕ) (messages : List Message) (script : Script) → IsWholeInput input_limit octets input
+    → Notations (contents messages) octets × AllWithin depth (contents messages) → script.replies.items ≡ replies_of answer messages
+    → script.steps.items ≡ steps_of send answer messages → IsScript depth send answer script input
+reads_script depth send answer octets input messages script whole noted replies steps =
+    let P : List ℕ → Type 0 = λ text. Notations (contents messages) text in
+    (messages, (whole.1, subst P whole.0 noted.0, noted.1), replies, steps)
+
+pub returns-in_err-input-clause-err : goal.returns-in_err-input-clause-err
+returns-in_err-input-clause-err g c =
+    let p = err_from_is_err_and c.from_residual.result c.from_residual.ensures.1 in
+    rw (p.1, p.2) (λ input told. stops_reading _ _ _ _ (c.in_err-input.ensures.err input told))
+
+pub returns-clause-ok : goal.returns-clause-ok
+returns-clause-ok g c = λ input told.
+    let noted = rw c.deref.ensures.value at c.in_ok-messages.ensures.ok in
+    reads_script _ _ _ _ _ _ c.in_ok-script_of.field-0 (c.in_ok-input.ensures.ok input told) noted c.in_ok-script_of.ensures.replies c.in_ok-script_of.ensures.steps

@@ -1,0 +1,77 @@
+-- What `hsms serve` serves a connection with, and how it tells what came of it.
+use Rattle.std.specs.Prelude.{◌≡◌, ◌==◌, ◌||◌, not, ℕ, Bool, true, List, codes, string_bytes, Option, Some, None, Result, Ok, Err, if◌then◌else◌}
+use Rattle.secs_text.specs.declared.message.Message.{Message}
+use Rattle.secs_text.specs.Content.{Content}
+use Rattle.hsms_end.specs.Answer.{Answered}
+use Rattle.hsms_end.specs.Desk.{equipment_answer, host_answer}
+use Rattle.hsms_end.specs.Known.{untold}
+use Rattle.hsms_frame.specs.Device.{SinkState}
+use Rattle.hsms_machine.specs.declared.settings.Role.TheVariants as role
+use Rattle.hsms_ends.specs.declared.fault.ServeFault.{ServeFault}
+use Rattle.hsms_ends.specs.declared.fault.ServeFault.TheVariants as serve
+use Rattle.hsms_ends.specs.declared.again.ServedAgain.{ServedAgain}
+use Rattle.hsms_ends.specs.declared.serving.Served.{Served}
+use Rattle.hsms_ends.specs.declared.step.Step.{Step}
+use Rattle.hsms_ends.specs.Link.{Told}
+use Rattle.hsms_ends.specs.Scripted.{scripted_answer}
+use Rattle.hsms_ends.specs.Serving.{ServesTesting, is_complete}
+use Rattle.hsms_service.specs.declared.desks.OwnDesk.{OwnDesk}
+use Rattle.hsms_service.specs.declared.desks.OwnDesk.TheVariants.{Host, Equipment}
+use Rattle.hsms_options.specs.declared.fault.ToolFault.{ToolFault}
+use Rattle.hsms_options.specs.declared.fault.ToolFault.TheVariants.{Refused, Device, Memory}
+use Rattle.hsms_options.specs.declared.service.Service.{Service}
+
+-- what a desk answers
+abbrev pub own_answer : OwnDesk → ℕ → Content → Answered
+own_answer (Host desk) before message = scripted_answer desk.replies.items host_answer before message
+own_answer (Equipment desk) before message =
+    scripted_answer desk.replies.items (equipment_answer desk.own.mdln.items desk.own.softrev.items) before message
+
+-- the desk of a service with these replies: a host's, or that of equipment with its model and software revision
+abbrev pub IsDeskOf : Service → List Message → OwnDesk → Type 0
+IsDeskOf service replies (Host desk) = (service.settings.role ≡ role.Host) × (desk.replies.items ≡ replies)
+IsDeskOf service replies (Equipment desk) =
+    (service.settings.role ≡ role.Equipment) × (desk.own.mdln.items ≡ string_bytes service.mdln)
+    × (desk.own.softrev.items ≡ string_bytes service.softrev) × (desk.replies.items ≡ replies)
+
+-- the word for a fault that is a device's, or that ends the serving
+abbrev pub IsWordOf : ServeFault → List ℕ → Type 0
+IsWordOf serve.Link word = word ≡ codes "Link"
+IsWordOf serve.Log word = word ≡ codes "Log"
+IsWordOf serve.Turns word = word ≡ codes "Turns"
+IsWordOf serve.Memory word = ⊥
+
+-- the fault of serving, as the command tells it
+abbrev pub TellsServe : ServeFault → ToolFault → Type 0
+TellsServe fault (Refused words) = ⊥
+TellsServe fault (Device word) = IsWordOf fault word.now
+TellsServe fault Memory = fault ≡ serve.Memory
+
+-- what came of serving, as the command tells it: where all is to be sent, it is well where each step of the script was
+-- taken and none refused
+abbrev pub TellsServed : Bool → Result Served ServeFault → Result Bool ToolFault → Type 0
+TellsServed all_sent (Ok served) (Ok well) = well ≡ (not all_sent || is_complete served)
+TellsServed all_sent (Ok served) (Err told) = ⊥
+TellsServed all_sent (Err fault) (Ok well) = ⊥
+TellsServed all_sent (Err fault) (Err told) = TellsServe fault told
+
+-- it is well or not, unless a connection is wanting
+abbrev pub TellsWanting : Bool → Option ServeFault → Result Bool ToolFault → Type 0
+TellsWanting is_well None (Ok well) = well ≡ is_well
+TellsWanting is_well None (Err told) = ⊥
+TellsWanting is_well (Some fault) (Ok well) = ⊥
+TellsWanting is_well (Some fault) (Err told) = TellsServe fault told
+
+-- what came of serving connections one after the other, as the command tells it
+abbrev pub TellsServedAgain : Bool → Result ServedAgain ServeFault → Option ServeFault → Result Bool ToolFault → Type 0
+TellsServedAgain all_sent (Ok served) wanting told = TellsWanting (not all_sent || served.complete) wanting told
+TellsServedAgain all_sent (Err fault) wanting told = TellsWanting true (Some fault) told
+
+-- after how long a pause the link is tested, where 0 is never
+abbrev pub pause_for : ℕ → Option ℕ
+pause_for linktest = if linktest == 0 then None else Some linktest
+
+-- a new end served a connection with this desk, as the service asks
+abbrev pub ServesTo : Service → OwnDesk → List Step → Result Served ServeFault → SinkState → SinkState → Told → Told → Type 0
+ServesTo service desk script result log log' link link' =
+    ServesTesting own_answer (pause_for service.linktest) (record { desk = desk; known = untold service.settings service.first_system }) script service.turns result log log' link link'

@@ -1,0 +1,161 @@
+//! `hsms serve`: one connection, served.
+
+ghost use Rattle.std.specs.Prelude.{◌≡◌, ◌||◌, not, if◌then◌else◌, []};
+ghost use Rattle.hsms_machine.specs.Settings.{several_of};
+ghost use Rattle.hsms_ends.specs.Again.{ServesAgain};
+ghost use Rattle.hsms_service.specs.Serving.{ServesTo, TellsServe, TellsServed, TellsServedAgain, TellsWanting, own_answer, pause_for};
+
+use crate::desks::OwnDesk;
+use hsms_ends::{
+    Again, Lent, Link, ServeFault, Served, ServedAgain, Step, serve_again, serve_testing,
+};
+use hsms_frame::Sink;
+use hsms_options::{Service, ToolFault};
+use std::alloc::Global;
+
+/// Serves a connection as a service asks, and writes its log.
+///
+/// # Errors
+///
+/// - `Link`: the link failed.
+/// - `Log`: a write to the log failed.
+/// - `Turns`: all turns are used, and the connection is still up.
+/// - `Memory`.
+///
+/// What the log holds passes the audit, but for a part of a line after `Log`.
+pub fn serve_to<L: Link, W: Sink>(
+    alloc: Global,
+    link: &mut L,
+    log: &mut W,
+    service: &Service,
+    desk: OwnDesk,
+    script: &[Step],
+) -> Result<Served, ServeFault>
+    ensures { ServesTo service.now desk script.now result (W.state log.old) (W.state log.new)
+        (L.told link.old) (L.told link.new) }
+{
+    let turns = u64::from(service.turns);
+    let pause = pause_of(service.linktest);
+    serve_testing(
+        alloc,
+        link,
+        log,
+        service.settings,
+        desk,
+        service.first_system,
+        script,
+        pause,
+        turns,
+    )
+}
+
+// After how many milliseconds of quiet the link is tested, if it is.
+fn pause_of(linktest: u32) -> Option<u64>
+    ensures { result ≡ pause_for linktest }
+{
+    if linktest == 0 {
+        None
+    } else {
+        Some(u64::from(linktest))
+    }
+}
+
+/// Serves connection after connection as a service asks, and writes one log of them.
+///
+/// # Errors
+///
+/// `Log`, `Turns` and `Memory`, as those of a connection. A link that failed is followed by the next connection.
+///
+/// What the log holds passes the audit, but for a part of a line after `Log`.
+pub fn serve_again_to<L: Again, W: Sink>(
+    alloc: Global,
+    link: &mut L,
+    log: &mut W,
+    service: &Service,
+    desk: Lent<'_, OwnDesk>,
+    script: &[Step],
+) -> Result<ServedAgain, ServeFault>
+    ensures { ServesAgain (λ lent. own_answer lent.desk.now) (pause_for service.now.linktest) desk.entry
+        (several_of service.now.settings)
+        service.now.first_system script.now (if service.now.repeat.once then [] else script.now) service.now.turns
+        service.now.repeat.connections result (W.state log.old) (W.state log.new) (L.told link.old) (L.told link.new) }
+{
+    let turns = u64::from(service.turns);
+    let connections = u64::from(service.repeat.connections);
+    let pause = pause_of(service.linktest);
+    let later = later_steps(script, service.repeat.once);
+    let system = service.first_system;
+    serve_again(
+        alloc,
+        link,
+        log,
+        service.settings,
+        desk,
+        system,
+        script,
+        later,
+        pause,
+        turns,
+        connections,
+    )
+}
+
+// The script of each connection but the first.
+fn later_steps<'a>(script: &'a [Step], once: bool) -> &'a [Step]
+    ensures { result.now ≡ (if once then [] else script.now) }
+{
+    if once { &script[..0] } else { script }
+}
+
+/// What came of serving connections one after the other, as the command tells it. Another one may be wanting. Where all is
+/// to be sent, it is well only where each connection was complete.
+pub fn told_again(
+    all_sent: bool,
+    served: Result<ServedAgain, ServeFault>,
+    wanting: Option<ServeFault>,
+) -> Result<bool, ToolFault>
+    ensures { TellsServedAgain all_sent served wanting result }
+{
+    match served {
+        Ok(served) => told_wanting(is_well(all_sent, served.complete), wanting),
+        Err(fault) => Err(fault_told(fault)),
+    }
+}
+
+fn told_wanting(well: bool, wanting: Option<ServeFault>) -> Result<bool, ToolFault>
+    ensures { TellsWanting well wanting result }
+{
+    match wanting {
+        Some(fault) => Err(fault_told(fault)),
+        None => Ok(well),
+    }
+}
+
+/// What came of serving, as the command tells it: `Device` with the name of a fault, but for `Memory`. Where all is to be
+/// sent, it is well only where each step of the script was taken, and none refused.
+pub fn told(all_sent: bool, served: Result<Served, ServeFault>) -> Result<bool, ToolFault>
+    ensures { TellsServed all_sent served result }
+{
+    match served {
+        Ok(served) => Ok(is_well(all_sent, served.is_complete())),
+        Err(fault) => Err(fault_told(fault)),
+    }
+}
+
+fn is_well(all_sent: bool, complete: bool) -> bool
+    ensures { result ≡ (not all_sent || complete) }
+{
+    !all_sent || complete
+}
+
+/// A fault of serving, as the command tells it.
+pub fn fault_told(fault: ServeFault) -> ToolFault
+    ensures { TellsServe fault result }
+{
+    match fault {
+        ServeFault::Link => ToolFault::Device("Link"),
+        ServeFault::Log => ToolFault::Device("Log"),
+        ServeFault::Turns => ToolFault::Device("Turns"),
+        ServeFault::Memory => ToolFault::Memory,
+    }
+}

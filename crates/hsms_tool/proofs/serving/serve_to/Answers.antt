@@ -1,4 +1,0 @@
-use Rattle.hsms_tool.proofs.serving.serve_to.Goals as goal
-
-pub returns : goal.returns
-returns g c = rw (c.from-turns.ensures, c.pause_of-pause.ensures) at c.serve_testing.ensures
