@@ -20,9 +20,11 @@ An edit of what is no function, as of a constant or a definition, names by lines
 tried on, as `rt check --only` takes them. It is tried by itself, as it may turn others too.
 
 Bodies of different functions are tried in one check of a copy of their crate, since a proof sees of another function
-its contract alone. A body is refused where the check names a goal of the function that it turns, or a line of this
-function's own proof that no longer fits, and not where only a function that it calls isn't proved. What such a check
-doesn't name is tried again among others, and at last alone. The last line is `N passed, M failed`.
+its contract alone. So there the other functions' proofs are holes, which a check takes by their contracts: that they
+are proved is what was proved of the crate. A body is refused where the check names a goal of the function that it
+turns, or a line of this function's own proof that no longer fits, and not where only a function that it calls isn't
+proved. What such a check doesn't name is tried again among others, and at last alone. The last line is `N passed, M
+failed`.
 
 Use: tests/edits.py [CRATE..] tries all edits of these crates, or of each that has a folder in tests/must-fail/. What
 they stand on is built first, by ./build, where neither that nor `rt ci` has built it.
@@ -62,7 +64,7 @@ LONGEST_CHECK = 3600
 NO_SUCH_FUNCTION = 2
 
 # How many bodies are tried together, and how many such checks a body may have before it is tried alone.
-TOGETHER = 60
+TOGETHER = 40
 AMONG_OTHERS = 2
 
 # How many seconds pass between two looks at what `rt ci` has proved, and what it says of a crate then.
@@ -74,8 +76,25 @@ ITEM = re.compile(r"(?m)^(?=(?:pub(?:\(\w+\))? )?(?:unsafe )?(?:const|enum|fn|gh
 NAME_OF_TYPE = r"&?(?:\w+::)*(\w+)(?:<[^{]*?>)?"
 OF_TYPE = re.compile(rf"(?:unsafe )?impl(?:<[^{{]*?>)? {NAME_OF_TYPE}(?: for {NAME_OF_TYPE})? \{{")
 
+# Where a function begins, and one of a cycle of calls, whose attribute stands above it.
+FUNCTION = re.compile(r"(?m)^( *)(?:pub(?:\(\w+\))? )?(?:const )?(?:unsafe )?fn (\w+)")
+IN_A_CYCLE = re.compile(r"#\[cycle\(\w+\)\]\n(?: *(?://.*|#\[.*)\n)*$")
+
 # What a check says of a function that isn't there.
 NO_FUNCTION = re.compile(r"has no function `([^`]+)`")
+
+# Where the proof of a function lies, and one that is a hole.
+PROOF = "Proof.antt"
+BY_HAND = ("Invariants.antt", "Answers.antt", PROOF)
+HOLE = """use {of}.Statement.{{statement}}
+
+pub {name}_spec : {{M : Type 1}} → statement M
+{name}_spec = ?
+"""
+
+# What a check says of such a proof where it can't be one, and of a function that is proved but for holes.
+NO_HOLE = re.compile(r"^\./proofs/(\S+)/Proof\.antt(?::\d+:\d+)?: error", re.MULTILINE)
+BUT_FOR_HOLES = re.compile(r"^fn (\S+): (?:no holes|depends on a hole)", re.MULTILINE)
 
 # What a check says of a function that isn't proved, of a goal, and of a line of a proof by hand.
 NOT_PROVED = re.compile(r"^fn (\S+): (?:not proved|no proof)(.*)", re.MULTILINE)
@@ -126,13 +145,22 @@ class Edit:
     def paths(self):
         """These functions, as `rt check --only` takes them; None where it isn't known which they are."""
         found = self.functions()
-        whole = lambda owner, name: "::".join([*owner.split("/"), name] if owner else [self.crate, name])
-        return set(self.only) or (None if None in found else {whole(*it) for it in found})
+        return set(self.only) or (None if None in found else {path_of(self.crate, *it) for it in found})
+
+    def place(self):
+        """The function that the edit turns and its source, where it turns no other one and nothing else; or None."""
+        (path, *others), (turned, *more) = {it.path for it in self.changes}, self.turned()
+        return (*turned, path) if turned and not (others or more or self.only) else None
 
 
 def text_of(path):
     with open(path, encoding="utf-8") as file:
         return file.read()
+
+
+def path_of(crate, owner, name):
+    """A function's path, as `rt check --only` takes it."""
+    return "::".join([*owner.split("/"), name] if owner else [crate, name])
 
 
 def function_at(crate, change):
@@ -152,7 +180,7 @@ def function_at(crate, change):
 def named_impl(first, second):
     """How a check names an `impl`: by its type, and then by its trait if it is one of a trait."""
     trait, of_type = (first, second) if second else ("", first)
-    return (of_type if len(of_type) > 1 else "Any") + trait
+    return (of_type[0].upper() + of_type[1:] if len(of_type) > 1 else "Any") + trait
 
 
 def changes_in(lines):
@@ -238,35 +266,186 @@ def room_with_what_is_kept(crate, room):
 
 def write_all(folder, texts):
     for path, text in texts.items():
+        os.makedirs(os.path.dirname(f"{folder}/{path}"), exist_ok=True)
         with open(f"{folder}/{path}", "w", encoding="utf-8") as file:
             file.write(text)
 
 
-def checked(folder, texts, edits=()):
-    """Checks the functions that edits turn, or else the crate, with these texts, and takes them back. Says whether they are
-    proved, and what was written.
-
-    A proof sees of another function its contract alone. So what an edit doesn't turn stays proved, or not, as it is.
+def functions_in(crate):
+    """The functions of a crate's sources that may have a proof of their own, by their paths: those that are no trait's, no
+    macro's and in no cycle of calls.
     """
-    before = {path: text_of(f"{folder}/{path}") for path in texts}
-    paths = [it.paths() for it in edits]
-    asked = only = set().union(*paths) if paths and None not in paths else set()
-    write_all(folder, texts)
-    try:
-        status, output = check_of(only, folder)
-        while status == NO_SUCH_FUNCTION and only:
-            # a check names a function of an `impl` otherwise at times: then the others are tried, or the crate
-            only = only - (set(NO_FUNCTION.findall(output)) or only)
-            status, output = check_of(only, folder)
-    finally:
-        write_all(folder, before)
-    return status == 0 and (not only or only == asked), output
+    found = []
+    for at, _, names in os.walk(f"{TOP}/crates/{crate}/src"):
+        for file in names:
+            text = text_of(f"{at}/{file}")
+            path = os.path.relpath(f"{at}/{file}", f"{TOP}/crates/{crate}/src").removesuffix(".rt")
+            module = [] if path in ("lib", "main") else path.split("/")
+            found += ["/".join([*module, *it]) for item in ITEM.split(text) for it in functions_of(item)]
+    return sorted(set(found))
+
+
+def functions_of(item):
+    """The functions of an item, each by the type whose it is, if it is one's, and by its name."""
+    of_type = OF_TYPE.match(item)
+    owner = [named_impl(of_type[1], of_type[2])] if of_type else []
+    return [[*owner, it[2]] for it in FUNCTION.finditer(item) if len(it[1]) == 4 * len(owner) and not IN_A_CYCLE.search(item[: it.start()])]
+
+
+def span_of(text, owner, name):
+    """From where to where a function stands in a source, with what is said above it, and how far it is indented. None where
+    it isn't there, is a trait's or in a cycle of calls.
+    """
+    start = 0
+    for item in ITEM.split(text):
+        of_type = OF_TYPE.match(item)
+        found = [it for it in FUNCTION.finditer(item) if it[2] == name and len(it[1]) == (4 if of_type else 0)]
+        if found and (named_impl(of_type[1], of_type[2]) == owner if of_type else not owner[:1].isupper()):
+            indent = found[0][1]
+            begin = start + found[0].start()
+            end = text.find(f"\n{indent}}}\n", begin)
+            *_, above = re.split(r"(?m)^ *$|^.*[{}]$", text[:begin])
+            is_other = IN_A_CYCLE.search(text[:begin]) or (of_type and of_type[2]) or end < 0
+            return None if is_other else (begin - len(above.lstrip("\n")), end + len(indent) + 3, indent)
+        start += len(item)
+    return None
+
+
+class Double:
+    """A wrong body of a function as another function beside it, under a name of its own, with the same contract. So a check
+    tries several bodies of one function.
+    """
+
+    def __init__(self, edit, folder, number):
+        self.edit = edit
+        self.owner, self.name, self.path = edit.place() or (None, None, None)
+        span = self.path and span_of(text_of(f"{folder}/{self.path}"), self.owner, self.name)
+        if not span:
+            raise BadEdit("it is no edit of a single function that can have another name")
+        text = text_of(f"{folder}/{self.path}")[span[0] : span[1]]
+        for it in edit.changes:
+            if text.count(it.old) != 1:
+                raise BadEdit(f"the function has {text.count(it.old)} times, and not once: {it.old}")
+            text = text.replace(it.old, it.new)
+        self.named = f"{self.name}_{number}_th"
+        self.text = re.sub(rf"\bfn {self.name}\b", f"fn {self.named}", text, count=1)
+
+    def add_to(self, text):
+        """A source with this function behind the one whose body it has."""
+        _, end, _ = span_of(text, self.owner, self.name)
+        return f"{text[:end]}\n{self.text}{text[end:]}"
+
+    def proof(self, crate, by_hand):
+        """The proof of the one as that of the other."""
+        of, to = (".".join(["proofs", *it]) for it in (self.parts(self.name), self.parts(self.named)))
+        said, say = (".".join(["contracts", *it]) for it in (self.parts(self.name), self.parts(self.named)))
+        turn = lambda text: re.sub(rf"\b{said}\b", say, re.sub(rf"\b{of}\b", to, text))
+        return {path: turn(text) for path, text in by_hand.items()}
+
+    def parts(self, name):
+        module = [] if self.path in ("src/lib.rt", "src/main.rt") else self.path[4:-3].split("/")
+        return [*module, *([self.owner] if self.owner[:1].isupper() else []), name]
+
+    def function(self):
+        return self.owner, self.named
+
+
+class Room:
+    """A copy of a crate, in which edits are checked. There the proof of each function that no edit turns is a hole."""
+
+    def __init__(self, crate, home, like=None):
+        self.crate, self.folder = crate, room_with_what_is_kept(crate, home)
+        self.by_hand = {}
+        for path in like.by_hand if like else functions_in(crate):
+            self.make_hole(path)
+        if not like:
+            # where a function is named otherwise, there can be none
+            status, output = check_of({""}, self.folder)
+            while status and NO_HOLE.search(output):
+                for path in set(NO_HOLE.findall(output)):
+                    self.fill_hole(path)
+                    del self.by_hand[path]
+                status, output = check_of({""}, self.folder)
+
+    def make_hole(self, path):
+        """Puts a hole in the place of a function's proof."""
+        folder = f"{self.folder}/proofs/{path}"
+        self.by_hand[path] = {it: text_of(f"{folder}/{it}") for it in BY_HAND if os.path.exists(f"{folder}/{it}")}
+        for it in self.by_hand[path]:
+            os.remove(f"{folder}/{it}")
+        of = ".".join(["Rattle", self.crate, "proofs", *path.split("/")])
+        write_all(folder, {PROOF: HOLE.format(of=of, name=path.rpartition("/")[2])})
+
+    def fill_hole(self, path):
+        """Puts a function's proof in its place again."""
+        folder = f"{self.folder}/proofs/{path}"
+        os.remove(f"{folder}/{PROOF}")
+        write_all(folder, self.by_hand[path])
+        if not os.listdir(folder):
+            os.rmdir(folder)
+
+    def proof_of(self, path):
+        """The proof by hand of a function, if it has one."""
+        folder = f"{self.folder}/proofs/{path}"
+        there = [it for it in BY_HAND if os.path.exists(f"{folder}/{it}")]
+        return self.by_hand[path] if path in self.by_hand else {it: text_of(f"{folder}/{it}") for it in there}
+
+    def apply(self, edits):
+        """The edited files with all of these edits, and those that are doubles of their functions."""
+        texts, doubles, turned = {}, {}, set()
+        for number, edit in enumerate(edits):
+            if turned & edit.functions():
+                doubles[edit] = Double(edit, self.folder, number)
+            else:
+                texts = edit.texts(self.folder, texts)
+                turned |= edit.functions()
+        for it in doubles.values():
+            texts[it.path] = it.add_to(texts[it.path])
+            folder = f"proofs/{'/'.join(it.parts(it.named))}"
+            proof = it.proof(self.crate, self.proof_of("/".join(it.parts(it.name))))
+            texts.update({f"{folder}/{name}": text for name, text in proof.items()})
+        return texts, doubles
+
+    def check(self, edits=(), of_crate=False):
+        """Checks the functions that edits turn, or else the crate, with the edits, and takes them back. Says which edits leave
+        their functions proved, which are refused, with what is said of them, and what was written.
+
+        A proof sees of another function its contract alone. So what an edit doesn't turn stays proved, or not, as it is.
+        """
+        texts, doubles = self.apply(edits)
+        function = lambda it: {doubles[it].function()} if it in doubles else it.functions()
+        paths = [it.paths() for it in edits if it not in doubles]
+        asked = set() if of_crate or not paths or None in paths else set().union(*paths)
+        asked |= {path_of(self.crate, *it.function()) for it in doubles.values() if asked}
+        turned = set().union(*map(function, edits))
+        filled = [it for it in self.by_hand if not asked or named(it.split("/")) in turned]
+        before = {path: text_of(f"{self.folder}/{path}") for path in texts if os.path.exists(f"{self.folder}/{path}")}
+        for path in filled:
+            self.fill_hole(path)
+        write_all(self.folder, texts)
+        try:
+            status, output = check_of(asked, self.folder)
+            only = asked
+            while status == NO_SUCH_FUNCTION and only:
+                # a check names a function of an `impl` otherwise at times: then the others are tried
+                only = only - (set(NO_FUNCTION.findall(output)) or only)
+                status, output = check_of(only, self.folder) if only else (1, output)
+        finally:
+            write_all(self.folder, before)
+            for path in texts.keys() - before.keys():
+                shutil.rmtree(os.path.dirname(f"{self.folder}/{path}"), ignore_errors=True)
+            for path in filled:
+                self.make_hole(path)
+        found = refused_in(output)
+        proved = {named(path.split("::")[1:]) for path in BUT_FOR_HOLES.findall(output)}
+        refused = {it: [said for of in function(it) for said in found.get(of, [])] for it in edits if function(it) & found.keys()}
+        return {it for it in edits if (function(it) <= proved if asked else not status)}, refused, output
 
 
 def check_of(only, folder):
-    """A check of these functions, or of the crate where there are none: its status, and what it writes."""
-    asked = (word for path in sorted(only) for word in ("--only", path))
-    return run(["nice", "-n", "19", "rt", "check", "--jobs", "1", *asked], folder)
+    """A check of these functions, past holes, or of the crate where there are none: its status, and what it writes."""
+    asked = [word for path in sorted(only) for word in ("--only", path)]
+    return run(["nice", "-n", "19", "rt", "check", "--jobs", "1", *(["--allow-holes", *asked] if asked else [])], folder)
 
 
 def run(words, folder):
@@ -297,35 +476,41 @@ def named(parts):
 
 
 def in_lots(folder, edits):
-    """Edits in lots that can each be tried in one check: of different functions, and at most so many. None that turns more
-    than functions is among others. The later lots are of one size, so that they end together.
+    """Edits in lots that can each be tried in one check, and at most so many. None that turns more than functions is among
+    others. The lots are of one size, so that they end together.
     """
-    first, texts = chosen(folder, edits)
-    left = [it for it in edits if it not in first]
-    lots = [first] if first else []
+    left, lots = edits, []
     while left:
-        most = max(max(Counter(of for it in left for of in it.functions()).values()), -(-len(left) // TOGETHER))
-        lot, texts = chosen(folder, left, -(-len(left) // most))
+        lot = chosen(folder, left, -(-len(left) // -(-len(left) // TOGETHER)))
         left = [it for it in left if it not in lot]
         lots.append(lot)
     return lots
 
 
-def chosen(folder, edits, most=TOGETHER):
-    """Edits that can be tried in one check, those of the functions that have most of them first, and the texts with them."""
-    of_function = Counter(of for it in edits for of in it.functions())
+def chosen(folder, edits, most):
+    """Edits that can be tried in one check: of a function one, and doubles of it."""
     texts, taken, functions = {}, [], set()
-    for edit in sorted(edits, key=lambda it: -max(of_function[of] for of in it.functions())):
+    doubles = {it: can_be_double(folder, it) for it in edits}
+    for edit in sorted(edits, key=doubles.get):
         is_apart = taken and None in edit.turned() | taken[0].turned()
-        if is_apart or functions & edit.functions() or len(taken) == most:
+        is_second = bool(functions & edit.functions())
+        if is_apart or (is_second and not doubles[edit]) or len(taken) == most:
             continue
         try:
-            texts = edit.texts(folder, texts)
+            texts = texts if is_second else edit.texts(folder, texts)
         except BadEdit:
             continue
         taken.append(edit)
         functions |= edit.functions()
-    return taken, texts
+    return taken
+
+
+def can_be_double(folder, edit):
+    """Whether an edit can stand beside another one of its function."""
+    try:
+        return bool(Double(edit, folder, 0))
+    except BadEdit:
+        return False
 
 
 class Lanes:
@@ -347,27 +532,25 @@ class Lanes:
 
 
 class Rooms:
-    """Rooms of a crate, one for each check that runs at once. Each later one begins with what the first has kept."""
+    """Rooms of a crate, one for each check that runs at once."""
 
     def __init__(self, crate, home):
         self.crate, self.home, self.taking = crate, home, threading.Lock()
-        self.first = room_with_what_is_kept(crate, f"{home}/0")
+        self.first = Room(crate, f"{home}/0")
         self.free, self.made = [self.first], 1
 
     def make(self, most):
         """Makes rooms, so that there are so many. No check may run meanwhile."""
         for number in range(self.made, most):
-            folder = room_for(self.crate, f"{self.home}/{number}")
-            shutil.copytree(f"{self.first}/out", f"{folder}/out", copy_function=keep)
-            self.free.append(folder)
+            self.free.append(Room(self.crate, f"{self.home}/{number}", self.first))
         self.made = max(self.made, most)
 
     @contextmanager
     def one(self):
         with self.taking:
-            folder = self.free.pop()
-        yield folder
-        self.free.append(folder)
+            room = self.free.pop()
+        yield room
+        self.free.append(room)
 
 
 class Trial:
@@ -388,34 +571,33 @@ class Trial:
     def check(self, edits=(), of_crate=False):
         """Checks the functions that edits turn, or the whole crate, with these edits."""
         self.count(checks=1)
-        with self.lanes, self.rooms.one() as folder:
-            texts = {}
-            for edit in edits:
-                texts = edit.texts(folder, texts)
-            return checked(folder, texts, () if of_crate else edits)
+        with self.lanes, self.rooms.one() as room:
+            return room.check(edits, of_crate)
+
+    def is_proved(self):
+        """Whether the crate is proved as it stands, and what a check of it writes."""
+        *_, output = self.check()
+        return "\nlogic=proved" in output, output
 
     def applicable(self, edits):
         """Those that can be applied."""
         good = []
         for edit in edits:
             try:
-                edit.texts(self.rooms.first)
+                edit.texts(self.rooms.first.folder)
                 good.append(edit)
             except (BadEdit, OSError) as error:
                 self.fail(edit, f"BAD EDIT: {error}")
         return good
 
     def at_once(self, call, given):
-        """What a call gives for each, several at once. The first time one of them goes ahead, for others to begin with what it kept."""
-        done = []
-        if self.rooms.made == 1 and given:
-            done, given = [call(given[0])], given[1:]
-            self.rooms.make(min(processors(), len(given)))
+        """What a call gives for each, several at once."""
+        self.rooms.make(min(processors(), len(given)))
         with ThreadPoolExecutor(self.rooms.made) as pool:
-            return done + list(pool.map(call, given))
+            return list(pool.map(call, given))
 
     def lots(self, edits):
-        return in_lots(self.rooms.first, edits)
+        return in_lots(self.rooms.first.folder, edits)
 
     def refuse(self, bodies):
         """Tries wrong bodies: each has to be refused."""
@@ -428,24 +610,22 @@ class Trial:
         """Tries wrong bodies together, and gives those of which this says nothing."""
         if len(lot) == 1:
             return lot
-        _, output = self.check(lot)
-        refused = refused_in(output)
+        _, refused, _ = self.check(lot)
         if not refused:
             # it came to no verdict, or one of them doesn't compile
             middle = len(lot) // 2
             return self.not_named(lot[:middle]) + self.not_named(lot[middle:])
-        left = [it for it in lot if not any(of in refused for of in it.functions())]
-        self.count(passed=len(lot) - len(left))
+        left = [it for it in lot if it not in refused]
+        self.count(passed=len(refused))
         return left
 
     def alone(self, edit):
         """Tries a wrong body by itself: if need be, in a check of the whole crate too."""
-        is_proved, output = self.check([edit])
-        refused = refused_in(output)
+        proved, refused, output = self.check([edit])
         if not refused and edit.paths():
-            is_proved, output = self.check([edit], of_crate=True)
+            proved, _, output = self.check([edit], of_crate=True)
             refused = refused_in(output)
-        if is_proved:
+        if proved:
             self.fail(edit, "NOT REFUSED: the crate is proved with it")
         elif not refused:
             self.fail(edit, f"BAD EDIT: no goal is refused: {first_error(output)}")
@@ -458,16 +638,16 @@ class Trial:
         self.at_once(self.prove_alone, left)
 
     def not_proved(self, lot):
-        """Tries twins together, and gives them back where they aren't all proved."""
-        is_proved, _ = self.check(lot)
-        self.count(passed=len(lot) if is_proved else 0)
-        return [] if is_proved else lot
+        """Tries twins together, and gives those back that aren't proved."""
+        proved, _, _ = self.check(lot)
+        self.count(passed=len(proved))
+        return [it for it in lot if it not in proved]
 
     def prove_alone(self, edit):
-        is_proved, output = self.check([edit])
-        if not is_proved and edit.paths():
-            is_proved, output = self.check([edit], of_crate=True)
-        if is_proved:
+        proved, _, output = self.check([edit])
+        if not proved and edit.paths():
+            proved, _, output = self.check([edit], of_crate=True)
+        if proved:
             self.count(passed=1)
         else:
             self.fail(edit, f"REFUSED, a twin: {first_error(output)}")
@@ -491,7 +671,7 @@ def tried(crate, bodies, twins, is_proved, lanes):
         try:
             output = ""
             if not is_proved:
-                is_proved, output = trial.check()
+                is_proved, output = trial.is_proved()
             if is_proved and bodies:
                 trial.refuse(bodies)
                 trial.applicable(twins)
@@ -515,23 +695,19 @@ def try_one(crate, name, body):
         print(f"there is no {os.path.relpath(path, TOP)}")
         return 2
     wanted = [it for it in edits_in(path, crate, name) if not body or it.name == f"{name} {body}"]
-    with tempfile.TemporaryDirectory(prefix="edit-") as room:
-        folder = room_with_what_is_kept(crate, room)
+    with tempfile.TemporaryDirectory(prefix="edit-") as home:
         try:
-            texts = {}
-            for edit in wanted:
-                texts = edit.texts(folder, texts)
+            proved, _, output = Room(crate, home).check(wanted)
         except BadEdit as error:
             print(f"BAD EDIT: {error}")
             return 2
-        is_proved, output = checked(folder, texts, wanted)
     print(output, end="")
     refused = refused_in(output)
     for (module, function), goals in refused.items():
         print(f"refused: {module or crate} {function}: {', '.join(goals)}")
-    if is_proved or not refused:
-        print("NOT REFUSED: the crate is proved with this edit" if is_proved else "BAD EDIT: no goal is refused")
-    return 0 if refused and not is_proved else 1
+    if proved or not refused:
+        print("NOT REFUSED: the function is proved with this edit" if proved else "BAD EDIT: no goal is refused")
+    return 0 if refused and not proved else 1
 
 
 def size_of(crate):
