@@ -40,16 +40,20 @@ fn read(alloc: Global, octets: &[u8]) -> Result<Run, AllocError> {
 
 // An assertion stands in a function of its own, since it is proved in a tenth of the time there.
 
+fn assert_so(rt: &impl Abort, is_so: bool, what: &str) {
+    assert!(rt; is_so, "{what}");
+}
+
 fn assert_octets(rt: &impl Abort, octets: &[u8], want: &[u8]) {
-    assert_eq!(rt; octets, want);
+    assert_so(rt, octets == want, "octets");
 }
 
 fn assert_left(rt: &impl Abort, run: &Run, left: usize) {
-    assert_eq!(rt; run.left, left);
+    assert_so(rt, run.left == left, "what is left");
 }
 
 fn assert_kind(rt: &impl Abort, header: Header, want: Kind) {
-    assert_eq!(rt; kind(header), want);
+    assert_so(rt, kind(header) == want, "a kind");
 }
 
 // The one message that is read, and how many octets are left.
@@ -61,7 +65,7 @@ fn read_one(alloc: Global, octets: &[u8]) -> Result<(Frame, usize), Fail> {
 }
 
 fn assert_no_message(rt: &impl Abort, run: &Run) {
-    assert!(rt; matches!(run.result, Ok(None)));
+    assert_so(rt, matches!(run.result, Ok(None)), "no message");
 }
 
 #[test]
@@ -71,37 +75,37 @@ fn reads_one_message(rt: HostRuntime) -> Result<(), Fail> {
     octets.extend_from_slice(&DATA)?;
     let (frame, left) = read_one(alloc, &octets)?;
     assert_kind(&rt, frame.header, Kind::SelectReq);
-    assert!(rt; frame.header.system == 1 && left == 16);
+    assert_so(&rt, frame.header.system == 1 && left == 16, "a message");
     assert_octets(&rt, &frame.text, b"");
     assert_no_message(&rt, &read(alloc, &[])?);
     Ok(())
 }
 
+// The text of DATA has two octets.
+fn has_two(max: u32) -> bool {
+    matches!(front(&DATA, max), Ok(Some((_, 2))))
+}
+
 fn assert_front(rt: &impl Abort) {
-    assert!(rt; matches!(front(&DATA, 256), Ok(Some((_, 2)))));
-    assert!(rt; matches!(front(&DATA, 12), Ok(Some((_, 2)))));
-    assert!(rt; matches!(front(&DATA[..15], 256), Ok(None)));
-    assert!(rt;
-        matches!(
-            front(&DATA, 11),
-            Err(FrameFault::TooLong { length: 12, .. })
-        )
-    );
+    assert_so(rt, has_two(256) && has_two(12), "a message");
+    let cut = front(&DATA[..15], 256);
+    assert_so(rt, matches!(cut, Ok(None)), "a part");
+    let long = front(&DATA, 11);
+    let is_too_long = matches!(long, Err(FrameFault::TooLong { length: 12, .. }));
+    assert_so(rt, is_too_long, "a length");
 }
 
 #[test]
 fn finds_a_message_at_the_front(rt: HostRuntime) -> Result<(), Fail> {
     assert_front(&rt);
     let (header, _) = front(&DATA, 256).ok().flatten().ok_or("a message")?;
-    assert_eq!(rt; header.octets().as_slice(), &DATA[4..14]);
+    assert_octets(&rt, header.octets().as_slice(), &DATA[4..14]);
     Ok(())
 }
 
 fn assert_header(rt: &impl Abort, header: Header) {
-    assert_eq!(rt;
-        (header.stream(), header.function(), header.wait()),
-        (1, 13, true)
-    );
+    let is_s1f13 = header.stream() == 1 && header.function() == 13;
+    assert_so(rt, is_s1f13 && header.wait(), "S1F13 W");
     assert_octets(rt, header.octets().as_slice(), &DATA[4..14]);
 }
 
@@ -128,7 +132,8 @@ fn judge_cut_off(rt: &impl Abort, alloc: Global, octets: &[u8]) -> Result<(), Fa
 }
 
 fn assert_too_short(rt: &impl Abort, run: &Run) {
-    assert!(rt; matches!(run.result, Err(ReadFault::TooShort { length: 9 })));
+    let is_too_short = matches!(run.result, Err(ReadFault::TooShort { length: 9 }));
+    assert_so(rt, is_too_short, "too short");
     assert_left(rt, run, 1);
 }
 
@@ -181,7 +186,11 @@ fn finds_each_cut(rt: HostRuntime) -> Result<(), Fail> {
 }
 
 fn assert_gives<W: Sink>(rt: &impl Abort, sink: &mut W, is_well: bool) {
-    assert!(rt; give_all(sink, &DATA).is_ok() == is_well);
+    assert_so(
+        rt,
+        give_all(sink, &DATA).is_ok() == is_well,
+        "what is given",
+    );
 }
 
 #[test]
@@ -191,7 +200,7 @@ fn moves_octets_through_std(rt: HostRuntime) -> Result<(), Fail> {
     assert_kind(&rt, frame.header, Kind::Primary);
     let mut sink = Writer::new(Vec::with_capacity(rt.alloc(), 16)?);
     assert_gives(&rt, &mut sink, true);
-    assert!(rt; sink.flush().is_ok());
+    assert_so(&rt, sink.flush().is_ok(), "a flush");
     let mut store = Store::new(vec![in rt.alloc(); 0u8; 16]?, 3, 6);
     assert_gives(&rt, &mut store, true);
     assert_octets(&rt, store.written(), &DATA);

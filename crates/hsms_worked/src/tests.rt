@@ -24,8 +24,8 @@ use edges::EDGES;
 use hsms_ends::{
     Answer, Desk, Driven, End, EndFault, EquipmentDesk, HostDesk, Input, TurnDesk, drive,
 };
-use hsms_frame::{Store, encode_frame};
-use hsms_log::{Line, read_line, write_entry};
+use hsms_frame::Store;
+use hsms_log::{read_settings, write_entry};
 use hsms_machine::{Entry, Event, Role, Settings, Side};
 use own::OWN;
 use secs_text::{Message, read};
@@ -33,52 +33,21 @@ use std::alloc::{AllocError, Global};
 use std::process::Abort;
 use std::test::Fail;
 
-/// What an end is told.
-#[derive(Clone, Copy)]
-enum Told {
-    Start(u64),
-    Tick(u64),
-    /// The octets of a message, as a line of a log has it.
-    Comes(&'static str),
-    Octets(&'static [u8]),
-    /// A message in notation.
-    Send(&'static str),
-    Linktest,
-    Separate,
-    Lost,
-}
+/// A session: its name, the first line of its log, the first system bytes, and its lines. These are what the end is
+/// told, each with the lines of the log or the fault that it answers below it, and last what is pending, if something is.
+///
+/// An end is told `start N`, `tick N`, `comes DIGITS`, a message as a line of a log has it, `octets DIGITS`,
+/// `send NOTATION`, `linktest`, `separate` or `lost`. It is one text, since a constant of many parts takes the check
+/// longer, and so does each function that is given one.
+type Session = (&'static str, &'static str, u32, &'static str);
 
-use Told::{Comes, Linktest, Lost, Octets, Send, Separate, Start, Tick};
+const EQUIPMENT: &str = "hsms-log 1 equipment passive 0 45000 6000 10000 5000 1048576 32";
 
-/// What an end is told, each with the lines or the fault that it answers, and what is pending at last.
-struct Case {
-    name: &'static str,
-    role: Role,
-    side: Side,
-    max: u32,
-    first_system: u32,
-    told: &'static [(Told, Result<&'static str, EndFault>)],
-    pending: &'static [u8],
-}
+const HOST: &str = "hsms-log 1 host active 0 45000 6000 10000 5000 1048576 32";
 
-const CONNECTED: (Told, Result<&str, EndFault>) = (Start(0), Ok("0 up\n"));
+const SMALL_EQUIPMENT: &str = "hsms-log 1 equipment passive 0 45000 6000 10000 5000 256 32";
 
-const CONNECTING: (Told, Result<&str, EndFault>) = (
-    Start(0),
-    Ok("0 up\n0 > ffff0000000100000001\n"),
-);
-
-/// Equipment is selected by a host.
-const SELECT: (Told, Result<&str, EndFault>) = (
-    Comes("ffff0000000100000001"),
-    Ok("0 < ffff0000000100000001\n0 > ffff0000000200000001\n"),
-);
-
-/// A host is selected that asked for it with system bytes 1.
-const SELECTED: (Told, Result<&str, EndFault>) = (
-    Comes("ffff0000000200000001"),
-    Ok("0 < ffff0000000200000001\n"),
-);
+const SMALL_HOST: &str = "hsms-log 1 host active 0 45000 6000 10000 5000 256 32";
 
 fn settings(role: Role, side: Side, max: u32) -> Option<Settings> {
     Settings::new(role, side, 0, 45000, 6000, 10000, 5000, max, 32)
@@ -104,32 +73,32 @@ fn lines_of(alloc: Global, entries: &[Entry]) -> Result<Vec<u8>, Fail> {
 
 /// The octets of the message of a line.
 fn octets_of(alloc: Global, digits: &str) -> Result<Vec<u8>, Fail> {
-    let mut line = Vec::from_slice(alloc, b"0 < ")?;
-    line.extend_from_slice(digits.as_bytes())?;
-    match read_line(alloc, &line, 4096)? {
-        Line::Entry(
-            Entry {
-                event: Event::Taken(frame),
-                ..
-            },
-        ) => Ok(encode_frame(alloc, &frame)?),
-        _ => Err("no message".into()),
-    }
+    let octets = hex::decode(alloc, digits)?;
+    let length = u32::try_from(octets.len()).ok().ok_or("a length")?;
+    let mut message = Vec::from_slice(alloc, &length.to_be_bytes())?;
+    message.extend_from_slice(&octets)?;
+    Ok(message)
 }
 
-/// What an end is told, as the inputs of a list have it.
-fn input_of(alloc: Global, told: Told) -> Result<Input, Fail> {
-    let input = match told {
-        Start(now) => Input::Start(now),
-        Tick(now) => Input::Tick(now),
-        Comes(digits) => Input::Bytes(octets_of(alloc, digits)?),
-        Octets(octets) => Input::Bytes(Vec::from_slice(alloc, octets)?),
-        Send(text) => Input::Send(read(alloc, text.as_bytes(), 100)?),
-        Linktest => Input::Linktest,
-        Separate => Input::Separate,
-        Lost => Input::Lost,
+fn number_of(text: &str) -> Result<u64, Fail> {
+    Ok(text.parse::<u64>().ok().ok_or("a number")?)
+}
+
+/// What an end is told by a line, or None where the line says what it answers.
+fn input_of(alloc: Global, line: &str) -> Result<Option<Input>, Fail> {
+    let (word, rest) = line.split_once(' ').unwrap_or((line, ""));
+    let input = match word {
+        "start" => Input::Start(number_of(rest)?),
+        "tick" => Input::Tick(number_of(rest)?),
+        "comes" => Input::Bytes(octets_of(alloc, rest)?),
+        "octets" => Input::Bytes(hex::decode(alloc, rest)?),
+        "send" => Input::Send(read(alloc, rest.as_bytes(), 100)?),
+        "linktest" => Input::Linktest,
+        "separate" => Input::Separate,
+        "lost" => Input::Lost,
+        _ => return Ok(None),
     };
-    Ok(input)
+    Ok(Some(input))
 }
 
 /// Tells an end one input.
@@ -148,12 +117,16 @@ fn tell<D: TurnDesk>(end: &mut End<D>, input: &Input) -> Result<Vec<Entry>, EndF
 // A test is made of small functions without clauses, which look at references to what others own: an assertion in a
 // function of its own, and few ways out of a function that owns much, are proved in a tenth of the time.
 
+fn assert_so(rt: &impl Abort, is_so: bool, name: &str) {
+    assert!(rt; is_so, "{name}");
+}
+
 fn assert_octets(rt: &impl Abort, octets: &[u8], want: &[u8], name: &str) {
-    assert_eq!(rt; octets, want, "{name}");
+    assert_so(rt, octets == want, name);
 }
 
 fn assert_fault(rt: &impl Abort, fault: Option<EndFault>, want: Option<EndFault>, name: &str) {
-    assert_eq!(rt; fault, want, "{name}");
+    assert_so(rt, fault == want, name);
 }
 
 /// An end that is spent refuses an input.
@@ -163,8 +136,8 @@ fn assert_refused<D: TurnDesk>(rt: &impl Abort, end: &mut End<D>, input: &Input)
 }
 
 /// Tells an end something that it doesn't refuse.
-fn tell_well<D: TurnDesk>(alloc: Global, end: &mut End<D>, told: Told) -> Result<(), Fail> {
-    let input = input_of(alloc, told)?;
+fn tell_well<D: TurnDesk>(alloc: Global, end: &mut End<D>, line: &str) -> Result<(), Fail> {
+    let input = input_of(alloc, line)?.ok_or("no input")?;
     tell(end, &input)?;
     Ok(())
 }
@@ -181,59 +154,89 @@ fn assert_spent<D: TurnDesk>(rt: &impl Abort, alloc: Global, end: &mut End<D>) {
     assert_refused(rt, end, &Input::Lost);
 }
 
-/// These are the lines of entries.
-fn assert_lines(
-    rt: &impl Abort,
-    alloc: Global,
-    entries: &[Entry],
-    text: &str,
-    name: &str,
-) -> Result<(), Fail> {
-    let lines = lines_of(alloc, entries)?;
-    assert_octets(rt, lines.as_slice(), text.as_bytes(), name);
+/// Adds a line.
+fn add_line(text: &mut Vec<u8>, word: &str, rest: &str) -> Result<(), AllocError> {
+    text.extend_from_slice(word.as_bytes())?;
+    text.extend_from_slice(rest.as_bytes())?;
+    text.push(b'\n')?;
     Ok(())
 }
 
-/// An answer of an end has to be these lines or this fault.
-fn judge_answer(
-    rt: &impl Abort,
+/// Adds what is pending, if something is.
+fn add_pending(alloc: Global, text: &mut Vec<u8>, pending: &[u8]) -> Result<(), AllocError> {
+    if pending.is_empty() {
+        return Ok(());
+    }
+    add_line(text, "pending ", hex::encode(alloc, pending)?.as_str())
+}
+
+/// Tells an end one input, and adds the lines of what it answers. Answers its fault.
+fn add_answer<D: TurnDesk>(
     alloc: Global,
-    answer: &Result<Vec<Entry>, EndFault>,
-    want: Result<&str, EndFault>,
-    name: &str,
-) -> Result<(), Fail> {
-    match answer {
-        Ok(entries) => match want {
-            Ok(text) => assert_lines(rt, alloc, entries, text, name),
-            Err(_) => Err("a fault was wanted".into()),
-        },
+    end: &mut End<D>,
+    input: &Input,
+    text: &mut Vec<u8>,
+) -> Result<Option<EndFault>, Fail> {
+    match tell(end, input) {
+        Ok(entries) => {
+            text.extend_from_slice(&lines_of(alloc, &entries)?)?;
+            Ok(None)
+        }
         Err(fault) => {
-            assert_fault(rt, Some(*fault), want.err(), name);
-            Ok(())
+            let name = format!(in alloc; "{fault:?}")?;
+            add_line(text, "refused ", name.as_str())?;
+            Ok(Some(fault))
         }
     }
 }
 
-/// Tells an end all of a case.
+/// Tells an end what a line says, if that is an input, and adds it and what is answered.
+fn add_told<D: TurnDesk>(
+    alloc: Global,
+    end: &mut End<D>,
+    line: &str,
+    text: &mut Vec<u8>,
+) -> Result<Option<EndFault>, Fail> {
+    let Some(input) = input_of(alloc, line)? else {
+        return Ok(None);
+    };
+    add_line(text, line, "")?;
+    add_answer(alloc, end, &input, text)
+}
+
+/// Tells an end all of a session, and adds its lines as they come. Answers whether the end had no memory.
+fn add_session<D: TurnDesk>(
+    alloc: Global,
+    end: &mut End<D>,
+    session: &str,
+    text: &mut Vec<u8>,
+) -> Result<bool, Fail> {
+    for line in session.lines() {
+        if add_told(alloc, end, line, text)? == Some(EndFault::Memory) {
+            return Ok(true);
+        }
+    }
+    add_pending(alloc, text, end.pending())?;
+    Ok(false)
+}
+
+/// A session has these lines. An end that had no memory is spent, and that is handed up, unless it is wanted.
 fn judge<D: TurnDesk>(
     rt: &impl Abort,
     alloc: Global,
     end: &mut End<D>,
-    case: &Case,
+    session: &str,
+    name: &str,
 ) -> Result<(), Fail> {
-    for (told, want) in case.told {
-        let input = input_of(alloc, *told)?;
-        let answer = tell(end, &input);
-        if matches!(answer, Err(EndFault::Memory)) {
-            assert_spent(rt, alloc, end);
-            if *want != Err(EndFault::Memory) {
-                return Err(EndFault::Memory.into());
-            }
-            return Ok(());
-        }
-        judge_answer(rt, alloc, &answer, *want, case.name)?;
+    let mut text = Vec::new(alloc);
+    let is_spent = add_session(alloc, end, session, &mut text)?;
+    if is_spent {
+        assert_spent(rt, alloc, end);
     }
-    assert_octets(rt, end.pending(), case.pending, case.name);
+    if is_spent && text.as_slice() != session.as_bytes() {
+        return Err(EndFault::Memory.into());
+    }
+    assert_octets(rt, &text, session.as_bytes(), name);
     Ok(())
 }
 
@@ -241,42 +244,43 @@ fn end_of<D: TurnDesk>(alloc: Global, settings: Settings, desk: D, first_system:
     End::new(alloc, settings, desk, first_system)
 }
 
-fn judge_one(rt: &impl Abort, alloc: Global, case: &Case) -> Result<(), Fail> {
-    let settings = settings(case.role, case.side, case.max).ok_or("the settings")?;
-    match case.role {
+fn judge_one(rt: &impl Abort, alloc: Global, session: &Session) -> Result<(), Fail> {
+    let (name, line, first_system, text) = *session;
+    let settings = read_settings(line.as_bytes()).ok_or("the settings")?;
+    match settings.role() {
         Role::Host => {
-            let mut end = end_of(alloc, settings, HostDesk, case.first_system);
-            judge(rt, alloc, &mut end, case)
+            let mut end = end_of(alloc, settings, HostDesk, first_system);
+            judge(rt, alloc, &mut end, text, name)
         }
         Role::Equipment => {
-            let mut end = end_of(alloc, settings, equipment(alloc)?, case.first_system);
-            judge(rt, alloc, &mut end, case)
+            let mut end = end_of(alloc, settings, equipment(alloc)?, first_system);
+            judge(rt, alloc, &mut end, text, name)
         }
     }
 }
 
-fn judge_all(rt: &impl Abort, alloc: Global, cases: &[Case]) -> Result<(), Fail> {
-    for case in cases {
-        judge_one(rt, alloc, case)?;
+fn judge_all(rt: &impl Abort, alloc: Global, sessions: &[Session]) -> Result<(), Fail> {
+    for session in sessions {
+        judge_one(rt, alloc, session)?;
     }
     Ok(())
 }
 
 // Where a constant is used, the check reads all of it.
 
-fn answer_cases() -> &'static [Case] {
+fn answer_cases() -> &'static [Session] {
     ANSWERS
 }
 
-fn own_cases() -> &'static [Case] {
+fn own_cases() -> &'static [Session] {
     OWN
 }
 
-fn corner_cases() -> &'static [Case] {
+fn corner_cases() -> &'static [Session] {
     CORNERS
 }
 
-fn edge_cases() -> &'static [Case] {
+fn edge_cases() -> &'static [Session] {
     EDGES
 }
 
@@ -300,55 +304,65 @@ fn edges_of_an_end(rt: HostRuntime) -> Result<(), Fail> {
     judge_all(&rt, rt.alloc(), edge_cases())
 }
 
-/// The list of a case.
-fn inputs_of(alloc: Global, case: &Case) -> Result<Vec<Input>, Fail> {
+/// What the end is told in a session, as a list.
+fn inputs_of(alloc: Global, session: &str) -> Result<Vec<Input>, Fail> {
     let mut inputs = Vec::new(alloc);
-    for (told, _) in case.told {
-        inputs.push(input_of(alloc, *told)?)?;
+    for line in session.lines() {
+        if let Some(input) = input_of(alloc, line)? {
+            inputs.push(input)?;
+        }
     }
     Ok(inputs)
 }
 
 /// What comes of a list.
-fn driven(alloc: Global, case: &Case, inputs: &[Input]) -> Result<Driven, Fail> {
-    let settings = settings(case.role, case.side, case.max).ok_or("the settings")?;
-    match case.role {
-        Role::Host => Ok(drive(alloc, settings, HostDesk, case.first_system, inputs)?),
+fn driven(
+    alloc: Global,
+    settings: Settings,
+    first_system: u32,
+    inputs: &[Input],
+) -> Result<Driven, Fail> {
+    match settings.role() {
+        Role::Host => Ok(drive(alloc, settings, HostDesk, first_system, inputs)?),
         Role::Equipment => {
             let desk = equipment(alloc)?;
-            Ok(drive(alloc, settings, desk, case.first_system, inputs)?)
+            Ok(drive(alloc, settings, desk, first_system, inputs)?)
         }
     }
 }
 
-/// The lines of the calls of a case, one after the other.
-fn text_of(alloc: Global, case: &Case) -> Result<Vec<u8>, AllocError> {
+/// The lines of what comes of a list.
+fn driven_lines(alloc: Global, driven: &Driven) -> Result<Vec<u8>, Fail> {
+    let mut text = lines_of(alloc, &driven.entries)?;
+    add_pending(alloc, &mut text, &driven.pending)?;
+    Ok(text)
+}
+
+/// The lines of entries and of what is pending in a session, one after the other.
+fn accepted_lines(alloc: Global, session: &str) -> Result<Vec<u8>, AllocError> {
     let mut text = Vec::new(alloc);
-    for (_, want) in case.told {
-        if let Ok(lines) = want {
-            text.extend_from_slice(lines.as_bytes())?;
+    for line in session.lines() {
+        if line.starts_with(|c: char| c.is_ascii_digit()) || line.starts_with("pending") {
+            add_line(&mut text, line, "")?;
         }
     }
     Ok(text)
 }
 
-fn assert_driven(rt: &impl Abort, alloc: Global, case: &Case, driven: &Driven) -> Result<(), Fail> {
-    let text = text_of(alloc, case)?;
-    let lines = lines_of(alloc, &driven.entries)?;
-    assert_octets(rt, lines.as_slice(), text.as_slice(), case.name);
-    assert_octets(rt, driven.pending.as_slice(), case.pending, case.name);
+/// The entries of the list of a session are the lines of its calls, one after the other.
+fn judge_driven(rt: &impl Abort, alloc: Global, session: &Session) -> Result<(), Fail> {
+    let (name, line, first_system, text) = *session;
+    let settings = read_settings(line.as_bytes()).ok_or("the settings")?;
+    let inputs = inputs_of(alloc, text)?;
+    let driven = driven(alloc, settings, first_system, &inputs)?;
+    let lines = driven_lines(alloc, &driven)?;
+    assert_octets(rt, &lines, &accepted_lines(alloc, text)?, name);
     Ok(())
 }
 
-/// The entries of the list of a case are the lines of its calls, one after the other.
-fn judge_driven(rt: &impl Abort, alloc: Global, case: &Case) -> Result<(), Fail> {
-    let inputs = inputs_of(alloc, case)?;
-    assert_driven(rt, alloc, case, &driven(alloc, case, &inputs)?)
-}
-
-fn judge_all_driven(rt: &impl Abort, alloc: Global, cases: &[Case]) -> Result<(), Fail> {
-    for case in cases {
-        judge_driven(rt, alloc, case)?;
+fn judge_all_driven(rt: &impl Abort, alloc: Global, sessions: &[Session]) -> Result<(), Fail> {
+    for session in sessions {
+        judge_driven(rt, alloc, session)?;
     }
     Ok(())
 }

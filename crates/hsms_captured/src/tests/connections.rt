@@ -1,73 +1,123 @@
 //! Places and ends whose numbers are written out.
 
+ghost use Rattle.std.specs.Prelude.{◌<◌, ◌^◌};
+
+use super::assert_so;
 use hsms_capture::{
-    BothEnds, Cell, Connection, ConnectionFault, Ending, Event, Flags, Held, HeldFault, Losses,
-    Packet, Segment, Side, Span, Turns, TurnsFault, acknowledged_place, end_behind, nearest_place,
-    numbered_place, only_asks,
+    BothEnds, Cell, Connection, ConnectionFault, Ending, Event, Flags, Happening, Held, HeldFault,
+    Losses, Packet, Segment, Side, Span, Turns, TurnsFault, acknowledged_place, end_behind,
+    nearest_place, numbered_place, only_asks,
 };
 use std::alloc::{AllocError, Global};
 use std::process::Abort;
 
+// The place with this number that is nearest to a place.
+fn assert_nearest(rt: &impl Abort, place: u64, number: u32, want: Option<u64>)
+    requires { place < 2 ^ 63 }
+{
+    assert_so(rt, nearest_place(place, number) == want, "a place");
+}
+
 #[test]
 fn numbers_that_begin_again(rt: std::rt::HostRuntime) {
-    assert!(rt; nearest_place(0, 5) == Some(5));
-    assert!(rt; nearest_place(4294967290, 4) == Some(4294967300));
-    assert!(rt; nearest_place(4294967300, 4294967290) == Some(4294967290));
-    assert!(rt; nearest_place(5, 4294967290).is_none());
-    assert!(rt; nearest_place(0, 2147483648).is_none());
+    assert_nearest(&rt, 0, 5, Some(5));
+    assert_nearest(&rt, 4294967290, 4, Some(4294967300));
+    assert_nearest(&rt, 4294967300, 4294967290, Some(4294967290));
+    assert_nearest(&rt, 5, 4294967290, None);
+    assert_nearest(&rt, 0, 2147483648, None);
 }
+
+const WAITING: &[Span] = &[
+    Span { from: 5, to: 9 },
+    Span { from: 9, to: 12 },
+    Span { from: 14, to: 20 },
+];
 
 #[test]
 fn gaps_that_are_filled(rt: std::rt::HostRuntime) {
-    let waiting = [
-        Span { from: 5, to: 9 },
-        Span { from: 9, to: 12 },
-        Span { from: 14, to: 20 },
-    ];
-    assert!(rt; end_behind(4, waiting.as_slice()) == 4);
-    assert!(rt; end_behind(7, waiting.as_slice()) == 12);
-    assert!(rt; end_behind(13, waiting.as_slice()) == 13);
-    assert!(rt; end_behind(14, waiting.as_slice()) == 20);
+    for (place, end) in [(4, 4), (7, 12), (13, 13), (14, 20)] {
+        assert_so(&rt, end_behind(place, WAITING) == end, "an end");
+    }
 }
+
+// The number of a SYN, that of an octet, and its place.
+const NUMBERED: &[(u32, u32, Option<u64>)] = &[(1000, 1001, Some(1)), (4294967295, 0, Some(1))];
+
+// What is acknowledged where the fifth place is known, and up to which place.
+const ACKNOWLEDGED: &[(Option<u32>, Option<u64>)] = &[
+    (Some(1004), Some(4)),
+    (Some(999), None),
+    (None, None),
+];
 
 #[test]
 fn places_by_their_numbers(rt: std::rt::HostRuntime) {
-    assert!(rt; numbered_place(1000, 0, 1001) == Some(1));
-    assert!(rt; numbered_place(4294967295, 0, 0) == Some(1));
-    assert!(rt; acknowledged_place(1000, 5, Some(1004)) == Some(4));
-    assert!(rt; acknowledged_place(1000, 5, Some(999)).is_none());
-    assert!(rt; acknowledged_place(1000, 5, None).is_none());
+    for (first, number, want) in NUMBERED {
+        assert_so(&rt, numbered_place(*first, 0, *number) == *want, "a place");
+    }
+    for (number, want) in ACKNOWLEDGED {
+        assert_so(
+            &rt,
+            acknowledged_place(1000, 5, *number) == *want,
+            "what is acknowledged",
+        );
+    }
 }
+
+const PLAIN: Flags = Flags {
+    syn: false,
+    fin: false,
+    pushed: false,
+};
+
+const PUSHED: Flags = Flags {
+    syn: false,
+    fin: false,
+    pushed: true,
+};
+
+const OPENS: Flags = Flags {
+    syn: true,
+    fin: false,
+    pushed: false,
+};
+
+const CLOSES: Flags = Flags {
+    syn: false,
+    fin: true,
+    pushed: false,
+};
+
+// Octets at a place, where five are acknowledged; and whether they only ask.
+const ASKING: &[(u64, Flags, &[u8], bool)] = &[
+    (4, PLAIN, &[0], true),
+    (5, PLAIN, &[0], false),
+    (4, PLAIN, &[0, 0], false),
+    (4, PUSHED, &[0], false),
+    (4, CLOSES, &[0], false),
+];
 
 #[test]
 fn octets_that_ask(rt: std::rt::HostRuntime) {
-    let plain = Flags {
-        syn: false,
-        fin: false,
-        pushed: false,
-    };
-    let pushed = Flags {
-        syn: false,
-        fin: false,
-        pushed: true,
-    };
-    let last = Flags {
-        syn: false,
-        fin: true,
-        pushed: false,
-    };
-    assert!(rt; only_asks(5, 4, plain, [0].as_slice()));
-    assert!(rt; !only_asks(5, 5, plain, [0].as_slice()));
-    assert!(rt; !only_asks(5, 4, plain, [0, 0].as_slice()));
-    assert!(rt; !only_asks(5, 4, pushed, [0].as_slice()));
-    assert!(rt; !only_asks(5, 4, last, [0].as_slice()));
+    for (place, flags, octets, want) in ASKING {
+        assert_so(
+            &rt,
+            only_asks(5, *place, *flags, octets) == *want,
+            "octets that ask",
+        );
+    }
 }
 
-fn sent(from: Side, packet: u64, number: u32, acknowledged: Option<u32>) -> Segment {
+// A packet: which end sent it, its number, its time, the number of its first octet, what it acknowledges, its octets.
+type Sent = (Side, u64, u64, u32, Option<u32>, &'static [u8]);
+
+// Both SYNs have the number 1000. The packet of this number resets the connection.
+fn segment_of(sent: &Sent, resets: u64) -> Segment {
+    let (from, packet, time, number, acknowledged, _) = *sent;
     Segment {
         from,
         packet,
-        time: packet,
+        time,
         number,
         acknowledged,
         flags: Flags {
@@ -75,49 +125,42 @@ fn sent(from: Side, packet: u64, number: u32, acknowledged: Option<u32>) -> Segm
             fin: false,
             pushed: true,
         },
-        reset: false,
+        reset: packet == resets,
     }
 }
 
-// Both SYNs have the number 1000. The packets whose turn it was are told by their numbers.
-fn told_numbers(
-    rt: &impl Abort,
-    alloc: Global,
-    segments: &[(Segment, &[u8])],
-    wanted: &[u64],
-) -> Result<(), TurnsFault> {
-    let mut turns = Turns::new(alloc, 1000, 1000);
-    let mut told = Vec::new(alloc);
-    for (segment, octets) in segments {
-        turns.take(*segment, octets, &mut told)?;
-    }
-    assert!(rt; told.len() == wanted.len());
-    for (packet, number) in told.iter().zip(wanted.iter()) {
-        assert!(rt; packet.packet == *number);
+const AHEAD: &[Sent] = &[
+    (Side::Active, 1, 1, 1000, None, &[]),
+    (Side::Passive, 2, 2, 1000, Some(1001), &[]),
+    (Side::Active, 3, 3, 1003, Some(1001), &[8, 9]),
+    (Side::Active, 4, 4, 1002, Some(1001), &[7]),
+    (Side::Passive, 5, 5, 1001, Some(1001), &[]),
+    (Side::Active, 6, 6, 1001, Some(1001), &[7]),
+    (Side::Active, 7, 7, 500_000_000, Some(1001), &[7]),
+];
+
+fn take_turns(turns: &mut Turns, told: &mut Vec<Packet>) -> Result<(), TurnsFault> {
+    for sent in AHEAD {
+        turns.take(segment_of(sent, 0), sent.5, told)?;
     }
     Ok(())
 }
 
+// The packets whose turn it was are told by their numbers.
+fn assert_numbers(rt: &impl Abort, told: &[Packet], wanted: &[u64]) {
+    assert_so(rt, told.len() == wanted.len(), "how many turns");
+    for (packet, number) in told.iter().zip(wanted) {
+        assert_so(rt, packet.packet == *number, "whose turn");
+    }
+}
+
 #[test]
 fn turns_of_packets(rt: std::rt::HostRuntime) -> Result<(), TurnsFault> {
-    let none: &[u8] = [].as_slice();
-    let one = [7].as_slice();
-    let two = [8, 9].as_slice();
-    let ahead = [
-        (sent(Side::Active, 1, 1000, None), none),
-        (sent(Side::Passive, 2, 1000, Some(1001)), none),
-        (sent(Side::Active, 3, 1003, Some(1001)), two),
-        (sent(Side::Active, 4, 1002, Some(1001)), one),
-        (sent(Side::Passive, 5, 1001, Some(1001)), none),
-        (sent(Side::Active, 6, 1001, Some(1001)), one),
-        (sent(Side::Active, 7, 500_000_000, Some(1001)), one),
-    ];
-    told_numbers(
-        &rt,
-        rt.alloc(),
-        ahead.as_slice(),
-        [1, 2, 5, 6, 4, 3].as_slice(),
-    )
+    let mut turns = Turns::new(rt.alloc(), 1000, 1000);
+    let mut told = Vec::new(rt.alloc());
+    take_turns(&mut turns, &mut told)?;
+    assert_numbers(&rt, &told, &[1, 2, 5, 6, 4, 3]);
+    Ok(())
 }
 
 fn brings(packet: u64, acknowledged: u64) -> Packet {
@@ -131,94 +174,121 @@ fn brings(packet: u64, acknowledged: u64) -> Packet {
     }
 }
 
-// What packet 9 acknowledges isn't there, and 4,096 packets follow.
-fn loses_what_packet_nine_needs(rt: &impl Abort, alloc: Global) -> Result<(), AllocError> {
-    let mut losses = Losses::new(alloc);
-    let ends = BothEnds {
-        active: 5,
-        passive: 5,
-    };
-    let settled = losses.take(Side::Passive, brings(8, 5), ends)?;
-    assert!(rt; settled.is_none());
-    assert!(rt; losses.first().is_none());
-    for number in 9..4105 {
-        let acknowledged = if number == 9 { 6 } else { 5 };
-        let early = losses.take(Side::Active, brings(number, acknowledged), ends)?;
-        assert!(rt; early.is_none());
-    }
-    assert!(rt; losses.first() == Some(9));
-    let lost = losses.take(Side::Active, brings(4105, 5), ends)?;
-    assert!(rt; lost == Some(9));
+const ENDS: BothEnds = BothEnds {
+    active: 5,
+    passive: 5,
+};
+
+// A packet is taken, and this one is lost.
+fn assert_lost(
+    rt: &impl Abort,
+    losses: &mut Losses,
+    from: Side,
+    packet: Packet,
+    want: Option<u64>,
+) -> Result<(), AllocError> {
+    let lost = losses.take(from, packet, ENDS)?;
+    assert_so(rt, lost == want, "which is lost");
     Ok(())
+}
+
+fn bring_more(rt: &impl Abort, losses: &mut Losses) -> Result<(), AllocError> {
+    for number in 10..4105 {
+        assert_lost(rt, losses, Side::Active, brings(number, 5), None)?;
+    }
+    Ok(())
+}
+
+// What packet 9 acknowledges isn't there, and 4,096 packets follow.
+fn lose(rt: &impl Abort, losses: &mut Losses) -> Result<(), AllocError> {
+    assert_lost(rt, losses, Side::Passive, brings(8, 5), None)?;
+    assert_so(rt, losses.first().is_none(), "nothing is missed");
+    assert_lost(rt, losses, Side::Active, brings(9, 6), None)?;
+    bring_more(rt, losses)?;
+    assert_so(rt, losses.first() == Some(9), "what is missed first");
+    assert_lost(rt, losses, Side::Active, brings(4105, 5), Some(9))
 }
 
 #[test]
 fn loss_of_an_octet(rt: std::rt::HostRuntime) -> Result<(), AllocError> {
-    loses_what_packet_nine_needs(&rt, rt.alloc())
+    let mut losses = Losses::new(rt.alloc());
+    lose(&rt, &mut losses)
+}
+
+const CELLS: &[(u64, Option<Cell>)] = &[
+    (0, Some(Cell::Syn)),
+    (1, Some(Cell::Octet(7))),
+    (2, Some(Cell::Octet(8))),
+    (3, Some(Cell::Octet(9))),
+    (4, None),
+];
+
+const CELLS_BEHIND: &[(u64, Option<Cell>)] = &[(2, None), (3, Some(Cell::Octet(9)))];
+
+fn assert_cells(rt: &impl Abort, held: &Held, cells: &[(u64, Option<Cell>)]) {
+    for (place, cell) in cells {
+        assert_so(rt, held.cell(*place) == *cell, "a cell");
+    }
+}
+
+// Octets from place 1 on, where so many are acknowledged; and whether they contradict what is held.
+const COPIES: &[(u64, &[u8], bool)] = &[
+    (1, &[7, 0], true),
+    (1, &[7, 8, 9, 10], false),
+    (3, &[7, 0, 9], false),
+];
+
+fn assert_copies(rt: &impl Abort, held: &Held) {
+    for (acknowledged, octets, want) in COPIES {
+        assert_so(
+            rt,
+            held.contradicts(*acknowledged, 1, PUSHED, octets) == *want,
+            "a copy",
+        );
+    }
 }
 
 // A SYN and the octets 7, 8 and 9, of which 8 is captured first, and again with another value.
-fn holds_first_copies(rt: &impl Abort, alloc: Global) -> Result<(), HeldFault> {
-    let plain = Flags {
-        syn: false,
-        fin: false,
-        pushed: true,
-    };
-    let opens = Flags {
-        syn: true,
-        fin: false,
-        pushed: false,
-    };
-    let mut held = Held::new(alloc);
-    held.put(2, plain, [8].as_slice())?;
-    held.put(0, opens, [7, 0, 9].as_slice())?;
-    assert!(rt; held.cell(0) == Some(Cell::Syn));
-    assert!(rt; held.cell(1) == Some(Cell::Octet(7)));
-    assert!(rt; held.cell(2) == Some(Cell::Octet(8)));
-    assert!(rt; held.cell(3) == Some(Cell::Octet(9)));
-    assert!(rt; held.cell(4).is_none());
-    assert!(rt; held.contradicts(1, 1, plain, [7, 0].as_slice()));
-    assert!(rt; !held.contradicts(1, 1, plain, [7, 8, 9, 10].as_slice()));
-    assert!(rt; !held.contradicts(3, 1, plain, [7, 0, 9].as_slice()));
+fn hold_first_copies(rt: &impl Abort, held: &mut Held) -> Result<(), HeldFault> {
+    held.put(2, PUSHED, &[8])?;
+    held.put(0, OPENS, &[7, 0, 9])?;
+    assert_cells(rt, held, CELLS);
+    assert_copies(rt, held);
     held.pass(3);
-    assert!(rt; held.cell(2).is_none());
-    assert!(rt; held.cell(3) == Some(Cell::Octet(9)));
-    assert!(rt; held.put(67108867, plain, [1].as_slice()) == Err(HeldFault::Full));
+    assert_cells(rt, held, CELLS_BEHIND);
+    let full = held.put(67108867, PUSHED, &[1]);
+    assert_so(rt, full == Err(HeldFault::Full), "what isn't held");
     Ok(())
 }
 
 #[test]
 fn first_copies_of_octets(rt: std::rt::HostRuntime) -> Result<(), HeldFault> {
-    holds_first_copies(&rt, rt.alloc())
+    let mut held = Held::new(rt.alloc());
+    hold_first_copies(&rt, &mut held)
+}
+
+// The front at a place, of what is there before another one, has so many octets.
+fn assert_front(rt: &impl Abort, held: &Held, place: u64, upto: u64, want: Option<u64>) {
+    assert_so(rt, held.front(place, upto) == want, "a front");
 }
 
 // A SYN, and a message of a length of 2 whose last octet is captured later.
-fn cuts_a_message(rt: &impl Abort, alloc: Global) -> Result<(), HeldFault> {
-    let plain = Flags {
-        syn: false,
-        fin: false,
-        pushed: true,
-    };
-    let opens = Flags {
-        syn: true,
-        fin: false,
-        pushed: false,
-    };
-    let mut held = Held::new(alloc);
-    held.put(0, opens, [0, 0, 0, 2, 7].as_slice())?;
-    assert!(rt; held.front(0, 6) == Some(1));
+fn cut_a_message(rt: &impl Abort, held: &mut Held) -> Result<(), HeldFault> {
+    held.put(0, OPENS, &[0, 0, 0, 2, 7])?;
+    assert_front(rt, held, 0, 6, Some(1));
     held.pass(1);
-    assert!(rt; held.front(1, 7).is_none());
-    held.put(6, plain, [8].as_slice())?;
-    assert!(rt; held.front(1, 6).is_none());
-    assert!(rt; held.front(1, 7) == Some(6));
-    assert!(rt; held.front(0, 7).is_none());
+    assert_front(rt, held, 1, 7, None);
+    held.put(6, PUSHED, &[8])?;
+    assert_front(rt, held, 1, 6, None);
+    assert_front(rt, held, 1, 7, Some(6));
+    assert_front(rt, held, 0, 7, None);
     Ok(())
 }
 
 #[test]
 fn messages_at_the_front(rt: std::rt::HostRuntime) -> Result<(), HeldFault> {
-    cuts_a_message(&rt, rt.alloc())
+    let mut held = Held::new(rt.alloc());
+    cut_a_message(&rt, &mut held)
 }
 
 // A Select.req and a Select.rsp, a Separate and a Linktest.req, without a text.
@@ -241,109 +311,107 @@ fn kind_of(event: &Event) -> u8 {
     }
 }
 
-// Both SYNs have the number 1000. What happens is told by packets, times and kinds.
-fn happens(
-    rt: &impl Abort,
-    alloc: Global,
-    segments: &[(Segment, &[u8])],
-    wanted: &[(u64, u64, u8)],
+// Packets of a connection, which of them resets it, what happens, by packets, times and kinds, and how it ends.
+struct Followed {
+    packets: &'static [Sent],
+    resets: u64,
+    wanted: &'static [(u64, u64, u8)],
     ending: Ending,
-) -> Result<(), ConnectionFault> {
+}
+
+// Takes the packets. Both SYNs have the number 1000.
+fn follow(
+    alloc: Global,
+    case: &Followed,
+    told: &mut Vec<Happening>,
+) -> Result<Ending, ConnectionFault> {
     let mut connection = Connection::new(alloc, 1000, 1000);
+    for sent in case.packets {
+        connection = connection.take(alloc, segment_of(sent, case.resets), sent.5, told)?;
+    }
+    connection.end(alloc, told)
+}
+
+fn is_like(told: &Happening, want: &(u64, u64, u8)) -> bool {
+    let (packet, time, kind) = *want;
+    told.packet == packet && told.time == time && kind_of(&told.event) == kind
+}
+
+fn assert_told(rt: &impl Abort, told: &[Happening], wanted: &[(u64, u64, u8)]) {
+    assert_so(rt, told.len() == wanted.len(), "how much happens");
+    for (happening, want) in told.iter().zip(wanted) {
+        assert_so(rt, is_like(happening, want), "what happens");
+    }
+}
+
+fn judge(rt: &impl Abort, alloc: Global, case: &Followed) -> Result<(), ConnectionFault> {
     let mut told = Vec::new(alloc);
-    for (segment, octets) in segments {
-        connection = connection.take(alloc, *segment, octets, &mut told)?;
-    }
-    let found = connection.end(alloc, &mut told)?;
-    assert!(rt; found == ending);
-    assert!(rt; told.len() == wanted.len());
-    for (happening, (packet, time, kind)) in told.iter().zip(wanted.iter()) {
-        assert!(rt; happening.packet == *packet);
-        assert!(rt; happening.time == *time);
-        assert!(rt; kind_of(&happening.event) == *kind);
-    }
+    let ending = follow(alloc, case, &mut told)?;
+    assert_so(rt, ending == case.ending, "how it ends");
+    assert_told(rt, &told, case.wanted);
     Ok(())
 }
 
 // The SYN and ACK is captured behind the Select.req, whose time is past that of the packets behind it; what crosses a
 // Separate is left out; a reset ends it.
+const WHOLE: Followed = Followed {
+    packets: &[
+        (Side::Active, 1, 1, 1000, None, &[]),
+        (Side::Active, 2, 2, 1001, Some(1001), &[]),
+        (Side::Active, 3, 7, 1001, Some(1001), &SELECT),
+        (Side::Passive, 4, 4, 1000, Some(1001), &[]),
+        (Side::Passive, 5, 5, 1001, Some(1015), &SELECTED),
+        (Side::Active, 6, 6, 1015, Some(1015), &SEPARATE),
+        (Side::Passive, 7, 7, 1015, Some(1015), &LINKTEST),
+        (Side::Active, 8, 8, 1029, Some(1029), &[]),
+        (Side::Passive, 9, 9, 1029, Some(1029), &[]),
+    ],
+    resets: 9,
+    wanted: &[(2, 2, 100), (3, 7, 1), (5, 7, 2), (6, 7, 9), (9, 9, 200)],
+    ending: Ending::Complete,
+};
+
 #[test]
 fn a_whole_connection(rt: std::rt::HostRuntime) -> Result<(), ConnectionFault> {
-    let none: &[u8] = [].as_slice();
-    let mut resets = sent(Side::Passive, 9, 1029, Some(1029));
-    resets.reset = true;
-    let mut ahead = sent(Side::Active, 3, 1001, Some(1001));
-    ahead.time = 7;
-    let segments = [
-        (sent(Side::Active, 1, 1000, None), none),
-        (sent(Side::Active, 2, 1001, Some(1001)), none),
-        (ahead, SELECT.as_slice()),
-        (sent(Side::Passive, 4, 1000, Some(1001)), none),
-        (
-            sent(Side::Passive, 5, 1001, Some(1015)),
-            SELECTED.as_slice(),
-        ),
-        (sent(Side::Active, 6, 1015, Some(1015)), SEPARATE.as_slice()),
-        (
-            sent(Side::Passive, 7, 1015, Some(1015)),
-            LINKTEST.as_slice(),
-        ),
-        (sent(Side::Active, 8, 1029, Some(1029)), none),
-        (resets, none),
-    ];
-    let wanted = [(2, 2, 100), (3, 7, 1), (5, 7, 2), (6, 7, 9), (9, 9, 200)];
-    happens(
-        &rt,
-        rt.alloc(),
-        segments.as_slice(),
-        wanted.as_slice(),
-        Ending::Complete,
-    )
+    judge(&rt, rt.alloc(), &WHOLE)
 }
 
 // The reply that packet 5 acknowledges wasn't captured.
+const LOST: Followed = Followed {
+    packets: &[
+        (Side::Active, 1, 1, 1000, None, &[]),
+        (Side::Passive, 2, 2, 1000, Some(1001), &[]),
+        (Side::Active, 3, 3, 1001, Some(1001), &[]),
+        (Side::Active, 4, 4, 1001, Some(1001), &SELECT),
+        (Side::Active, 5, 5, 1015, Some(1015), &[]),
+        (Side::Active, 6, 6, 1015, Some(1015), &SEPARATE),
+    ],
+    resets: 0,
+    wanted: &[(3, 3, 100), (4, 4, 1)],
+    ending: Ending::Lost(5),
+};
+
 #[test]
 fn a_lost_reply(rt: std::rt::HostRuntime) -> Result<(), ConnectionFault> {
-    let none: &[u8] = [].as_slice();
-    let segments = [
-        (sent(Side::Active, 1, 1000, None), none),
-        (sent(Side::Passive, 2, 1000, Some(1001)), none),
-        (sent(Side::Active, 3, 1001, Some(1001)), none),
-        (sent(Side::Active, 4, 1001, Some(1001)), SELECT.as_slice()),
-        (sent(Side::Active, 5, 1015, Some(1015)), none),
-        (sent(Side::Active, 6, 1015, Some(1015)), SEPARATE.as_slice()),
-    ];
-    let wanted = [(3, 3, 100), (4, 4, 1)];
-    happens(
-        &rt,
-        rt.alloc(),
-        segments.as_slice(),
-        wanted.as_slice(),
-        Ending::Lost(5),
-    )
+    judge(&rt, rt.alloc(), &LOST)
 }
 
 // Packet 5 brings other octets than packet 4.
+const DIFFERING: Followed = Followed {
+    packets: &[
+        (Side::Active, 1, 1, 1000, None, &[]),
+        (Side::Passive, 2, 2, 1000, Some(1001), &[]),
+        (Side::Active, 3, 3, 1001, Some(1001), &[]),
+        (Side::Active, 4, 4, 1001, Some(1001), &SELECT),
+        (Side::Active, 5, 5, 1001, Some(1001), &OTHER),
+        (Side::Passive, 6, 6, 1001, Some(1015), &SELECTED),
+    ],
+    resets: 0,
+    wanted: &[(3, 3, 100), (4, 4, 1)],
+    ending: Ending::Differs(5),
+};
+
 #[test]
 fn a_copy_that_differs(rt: std::rt::HostRuntime) -> Result<(), ConnectionFault> {
-    let none: &[u8] = [].as_slice();
-    let segments = [
-        (sent(Side::Active, 1, 1000, None), none),
-        (sent(Side::Passive, 2, 1000, Some(1001)), none),
-        (sent(Side::Active, 3, 1001, Some(1001)), none),
-        (sent(Side::Active, 4, 1001, Some(1001)), SELECT.as_slice()),
-        (sent(Side::Active, 5, 1001, Some(1001)), OTHER.as_slice()),
-        (
-            sent(Side::Passive, 6, 1001, Some(1015)),
-            SELECTED.as_slice(),
-        ),
-    ];
-    let wanted = [(3, 3, 100), (4, 4, 1)];
-    happens(
-        &rt,
-        rt.alloc(),
-        segments.as_slice(),
-        wanted.as_slice(),
-        Ending::Differs(5),
-    )
+    judge(&rt, rt.alloc(), &DIFFERING)
 }

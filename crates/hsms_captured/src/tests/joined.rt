@@ -1,11 +1,13 @@
 //! Octets within which a session begins, and messages by which something is supposed or left out.
 
+use super::assert_so;
 use hsms_frame::{Header, data_header, linktest_req, linktest_rsp, select_req, select_rsp};
 use hsms_joined::{
     Beginning, Requests, Session, Supposed, begins, begins_at_end, is_from, octets_before, reaches,
     supposed_by,
 };
-use std::alloc::{AllocError, Global};
+use std::alloc::AllocError;
+use std::process::Abort;
 
 const SESSION: Session = Session {
     device: 0,
@@ -25,40 +27,78 @@ fn begins_in(octets: usize) -> Beginning {
     begins(SESSION, &MIDST[..octets.min(70)], 0)
 }
 
+// How many octets are there, and where a direction begins then.
+const BEGINNINGS: &[(usize, Beginning)] = &[
+    (0, Beginning::Open(0)),
+    (17, Beginning::Open(3)),
+    (30, Beginning::Open(3)),
+    (31, Beginning::Open(5)),
+    (70, Beginning::Open(5)),
+];
+
 #[test]
 fn fronts_within_a_text(rt: std::rt::HostRuntime) -> Result<(), AllocError> {
-    assert!(rt; begins_in(0) == Beginning::Open(0));
-    assert!(rt; begins_in(17) == Beginning::Open(3));
-    assert!(rt; begins_in(30) == Beginning::Open(3));
-    assert!(rt; begins_in(31) == Beginning::Open(5));
-    assert!(rt; begins_in(70) == Beginning::Open(5));
-    assert!(rt; begins(SESSION, &MIDST, 6) == Beginning::Open(31));
+    for (octets, want) in BEGINNINGS {
+        assert_so(&rt, begins_in(*octets) == *want, "where it begins");
+    }
+    let behind = begins(SESSION, &MIDST, 6);
+    assert_so(
+        &rt,
+        behind == Beginning::Open(31),
+        "where it begins behind 6",
+    );
     let mut whole = Vec::from_slice(rt.alloc(), &MIDST)?;
     whole.extend_from_slice(&LAST)?;
-    assert!(rt; begins(SESSION, &whole, 31) == Beginning::Sure(31));
+    let whole = begins(SESSION, &whole, 31);
+    assert_so(&rt, whole == Beginning::Sure(31), "where it surely begins");
     Ok(())
 }
 
 #[test]
 fn beginnings_at_the_end(rt: std::rt::HostRuntime) {
-    assert!(rt; begins_at_end(SESSION, &MIDST, 0) == 31);
-    assert!(rt; begins_at_end(SESSION, &MIDST[..30], 0) == 3);
-    assert!(rt; begins_at_end(SESSION, &MIDST[..46], 0) == 46);
-    assert!(rt; begins_at_end(SESSION, &MIDST[..47], 0) == 31);
+    for (octets, want) in [(70, 31), (30, 3), (46, 46), (47, 31)] {
+        let place = begins_at_end(SESSION, &MIDST[..octets.min(70)], 0);
+        assert_so(&rt, place == want, "where it begins");
+    }
 }
+
+// A segment from this number on with so many octets: how many lie before the number 1000 or 4.
+const BEFORE: &[(u32, u32, usize, usize)] = &[
+    (1000, 990, 14, 10),
+    (1000, 990, 4, 4),
+    (1000, 1000, 14, 0),
+    (4, 4294967290, 14, 10),
+];
+
+// Whether it reaches the number 1000.
+const REACHING: &[(u32, usize, bool)] = &[(990, 10, true), (990, 9, false), (1001, 14, false)];
+
+// Whether a number is from the other one on.
+const FROM: &[(u32, u32, bool)] = &[
+    (1000, 1000, true),
+    (1000, 999, false),
+    (4294967290, 4, true),
+];
 
 #[test]
 fn segments_at_the_beginning(rt: std::rt::HostRuntime) {
-    assert!(rt; octets_before(1000, 990, 14) == 10);
-    assert!(rt; octets_before(1000, 990, 4) == 4);
-    assert!(rt; octets_before(1000, 1000, 14) == 0);
-    assert!(rt; octets_before(4, 4294967290, 14) == 10);
-    assert!(rt; reaches(1000, 990, 10));
-    assert!(rt; !reaches(1000, 990, 9));
-    assert!(rt; !reaches(1000, 1001, 14));
-    assert!(rt; is_from(1000, 1000));
-    assert!(rt; !is_from(1000, 999));
-    assert!(rt; is_from(4294967290, 4));
+    for (first, number, octets, want) in BEFORE {
+        assert_so(
+            &rt,
+            octets_before(*first, *number, *octets) == *want,
+            "octets before",
+        );
+    }
+    for (number, octets, want) in REACHING {
+        assert_so(
+            &rt,
+            reaches(1000, *number, *octets) == *want,
+            "what reaches",
+        );
+    }
+    for (first, number, want) in FROM {
+        assert_so(&rt, is_from(*first, *number) == *want, "a number");
+    }
 }
 
 // The header of data of device 0 and stream 1.
@@ -66,28 +106,60 @@ fn data(wait: bool, function: u8, system: u32) -> Header {
     data_header(0, 1, function, wait, system)
 }
 
+// By a header this is supposed.
+fn assert_supposed(rt: &impl Abort, header: Header, requests: &Requests, want: Option<Supposed>) {
+    assert_so(
+        rt,
+        supposed_by(header, requests) == want,
+        "what is supposed",
+    );
+}
+
+// A Select.rsp to a Select.req with these system bytes.
+fn selects(system: u32, status: u8) -> Header {
+    select_rsp(select_req(system), status)
+}
+
+// Of some requests, of which none is noted yet.
+fn judge_supposed(rt: &impl Abort, requests: &mut Requests) -> Result<(), AllocError> {
+    assert_supposed(rt, linktest_rsp(linktest_req(5)), requests, None);
+    assert_supposed(rt, data(true, 13, 5), requests, Some(Supposed::Selected));
+    assert_supposed(rt, selects(5, 1), requests, Some(Supposed::Selected));
+    assert_supposed(rt, selects(5, 0), requests, Some(Supposed::Asked(5)));
+    requests.note(select_req(5))?;
+    assert_supposed(rt, selects(5, 0), requests, Some(Supposed::Nothing));
+    assert_supposed(rt, selects(6, 0), requests, Some(Supposed::Asked(6)));
+    Ok(())
+}
+
 #[test]
 fn what_is_supposed(rt: std::rt::HostRuntime) -> Result<(), AllocError> {
     let mut requests = Requests::new(rt.alloc());
-    assert!(rt; supposed_by(linktest_rsp(linktest_req(5)), &requests).is_none());
-    assert!(rt; supposed_by(data(true, 13, 5), &requests) == Some(Supposed::Selected));
-    assert!(rt; supposed_by(select_rsp(select_req(5), 1), &requests) == Some(Supposed::Selected));
-    assert!(rt; supposed_by(select_rsp(select_req(5), 0), &requests) == Some(Supposed::Asked(5)));
-    requests.note(select_req(5))?;
-    assert!(rt; supposed_by(select_rsp(select_req(5), 0), &requests) == Some(Supposed::Nothing));
-    assert!(rt; supposed_by(select_rsp(select_req(6), 0), &requests) == Some(Supposed::Asked(6)));
+    judge_supposed(&rt, &mut requests)
+}
+
+// Whether what was captured since 1000 leaves a header out that comes at this time.
+fn assert_leaves_out(rt: &impl Abort, requests: &Requests, header: Header, time: u64, want: bool) {
+    assert_so(
+        rt,
+        requests.leaves_out(header, 1000, 45000, time) == want,
+        "what is left out",
+    );
+}
+
+fn judge_responses(rt: &impl Abort, requests: &mut Requests) -> Result<(), AllocError> {
+    requests.note(linktest_req(5))?;
+    assert_leaves_out(rt, requests, linktest_rsp(linktest_req(5)), 1000, false);
+    assert_leaves_out(rt, requests, data(false, 14, 5), 46000, true);
+    assert_leaves_out(rt, requests, data(false, 14, 5), 46001, false);
+    assert_leaves_out(rt, requests, data(true, 13, 6), 1000, false);
+    requests.note(data(true, 13, 5))?;
+    assert_leaves_out(rt, requests, data(false, 14, 5), 1000, false);
     Ok(())
 }
 
 #[test]
 fn responses_to_others(rt: std::rt::HostRuntime) -> Result<(), AllocError> {
     let mut requests = Requests::new(rt.alloc());
-    requests.note(linktest_req(5))?;
-    assert!(rt; !requests.leaves_out(linktest_rsp(linktest_req(5)), 1000, 45000, 1000));
-    assert!(rt; requests.leaves_out(data(false, 14, 5), 1000, 45000, 46000));
-    assert!(rt; !requests.leaves_out(data(false, 14, 5), 1000, 45000, 46001));
-    assert!(rt; !requests.leaves_out(data(true, 13, 6), 1000, 45000, 1000));
-    requests.note(data(true, 13, 5))?;
-    assert!(rt; !requests.leaves_out(data(false, 14, 5), 1000, 45000, 1000));
-    Ok(())
+    judge_responses(&rt, &mut requests)
 }

@@ -1,10 +1,9 @@
 //! Files and packets whose octets are written out, each with what its format says of them.
 
-ghost use Rattle.std.specs.Prelude.{◌≤◌, ◌+◌, length, IfOk};
-
 mod blocks;
 mod kinds;
 
+use super::assert_so;
 use hsms_packets::{
     Address, CaptureFault, Front, Opening, Reader, Reason, Record, Segment, Shown, format_of,
     octets_of, segment_of,
@@ -58,150 +57,205 @@ static PADDED: [u8; 66] = [
     0x00, 0x00,
 ];
 
+// The SYN and the RST.
+const SYN: Segment = Segment {
+    source: Address::V4(0x0a000001),
+    source_port: 40000,
+    target: Address::V4(0x0a000002),
+    target_port: 5000,
+    number: 1000,
+    acknowledged: None,
+    flags: 2,
+    body: 40,
+    end: 40,
+};
+
+const RESET: Segment = Segment {
+    source: Address::V4(0x0a000002),
+    source_port: 5000,
+    target: Address::V4(0x0a000001),
+    target_port: 40000,
+    number: 9000,
+    acknowledged: Some(1001),
+    flags: 4,
+    body: 40,
+    end: 40,
+};
+
+// What stands at the front: which of both it is, with its time, or a block; and how many octets it has.
+type Row = (&'static str, Option<u128>, usize);
+
+const OF_PCAP: &[Row] = &[
+    ("syn", Some(1_700_000_000_000), 56),
+    ("reset", Some(1_700_000_000_001), 56),
+];
+
+const BEFORE_THE_SYN: &[Row] = &[
+    ("block", None, 28),
+    ("block", None, 32),
+    ("block", None, 16),
+];
+
+const FROM_THE_SYN_ON: &[Row] = &[("syn", Some(1_700_000_000_005), 72)];
+
 #[test]
 fn packets_of_pcap(rt: std::rt::HostRuntime) -> Result<(), CaptureFault> {
     let octets = REFUSED.as_slice();
-    let mut reader = opened(&rt, rt.alloc(), octets)?;
-    let (_, first) = octets.split_at(24);
-    let syn = packet_at(&rt, &reader, first)?;
-    assert_eq!(rt; syn.time, Some(1_700_000_000_000));
-    is_syn(&rt, &segment_in(&rt, &syn, first));
-    let size = reader.pass(Front::Packet(syn))?;
-    assert_eq!(rt; size, 56);
-    let (_, second) = first.split_at(56);
-    let reset = packet_at(&rt, &reader, second)?;
-    assert_eq!(rt; reset.time, Some(1_700_000_000_001));
-    is_reset(&rt, &segment_in(&rt, &reset, second));
-    reader.pass(Front::Packet(reset))?;
-    assert_eq!(rt; reader.packets(), 2);
-    assert_eq!(rt; reader.place(), 136);
+    let mut reader = opened(rt.alloc(), octets)?;
+    let (_, records) = octets.split_at(24);
+    let end = behind(&rt, &mut reader, records, OF_PCAP)?;
+    assert_so(&rt, end.is_empty(), "the end");
+    assert_passed(&rt, &reader, 2, 136);
     Ok(())
 }
 
 #[test]
 fn packets_of_pcapng(rt: std::rt::HostRuntime) -> Result<(), CaptureFault> {
     let octets = SECTION.as_slice();
-    let mut reader = opened(&rt, rt.alloc(), octets)?;
-    let interface = behind(&rt, &mut reader, octets, 28)?;
-    let custom = behind(&rt, &mut reader, interface, 32)?;
-    let packet = behind(&rt, &mut reader, custom, 16)?;
-    assert_eq!(rt; reader.packets(), 1);
-    let syn = packet_at(&rt, &reader, packet)?;
-    assert_eq!(rt; syn.time, Some(1_700_000_000_005));
-    is_syn(&rt, &segment_in(&rt, &syn, packet));
-    let end = behind(&rt, &mut reader, packet, 72)?;
-    assert_eq!(rt; end.len(), 0);
-    assert_eq!(rt; reader.packets(), 2);
-    assert_eq!(rt; reader.place(), 148);
+    let mut reader = opened(rt.alloc(), octets)?;
+    let packet = behind(&rt, &mut reader, octets, BEFORE_THE_SYN)?;
+    assert_passed(&rt, &reader, 1, 76);
+    let end = behind(&rt, &mut reader, packet, FROM_THE_SYN_ON)?;
+    assert_so(&rt, end.is_empty(), "the end");
+    assert_passed(&rt, &reader, 2, 148);
     Ok(())
 }
 
 #[test]
 fn files_that_are_none(rt: std::rt::HostRuntime) {
-    assert!(rt;
-        matches!(
-            format_of(b"\x1f\x8b\x08\x00".as_slice()),
-            Err(CaptureFault::Unknown)
-        )
-    );
-    assert!(rt;
-        matches!(
-            format_of(b"hsms-log 1".as_slice()),
-            Err(CaptureFault::Unknown)
-        )
-    );
-    assert!(rt; matches!(format_of(b"\x0a\x0d".as_slice()), Ok(Opening::More)));
+    let zipped = format_of(b"\x1f\x8b\x08\x00".as_slice());
+    assert_so(&rt, matches!(zipped, Err(CaptureFault::Unknown)), "gzip");
+    let text = format_of(b"hsms-log 1".as_slice());
+    assert_so(&rt, matches!(text, Err(CaptureFault::Unknown)), "a log");
+    let part = format_of(b"\x0a\x0d".as_slice());
+    assert_so(&rt, matches!(part, Ok(Opening::More)), "two octets");
 }
 
 #[test]
 fn what_is_damaged(rt: std::rt::HostRuntime) -> Result<(), CaptureFault> {
-    let octets = SECTION.as_slice();
-    let reader = opened(&rt, rt.alloc(), octets)?;
-    let (cut, _) = octets.split_at(27);
-    assert!(rt; matches!(reader.front(cut)?, Front::More));
-    let (_, interface) = octets.split_at(28);
-    let (_, packet) = interface.split_at(48);
-    assert!(rt; matches!(reader.front(packet), Err(CaptureFault::Interface)));
-    let (_, trailer) = octets.split_at(2);
-    assert!(rt; matches!(reader.front(trailer), Err(CaptureFault::Length)));
+    let reader = opened(rt.alloc(), SECTION.as_slice())?;
+    assert_so(&rt, is_more(&reader, &SECTION[..27]), "a part");
+    assert_refused(&rt, &reader, &SECTION[76..], CaptureFault::Interface);
+    assert_refused(&rt, &reader, &SECTION[2..], CaptureFault::Length);
     Ok(())
 }
 
 #[test]
 fn segments_of_links(rt: std::rt::HostRuntime) {
-    has_two_octets(&rt, segment_of(1, TAGGED.as_slice()), TAGGED.as_slice());
-    has_two_octets(&rt, segment_of(1, PADDED.as_slice()), PADDED.as_slice());
-    let (cut, _) = PADDED.as_slice().split_at(50);
-    assert!(rt; matches!(segment_of(1, cut), Shown::LeftOut(Reason::Cut)));
-    assert!(rt; matches!(segment_of(147, cut), Shown::LeftOut(Reason::Link)));
-    assert!(rt; matches!(segment_of(1, [0; 14].as_slice()), Shown::Other));
+    assert_so(&rt, has_two_octets(&TAGGED), "a tag");
+    assert_so(&rt, has_two_octets(&PADDED), "filled up");
+    let cut = segment_of(1, &PADDED[..50]);
+    assert_so(&rt, matches!(cut, Shown::LeftOut(Reason::Cut)), "a part");
+    let linked = segment_of(147, &PADDED[..50]);
+    assert_so(
+        &rt,
+        matches!(linked, Shown::LeftOut(Reason::Link)),
+        "a link",
+    );
+    let other = segment_of(1, [0; 14].as_slice());
+    assert_so(&rt, matches!(other, Shown::Other), "no IP");
 }
 
-fn opened(rt: &impl Abort, alloc: Global, octets: &[u8]) -> Result<Reader, CaptureFault> {
+fn opened(alloc: Global, octets: &[u8]) -> Result<Reader, CaptureFault> {
     match format_of(octets)? {
         Opening::Opened(format, size) => Ok(Reader::new(alloc, format, size)),
-        Opening::More => panic!(rt; "no header"),
+        Opening::More => Err(CaptureFault::Unknown),
     }
 }
 
-// The packet at the front.
-fn packet_at(rt: &impl Abort, reader: &Reader, octets: &[u8]) -> Result<Record, CaptureFault>
-    ensures { IfOk result (λ r. (r.body + r.held ≤ r.size) × (r.size ≤ length octets.now)) }
-{
-    match reader.front(octets)? {
-        Front::Packet(record) => Ok(record),
-        _ => panic!(rt; "no packet"),
-    }
+fn is_more(reader: &Reader, octets: &[u8]) -> bool {
+    matches!(reader.front(octets), Ok(Front::More))
 }
 
-// Passes a block of this size.
+// What stands at the front is refused with a fault.
+fn assert_refused(rt: &impl Abort, reader: &Reader, octets: &[u8], want: CaptureFault) {
+    let fault = reader.front(octets).err();
+    assert_so(rt, fault == Some(want), "a fault");
+}
+
+// So many packets were passed, and so many octets.
+fn assert_passed(rt: &impl Abort, reader: &Reader, packets: u64, place: u64) {
+    assert_so(rt, reader.packets() == packets, "how many packets");
+    assert_so(rt, reader.place() == place, "the place");
+}
+
+// Passes what these rows say. Answers the octets behind it.
 fn behind<'a>(
     rt: &impl Abort,
     reader: &mut Reader,
     octets: &'a [u8],
-    size: usize,
+    rows: &[Row],
 ) -> Result<&'a [u8], CaptureFault> {
-    let front = reader.front(octets)?;
-    assert_eq!(rt; reader.pass(front)?, size);
-    match octets.get(size..) {
-        Some(rest) => Ok(rest),
-        None => panic!(rt; "too few octets"),
+    let mut rest = octets;
+    for row in rows {
+        let size = pass(rt, reader, rest, row)?;
+        rest = rest.get(size..).ok_or(CaptureFault::Length)?;
+    }
+    Ok(rest)
+}
+
+// Passes what this row says.
+fn pass(
+    rt: &impl Abort,
+    reader: &mut Reader,
+    octets: &[u8],
+    row: &Row,
+) -> Result<usize, CaptureFault> {
+    let (kind, time) = found(reader, octets)?;
+    let size = reader.pass(reader.front(octets)?)?;
+    let is_row = kind == row.0 && time == row.1 && size == row.2;
+    assert_so(rt, is_row, row.0);
+    Ok(size)
+}
+
+// Which packet stands at the front, with its time; or that it is another block.
+fn found(reader: &Reader, octets: &[u8]) -> Result<(&'static str, Option<u128>), CaptureFault> {
+    match reader.front(octets)? {
+        Front::Packet(record) => Ok((kind_of(&record, octets_of(&record, octets)), record.time)),
+        _ => Ok(("block", None)),
     }
 }
 
-fn segment_in(rt: &impl Abort, packet: &Record, octets: &[u8]) -> Segment
-    requires { packet.now.body + packet.now.held ≤ length octets.now }
-{
-    assert!(rt; packet.whole);
-    match segment_of(packet.link, octets_of(packet, octets)) {
-        Shown::Segment(segment) => segment,
-        _ => panic!(rt; "no segment"),
+// Which packet it is of those that are written out.
+fn kind_of(record: &Record, held: &[u8]) -> &'static str {
+    if !record.whole {
+        return "cut";
+    }
+    match segment_of(record.link, held) {
+        Shown::Segment(segment) => name_of(&segment),
+        _ => "no segment",
     }
 }
 
-fn is_syn(rt: &impl Abort, segment: &Segment) {
-    assert_eq!(rt; segment.source, Address::V4(0x0a000001));
-    assert_eq!(rt; segment.target, Address::V4(0x0a000002));
-    assert_eq!(rt; segment.source_port, 40000);
-    assert_eq!(rt; segment.target_port, 5000);
-    assert_eq!(rt; segment.number, 1000);
-    assert_eq!(rt; segment.flags, 2);
-    assert!(rt; segment.acknowledged.is_none());
+fn name_of(segment: &Segment) -> &'static str {
+    if is_like(segment, &SYN) {
+        "syn"
+    } else if is_like(segment, &RESET) {
+        "reset"
+    } else {
+        "another segment"
+    }
 }
 
-fn is_reset(rt: &impl Abort, segment: &Segment) {
-    assert_eq!(rt; segment.source_port, 5000);
-    assert_eq!(rt; segment.number, 9000);
-    assert_eq!(rt; segment.acknowledged, Some(1001));
-    assert_eq!(rt; segment.flags, 4);
+fn is_like(segment: &Segment, other: &Segment) -> bool {
+    segment.source == other.source
+        && segment.source_port == other.source_port
+        && segment.target == other.target
+        && segment.target_port == other.target_port
+        && segment.number == other.number
+        && segment.acknowledged == other.acknowledged
+        && segment.flags == other.flags
+        && segment.body == other.body
+        && segment.end == other.end
 }
 
-fn has_two_octets(rt: &impl Abort, shown: Shown, packet: &[u8]) {
-    let Shown::Segment(segment) = shown else {
-        panic!(rt; "no segment");
+// The packet's segment has the two octets.
+fn has_two_octets(packet: &[u8]) -> bool {
+    let Shown::Segment(segment) = segment_of(1, packet) else {
+        return false;
     };
-    assert_eq!(rt; segment.number, 1001);
-    assert_eq!(rt; segment.acknowledged, Some(9001));
-    assert_eq!(rt; segment.flags, 8);
-    assert!(rt; packet.get(segment.body..segment.end) == Some(b"AB".as_slice()));
+    packet.get(segment.body..segment.end) == Some(b"AB".as_slice())
+        && segment.number == 1001
+        && segment.acknowledged == Some(9001)
+        && segment.flags == 8
 }

@@ -1,3 +1,4 @@
+use super::assert_so;
 use hsms_frame::{Failed, Reader, Sink, Source, Writer};
 use std::io;
 use std::io::{ErrorKind, Read, Write};
@@ -40,12 +41,14 @@ impl Write for Flaky {
 #[test]
 fn tells_each_error_of_std_at_once(rt: HostRuntime) {
     let mut source = Reader::new(Flaky { is_well: false });
-    assert!(rt; source.pull(&mut [0u8; 2]) == Err(Failed));
-    assert!(rt; source.pull(&mut [0u8; 2]) == Ok(1));
+    let first = source.pull(&mut [0u8; 2]);
+    assert_so(&rt, first == Err(Failed), "the first read");
+    let second = source.pull(&mut [0u8; 2]);
+    assert_so(&rt, second == Ok(1), "the second read");
     let mut sink = Writer::new(Flaky { is_well: false });
-    assert!(rt; sink.give(b"ab") == Err(Failed));
-    assert!(rt; sink.give(b"ab") == Ok(1));
+    assert_so(&rt, sink.give(b"ab") == Err(Failed), "the first write");
+    assert_so(&rt, sink.give(b"ab") == Ok(1), "the second write");
     let mut sink = Writer::new(Flaky { is_well: false });
-    assert!(rt; sink.flush() == Err(Failed));
-    assert!(rt; sink.flush() == Ok(()));
+    assert_so(&rt, sink.flush() == Err(Failed), "the first flush");
+    assert_so(&rt, sink.flush() == Ok(()), "the second flush");
 }

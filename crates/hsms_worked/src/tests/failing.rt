@@ -3,7 +3,7 @@
 ghost use Rattle.std.specs.Prelude.{◌<◌};
 
 use super::connection::{answer_of, audited, log_of, settings_of};
-use super::{Abort, AllocError, Fail, Global, Role, Store, assert_octets};
+use super::{Abort, AllocError, Fail, Global, Role, Store, assert_octets, assert_so};
 use hsms_ends::{Scripted, ServeFault, Served};
 use hsms_log::{Summary, Verdict, judge};
 
@@ -72,17 +72,17 @@ fn assert_whole(rt: &impl Abort, answer: Served, link: &Scripted, log: &Store) {
         refused: 0,
         left: 0,
     };
-    assert_eq!(rt; answer, whole);
+    assert_so(rt, answer == whole, "a whole connection");
     assert_octets(rt, log.written(), WHOLE_LOG.as_bytes(), "a whole log");
     assert_octets(rt, link.taken(), ANSWERED, "all that is answered");
 }
 
 fn assert_fault(rt: &impl Abort, fault: Option<ServeFault>, want: ServeFault) {
-    assert_eq!(rt; fault, Some(want));
+    assert_so(rt, fault == Some(want), "a fault");
 }
 
 fn assert_begins(rt: &impl Abort, whole: &[u8], part: &[u8]) {
-    assert!(rt; whole.starts_with(part));
+    assert_so(rt, whole.starts_with(part), "a front");
 }
 
 /// The link took nothing.
@@ -93,8 +93,8 @@ fn assert_none_taken(rt: &impl Abort, link: &Scripted) {
 /// The link failed: the log passes the audit and ends with `down`.
 fn assert_closed(rt: &impl Abort, alloc: Global, link: &Scripted, log: &Store) -> Result<(), Fail> {
     let summary = audited(alloc, log.written())?;
-    assert!(rt; summary.entries <= 7);
-    assert!(rt; log.written().ends_with(b"0 down\n"));
+    assert_so(rt, summary.entries <= 7, "entries");
+    assert_so(rt, log.written().ends_with(b"0 down\n"), "the last line");
     assert_begins(rt, ANSWERED, link.taken());
     Ok(())
 }
@@ -117,18 +117,21 @@ fn sent_lines(log: &[u8]) -> usize {
 fn assert_front(rt: &impl Abort, link: &Scripted, log: &Store) {
     assert_begins(rt, WHOLE_LOG.as_bytes(), log.written());
     assert_begins(rt, ANSWERED, link.taken());
-    assert_eq!(rt;
-        link.taken().len(),
-        sent_lines(log.written()).saturating_mul(14)
-    );
+    let taken = sent_lines(log.written()).saturating_mul(14);
+    assert_so(rt, link.taken().len() == taken, "what was sent");
 }
 
 /// Memory was refused: the log has whole lines and passes the audit.
 fn assert_refused(rt: &impl Abort, alloc: Global, fault: ServeFault, link: &Scripted, log: &Store) {
     assert_fault(rt, Some(fault), ServeFault::Memory);
     assert_front(rt, link, log);
-    assert!(rt; log.written().ends_with(b"\n"));
-    assert!(rt; matches!(judge(alloc, log.written()), Ok(Verdict::Pass(_))));
+    assert_so(rt, log.written().ends_with(b"\n"), "whole lines");
+    let verdict = judge(alloc, log.written());
+    assert_so(
+        rt,
+        matches!(verdict, Ok(Verdict::Pass(_))),
+        "a log that passes",
+    );
 }
 
 /// The link fails, or nothing does. Answers whether nothing did.
@@ -279,7 +282,7 @@ const FAILING: &[Failing] = &[
 /// The log passes the audit with this summary.
 fn assert_summary(rt: &impl Abort, alloc: Global, log: &Store, want: Summary) -> Result<(), Fail> {
     let summary = audited(alloc, log.written())?;
-    assert_eq!(rt; summary, want);
+    assert_so(rt, summary == want, "a summary");
     Ok(())
 }
 
@@ -330,7 +333,7 @@ fn judge_twice(
 ) -> Result<(), Fail> {
     let answer = served(alloc, link, log)?;
     assert_fault(rt, answer.err(), ServeFault::Log);
-    assert_eq!(rt; log.written().len(), room);
+    assert_so(rt, log.written().len() == room, "a full log");
     assert_begins(rt, LOG_WITHOUT_SELECT_RSP.as_bytes(), log.written());
     assert_none_taken(rt, link);
     Ok(())

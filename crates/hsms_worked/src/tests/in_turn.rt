@@ -3,8 +3,8 @@
 use super::connection::{audited, log_of, settings_of};
 use super::reconnect::{assert_served, link_of};
 use super::{
-    CONNECTED, Case, Comes, Fail, Global, Message, Octets, Role, SELECT, Side, assert_octets,
-    end_of, equipment, judge, read, settings,
+    Fail, Global, Message, Role, Side, assert_octets, assert_so, end_of, equipment, judge, read,
+    settings,
 };
 use hsms_ends::{EquipmentDesk, Lent, ScriptedDesk, serve_again};
 
@@ -27,94 +27,68 @@ fn scripted(alloc: Global) -> Result<ScriptedDesk<EquipmentDesk>, Fail> {
     Ok(ScriptedDesk { replies, own })
 }
 
-const IN_TURN: Case = Case {
-    name: "replies in turn",
-    role: Role::Equipment,
-    side: Side::Passive,
-    max: 256,
-    first_system: 1,
-    told: &[
-        CONNECTED,
-        SELECT,
-        (
-            Comes("00008703000000000007"),
-            Ok("0 < 00008703000000000007\n0 > 00000704000000000007210100\n"),
-        ),
-        // Another primary has turns of its own, and one that nothing replies to has none.
-        (
-            Comes("00008a03000000000007"),
-            Ok("0 < 00008a03000000000007\n0 > 00000a04000000000007210110\n"),
-        ),
-        (
-            Comes("00008101000000000007"),
-            Ok("0 < 00008101000000000007\n0 > 00000102000000000007010241014d410131\n"),
-        ),
-        // Two in one piece.
-        (
-            Octets(
-                b"\x00\x00\x00\x0a\x00\x00\x87\x03\x00\x00\x00\x00\x00\x08\x00\x00\x00\x0a\x00\x00\x87\x03\x00\x00\x00\x00\x00\x09",
-            ),
-            Ok(
-                "0 < 00008703000000000008\n0 > 00000704000000000008210101\n0 < 00008703000000000009\n0 > 00000704000000000009210102\n",
-            ),
-        ),
-        // The last one again and again.
-        (
-            Comes("00008703000000000007"),
-            Ok("0 < 00008703000000000007\n0 > 00000704000000000007210102\n"),
-        ),
-        (
-            Comes("00008703000000000007"),
-            Ok("0 < 00008703000000000007\n0 > 00000704000000000007210102\n"),
-        ),
-        (
-            Comes("00008a03000000000007"),
-            Ok("0 < 00008a03000000000007\n0 > 00000a04000000000007\n"),
-        ),
-    ],
-    pending: b"",
-};
+/// Another primary has turns of its own, and one that nothing replies to has none. Two come in one piece, and the last
+/// reply comes again and again.
+const IN_TURN: &str = "start 0
+0 up
+comes ffff0000000100000001
+0 < ffff0000000100000001
+0 > ffff0000000200000001
+comes 00008703000000000007
+0 < 00008703000000000007
+0 > 00000704000000000007210100
+comes 00008a03000000000007
+0 < 00008a03000000000007
+0 > 00000a04000000000007210110
+comes 00008101000000000007
+0 < 00008101000000000007
+0 > 00000102000000000007010241014d410131
+octets 0000000a000087030000000000080000000a00008703000000000009
+0 < 00008703000000000008
+0 > 00000704000000000008210101
+0 < 00008703000000000009
+0 > 00000704000000000009210102
+comes 00008703000000000007
+0 < 00008703000000000007
+0 > 00000704000000000007210102
+comes 00008703000000000007
+0 < 00008703000000000007
+0 > 00000704000000000007210102
+comes 00008a03000000000007
+0 < 00008a03000000000007
+0 > 00000a04000000000007
+";
 
 #[test]
 fn replies_in_turn(rt: HostRuntime) -> Result<(), Fail> {
     let alloc = rt.alloc();
     let given = settings(Role::Equipment, Side::Passive, 256).ok_or("the settings")?;
     let mut end = end_of(alloc, given, scripted(alloc)?, 1);
-    judge(&rt, alloc, &mut end, &IN_TURN)
+    judge(&rt, alloc, &mut end, IN_TURN, "replies in turn")
 }
 
 /// A primary without W has its turn too, and no reply. One that is discarded has none.
-const WITHOUT_W: Case = Case {
-    name: "a turn without W",
-    role: Role::Equipment,
-    side: Side::Passive,
-    max: 256,
-    first_system: 1,
-    told: &[
-        CONNECTED,
-        (
-            Comes("00008703000000000007"),
-            Ok("0 ! 00008703000000000007\n0 > 00000004000700000007\n"),
-        ),
-        SELECT,
-        (
-            Comes("00000703000000000007"),
-            Ok("0 < 00000703000000000007\n"),
-        ),
-        (
-            Comes("00008703000000000007"),
-            Ok("0 < 00008703000000000007\n0 > 00000704000000000007210101\n"),
-        ),
-    ],
-    pending: b"",
-};
+const WITHOUT_W: &str = "start 0
+0 up
+comes 00008703000000000007
+0 ! 00008703000000000007
+0 > 00000004000700000007
+comes ffff0000000100000001
+0 < ffff0000000100000001
+0 > ffff0000000200000001
+comes 00000703000000000007
+0 < 00000703000000000007
+comes 00008703000000000007
+0 < 00008703000000000007
+0 > 00000704000000000007210101
+";
 
 #[test]
 fn a_turn_without_a_reply(rt: HostRuntime) -> Result<(), Fail> {
     let alloc = rt.alloc();
     let given = settings(Role::Equipment, Side::Passive, 256).ok_or("the settings")?;
     let mut end = end_of(alloc, given, scripted(alloc)?, 1);
-    judge(&rt, alloc, &mut end, &WITHOUT_W)
+    judge(&rt, alloc, &mut end, WITHOUT_W, "a turn without W")
 }
 
 const TWICE: &str = "hsms-log 2 equipment passive 0 45000 6000 10000 5000 1048576 32
@@ -173,6 +147,6 @@ fn turns_begin_anew(rt: HostRuntime) -> Result<(), Fail> {
     assert_served(&rt, answer, 2)?;
     assert_octets(&rt, log.written(), TWICE.as_bytes(), "log");
     let summary = audited(alloc, log.written())?;
-    assert_eq!(&rt; summary.entries, 16);
+    assert_so(&rt, summary.entries == 16, "entries");
     Ok(())
 }

@@ -1,10 +1,9 @@
 //! What an end refuses to send, replies past a limit, desks of others, and when an end is due.
 
 use super::{
-    Abort, AllocError, Answer, CONNECTED, Case, Comes, Desk, End, EndFault, Entry, EquipmentDesk,
-    Event, Fail, Global, HostDesk, Input, Linktest, Lost, Message, Octets, Role, SELECT, Send,
-    Settings, Side, Start, Tick, Told, assert_fault, end_of, equipment, judge, settings, tell,
-    tell_well,
+    Abort, AllocError, Answer, Desk, End, EndFault, Entry, EquipmentDesk, Event, Fail, Global,
+    HostDesk, Input, Message, Role, Settings, Side, assert_fault, assert_so, end_of, equipment,
+    judge, settings, tell, tell_well,
 };
 use secs_item::Item;
 
@@ -12,9 +11,9 @@ use secs_item::Item;
 fn selected(alloc: Global) -> Result<End<EquipmentDesk>, Fail> {
     let given = settings(Role::Equipment, Side::Passive, 256).ok_or("the settings")?;
     let mut end = end_of(alloc, given, equipment(alloc)?, 1);
-    tell_well(alloc, &mut end, Start(0))?;
-    tell_well(alloc, &mut end, Tick(10))?;
-    tell_well(alloc, &mut end, Comes("ffff0000000100000001"))?;
+    tell_well(alloc, &mut end, "start 0")?;
+    tell_well(alloc, &mut end, "tick 10")?;
+    tell_well(alloc, &mut end, "comes ffff0000000100000001")?;
     Ok(end)
 }
 
@@ -85,7 +84,7 @@ fn assert_sent(
     want: (usize, u32),
 ) -> Result<(), Fail> {
     let answer = send_item(wait, item, end)?;
-    assert_eq!(rt; answer, Some(want));
+    assert_so(rt, answer == Some(want), "what is sent");
     Ok(())
 }
 
@@ -122,7 +121,7 @@ fn judge_open(rt: &impl Abort, end: &mut End<EquipmentDesk>) -> Result<(), Fail>
     }
     assert_full(rt, end);
     assert_sent(rt, end, false, None, (10, 65))?;
-    assert_eq!(rt; end.own_open(), 64);
+    assert_so(rt, end.own_open() == 64, "how many are open");
     Ok(())
 }
 
@@ -151,72 +150,57 @@ impl Desk for ByStream {
     }
 }
 
-const ANSWERED_BY_STREAM: Case = Case {
-    name: "a desk of its own",
-    role: Role::Equipment,
-    side: Side::Passive,
-    max: 256,
-    first_system: 1,
-    told: &[
-        CONNECTED,
-        SELECT,
-        (
-            Comes("0000810d000000000007"),
-            Ok("0 < 0000810d000000000007\n0 > 0000010e000000000007\n"),
-        ),
-        (
-            Comes("000081fb000000000007"),
-            Ok("0 < 000081fb000000000007\n0 > 000001fc000000000007\n"),
-        ),
-        (
-            Comes("000081fd000000000007"),
-            Ok("0 < 000081fd000000000007\n0 > 000001fe000000000007\n"),
-        ),
-        (
-            Comes("000001fe000000000007"),
-            Ok("0 ! 000001fe000000000007\n"),
-        ),
-        (
-            Comes("000081ff000000000007"),
-            Ok("0 < 000081ff000000000007\n0 > 00000100000000000007\n"),
-        ),
-        (
-            Comes("00008201000000000007"),
-            Ok("0 < 00008201000000000007\n0 > 00000200000000000007\n"),
-        ),
-        (
-            Comes("00000201000000000007"),
-            Ok("0 < 00000201000000000007\n"),
-        ),
-        (Comes("00008301000000000007"), Err(EndFault::Memory)),
-    ],
-    pending: b"",
-};
+const ANSWERED_BY_STREAM: &str = "start 0
+0 up
+comes ffff0000000100000001
+0 < ffff0000000100000001
+0 > ffff0000000200000001
+comes 0000810d000000000007
+0 < 0000810d000000000007
+0 > 0000010e000000000007
+comes 000081fb000000000007
+0 < 000081fb000000000007
+0 > 000001fc000000000007
+comes 000081fd000000000007
+0 < 000081fd000000000007
+0 > 000001fe000000000007
+comes 000001fe000000000007
+0 ! 000001fe000000000007
+comes 000081ff000000000007
+0 < 000081ff000000000007
+0 > 00000100000000000007
+comes 00008201000000000007
+0 < 00008201000000000007
+0 > 00000200000000000007
+comes 00000201000000000007
+0 < 00000201000000000007
+comes 00008301000000000007
+refused Memory
+";
 
 #[test]
 fn a_desk_of_its_own(rt: HostRuntime) -> Result<(), Fail> {
     let alloc = rt.alloc();
     let given = settings(Role::Equipment, Side::Passive, 256).ok_or("the settings")?;
     let mut end = end_of(alloc, given, ByStream, 1);
-    judge(&rt, alloc, &mut end, &ANSWERED_BY_STREAM)
+    judge(
+        &rt,
+        alloc,
+        &mut end,
+        ANSWERED_BY_STREAM,
+        "a desk of its own",
+    )
 }
 
-const ABORTED: Case = Case {
-    name: "a reply past a limit",
-    role: Role::Equipment,
-    side: Side::Passive,
-    max: 256,
-    first_system: 1,
-    told: &[
-        CONNECTED,
-        SELECT,
-        (
-            Comes("0000810d000000000007"),
-            Ok("0 < 0000810d000000000007\n0 > 00000100000000000007\n"),
-        ),
-    ],
-    pending: b"",
-};
+const ABORTED: &str = "start 0
+0 up
+comes ffff0000000100000001
+0 < ffff0000000100000001
+0 > ffff0000000200000001
+comes 0000810d000000000007
+0 < 0000810d000000000007
+0 > 00000100000000000007
+";
 
 /// Equipment that nests so deep, with a model of so many octets, aborts.
 fn judge_aborted(rt: &impl Abort, alloc: Global, depth: u8, length: usize) -> Result<(), Fail> {
@@ -236,7 +220,7 @@ fn judge_aborted(rt: &impl Abort, alloc: Global, depth: u8, length: usize) -> Re
         softrev: Vec::new(alloc),
     };
     let mut end = end_of(alloc, given.ok_or("the settings")?, desk, 1);
-    judge(rt, alloc, &mut end, &ABORTED)
+    judge(rt, alloc, &mut end, ABORTED, "a reply past a limit")
 }
 
 // S1F14 nests 2, and with a model of 250 octets it is past the greatest size.
@@ -248,18 +232,18 @@ fn a_reply_past_a_limit_is_an_abort(rt: HostRuntime) -> Result<(), Fail> {
 }
 
 /// When a host is due, after each thing that it is told.
-const DUE: &[(Told, Option<u64>)] = &[
-    (Start(100), Some(6100)),
-    (Octets(b"\0"), Some(5100)),
-    (Tick(200), Some(5100)),
-    (Octets(b"\0\0\x0a\xff\xff\0\0\0\x02\0\0\0\x01"), None),
-    (Send("S1F1 W ."), Some(45200)),
-    (Tick(300), Some(45200)),
-    (Send("S1F1 W ."), Some(45200)),
-    (Linktest, Some(6300)),
-    (Tick(400), Some(6300)),
-    (Linktest, Some(6300)),
-    (Lost, None),
+const DUE: &[(&str, Option<u64>)] = &[
+    ("start 100", Some(6100)),
+    ("octets 00", Some(5100)),
+    ("tick 200", Some(5100)),
+    ("octets 00000affff0000000200000001", None),
+    ("send S1F1 W .", Some(45200)),
+    ("tick 300", Some(45200)),
+    ("send S1F1 W .", Some(45200)),
+    ("linktest", Some(6300)),
+    ("tick 400", Some(6300)),
+    ("linktest", Some(6300)),
+    ("lost", None),
 ];
 
 /// When an end is due once it is told something.
@@ -267,27 +251,27 @@ fn assert_due<D: Desk>(
     rt: &impl Abort,
     alloc: Global,
     end: &mut End<D>,
-    told: Told,
+    told: &str,
     due: Option<u64>,
 ) -> Result<(), Fail> {
     tell_well(alloc, end, told)?;
-    assert_eq!(rt; end.next_due(), due);
+    assert_so(rt, end.next_due() == due, told);
     Ok(())
 }
 
 /// Equipment that starts so late that T7 ends past the greatest moment, and T8 before it.
-const DUE_LATE: &[(Told, Option<u64>)] = &[
-    (Start(u64::MAX - 9999), None),
-    (Octets(b"\0"), Some(u64::MAX - 4999)),
-    (Lost, None),
+const DUE_LATE: &[(&str, Option<u64>)] = &[
+    ("start 18446744073709541616", None),
+    ("octets 00", Some(u64::MAX - 4999)),
+    ("lost", None),
 ];
 
 /// T8 ends at the greatest moment, and past it.
-const DUE_LAST: &[(Told, Option<u64>)] = &[
-    (Start(u64::MAX - 5000), None),
-    (Octets(b"\0"), Some(u64::MAX)),
-    (Tick(u64::MAX - 4999), Some(u64::MAX)),
-    (Octets(b"\0"), None),
+const DUE_LAST: &[(&str, Option<u64>)] = &[
+    ("start 18446744073709546615", None),
+    ("octets 00", Some(u64::MAX)),
+    ("tick 18446744073709546616", Some(u64::MAX)),
+    ("octets 00", None),
 ];
 
 fn judge_due(
@@ -295,12 +279,12 @@ fn judge_due(
     alloc: Global,
     role: Role,
     side: Side,
-    rows: &[(Told, Option<u64>)],
+    rows: &[(&str, Option<u64>)],
 ) -> Result<(), Fail> {
     let given = settings(role, side, 256).ok_or("the settings")?;
     let mut end = end_of(alloc, given, HostDesk, 1);
     for (told, due) in rows {
-        assert_due(rt, alloc, &mut end, *told, *due)?;
+        assert_due(rt, alloc, &mut end, told, *due)?;
     }
     Ok(())
 }

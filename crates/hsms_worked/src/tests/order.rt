@@ -1,8 +1,8 @@
 //! Which fault is told where a call meets several: the first one of the list.
 
 use super::{
-    Abort, AllocError, Comes, Desk, End, EndFault, Entry, Fail, Global, HostDesk, Input, Linktest,
-    Lost, Message, Role, Send, Side, Start, assert_fault, end_of, settings, tell, tell_well,
+    Abort, AllocError, Desk, End, EndFault, Entry, Fail, Global, HostDesk, Input, Message, Role,
+    Side, assert_fault, end_of, settings, tell, tell_well,
 };
 use secs_item::Item;
 
@@ -248,17 +248,17 @@ fn judge_all<D: Desk>(
 
 /// A host opens 64 transactions: a Select.req and 63 Linktest.req.
 fn open_all<D: Desk>(alloc: Global, end: &mut End<D>) -> Result<(), Fail> {
-    tell_well(alloc, end, Start(0))?;
+    tell_well(alloc, end, "start 0")?;
     for _ in 0..63 {
-        tell_well(alloc, end, Linktest)?;
+        tell_well(alloc, end, "linktest")?;
     }
     Ok(())
 }
 
 /// Its Select.req is answered, and a primary takes the place.
 fn select<D: Desk>(alloc: Global, end: &mut End<D>) -> Result<(), Fail> {
-    tell_well(alloc, end, Comes("ffff0000000200000001"))?;
-    tell_well(alloc, end, Send("S1F1 W ."))
+    tell_well(alloc, end, "comes ffff0000000200000001")?;
+    tell_well(alloc, end, "send S1F1 W .")
 }
 
 fn judge_host<D: Desk>(rt: &impl Abort, alloc: Global, end: &mut End<D>) -> Result<(), Fail> {
@@ -267,7 +267,7 @@ fn judge_host<D: Desk>(rt: &impl Abort, alloc: Global, end: &mut End<D>) -> Resu
     judge_all(rt, alloc, end, NOT_SELECTED, EndFault::Full)?;
     select(alloc, end)?;
     judge_all(rt, alloc, end, SELECTED, EndFault::Full)?;
-    tell_well(alloc, end, Lost)?;
+    tell_well(alloc, end, "lost")?;
     judge_all(rt, alloc, end, NOT_UP, EndFault::NotUp)
 }
 

@@ -1,179 +1,170 @@
 //! Own messages and timers.
 
-use super::{
-    CONNECTED, CONNECTING, Case, Comes, Linktest, Lost, Octets, SELECT, SELECTED, Send, Separate,
-    Tick,
-};
-use hsms_ends::EndFault;
-use hsms_machine::{Role, Side};
+use super::{EQUIPMENT, HOST, Session};
 
-pub const OWN: &[Case] = &[
-    Case {
-        name: "a host connects and separates",
-        role: Role::Host,
-        side: Side::Active,
-        max: 1_048_576,
-        first_system: 1,
-        told: &[
-            CONNECTING,
-            (Send("S1F1 W ."), Err(EndFault::NotSelected)),
-            (Tick(5), Ok("")),
-            (
-                Comes("ffff0000000200000001"),
-                Ok("5 < ffff0000000200000001\n"),
-            ),
-            (Send("S1F2 ."), Err(EndFault::NotPrimary)),
-            (Send("S9F1 ."), Err(EndFault::Nine)),
-            (Separate, Ok("5 > ffff0000000900000002\n5 down\n")),
-            (Send("S1F1 W ."), Err(EndFault::NotUp)),
-        ],
-        pending: b"",
-    },
-    Case {
-        name: "a host loses the connection",
-        role: Role::Host,
-        side: Side::Active,
-        max: 1_048_576,
-        first_system: 1,
-        told: &[
-            CONNECTING,
-            (Tick(5), Ok("")),
-            (
-                Comes("ffff0000000200000001"),
-                Ok("5 < ffff0000000200000001\n"),
-            ),
-            (Lost, Ok("5 down\n")),
-            (Lost, Err(EndFault::NotUp)),
-        ],
-        pending: b"",
-    },
-    Case {
-        name: "two primaries of equipment expire",
-        role: Role::Equipment,
-        side: Side::Passive,
-        max: 1_048_576,
-        first_system: 0xffff_fffe,
-        told: &[
-            CONNECTED,
-            (Tick(10), Ok("")),
-            (
-                Comes("ffff0000000100000001"),
-                Ok("10 < ffff0000000100000001\n10 > ffff0000000200000001\n"),
-            ),
-            (Tick(1000), Ok("")),
-            (Send("S1F1 W ."), Ok("1000 > 000081010000fffffffe\n")),
-            (Send("S1F1 W ."), Ok("1000 > 000081010000ffffffff\n")),
-            (
-                Tick(46001),
-                Ok(
-                    "46001 t3 fffffffe\n46001 t3 ffffffff\n46001 > 00000909000000000000210a000081010000fffffffe\n46001 > 00000909000000000001210a000081010000ffffffff\n",
-                ),
-            ),
-        ],
-        pending: b"",
-    },
-    Case {
-        name: "a Linktest.req expires too",
-        role: Role::Equipment,
-        side: Side::Passive,
-        max: 1_048_576,
-        first_system: 0xffff_fffe,
-        told: &[
-            CONNECTED,
-            (Tick(10), Ok("")),
-            (
-                Comes("ffff0000000100000001"),
-                Ok("10 < ffff0000000100000001\n10 > ffff0000000200000001\n"),
-            ),
-            (Tick(1000), Ok("")),
-            (Send("S1F1 W ."), Ok("1000 > 000081010000fffffffe\n")),
-            (Send("S1F1 W ."), Ok("1000 > 000081010000ffffffff\n")),
-            (Linktest, Ok("1000 > ffff0000000500000000\n")),
-            (
-                Tick(46001),
-                Ok("46001 t3 fffffffe\n46001 t3 ffffffff\n46001 cut t6\n46001 down\n"),
-            ),
-        ],
-        pending: b"",
-    },
-    Case {
-        name: "one of two primaries of equipment expires",
-        role: Role::Equipment,
-        side: Side::Passive,
-        max: 1_048_576,
-        first_system: 1,
-        told: &[
-            CONNECTED,
-            SELECT,
-            (Send("S1F1 W ."), Ok("0 > 00008101000000000001\n")),
-            (Tick(1), Ok("")),
-            (Send("S1F1 W ."), Ok("1 > 00008101000000000002\n")),
-            (Tick(45000), Ok("")),
-            (
-                Tick(45001),
-                Ok("45001 t3 00000001\n45001 > 00000909000000000003210a00008101000000000001\n"),
-            ),
-        ],
-        pending: b"",
-    },
-    Case {
-        name: "primaries of a host expire",
-        role: Role::Host,
-        side: Side::Active,
-        max: 1_048_576,
-        first_system: 1,
-        told: &[
-            CONNECTING,
-            SELECTED,
-            (Send("S1F1 W ."), Ok("0 > 00008101000000000002\n")),
-            (Tick(45000), Ok("")),
-            (Tick(45001), Ok("45001 t3 00000002\n")),
-            (
-                Comes("00000102000000000002"),
-                Ok("45001 ! 00000102000000000002\n"),
-            ),
-        ],
-        pending: b"",
-    },
-    Case {
-        name: "half a message",
-        role: Role::Host,
-        side: Side::Active,
-        max: 1_048_576,
-        first_system: 1,
-        told: &[
-            CONNECTING,
-            (Tick(10), Ok("")),
-            (Octets(b"\0\0"), Ok("")),
-            (Tick(5010), Ok("")),
-            (Tick(5011), Ok("5011 cut t8\n5011 down\n")),
-        ],
-        pending: b"\0\0",
-    },
-    Case {
-        name: "no Select.rsp",
-        role: Role::Host,
-        side: Side::Active,
-        max: 1_048_576,
-        first_system: 1,
-        told: &[
-            CONNECTING,
-            (Tick(6000), Ok("")),
-            (Tick(6001), Ok("6001 cut t6\n6001 down\n")),
-        ],
-        pending: b"",
-    },
-    Case {
-        name: "no Select.req",
-        role: Role::Equipment,
-        side: Side::Passive,
-        max: 1_048_576,
-        first_system: 1,
-        told: &[
-            CONNECTED,
-            (Tick(10000), Ok("")),
-            (Tick(10001), Ok("10001 cut t7\n10001 down\n")),
-        ],
-        pending: b"",
-    },
+pub const OWN: &[Session] = &[
+    (
+        "a host connects and separates",
+        HOST,
+        1,
+        "start 0
+0 up
+0 > ffff0000000100000001
+send S1F1 W .
+refused NotSelected
+tick 5
+comes ffff0000000200000001
+5 < ffff0000000200000001
+send S1F2 .
+refused NotPrimary
+send S9F1 .
+refused Nine
+separate
+5 > ffff0000000900000002
+5 down
+send S1F1 W .
+refused NotUp
+",
+    ),
+    (
+        "a host loses the connection",
+        HOST,
+        1,
+        "start 0
+0 up
+0 > ffff0000000100000001
+tick 5
+comes ffff0000000200000001
+5 < ffff0000000200000001
+lost
+5 down
+lost
+refused NotUp
+",
+    ),
+    (
+        "two primaries of equipment expire",
+        EQUIPMENT,
+        0xfffffffe,
+        "start 0
+0 up
+tick 10
+comes ffff0000000100000001
+10 < ffff0000000100000001
+10 > ffff0000000200000001
+tick 1000
+send S1F1 W .
+1000 > 000081010000fffffffe
+send S1F1 W .
+1000 > 000081010000ffffffff
+tick 46001
+46001 t3 fffffffe
+46001 t3 ffffffff
+46001 > 00000909000000000000210a000081010000fffffffe
+46001 > 00000909000000000001210a000081010000ffffffff
+",
+    ),
+    (
+        "a Linktest.req expires too",
+        EQUIPMENT,
+        0xfffffffe,
+        "start 0
+0 up
+tick 10
+comes ffff0000000100000001
+10 < ffff0000000100000001
+10 > ffff0000000200000001
+tick 1000
+send S1F1 W .
+1000 > 000081010000fffffffe
+send S1F1 W .
+1000 > 000081010000ffffffff
+linktest
+1000 > ffff0000000500000000
+tick 46001
+46001 t3 fffffffe
+46001 t3 ffffffff
+46001 cut t6
+46001 down
+",
+    ),
+    (
+        "one of two primaries of equipment expires",
+        EQUIPMENT,
+        1,
+        "start 0
+0 up
+comes ffff0000000100000001
+0 < ffff0000000100000001
+0 > ffff0000000200000001
+send S1F1 W .
+0 > 00008101000000000001
+tick 1
+send S1F1 W .
+1 > 00008101000000000002
+tick 45000
+tick 45001
+45001 t3 00000001
+45001 > 00000909000000000003210a00008101000000000001
+",
+    ),
+    (
+        "primaries of a host expire",
+        HOST,
+        1,
+        "start 0
+0 up
+0 > ffff0000000100000001
+comes ffff0000000200000001
+0 < ffff0000000200000001
+send S1F1 W .
+0 > 00008101000000000002
+tick 45000
+tick 45001
+45001 t3 00000002
+comes 00000102000000000002
+45001 ! 00000102000000000002
+",
+    ),
+    (
+        "half a message",
+        HOST,
+        1,
+        "start 0
+0 up
+0 > ffff0000000100000001
+tick 10
+octets 0000
+tick 5010
+tick 5011
+5011 cut t8
+5011 down
+pending 0000
+",
+    ),
+    (
+        "no Select.rsp",
+        HOST,
+        1,
+        "start 0
+0 up
+0 > ffff0000000100000001
+tick 6000
+tick 6001
+6001 cut t6
+6001 down
+",
+    ),
+    (
+        "no Select.req",
+        EQUIPMENT,
+        1,
+        "start 0
+0 up
+tick 10000
+tick 10001
+10001 cut t7
+10001 down
+",
+    ),
 ];

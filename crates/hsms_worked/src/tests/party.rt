@@ -73,9 +73,7 @@ impl<D: Desk + Drop> Party<D> {
         let mut feed = Feed::new(Vec::from_slice(alloc, &self.log)?, 4096, u64::MAX);
         match audit(alloc, &mut feed)? {
             Verdict::Pass(summary) => Ok(summary),
-            Verdict::Fail { line, why } => {
-                Err(format!(in alloc; "line {line} fails: {why:?}")?.into())
-            }
+            Verdict::Fail { .. } => Err("a log that fails".into()),
         }
     }
 }

@@ -1,7 +1,7 @@
 //! Connection after connection, served over a link in memory in one log.
 
 use super::connection::{audited, log_of, settings_of};
-use super::{Abort, Fail, Global, Role, assert_octets, equipment, octets_of};
+use super::{Abort, Fail, Global, Role, assert_octets, assert_so, equipment, octets_of};
 use hsms_ends::{HostDesk, Lent, Scripted, ServeFault, ServedAgain, Step, serve_again};
 use secs_text::read;
 
@@ -33,7 +33,7 @@ pub fn assert_served(
                 connections,
                 complete: true,
             };
-            assert_eq!(rt; answer, Ok(want));
+            assert_so(rt, answer == Ok(want), "what is served");
             Ok(())
         }
     }
@@ -86,7 +86,7 @@ fn a_tool_is_selected_twice(rt: HostRuntime) -> Result<(), Fail> {
     assert_served(&rt, answer, 2)?;
     assert_octets(&rt, log.written(), EQUIPMENT_LOG.as_bytes(), "log");
     let summary = audited(alloc, log.written())?;
-    assert_eq!(&rt; summary.entries, 10);
+    assert_so(&rt, summary.entries == 10, "entries");
     Ok(())
 }
 
@@ -124,6 +124,6 @@ fn a_host_connects_again(rt: HostRuntime) -> Result<(), Fail> {
     );
     assert_served(&rt, answer, 3)?;
     let summary = audited(alloc, log.written())?;
-    assert_eq!(&rt; summary.entries, 15);
+    assert_so(&rt, summary.entries == 15, "entries");
     Ok(())
 }

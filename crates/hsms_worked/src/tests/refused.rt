@@ -1,7 +1,8 @@
 //! What a served connection leaves where memory is refused.
 
 use super::{
-    AllocError, Fail, Global, HostDesk, Message, Role, Settings, Side, Store, equipment, settings,
+    AllocError, Fail, Global, HostDesk, Message, Role, Settings, Side, Store, assert_so, equipment,
+    settings,
 };
 use hsms_ends::{Scripted, ServeFault, Served, Step, serve};
 use hsms_log::{Verdict, judge};
@@ -110,32 +111,31 @@ fn calls_of(rt: &impl Abort, case: &Connection, log: &[u8], taken: &[u8]) -> usi
         octets = octets.strip_prefix(*sent).unwrap_or(b"other octets");
         calls = calls.saturating_add(1);
     }
-    assert!(rt; lines.is_empty() && octets.is_empty());
+    assert_so(rt, lines.is_empty() && octets.is_empty(), "whole calls");
     calls
 }
 
 /// All calls were served, or the one after so many of them was refused memory.
-fn assert_answer(
-    rt: &impl Abort,
-    case: &Connection,
-    answer: Result<Served, ServeFault>,
-    calls: usize,
-) {
+fn assert_answer(rt: &impl Abort, answer: Result<Served, ServeFault>, calls: usize, of_all: usize) {
     match answer {
         Ok(served) => {
-            assert_eq!(rt; (served.entries, served.refused), (7, 0));
-            assert_eq!(rt; calls, case.log.len());
+            let is_whole = served.entries == 7 && served.refused == 0;
+            assert_so(rt, is_whole && calls == of_all, "all is served");
         }
         Err(fault) => {
-            assert_eq!(rt; fault, ServeFault::Memory);
-            assert!(rt; calls < case.log.len());
+            let is_part = fault == ServeFault::Memory && calls < of_all;
+            assert_so(rt, is_part, "a part is served");
         }
     }
 }
 
 fn assert_not_failing(rt: &impl Abort, alloc: Global, log: &[u8]) {
     let verdict = judge(alloc, log);
-    assert!(rt; !matches!(verdict, Ok(Verdict::Fail { .. })));
+    assert_so(
+        rt,
+        !matches!(verdict, Ok(Verdict::Fail { .. })),
+        "a log that fails",
+    );
 }
 
 /// The log has the entries of the calls before the refused one, and passes the audit.
@@ -149,7 +149,7 @@ fn judge_calls(
     let settings = settings(case.role, case.side, 1_048_576).ok_or("the settings")?;
     let answer = served(alloc, case, settings, link, log);
     let calls = calls_of(rt, case, log.written(), link.taken());
-    assert_answer(rt, case, answer, calls);
+    assert_answer(rt, answer, calls, case.log.len());
     if calls > 0 {
         assert_not_failing(rt, alloc, log.written());
     }

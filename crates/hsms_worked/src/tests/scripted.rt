@@ -2,7 +2,7 @@
 
 ghost use Rattle.std.specs.Prelude.{◌<◌};
 
-use super::assert_octets;
+use super::{assert_octets, assert_so};
 use hsms_ends::{Got, Link, LinkFault, Scripted};
 use std::alloc::{AllocError, Global};
 use std::process::Abort;
@@ -37,13 +37,13 @@ fn peer(
 /// Waits with room for three octets, and looks at the answer and the octets that came.
 fn assert_wait(rt: &impl Abort, link: &mut Scripted, want: Got, octets: &[u8]) {
     let mut into = [b'.'; 3];
-    assert_eq!(rt; link.wait(None, &mut into), Ok(want));
-    assert!(rt; into.starts_with(octets));
+    let got = link.wait(None, &mut into);
+    assert_so(rt, got == Ok(want) && into.starts_with(octets), "a wait");
 }
 
 /// The next moment of a link.
 fn assert_now(rt: &impl Abort, link: &mut Scripted, want: u64) {
-    assert_eq!(rt; link.now(), want);
+    assert_so(rt, link.now() == want, "a moment");
 }
 
 /// Sends octets, and looks at the answer.
@@ -53,14 +53,14 @@ fn assert_send(
     octets: &[u8],
     want: Result<usize, LinkFault>,
 ) {
-    assert_eq!(rt; link.send(octets), want);
+    assert_so(rt, link.send(octets) == want, "a send");
 }
 
 /// Waits until a moment, which fails or doesn't, and is noted.
 fn assert_until(rt: &impl Abort, link: &mut Scripted, until: Option<u64>, fails: bool) {
     let answer = link.wait(until, &mut [0u8; 3]);
-    assert!(rt; answer.is_err() == fails);
-    assert_eq!(rt; link.until(), until);
+    let is_noted = link.until() == until;
+    assert_so(rt, answer.is_err() == fails && is_noted, "until when");
 }
 
 fn assert_taken(rt: &impl Abort, link: &Scripted, want: &[u8]) {
@@ -155,7 +155,7 @@ fn waits_and_sends_share_a_fuse(rt: HostRuntime) -> Result<(), Fail> {
 #[test]
 fn until_is_noted(rt: HostRuntime) -> Result<(), Fail> {
     let mut link = peer(rt.alloc(), &[], 1, 2)?;
-    assert!(rt; link.until().is_none());
+    assert_so(&rt, link.until().is_none(), "no wait");
     for until in [Some(9), None, Some(8)] {
         assert_until(&rt, &mut link, until, until == Some(8));
     }

@@ -3,7 +3,7 @@
 ghost use Rattle.std.specs.Prelude.{◌<◌};
 
 use super::connection::{EQUIPMENT_LINE, HOST_LINE, answer_of, audited, log_of, settings_of};
-use super::{Abort, Fail, Global, Role, Send, Separate, Store, Told, assert_octets, octets_of};
+use super::{Abort, Fail, Global, Role, Store, assert_octets, assert_so, octets_of};
 use hsms_ends::{Scripted, ServeFault, Served, Step};
 use secs_text::read;
 
@@ -13,21 +13,22 @@ struct Connection {
     name: &'static str,
     role: Role,
     moments: &'static [u64],
-    /// What each wait gives: nothing, or the octets of these messages.
-    waits: &'static [Option<&'static [&'static str]>],
+    /// What each wait gives: `quiet`, or the octets of the messages of these lines.
+    waits: &'static [&'static str],
     /// How many waits and sends don't fail.
     fuse: u64,
     /// How many octets the log has room for.
     room: usize,
-    script: &'static [Told],
+    /// Lines of messages in notation, or `separate`.
+    script: &'static str,
     turns: u64,
     answer: Result<Served, ServeFault>,
     /// Until when the last wait was asked to wait.
     until: Option<u64>,
     /// The log after its first line.
     log: &'static str,
-    /// The messages that the link took.
-    sent: &'static [&'static str],
+    /// The messages that the link took, a line each.
+    sent: &'static str,
 }
 
 /// The peer selects, asks for the link and separates.
@@ -35,14 +36,10 @@ const PASSIVE: Connection = Connection {
     name: "equipment is selected, tested and left",
     role: Role::Equipment,
     moments: &[],
-    waits: &[Some(&[
-        "ffff0000000100000001",
-        "ffff0000000500000002",
-        "ffff0000000900000003",
-    ])],
+    waits: &["ffff0000000100000001\nffff0000000500000002\nffff0000000900000003"],
     fuse: u64::MAX,
     room: 4096,
-    script: &[],
+    script: "",
     turns: 100,
     answer: Ok(Served {
         entries: 7,
@@ -58,7 +55,7 @@ const PASSIVE: Connection = Connection {
 0 < ffff0000000900000003
 0 down
 ",
-    sent: &["ffff0000000200000001", "ffff0000000600000002"],
+    sent: "ffff0000000200000001\nffff0000000600000002",
 };
 
 const HOST_LOG: &str = "0 up
@@ -75,13 +72,10 @@ const ACTIVE: Connection = Connection {
     name: "a host takes its script",
     role: Role::Host,
     moments: &[],
-    waits: &[
-        Some(&["ffff0000000200000001"]),
-        Some(&["00000102000000000002"]),
-    ],
+    waits: &["ffff0000000200000001", "00000102000000000002"],
     fuse: u64::MAX,
     room: 4096,
-    script: &[Send("S1F2 ."), Send("S1F1 W ."), Separate],
+    script: "S1F2 .\nS1F1 W .\nseparate",
     turns: 5,
     answer: Ok(Served {
         entries: 7,
@@ -90,11 +84,7 @@ const ACTIVE: Connection = Connection {
     }),
     until: Some(45001),
     log: HOST_LOG,
-    sent: &[
-        "ffff0000000100000001",
-        "00008101000000000002",
-        "ffff0000000900000003",
-    ],
+    sent: "ffff0000000100000001\n00008101000000000002\nffff0000000900000003",
 };
 
 /// With single octets each octet takes a turn.
@@ -110,11 +100,11 @@ const CONNECTIONS: &[Connection] = &[
     Connection {
         name: "a message comes in each wait, and nothing between",
         waits: &[
-            Some(&["ffff0000000100000001"]),
-            None,
-            Some(&["ffff0000000500000002"]),
-            Some(&[]),
-            Some(&["ffff0000000900000003"]),
+            "ffff0000000100000001",
+            "quiet",
+            "ffff0000000500000002",
+            "",
+            "ffff0000000900000003",
         ],
         until: None,
         ..PASSIVE
@@ -129,7 +119,7 @@ const CONNECTIONS: &[Connection] = &[
 0 > 00008101000000000002
 0 < 00000102000000000002
 ",
-        sent: &["ffff0000000100000001", "00008101000000000002"],
+        sent: "ffff0000000100000001\n00008101000000000002",
         ..ACTIVE
     },
     Connection {
@@ -138,13 +128,13 @@ const CONNECTIONS: &[Connection] = &[
         answer: Err(ServeFault::Turns),
         until: None,
         log: "0 up\n",
-        sent: &[],
+        sent: "",
         ..PASSIVE
     },
     Connection {
         name: "nobody selects",
         moments: &[0, 0, 10001],
-        waits: &[None],
+        waits: &["quiet"],
         turns: 2,
         answer: Ok(Served {
             entries: 3,
@@ -153,7 +143,7 @@ const CONNECTIONS: &[Connection] = &[
         }),
         until: Some(10001),
         log: "0 up\n10001 cut t7\n10001 down\n",
-        sent: &[],
+        sent: "",
         ..PASSIVE
     },
     Connection {
@@ -167,13 +157,13 @@ const CONNECTIONS: &[Connection] = &[
         }),
         until: Some(10001),
         log: "0 up\n0 down\n",
-        sent: &[],
+        sent: "",
         ..PASSIVE
     },
     Connection {
         name: "octets come once T7 is past",
         moments: &[0, 0, 10001],
-        waits: &[Some(&["ffff0000000100000001"])],
+        waits: &["ffff0000000100000001"],
         turns: 1,
         answer: Ok(Served {
             entries: 3,
@@ -182,7 +172,7 @@ const CONNECTIONS: &[Connection] = &[
         }),
         until: Some(10001),
         log: "0 up\n10001 cut t7\n10001 down\n",
-        sent: &[],
+        sent: "",
         ..PASSIVE
     },
     Connection {
@@ -197,7 +187,7 @@ const CONNECTIONS: &[Connection] = &[
         }),
         until: Some(10001),
         log: "0 up\n10001 cut t7\n10001 down\n",
-        sent: &[],
+        sent: "",
         ..PASSIVE
     },
     Connection {
@@ -225,7 +215,7 @@ const CONNECTIONS: &[Connection] = &[
         answer: Err(ServeFault::Link),
         until: Some(10001),
         log: "0 up\n0 down\n",
-        sent: &[],
+        sent: "",
         ..PASSIVE
     },
     Connection {
@@ -234,52 +224,56 @@ const CONNECTIONS: &[Connection] = &[
         answer: Err(ServeFault::Log),
         until: None,
         log: "0 u",
-        sent: &[],
+        sent: "",
         ..PASSIVE
     },
 ];
 
-/// The octets of messages.
-fn octets_of_all(alloc: Global, messages: &[&'static str]) -> Result<Vec<u8>, Fail> {
+/// The octets of the messages of lines.
+fn octets_of_all(alloc: Global, messages: &str) -> Result<Vec<u8>, Fail> {
     let mut octets = Vec::new(alloc);
-    for message in messages {
+    for message in messages.lines() {
         octets.extend_from_slice(&octets_of(alloc, message)?)?;
     }
     Ok(octets)
 }
 
-/// What each wait of a connection gives.
-fn waits_of(alloc: Global, case: &Connection) -> Result<Vec<Option<Vec<u8>>>, Fail> {
-    let mut waits = Vec::new(alloc);
-    for messages in case.waits {
-        match messages {
-            Some(messages) => waits.push(Some(octets_of_all(alloc, messages)?))?,
-            None => waits.push(None)?,
-        }
+/// What a wait gives.
+fn wait_of(alloc: Global, messages: &str) -> Result<Option<Vec<u8>>, Fail> {
+    match messages {
+        "quiet" => Ok(None),
+        _ => Ok(Some(octets_of_all(alloc, messages)?)),
     }
-    Ok(waits)
+}
+
+/// What each wait of a connection gives.
+fn waits_of(alloc: Global, waits: &[&'static str]) -> Result<Vec<Option<Vec<u8>>>, Fail> {
+    let mut given = Vec::new(alloc);
+    for messages in waits {
+        given.push(wait_of(alloc, messages)?)?;
+    }
+    Ok(given)
 }
 
 fn link_of(alloc: Global, case: &Connection, piece: usize) -> Result<Scripted, Fail>
     requires { 0 < piece }
 {
-    let waits = waits_of(alloc, case)?;
+    let waits = waits_of(alloc, case.waits)?;
     let moments = Vec::from_slice(alloc, case.moments)?;
     let room = vec![in alloc; 0u8; 1024]?;
     Ok(Scripted::new(moments, waits, room, piece, case.fuse))
 }
 
-fn step_of(alloc: Global, told: &Told) -> Result<Step, Fail> {
-    match told {
-        Send(text) => Ok(Step::Send(read(alloc, text.as_bytes(), 100)?)),
-        Separate => Ok(Step::Separate),
-        _ => Ok(Step::Linktest),
+fn step_of(alloc: Global, text: &str) -> Result<Step, Fail> {
+    match text {
+        "separate" => Ok(Step::Separate),
+        _ => Ok(Step::Send(read(alloc, text.as_bytes(), 100)?)),
     }
 }
 
-fn script_of(alloc: Global, told: &[Told]) -> Result<Vec<Step>, Fail> {
+fn script_of(alloc: Global, lines: &str) -> Result<Vec<Step>, Fail> {
     let mut script = Vec::new(alloc);
-    for step in told {
+    for step in lines.lines() {
         script.push(step_of(alloc, step)?)?;
     }
     Ok(script)
@@ -333,14 +327,6 @@ fn answer_to(
     }
 }
 
-fn assert_answer(rt: &impl Abort, case: &Connection, answer: Result<Served, ServeFault>) {
-    assert_eq!(rt; answer, case.answer, "{}", case.name);
-}
-
-fn assert_until(rt: &impl Abort, case: &Connection, until: Option<u64>, want: Option<u64>) {
-    assert_eq!(rt; until, want, "{}", case.name);
-}
-
 /// Serves a connection, and tells until when the last wait was asked to wait.
 fn judge_connection(
     rt: &impl Abort,
@@ -349,7 +335,8 @@ fn judge_connection(
     link: &mut Scripted,
     log: &mut Store,
 ) -> Result<Option<u64>, Fail> {
-    assert_answer(rt, case, answer_to(alloc, case, link, log)?);
+    let answer = answer_to(alloc, case, link, log)?;
+    assert_so(rt, answer == case.answer, case.name);
     judge_log(rt, alloc, case, log)?;
     judge_link(rt, alloc, case, link)?;
     Ok(link.until())
@@ -368,7 +355,7 @@ fn judge_served(
     let mut link = link_of(alloc, case, piece)?;
     let mut log = log_of(alloc, case.room, 4096, u64::MAX)?;
     let last = judge_connection(rt, alloc, case, &mut link, &mut log)?;
-    assert_until(rt, case, last, until);
+    assert_so(rt, last == until, case.name);
     Ok(())
 }
 

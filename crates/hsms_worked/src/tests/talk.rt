@@ -2,8 +2,8 @@
 
 use super::party::Party;
 use super::{
-    Abort, Desk, EquipmentDesk, Fail, Global, HostDesk, Input, Linktest, Role, Send, Separate,
-    Side, Told, assert_octets, equipment, input_of, settings,
+    Abort, Desk, EquipmentDesk, Fail, Global, HostDesk, Input, Role, Side, assert_octets,
+    assert_so, equipment, input_of, settings,
 };
 
 const HOST_LOG: &str = "hsms-log 1 host active 0 45000 6000 10000 5000 1048576 32
@@ -34,11 +34,11 @@ const EQUIPMENT_LOG: &str = "hsms-log 1 equipment passive 0 45000 6000 10000 500
 9 down
 ";
 
-const SAID: &[Told] = &[
-    Send("S1F13 W <L> ."),
-    Send("S2F25 W <B 0x01 0x02> ."),
-    Linktest,
-    Separate,
+const SAID: &[&str] = &[
+    "send S1F13 W <L> .",
+    "send S2F25 W <B 0x01 0x02> .",
+    "linktest",
+    "separate",
 ];
 
 /// What one end sent comes to the other one, at this time.
@@ -53,7 +53,21 @@ fn pass<D: Desk + Drop, E: Desk + Drop>(
     to.hear(alloc, &octets)
 }
 
-/// What is said goes to and fro, a millisecond each way.
+/// What ends sent goes to and fro, a millisecond each way, and then the host is told a line.
+fn exchange<D: Desk + Drop, E: Desk + Drop>(
+    alloc: Global,
+    host: &mut Party<D>,
+    tool: &mut Party<E>,
+    now: u64,
+    line: &str,
+) -> Result<(), Fail> {
+    pass(alloc, host, tool, now)?;
+    pass(alloc, tool, host, now.saturating_add(1))?;
+    let input = input_of(alloc, line)?.ok_or("no input")?;
+    host.tell(alloc, &input)
+}
+
+/// What is said goes to and fro.
 fn talk<D: Desk + Drop, E: Desk + Drop>(
     alloc: Global,
     host: &mut Party<D>,
@@ -61,13 +75,8 @@ fn talk<D: Desk + Drop, E: Desk + Drop>(
 ) -> Result<(), Fail> {
     tool.tell(alloc, &Input::Start(0))?;
     host.tell(alloc, &Input::Start(0))?;
-    let mut now = 0u64;
-    for told in SAID {
-        now = now.saturating_add(1);
-        pass(alloc, host, tool, now)?;
-        now = now.saturating_add(1);
-        pass(alloc, tool, host, now)?;
-        host.tell(alloc, &input_of(alloc, *told)?)?;
+    for (line, now) in SAID.iter().zip([1, 3, 5, 7]) {
+        exchange(alloc, host, tool, now, line)?;
     }
     pass(alloc, host, tool, 9)
 }
@@ -80,7 +89,8 @@ fn assert_log<D: Desk + Drop>(
     text: &str,
 ) -> Result<(), Fail> {
     assert_octets(rt, party.log.as_slice(), text.as_bytes(), "the log");
-    assert_eq!(rt; party.audited(alloc)?.entries, 11);
+    let summary = party.audited(alloc)?;
+    assert_so(rt, summary.entries == 11, "entries");
     Ok(())
 }
 

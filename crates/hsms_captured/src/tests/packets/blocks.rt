@@ -2,11 +2,29 @@
 
 ghost use Rattle.std.specs.Prelude.{◌<◌};
 
-use super::{REFUSED, SECTION, is_reset, is_syn};
+use super::super::assert_so;
+use super::{REFUSED, SECTION, kind_of};
 use hsms_frame::Feed;
-use hsms_packets::{CaptureFault, FileFault, Packets, Segment, Shown, Step, segment_of};
+use hsms_packets::{CaptureFault, FileFault, Packets, Record, Step};
 use std::alloc::Global;
 use std::process::Abort;
+
+// What a step finds: which packet, with its number, or what else; or its fault.
+type Found = Result<(&'static str, u64), FileFault>;
+
+const SYN: Found = Ok(("syn", 1));
+
+const RESET: Found = Ok(("reset", 2));
+
+const PASSED: Found = Ok(("passed", 0));
+
+const END: Found = Ok(("end", 0));
+
+// What stands at the RST is no record.
+const NO_RECORD: Found = Err(FileFault::Capture {
+    place: 80,
+    fault: CaptureFault::Length,
+});
 
 #[test]
 fn files_in_pieces(rt: std::rt::HostRuntime) -> Result<(), FileFault> {
@@ -17,80 +35,137 @@ fn files_in_pieces(rt: std::rt::HostRuntime) -> Result<(), FileFault> {
 
 #[test]
 fn sections_in_pieces(rt: std::rt::HostRuntime) -> Result<(), FileFault> {
-    let mut source = feed(rt.alloc(), SECTION.as_slice(), 5, u64::MAX)?;
-    let mut packets = Packets::open(rt.alloc(), &mut source)?;
-    for _ in 0..3 {
-        assert!(rt; matches!(packets.next(&mut source)?, Step::Passed));
-    }
-    is_syn(&rt, &packet_with(&rt, &mut packets, &mut source, 2)?);
-    assert!(rt; matches!(packets.next(&mut source)?, Step::End));
-    Ok(())
+    let mut source = feed(rt.alloc(), &SECTION, 5, u64::MAX)?;
+    let wants = [PASSED, PASSED, PASSED, Ok(("syn", 2)), END];
+    reads(&rt, rt.alloc(), &mut source, &wants, 148)
 }
 
 #[test]
 fn files_that_end_within(rt: std::rt::HostRuntime) -> Result<(), FileFault> {
-    let (cut, _) = REFUSED.as_slice().split_at(135);
-    let mut source = feed(rt.alloc(), cut, 64, u64::MAX)?;
-    let mut packets = Packets::open(rt.alloc(), &mut source)?;
-    is_syn(&rt, &packet_with(&rt, &mut packets, &mut source, 1)?);
-    assert!(rt; packets.next(&mut source).err() == Some(FileFault::CutOff));
-    let (header, _) = cut.split_at(23);
-    let mut source = feed(rt.alloc(), header, 64, u64::MAX)?;
-    assert!(rt; refusal_of(rt.alloc(), &mut source)? == Some(FileFault::CutOff));
-    Ok(())
+    let mut source = feed(rt.alloc(), &REFUSED[..135], 64, u64::MAX)?;
+    reads(
+        &rt,
+        rt.alloc(),
+        &mut source,
+        &[SYN, Err(FileFault::CutOff)],
+        80,
+    )?;
+    is_refused(&rt, rt.alloc(), &REFUSED[..23], 64, FileFault::CutOff)
 }
 
 #[test]
 fn faults_in_pieces(rt: std::rt::HostRuntime) -> Result<(), FileFault> {
-    let mut octets = Vec::from_slice(rt.alloc(), REFUSED.as_slice())?;
-    if let Some(octet) = octets.get_mut(91) {
-        *octet = 1;
-    }
-    let mut source = Feed::new(octets, 3, u64::MAX);
-    let mut packets = Packets::open(rt.alloc(), &mut source)?;
-    is_syn(&rt, &packet_with(&rt, &mut packets, &mut source, 1)?);
-    for _ in 0..2 {
-        let fault = packets.next(&mut source).err();
-        let want = FileFault::Capture {
-            place: 80,
-            fault: CaptureFault::Length,
-        };
-        assert!(rt; fault == Some(want));
-    }
-    let mut text = feed(rt.alloc(), b"hsms-log 1".as_slice(), 3, u64::MAX)?;
+    let mut source = without_a_record(rt.alloc())?;
+    reads(
+        &rt,
+        rt.alloc(),
+        &mut source,
+        &[SYN, NO_RECORD, NO_RECORD],
+        80,
+    )?;
     let want = FileFault::Capture {
         place: 0,
         fault: CaptureFault::Unknown,
     };
-    assert!(rt; refusal_of(rt.alloc(), &mut text)? == Some(want));
-    Ok(())
+    is_refused(&rt, rt.alloc(), b"hsms-log 1", 3, want)
 }
 
 #[test]
 fn failed_reads_lose_nothing(rt: std::rt::HostRuntime) -> Result<(), FileFault> {
-    let mut broken = feed(rt.alloc(), REFUSED.as_slice(), 9, 5)?;
+    let mut broken = feed(rt.alloc(), &REFUSED, 9, 5)?;
     let mut packets = Packets::open(rt.alloc(), &mut broken)?;
-    assert!(rt; packets.next(&mut broken).err() == Some(FileFault::Read));
-    let mut source = feed(rt.alloc(), broken.left(), 9, u64::MAX)?;
-    is_syn(&rt, &packet_with(&rt, &mut packets, &mut source, 1)?);
-    is_reset(&rt, &packet_with(&rt, &mut packets, &mut source, 2)?);
-    Ok(())
+    goes_on(&rt, rt.alloc(), &mut packets, &mut broken)
+}
+
+// The source has failed, and the rest comes from another one.
+fn goes_on(
+    rt: &impl Abort,
+    alloc: Global,
+    packets: &mut Packets,
+    broken: &mut Feed,
+) -> Result<(), FileFault> {
+    finds(rt, packets, broken, &[Err(FileFault::Read)])?;
+    let mut source = feed(alloc, broken.left(), 9, u64::MAX)?;
+    finds(rt, packets, &mut source, &[SYN, RESET])
 }
 
 // Both packets of a file that comes in pieces of so many octets.
 fn reads_both(rt: &impl Abort, alloc: Global, piece: usize) -> Result<(), FileFault>
     requires { 0 < piece }
 {
-    let mut source = feed(alloc, REFUSED.as_slice(), piece, u64::MAX)?;
-    let mut packets = Packets::open(alloc, &mut source)?;
-    is_syn(rt, &packet_with(rt, &mut packets, &mut source, 1)?);
-    is_reset(rt, &packet_with(rt, &mut packets, &mut source, 2)?);
-    assert!(rt; matches!(packets.next(&mut source)?, Step::End));
-    assert_eq!(rt; packets.reader().place(), 136);
+    let mut source = feed(alloc, &REFUSED, piece, u64::MAX)?;
+    reads(rt, alloc, &mut source, &[SYN, RESET, END], 136)
+}
+
+// A file whose second packet claims too many octets.
+fn without_a_record(alloc: Global) -> Result<Feed, FileFault> {
+    let mut octets = Vec::from_slice(alloc, &REFUSED)?;
+    if let Some(octet) = octets.get_mut(91) {
+        *octet = 1;
+    }
+    Ok(Feed::new(octets, 3, u64::MAX))
+}
+
+// Opens a file, whose steps find this, and come to this place.
+fn reads(
+    rt: &impl Abort,
+    alloc: Global,
+    source: &mut Feed,
+    wants: &[Found],
+    place: u64,
+) -> Result<(), FileFault> {
+    let mut packets = Packets::open(alloc, source)?;
+    finds(rt, &mut packets, source, wants)?;
+    assert_so(rt, packets.reader().place() == place, "the place");
     Ok(())
 }
 
-// The fault that a file isn't opened for, where memory was there to look at it.
+// Each step finds this.
+fn finds(
+    rt: &impl Abort,
+    packets: &mut Packets,
+    source: &mut Feed,
+    wants: &[Found],
+) -> Result<(), FileFault> {
+    for want in wants {
+        assert_so(rt, found(packets, source)? == *want, "what is found");
+    }
+    Ok(())
+}
+
+// What the next step finds. Want of memory is handed up.
+fn found(packets: &mut Packets, source: &mut Feed) -> Result<Found, FileFault> {
+    match packets.next(source) {
+        Ok(Step::Packet(number, record)) => Ok(Ok((kind_in(packets, &record), number))),
+        Ok(Step::Passed) => Ok(PASSED),
+        Ok(Step::End) => Ok(END),
+        Err(FileFault::Memory) => Err(FileFault::Memory),
+        Err(fault) => Ok(Err(fault)),
+    }
+}
+
+// Which packet was read.
+fn kind_in(packets: &Packets, record: &Record) -> &'static str {
+    let behind = packets.octets().get(record.body..).unwrap_or(b"");
+    kind_of(record, behind.get(..record.held).unwrap_or(b""))
+}
+
+// A file isn't opened, for this fault, where memory is there to look at it.
+fn is_refused(
+    rt: &impl Abort,
+    alloc: Global,
+    octets: &[u8],
+    piece: usize,
+    want: FileFault,
+) -> Result<(), FileFault>
+    requires { 0 < piece }
+{
+    let mut source = feed(alloc, octets, piece, u64::MAX)?;
+    let fault = refusal_of(alloc, &mut source)?;
+    assert_so(rt, fault == Some(want), "the fault");
+    Ok(())
+}
+
 fn refusal_of(alloc: Global, source: &mut Feed) -> Result<Option<FileFault>, FileFault> {
     match Packets::open(alloc, source) {
         Ok(_) => Ok(None),
@@ -103,27 +178,4 @@ fn feed(alloc: Global, octets: &[u8], piece: usize, fuse: u64) -> Result<Feed, F
     requires { 0 < piece }
 {
     Ok(Feed::new(Vec::from_slice(alloc, octets)?, piece, fuse))
-}
-
-// The segment of the next packet, which has this number.
-fn packet_with(
-    rt: &impl Abort,
-    packets: &mut Packets,
-    source: &mut Feed,
-    number: u64,
-) -> Result<Segment, FileFault> {
-    let Step::Packet(found, record) = packets.next(source)? else {
-        panic!(rt; "no packet");
-    };
-    assert_eq!(rt; found, number);
-    let Some(behind) = packets.octets().get(record.body..) else {
-        panic!(rt; "too few octets");
-    };
-    let Some(held) = behind.get(..record.held) else {
-        panic!(rt; "too few octets");
-    };
-    match segment_of(record.link, held) {
-        Shown::Segment(segment) => Ok(segment),
-        _ => panic!(rt; "no segment"),
-    }
 }

@@ -1,7 +1,8 @@
 //! Blocks of the other kinds, and numbers at their greatest.
 
-use super::{behind, is_syn, opened, packet_at, segment_in};
-use hsms_packets::{CaptureFault, Format, Front, Interface, Order, Reader, Record};
+use super::super::assert_so;
+use super::{Row, assert_refused, behind, is_more, opened};
+use hsms_packets::{CaptureFault, Format, Front, Interface, Order, Reader};
 use std::alloc::Global;
 use std::process::Abort;
 
@@ -33,54 +34,49 @@ static LONG_RECORD: [u8; 16] = [0, 0, 0, 0, 0, 0, 0, 0, 0, 0, 0, 1, 0, 0, 0, 1];
 
 static TOO_LONG_RECORD: [u8; 16] = [0, 0, 0, 0, 0, 0, 0, 0, 1, 0, 0, 1, 1, 0, 0, 1];
 
+const BEFORE_THE_SIMPLE_BLOCK: &[Row] = &[
+    ("block", None, 28),
+    ("block", None, 44),
+    ("syn", Some(1_700_000_001_500), 72),
+];
+
+const BLOCKS: Format = Format::Pcapng {
+    order: Order::Little,
+};
+
+const RECORDS: Format = Format::Pcap {
+    order: Order::Little,
+    parts: 1000,
+    link: 101,
+};
+
 #[test]
 fn blocks_of_other_kinds(rt: std::rt::HostRuntime) -> Result<(), CaptureFault> {
-    let mut reader = opened(&rt, rt.alloc(), OLD.as_slice())?;
-    let interface = behind(&rt, &mut reader, OLD.as_slice(), 28)?;
-    let old = behind(&rt, &mut reader, interface, 44)?;
-    let syn = packet_at(&rt, &reader, old)?;
-    assert_eq!(rt; syn.time, Some(1_700_000_001_500));
-    is_syn(&rt, &segment_in(&rt, &syn, old));
-    let simple = behind(&rt, &mut reader, old, 72)?;
-    is_cut(&rt, &packet_at(&rt, &reader, simple)?);
+    let mut reader = opened(rt.alloc(), &OLD)?;
+    let simple = behind(&rt, &mut reader, &OLD, BEFORE_THE_SIMPLE_BLOCK)?;
+    assert_so(&rt, is_cut(&reader, simple), "a front of a packet");
     Ok(())
 }
 
 // A packet without a time, of which 40 octets are held and not all.
-fn is_cut(rt: &impl Abort, packet: &Record) {
-    assert!(rt; packet.time.is_none());
-    assert_eq!(rt; packet.link, 101);
-    assert_eq!(rt; packet.held, 40);
-    assert!(rt; !packet.whole);
+fn is_cut(reader: &Reader, octets: &[u8]) -> bool {
+    let Ok(Front::Packet(packet)) = reader.front(octets) else {
+        return false;
+    };
+    packet.time.is_none() && packet.link == 101 && packet.held == 40 && !packet.whole
 }
 
 #[test]
-fn the_longest_of_each(rt: std::rt::HostRuntime) -> Result<(), CaptureFault> {
-    let blocks = Format::Pcapng {
-        order: Order::Little,
-    };
-    let reader = Reader::new(rt.alloc(), blocks, 0);
-    assert!(rt; matches!(reader.front(LONG_BLOCK.as_slice())?, Front::More));
-    assert!(rt;
-        matches!(
-            reader.front(TOO_LONG_BLOCK.as_slice()),
-            Err(CaptureFault::Length)
-        )
-    );
-    let records = Format::Pcap {
-        order: Order::Little,
-        parts: 1000,
-        link: 101,
-    };
-    let reader = Reader::new(rt.alloc(), records, 0);
-    assert!(rt; matches!(reader.front(LONG_RECORD.as_slice())?, Front::More));
-    assert!(rt;
-        matches!(
-            reader.front(TOO_LONG_RECORD.as_slice()),
-            Err(CaptureFault::Length)
-        )
-    );
-    Ok(())
+fn the_longest_of_each(rt: std::rt::HostRuntime) {
+    let blocks = Reader::new(rt.alloc(), BLOCKS, 0);
+    assert_longest(&rt, &blocks, &LONG_BLOCK, &TOO_LONG_BLOCK);
+    let records = Reader::new(rt.alloc(), RECORDS, 0);
+    assert_longest(&rt, &records, &LONG_RECORD, &TOO_LONG_RECORD);
+}
+
+fn assert_longest(rt: &impl Abort, reader: &Reader, long: &[u8], too_long: &[u8]) {
+    assert_so(rt, is_more(reader, long), "the longest");
+    assert_refused(rt, reader, too_long, CaptureFault::Length);
 }
 
 #[test]
@@ -105,10 +101,7 @@ fn judge_resolution(
     resolution: u8,
     want: Result<Option<u128>, CaptureFault>,
 ) -> Result<(), CaptureFault> {
-    let blocks = Format::Pcapng {
-        order: Order::Little,
-    };
-    let mut reader = Reader::new(alloc, blocks, 0);
+    let mut reader = Reader::new(alloc, BLOCKS, 0);
     let interface = Interface {
         link: 101,
         snap: 0,
