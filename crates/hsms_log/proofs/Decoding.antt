@@ -1,11 +1,11 @@
 -- Hexadecimal digits, read sixteen at once.
-use Rattle.std.proofs.Common.{◌≡◌, ◌<◌, ◌≤◌, ◌+◌, ◌-◌, ◌*◌, ◌%◌, ◌^◌, ◌++◌, ℕ, zero, suc, max, not, Bool, true, false, cond, leb, ltb, eqb, T, List, [], ◌∷◌, length, take, drop, get_or, map, replicate, Fits, w8, inl, inr, Some, None, Ok, refl, sym, ap, ap₂, ◌∙◌, subst, arith}
+use Rattle.std.proofs.Common.{◌≡◌, ◌<◌, ◌≤◌, ◌+◌, ◌-◌, ◌*◌, ◌%◌, ◌/◌, ◌^◌, ℕ, zero, suc, max, not, Bool, true, false, cond, leb, ltb, eqb, List, [], ◌∷◌, length, take, drop, get_or, map, replicate, Fits, w8, inl, inr, Some, None, Ok, refl, sym, ap, ap₂, ◌∙◌, subst, arith}
 use Rattle.std.specs.Prelude.{◌⊎◌, Option, unwrap_or}
 use Rattle.std.proofs.lemmas.Bool.{agree_below, agree_below_at, leb-true, leb-false, ltb-true, ltb-false, eqb-true, not-true, cases_lt, cases_Bool}
 use Rattle.std.proofs.lemmas.List.{set-get_or, get_or-map, length-map}
 use Rattle.std.proofs.lemmas.List.Elements.{All-get_or}
-use Rattle.std.proofs.lemmas.Simd.{length-chunk, get_or-chunk, map-map, mask_l-mod, get_or-zip2, get_or-replicate, pick_l_left}
-use lib.Lanes.{all_below, chunk, mask_l, pick_l, sel_l, top, zip2}
+use Rattle.std.proofs.lemmas.Simd.{length-chunk, get_or-chunk, map-map, mask_l-mod, get_or_wider}
+use lib.Lanes.{Each1, chunk, digits_l, mask_l, number_l, sel_l, top, zip2}
 use Rattle.hex.specs.Hex.{decode_pairs, hex_digit_value, is_hex_digit, pair_value}
 use Rattle.hex.proofs.Pairs.{prepend, decode_start, decode_step, decode_done}
 use Rattle.hex.proofs.HexLemmas.{decode_of-ok, decode_of-even}
@@ -230,43 +230,38 @@ one_large values long some =
 
 -- ---- two halves are joined
 
-abbrev pub evens : List ℕ
-evens = 0 ∷ 2 ∷ 4 ∷ 6 ∷ 8 ∷ 10 ∷ 12 ∷ 14 ∷ []
+-- two that stand together
+two_at : (n : ℕ) (xs : List ℕ) → suc n < length xs → chunk n 2 xs ≡ get_or xs n 0 ∷ get_or xs (suc n) 0 ∷ []
+two_at n [] less = absurd (omega arith)
+two_at zero (x ∷ []) less = absurd (omega arith)
+two_at zero (x ∷ y ∷ xs) less = refl
+two_at (suc n) (x ∷ xs) less = two_at n xs (omega arith)
 
-abbrev pub odds : List ℕ
-odds = 1 ∷ 3 ∷ 5 ∷ 7 ∷ 9 ∷ 11 ∷ 13 ∷ 15 ∷ []
+octets_each : (xs : List ℕ) → ((k : ℕ) → k < length xs → get_or xs k 0 < 16) → Each1 (λ x. x < 256) xs
+octets_each [] small = tt
+octets_each (x ∷ xs) small = (omega (arith, small 0 (omega arith)), octets_each xs (λ k less. small (suc k) (omega arith)))
 
-even_at : (k : ℕ) → k < 8 → get_or evens k 0 ≡ 2 * k
-even_at k less = eqb-true _ _ (agree_below_at (λ k. eqb (get_or evens k 0) (2 * k)) (λ _. true) 8 k refl less)
+-- of a number that has the first half below and the second one above, as an octet
+abbrev pub join : ℕ → ℕ
+join n = n * 4097 % 65536 / 256
 
-odd_at : (k : ℕ) → k < 8 → get_or odds k 0 ≡ 2 * k + 1
-odd_at k less = eqb-true _ _ (agree_below_at (λ k. eqb (get_or odds k 0) (2 * k + 1)) (λ _. true) 8 k refl less)
+join_is : (x y : ℕ) → x < 16 → y < 16 → join (x + 256 * (y + 256 * 0)) ≡ x * 16 + y
+join_is x y first second = omega (arith, first, second)
 
-abbrev pub picked : List ℕ → List ℕ → List ℕ
-picked values places = pick_l 0 (values ++ values) places
-
-picked_at : (values places : List ℕ) (k : ℕ) → length values ≡ 16 → T (all_below 16 places) → k < length places
-    → get_or (picked values places) k 0 ≡ get_or values (get_or places k 0) 0
-picked_at values places k long below less =
-    ap (λ l. get_or l k 0) (pick_l_left 0 values values 16 places long below) ∙ get_or-map (λ j. get_or values j 0) places k 0 0 less
+-- the numbers that two octets each are, the first below
+abbrev pub numbers : List ℕ → List ℕ
+numbers values = digits_l 65536 8 (number_l 256 values)
 
 abbrev pub joined : List ℕ → List ℕ
-joined values =
-    zip2 (λ a b. (a + b) % 2 ^ 8) (zip2 (λ a b. a * b % 2 ^ 8) (picked values evens) (replicate 8 16)) (picked values odds)
+joined values = map join (numbers values)
 
 pub joined_at : (values : List ℕ) → length values ≡ 16 → AreSmall values → (k : ℕ) → k < 8
     → get_or (joined values) k 0 ≡ get_or values (2 * k) 0 * 16 + get_or values (2 * k + 1) 0
 joined_at values long small k less =
     let x = get_or values (2 * k) 0 in
-    let y = get_or values (2 * k + 1) 0 in
-    let first : x < 16 = small (2 * k) (omega arith) in
-    let second : y < 16 = small (2 * k + 1) (omega arith) in
-    let fits : (x * 16 % 2 ^ 8 + y) % 2 ^ 8 ≡ x * 16 + y = omega (arith, first, second) in
-    let high = picked_at values evens k long tt less ∙ ap (λ n. get_or values n 0) (even_at k less) in
-    let low = picked_at values odds k long tt less ∙ ap (λ n. get_or values n 0) (odd_at k less) in
-    let sixteen : get_or (replicate 8 16) k 0 ≡ 16 = get_or-replicate 8 k 16 0 less in
-    let product : get_or (zip2 (λ a b. a * b % 2 ^ 8) (picked values evens) (replicate 8 16)) k 0 ≡ x * 16 % 2 ^ 8 =
-    get_or-zip2 (λ a b. a * b % 2 ^ 8) (picked values evens) (replicate 8 16) k 0 0 0 less less
-    ∙ ap (λ a. a * get_or (replicate 8 16) k 0 % 2 ^ 8) high ∙ ap (λ b. x * b % 2 ^ 8) sixteen in
-    get_or-zip2 (λ a b. (a + b) % 2 ^ 8) (zip2 (λ a b. a * b % 2 ^ 8) (picked values evens) (replicate 8 16)) (picked values odds) k 0 0 0 less less
-    ∙ ap (λ a. (a + get_or (picked values odds) k 0) % 2 ^ 8) product ∙ ap (λ b. (x * 16 % 2 ^ 8 + b) % 2 ^ 8) low ∙ fits
+    let y = get_or values (suc (2 * k)) 0 in
+    let after : suc (2 * k) ≡ 2 * k + 1 = omega arith in
+    let each = octets_each values (λ j within. small j (omega (arith, long, within))) in
+    let number : get_or (numbers values) k 0 ≡ number_l 256 (chunk (2 * k) 2 values) = get_or_wider 256 2 65536 8 values k refl each less in
+    get_or-map join (numbers values) k 0 0 less ∙ ap join (number ∙ ap (number_l 256) (two_at (2 * k) values (omega (arith, long, less))))
+    ∙ join_is x y (small (2 * k) (omega arith)) (small (suc (2 * k)) (omega arith)) ∙ ap (λ n. x * 16 + get_or values n 0) after

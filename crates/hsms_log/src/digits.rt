@@ -72,7 +72,8 @@ fn put_joined(values: u8x16, octets: &mut [u8], place: usize)
     ensures before { (k : ℕ) → k < place → slice_index octets.new k ≡ slice_index octets.old k }
     ensures joined { AreSmall values → (k : ℕ) → k < 8 → slice_index octets.new (place + k) ≡ slice_index values (2 * k) * 16 + slice_index values (2 * k + 1) }
 {
-    let high = values.swizzle([0, 2, 4, 6, 8, 10, 12, 14]);
-    let low = values.swizzle([1, 3, 5, 7, 9, 11, 13, 15]);
-    (high * u8x8::splat(16) + low).copy_to_slice(&mut octets[place..]);
+    let pairs = u16x8::from_le_bytes(values) * u16x8::splat(0x1001);
+    (pairs >> u16x8::splat(8))
+        .cast::<u8>()
+        .copy_to_slice(&mut octets[place..]);
 }

@@ -128,6 +128,7 @@ const SHORTEST: usize = 4 + 2 * HEADER_LENGTH;
 
 /// Reads a line that carries a frame, and says how many octets its header and text have. `octets` begins with these then,
 /// in place of what it held: it isn't made shorter.
+#[inline(always)]
 pub fn frame_at_front(
     line: &[u8],
     octets: &mut Vec<u8>,

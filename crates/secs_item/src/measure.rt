@@ -14,16 +14,24 @@ use crate::part::read_part;
 /// How deep lists may be nested at most.
 pub const MAX_DEPTH: usize = 100;
 
+/// How deep they may be nested in most sessions. So few counts are cleared in line.
+const USUAL_DEPTH: usize = 32;
+
 /// The place after the `count` elements of a list. Its body begins at `place`, and where its header stands lists may be
 /// nested `depth` deep. `counts` has, for each list around the innermost one, how many elements are still to come, at the
 /// place of how deep lists may be nested in it.
-fn end_of_elements(octets: &[u8], place: usize, count: usize, depth: u8) -> Result<usize, ItemFault>
+fn end_of_elements<const N: usize>(
+    octets: &[u8],
+    place: usize,
+    count: usize,
+    depth: u8,
+) -> Result<usize, ItemFault>
     requires within { place ≤ length octets.now }
     requires some { 0 < depth }
-    requires few { depth ≤ 100 }
+    requires few { depth ≤ N }
     ensures { result ≡ end_from place (elements_by (item_at (depth - 1)) count (drop place octets.now)) }
 {
-    let mut counts = [0; MAX_DEPTH];
+    let mut counts = [0; N];
     let outermost = usize::from(depth) - 1;
     let mut inside = outermost;
     let mut left = count;
@@ -48,6 +56,20 @@ fn end_of_elements(octets: &[u8], place: usize, count: usize, depth: u8) -> Resu
     }
 }
 
+/// The same, with a row for no more counts than are needed in most sessions, or for all.
+fn end_of_list(octets: &[u8], place: usize, count: usize, depth: u8) -> Result<usize, ItemFault>
+    requires within { place ≤ length octets.now }
+    requires some { 0 < depth }
+    requires few { depth ≤ 100 }
+    ensures { result ≡ end_from place (elements_by (item_at (depth - 1)) count (drop place octets.now)) }
+{
+    if usize::from(depth) <= USUAL_DEPTH {
+        end_of_elements::<USUAL_DEPTH>(octets, place, count, depth)
+    } else {
+        end_of_elements::<MAX_DEPTH>(octets, place, count, depth)
+    }
+}
+
 /// The place after the item at the front. Only where that is a list with elements are counts made.
 fn end_of_item(octets: &[u8], depth: u8) -> Result<usize, ItemFault>
     requires { depth ≤ 100 }
@@ -55,7 +77,7 @@ fn end_of_item(octets: &[u8], depth: u8) -> Result<usize, ItemFault>
 {
     let part = read_part(octets, 0, depth)?;
     if part.elements > 0 {
-        return end_of_elements(octets, part.end, part.elements, depth);
+        return end_of_list(octets, part.end, part.elements, depth);
     }
     Ok(part.end)
 }

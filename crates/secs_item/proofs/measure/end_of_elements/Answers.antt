@@ -1,26 +1,26 @@
 use Rattle.std.proofs.Common.{◌≤◌, ◌+◌, ◌-◌, ap, ◌∙◌, refl, arith}
-use Rattle.std.proofs.Math.ListN.{length-set}
+use Rattle.std.proofs.Math.ListN.{length-set, length-replicate}
 use Rattle.std.proofs.lemmas.Result.{err_from_is_err_and}
 use Rattle.secs_item.specs.Measure.{end_of_open}
 use Rattle.secs_item.proofs.Opened.{list_opened, all_closed, list_closes, element_fails, element_whole, element_opens}
 use Rattle.secs_item.proofs.measure.end_of_elements.Goals as goal
 
 pub loop-left-init : goal.loop-left-init
-loop-left-init c = record {
+loop-left-init g c = record {
   nested = omega arith;
   within = c.requires.within;
-  row = refl;
+  row = length-replicate _ _;
   rest = ap (λ n. end_of_open _ c.args.depth c.args.octets.now (n - 1) c.args.count c.args.place) c.from-outermost.ensures
       ∙ list_opened _ c.args.depth c.args.octets.now c.args.count c.args.place;
 }
 
 pub returns-then-inside-outermost : goal.returns-then-inside-outermost
-returns-then-inside-outermost c =
+returns-then-inside-outermost g c =
     let k = c.loop-left in
     all_closed k.counts c.args.depth c.args.octets.now k.inside k.left k.end _ c.if-left-eq0.true k.invariant.rest (omega (arith, c.if-inside-outermost.true, c.from-outermost.ensures))
 
 pub loop-left-preserved-then-left-eq0 : goal.loop-left-preserved-then-left-eq0
-loop-left-preserved-then-left-eq0 c =
+loop-left-preserved-then-left-eq0 g c =
     let k = c.loop-left in
     let around : k.inside + 1 + 1 ≤ c.args.depth = omega (arith, k.invariant.nested, c.if-inside-outermost.false, c.from-outermost.ensures) in
     record {
@@ -31,13 +31,13 @@ loop-left-preserved-then-left-eq0 c =
     }
 
 pub returns-in_err-part : goal.returns-in_err-part
-returns-in_err-part c =
+returns-in_err-part g c =
     let k = c.loop-left in
     let p = err_from_is_err_and c.from_residual.result c.from_residual.ensures.1 in
     rw (p.1, p.2) (element_fails k.counts c.args.depth c.args.octets.now k.inside k.left k.end _ c.if-left-eq0.false k.invariant.rest c.in_err-part.field-0.0 c.in_err-part.ensures.read)
 
 pub loop-left-preserved-then-part-gt0 : goal.loop-left-preserved-then-part-gt0
-loop-left-preserved-then-part-gt0 c =
+loop-left-preserved-then-part-gt0 g c =
     let k = c.loop-left in
     let deep = c.in_ok-part.ensures.within.deep_enough c.if-part-gt0.true in
     record {
@@ -48,7 +48,7 @@ loop-left-preserved-then-part-gt0 c =
     }
 
 pub loop-left-preserved : goal.loop-left-preserved
-loop-left-preserved c =
+loop-left-preserved g c =
     let k = c.loop-left in
     record {
       nested = k.invariant.nested;

@@ -10,7 +10,7 @@ returns-in_err-part c =
 
 pub returns-then-part-gt0 : goal.returns-then-part-gt0
 returns-then-part-gt0 c =
-    c.end_of_elements.ensures ∙ part_of_list 0 c.args.depth c.args.octets.now c.in_ok-part.part c.in_ok-part.ensures.read c.if-part-gt0.true (c.in_ok-part.ensures.within.deep_enough c.if-part-gt0.true)
+    c.end_of_list.ensures ∙ part_of_list 0 c.args.depth c.args.octets.now c.in_ok-part.part c.in_ok-part.ensures.read c.if-part-gt0.true (c.in_ok-part.ensures.within.deep_enough c.if-part-gt0.true)
 
 pub returns : goal.returns
 returns c = part_is_whole 0 c.args.depth c.args.octets.now c.in_ok-part.part c.in_ok-part.ensures.read (omega arith)
