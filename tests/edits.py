@@ -327,7 +327,7 @@ class Double:
             if text.count(it.old) != 1:
                 raise BadEdit(f"the function has {text.count(it.old)} times, and not once: {it.old}")
             text = text.replace(it.old, it.new)
-        self.named = f"{self.name}_{number}_th"
+        self.named = f"{self.name}_otherwise_{number}"
         self.text = re.sub(rf"\bfn {self.name}\b", f"fn {self.named}", text, count=1)
 
     def add_to(self, text):
