@@ -11,7 +11,6 @@ use Rattle.secs_item.specs.Short.{octet_alone, octet_of_truth, octets_of_signed,
 use Rattle.secs_text.specs.Body.{nothing_of}
 use Rattle.secs_text.specs.Content.{Content}
 use Rattle.secs_text.specs.Places.{Rules, Before, Count, Place, Step, walk, start, after_head, finished, in_item, closed, reading}
-use Rattle.std.proofs.Common.{Bor}
 use Rattle.secs_text.specs.declared.printing.messages.Head.{Head}
 use Rattle.secs_text.specs.Fault.{any_messages}
 use Rattle.secs_text.specs.Reads.{Fails}
@@ -109,8 +108,10 @@ abbrev pub text_of : Option Value → Option (List ℕ)
 text_of None = Some []
 text_of (Some v) = short v
 
-abbrev pub IsSpelled : Option Value → Option (Bor (List ℕ)) → Type 0
-IsSpelled item text = text_of item ≡ option_map (λ t. t.now) text
+-- a message's text stands from this place on, behind what stood there; or it has no octets
+abbrev pub IsLaid : Option Value → List ℕ → List ℕ → Option ℕ → Type 0
+IsLaid item before octets None = text_of item ≡ None
+IsLaid item before octets (Some at) = (length before ≡ at) × (text : List ℕ) × (text_of item ≡ Some text) × (octets ≡ before ++ text)
 
 -- a message with this head and this item
 abbrev pub headed_by : Head → Option Value → Content

@@ -5,7 +5,7 @@ mod items;
 mod runs;
 pub mod values;
 
-ghost use Rattle.std.specs.Prelude.{◌≡◌, ◌≤◌, ◌<◌, ℕ, ◌++◌, ◌⊎◌, [], ◌∷◌, List, false, IfOk, IfErr, OnOk, IfSome, OnSome, MatchResult, Option};
+ghost use Rattle.std.specs.Prelude.{◌≡◌, ◌≤◌, ◌<◌, ℕ, ◌++◌, ◌⊎◌, [], ◌∷◌, List, false, IfOk, IfErr, OnOk, IfSome, OnSome, MatchResult, Option, length};
 ghost use Rattle.std.specs.Result.{IsErrAnd};
 ghost use Rattle.secs_item.specs.Item.{Value};
 ghost use Rattle.secs_text.specs.Content.{Content, AllWithin};
@@ -14,7 +14,7 @@ ghost use Rattle.secs_text.specs.Left.{left, octets_left};
 ghost use Rattle.secs_text.specs.Notation.{Notations};
 ghost use Rattle.secs_text.specs.Places.{walk, start, after_head};
 ghost use Rattle.secs_text.specs.Reads.{Reads};
-ghost use Rattle.secs_text.specs.Spellings.{AllGiven, MessageRead, IsSpelled, headed_by, named, named_by};
+ghost use Rattle.secs_text.specs.Spellings.{AllGiven, MessageRead, IsLaid, headed_by, named, named_by};
 ghost use Rattle.secs_text.specs.declared.fault.TextFault.{TextFault};
 
 use crate::as_printed::next_head;
@@ -24,27 +24,35 @@ use crate::printing::messages::Head;
 use crate::reading::{head, optional_wait};
 use crate::token::Token;
 use crate::tokens::Tokens;
-use std::alloc::{AllocError, Global};
+use std::alloc::AllocError;
 
-/// What takes messages, one after another.
+/// What takes messages, one after another. Their texts are laid behind what is held for it, where it may leave them.
 pub trait Receiver {
     /// What stays as it is while it takes messages.
     type Kept;
 
-    /// Holds of what stays and of the messages that it was given. A receiver that can't tell them may have it hold of
-    /// none.
-    ghost Given: { Self.Kept → Self → List Content → Type 0 };
+    /// Holds of what stays, of the octets that are held for it, and of the messages that it was given. A receiver that
+    /// can't tell them may have it hold of none.
+    ghost Given: { Self.Kept → Self → List ℕ → List Content → Type 0 };
 
-    /// Takes the next message: its head, and its text in the fewest octets, which is empty where the message has no
-    /// item. `None` says that the item has no octets: a body or a list of it is more than three length octets hold.
+    /// Takes the next message: its head, and where in what is held its text begins, which stands there in the fewest
+    /// octets up to the end. The text is empty where the message has no item. `None` says that the item has no octets: a
+    /// body or a list of it is more than three length octets hold; what is held doesn't count then.
     ///
     /// # Errors
     ///
     /// Where there is no memory.
-    fn take(&mut self, head: Head, text: Option<&[u8]>) -> Result<(), AllocError>
-        requires { head.stream < 128 }
-        ensures { OnOk result ((kept : Self.Kept) (item : Option Value) (given : List Content) → IsSpelled item text.entry
-            → Given kept self.old given → Given kept self.new (given ++ headed_by head item ∷ [])) };
+    fn take(
+        &mut self,
+        held: &mut Vec<u8>,
+        head: Head,
+        text: Option<usize>,
+    ) -> Result<(), AllocError>
+        requires stream { head.stream < 128 }
+        requires within { IfSome text (λ start. start ≤ length held.old.items) }
+        ensures { OnOk result ((kept : Self.Kept) (item : Option Value) (given : List Content) (before : List ℕ)
+            → IsLaid item before held.old.items text → Given kept self.old before given
+            → Given kept self.new held.new.items (given ++ headed_by head item ∷ [])) };
 }
 
 /// Reads the stream and function of the next message, if there is one.
@@ -100,50 +108,49 @@ fn message(
 
 /// Gives a receiver the messages of a text, place by place.
 fn spell_several<R: Receiver>(
-    alloc: Global,
     text: &[u8],
     depth: u8,
+    held: &mut Vec<u8>,
     receiver: &mut R,
 ) -> Result<(), TextFault>
-    ensures { AllGiven {K = R.Kept} depth result text.now (λ kept. R.Given kept receiver.old) (λ kept. R.Given kept receiver.new) }
+    ensures { AllGiven {K = R.Kept} depth result text.now (λ kept. R.Given kept receiver.old held.old.items)
+        (λ kept. R.Given kept receiver.new held.new.items) }
 {
     let mut tokens = Tokens::new(text);
-    let mut spelling = Vec::new(alloc);
     loop {
         let Some((stream, function)) = next_name(&mut tokens)? else {
             return Ok(());
         };
-        spelling.clear();
-        let (head, fits) = message(&mut spelling, &mut tokens, stream, function, depth)?;
-        let octets = spelling.as_slice();
-        receiver.take(head, if fits { Some(octets) } else { None })?;
+        let start = held.len();
+        let (head, fits) = message(held, &mut tokens, stream, function, depth)?;
+        receiver.take(held, head, if fits { Some(start) } else { None })?;
     }
 }
 
 /// Gives a receiver the messages that a text is the notation of, one after another, each with the shortest octets of
 /// its item; no message of a text of white space. Lists may be nested `depth` deep, at most 100.
 ///
-/// Beside what the receiver takes, it takes memory for the octets of one message at a time.
+/// The octets of each are laid behind what is held for the receiver, and memory is taken for them there.
 ///
 /// # Errors
 ///
 /// As for [`read_all`](crate::read_all); also `Memory`, where the receiver has no memory. The messages before were
 /// given.
 pub fn spell_all<R: Receiver>(
-    alloc: Global,
     text: &[u8],
     depth: u8,
+    held: &mut Vec<u8>,
     receiver: &mut R,
 ) -> Result<(), TextFault>
     requires { depth ≤ 100 }
     ensures ok { OnOk result ((ms : List Content) × Notations ms text.now × AllWithin depth ms
-        × ((kept : R.Kept) (earlier : List Content) → R.Given kept receiver.old earlier
-        → R.Given kept receiver.new (earlier ++ ms))) }
+        × ((kept : R.Kept) (earlier : List Content) → R.Given kept receiver.old held.old.items earlier
+        → R.Given kept receiver.new held.new.items (earlier ++ ms))) }
     ensures ok_where { (ms : List Content) → Notations ms text.now → AllWithin depth ms
         → IfErr result (λ f. f ≡ TextFault.Memory) }
     ensures err { IfErr result (λ f. (f ≡ TextFault.Memory) ⊎ NotesFault text.now depth f) }
     ensures err_where { (f : TextFault) → NotesFault text.now depth f
         → IsErrAnd result (λ e. (e ≡ f) ⊎ (e ≡ TextFault.Memory)) }
 {
-    spell_several(alloc, text, depth, receiver)
+    spell_several(text, depth, held, receiver)
 }
