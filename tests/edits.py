@@ -317,7 +317,6 @@ class Double:
     """
 
     def __init__(self, edit, folder, number):
-        self.edit = edit
         self.owner, self.name, self.path = edit.place() or (None, None, None)
         span = self.path and span_of(text_of(f"{folder}/{self.path}"), self.owner, self.name)
         if not span:
@@ -335,7 +334,7 @@ class Double:
         _, end, _ = span_of(text, self.owner, self.name)
         return f"{text[:end]}\n{self.text}{text[end:]}"
 
-    def proof(self, crate, by_hand):
+    def proof(self, by_hand):
         """The proof of the one as that of the other."""
         of, to = (".".join(["proofs", *it]) for it in (self.parts(self.name), self.parts(self.named)))
         said, say = (".".join(["contracts", *it]) for it in (self.parts(self.name), self.parts(self.named)))
@@ -402,7 +401,7 @@ class Room:
         for it in doubles.values():
             texts[it.path] = it.add_to(texts[it.path])
             folder = f"proofs/{'/'.join(it.parts(it.named))}"
-            proof = it.proof(self.crate, self.proof_of("/".join(it.parts(it.name))))
+            proof = it.proof(self.proof_of("/".join(it.parts(it.name))))
             texts.update({f"{folder}/{name}": text for name, text in proof.items()})
         return texts, doubles
 
