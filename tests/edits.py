@@ -556,7 +556,9 @@ class Trial:
     """The trials of a crate's edits and twins."""
 
     def __init__(self, crate, home, lanes):
-        self.crate, self.rooms, self.lanes = crate, Rooms(crate, home), lanes
+        self.crate, self.lanes = crate, lanes
+        with lanes:
+            self.rooms = Rooms(crate, home)
         self.passed, self.failed, self.checks, self.counting = 0, [], 0, threading.Lock()
 
     def fail(self, edit, why):
