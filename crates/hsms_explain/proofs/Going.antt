@@ -16,9 +16,10 @@ use Rattle.hsms_explain.specs.Course.{Standing, HasCourse}
 use Rattle.hsms_explain.specs.Gone.{GoesOn, LineMends, LinePuts, LinesPut}
 use Rattle.hsms_explain.specs.Heard.{IsShown}
 use Rattle.hsms_explain.specs.Noted.{IsCarried}
-use Rattle.hsms_explain.specs.Row.{AreDone, left_of, most_steps, put_of}
+use Rattle.hsms_explain.specs.Row.{put_of}
 use Rattle.hsms_explain.specs.Step.{entry_by}
 use Rattle.hsms_explain.proofs.Following.{carried_shown, next_course, spelled_shown}
+use Rattle.hsms_explain.proofs.Rows.{row_mends}
 
 -- ---- numbers
 
@@ -70,8 +71,8 @@ goes_so : (old new : Known) (mid : Standing) (line : List ℕ) (what : Carried) 
 goes_so old new mid line (carried.Entry step text) notes log placed carries (judged, leads, noted, done) has =
     let entry = entry_by step text.now in
     let (are, later) = leads old.settings log placed has in
-    let D : View → Type 0 = λ v. AreDone (most_steps (waiting_of v) + 1) judged (left_of judged (entry ∷ [])) in
-    (put_of judged (entry ∷ []), inr (inr (entry, judged, carries, (are, subst D (sym has.run.seen) done, refl))), later)
+    let (steps, mended) = row_mends old.settings log entry judged are (done old.settings log placed has) in
+    (put_of judged (entry ∷ []), inr (inr (entry, steps, carries, mended)), later)
 goes_so old new mid line carried.Nothing notes log placed carries (same, none) has =
     let L : List Entry → Type 0 = λ l. HasCourse old.settings l (placed ++ []) new.course in
     let Q : List Entry → Type 0 = λ p. HasCourse old.settings log p new.course in

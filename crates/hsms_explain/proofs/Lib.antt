@@ -10,3 +10,4 @@ mod Rows
 mod Sorts
 mod Tellings
 mod Verdicts
+pub mod Ended

@@ -19,7 +19,7 @@ use Rattle.hsms_explain.specs.declared.step.Step.{Step}
 use Rattle.hsms_explain.specs.declared.step.What.{What}
 use Rattle.hsms_explain.specs.declared.step.What.TheVariants as what
 use Rattle.hsms_explain.specs.Course.{Standing, HasCourse, ForEachCourse, JudgesAs}
-use Rattle.hsms_explain.specs.Row.{AreDone, AreJudged, IsJudged, LeadsBy, LeadsOn, Mends, Notes, NotesSay, NoteSays, RowMends, StepsOn, changed, entries_of, left_of, log_after, most_steps, next_after, put_of, put_with, told_of, told_with}
+use Rattle.hsms_explain.specs.Row.{AreDone, AreJudged, IsJudged, LeadsBy, LeadsOn, Notes, NotesSay, NoteSays, RowMends, StepsOn, changed, entries_of, left_of, log_after, most_steps, next_after, put_of, put_with, told_of, told_with}
 use Rattle.hsms_explain.specs.Step.{entry_by, entry_of_what}
 
 -- ---- what a judgement puts, and what it tells
@@ -184,9 +184,10 @@ stepped_most most old new entries left before after count last all =
 
 -- ---- an entry
 
-pub lawful_mends : (old mid new : Standing) (entry : Entry) (closed : Option Opening) (one : Judged) (before after : List Note) → one ≡ Lawful closed
-    → JudgesAs old entry mid one → new ≡ mid → Notes before (one ∷ []) after → mid.line ≡ old.line → Mends old entry before new after
-lawful_mends old mid new entry closed one before after is judges same says line =
+pub lawful_leads : (old mid new : Standing) (entry : Entry) (closed : Option Opening) (one : Judged) (before after : List Note) → one ≡ Lawful closed
+    → JudgesAs old entry mid one → new ≡ mid → Notes before (one ∷ []) after → mid.line ≡ old.line
+    → LeadsOn (most_steps (waiting_of old.tracker) + 1) old (entry ∷ []) before new after
+lawful_leads old mid new entry closed one before after is judges same says line =
     let J : Standing → Type 0 = λ s. JudgesAs old entry s one in
     let N : Judged → Type 0 = λ j. ◌≡◌ {A = List Entry} [] (next_after j entry []) in
     let next : ◌≡◌ {A = List Entry} [] (next_after one entry []) = subst N (sym is) refl in
@@ -195,11 +196,11 @@ lawful_mends old mid new entry closed one before after is judges same says line 
     (stepped_more old old new (entry ∷ []) before before after 0 entry (entry ∷ []) [] [] (none_stepped old (entry ∷ []) before) refl steps
     (ap (λ (s : Standing). s.line) same ∙ line))
 
-pub broken_mends : (old mid new : Standing) (entry : Entry) (failure : Failure) (one : Judged) (before noted after : List Note) → one ≡ Broken failure
+pub broken_leads : (old mid new : Standing) (entry : Entry) (failure : Failure) (one : Judged) (before noted after : List Note) → one ≡ Broken failure
     → JudgesAs old entry mid one → Notes before (one ∷ []) noted
     → LeadsOn (most_steps (waiting_of mid.tracker)) mid (changed (change_by failure.remedy entry) entry []) noted new after
-    → Mends old entry before new after
-broken_mends old mid new entry failure one before noted after is judges says rest =
+    → LeadsOn (most_steps (waiting_of old.tracker) + 1) old (entry ∷ []) before new after
+broken_leads old mid new entry failure one before noted after is judges says rest =
     let J : Judged → Type 0 = λ j. JudgesAs old entry mid j × Notes before (j ∷ []) noted in
     let ((broken, same, concerns, remedy), note) = subst J is (judges, says) in
     let left = changed (change_by failure.remedy entry) entry [] in

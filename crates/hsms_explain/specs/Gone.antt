@@ -2,10 +2,10 @@
 use Rattle.std.specs.Prelude.{◌≡◌, ◌+◌, ◌⊎◌, codes, ℕ, List, [], ◌∷◌, ◌++◌, Option, Some, None, map, length}
 use Rattle.hsms_machine.specs.declared.entry.Entry.{Entry}
 use Rattle.hsms_machine.specs.Placed.{at_place}
+use Rattle.hsms_machine.specs.Repair.{Steps, Mended, IsRepaired}
 use Rattle.hsms_machine.specs.Settings.{Parameters}
 use Rattle.hsms_log.specs.declared.verdict.Why.TheVariants.{Unreadable}
 use Rattle.hsms_log.specs.Spelling.{Carries, SpellsSettings}
-use Rattle.hsms_explain.specs.declared.course.Judged.{Judged}
 use Rattle.hsms_explain.specs.declared.known.Known.{Known}
 use Rattle.hsms_explain.specs.declared.note.Failing.{Failing}
 use Rattle.hsms_explain.specs.declared.note.Note.{Note}
@@ -14,7 +14,7 @@ use Rattle.hsms_explain.specs.declared.told.Carried.{Carried}
 use Rattle.hsms_explain.specs.declared.told.Carried.TheVariants as carried
 use Rattle.hsms_explain.specs.Alike.{counted}
 use Rattle.hsms_explain.specs.Course.{Standing, HasCourse}
-use Rattle.hsms_explain.specs.Row.{EntryPuts, Mends}
+use Rattle.hsms_explain.specs.Row.{Mends}
 use Rattle.hsms_explain.specs.Step.{entry_by}
 
 -- that a line can't be read is noted
@@ -29,13 +29,13 @@ LineMends old (carried.Entry step text) new notes = Mends old (entry_by step tex
 LineMends old carried.Nothing new notes = (new ≡ old) × (notes ≡ [])
 LineMends old carried.Unreadable new notes = (new ≡ old) × NotesUnreadable [] notes
 
--- The line puts this behind the log: what the judgements of its entry put, and nothing where it carries no entry or can't
--- be read.
+-- The line puts this behind the log: what stands in place of its entry where the log is repaired, and nothing where it
+-- carries no entry or can't be read.
 abbrev pub LinePuts : Parameters → List Entry → List ℕ → List Entry → Type 0
 LinePuts settings log line put =
     (Carries settings.max line None × (put ≡ []))
     ⊎ (((what : Option Entry) → Carries settings.max line what → ⊥) × (put ≡ []))
-    ⊎ ((entry : Entry) × (judged : List Judged) × Carries settings.max line (Some entry) × EntryPuts settings log entry judged put)
+    ⊎ ((entry : Entry) × (steps : Steps) × Carries settings.max line (Some entry) × Mended settings log steps entry put)
 
 -- the lines, the first of which has this number, put `after` behind the log, each entry at the number of its line
 abbrev pub LinesPut : Parameters → ℕ → List Entry → List (List ℕ) → List Entry → List Entry → Type 0
@@ -50,3 +50,23 @@ GoesOn known [] = ⊥
 GoesOn known (first ∷ lines) =
     (log : List Entry) × (placed : List Entry) × SpellsSettings first known.settings × LinesPut known.settings 2 [] lines log placed
     × HasCourse known.settings log placed known.course × (known.course.line ≡ counted (length lines + 1))
+
+-- ---- law
+
+-- the line carries these entries: one, or none where it is blank or can't be read
+abbrev pub LineCarries : ℕ → List ℕ → List Entry → Type 0
+LineCarries max line entries =
+    (Carries max line None × (entries ≡ []))
+    ⊎ (((what : Option Entry) → Carries max line what → ⊥) × (entries ≡ []))
+    ⊎ ((entry : Entry) × Carries max line (Some entry) × (entries ≡ entry ∷ []))
+
+abbrev pub LinesCarry : ℕ → List (List ℕ) → List Entry → Type 0
+LinesCarry max [] entries = entries ≡ []
+LinesCarry max (line ∷ lines) entries =
+    (one : List Entry) × (rest : List Entry) × LineCarries max line one × LinesCarry max lines rest × (entries ≡ one ++ rest)
+
+-- the log that is gone on with is the one that is read, repaired
+abbrev pub LinesAreRepaired : Type 0
+LinesAreRepaired =
+    (settings : Parameters) (number : ℕ) (lines : List (List ℕ)) (after placed : List Entry) → LinesPut settings number [] lines after placed
+    → (entries : List Entry) × LinesCarry settings.max lines entries × IsRepaired settings [] entries after

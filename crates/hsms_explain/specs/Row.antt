@@ -15,7 +15,6 @@ use Rattle.hsms_explain.specs.declared.note.Note.TheVariants.{Closes, Fails}
 use Rattle.hsms_explain.specs.declared.step.Step.{Step}
 use Rattle.hsms_explain.specs.declared.words.Closing.{Closing}
 use Rattle.hsms_explain.specs.declared.note.Failing.{Failing}
-use Rattle.hsms_explain.specs.Alike.{counted}
 use Rattle.hsms_explain.specs.Course.{Standing, HasCourse, ForEachCourse, JudgesAs}
 use Rattle.hsms_explain.specs.Step.{entry_by}
 use Rattle.hsms_explain.specs.Words.{SaysRule}
@@ -81,21 +80,6 @@ told_of [] entries = []
 told_of (judged ∷ more) [] = []
 told_of (judged ∷ more) (entry ∷ entries) = told_with judged entries (told_of more (next_after judged entry entries))
 
--- how many steps follow a first failure at most, where so many primaries wait
-abbrev pub most_steps : ℕ → ℕ
-most_steps waiting = counted (counted (waiting * 2) + 15)
-
--- no entry is left, or there were as many judgements as there are at most
-abbrev pub AreDone : ℕ → List Judged → List Entry → Type 0
-AreDone most judged left = (length judged ≤ most) × ((left ≡ []) ⊎ (length judged ≡ most))
-
--- the judgements of an entry put this behind the log
-abbrev pub EntryPuts : Parameters → List Entry → Entry → List Judged → List Entry → Type 0
-EntryPuts settings log entry judged put =
-    AreJudged settings log judged (entry ∷ [])
-    × AreDone (most_steps (waiting_of (view_of settings log)) + 1) judged (left_of judged (entry ∷ []))
-    × (put ≡ put_of judged (entry ∷ []))
-
 -- ---- law
 
 -- where none is left, what was put stands in place of the entry
@@ -131,15 +115,27 @@ LeadsBy old judged entries new =
     ForEachCourse old (λ settings log placed. AreJudged settings log judged entries
     × HasCourse settings (log ++ put_of judged entries) (placed ++ map (at_place old.line) (put_of judged entries)) new)
 
+-- the entry is gone on with, until none is left
+abbrev pub Mends : Standing → Entry → List Note → Standing → List Note → Type 0
+Mends old entry before new after =
+    (judged : List Judged) × LeadsBy old judged (entry ∷ []) new × Notes before (told_of judged (entry ∷ [])) after
+    × ForEachCourse old (λ settings log placed. left_of judged (entry ∷ []) ≡ [])
+
+-- ---- as many judgements as are made at most
+
+-- how many judgements follow a first failure at most, where so many primaries wait
+abbrev pub most_steps : ℕ → ℕ
+most_steps waiting = waiting * 2 + 7
+
+-- no entry is left, or there were as many judgements as there are at most
+abbrev pub AreDone : ℕ → List Judged → List Entry → Type 0
+AreDone most judged left = (length judged ≤ most) × ((left ≡ []) ⊎ (length judged ≡ most))
+
 -- the entries lead from a course to another one, by judgements that are noted, so many at most
 abbrev pub LeadsOn : ℕ → Standing → List Entry → List Note → Standing → List Note → Type 0
 LeadsOn most old entries before new after =
     (judged : List Judged) × LeadsBy old judged entries new × Notes before (told_of judged entries) after
     × AreDone most judged (left_of judged entries)
-
--- the entry is gone on with
-abbrev pub Mends : Standing → Entry → List Note → Standing → List Note → Type 0
-Mends old entry before new after = LeadsOn (most_steps (waiting_of old.tracker) + 1) old (entry ∷ []) before new after
 
 -- the first of some entries is judged, and others are judged next
 abbrev pub StepsOn : Standing → Entry → List Entry → List Note → Standing → List Entry → List Note → Type 0

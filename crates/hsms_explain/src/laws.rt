@@ -1,6 +1,7 @@
 //! Laws of the definitions by which a log is gone on with, and failures and primaries are counted. A law is a function
 //! that does nothing: its contract is what is proved.
 
+ghost use Rattle.hsms_explain.specs.Gone.{LinesAreRepaired};
 ghost use Rattle.hsms_explain.specs.Replies.{FatesAddUp};
 ghost use Rattle.hsms_explain.specs.Row.{RowMends};
 ghost use Rattle.hsms_explain.specs.Sort.{FramesAreApart, SortsAreApart};
@@ -24,4 +25,10 @@ pub fn fates_add_up()
 /// a repaired log. Of that log the laws of `hsms_machine` speak.
 pub fn judged_entry_is_mended()
     ensures { RowMends }
+{}
+
+/// The log that is gone on with is the one that is read, repaired, by the definition of `hsms_machine`. There it is proved
+/// that each log is repaired in one way, and that what this leaves is a run.
+pub fn lines_are_repaired()
+    ensures { LinesAreRepaired }
 {}

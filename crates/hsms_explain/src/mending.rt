@@ -25,9 +25,8 @@ use hsms_machine::{Mark, Remedy, Rule};
 use hsms_options::sentence;
 use std::alloc::{AllocError, Global};
 
-// How many steps an entry takes at most besides the first, and two for each primary that waits: it is raised, thrown
-// away, put behind a cut and a `down`, and left out.
-const STEPS: usize = 15;
+// How many judgements of an entry follow the first at most, besides two for each primary that waits.
+const STEPS: u128 = 7;
 
 /// Judges the entry of a line, notes what it closes and each failure, and goes on by the remedies.
 pub fn judge_entry(
@@ -71,11 +70,7 @@ fn mend(
 {
     let mut pending = Vec::new(alloc);
     go_on(&mut pending, entry, remedy)?;
-    let steps = known
-        .course
-        .waiting()
-        .saturating_mul(2)
-        .saturating_add(STEPS);
+    let steps = known.course.waiting() as u128 * 2 + STEPS;
     for _ in 0..steps {
         let Some(step) = pending.pop() else {
             return Ok(());

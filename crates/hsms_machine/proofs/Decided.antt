@@ -1,5 +1,6 @@
 -- Each entry has an answer: every rule is broken or not.
 use Rattle.std.proofs.Common.{◌≡◌, ℕ, ◌-◌, ◌<◌, Bool, true, false, ◌&&◌, List, [], ◌∷◌, ◌++◌, length, Option, Some, None, IsTrue, ◌⊎◌, inl, inr, refl, arith, nat_lt, nat_le, ◌==◌}
+use Rattle.std.specs.List.{list_any}
 use Rattle.std.proofs.lemmas.Bool.{cases_lt, cases_order}
 use Rattle.secs_item.specs.Spelling.{IsOctets, IsText}
 use Rattle.secs_item.specs.Laws.{SomeTextAnswer, NotBothOfText}
@@ -12,6 +13,9 @@ use Rattle.hsms_machine.specs.declared.entry.Event.{Event}
 use Rattle.hsms_machine.specs.declared.entry.Event.TheVariants.{Up, Sent, Taken, Discarded, T3, Cut}
 use Rattle.hsms_machine.specs.declared.entry.Cause.{Cause}
 use Rattle.hsms_machine.specs.declared.entry.Cause.TheVariants.{T6, T7}
+use Rattle.hsms_machine.specs.declared.phase.Phase.{Phase}
+use Rattle.hsms_machine.specs.declared.phase.Phase.TheVariants.{Before, Selected, Over, Gone}
+use Rattle.hsms_machine.specs.declared.view.View.{View}
 use Rattle.hsms_machine.specs.declared.rule.Rule.{Rule}
 use Rattle.hsms_machine.specs.declared.rule.Rule.TheVariants.{Backwards, NotUp, Ended, T3Overdue, LinkOverdue, NotDue, TooLong, PType, SType, ControlText, Session, Direction, NotSelected, WBit, Text, SystemInUse, NoTransaction, SelectStatus, NoCause}
 use Rattle.hsms_machine.specs.declared.open.Transaction.{Transaction}
@@ -25,6 +29,7 @@ use Rattle.hsms_machine.specs.Session.{Facts, facts_before, selects, ends_sessio
 use Rattle.hsms_machine.specs.Timer.{IsTimed, IsT3Overdue, IsT6Overdue, IsT7Overdue, IsCutNotDue, IsNotDue}
 use Rattle.hsms_machine.specs.Rule.{IsNotUp, needs_session, is_expiry, SomeOpenOf, opposite, FrameBreaks, IsNoCause, EventBreaks, Breaks, IsFirst, all_rules, format_rules, transaction_rules}
 use Rattle.hsms_machine.specs.Run.{Broken}
+use Rattle.hsms_machine.specs.Step.{facts_of, is_connected, pool_of}
 use Rattle.hsms_machine.specs.Laws.{HasOctets, EachEntryHasAnAnswer}
 use Rattle.hsms_machine.proofs.Steps.{no_cause_iff}
 use Rattle.hsms_machine.proofs.ViewsOfRuns.{past_from, past_to}
@@ -102,6 +107,35 @@ settled log = record {
   selected = before_cases log (length log) (omega arith) (λ entry. selects entry.event);
   over = before_cases log (length log) (omega arith) (λ entry. ends_session entry.event);
   some_open = λ pool test. open_cases log (length log) (omega arith) pool test;
+}
+
+before_decided : (phase : Phase) → Decided (phase ≡ Before)
+before_decided Before = inl refl
+before_decided phase = inr (λ e. cc)
+
+selected_decided : (phase : Phase) → Decided (phase ≡ Selected)
+selected_decided Selected = inl refl
+selected_decided phase = inr (λ e. cc)
+
+over_decided : (phase : Phase) → Decided (phase ≡ Over)
+over_decided Over = inl refl
+over_decided phase = inr (λ e. cc)
+
+gone_decided : (phase : Phase) → Decided (phase ≡ Gone)
+gone_decided Gone = inl refl
+gone_decided phase = inr (λ e. cc)
+
+told : (view : View) → Settled (facts_of view)
+told view = record {
+  past = λ time. less_decided time view.last_time;
+  entry = not_decided _ (before_decided view.phase);
+  up = not_decided _ (before_decided view.phase);
+  down = gone_decided view.phase;
+  follows = gone_decided view.phase;
+  up_since = λ test. true_decided (is_connected view.phase && test view.up_time);
+  selected = selected_decided view.phase;
+  over = over_decided view.phase;
+  some_open = λ pool test. true_decided (list_any test (pool_of view pool));
 }
 
 ptype_decided : (kind : Kind) → Decided (kind ≡ OtherPType)
@@ -224,4 +258,12 @@ module _ (some : SomeTextAnswer) (not_both : NotBothOfText) where
   some_answer settings log entry run fits =
       let F = facts_before log (length log) in
       let s = settled log in
+      first_decided (Breaks F settings entry) (breaks_decided F s settings entry (texts_decided F s settings entry.event fits)) all_rules
+
+  -- the view tells it too
+  pub told_answer : (view : View) (settings : Parameters) (entry : Entry) → HasOctets entry.event
+      → (answer : Option Rule) × IsFirst (Breaks (facts_of view) settings entry) all_rules answer
+  told_answer view settings entry fits =
+      let F = facts_of view in
+      let s = told view in
       first_decided (Breaks F settings entry) (breaks_decided F s settings entry (texts_decided F s settings entry.event fits)) all_rules

@@ -1,7 +1,7 @@
 -- An expiry that is put before an entry breaks no rule there.
 use Rattle.std.proofs.Common.{◌≡◌, ℕ, ◌+◌, ◌-◌, ◌<◌, ◌≤◌, ◌==◌, ◌&&◌, ◌++◌, min, Bool, true, false, not, cond, List, [], ◌∷◌, length, filter, Option, Some, None, option_to_list, inl, inr, refl, sym, ap, subst, ◌∙◌, nat_lt, nat_le, arith, if◌then◌else◌}
 use Rattle.std.specs.List.{list_any}
-use Rattle.std.proofs.lemmas.Bool.{cases_lt, eq-eqb, ltb-true, ltb-false, lt-ltb, le-leb}
+use Rattle.std.proofs.lemmas.Bool.{cases_lt, eq-eqb, ltb-true, ltb-false, le-leb}
 use Rattle.std.proofs.lemmas.List.{append-nil, append_assoc}
 use Rattle.hsms_frame.specs.declared.header.Header.{Header}
 use Rattle.hsms_machine.specs.declared.entry.Entry.{Entry}
@@ -11,30 +11,30 @@ use Rattle.hsms_machine.specs.declared.rule.Rule.{Rule}
 use Rattle.hsms_machine.specs.declared.rule.Rule.TheVariants.{Backwards, NotUp, Ended, T3Overdue, NoCause}
 use Rattle.hsms_machine.specs.declared.open.Transaction.{Transaction}
 use Rattle.hsms_machine.specs.declared.view.View.{View}
-use Rattle.hsms_machine.specs.Entry.{entry_at, is_up, connection_of}
-use Rattle.hsms_machine.specs.Message.{is_data_request}
+use Rattle.hsms_machine.specs.Entry.{is_up, connection_of}
+use Rattle.hsms_machine.specs.Message.{is_data_request, is_control_request}
 use Rattle.hsms_machine.specs.Ordered.{AreInOrder, AreUntil, first_of}
 use Rattle.hsms_machine.specs.Put.{ExpiryPutIsLawful}
-use Rattle.hsms_machine.specs.Repair.{First, change_by, entry_of_event, expired, expiry_of, remedy_of}
+use Rattle.hsms_machine.specs.Repair.{First, change_by, entry_of_event, expired, expiry_of}
 use Rattle.hsms_machine.specs.Rule.{Breaks, IsFirst, IsNotUp, all_rules, format_rules, timer_rules, transaction_rules}
 use Rattle.hsms_machine.specs.Run.{Broken, IsRun}
 use Rattle.hsms_machine.specs.Session.{facts_before}
 use Rattle.hsms_machine.specs.Settings.{Parameters}
-use Rattle.hsms_machine.specs.Step.{IsUntil, is_closed_by, pool_after, view_after}
-use Rattle.hsms_machine.specs.Timer.{IsT3Overdue}
-use Rattle.hsms_machine.specs.Transaction.{SentData, SomeOpen, opened_as, opened_as_at, passes}
+use Rattle.hsms_machine.specs.Step.{IsUntil, is_closed_by, pool_after}
+use Rattle.hsms_machine.specs.Transaction.{Pool, SentData, SentControl, TakenData, TakenControl, opened_as, opened_as_at, passes}
 use Rattle.hsms_machine.specs.View.{open_of, view_of}
 use Rattle.hsms_machine.proofs.Beside.{in_order-filter}
 use Rattle.hsms_machine.proofs.Connection.{on-before}
+use Rattle.hsms_machine.proofs.First.{applies, not_first}
 use Rattle.hsms_machine.proofs.Kept.{in_order-push}
 use Rattle.hsms_machine.proofs.Mapped.{any_first, overdue_falls}
 use Rattle.hsms_machine.proofs.Push.{view-push}
 use Rattle.hsms_machine.proofs.Runs.{run-front, run-next}
-use Rattle.hsms_machine.proofs.SameFacts.{Never, never_from, none_never}
+use Rattle.hsms_machine.proofs.SameFacts.{never_from, none_never}
 use Rattle.hsms_machine.proofs.Timely.{new_until, until_after, until-filter, view_until-le}
 use Rattle.hsms_machine.proofs.ViewsOfRuns.{past_from, past_to, pool_told, told_pool}
 
--- ---- the open primaries of a run are in order of opening
+-- ---- the open primaries and requests of a run are in order of opening
 
 module _ (P : List Entry → Type 0) (more : (log : List Entry) (entry : Entry) → P log → P (log ++ entry ∷ [])) where
   from_front : (front back : List Entry) → P front → P (front ++ back)
@@ -55,26 +55,27 @@ one_ordered : (xs : List Transaction) (time : ℕ) (header : Header) (b : Bool) 
 one_ordered xs time header true ordered until = in_order-push xs (record { time = time; header = header }) ordered until
 one_ordered xs time header false ordered until = subst AreInOrder (sym (append-nil xs)) ordered
 
-opened_ordered : (xs : List Transaction) (time : ℕ) (event : Event) → AreInOrder xs → AreUntil time xs
-    → AreInOrder (xs ++ option_to_list (opened_as_at SentData time event))
-opened_ordered xs time (Sent frame) ordered until = one_ordered xs time frame.header (is_data_request frame.header) ordered until
-opened_ordered xs time event ordered until = subst AreInOrder (sym (append-nil xs)) ordered
+opened_ordered : (pool : Pool) (xs : List Transaction) (time : ℕ) (event : Event) → AreInOrder xs → AreUntil time xs
+    → AreInOrder (xs ++ option_to_list (opened_as_at pool time event))
+opened_ordered SentData xs time (Sent frame) ordered until = one_ordered xs time frame.header (is_data_request frame.header) ordered until
+opened_ordered SentControl xs time (Sent frame) ordered until = one_ordered xs time frame.header (is_control_request frame.header) ordered until
+opened_ordered TakenData xs time (Taken frame) ordered until = one_ordered xs time frame.header (is_data_request frame.header) ordered until
+opened_ordered TakenControl xs time (Taken frame) ordered until = one_ordered xs time frame.header (is_control_request frame.header) ordered until
+opened_ordered pool xs time event ordered until = subst AreInOrder (sym (append-nil xs)) ordered
 
-pool_ordered : (xs : List Transaction) (entry : Entry) → AreInOrder xs → AreUntil entry.time xs → AreInOrder (pool_after SentData xs entry)
-pool_ordered xs entry ordered until = by_case (is_up entry.event) where
-  kept : List Transaction
-  kept = filter (λ opened. not (is_closed_by SentData entry.event opened)) xs
-
-  by_case : (b : Bool) → AreInOrder (cond b [] (filter (λ opened. not (is_closed_by SentData entry.event opened)) xs ++ option_to_list (opened_as SentData entry)))
+pool_ordered : (pool : Pool) (xs : List Transaction) (entry : Entry) → AreInOrder xs → AreUntil entry.time xs → AreInOrder (pool_after pool xs entry)
+pool_ordered pool xs entry ordered until = by_case (is_up entry.event) where
+  by_case : (b : Bool) → AreInOrder (cond b [] (filter (λ opened. not (is_closed_by pool entry.event opened)) xs ++ option_to_list (opened_as pool entry)))
   by_case true = tt
   by_case false =
-      opened_ordered (filter (λ opened. not (is_closed_by SentData entry.event opened)) xs) entry.time entry.event
-      (in_order-filter (λ opened. not (is_closed_by SentData entry.event opened)) xs ordered)
-      (until-filter entry.time (λ opened. not (is_closed_by SentData entry.event opened)) xs until)
+      opened_ordered pool (filter (λ opened. not (is_closed_by pool entry.event opened)) xs) entry.time entry.event
+      (in_order-filter (λ opened. not (is_closed_by pool entry.event opened)) xs ordered)
+      (until-filter entry.time (λ opened. not (is_closed_by pool entry.event opened)) xs until)
 
 -- what is open of a run is in order, and was opened by the time of its last entry
 pub record AreTimely (view : View) : Type 0 where
   pub ordered : AreInOrder view.sent_data
+  pub requests : AreInOrder view.sent_control
   pub until : IsUntil view.last_time view
 
 abbrev IsTimelyRun : Parameters → List Entry → Type 0
@@ -82,7 +83,7 @@ IsTimelyRun settings log = IsRun settings log → AreTimely (view_of settings lo
 
 none_timely : (settings : Parameters) → IsTimelyRun settings []
 unfolding connection_of
-none_timely settings run = record { ordered = tt; until = new_until settings (view_of settings []) refl }
+none_timely settings run = record { ordered = tt; requests = tt; until = new_until settings (view_of settings []) refl }
 
 timely_more : (settings : Parameters) (log : List Entry) (entry : Entry) → IsTimelyRun settings log → IsTimelyRun settings (log ++ entry ∷ [])
 timely_more settings log entry before run =
@@ -92,7 +93,8 @@ timely_more settings log entry before run =
     let until = view_until-le view.last_time entry.time le view timely.until in
     let after = view-push settings log entry in
     record {
-      ordered = subst (λ v. AreInOrder v.sent_data) (sym after) (pool_ordered view.sent_data entry timely.ordered until.sent_data);
+      ordered = subst (λ v. AreInOrder v.sent_data) (sym after) (pool_ordered SentData view.sent_data entry timely.ordered until.sent_data);
+      requests = subst (λ v. AreInOrder v.sent_control) (sym after) (pool_ordered SentControl view.sent_control entry timely.requests until.sent_control);
       until = until_after view (view_of settings (log ++ entry ∷ [])) entry until after;
     }
 
@@ -100,20 +102,6 @@ pub run_timely : (settings : Parameters) (log : List Entry) → IsRun settings l
 run_timely settings log = from_front (IsTimelyRun settings) (timely_more settings) [] log (none_timely settings)
 
 -- ---- the expiry
-
-applies : (Applies : Rule → Type 0) (rules : List Rule) (rule : Rule) → IsFirst Applies rules (Some rule) → Applies rule
-applies Applies [] rule h = absurd (let d : ◌≡◌ {A = Option Rule} (Some rule) None = h in cc)
-applies Applies (x ∷ xs) rule h = elim h [
-  | inl p ↦ let same : x ≡ rule = (let e : ◌≡◌ {A = Option Rule} (Some rule) (Some x) = p.1 in cc) in subst Applies same p.0
-  | inr q ↦ applies Applies xs rule q.1
-]
-
-not_first : (Applies : Rule → Type 0) (x : Rule) (xs : List Rule) (rule : Rule) → (x ≡ rule → ⊥) → IsFirst Applies (x ∷ xs) (Some rule)
-    → (Applies x → ⊥) × IsFirst Applies xs (Some rule)
-not_first Applies x xs rule other h = elim h [
-  | inl p ↦ absurd (other (let e : ◌≡◌ {A = Option Rule} (Some rule) (Some x) = p.1 in cc))
-  | inr q ↦ (q.0, q.1)
-]
 
 -- the rules behind the first two
 abbrev behind_up : List Rule
@@ -143,7 +131,7 @@ when_due view time since late =
     let (last, due) = late_by view.last_time moment time (nat_lt view.last_time moment) refl in
     (last, omega (arith, due, late))
 
-any_of_first : (test : Transaction → Bool) (xs : List Transaction) (opened : Transaction) → first_of xs ≡ Some opened → test opened ≡ true → list_any test xs ≡ true
+pub any_of_first : (test : Transaction → Bool) (xs : List Transaction) (opened : Transaction) → first_of xs ≡ Some opened → test opened ≡ true → list_any test xs ≡ true
 any_of_first test [] opened e so = absurd cc
 any_of_first test (x ∷ xs) opened e so =
     let is : x ≡ opened = cc in

@@ -1,5 +1,5 @@
 -- The first rule of a list that applies.
-use Rattle.std.proofs.Common.{◌≡◌, true, false, List, [], ◌∷◌, ◌++◌, Option, Some, None, is_some, is_none, inl, inr, refl, sym, ◌∙◌}
+use Rattle.std.proofs.Common.{◌≡◌, true, false, List, [], ◌∷◌, ◌++◌, Option, Some, None, is_some, is_none, inl, inr, refl, sym, subst, ◌∙◌}
 use Rattle.hsms_machine.specs.declared.rule.Rule.{Rule}
 use Rattle.hsms_machine.specs.Rule.{IsFirst}
 
@@ -53,6 +53,22 @@ module _ (Applies : Rule → Type 0) where
   pub none_from : (xs : List Rule) → ((r : Rule) → Applies r → ⊥) → IsFirst Applies xs None
   none_from [] never = refl
   none_from (x ∷ xs) never = inr (never x, none_from xs never)
+
+  -- the first rule applies
+  pub applies : (xs : List Rule) (rule : Rule) → IsFirst Applies xs (Some rule) → Applies rule
+  applies [] rule h = absurd (let d : ◌≡◌ {A = Option Rule} (Some rule) None = h in cc)
+  applies (x ∷ xs) rule h = elim h [
+    | inl p ↦ let same : x ≡ rule = (let e : ◌≡◌ {A = Option Rule} (Some rule) (Some x) = p.1 in cc) in subst Applies same p.0
+    | inr q ↦ applies xs rule q.1
+  ]
+
+  -- and none before it does
+  pub not_first : (x : Rule) (xs : List Rule) (rule : Rule) → (x ≡ rule → ⊥) → IsFirst Applies (x ∷ xs) (Some rule)
+      → (Applies x → ⊥) × IsFirst Applies xs (Some rule)
+  not_first x xs rule other h = elim h [
+    | inl p ↦ absurd (other (let e : ◌≡◌ {A = Option Rule} (Some rule) (Some x) = p.1 in cc))
+    | inr q ↦ (q.0, q.1)
+  ]
 
 -- rules that apply alike have the same first one
 pub first_alike : (P Q : Rule → Type 0) (xs : List Rule) (a : Option Rule) → ((r : Rule) → P r → Q r) → ((r : Rule) → Q r → P r) → IsFirst P xs a → IsFirst Q xs a

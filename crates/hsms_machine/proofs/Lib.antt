@@ -21,3 +21,4 @@ pub mod Mending
 pub mod Expiring
 pub mod Oldest
 pub mod Namesakes
+pub mod Mended

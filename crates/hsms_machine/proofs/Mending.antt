@@ -14,7 +14,7 @@ use Rattle.hsms_machine.specs.Repair.{Change, discarded, lacks_down, remedy_of, 
 use Rattle.hsms_machine.proofs.Runs.{run-push, run-next, empty_run}
 use Rattle.hsms_machine.proofs.Lawful.{one_first}
 
-mended_run : (settings : Parameters) (log : List Entry) (steps : Steps) (entry : Entry) (put : List Entry) → IsRun settings log → Mended settings log steps entry put → IsRun settings (log ++ put)
+pub mended_run : (settings : Parameters) (log : List Entry) (steps : Steps) (entry : Entry) (put : List Entry) → IsRun settings log → Mended settings log steps entry put → IsRun settings (log ++ put)
 mended_run settings log Passed entry put run h =
     subst (λ l. IsRun settings (log ++ l)) (sym h.1) (run-push settings log entry run h.0)
 mended_run settings log LeftOut entry put run h =
@@ -40,7 +40,7 @@ repaired_run settings before (entry ∷ entries) after run h =
 pub repaired_passes : RepairedLogPasses
 repaired_passes settings log repaired h = repaired_run settings [] log repaired (empty_run settings) h
 
-asks_not : (settings : Parameters) (log : List Entry) (entry : Entry) (change : Change) → Broken settings log entry None → Asks settings log entry change → ⊥
+pub asks_not : (settings : Parameters) (log : List Entry) (entry : Entry) (change : Change) → Broken settings log entry None → Asks settings log entry change → ⊥
 asks_not settings log entry change lawful asks =
     let d : None ≡ Some asks.0 = one_first settings log entry None (Some asks.0) lawful asks.1 in
     absurd cc

@@ -1,7 +1,7 @@
 //! Laws over the definitions of a run. Each is the contract of a function that does nothing.
 
 ghost use Rattle.hsms_machine.specs.Laws.{EachResponseAnswersOne, DataFlowsWhileSelected, ExpiryIsLoggedFirst, RepliesComeWithinT3, SystemBytesAreUnique, OneConnectionInVersionOne, EachConnectionFollowsDown, NothingIsOpenOverUp, VersionOneKeepsRuns, VersionOneKeepsAnswers, VersionOneIsOneConnection, ViewListsWhatIsOpen, LawfulEntryExtendsRun, FrontOfRunIsRun, NextOfRunIsLawful, EachEntryHasAnAnswer, NoEntryHasTwoAnswers, EmptyLogIsRun, RunIsRunOfSeveral, SingleRunOfSeveralIsRun, JoinedRunsAreARun, JoinedConnectionsAreARun};
-ghost use Rattle.hsms_machine.specs.Put.{ExpiryPutIsLawful};
+ghost use Rattle.hsms_machine.specs.Put.{CutPutIsLawful, EachEntryIsMended, EachLogIsRepaired, ExpiryPutIsLawful, NoEntryIsMendedTwice, NoLogIsRepairedTwice};
 ghost use Rattle.hsms_machine.specs.Repair.{RepairedLogPasses, LawfulEntryIsKept, RunIsItsRepair, FrontIsKept};
 
 /// Each sent or taken response of a run answers exactly one open transaction, which it closes.
@@ -93,4 +93,21 @@ pub fn repaired_log_passes()
 /// An expiry of T3 that is put before an entry, where a log is gone on with, breaks no rule there.
 pub fn expiry_put_is_lawful()
     ensures { ExpiryPutIsLawful }
+{}
+
+/// A cut that is put before an entry, where a log is gone on with, breaks no rule there.
+pub fn cut_put_is_lawful()
+    ensures { CutPutIsLawful }
+{}
+
+/// Behind a run something stands in place of each entry, after few judgements, and it alone.
+pub fn each_entry_is_mended()
+    ensures some { EachEntryIsMended }
+    ensures one { NoEntryIsMendedTwice }
+{}
+
+/// Each log is gone on with to its end, and in one way alone.
+pub fn each_log_is_repaired()
+    ensures some { EachLogIsRepaired }
+    ensures one { NoLogIsRepairedTwice }
 {}
