@@ -10,10 +10,14 @@ use Rattle.hsms_lines.specs.Line.{LineOf}
 abbrev pub GrowsHolding : Option (List ℕ) → List ℕ → Option (List ℕ) → List ℕ → List ℕ → Type 0
 GrowsHolding old held new now text = (put : List ℕ) × (put ++ now ≡ held ++ text) × Grows old new put
 
--- the line of a message was laid behind what is held, or a write failed within the two
+-- a line was laid behind what is held, or a write failed within the two
+abbrev pub LaysText : List ℕ → Result (Unit {0}) ToolFault → Option (List ℕ) → List ℕ → Option (List ℕ) → List ℕ → Type 0
+LaysText line (Ok _) old held new now = GrowsHolding old held new now line
+LaysText line (Err _) old held new now = GrowsByFront old new (held ++ line)
+
+-- the line of a message was, or a write failed
 abbrev pub LaysLine : ℕ → Frame → Result (Unit {0}) ToolFault → Option (List ℕ) → List ℕ → Option (List ℕ) → List ℕ → Type 0
-LaysLine depth f (Ok _) old held new now = (line : List ℕ) × LineOf depth f line × GrowsHolding old held new now line
-LaysLine depth f (Err _) old held new now = (line : List ℕ) × LineOf depth f line × GrowsByFront old new (held ++ line)
+LaysLine depth f result old held new now = (line : List ℕ) × LineOf depth f line × LaysText line result old held new now
 
 -- ---- what an output to a sink was given
 

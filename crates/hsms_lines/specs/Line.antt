@@ -1,4 +1,4 @@
--- The line that shows a message.
+-- The line that shows a message, and the line of its octets.
 use Rattle.std.specs.Prelude.{◌≡◌, ◌⊎◌, ℕ, List, [], ◌∷◌, ◌++◌, ◌==◌, if◌then◌else◌, length, codes, decimal, Option}
 use Rattle.std.specs.Int.{w16, w32, to_be_bytes}
 use Rattle.hex.specs.Hex.{encode_lower}
@@ -91,3 +91,9 @@ LineOfKind OtherPType depth f line = line ≡ control_line OtherPType f
 -- the line of a message, with its end, where lists may be nested this deep
 abbrev pub LineOf : ℕ → Frame → List ℕ → Type 0
 LineOf depth f line = LineOfKind (kind_of f.header) depth f line
+
+-- ---- octets
+
+-- the line of octets: the digits of each, and the end of the line
+abbrev pub hex_line : List ℕ → List ℕ
+hex_line octets = encode_lower octets ++ 10 ∷ []

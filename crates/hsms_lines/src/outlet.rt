@@ -1,12 +1,14 @@
 //! The lines that are held in a block on their way to a sink.
 
-ghost use Rattle.std.specs.Prelude.{◌≡◌, ◌≤◌, ◌<◌, [], false, length, IfErr, OnOk, OnErr};
+ghost use Rattle.std.specs.Prelude.{◌≡◌, ◌≤◌, ◌<◌, ◌++◌, [], false, length, IfErr, OnOk, OnErr};
 ghost use Rattle.hsms_frame.specs.Count.{count_failure};
 ghost use Rattle.hsms_frame.specs.Device.{Grows, GrowsByFront};
-ghost use Rattle.hsms_lines.specs.Held.{LaysLine};
+ghost use Rattle.hsms_lines.specs.Held.{LaysLine, LaysText};
+ghost use Rattle.hsms_lines.specs.Line.{hex_line};
 ghost use Rattle.hsms_lines.specs.Devices.{IsWrite};
 
 use crate::line::give_line;
+use crate::parts::give_hex_line;
 use hsms_frame::{Header, Sink, give_all};
 use hsms_options::ToolFault;
 use secs_text::{Block, Output};
@@ -71,6 +73,49 @@ fn give_to_sink<W: Sink>(
     ensures writes { (W.state out.new.sink.now).failures ≡ count_failure result (W.state out.old.sink.now).failures }
 {
     give_line(out, held, header, text, depth);
+    if out.has_failed {
+        return Err(ToolFault::Device("Write"));
+    }
+    Ok(())
+}
+
+/// Lays the octets of a message as a line of hexadecimal, with its end, behind what is held: the fourteen before its
+/// text, and the text. What is held is written first where there is no room.
+#[inline(always)]
+pub fn lay_hex_line<W: Sink>(
+    sink: &mut W,
+    held: &mut Block,
+    front: &[u8; 14],
+    text: &[u8],
+) -> Result<(), ToolFault>
+    ensures line { LaysText (hex_line (front.now ++ text.now)) result
+        (W.state sink.old).written held.old (W.state sink.new).written held.new }
+    ensures word { IfErr result IsWrite }
+    ensures writes { (W.state sink.new).failures ≡ count_failure result (W.state sink.old).failures }
+{
+    let mut out = ToSink {
+        sink,
+        has_failed: false,
+    };
+    give_hex_to_sink(&mut out, held, front, text)
+}
+
+// Gives the line of a message's octets to an output to a sink that hasn't failed.
+#[inline(always)]
+fn give_hex_to_sink<W: Sink>(
+    out: &mut ToSink<'_, W>,
+    held: &mut Block,
+    front: &[u8; 14],
+    text: &[u8],
+) -> Result<(), ToolFault>
+    requires { out.old.has_failed ≡ false }
+    ensures same_reference { out.new.sink.ghost_name ≡ out.old.sink.ghost_name }
+    ensures line { LaysText (hex_line (front.now ++ text.now)) result
+        (W.state out.old.sink.now).written held.old (W.state out.new.sink.now).written held.new }
+    ensures word { IfErr result IsWrite }
+    ensures writes { (W.state out.new.sink.now).failures ≡ count_failure result (W.state out.old.sink.now).failures }
+{
+    give_hex_line(out, held, front, text);
     if out.has_failed {
         return Err(ToolFault::Device("Write"));
     }

@@ -3,7 +3,7 @@
 ghost use Rattle.std.specs.Prelude.{◌≡◌, ◌<◌, ◌++◌, codes, decimal, length};
 ghost use Rattle.hex.specs.Hex.{encode_lower};
 ghost use Rattle.secs_text.specs.Laid.{Lays};
-ghost use Rattle.hsms_lines.specs.Line.{address_of, text_of};
+ghost use Rattle.hsms_lines.specs.Line.{address_of, hex_line, text_of};
 
 use crate::digits::address;
 use hsms_frame::Header;
@@ -65,4 +65,25 @@ fn give_few<O: Output>(out: &mut O, block: &mut Block, octets: &[u8])
 {
     let digits = digits_of_few(octets);
     block.lay(out, &digits[..2 * octets.len()]);
+}
+
+/// The line of a message's octets: the fourteen before its text, and the text.
+#[inline(always)]
+pub fn give_hex_line<O: Output>(out: &mut O, block: &mut Block, front: &[u8; 14], text: &[u8])
+    ensures { Lays (O.Given out.old) block.old (O.Given out.new) block.new (hex_line (front.now ++ text.now)) }
+{
+    let digits = digits_of_few(front);
+    block.lay(out, &digits[..28]);
+    give_some(out, block, text);
+    block.lay(out, b"\n");
+}
+
+// Octets in hexadecimal, if there are any.
+#[inline(always)]
+fn give_some<O: Output>(out: &mut O, block: &mut Block, octets: &[u8])
+    ensures { Lays (O.Given out.old) block.old (O.Given out.new) block.new (encode_lower octets.now) }
+{
+    if !octets.is_empty() {
+        give_hexadecimal(out, block, octets);
+    }
 }

@@ -1,5 +1,5 @@
 -- What `hsms encode` writes of an input.
-use Rattle.std.specs.Prelude.{◌≡◌, ◌<◌, ◌≤◌, ◌+◌, ◌%◌, ◌^◌, ◌⊎◌, ◌++◌, ℕ, zero, suc, Bool, List, [], ◌∷◌, length, codes, decimal, string_bytes, if◌then◌else◌, Option, Some, None, Result, Ok, Err}
+use Rattle.std.specs.Prelude.{◌≡◌, ◌<◌, ◌≤◌, ◌+◌, ◌%◌, ◌^◌, ◌⊎◌, ◌++◌, ℕ, zero, suc, Bool, false, List, [], ◌∷◌, length, codes, decimal, string_bytes, if◌then◌else◌, Option, Some, None, Result, Ok, Err}
 use Rattle.hex.specs.Hex.{encode_lower}
 use Rattle.secs_item.specs.Item.{Value}
 use Rattle.secs_item.specs.Short.{short}
@@ -72,15 +72,36 @@ pub record FirstWithoutFrame (device max : ℕ) (hex : Bool) (system : ℕ) (ms 
 
 -- ---- frames, one behind another
 
+-- these are the octets of frames, one behind another: the first four of each count the others
+abbrev pub AreFrames : List Frame → List ℕ → Type 0
+AreFrames [] octets = octets ≡ []
+AreFrames (f ∷ fs) octets =
+    (rest : List ℕ) × (10 + length f.text < 2 ^ 32) × AreFrames fs rest × (octets ≡ frame_octets f ++ rest)
+
+-- what is written of frames
+abbrev pub outputs_of : Bool → List Frame → List ℕ
+outputs_of hex [] = []
+outputs_of hex (f ∷ fs) = output_of hex f ++ outputs_of hex fs
+
+-- a text is written, or a part of it where the write fails, or nothing where memory is wanting
+abbrev pub WritesOut : {T : Type 0} → List ℕ → Result T ToolFault → Option (List ℕ) → Option (List ℕ) → Type 0
+WritesOut output (Ok _) old new = Grows old new output
+WritesOut output (Err (Refused words)) old new = ⊥
+WritesOut output (Err (Device word)) old new = (word.now ≡ codes "Write") × GrowsByFront old new output
+WritesOut output (Err Memory) old new = Stays old new
+
+-- ---- frames that are gathered
+
 -- why a message has no frame, in words
 abbrev pub refusal_words : Refusal → List ℕ
 refusal_words TooLarge = codes "TooLarge"
 refusal_words (TooLong length) = codes "TooLong length=" ++ decimal length
 
--- what was made of messages, and which system bytes are next; or why the first one that has no frame has none
-abbrev pub Frames : ℕ → ℕ → Bool → ℕ → ℕ → Option Refusal → List ℕ → List Content → Type 0
-Frames device max hex system next None output ms = Encodes device max hex system ms output × (next ≡ system_after system (length ms))
-Frames device max hex system next (Some refusal) output ms = FirstWithoutFrame device max hex system ms (refusal_words refusal)
+-- the octets that were made of messages, and which system bytes are next; or why the first one that has no frame has
+-- none
+abbrev pub Frames : ℕ → ℕ → ℕ → ℕ → Option Refusal → List ℕ → List Content → Type 0
+Frames device max system next None octets ms = Encodes device max false system ms octets × (next ≡ system_after system (length ms))
+Frames device max system next (Some refusal) octets ms = FirstWithoutFrame device max false system ms (refusal_words refusal)
 
 -- this is the fault for a refusal, unless memory is wanting
 abbrev pub HasRefused : Option Refusal → ToolFault → Type 0
@@ -159,9 +180,9 @@ IsToldText fault (Device word) = ⊥
 IsToldText fault Memory = Unit {0}
 
 -- why a text was not encoded: it isn't messages, or one of them has no frame
-abbrev pub IsNotEncoded : ℕ → ℕ → ℕ → Bool → ℕ → List ℕ → ToolFault → Type 0
-IsNotEncoded device max depth hex system input (Refused words) =
+abbrev pub IsNotEncoded : ℕ → ℕ → ℕ → ℕ → List ℕ → ToolFault → Type 0
+IsNotEncoded device max depth system input (Refused words) =
     ((fault : TextFault) × NotesFault input depth fault × (string_bytes words ≡ text_fault_text fault))
-    ⊎ ((ms : List Content) × Notations ms input × AllWithin depth ms × FirstWithoutFrame device max hex system ms (string_bytes words))
-IsNotEncoded device max depth hex system input (Device word) = ⊥
-IsNotEncoded device max depth hex system input Memory = Unit {0}
+    ⊎ ((ms : List Content) × Notations ms input × AllWithin depth ms × FirstWithoutFrame device max false system ms (string_bytes words))
+IsNotEncoded device max depth system input (Device word) = ⊥
+IsNotEncoded device max depth system input Memory = Unit {0}

@@ -1,6 +1,6 @@
 //! `hsms encode`: messages in notation, as octets.
 
-ghost use Rattle.std.specs.Prelude.{◌≡◌, ◌≤◌, List, IfOk, IfErr, OnOk, MatchResult, codes};
+ghost use Rattle.std.specs.Prelude.{◌≡◌, ◌≤◌, List, false, IfOk, IfErr, OnOk, MatchResult, codes};
 ghost use Rattle.secs_text.specs.Content.{Content, AllWithin};
 ghost use Rattle.secs_text.specs.Notation.{Notations};
 ghost use Rattle.secs_text.specs.View.{contents};
@@ -11,8 +11,8 @@ ghost use Rattle.hsms_lines.specs.Devices.{CountsFailure, IsReadOrWrite};
 
 use crate::frames::{Frames, Framing};
 use crate::input::read_whole;
+use crate::writing::put_frames;
 use hsms_frame::{Sink, Source};
-use hsms_lines::put;
 use hsms_options::ToolFault;
 use secs_text::{Message, TextFault, read_all, spell_all};
 use std::alloc::{AllocError, Global};
@@ -58,11 +58,9 @@ pub fn encode_all<R: Source, W: Sink>(
         device,
         system,
         max,
-        hex,
     };
-    let output = encoded(alloc, &input, framing, depth)?;
-    put(sink, &output)?;
-    Ok(())
+    let octets = encoded(alloc, &input, framing, depth)?;
+    put_frames(alloc, sink, &octets, hex)
 }
 
 /// The messages that an input is the notation of.
@@ -77,12 +75,12 @@ pub fn messages_of(alloc: Global, input: &[u8], depth: u8) -> Result<Vec<Message
     }
 }
 
-// The octets of the frames of the messages that an input is the notation of, or their lines.
+// The octets of the frames of the messages that an input is the notation of.
 fn encoded(alloc: Global, input: &[u8], framing: Framing, depth: u8) -> Result<Vec<u8>, ToolFault>
     requires { depth ≤ 100 }
-    ensures ok { IfOk result (λ output. (ms : List Content) × Notations ms input.now × AllWithin depth ms
-        × Encodes framing.device framing.max framing.hex framing.system ms output.items) }
-    ensures err { IfErr result (IsNotEncoded framing.device framing.max depth framing.hex framing.system input.now) }
+    ensures ok { IfOk result (λ octets. (ms : List Content) × Notations ms input.now × AllWithin depth ms
+        × Encodes framing.device framing.max false framing.system ms octets.items) }
+    ensures err { IfErr result (IsNotEncoded framing.device framing.max depth framing.system input.now) }
 {
     let mut frames = Frames::new(alloc, framing);
     match spell_all(alloc, input, depth, &mut frames) {

@@ -1,14 +1,12 @@
-//! The frames of messages, one behind another.
+//! The octets of the frames of messages, one behind another.
 
-ghost use Rattle.std.specs.Prelude.{◌≡◌, ◌≤◌, ◌<◌, ◌+◌, ◌^◌, ◌++◌, [], true, length, OnOk, IfOk, IfErr, None};
-ghost use Rattle.hex.specs.Hex.{encode_lower};
+ghost use Rattle.std.specs.Prelude.{◌≡◌, ◌<◌, ◌+◌, ◌^◌, ◌++◌, [], length, OnOk, IfOk, IfErr, None};
 ghost use Rattle.secs_text.specs.Content.{Content};
 ghost use Rattle.hsms_frame.specs.Frame.{frame_octets};
-ghost use Rattle.hsms_tasks.specs.Encode.{output_of, HasRefused};
+ghost use Rattle.hsms_tasks.specs.Encode.{HasRefused};
 
 use crate::refusal::Refusal;
 use hsms_frame::{Header, data_header, front_octets};
-use hsms_log::{digits_of_few, digits_of_sixteen};
 use hsms_options::{ToolFault, refused};
 use secs_text::{Head, Receiver};
 use std::alloc::{AllocError, Global};
@@ -35,69 +33,15 @@ fn push_octets(output: &mut Vec<u8>, header: Header, text: &[u8]) -> Result<(), 
     Ok(())
 }
 
-// Adds the digits of at most sixteen octets.
-#[inline(always)]
-fn push_few(output: &mut Vec<u8>, octets: &[u8]) -> Result<(), AllocError>
-    requires { length octets.now ≤ 16 }
-    ensures { OnOk result (output.new.items ≡ output.old.items ++ encode_lower octets.now) }
-{
-    let digits = digits_of_few(octets);
-    output.extend_from_slice(&digits[..2 * octets.len()])
-}
-
-// Adds the digits of octets.
-fn push_digits(output: &mut Vec<u8>, octets: &[u8]) -> Result<(), AllocError>
-    ensures { OnOk result (output.new.items ≡ output.old.items ++ encode_lower octets.now) }
-{
-    let mut rest = octets;
-    while let Some((front, others)) = rest.split_first_chunk::<16>() {
-        output.extend_from_slice(&digits_of_sixteen(front))?;
-        rest = others;
-    }
-    push_few(output, rest)?;
-    Ok(())
-}
-
-// Adds the octets of a frame as a line of hexadecimal.
-fn push_line(output: &mut Vec<u8>, header: Header, text: &[u8]) -> Result<(), AllocError>
-    requires { 10 + length text.now < 2 ^ 32 }
-    ensures { OnOk result (output.new.items ≡ output.old.items ++ output_of true (record { header = header; text = text.now })) }
-{
-    let length = 10 + text.len() as u32;
-    push_few(output, &front_octets(length, header))?;
-    push_digits(output, text)?;
-    output.push(b'\n')?;
-    Ok(())
-}
-
-// Adds the octets of a frame, or their line.
-fn push_frame(
-    output: &mut Vec<u8>,
-    header: Header,
-    text: &[u8],
-    hex: bool,
-) -> Result<(), AllocError>
-    requires { 10 + length text.now < 2 ^ 32 }
-    ensures { OnOk result (output.new.items ≡ output.old.items ++ output_of hex (record { header = header; text = text.now })) }
-{
-    if hex {
-        push_line(output, header, text)
-    } else {
-        push_octets(output, header, text)
-    }
-}
-
-/// How messages are framed: for which device, with which system bytes first, how long at most, and whether as lines of
-/// hexadecimal.
+/// How messages are framed: for which device, with which system bytes first, and how long at most.
 #[derive(Clone, Copy)]
 pub struct Framing {
     pub device: u16,
     pub system: u32,
     pub max: u32,
-    pub hex: bool,
 }
 
-/// The frames of messages, one behind another, up to the first message that has none.
+/// The octets of the frames of messages, one behind another, up to the first message that has none.
 #[derive(Drop)]
 pub struct Frames {
     alloc: Global,
@@ -113,7 +57,7 @@ impl Receiver for Frames {
     type Kept = Framing;
 
     ghost Given = { λ framing frames given. (frames.framing ≡ framing)
-        × Gathers frames.framing.device frames.framing.max frames.framing.hex frames.framing.system frames.next frames.refusal frames.output.items given };
+        × Gathers frames.framing.device frames.framing.max frames.framing.system frames.next frames.refusal frames.output.items given };
 
     fn take(&mut self, head: Head, text: Option<&[u8]>) -> Result<(), AllocError> {
         if self.refusal.is_some() {
@@ -136,7 +80,7 @@ impl Receiver for Frames {
             head.wait,
             self.next,
         );
-        push_frame(&mut self.output, header, text, self.framing.hex)?;
+        push_octets(&mut self.output, header, text)?;
         self.next = self.next.wrapping_add(1);
         Ok(())
     }
@@ -148,7 +92,7 @@ impl Frames {
     /// No frames yet.
     pub fn new(alloc: Global, framing: Framing) -> Frames
         ensures { (result.framing ≡ framing)
-            × Gathers result.framing.device result.framing.max result.framing.hex result.framing.system result.next result.refusal result.output.items [] }
+            × Gathers result.framing.device result.framing.max result.framing.system result.next result.refusal result.output.items [] }
     {
         Frames {
             alloc,

@@ -19,9 +19,9 @@ returns-in-Ok-clause-ok c =
     let made = c.spell_all.new.receiver in
     let k = c.args.framing in
     let given = told.3 k [] c.new-frames.ensures in
-    let P : Framing → Type 0 = λ f. Frames f.device f.max f.hex f.system made.next made.refusal made.output.items told.0 in
+    let P : Framing → Type 0 = λ f. Frames f.device f.max f.system made.next made.refusal made.output.items told.0 in
     if_ok c.finish.result c.finish.ensures.ok (λ output e.
-    (told.0, told.1, told.2, all_framed k.device k.max k.hex k.system made.next made.refusal output.items made.output.items told.0 (subst P given.0 given.1) e))
+    (told.0, told.1, told.2, all_framed k.device k.max k.system made.next made.refusal output.items made.output.items told.0 (subst P given.0 given.1) e))
 
 pub returns-in-Ok-clause-err : goal.returns-in-Ok-clause-err
 returns-in-Ok-clause-err c =
@@ -29,11 +29,11 @@ returns-in-Ok-clause-err c =
     let made = c.spell_all.new.receiver in
     let k = c.args.framing in
     let given = told.3 k [] c.new-frames.ensures in
-    let P : Framing → Type 0 = λ f. Frames f.device f.max f.hex f.system made.next made.refusal made.output.items told.0 in
+    let P : Framing → Type 0 = λ f. Frames f.device f.max f.system made.next made.refusal made.output.items told.0 in
     if_err c.finish.result c.finish.ensures.err (λ fault e.
-    none_framed k.device k.max c.args.depth k.hex k.system made.next made.refusal c.args.input.now made.output.items told.0 fault told.1 told.2 (subst P given.0 given.1) e)
+    none_framed k.device k.max c.args.depth k.system made.next made.refusal c.args.input.now made.output.items told.0 fault told.1 told.2 (subst P given.0 given.1) e)
 
 pub returns-in-Err-clause-err : goal.returns-in-Err-clause-err
 returns-in-Err-clause-err c =
     let k = c.args.framing in
-    not_notation k.device k.max c.args.depth k.hex k.system c.args.input.now c.in-Err.fault c.not_read.result c.in-Err.ensures.err c.not_read.ensures
+    not_notation k.device k.max c.args.depth k.system c.args.input.now c.in-Err.fault c.not_read.result c.in-Err.ensures.err c.not_read.ensures
