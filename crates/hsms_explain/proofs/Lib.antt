@@ -1,4 +1,5 @@
 mod Courses
+mod Firsts
 mod Following
 mod Going
 mod Grouping
@@ -10,3 +11,4 @@ mod Rows
 mod Sorts
 mod Tellings
 mod Verdicts
+mod Windows
