@@ -8,7 +8,7 @@ use Rattle.hsms_explain.specs.declared.note.Note.{Note}
 use Rattle.hsms_explain.specs.declared.note.Note.TheVariants.{Closes, Fails, FailsAlike}
 use Rattle.hsms_explain.specs.declared.words.Alike.{Alike}
 use Rattle.hsms_explain.specs.Alike.{Fault, IsTold, counted, fault_at, lines_of}
-use Rattle.hsms_explain.specs.Grouped.{AreGrouped, AreLike, EachIsTold, NoteIsTold, PutsNote, StandFor, StandsFor, failure_by, faults_with, first_whole, times_of}
+use Rattle.hsms_explain.specs.Grouped.{AreGrouped, AreLike, EachIsTold, Joins, NoteIsTold, PutsNote, StandFor, StandsFor, failure_by, faults_with, first_whole, times_of}
 
 -- ---- notes that stand for others
 
@@ -29,25 +29,30 @@ stand_joined (first ∷ others) each last note both joins (run, rest, one, more,
     (run, rest ++ note ∷ [], one, stand_joined others rest last note both joins more, ap (λ l. l ++ note ∷ []) is ∙ append_assoc run rest (note ∷ []))
 
 pub puts_first : (old popped new : List Note) (note : Note) → old ≡ popped ++ [] → new ≡ popped ++ note ∷ [] → PutsNote old note new
-puts_first old popped new note was is = λ each stands.
-    let P : List Note → Type 0 = λ l. StandFor l (each ++ note ∷ []) in
-    let Q : List Note → Type 0 = λ l. StandFor l each in
-    subst P (sym is) (stand_push popped each note (subst Q (was ∙ append-nil popped) stands))
+puts_first old popped new note was is = record {
+  stands = λ each stands.
+      let P : List Note → Type 0 = λ l. StandFor l (each ++ note ∷ []) in
+      let Q : List Note → Type 0 = λ l. StandFor l each in
+      subst P (sym is) (stand_push popped each note (subst Q (was ∙ append-nil popped) stands));
+}
 
-pub puts_joined : (old popped new : List Note) (last note both : Note)
-    → ((notes : List Note) → StandsFor last notes → StandsFor both (notes ++ note ∷ []))
-    → old ≡ popped ++ last ∷ [] → new ≡ popped ++ both ∷ [] → PutsNote old note new
-puts_joined old popped new last note both joins was is = λ each stands.
-    let P : List Note → Type 0 = λ l. StandFor l (each ++ note ∷ []) in
-    let Q : List Note → Type 0 = λ l. StandFor l each in
-    subst P (sym is) (stand_joined popped each last note both joins (subst Q was stands))
+pub puts_joined : (old popped new : List Note) (last note both : Note) → Joins last note both → old ≡ popped ++ last ∷ []
+    → new ≡ popped ++ both ∷ [] → PutsNote old note new
+puts_joined old popped new last note both joins was is = record {
+  stands = λ each stands.
+      let P : List Note → Type 0 = λ l. StandFor l (each ++ note ∷ []) in
+      let Q : List Note → Type 0 = λ l. StandFor l each in
+      subst P (sym is) (stand_joined popped each last note both joins.stands (subst Q was stands));
+}
 
 pub puts_apart : (old popped mid new : List Note) (last note : Note) → old ≡ popped ++ last ∷ [] → mid ≡ popped ++ last ∷ [] → new ≡ mid ++ note ∷ []
     → PutsNote old note new
-puts_apart old popped mid new last note was then_is is = λ each stands.
-    let P : List Note → Type 0 = λ l. StandFor l (each ++ note ∷ []) in
-    let Q : List Note → Type 0 = λ l. StandFor l each in
-    subst P (sym is) (stand_push mid each note (subst Q (was ∙ sym then_is) stands))
+puts_apart old popped mid new last note was then_is is = record {
+  stands = λ each stands.
+      let P : List Note → Type 0 = λ l. StandFor l (each ++ note ∷ []) in
+      let Q : List Note → Type 0 = λ l. StandFor l each in
+      subst P (sym is) (stand_push mid each note (subst Q (was ∙ sym then_is) stands));
+}
 
 -- ---- failures that are told by the same line
 
@@ -87,11 +92,13 @@ joins_like last note alike other both last_is note_is why line both_why both_lin
 
 pub joins : (last note : Note) (alike other both : Alike) → last ≡ FailsAlike alike → note ≡ FailsAlike other → other.why ≡ alike.why
     → other.line ≡ alike.line → both.why ≡ alike.why → both.line ≡ alike.line → both.times ≡ counted (alike.times + other.times)
-    → (notes : List Note) → StandsFor last notes → StandsFor (FailsAlike both) (notes ++ note ∷ [])
-joins last note alike other both last_is note_is why line both_why both_line times notes stands =
-    let L : Note → Type 0 = λ n. StandsFor n notes in
-    let N : Note → Type 0 = λ n. StandsFor (FailsAlike both) (notes ++ n ∷ []) in
-    subst N (sym note_is) (joins_like last note alike other both last_is note_is why line both_why both_line times notes (subst L last_is stands))
+    → Joins last note (FailsAlike both)
+joins last note alike other both last_is note_is why line both_why both_line times = record {
+  stands = λ notes stands.
+      let L : Note → Type 0 = λ n. StandsFor n notes in
+      let N : Note → Type 0 = λ n. StandsFor (FailsAlike both) (notes ++ n ∷ []) in
+      subst N (sym note_is) (joins_like last note alike other both last_is note_is why line both_why both_line times notes (subst L last_is stands));
+}
 
 -- ---- each note by itself
 

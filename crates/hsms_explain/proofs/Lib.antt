@@ -1,4 +1,5 @@
 mod Courses
+mod Firsts
 mod Following
 mod Going
 mod Grouping
@@ -11,3 +12,4 @@ mod Sorts
 mod Tellings
 mod Verdicts
 pub mod Ended
+mod Windows

@@ -74,6 +74,10 @@ StandFor (note ∷ notes) each = (run : List Note) × (rest : List Note) × Stan
 abbrev pub AreGrouped : ℕ → ℕ → List Fault → List Note → List Note → Type 0
 AreGrouped groups line faults notes told = (each : List Note) × EachIsTold groups line faults notes each × StandFor told each
 
+-- a note stands for what another one stands for, and behind it for one note more
+pub record Joins (last note both : Note) : Type 0 where
+  pub stands : (notes : List Note) → StandsFor last notes → StandsFor both (notes ++ note ∷ [])
+
 -- one note more is put behind notes
-abbrev pub PutsNote : List Note → Note → List Note → Type 0
-PutsNote old note new = (each : List Note) → StandFor old each → StandFor new (each ++ note ∷ [])
+pub record PutsNote (old : List Note) (note : Note) (new : List Note) : Type 0 where
+  pub stands : (each : List Note) → StandFor old each → StandFor new (each ++ note ∷ [])

@@ -9,6 +9,7 @@ pub mod Heard
 pub mod Noted
 pub mod Page
 pub mod Row
+pub mod Shown
 pub mod Sort
 pub mod Step
 pub mod Words

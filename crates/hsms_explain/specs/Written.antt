@@ -34,6 +34,10 @@ abbrev pub NotesTold : List Note → List ℕ → Type 0
 NotesTold [] words = words ≡ []
 NotesTold (note ∷ notes) words = (first : List ℕ) × (rest : List ℕ) × NoteTold note first × NotesTold notes rest × (words ≡ first ++ rest)
 
+-- two dots, in place of lines that are left out
+abbrev pub gap_text : List ℕ
+gap_text = codes "       " ++ codes "..\n"
+
 -- ---- a line
 
 abbrev pub mark_text : Mark → List ℕ

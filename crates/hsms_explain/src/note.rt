@@ -5,7 +5,7 @@ ghost use Rattle.std.specs.List.{list_any};
 ghost use Rattle.indexmap.specs.IndexMap.{index_map_len};
 ghost use Rattle.hsms_log.specs.declared.verdict.Why.TheVariants.{Unreadable};
 ghost use Rattle.hsms_explain.specs.Alike.{Fault, HasGroups};
-ghost use Rattle.hsms_explain.specs.Grouped.{AreGrouped, NoteIsTold, PutsNote, StandsFor, failure_by, faults_with, first_whole, is_whole};
+ghost use Rattle.hsms_explain.specs.Grouped.{AreGrouped, Joins, NoteIsTold, PutsNote, failure_by, faults_with, first_whole, is_whole};
 ghost use Rattle.hsms_explain.specs.Noted.{first_why};
 
 use crate::alike::Groups;
@@ -133,6 +133,7 @@ fn told_note(groups: &mut Groups, note: Note, line: u64) -> Result<Note, AllocEr
 }
 
 // Puts a note behind those that are told. What is told by the same line as the last one is counted with it.
+#[tactic(auto, using(crate::proofs::Grouping::puts_first, crate::proofs::Grouping::puts_joined, crate::proofs::Grouping::puts_apart))]
 fn put_note(grouped: &mut Vec<Note>, note: Note) -> Result<(), AllocError>
     ensures { OnOk result (PutsNote grouped.old.items note grouped.new.items) }
 {
@@ -152,7 +153,7 @@ fn put_note(grouped: &mut Vec<Note>, note: Note) -> Result<(), AllocError>
 
 // Two notes as one, where both tell failures by the same line.
 fn joined(last: Note, note: Note) -> Option<Note>
-    ensures { IfSome result (λ both. (notes : List Note) → StandsFor last notes → StandsFor both (notes ++ note ∷ [])) }
+    ensures { IfSome result (Joins last note) }
 {
     let Note::FailsAlike(alike) = last else {
         return None;

@@ -2,10 +2,13 @@
 
 ghost use Rattle.std.specs.Prelude.{◌≡◌, ℕ, List, [], OnOk, IfOk, Some, None};
 ghost use Rattle.hsms_log.specs.declared.verdict.Why.TheVariants.{Unreadable};
+ghost use Rattle.hsms_options.specs.declared.excerpt.Telling.TheVariants.{Text};
 ghost use Rattle.hsms_explain.specs.Counting.{counts_of};
 ghost use Rattle.hsms_explain.specs.Failing.{failed_at, verdict_by, unjudged_by};
 ghost use Rattle.hsms_explain.specs.Gone.{LineMends, NotesUnreadable};
 ghost use Rattle.hsms_explain.specs.Noted.{either, first_why, with_carried, LineFailsBy};
+ghost use Rattle.hsms_explain.specs.Page.{AddsSome};
+ghost use Rattle.hsms_explain.specs.Shown.{NoneBefore, TellsFirst};
 
 use crate::alike::Groups;
 use crate::known::Known;
@@ -40,6 +43,8 @@ impl Report {
     pub fn new(alloc: Global, excerpt: Excerpt) -> Result<Report, AllocError>
         ensures first { IfOk result (λ report. report.tally.first ≡ None) }
         ensures entries { IfOk result (λ report. report.tally.entries ≡ counts_of []) }
+        ensures groups { IfOk result (λ report. NoneBefore report.tally report.groups) }
+        ensures excerpt { IfOk result (λ report. report.window.excerpt ≡ excerpt) }
     {
         let teller = Teller::new(excerpt);
         let mut page = Page::new(alloc)?;
@@ -59,6 +64,8 @@ impl Report {
     pub fn tell_ends(&mut self, settings: Settings)
         ensures tally { self.new.tally ≡ self.old.tally }
         ensures notes { self.new.notes ≡ self.old.notes }
+        ensures groups { self.new.groups ≡ self.old.groups }
+        ensures window { self.new.window ≡ self.old.window }
     {
         self.teller.ends(&mut self.page, settings);
     }
@@ -102,6 +109,11 @@ impl Report {
     pub fn tell(&mut self, alloc: Global, told: Told<'_, '_>, max: u32) -> Result<(), AllocError>
         ensures first { OnOk result (self.new.tally.first ≡ either self.old.tally.first (failed_at told.entry.number (first_why self.old.notes.items))) }
         ensures entries { self.new.tally.entries ≡ self.old.tally.entries }
+        ensures told { OnOk result (NoneBefore self.old.tally self.old.groups → TellsFirst self.old.window.excerpt self.old.tally
+            self.old.notes.items told.entry self.old.page self.new.page) }
+        ensures some { OnOk result (self.old.window.excerpt.form ≡ Text → AddsSome self.old.page self.new.page) }
+        ensures groups { OnOk result (NoneBefore self.old.tally self.old.groups → NoneBefore self.new.tally self.new.groups) }
+        ensures excerpt { self.new.window.excerpt ≡ self.old.window.excerpt }
     {
         self.tally.count_notes(told.number, &self.notes)?;
         if !self.window.has_line(told.number) {
@@ -130,6 +142,9 @@ impl Report {
         ensures line { OnOk result (known.new.course.line ≡ known.old.course.line) }
         ensures entries { OnOk result (self.new.tally.entries ≡ with_carried self.old.tally.entries carried.entry) }
         ensures first { self.new.tally.first ≡ self.old.tally.first }
+        ensures groups { self.new.groups ≡ self.old.groups }
+        ensures window { self.new.window ≡ self.old.window }
+        ensures page { self.new.page ≡ self.old.page }
     {
         self.notes.clear();
         match carried {
@@ -146,6 +161,9 @@ impl Report {
     pub fn clear_notes(&mut self)
         ensures notes { self.new.notes.items ≡ [] }
         ensures tally { self.new.tally ≡ self.old.tally }
+        ensures groups { self.new.groups ≡ self.old.groups }
+        ensures window { self.new.window ≡ self.old.window }
+        ensures page { self.new.page ≡ self.old.page }
     {
         self.notes.clear();
     }
@@ -155,6 +173,9 @@ impl Report {
         ensures notes { OnOk result (first_why self.new.notes.items ≡ either (first_why self.old.notes.items) (Some Unreadable)) }
         ensures adds { OnOk result (NotesUnreadable self.old.notes.items self.new.notes.items) }
         ensures tally { self.new.tally ≡ self.old.tally }
+        ensures groups { self.new.groups ≡ self.old.groups }
+        ensures window { self.new.window ≡ self.old.window }
+        ensures page { self.new.page ≡ self.old.page }
     {
         self.notes.push(Note::Fails(Failing::unreadable()))?;
         Ok(())
@@ -162,7 +183,9 @@ impl Report {
 
     /// Puts what is told together, so that it can be written.
     pub fn gather(&mut self)
-        ensures { self.new.tally ≡ self.old.tally }
+        ensures tally { self.new.tally ≡ self.old.tally }
+        ensures groups { self.new.groups ≡ self.old.groups }
+        ensures window { self.new.window ≡ self.old.window }
     {
         self.page.gather();
     }
@@ -178,7 +201,9 @@ impl Report {
 
     /// Lets go what is told.
     pub fn let_go(&mut self)
-        ensures { self.new.tally ≡ self.old.tally }
+        ensures tally { self.new.tally ≡ self.old.tally }
+        ensures groups { self.new.groups ≡ self.old.groups }
+        ensures window { self.new.window ≡ self.old.window }
     {
         self.page.clear();
     }

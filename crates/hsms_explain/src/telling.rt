@@ -3,7 +3,7 @@
 ghost use Rattle.std.specs.Prelude.{◌≡◌, ℕ, List, OnOk};
 ghost use Rattle.hsms_options.specs.declared.excerpt.Telling.TheVariants.{Text};
 ghost use Rattle.hsms_explain.specs.Page.{Adds};
-ghost use Rattle.hsms_explain.specs.Written.{LineTold};
+ghost use Rattle.hsms_explain.specs.Written.{LineTold, gap_text};
 
 use crate::alike::Groups;
 use crate::links::Links;
@@ -27,7 +27,9 @@ pub struct Teller {
 
 impl Teller {
     /// What writes this excerpt.
-    pub fn new(excerpt: Excerpt) -> Teller {
+    pub fn new(excerpt: Excerpt) -> Teller
+        ensures { result.form ≡ excerpt.form }
+    {
         Teller {
             form: excerpt.form,
             utc: excerpt.utc,
@@ -78,7 +80,9 @@ impl Teller {
     }
 
     /// Writes that lines are left out.
-    pub fn gap(self, alloc: Global, page: &mut Page, gap: Gap) -> Result<(), AllocError> {
+    pub fn gap(self, alloc: Global, page: &mut Page, gap: Gap) -> Result<(), AllocError>
+        ensures { OnOk result (self.form ≡ Text → Adds page.old page.new gap_text) }
+    {
         match self.form {
             Telling::Text => {
                 text::write_gap(page);

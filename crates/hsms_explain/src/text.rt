@@ -3,7 +3,7 @@
 ghost use Rattle.std.specs.Prelude.{◌≡◌, ◌++◌, ℕ, List, IfSome, OnOk, codes};
 ghost use Rattle.hsms_explain.specs.Page.{Adds, AddsSome};
 ghost use Rattle.hsms_explain.specs.Words.{why_name};
-ghost use Rattle.hsms_explain.specs.Written.{CarriedSaid, LineSaid, LineTold, NoteTold, WhatSaid, below, mark_text, rule_words};
+ghost use Rattle.hsms_explain.specs.Written.{CarriedSaid, LineSaid, LineTold, NoteTold, WhatSaid, below, gap_text, mark_text, rule_words};
 
 use crate::alike::Groups;
 use crate::expecting::Expected;
@@ -48,7 +48,9 @@ pub fn write_line(
 }
 
 /// Writes that lines are left out.
-pub fn write_gap(page: &mut Page) {
+pub fn write_gap(page: &mut Page)
+    ensures { Adds page.old page.new gap_text }
+{
     page.lay(BELOW);
     page.lay(b"..\n");
 }

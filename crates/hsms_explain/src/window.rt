@@ -14,7 +14,6 @@ use std::collections::VecDeque;
 /// are told around it.
 pub struct Window {
     excerpt: Excerpt,
-    teller: Teller,
     held: VecDeque<Held>,
     // How many lines are told behind the last failure yet.
     behind: u32,
@@ -39,7 +38,6 @@ impl Drop for Window {
     fn drop(self) {
         let Window {
             excerpt: _excerpt,
-            teller: _teller,
             held,
             behind: _behind,
             last: _last,
@@ -77,11 +75,20 @@ impl Held {
 }
 
 impl Window {
+    ghost use Rattle.std.specs.Prelude.{◌≡◌, ◌-◌, ◌||◌, [], OnOk, nat_lt, if◌then◌else◌};
+    ghost use Rattle.std.specs.List.{list_any};
+    ghost use Rattle.hsms_options.specs.Excerpt.{is_between};
+    ghost use Rattle.hsms_options.specs.declared.excerpt.Telling.TheVariants.{Text};
+    ghost use Rattle.hsms_explain.specs.Grouped.{is_whole};
+    ghost use Rattle.hsms_explain.specs.Page.{Adds, AddsSome};
+    ghost use Rattle.hsms_explain.specs.Shown.{TakesLine, TellsNext, behind_after, is_told_at_once, left_out};
+
     /// No line was told yet.
-    pub fn new(alloc: Global, excerpt: Excerpt) -> Window {
+    pub fn new(alloc: Global, excerpt: Excerpt) -> Window
+        ensures { result.excerpt ≡ excerpt }
+    {
         Window {
             excerpt,
-            teller: Teller::new(excerpt),
             held: VecDeque::new(alloc),
             behind: 0,
             last: 0,
@@ -90,8 +97,17 @@ impl Window {
         }
     }
 
+    /// What writes it.
+    pub fn teller(&self) -> Teller
+        ensures { result.form ≡ self.now.excerpt.form }
+    {
+        Teller::new(self.excerpt)
+    }
+
     /// Whether the line is one of the excerpt.
-    pub fn has_line(&self, number: u64) -> bool {
+    pub fn has_line(&self, number: u64) -> bool
+        ensures { result ≡ is_between self.now.excerpt number }
+    {
         self.excerpt.has_line(number)
     }
 
@@ -103,7 +119,13 @@ impl Window {
         told: Told<'_, '_>,
         notes: &[Note],
         max: u32,
-    ) -> Result<(), AllocError> {
+    ) -> Result<(), AllocError>
+        ensures told { OnOk result (self.old.excerpt.form ≡ Text
+            → TakesLine (is_told_at_once self.old.excerpt.lines self.old.behind notes.now) page.old page.new told.entry notes.now) }
+        ensures behind { OnOk result (self.new.behind
+            ≡ behind_after self.old.excerpt.lines self.old.excerpt.around self.old.behind notes.now) }
+        ensures excerpt { self.new.excerpt ≡ self.old.excerpt }
+    {
         if self.is_told(notes) {
             self.tell_held(alloc, page, max)?;
             self.tell(alloc, page, told, notes)
@@ -113,10 +135,25 @@ impl Window {
     }
 
     // Whether the line of these notes is told at once.
-    fn is_told(&mut self, notes: &[Note]) -> bool {
-        if self.excerpt.lines == Lines::All {
-            return true;
+    fn is_told(&mut self, notes: &[Note]) -> bool
+        ensures told { result ≡ is_told_at_once self.old.excerpt.lines self.old.behind notes.now }
+        ensures behind { self.new.behind ≡ behind_after self.old.excerpt.lines self.old.excerpt.around self.old.behind notes.now }
+        ensures excerpt { self.new.excerpt ≡ self.old.excerpt }
+        ensures held { self.new.held ≡ self.old.held }
+    {
+        match self.excerpt.lines {
+            Lines::All => true,
+            Lines::Failures => self.is_near(notes),
         }
+    }
+
+    // The same where failures alone are told, and lines around them.
+    fn is_near(&mut self, notes: &[Note]) -> bool
+        ensures told { result ≡ (list_any is_whole notes.now || nat_lt 0 self.old.behind) }
+        ensures behind { self.new.behind ≡ (if list_any is_whole notes.now then self.old.excerpt.around else self.old.behind - 1) }
+        ensures excerpt { self.new.excerpt ≡ self.old.excerpt }
+        ensures held { self.new.held ≡ self.old.held }
+    {
         if has_failure(notes) {
             self.behind = self.excerpt.around;
             return true;
@@ -126,24 +163,29 @@ impl Window {
         is_behind
     }
 
+    // Tells a line, behind those that were told.
     fn tell(
         &mut self,
         alloc: Global,
         page: &mut Page,
         told: Told<'_, '_>,
         notes: &[Note],
-    ) -> Result<(), AllocError> {
+    ) -> Result<(), AllocError>
+        ensures told { OnOk result (self.old.excerpt.form ≡ Text → TellsNext self.old.last page.old page.new told.entry notes.now) }
+        ensures behind { self.new.behind ≡ self.old.behind }
+        ensures excerpt { self.new.excerpt ≡ self.old.excerpt }
+        ensures held { self.new.held ≡ self.old.held }
+    {
         self.go_to(alloc, page, told.number)?;
-        self.teller.line(alloc, page, &mut self.links, told, notes)
+        let teller = self.teller();
+        teller.line(alloc, page, &mut self.links, told, notes)
     }
 
     // Holds a line in place of the oldest one that is held.
-    fn hold(
-        &mut self,
-        alloc: Global,
-        told: Told<'_, '_>,
-        notes: &[Note],
-    ) -> Result<(), AllocError> {
+    fn hold(&mut self, alloc: Global, told: Told<'_, '_>, notes: &[Note]) -> Result<(), AllocError>
+        ensures behind { self.new.behind ≡ self.old.behind }
+        ensures excerpt { self.new.excerpt ≡ self.old.excerpt }
+    {
         if self.excerpt.around == 0 {
             return Ok(());
         }
@@ -159,7 +201,10 @@ impl Window {
     }
 
     // The oldest line that is held, where as many are as are told before a failure.
-    fn vacant(&mut self, alloc: Global) -> Held {
+    fn vacant(&mut self, alloc: Global) -> Held
+        ensures behind { self.new.behind ≡ self.old.behind }
+        ensures excerpt { self.new.excerpt ≡ self.old.excerpt }
+    {
         if self.held.len() < self.excerpt.around as usize {
             return Held::new(alloc);
         }
@@ -169,11 +214,15 @@ impl Window {
         }
     }
 
-    fn tell_held(&mut self, alloc: Global, page: &mut Page, max: u32) -> Result<(), AllocError> {
-        for _ in 0..self.held.len() {
-            if let Some(held) = self.held.pop_front() {
-                self.tell_one(alloc, page, &held, max)?;
-            }
+    // Tells the lines that are held, in their order, and holds none any more.
+    fn tell_held(&mut self, alloc: Global, page: &mut Page, max: u32) -> Result<(), AllocError>
+        ensures told { OnOk result (self.old.excerpt.form ≡ Text → AddsSome page.old page.new) }
+        ensures behind { self.new.behind ≡ self.old.behind }
+        ensures excerpt { self.new.excerpt ≡ self.old.excerpt }
+        ensures held { OnOk result (self.new.held.items ≡ []) }
+    {
+        while let Some(held) = self.held.pop_front() {
+            self.tell_one(alloc, page, &held, max)?;
         }
         Ok(())
     }
@@ -184,8 +233,14 @@ impl Window {
         page: &mut Page,
         held: &Held,
         max: u32,
-    ) -> Result<(), AllocError> {
+    ) -> Result<(), AllocError>
+        ensures told { OnOk result (self.old.excerpt.form ≡ Text → AddsSome page.old page.new) }
+        ensures behind { self.new.behind ≡ self.old.behind }
+        ensures excerpt { self.new.excerpt ≡ self.old.excerpt }
+        ensures held { self.new.held ≡ self.old.held }
+    {
         self.go_to(alloc, page, held.number)?;
+        let teller = self.teller();
         let carried = held.carried(alloc, max, &mut self.octets)?;
         let told = Told {
             number: held.number,
@@ -193,28 +248,33 @@ impl Window {
             limit: held.octets.len(),
             carried,
         };
-        self.teller
-            .line(alloc, page, &mut self.links, told, &held.notes)
+        teller.line(alloc, page, &mut self.links, told, &held.notes)
     }
 
     // Tells that lines are left out before this one, where it doesn't follow the last one that was told.
-    fn go_to(&mut self, alloc: Global, page: &mut Page, number: u64) -> Result<(), AllocError> {
+    fn go_to(&mut self, alloc: Global, page: &mut Page, number: u64) -> Result<(), AllocError>
+        ensures told { OnOk result (self.old.excerpt.form ≡ Text → Adds page.old page.new (left_out self.old.last number)) }
+        ensures last { self.new.last ≡ number }
+        ensures behind { self.new.behind ≡ self.old.behind }
+        ensures excerpt { self.new.excerpt ≡ self.old.excerpt }
+        ensures held { self.new.held ≡ self.old.held }
+    {
         let from = self.last.saturating_add(1);
         self.last = number;
         if number <= from {
             return Ok(());
         }
         let to = number - 1;
-        self.teller.gap(alloc, page, Gap { from, to })
+        self.teller().gap(alloc, page, Gap { from, to })
     }
 
     /// Tells that lines are left out behind the last one that was told, of so many lines, and that no line follows.
     pub fn finish(&self, alloc: Global, page: &mut Page, lines: u64) -> Result<(), AllocError> {
         if lines > self.last {
             let from = self.last + 1;
-            self.teller.gap(alloc, page, Gap { from, to: lines })?;
+            self.teller().gap(alloc, page, Gap { from, to: lines })?;
         }
-        self.teller.end_lines(page, &self.links);
+        self.teller().end_lines(page, &self.links);
         Ok(())
     }
 

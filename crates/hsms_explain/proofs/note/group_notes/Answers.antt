@@ -3,7 +3,7 @@ use Rattle.std.proofs.lemmas.List.{take_all, take_more}
 use Rattle.indexmap.specs.IndexMap.{index_map_len}
 use Rattle.hsms_explain.specs.declared.note.Note.{Note}
 use Rattle.hsms_explain.specs.Alike.{Fault, HasGroups}
-use Rattle.hsms_explain.specs.Grouped.{AreGrouped, EachIsTold, StandFor, faults_with}
+use Rattle.hsms_explain.specs.Grouped.{EachIsTold, StandFor, faults_with}
 use Rattle.hsms_explain.proofs.Grouping.{each_more, faults_more, first_grouped}
 use Rattle.hsms_explain.proofs.note.group_notes.Goals as goal
 
@@ -20,7 +20,7 @@ loop-note-preserved c =
     let notes = take c.loop-note.note-index c.args.notes.now in
     let more = take_more c.args.notes.now c.loop-note.note-index _ c.loop-note-test.true in (
       inv.0 ++ told ∷ [],
-      c.in_ok-put_note.ensures inv.0 inv.1,
+      c.in_ok-put_note.ensures.stands inv.0 inv.1,
       λ faults has.
           let before = inv.2 faults has in
           let H : List Fault → Type 0 = λ f. HasGroups f c.told_note.new.groups.items in (

@@ -1,0 +1,42 @@
+-- Which lines come to the page.
+use Rattle.std.proofs.Common.{◌≡◌, ◌≤◌, ◌<◌, ◌+◌, ◌++◌, ℕ, Bool, true, false, List, [], refl, sym, append_assoc}
+use Rattle.std.proofs.lemmas.Bool.{lt-ltb, le-ltb}
+use Rattle.hsms_explain.specs.declared.note.Note.{Note}
+use Rattle.hsms_explain.specs.declared.page.Page.{Page}
+use Rattle.hsms_explain.specs.declared.told.Told.{Told}
+use Rattle.hsms_explain.specs.Page.{Adds, AddsSome}
+use Rattle.hsms_explain.specs.Shown.{EndsWith, TakesLine, TellsNext, left_out}
+use Rattle.hsms_explain.specs.Written.{LineTold, gap_text}
+use Rattle.hsms_explain.proofs.Pages.{adds_is, adds_none, adds_then}
+
+none_left : (last number : ℕ) → number ≤ last + 1 → left_out last number ≡ []
+none_left last number le = rw (le-ltb (last + 1) number le) refl
+
+some_left : (last number : ℕ) → last + 1 < number → left_out last number ≡ gap_text
+some_left last number lt = rw (lt-ltb (last + 1) number lt) refl
+
+pub follows : (page : Page) (last number : ℕ) → number ≤ last + 1 → Adds page page (left_out last number)
+follows page last number le = adds_is page page [] _ (sym (none_left last number le)) (adds_none page)
+
+pub leaves_out : (old new : Page) (last number : ℕ) → last + 1 < number → Adds old new gap_text → Adds old new (left_out last number)
+leaves_out old new last number lt adds = adds_is old new gap_text _ (sym (some_left last number lt)) adds
+
+pub next_told : (old mid new : Page) (last : ℕ) (told : Told) (notes : List Note) → Adds old mid (left_out last told.number)
+    → (words : List ℕ) × LineTold told notes words × Adds mid new words → TellsNext last old new told notes
+next_told old mid new last told notes gap (words, line, adds) = (words, line, adds_then old mid new _ words gap adds)
+
+pub ends_with : (old mid new : Page) (last : ℕ) (told : Told) (notes : List Note) → AddsSome old mid → TellsNext last mid new told notes
+    → EndsWith old new told notes
+ends_with old mid new last told notes (before, some) (words, line, adds) =
+    (before ++ left_out last told.number, words, line, adds_is old new _ _ (sym (append_assoc before (left_out last told.number) words)) (adds_then old mid new before _ some adds))
+
+-- ---- a line is told, or held
+
+pub line_told : (now : Bool) (old mid new : Page) (last : ℕ) (told : Told) (notes : List Note) → now ≡ true → AddsSome old mid
+    → TellsNext last mid new told notes → TakesLine now old new told notes
+line_told true old mid new last told notes is some tells = ends_with old mid new last told notes some tells
+line_told false old mid new last told notes is some tells = absurd cc
+
+pub line_held : (now : Bool) (page : Page) (told : Told) (notes : List Note) → now ≡ false → TakesLine now page page told notes
+line_held true page told notes is = absurd cc
+line_held false page told notes is = refl
