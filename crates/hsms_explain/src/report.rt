@@ -109,10 +109,12 @@ impl Report {
     pub fn tell(&mut self, alloc: Global, told: Told<'_, '_>, max: u32) -> Result<(), AllocError>
         ensures first { OnOk result (self.new.tally.first ≡ either self.old.tally.first (failed_at told.entry.number (first_why self.old.notes.items))) }
         ensures entries { self.new.tally.entries ≡ self.old.tally.entries }
-        ensures told { OnOk result (NoneBefore self.old.tally self.old.groups → TellsFirst self.old.window.excerpt self.old.tally
-            self.old.notes.items told.entry self.old.page self.new.page) }
+        ensures told { OnOk result (NoneBefore self.old.tally self.old.groups
+            → TellsFirst self.old.window.excerpt self.old.tally self.old.notes.items told.entry self.old.page
+            self.new.page) }
         ensures some { OnOk result (self.old.window.excerpt.form ≡ Text → AddsSome self.old.page self.new.page) }
-        ensures groups { OnOk result (NoneBefore self.old.tally self.old.groups → NoneBefore self.new.tally self.new.groups) }
+        ensures groups { OnOk result (NoneBefore self.old.tally self.old.groups
+            → NoneBefore self.new.tally self.new.groups) }
         ensures excerpt { self.new.window.excerpt ≡ self.old.window.excerpt }
     {
         self.tally.count_notes(told.number, &self.notes)?;

@@ -121,7 +121,8 @@ impl Window {
         max: u32,
     ) -> Result<(), AllocError>
         ensures told { OnOk result (self.old.excerpt.form ≡ Text
-            → TakesLine (is_told_at_once self.old.excerpt.lines self.old.behind notes.now) page.old page.new told.entry notes.now) }
+            → TakesLine (is_told_at_once self.old.excerpt.lines self.old.behind notes.now) page.old page.new told.entry
+            notes.now) }
         ensures behind { OnOk result (self.new.behind
             ≡ behind_after self.old.excerpt.lines self.old.excerpt.around self.old.behind notes.now) }
         ensures excerpt { self.new.excerpt ≡ self.old.excerpt }
@@ -137,7 +138,8 @@ impl Window {
     // Whether the line of these notes is told at once.
     fn is_told(&mut self, notes: &[Note]) -> bool
         ensures told { result ≡ is_told_at_once self.old.excerpt.lines self.old.behind notes.now }
-        ensures behind { self.new.behind ≡ behind_after self.old.excerpt.lines self.old.excerpt.around self.old.behind notes.now }
+        ensures behind { self.new.behind
+            ≡ behind_after self.old.excerpt.lines self.old.excerpt.around self.old.behind notes.now }
         ensures excerpt { self.new.excerpt ≡ self.old.excerpt }
         ensures held { self.new.held ≡ self.old.held }
     {
@@ -150,7 +152,8 @@ impl Window {
     // The same where failures alone are told, and lines around them.
     fn is_near(&mut self, notes: &[Note]) -> bool
         ensures told { result ≡ (list_any is_whole notes.now || nat_lt 0 self.old.behind) }
-        ensures behind { self.new.behind ≡ (if list_any is_whole notes.now then self.old.excerpt.around else self.old.behind - 1) }
+        ensures behind { self.new.behind
+            ≡ (if list_any is_whole notes.now then self.old.excerpt.around else self.old.behind - 1) }
         ensures excerpt { self.new.excerpt ≡ self.old.excerpt }
         ensures held { self.new.held ≡ self.old.held }
     {
@@ -171,7 +174,8 @@ impl Window {
         told: Told<'_, '_>,
         notes: &[Note],
     ) -> Result<(), AllocError>
-        ensures told { OnOk result (self.old.excerpt.form ≡ Text → TellsNext self.old.last page.old page.new told.entry notes.now) }
+        ensures told { OnOk result (self.old.excerpt.form ≡ Text
+            → TellsNext self.old.last page.old page.new told.entry notes.now) }
         ensures behind { self.new.behind ≡ self.old.behind }
         ensures excerpt { self.new.excerpt ≡ self.old.excerpt }
         ensures held { self.new.held ≡ self.old.held }
@@ -253,7 +257,8 @@ impl Window {
 
     // Tells that lines are left out before this one, where it doesn't follow the last one that was told.
     fn go_to(&mut self, alloc: Global, page: &mut Page, number: u64) -> Result<(), AllocError>
-        ensures told { OnOk result (self.old.excerpt.form ≡ Text → Adds page.old page.new (left_out self.old.last number)) }
+        ensures told { OnOk result (self.old.excerpt.form ≡ Text
+            → Adds page.old page.new (left_out self.old.last number)) }
         ensures last { self.new.last ≡ number }
         ensures behind { self.new.behind ≡ self.old.behind }
         ensures excerpt { self.new.excerpt ≡ self.old.excerpt }
