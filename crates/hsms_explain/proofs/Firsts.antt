@@ -171,16 +171,16 @@ tells_new old new notes told why true between why_is first none tells some group
     let failing = first_failing notes why why_is in
     let line = tells so_far.groups failing.0 none (ap (λ (e : Excerpt). e.form) so_far.asked ∙ is) between failing.1 in
     let whole = line.0 in
-    let before = line.2 in
-    let words = line.3 in
+    let before = line.2.0 in
+    let words = line.2.1 in
     let F : Option Failed → Type 0 = λ f. IsFirstTold excerpt f (written ++ (text ++ (before ++ words))) in (
       text ++ (before ++ words),
       record {
         asked = asked ∙ so_far.asked;
         groups = groups so_far.groups;
-        page = line.5.grows text so_far.page;
+        page = line.2.3.grows text so_far.page;
         first = subst F (sym first)
-            (λ so. (written ++ (text ++ before), words, [], (told, whole, failing.0, refl, line.1, failing.2, line.4), at_end written text before words));
+            (λ so. (written ++ (text ++ before), words, [], (told, whole, failing.0, refl, line.1, failing.2, line.2.2), at_end written text before words));
       },
     )
 tells_new old new notes told why false between why_is first none tells some groups asked = λ excerpt written is shows.
