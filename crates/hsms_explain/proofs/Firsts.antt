@@ -1,7 +1,14 @@
 -- The first failure of all is told.
-use Rattle.std.proofs.Common.{◌≡◌, ◌++◌, ℕ, Bool, true, false, List, [], ◌∷◌, Some, None, refl, sym, ◌∙◌, subst}
-use Rattle.std.specs.Prelude.{Option}
+use Rattle.std.proofs.Common.{◌≡◌, ◌++◌, ℕ, Bool, true, false, List, [], ◌∷◌, Some, None, refl, sym, ap, ◌∙◌, subst, append_assoc}
+use Rattle.std.specs.Prelude.{MatchOption, Option}
 use Rattle.std.specs.List.{list_any}
+use Rattle.std.proofs.lemmas.List.{append-nil}
+use Rattle.hsms_frame.specs.Device.{Grows}
+use Rattle.hsms_log.specs.Lines.{lines_of}
+use Rattle.hsms_log.specs.Verdict.{Judges}
+use Rattle.hsms_log.specs.declared.verdict.Verdict.{Verdict}
+use Rattle.hsms_log.specs.declared.verdict.Verdict.TheVariants.{Fail}
+use Rattle.hsms_log.specs.declared.verdict.Summary.{Summary}
 use Rattle.hsms_log.specs.declared.verdict.Why.{Why}
 use Rattle.hsms_options.specs.Excerpt.{is_between}
 use Rattle.hsms_options.specs.declared.excerpt.Excerpt.{Excerpt}
@@ -13,14 +20,19 @@ use Rattle.hsms_explain.specs.declared.note.Failing.{Failing}
 use Rattle.hsms_explain.specs.declared.note.Note.{Note}
 use Rattle.hsms_explain.specs.declared.note.Note.TheVariants.{Closes, Fails, FailsAlike}
 use Rattle.hsms_explain.specs.declared.page.Page.{Page}
+use Rattle.hsms_explain.specs.declared.report.Report.{Report}
 use Rattle.hsms_explain.specs.declared.tally.Failed.{Failed}
 use Rattle.hsms_explain.specs.declared.tally.Tally.{Tally}
 use Rattle.hsms_explain.specs.declared.told.Told.{Told}
+use Rattle.hsms_explain.specs.declared.window.Window.{Window}
 use Rattle.hsms_explain.specs.Alike.{Fault, HasGroups}
-use Rattle.hsms_explain.specs.Failing.{failed_at}
+use Rattle.hsms_explain.specs.Failing.{FailsFirst, failed_at, unjudged_by, verdict_by}
+use Rattle.hsms_explain.specs.First.{IsBeingWritten, IsFirstTold, IsOfFirst, IsWritten, KeepsShown, ShowsWith, TellsFailure, TellsFirstFailure}
+use Rattle.hsms_explain.specs.Counting.{counts_of}
+use Rattle.hsms_explain.specs.Heard.{UnjudgedAfter}
 use Rattle.hsms_explain.specs.Grouped.{faults_with, first_whole, is_whole}
 use Rattle.hsms_explain.specs.Noted.{either, first_why}
-use Rattle.hsms_explain.specs.Page.{AddsSome}
+use Rattle.hsms_explain.specs.Page.{AddsSome, HasTold}
 use Rattle.hsms_explain.specs.Shown.{NoneBefore, TakesLine, TellsFirst, is_told_at_once}
 use Rattle.hsms_explain.proofs.Pages.{adds_none}
 
@@ -81,3 +93,210 @@ takes_some true old new told notes (before, words, line, adds) = (before ++ word
 takes_some false old new told notes same =
     let P : Page → Type 0 = λ p. AddsSome old p in
     subst P (sym same) ([], adds_none old)
+
+-- ---- what was told stays
+
+more_told : (number : ℕ) (why : Why) (all more : List ℕ) → TellsFailure number why all → TellsFailure number why (all ++ more)
+more_told number why all more (before, words, behind, told, is) =
+    (before, words, behind ++ more, told, ap (λ l. l ++ more) is ∙ append_assoc (before ++ words) behind more)
+
+first_more : (excerpt : Excerpt) (first : Option Failed) (all more : List ℕ) → IsFirstTold excerpt first all → IsFirstTold excerpt first (all ++ more)
+first_more excerpt None all more told = tt
+first_more excerpt (Some failed) all more told = λ between. more_told failed.line failed.why all more (told between)
+
+first_on : (excerpt : Excerpt) (first : Option Failed) (written text more : List ℕ) → IsFirstTold excerpt first (written ++ text)
+    → IsFirstTold excerpt first (written ++ (text ++ more))
+first_on excerpt first written text more told =
+    let P : List ℕ → Type 0 = λ l. IsFirstTold excerpt first l in
+    subst P (append_assoc written text more) (first_more excerpt first (written ++ text) more told)
+
+none_same : (old new : Tally) (groups now : Groups) → new.first ≡ old.first → now ≡ groups → NoneBefore old groups → NoneBefore new now
+none_same old new groups now first same before = λ none.
+    let H : Groups → Type 0 = λ g. HasGroups [] g.items in
+    subst H (sym same) (before (sym first ∙ none))
+
+pub keeps_some : (old new : Report) → new.window.excerpt ≡ old.window.excerpt → (NoneBefore old.tally old.groups → NoneBefore new.tally new.groups)
+    → new.tally.first ≡ old.tally.first → (old.window.excerpt.form ≡ Text → AddsSome old.page new.page) → KeepsShown old new
+keeps_some old new asked groups first some = λ excerpt written is shows.
+    let text = shows.0 in
+    let so_far = shows.1 in
+    let more = some (ap (λ (e : Excerpt). e.form) so_far.asked ∙ is) in
+    let F : Option Failed → Type 0 = λ f. IsFirstTold excerpt f (written ++ (text ++ more.0)) in (
+      text ++ more.0,
+      record {
+        asked = asked ∙ so_far.asked;
+        groups = groups so_far.groups;
+        page = more.1.grows text so_far.page;
+        first = subst F (sym first) (first_on excerpt old.tally.first written text more.0 so_far.first);
+      },
+    )
+
+-- what changes neither the failures nor what is told, but for more behind it
+pub keeps_on : (old new : Report) → new.window ≡ old.window → new.groups ≡ old.groups → new.tally.first ≡ old.tally.first
+    → (old.window.excerpt.form ≡ Text → AddsSome old.page new.page) → KeepsShown old new
+keeps_on old new window groups first some =
+    keeps_some old new (ap (λ (w : Window). w.excerpt) window) (none_same old.tally new.tally old.groups new.groups first groups) first some
+
+pub keeps_page : (old new : Report) → new.window ≡ old.window → new.groups ≡ old.groups → new.tally.first ≡ old.tally.first → new.page ≡ old.page
+    → KeepsShown old new
+keeps_page old new window groups first page =
+    let P : Page → Type 0 = λ p. AddsSome old.page p in
+    keeps_on old new window groups first (λ is. subst P (sym page) ([], adds_none old.page))
+
+pub keeps_then : (old mid new : Report) → KeepsShown old mid → KeepsShown mid new → KeepsShown old new
+keeps_then old mid new one other = λ excerpt written is shows. other excerpt written is (one excerpt written is shows)
+
+-- ---- a line is told
+
+first_failing : (notes : List Note) (why : Why) → first_why notes ≡ Some why → (failing : Failing) × (first_whole notes ≡ Some failing) × (failing.why ≡ why)
+first_failing [] why is = absurd cc
+first_failing (Closes closing ∷ notes) why is = first_failing notes why is
+first_failing (Fails failing ∷ notes) why is = (failing, refl, cc)
+first_failing (FailsAlike alike ∷ notes) why is = first_failing notes why is
+
+at_end : (written text before words : List ℕ) → written ++ (text ++ (before ++ words)) ≡ written ++ (text ++ before) ++ words ++ []
+at_end written text before words =
+    ap (λ l. written ++ l) (sym (append_assoc text before words)) ∙ sym (append_assoc written (text ++ before) words)
+    ∙ sym (append-nil (written ++ (text ++ before) ++ words))
+
+-- behind lines of which no failure was counted
+tells_new : (old new : Report) (notes : List Note) (told : Told) (why : Why) (between : Bool) → is_between old.window.excerpt told.number ≡ between
+    → first_why notes ≡ Some why → new.tally.first ≡ failed_at told.number (Some why) → old.tally.first ≡ None
+    → (NoneBefore old.tally old.groups → TellsFirst old.window.excerpt old.tally notes told old.page new.page)
+    → (old.window.excerpt.form ≡ Text → AddsSome old.page new.page) → (NoneBefore old.tally old.groups → NoneBefore new.tally new.groups)
+    → new.window.excerpt ≡ old.window.excerpt → KeepsShown old new
+tells_new old new notes told why true between why_is first none tells some groups asked = λ excerpt written is shows.
+    let text = shows.0 in
+    let so_far = shows.1 in
+    let failing = first_failing notes why why_is in
+    let line = tells so_far.groups failing.0 none (ap (λ (e : Excerpt). e.form) so_far.asked ∙ is) between failing.1 in
+    let whole = line.0 in
+    let before = line.2.0 in
+    let words = line.2.1 in
+    let F : Option Failed → Type 0 = λ f. IsFirstTold excerpt f (written ++ (text ++ (before ++ words))) in (
+      text ++ (before ++ words),
+      record {
+        asked = asked ∙ so_far.asked;
+        groups = groups so_far.groups;
+        page = line.2.3.grows text so_far.page;
+        first = subst F (sym first)
+            (λ so. (written ++ (text ++ before), words, [], (told, whole, failing.0, refl, line.1, failing.2, line.2.2), at_end written text before words));
+      },
+    )
+tells_new old new notes told why false between why_is first none tells some groups asked = λ excerpt written is shows.
+    let text = shows.0 in
+    let so_far = shows.1 in
+    let more = some (ap (λ (e : Excerpt). e.form) so_far.asked ∙ is) in
+    let outside : is_between excerpt told.number ≡ false = ap (λ (e : Excerpt). is_between e told.number) (sym so_far.asked) ∙ between in
+    let F : Option Failed → Type 0 = λ f. IsFirstTold excerpt f (written ++ (text ++ more.0)) in (
+      text ++ more.0,
+      record {
+        asked = asked ∙ so_far.asked;
+        groups = groups so_far.groups;
+        page = more.1.grows text so_far.page;
+        first = subst F (sym first) (λ so. let no : true ≡ false = sym so ∙ outside in absurd cc);
+      },
+    )
+
+-- where none is noted either
+tells_none : (old new : Report) → new.tally.first ≡ None → (old.window.excerpt.form ≡ Text → AddsSome old.page new.page)
+    → (NoneBefore old.tally old.groups → NoneBefore new.tally new.groups) → new.window.excerpt ≡ old.window.excerpt → KeepsShown old new
+tells_none old new first some groups asked = λ excerpt written is shows.
+    let text = shows.0 in
+    let so_far = shows.1 in
+    let more = some (ap (λ (e : Excerpt). e.form) so_far.asked ∙ is) in
+    let F : Option Failed → Type 0 = λ f. IsFirstTold excerpt f (written ++ (text ++ more.0)) in (
+      text ++ more.0,
+      record { asked = asked ∙ so_far.asked; groups = groups so_far.groups; page = more.1.grows text so_far.page; first = subst F (sym first) tt },
+    )
+
+tells_by : (old new : Report) (notes : List Note) (told : Told) (was : Option Failed) (why : Option Why) → old.tally.first ≡ was → first_why notes ≡ why
+    → new.tally.first ≡ either was (failed_at told.number why)
+    → (NoneBefore old.tally old.groups → TellsFirst old.window.excerpt old.tally notes told old.page new.page)
+    → (old.window.excerpt.form ≡ Text → AddsSome old.page new.page) → (NoneBefore old.tally old.groups → NoneBefore new.tally new.groups)
+    → new.window.excerpt ≡ old.window.excerpt → KeepsShown old new
+tells_by old new notes told None None was why first tells some groups asked = tells_none old new first some groups asked
+tells_by old new notes told None (Some reason) was why first tells some groups asked =
+    tells_new old new notes told reason (is_between old.window.excerpt told.number) refl why first was tells some groups asked
+tells_by old new notes told (Some failed) why_is was why first tells some groups asked = keeps_some old new asked groups (first ∙ sym was) some
+
+pub keeps_told : (old new : Report) (notes : List Note) (told : Told)
+    → new.tally.first ≡ either old.tally.first (failed_at told.number (first_why notes))
+    → (NoneBefore old.tally old.groups → TellsFirst old.window.excerpt old.tally notes told old.page new.page)
+    → (old.window.excerpt.form ≡ Text → AddsSome old.page new.page) → (NoneBefore old.tally old.groups → NoneBefore new.tally new.groups)
+    → new.window.excerpt ≡ old.window.excerpt → KeepsShown old new
+keeps_told old new notes told = tells_by old new notes told old.tally.first (first_why notes) refl refl
+
+-- ---- what is told is written
+
+pub nothing_shown : (excerpt : Excerpt) (report : Report) → report.window.excerpt ≡ excerpt → NoneBefore report.tally report.groups → report.tally.first ≡ None
+    → HasTold report.page [] → ShowsWith excerpt report [] []
+nothing_shown excerpt report asked groups first page =
+    let F : Option Failed → Type 0 = λ f. IsFirstTold excerpt f [] in
+    record { asked = asked; groups = groups; page = page; first = subst F (sym first) tt }
+
+-- ---- the verdict
+
+pub judged_first : (first : Option Failed) (entries : Summary) (waiting : ℕ) → IsOfFirst (verdict_by first entries waiting) first
+judged_first None entries waiting = tt
+judged_first (Some failed) entries waiting = refl
+
+pub unjudged_first : (before : ℕ) (tally : Tally) (lines : List (List ℕ)) (first : Option Failed) → tally.first ≡ first → UnjudgedAfter before tally lines
+    → (lines ≡ [] → ⊥) → IsOfFirst (unjudged_by tally.first) tally.first
+unjudged_first before tally lines None is after some =
+    let M : Option Failed → Type 0 = λ f. MatchOption f ((lines ≡ []) × (before ≡ 0) × (tally.entries ≡ counts_of [])) (FailsFirst lines) in
+    absurd (some (subst M is after.0).0)
+unjudged_first before tally lines (Some failed) is after some =
+    let P : Option Failed → Type 0 = λ f. IsOfFirst (unjudged_by f) f in
+    subst P (sym is) refl
+
+-- ---- all that is told is written
+
+pub all_written : (excerpt : Excerpt) (start old now : Option (List ℕ)) (report new : Report) (told : List ℕ) → new.window ≡ report.window
+    → new.groups ≡ report.groups → new.tally ≡ report.tally → ((text : List ℕ) → HasTold report.page text → told ≡ text) → HasTold new.page []
+    → Grows old now told → IsBeingWritten excerpt start report old → IsWritten excerpt start new now
+all_written excerpt start old now report new told window groups tally is_text page grows before = λ octets at is.
+    let so_far = before octets at is in
+    let written = so_far.0 in
+    let text = so_far.1.0 in
+    let shows = so_far.1.1 in
+    let same = is_text text shows.page in
+    let T : Tally → Type 0 = λ t. IsFirstTold excerpt t.first (written ++ text ++ []) in
+    let L : List ℕ → Type 0 = λ l. IsFirstTold excerpt report.tally.first l in (
+      written ++ text,
+      record {
+        asked = ap (λ (w : Window). w.excerpt) window ∙ shows.asked;
+        groups = none_same report.tally new.tally report.groups new.groups (ap (λ (t : Tally). t.first) tally) groups shows.groups;
+        page = page;
+        first = subst T (sym tally) (subst L (sym (append-nil (written ++ text))) shows.first);
+      },
+      grows (octets ++ written) so_far.2 ∙ ap (λ t. Some (octets ++ written ++ t)) same ∙ ap (λ l. Some l) (append_assoc octets written text),
+    )
+
+pub more_shown : (excerpt : Excerpt) (start now : Option (List ℕ)) (old new : Report) → KeepsShown old new → IsWritten excerpt start old now
+    → IsBeingWritten excerpt start new now
+more_shown excerpt start now old new keeps before = λ octets at is.
+    let so_far = before octets at is in
+    (so_far.0, keeps excerpt so_far.0 is ([], so_far.1), so_far.2)
+
+-- the verdict is that of the first failure, which was told, and its own line follows
+pub first_failure : (excerpt : Excerpt) (text : List ℕ) (start mid now : Option (List ℕ)) (report : Report) (verdict : Verdict) (last : List ℕ)
+    → ((text : List ℕ) (one other : Verdict) → Judges text one → Judges text other → one ≡ other) → Judges text verdict
+    → ((lines_of text ≡ [] → ⊥) → IsOfFirst verdict report.tally.first) → IsWritten excerpt start report mid → Grows mid now last
+    → TellsFirstFailure excerpt text start now
+first_failure excerpt text start mid now report verdict last unique judges first before grows = λ line why fails is some between octets at.
+    let V : Verdict → Type 0 = λ v. IsOfFirst v report.tally.first in
+    let failed = subst V (unique text verdict (Fail line why) judges fails) (first some) in
+    let so_far = before octets at is in
+    let written = so_far.0 in
+    let F : Option Failed → Type 0 = λ f. IsFirstTold excerpt f (written ++ []) in
+    let told = subst F failed so_far.1.first between in
+    let L : List ℕ → Type 0 = λ l. TellsFailure line why l in (
+      written ++ last,
+      more_told line why written last (subst L (append-nil written) told),
+      grows (octets ++ written) so_far.2 ∙ ap (λ l. Some l) (append_assoc octets written last),
+    )
+
+pub none_written : (excerpt : Excerpt) (start : Option (List ℕ)) (report : Report) → (excerpt.form ≡ Text → ShowsWith excerpt report [] [])
+    → IsWritten excerpt start report start
+none_written excerpt start report shows = λ octets at is. ([], shows is, at ∙ ap (λ l. Some l) (sym (append-nil octets)))

@@ -77,6 +77,10 @@ pub on_ok_more : {T E : Type 0} (X Y : Type 0) (r : Result T E) → (X → Y) �
 on_ok_more X Y (Ok _) more fact = more fact
 on_ok_more X Y (Err _) more fact = tt
 
+pub on_ok_three : {T E : Type 0} (A B C D : Type 0) (r : Result T E) → (A → B → C → D) → OnOk r A → OnOk r B → OnOk r C → OnOk r D
+on_ok_three A B C D (Ok _) more a b c = more a b c
+on_ok_three A B C D (Err _) more a b c = tt
+
 -- what grows where it is answered
 pub on_ok_grown : {T E : Type 0} (r : Result T E) (new more old : List ℕ) → new ≡ (if is_ok r then more else old) → OnOk r (new ≡ more)
 on_ok_grown (Ok _) new more old is = is

@@ -31,6 +31,19 @@ some_then old mid new (one, first) (other, second) = (one ++ other, adds_then ol
 pub adds_is : (old new : Page) (one other : List ℕ) → one ≡ other → Adds old new one → Adds old new other
 adds_is old new one other is adds = let P : List ℕ → Type 0 = λ w. Adds old new w in subst P is adds
 
+-- ---- what is told is put together, and let go
+
+pub told_gathered : (old new : Page) (text : List ℕ) → HasTold old text
+    → ((given : List ℕ) → HasMemory old.told given → HasMemory new.told (given ++ old.block)) → new.block ≡ [] → HasTold new text
+told_gathered old new text (given, has, is) gives none =
+    (given ++ old.block, gives given has, is ∙ sym (append-nil (given ++ old.block)) ∙ ap (λ b. given ++ old.block ++ b) (sym none))
+
+pub octets_told : (page : Page) (text octets : List ℕ) → page.block ≡ [] → HasTold page text
+    → ((given : List ℕ) → HasMemory page.told given → octets ≡ given) → octets ≡ text
+octets_told page text octets none (given, has, is) are = are given has ∙ sym (is ∙ ap (λ b. given ++ b) none ∙ append-nil given)
+
+-- ---- notes
+
 -- what the notes before said, and one more
 pub notes_told_more : (notes : List Note) (note : Note) (words more : List ℕ) → NotesTold notes words → NoteTold note more → NotesTold (notes ++ note ∷ []) (words ++ more)
 notes_told_more [] note words more none told =

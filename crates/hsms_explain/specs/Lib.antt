@@ -3,6 +3,7 @@ pub mod Counting
 pub mod Course
 pub mod Ending
 pub mod Failing
+pub mod First
 pub mod Gone
 pub mod Grouped
 pub mod Heard

@@ -36,11 +36,15 @@ impl Explainer {
     ghost use Rattle.std.specs.Prelude.{◌≡◌, ◌+◌, ◌<◌, ◌≤◌, ◌^◌, ◌++◌, ◌∷◌, [], ℕ, List, OnOk, IfOk, length, take};
     ghost use Rattle.hsms_log.specs.Lines.{HasNone, lines_of};
     ghost use Rattle.hsms_log.specs.Verdict.{Judges, LinesJudged};
+    ghost use Rattle.hsms_options.specs.declared.excerpt.Telling.TheVariants.{Text};
+    ghost use Rattle.hsms_explain.specs.First.{IsOfFirst, KeepsShown, ShowsWith};
     ghost use Rattle.hsms_explain.specs.Heard.{HasHeard, ToldAfter, limit_at};
+    ghost use Rattle.hsms_explain.specs.Page.{HasTold};
 
     /// What is told of a log of which nothing was read: nothing.
     pub fn new(alloc: Global, excerpt: Excerpt) -> Result<Explainer, AllocError>
-        ensures { IfOk result (λ explainer. HasHeard explainer []) }
+        ensures heard { IfOk result (λ explainer. HasHeard explainer []) }
+        ensures shown { IfOk result (λ explainer. excerpt.form ≡ Text → ShowsWith excerpt explainer.report [] []) }
     {
         let report = Report::new(alloc, excerpt)?;
         Ok(Explainer {
@@ -53,7 +57,8 @@ impl Explainer {
 
     /// Tells the lines that end with these octets.
     pub fn take(&mut self, alloc: Global, octets: &[u8]) -> Result<(), AllocError>
-        ensures { OnOk result ((text : List ℕ) → HasHeard self.old text → HasHeard self.new (text ++ octets.now)) }
+        ensures heard { OnOk result ((text : List ℕ) → HasHeard self.old text → HasHeard self.new (text ++ octets.now)) }
+        ensures shown { OnOk result (KeepsShown self.old.report self.new.report) }
     {
         let mut rest = octets;
         while let Some((part, more)) = split_at_first(rest, b'\n') {
@@ -65,8 +70,9 @@ impl Explainer {
 
     // Tells the line that ends with this part. Where nothing is held, it is told where it lies.
     fn end_line(&mut self, alloc: Global, part: &[u8]) -> Result<(), AllocError>
-        ensures { OnOk result ((text : List ℕ) → HasNone 10 part.now → HasHeard self.old text
+        ensures heard { OnOk result ((text : List ℕ) → HasNone 10 part.now → HasHeard self.old text
             → HasHeard self.new (text ++ (part.now ++ 10 ∷ []))) }
+        ensures shown { OnOk result (KeepsShown self.old.report self.new.report) }
     {
         if self.held.is_empty() {
             return tell_line(
@@ -83,7 +89,8 @@ impl Explainer {
 
     // Tells the line that is held.
     fn tell_held(&mut self, alloc: Global) -> Result<(), AllocError>
-        ensures { OnOk result ((text : List ℕ) → HasHeard self.old text → HasHeard self.new (text ++ 10 ∷ [])) }
+        ensures heard { OnOk result ((text : List ℕ) → HasHeard self.old text → HasHeard self.new (text ++ 10 ∷ [])) }
+        ensures shown { OnOk result (KeepsShown self.old.report self.new.report) }
     {
         let told = tell_line(
             alloc,
@@ -98,7 +105,8 @@ impl Explainer {
 
     // Holds further octets of a line, and no more than make it too long.
     fn hold(&mut self, part: &[u8]) -> Result<(), AllocError>
-        ensures { OnOk result ((text : List ℕ) → HasNone 10 part.now → HasHeard self.old text → HasHeard self.new (text ++ part.now)) }
+        ensures heard { OnOk result ((text : List ℕ) → HasNone 10 part.now → HasHeard self.old text → HasHeard self.new (text ++ part.now)) }
+        ensures report { self.new.report ≡ self.old.report }
     {
         let room = (self.stage.limit() + 2).saturating_sub(self.held.len());
         let kept = part.len().min(room);
@@ -108,7 +116,10 @@ impl Explainer {
     /// Tells the line that the end alone ended, and what comes behind all lines. It says the verdict: that of the first
     /// failure that was noted of a line, or else that the log passes.
     pub fn finish(&mut self, alloc: Global) -> Result<Verdict, AllocError>
-        ensures { IfOk result (λ verdict. (text : List ℕ) → length text < 2 ^ 63 → HasHeard self.old text → Judges text verdict) }
+        ensures judges { IfOk result (λ verdict. (text : List ℕ) → length text < 2 ^ 63 → HasHeard self.old text → Judges text verdict) }
+        ensures first { IfOk result (λ verdict. (text : List ℕ) → HasHeard self.old text → (lines_of text ≡ [] → ⊥)
+            → IsOfFirst verdict self.new.report.tally.first) }
+        ensures shown { OnOk result (KeepsShown self.old.report self.new.report) }
     {
         self.end_last(alloc)?;
         let verdict = self.verdict();
@@ -117,7 +128,10 @@ impl Explainer {
     }
 
     // Tells what comes behind all lines.
-    fn tell_rest(&mut self, alloc: Global) -> Result<(), AllocError> {
+    fn tell_rest(&mut self, alloc: Global) -> Result<(), AllocError>
+        ensures tally { self.new.report.tally ≡ self.old.report.tally }
+        ensures shown { OnOk result (KeepsShown self.old.report self.new.report) }
+    {
         self.report.tell_gap(alloc, self.stage.lines())?;
         match &self.stage {
             Stage::Unjudged(_) => self.report.tell_unjudged(alloc, Unjudged::Unreadable),
@@ -127,8 +141,9 @@ impl Explainer {
 
     // Tells the line that the end alone ended, if there is one.
     fn end_last(&mut self, alloc: Global) -> Result<(), AllocError>
-        ensures { OnOk result ((text : List ℕ) → HasHeard self.old text
+        ensures told { OnOk result ((text : List ℕ) → HasHeard self.old text
             → ToldAfter self.new.stage self.new.report.tally (lines_of text) × (length (lines_of text) ≤ length text + 1)) }
+        ensures shown { OnOk result (KeepsShown self.old.report self.new.report) }
     {
         if self.held.is_empty() {
             return Ok(());
@@ -138,8 +153,10 @@ impl Explainer {
 
     // The verdict on the lines that were told.
     fn verdict(&self) -> Verdict
-        ensures { (lines : List (List ℕ)) → length lines ≤ 2 ^ 63 → ToldAfter self.now.stage self.now.report.tally lines
+        ensures judges { (lines : List (List ℕ)) → length lines ≤ 2 ^ 63 → ToldAfter self.now.stage self.now.report.tally lines
             → LinesJudged lines result }
+        ensures first { (lines : List (List ℕ)) → ToldAfter self.now.stage self.now.report.tally lines → (lines ≡ [] → ⊥)
+            → IsOfFirst result self.now.report.tally.first }
     {
         match &self.stage {
             Stage::Unjudged(_) => self.report.unjudged_verdict(),
@@ -149,7 +166,12 @@ impl Explainer {
 
     /// Puts what is told together, so that it can be written.
     pub fn gather(&mut self)
-        ensures { (text : List ℕ) → HasHeard self.old text → HasHeard self.new text }
+        ensures gathered { self.new.report.page.block ≡ [] }
+        ensures page { (text : List ℕ) → HasTold self.old.report.page text → HasTold self.new.report.page text }
+        ensures window { self.new.report.window ≡ self.old.report.window }
+        ensures groups { self.new.report.groups ≡ self.old.report.groups }
+        ensures tally { self.new.report.tally ≡ self.old.report.tally }
+        ensures heard { (text : List ℕ) → HasHeard self.old text → HasHeard self.new text }
     {
         self.report.gather();
     }
@@ -159,13 +181,20 @@ impl Explainer {
     /// # Errors
     ///
     /// Where memory was refused to it.
-    pub fn told(&self) -> Result<&[u8], AllocError> {
+    pub fn told(&self) -> Result<&[u8], AllocError>
+        ensures { IfOk result (λ octets. (text : List ℕ) → self.now.report.page.block ≡ [] → HasTold self.now.report.page text
+            → octets.now ≡ text) }
+    {
         self.report.told()
     }
 
     /// Lets go what is told.
     pub fn let_go(&mut self)
-        ensures { (text : List ℕ) → HasHeard self.old text → HasHeard self.new text }
+        ensures page { self.old.report.page.block ≡ [] → HasTold self.new.report.page [] }
+        ensures window { self.new.report.window ≡ self.old.report.window }
+        ensures groups { self.new.report.groups ≡ self.old.report.groups }
+        ensures tally { self.new.report.tally ≡ self.old.report.tally }
+        ensures heard { (text : List ℕ) → HasHeard self.old text → HasHeard self.new text }
     {
         self.report.let_go();
     }

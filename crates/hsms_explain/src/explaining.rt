@@ -6,13 +6,16 @@ ghost use Rattle.hsms_log.specs.Auditing.{HasEnded};
 ghost use Rattle.hsms_lines.specs.Verdict.{is_pass};
 ghost use Rattle.hsms_lines.specs.Devices.{CountsFailure, IsReadWriteOrEndless};
 ghost use Rattle.hsms_explain.specs.Explain.{Concludes, ExplainsTo, GrowsBySome, IsOfTelling};
+ghost use Rattle.hsms_explain.specs.First.{IsBeingWritten, IsWritten, TellsFirstFailure};
 ghost use Rattle.hsms_explain.specs.Heard.{HasHeard};
+ghost use Rattle.hsms_options.specs.declared.excerpt.Excerpt.{Excerpt as Asked};
 
 use crate::ending::ending;
 use crate::explainer::Explainer;
 use hsms_frame::{Sink, Source};
 use hsms_lines::put;
 use hsms_log::Verdict;
+use hsms_log::laws::each_text_has_one_verdict;
 use hsms_options::{Excerpt, Telling, ToolFault};
 use std::alloc::Global;
 
@@ -45,6 +48,8 @@ pub fn explain_to<R: Source, W: Sink>(
         ExplainsTo excerpt.form input result (R.state source.new).left
         (HasEnded (R.state source.old).ends (R.state source.new).ends)
         (W.state sink.old).written (W.state sink.new).written) }
+    ensures first { WhereTold (R.state source.old).left (λ input.
+        OnOk result (TellsFirstFailure excerpt input (W.state sink.old).written (W.state sink.new).written)) }
     ensures word { IfErr result IsReadWriteOrEndless }
     ensures reads { CountsFailure (codes "Read") result (R.state source.old).failures (R.state source.new).failures }
     ensures writes { CountsFailure (codes "Write") result (W.state sink.old).failures (W.state sink.new).failures }
@@ -74,10 +79,14 @@ fn conclude<W: Sink>(
 ) -> Result<bool, ToolFault>
     ensures told { IfOk result (λ passes. (text : List ℕ) → length text < 2 ^ 63 → HasHeard explainer text
         → Concludes form text passes (W.state sink.old).written (W.state sink.new).written) }
+    ensures first { OnOk result ((excerpt : Asked) (start : Option (List ℕ)) (text : List ℕ) → length text < 2 ^ 63
+        → HasHeard explainer text → IsWritten excerpt start explainer.report (W.state sink.old).written
+        → TellsFirstFailure excerpt text start (W.state sink.new).written) }
     ensures some { OnErr result (GrowsBySome (W.state sink.old).written (W.state sink.new).written) }
     ensures fault { IfErr result IsOfTelling }
     ensures writes { CountsFailure (codes "Write") result (W.state sink.old).failures (W.state sink.new).failures }
 {
+    each_text_has_one_verdict();
     let verdict = explainer.finish(alloc)?;
     write_told(sink, &mut explainer)?;
     let ending = ending(alloc, form, verdict)?;
@@ -98,6 +107,9 @@ fn passes(verdict: Verdict) -> bool
 fn write_told<W: Sink>(sink: &mut W, explainer: &mut Explainer) -> Result<(), ToolFault>
     ensures some { GrowsBySome (W.state sink.old).written (W.state sink.new).written }
     ensures heard { OnOk result ((text : List ℕ) → HasHeard explainer.old text → HasHeard explainer.new text) }
+    ensures shown { OnOk result ((excerpt : Asked) (start : Option (List ℕ))
+        → IsBeingWritten excerpt start explainer.old.report (W.state sink.old).written
+        → IsWritten excerpt start explainer.new.report (W.state sink.new).written) }
     ensures fault { IfErr result IsOfTelling }
     ensures writes { CountsFailure (codes "Write") result (W.state sink.old).failures (W.state sink.new).failures }
 {

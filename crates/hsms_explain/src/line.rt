@@ -3,6 +3,7 @@
 ghost use Rattle.std.specs.Prelude.{◌≡◌, ◌<◌, ◌++◌, ◌∷◌, [], ℕ, List, OnOk, IfOk};
 ghost use Rattle.hsms_machine.specs.Settings.{Parameters};
 ghost use Rattle.hsms_log.specs.Spelling.{SpellsSettings, line_limit, settings_limit};
+ghost use Rattle.hsms_explain.specs.First.{KeepsShown};
 ghost use Rattle.hsms_explain.specs.Heard.{IsShown, KnownAfter, ToldAfter, UnjudgedAfter, limit_at};
 
 use crate::known::Known;
@@ -22,8 +23,9 @@ pub fn tell_line(
     report: &mut Report,
     line: &[u8],
 ) -> Result<(), AllocError>
-    ensures { OnOk result ((before : List (List ℕ)) (real : List ℕ) → IsShown (limit_at stage.old) real line.now
+    ensures told { OnOk result ((before : List (List ℕ)) (real : List ℕ) → IsShown (limit_at stage.old) real line.now
         → ToldAfter stage.old report.old.tally before → ToldAfter stage.new report.new.tally (before ++ real ∷ [])) }
+    ensures shown { OnOk result (KeepsShown report.old report.new) }
 {
     match stage {
         Stage::Judged(known) => later_line(alloc, known, octets, report, line),
@@ -41,8 +43,9 @@ fn unjudged_line(
     so_far: u64,
     line: &[u8],
 ) -> Result<Stage, AllocError>
-    ensures { IfOk result (λ stage. (before : List (List ℕ)) (real : List ℕ) → IsShown settings_limit real line.now
+    ensures told { IfOk result (λ stage. (before : List (List ℕ)) (real : List ℕ) → IsShown settings_limit real line.now
         → UnjudgedAfter so_far report.old.tally before → ToldAfter stage report.new.tally (before ++ real ∷ [])) }
+    ensures shown { OnOk result (KeepsShown report.old report.new) }
 {
     if so_far > 0 {
         further_line(alloc, report, so_far, line)
@@ -58,8 +61,9 @@ fn further_line(
     so_far: u64,
     line: &[u8],
 ) -> Result<Stage, AllocError>
-    ensures { IfOk result (λ stage. (before : List (List ℕ)) (real : List ℕ) → 0 < so_far
+    ensures told { IfOk result (λ stage. (before : List (List ℕ)) (real : List ℕ) → 0 < so_far
         → UnjudgedAfter so_far report.old.tally before → ToldAfter stage report.new.tally (before ++ real ∷ [])) }
+    ensures shown { OnOk result (KeepsShown report.old report.new) }
 {
     let number = so_far.saturating_add(1);
     report.clear_notes();
@@ -69,8 +73,9 @@ fn further_line(
 
 // Tells the first line.
 fn first_line(alloc: Global, report: &mut Report, line: &[u8]) -> Result<Stage, AllocError>
-    ensures { IfOk result (λ stage. (before : List (List ℕ)) (real : List ℕ) → IsShown settings_limit real line.now
+    ensures told { IfOk result (λ stage. (before : List (List ℕ)) (real : List ℕ) → IsShown settings_limit real line.now
         → UnjudgedAfter 0 report.old.tally before → ToldAfter stage report.new.tally (before ++ real ∷ [])) }
+    ensures shown { OnOk result (KeepsShown report.old report.new) }
 {
     report.clear_notes();
     match read_settings(line) {
@@ -86,9 +91,10 @@ fn settings_line(
     line: &[u8],
     settings: Settings,
 ) -> Result<Stage, AllocError>
-    ensures { IfOk result (λ stage. (before : List (List ℕ)) (real : List ℕ) → IsShown settings_limit real line.now
+    ensures told { IfOk result (λ stage. (before : List (List ℕ)) (real : List ℕ) → IsShown settings_limit real line.now
         → SpellsSettings line.now settings → report.old.notes.items ≡ []
         → UnjudgedAfter 0 report.old.tally before → ToldAfter stage report.new.tally (before ++ real ∷ [])) }
+    ensures shown { OnOk result (KeepsShown report.old report.new) }
 {
     report.tell_ends(settings);
     report.tell(alloc, Told::plain(1, line), 0)?;
@@ -97,9 +103,10 @@ fn settings_line(
 
 // Tells the first line, of which nothing is noted yet, and which can't be read.
 fn unreadable_first(alloc: Global, report: &mut Report, line: &[u8]) -> Result<Stage, AllocError>
-    ensures { IfOk result (λ stage. (before : List (List ℕ)) (real : List ℕ) → IsShown settings_limit real line.now
+    ensures told { IfOk result (λ stage. (before : List (List ℕ)) (real : List ℕ) → IsShown settings_limit real line.now
         → ((settings : Parameters) → SpellsSettings line.now settings → ⊥) → report.old.notes.items ≡ []
         → UnjudgedAfter 0 report.old.tally before → ToldAfter stage report.new.tally (before ++ real ∷ [])) }
+    ensures shown { OnOk result (KeepsShown report.old report.new) }
 {
     report.note_unreadable()?;
     report.tell(alloc, Told::plain(1, line), 0)?;
@@ -114,8 +121,9 @@ fn later_line(
     report: &mut Report,
     line: &[u8],
 ) -> Result<(), AllocError>
-    ensures { OnOk result ((before : List (List ℕ)) (real : List ℕ) → IsShown (line_limit known.old.settings.max) real line.now
+    ensures told { OnOk result ((before : List (List ℕ)) (real : List ℕ) → IsShown (line_limit known.old.settings.max) real line.now
         → KnownAfter known.old report.old.tally before → KnownAfter known.new report.new.tally (before ++ real ∷ [])) }
+    ensures shown { OnOk result (KeepsShown report.old report.new) }
 {
     let max = known.settings.max();
     known.course.next_line();

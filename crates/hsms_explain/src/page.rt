@@ -1,8 +1,8 @@
 //! What is told, until it is written.
 
-ghost use Rattle.std.specs.Prelude.{◌≡◌, ◌≤◌, ℕ, List, [], replicate, decimal};
+ghost use Rattle.std.specs.Prelude.{◌≡◌, ◌≤◌, ℕ, List, [], IfOk, replicate, decimal};
 ghost use Rattle.hsms_lines.specs.Line.{LineOf};
-ghost use Rattle.hsms_explain.specs.Page.{Adds, padded};
+ghost use Rattle.hsms_explain.specs.Page.{Adds, HasMemory, HasTold, padded};
 
 use hsms_frame::Header;
 use hsms_lines::give_line;
@@ -18,7 +18,9 @@ struct Memory {
 }
 
 impl Memory {
-    fn new(alloc: Global) -> Memory {
+    fn new(alloc: Global) -> Memory
+        ensures { HasMemory result [] }
+    {
         Memory {
             octets: Vec::new(alloc),
             is_refused: false,
@@ -26,7 +28,9 @@ impl Memory {
     }
 
     // Its octets.
-    fn octets(&self) -> Result<&[u8], AllocError> {
+    fn octets(&self) -> Result<&[u8], AllocError>
+        ensures { IfOk result (λ octets. (given : List ℕ) → HasMemory self.now given → octets.now ≡ given) }
+    {
         if self.is_refused {
             return Err(AllocError);
         }
@@ -57,7 +61,9 @@ pub struct Page {
 
 impl Page {
     /// An empty page.
-    pub fn new(alloc: Global) -> Result<Page, AllocError> {
+    pub fn new(alloc: Global) -> Result<Page, AllocError>
+        ensures { IfOk result (λ page. HasTold page []) }
+    {
         let block = Block::new(alloc)?;
         Ok(Page {
             told: Memory::new(alloc),
@@ -116,7 +122,10 @@ impl Page {
     }
 
     /// Puts all that is told into memory.
-    pub fn gather(&mut self) {
+    pub fn gather(&mut self)
+        ensures told { (text : List ℕ) → HasTold self.old text → HasTold self.new text }
+        ensures gathered { self.new.block ≡ [] }
+    {
         self.block.give_all(&mut self.told);
     }
 
@@ -125,12 +134,16 @@ impl Page {
     /// # Errors
     ///
     /// Where memory was refused to it.
-    pub fn octets(&self) -> Result<&[u8], AllocError> {
+    pub fn octets(&self) -> Result<&[u8], AllocError>
+        ensures { IfOk result (λ octets. (text : List ℕ) → self.now.block ≡ [] → HasTold self.now text → octets.now ≡ text) }
+    {
         self.told.octets()
     }
 
     /// Lets all go that is told.
-    pub fn clear(&mut self) {
+    pub fn clear(&mut self)
+        ensures { self.old.block ≡ [] → HasTold self.new [] }
+    {
         self.told.octets.clear();
     }
 }

@@ -4,10 +4,11 @@ ghost use Rattle.std.specs.Prelude.{◌≡◌, ℕ, List, [], OnOk, IfOk, Some, 
 ghost use Rattle.hsms_log.specs.declared.verdict.Why.TheVariants.{Unreadable};
 ghost use Rattle.hsms_options.specs.declared.excerpt.Telling.TheVariants.{Text};
 ghost use Rattle.hsms_explain.specs.Counting.{counts_of};
+ghost use Rattle.hsms_explain.specs.First.{KeepsShown, ShowsWith};
 ghost use Rattle.hsms_explain.specs.Failing.{failed_at, verdict_by, unjudged_by};
 ghost use Rattle.hsms_explain.specs.Gone.{LineMends, NotesUnreadable};
 ghost use Rattle.hsms_explain.specs.Noted.{either, first_why, with_carried, LineFailsBy};
-ghost use Rattle.hsms_explain.specs.Page.{AddsSome};
+ghost use Rattle.hsms_explain.specs.Page.{AddsSome, HasTold};
 ghost use Rattle.hsms_explain.specs.Shown.{NoneBefore, TellsFirst};
 
 use crate::alike::Groups;
@@ -17,7 +18,6 @@ use crate::note::{Failing, Note, group_notes};
 use crate::page::Page;
 use crate::primaries::Primaries;
 use crate::tally::Tally;
-use crate::telling::Teller;
 use crate::told::{Carried, Told};
 use crate::window::Window;
 use crate::words::Unjudged;
@@ -29,7 +29,6 @@ use std::alloc::{AllocError, Global};
 /// What is told, which lines are, the failures so far, and what is noted of the line at hand, also as it is told.
 #[derive(Drop)]
 pub struct Report {
-    teller: Teller,
     page: Page,
     tally: Tally,
     window: Window,
@@ -45,15 +44,15 @@ impl Report {
         ensures entries { IfOk result (λ report. report.tally.entries ≡ counts_of []) }
         ensures groups { IfOk result (λ report. NoneBefore report.tally report.groups) }
         ensures excerpt { IfOk result (λ report. report.window.excerpt ≡ excerpt) }
+        ensures shown { IfOk result (λ report. excerpt.form ≡ Text → ShowsWith excerpt report [] []) }
     {
-        let teller = Teller::new(excerpt);
         let mut page = Page::new(alloc)?;
-        teller.begin(&mut page);
+        let window = Window::new(alloc, excerpt);
+        window.teller().begin(&mut page);
         Ok(Report {
-            teller,
             page,
             tally: Tally::new(alloc),
-            window: Window::new(alloc, excerpt),
+            window,
             groups: Groups::new(alloc),
             notes: Vec::new(alloc),
             grouped: Vec::new(alloc),
@@ -62,33 +61,54 @@ impl Report {
 
     /// Tells which ends a log with these settings is of.
     pub fn tell_ends(&mut self, settings: Settings)
+        ensures shown { KeepsShown self.old self.new }
         ensures tally { self.new.tally ≡ self.old.tally }
         ensures notes { self.new.notes ≡ self.old.notes }
         ensures groups { self.new.groups ≡ self.old.groups }
         ensures window { self.new.window ≡ self.old.window }
     {
-        self.teller.ends(&mut self.page, settings);
+        self.window.teller().ends(&mut self.page, settings);
     }
 
     /// Tells that lines are left out at the end of so many.
-    pub fn tell_gap(&mut self, alloc: Global, lines: u64) -> Result<(), AllocError> {
+    pub fn tell_gap(&mut self, alloc: Global, lines: u64) -> Result<(), AllocError>
+        ensures tally { self.new.tally ≡ self.old.tally }
+        ensures shown { OnOk result (KeepsShown self.old self.new) }
+    {
         self.window.finish(alloc, &mut self.page, lines)
     }
 
     /// Tells that nothing was judged.
-    pub fn tell_unjudged(&mut self, alloc: Global, unjudged: Unjudged) -> Result<(), AllocError> {
-        self.teller.unjudged(alloc, &mut self.page, unjudged)
+    pub fn tell_unjudged(&mut self, alloc: Global, unjudged: Unjudged) -> Result<(), AllocError>
+        ensures tally { self.new.tally ≡ self.old.tally }
+        ensures shown { OnOk result (KeepsShown self.old self.new) }
+    {
+        self.window
+            .teller()
+            .unjudged(alloc, &mut self.page, unjudged)
     }
 
     /// Tells the failures behind a log that was judged, and what became of its primaries.
-    pub fn tell_end(&mut self, alloc: Global, primaries: &Primaries) -> Result<(), AllocError> {
+    pub fn tell_end(&mut self, alloc: Global, primaries: &Primaries) -> Result<(), AllocError>
+        ensures tally { self.new.tally ≡ self.old.tally }
+        ensures shown { OnOk result (KeepsShown self.old self.new) }
+    {
+        self.tell_emptiness(alloc)?;
+        let teller = self.window.teller();
+        teller.groups(alloc, &mut self.page, &self.groups)?;
+        teller.failures(alloc, &mut self.page, &self.tally)?;
+        teller.primaries(alloc, &mut self.page, self.window.links(), primaries)
+    }
+
+    // Tells that there was no entry, where there was none.
+    fn tell_emptiness(&mut self, alloc: Global) -> Result<(), AllocError>
+        ensures tally { self.new.tally ≡ self.old.tally }
+        ensures shown { OnOk result (KeepsShown self.old self.new) }
+    {
         if self.tally.is_empty() {
-            self.tell_unjudged(alloc, Unjudged::NoEntry)?;
+            return self.tell_unjudged(alloc, Unjudged::NoEntry);
         }
-        self.teller.groups(alloc, &mut self.page, &self.groups)?;
-        self.teller.failures(alloc, &mut self.page, &self.tally)?;
-        self.teller
-            .primaries(alloc, &mut self.page, self.window.links(), primaries)
+        Ok(())
     }
 
     /// The verdict at the end, where so many primaries wait, or that of the first failure.
@@ -115,6 +135,7 @@ impl Report {
         ensures some { OnOk result (self.old.window.excerpt.form ≡ Text → AddsSome self.old.page self.new.page) }
         ensures groups { OnOk result (NoneBefore self.old.tally self.old.groups
             → NoneBefore self.new.tally self.new.groups) }
+        ensures shown { OnOk result (KeepsShown self.old self.new) }
         ensures excerpt { self.new.window.excerpt ≡ self.old.window.excerpt }
     {
         self.tally.count_notes(told.number, &self.notes)?;
@@ -185,6 +206,8 @@ impl Report {
 
     /// Puts what is told together, so that it can be written.
     pub fn gather(&mut self)
+        ensures page { (text : List ℕ) → HasTold self.old.page text → HasTold self.new.page text }
+        ensures gathered { self.new.page.block ≡ [] }
         ensures tally { self.new.tally ≡ self.old.tally }
         ensures groups { self.new.groups ≡ self.old.groups }
         ensures window { self.new.window ≡ self.old.window }
@@ -197,12 +220,15 @@ impl Report {
     /// # Errors
     ///
     /// Where memory was refused to it.
-    pub fn told(&self) -> Result<&[u8], AllocError> {
+    pub fn told(&self) -> Result<&[u8], AllocError>
+        ensures { IfOk result (λ octets. (text : List ℕ) → self.now.page.block ≡ [] → HasTold self.now.page text → octets.now ≡ text) }
+    {
         self.page.octets()
     }
 
     /// Lets go what is told.
     pub fn let_go(&mut self)
+        ensures page { self.old.page.block ≡ [] → HasTold self.new.page [] }
         ensures tally { self.new.tally ≡ self.old.tally }
         ensures groups { self.new.groups ≡ self.old.groups }
         ensures window { self.new.window ≡ self.old.window }

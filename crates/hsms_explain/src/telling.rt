@@ -2,7 +2,7 @@
 
 ghost use Rattle.std.specs.Prelude.{◌≡◌, ℕ, List, OnOk};
 ghost use Rattle.hsms_options.specs.declared.excerpt.Telling.TheVariants.{Text};
-ghost use Rattle.hsms_explain.specs.Page.{Adds};
+ghost use Rattle.hsms_explain.specs.Page.{Adds, AddsSome};
 ghost use Rattle.hsms_explain.specs.Written.{LineTold, gap_text};
 
 use crate::alike::Groups;
@@ -37,7 +37,9 @@ impl Teller {
     }
 
     /// Writes what stands before all lines.
-    pub fn begin(self, page: &mut Page) {
+    pub fn begin(self, page: &mut Page)
+        ensures { self.form ≡ Text → page.new ≡ page.old }
+    {
         match self.form {
             Telling::Text | Telling::Json => {}
             Telling::Html => html::begin(page, self.utc),
@@ -45,7 +47,9 @@ impl Teller {
     }
 
     /// Writes which ends these are, before the lines of a log with these settings.
-    pub fn ends(self, page: &mut Page, settings: Settings) {
+    pub fn ends(self, page: &mut Page, settings: Settings)
+        ensures { self.form ≡ Text → page.new ≡ page.old }
+    {
         match self.form {
             Telling::Text | Telling::Json => {}
             Telling::Html => html::write_ends(page, settings),
@@ -53,7 +57,9 @@ impl Teller {
     }
 
     /// Writes what stands behind all lines.
-    pub fn end_lines(self, page: &mut Page, links: &Links) {
+    pub fn end_lines(self, page: &mut Page, links: &Links)
+        ensures { self.form ≡ Text → page.new ≡ page.old }
+    {
         match self.form {
             Telling::Text | Telling::Json => {}
             Telling::Html => html::end_lines(page, links),
@@ -102,7 +108,9 @@ impl Teller {
         alloc: Global,
         page: &mut Page,
         unjudged: Unjudged,
-    ) -> Result<(), AllocError> {
+    ) -> Result<(), AllocError>
+        ensures { OnOk result (self.form ≡ Text → AddsSome page.old page.new) }
+    {
         match self.form {
             Telling::Text => text::write_words(alloc, page, &unjudged),
             Telling::Json => json::write_unjudged(alloc, page, unjudged),
@@ -111,7 +119,9 @@ impl Teller {
     }
 
     /// Writes of each group how many failures it has, or how many of them weren't told whole.
-    pub fn groups(self, alloc: Global, page: &mut Page, groups: &Groups) -> Result<(), AllocError> {
+    pub fn groups(self, alloc: Global, page: &mut Page, groups: &Groups) -> Result<(), AllocError>
+        ensures { OnOk result (self.form ≡ Text → AddsSome page.old page.new) }
+    {
         match self.form {
             Telling::Text => text::write_rests(alloc, page, groups),
             Telling::Json => json::write_rests(alloc, page, groups),
@@ -123,7 +133,9 @@ impl Teller {
     }
 
     /// Writes how often each rule was broken.
-    pub fn failures(self, alloc: Global, page: &mut Page, tally: &Tally) -> Result<(), AllocError> {
+    pub fn failures(self, alloc: Global, page: &mut Page, tally: &Tally) -> Result<(), AllocError>
+        ensures { OnOk result (self.form ≡ Text → AddsSome page.old page.new) }
+    {
         match self.form {
             Telling::Text => text::write_failures(alloc, page, tally),
             Telling::Json => json::write_failures(alloc, page, tally),
@@ -138,7 +150,9 @@ impl Teller {
         page: &mut Page,
         links: &Links,
         primaries: &Primaries,
-    ) -> Result<(), AllocError> {
+    ) -> Result<(), AllocError>
+        ensures { OnOk result (self.form ≡ Text → AddsSome page.old page.new) }
+    {
         match self.form {
             Telling::Text => text::write_primaries(alloc, page, primaries),
             Telling::Json => json::write_primaries(alloc, page, primaries),

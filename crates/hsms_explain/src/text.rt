@@ -5,7 +5,7 @@ ghost use Rattle.hsms_explain.specs.Page.{Adds, AddsSome};
 ghost use Rattle.hsms_explain.specs.Words.{why_name};
 ghost use Rattle.hsms_explain.specs.Written.{CarriedSaid, LineSaid, LineTold, NoteTold, WhatSaid, below, gap_text, mark_text, rule_words};
 
-use crate::alike::Groups;
+use crate::alike::{Group, Groups};
 use crate::expecting::Expected;
 use crate::moment::Moment;
 use crate::note::{Failing, Note};
@@ -71,13 +71,22 @@ pub fn write_words<D: fmt::Display>(
 }
 
 /// Writes of each group how many failures weren't told whole.
-pub fn write_rests(alloc: Global, page: &mut Page, groups: &Groups) -> Result<(), AllocError> {
+pub fn write_rests(alloc: Global, page: &mut Page, groups: &Groups) -> Result<(), AllocError>
+    ensures { OnOk result (AddsSome page.old page.new) }
+{
     for group in groups.iter() {
-        if let Some(rest) = group.rest() {
-            write_words(alloc, page, &rest)?;
-        }
+        write_group(alloc, page, *group)?;
     }
     Ok(())
+}
+
+fn write_group(alloc: Global, page: &mut Page, group: Group) -> Result<(), AllocError>
+    ensures { OnOk result (AddsSome page.old page.new) }
+{
+    match group.rest() {
+        Some(rest) => write_words(alloc, page, &rest),
+        None => Ok(()),
+    }
 }
 
 /// Writes of each kind of primaries what became of them.
@@ -85,17 +94,33 @@ pub fn write_primaries(
     alloc: Global,
     page: &mut Page,
     primaries: &Primaries,
-) -> Result<(), AllocError> {
+) -> Result<(), AllocError>
+    ensures { OnOk result (AddsSome page.old page.new) }
+{
     for place in 0..primaries.len() {
-        if let Some(outcome) = primaries.outcome(place) {
-            write_words(alloc, page, &outcome)?;
-        }
+        write_outcome(alloc, page, primaries, place)?;
     }
     Ok(())
 }
 
+fn write_outcome(
+    alloc: Global,
+    page: &mut Page,
+    primaries: &Primaries,
+    place: usize,
+) -> Result<(), AllocError>
+    ensures { OnOk result (AddsSome page.old page.new) }
+{
+    match primaries.outcome(place) {
+        Some(outcome) => write_words(alloc, page, &outcome),
+        None => Ok(()),
+    }
+}
+
 /// Writes how often each rule was broken.
-pub fn write_failures(alloc: Global, page: &mut Page, tally: &Tally) -> Result<(), AllocError> {
+pub fn write_failures(alloc: Global, page: &mut Page, tally: &Tally) -> Result<(), AllocError>
+    ensures { OnOk result (AddsSome page.old page.new) }
+{
     let words = tally.words(alloc)?;
     page.lay(words.as_bytes());
     page.lay(b"\n");

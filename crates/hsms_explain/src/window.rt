@@ -274,13 +274,23 @@ impl Window {
     }
 
     /// Tells that lines are left out behind the last one that was told, of so many lines, and that no line follows.
-    pub fn finish(&self, alloc: Global, page: &mut Page, lines: u64) -> Result<(), AllocError> {
-        if lines > self.last {
-            let from = self.last + 1;
-            self.teller().gap(alloc, page, Gap { from, to: lines })?;
-        }
+    pub fn finish(&self, alloc: Global, page: &mut Page, lines: u64) -> Result<(), AllocError>
+        ensures { OnOk result (self.now.excerpt.form ≡ Text → AddsSome page.old page.new) }
+    {
+        self.leave_rest(alloc, page, lines)?;
         self.teller().end_lines(page, &self.links);
         Ok(())
+    }
+
+    // Tells that lines are left out behind the last one that was told, of so many lines.
+    fn leave_rest(&self, alloc: Global, page: &mut Page, lines: u64) -> Result<(), AllocError>
+        ensures { OnOk result (self.now.excerpt.form ≡ Text → AddsSome page.old page.new) }
+    {
+        if lines <= self.last {
+            return Ok(());
+        }
+        let from = self.last + 1;
+        self.teller().gap(alloc, page, Gap { from, to: lines })
     }
 
     /// What links to the lines that were told may lead to.

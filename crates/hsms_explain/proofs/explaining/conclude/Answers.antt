@@ -1,3 +1,5 @@
+use Rattle.hsms_explain.specs.First.{IsOfFirst}
+use Rattle.hsms_explain.proofs.Firsts.{first_failure, more_shown}
 use Rattle.hsms_explain.proofs.Tellings.{front_more, none_more, on_err, some_more, verdict_last}
 use Rattle.hsms_explain.proofs.explaining.conclude.Goals as goal
 
@@ -11,7 +13,13 @@ returns-in_err-put-clause-some g c =
 pub returns-clause-told : goal.returns-clause-told
 returns-clause-told g c = λ text few heard. (
   c.in_ok-verdict.verdict,
-  c.in_ok-verdict.ensures text few heard,
+  c.in_ok-verdict.ensures.judges text few heard,
   c.passes.ensures,
   verdict_last _ _ _ _ _ _ c.in_ok-write_told.ensures.some c.in_ok-put.ensures.ok (rw c.as_bytes.ensures.value c.in_ok-ending.ensures),
 )
+
+pub returns-clause-first : goal.returns-clause-first
+returns-clause-first g c = λ excerpt start text few heard written.
+    let verdict = c.in_ok-verdict.ensures in
+    first_failure excerpt text start _ _ _ c.in_ok-verdict.verdict _ c.each_text_has_one_verdict.ensures.one (verdict.judges text few heard)
+    (verdict.first text heard) (c.in_ok-write_told.ensures.shown excerpt start (more_shown excerpt start _ _ _ verdict.shown written)) c.in_ok-put.ensures.ok

@@ -1,5 +1,6 @@
 use Rattle.std.proofs.Common.{◌≡◌, ◌*◌}
 use Rattle.hsms_explain.specs.Explain.{GrowsBySome}
+use Rattle.hsms_explain.specs.First.{IsWritten}
 use Rattle.hsms_explain.proofs.Tellings.{HasRead}
 use Rattle.hsms_explain.proofs.explaining.explain_to.Given as goal
 
@@ -13,3 +14,4 @@ invariant-loop g l =
     × (now.failures ≡ old.failures)
     × GrowsBySome (g.W.Sink.state l.initial.sink).written (g.W.Sink.state l.sink).written
     × ((g.W.Sink.state l.sink).failures ≡ (g.W.Sink.state l.initial.sink).failures)
+    × IsWritten l.excerpt (g.W.Sink.state l.initial.sink).written l.explainer.report (g.W.Sink.state l.sink).written

@@ -4,10 +4,11 @@ use Rattle.hsms_explain.specs.Failing.{failed_at}
 use Rattle.hsms_explain.specs.Noted.{either, first_why}
 use Rattle.hsms_explain.proofs.Following.{further_fails}
 use Rattle.hsms_explain.proofs.Going.{number_more}
+use Rattle.hsms_explain.proofs.Firsts.{keeps_page, keeps_then}
 use Rattle.hsms_explain.proofs.line.further_line.Goals as goal
 
-pub returns : goal.returns
-returns c = λ before real some after.
+pub returns-clause-told : goal.returns-clause-told
+returns-clause-told c = λ before real some after.
     let old = c.args.report.now.tally in
     let number : c.saturating_add-number.result ≡ counted (c.args.so_far + 1) = search rules in (
       further_fails old c.tell.new.self.tally c.args.so_far c.saturating_add-number.result before real old.first refl
@@ -17,3 +18,8 @@ returns c = λ before real some after.
           some after.0,
       number_more c.args.so_far c.saturating_add-number.result before real number after.1,
     )
+
+pub returns-clause-shown : goal.returns-clause-shown
+returns-clause-shown c =
+    let cleared = c.clear_notes.ensures in
+    keeps_then _ _ _ (keeps_page _ _ cleared.window cleared.groups (ap (λ t. t.first) cleared.tally) cleared.page) c.in_ok-tell.ensures.shown

@@ -3,10 +3,11 @@ use Rattle.hsms_explain.specs.Failing.{failed_at}
 use Rattle.hsms_explain.specs.Noted.{either, first_why, IsCarried}
 use Rattle.hsms_explain.proofs.Following.{later_follows, on_ok_more}
 use Rattle.hsms_explain.proofs.Going.{later_goes}
+use Rattle.hsms_explain.proofs.Firsts.{keeps_page, keeps_then}
 use Rattle.hsms_explain.proofs.line.later_line.Goals as goal
 
-pub returns : goal.returns
-returns c =
+pub returns-clause-told : goal.returns-clause-told
+returns-clause-told c =
     let what = c.in_ok-carried.carried in
     let judged = c.in_ok-judge.ensures in
     let why = first_why c.judge.new.self.notes.items in
@@ -21,3 +22,8 @@ returns c =
           c.next_line.ensures shown is_carried judged.settings judged.line judged.mends after.1,
     ))
     c.tell.ensures.first
+
+pub returns-clause-shown : goal.returns-clause-shown
+returns-clause-shown c =
+    let judged = c.in_ok-judge.ensures in
+    on_ok_more _ _ c.tell.result (λ tells. keeps_then _ _ _ (keeps_page _ _ judged.window judged.groups judged.first judged.page) tells) c.tell.ensures.shown

@@ -4,10 +4,11 @@ use Rattle.hsms_explain.specs.Failing.{failed_at}
 use Rattle.hsms_explain.specs.Noted.{either, first_why}
 use Rattle.hsms_explain.proofs.Following.{first_fails}
 use Rattle.hsms_explain.proofs.Going.{number_more}
+use Rattle.hsms_explain.proofs.Firsts.{keeps_page, keeps_then}
 use Rattle.hsms_explain.proofs.line.unreadable_first.Goals as goal
 
-pub returns : goal.returns
-returns c = λ before real shown unspelled none after.
+pub returns-clause-told : goal.returns-clause-told
+returns-clause-told c = λ before real shown unspelled none after.
     let old = c.args.report.now.tally in (
       first_fails old c.tell.new.self.tally 0 1 before real c.args.line.now old.first refl
           (c.in_ok-tell.ensures.first
@@ -18,3 +19,8 @@ returns c = λ before real shown unspelled none after.
           shown unspelled after.0,
       number_more 0 1 before real refl after.1,
     )
+
+pub returns-clause-shown : goal.returns-clause-shown
+returns-clause-shown c =
+    let noted = c.in_ok-note_unreadable.ensures in
+    keeps_then _ _ _ (keeps_page _ _ noted.window noted.groups (ap (λ t. t.first) noted.tally) noted.page) c.in_ok-tell.ensures.shown

@@ -4,8 +4,8 @@ use Rattle.hsms_explain.proofs.Following.{on_ok_grown, on_ok_more}
 use Rattle.hsms_explain.proofs.Hearing.{heard_part}
 use Rattle.hsms_explain.proofs.explainer.Explainer.hold.Goals as goal
 
-pub returns : goal.returns
-returns c =
+pub returns-clause-heard : goal.returns-clause-heard
+returns-clause-heard c =
     let old = c.args.self.now in
     let part = c.args.part.now in
     let kept : c.min-kept.result ≡ min (length part) (limit_at old.stage + 2 - length old.held.items) = search rules in

@@ -1,4 +1,5 @@
 use Rattle.std.proofs.Common.{◌≡◌, ◌++◌, List, ℕ, length}
+use Rattle.hsms_explain.specs.First.{KeepsShown}
 use Rattle.hsms_explain.specs.Heard.{HasHeard}
 use Rattle.hsms_explain.proofs.explainer.Explainer.take.Given as goal
 
@@ -6,7 +7,7 @@ use Rattle.hsms_explain.proofs.explainer.Explainer.take.Given as goal
 abbrev pub invariant-loop-part : goal.invariant-loop-part
 invariant-loop-part l =
     (done : List ℕ) × (l.octets ≡ done ++ l.rest)
-    × ((text : List ℕ) → HasHeard l.initial.self text → HasHeard l.self (text ++ done))
+    × ((text : List ℕ) → HasHeard l.initial.self text → HasHeard l.self (text ++ done)) × KeepsShown l.initial.self.report l.self.report
 
 abbrev pub decreases-loop-part : goal.decreases-loop-part
 decreases-loop-part l = length l.rest

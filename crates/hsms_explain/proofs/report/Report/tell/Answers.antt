@@ -1,9 +1,9 @@
-use Rattle.std.proofs.Common.{◌∙◌, [], sym, ap}
+use Rattle.std.proofs.Common.{◌∙◌, [], refl, sym, ap}
 use Rattle.hsms_explain.specs.Failing.{failed_at}
 use Rattle.hsms_explain.specs.Grouped.{first_whole}
 use Rattle.hsms_explain.specs.Noted.{either, first_why}
-use Rattle.hsms_explain.proofs.Following.{on_ok, on_ok_more}
-use Rattle.hsms_explain.proofs.Firsts.{first_told, none_counted, none_grouped, none_told, takes_some}
+use Rattle.hsms_explain.proofs.Following.{on_ok, on_ok_more, on_ok_three}
+use Rattle.hsms_explain.proofs.Firsts.{first_told, keeps_told, none_counted, none_grouped, none_told, takes_some}
 use Rattle.hsms_explain.proofs.Pages.{adds_none}
 use Rattle.hsms_explain.proofs.report.Report.tell.Goals as goal
 
@@ -41,3 +41,19 @@ returns-clause-groups c =
     (none_grouped old.tally c.count_notes.new.self old.groups c.group_notes.new.groups c.args.told.number c.deref-2.result.now
     (c.in_ok-count_notes.ensures.first ∙ ap (λ n. either old.tally.first (failed_at c.args.told.number (first_why n))) read)
     c.in_ok-group_notes.ensures.groups)
+
+pub returns-then-not-has_line-clause-shown : goal.returns-then-not-has_line-clause-shown
+returns-then-not-has_line-clause-shown c =
+    let old = c.args.self.now in
+    keeps_told old _ old.notes.items c.args.told
+    (c.in_ok-count_notes.ensures.first ∙ ap (λ n. either old.tally.first (failed_at c.args.told.number (first_why n))) c.deref.ensures.value)
+    (returns-then-not-has_line-clause-told c) (returns-then-not-has_line-clause-some c) (returns-then-not-has_line-clause-groups c) refl
+
+pub returns-clause-shown : goal.returns-clause-shown
+returns-clause-shown c =
+    let old = c.args.self.now in
+    on_ok_three _ _ _ _ c.take.result
+    (λ told some groups. keeps_told old _ old.notes.items c.args.told
+    (c.in_ok-count_notes.ensures.first ∙ ap (λ n. either old.tally.first (failed_at c.args.told.number (first_why n))) c.deref.ensures.value)
+    told some groups c.take.ensures.excerpt)
+    (returns-clause-told c) (returns-clause-some c) (returns-clause-groups c)
