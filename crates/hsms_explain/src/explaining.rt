@@ -1,6 +1,6 @@
 //! `hsms explain`: what the lines of a log have to do with each other, and why they fail.
 
-ghost use Rattle.std.specs.Prelude.{◌≡◌, ◌<◌, ◌^◌, List, ℕ, IfOk, IfErr, OnOk, OnErr, codes, length};
+ghost use Rattle.std.specs.Prelude.{◌≡◌, ◌<◌, ◌^◌, List, Option, ℕ, IfOk, IfErr, OnOk, OnErr, codes, length};
 ghost use Rattle.hsms_frame.specs.Device.{WhereTold};
 ghost use Rattle.hsms_log.specs.Auditing.{HasEnded};
 ghost use Rattle.hsms_lines.specs.Verdict.{is_pass};
