@@ -107,6 +107,7 @@ fn passes(verdict: Verdict) -> bool
 fn write_told<W: Sink>(sink: &mut W, explainer: &mut Explainer) -> Result<(), ToolFault>
     ensures some { GrowsBySome (W.state sink.old).written (W.state sink.new).written }
     ensures heard { OnOk result ((text : List ℕ) → HasHeard explainer.old text → HasHeard explainer.new text) }
+    ensures tally { explainer.new.report.tally ≡ explainer.old.report.tally }
     ensures shown { OnOk result ((excerpt : Asked) (start : Option (List ℕ))
         → IsBeingWritten excerpt start explainer.old.report (W.state sink.old).written
         → IsWritten excerpt start explainer.new.report (W.state sink.new).written) }

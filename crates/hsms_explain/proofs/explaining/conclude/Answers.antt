@@ -1,3 +1,5 @@
+use Rattle.std.proofs.Common.{sym, subst}
+use Rattle.hsms_explain.specs.declared.tally.Tally.{Tally}
 use Rattle.hsms_explain.specs.First.{IsOfFirst}
 use Rattle.hsms_explain.proofs.Firsts.{first_failure, more_shown}
 use Rattle.hsms_explain.proofs.Tellings.{front_more, none_more, on_err, some_more, verdict_last}
@@ -21,5 +23,6 @@ returns-clause-told g c = λ text few heard. (
 pub returns-clause-first : goal.returns-clause-first
 returns-clause-first g c = λ excerpt start text few heard written.
     let verdict = c.in_ok-verdict.ensures in
-    first_failure excerpt text start _ _ _ c.in_ok-verdict.verdict _ c.each_text_has_one_verdict.ensures.one (verdict.judges text few heard)
-    (verdict.first text heard) (c.in_ok-write_told.ensures.shown excerpt start (more_shown excerpt start _ _ _ verdict.shown written)) c.in_ok-put.ensures.ok
+    let T : Tally → Type 0 = λ t. IsOfFirst c.in_ok-verdict.verdict t.first in
+    first_failure excerpt text start _ _ c.write_told.new.explainer.report c.in_ok-verdict.verdict _ c.each_text_has_one_verdict.ensures.one (verdict.judges text few heard)
+    (λ some. subst T (sym c.write_told.ensures.tally) (verdict.first text heard some)) (c.in_ok-write_told.ensures.shown excerpt start (more_shown excerpt start _ _ _ verdict.shown written)) c.in_ok-put.ensures.ok
