@@ -1,7 +1,6 @@
 -- The judgements of an entry end.
-use Rattle.std.proofs.Common.{◌≡◌, ◌≤◌, ◌+◌, ◌*◌, ◌++◌, suc, inl, inr, ℕ, List, [], ◌∷◌, Some, None, refl, sym, ap, ◌∙◌, subst, arith, append_assoc, length}
+use Rattle.std.proofs.Common.{◌≡◌, ◌≤◌, ◌+◌, ◌++◌, suc, inl, inr, ℕ, List, [], ◌∷◌, Some, None, refl, sym, ap, ◌∙◌, subst, arith, append_assoc, length}
 use Rattle.std.proofs.lemmas.List.{append-nil}
-use Rattle.std.specs.Prelude.{Option}
 use Rattle.secs_item.proofs.Texts.{some_text_answer, not_both_of_text}
 use Rattle.secs_item.specs.Spelling.{IsOctets}
 use Rattle.hsms_frame.specs.declared.header.Header.{Header}
@@ -9,11 +8,9 @@ use Rattle.hsms_machine.specs.declared.entry.Mark.{Mark}
 use Rattle.hsms_machine.specs.declared.entry.Mark.TheVariants.{Sent as MarkSent, Taken as MarkTaken, Discarded as MarkDiscarded}
 use Rattle.hsms_machine.specs.Entry.{frame_event}
 use Rattle.hsms_machine.specs.declared.entry.Entry.{Entry}
-use Rattle.hsms_machine.specs.declared.view.View.{View}
 use Rattle.hsms_machine.specs.Laws.{HasOctets}
 use Rattle.hsms_machine.specs.Put.{judgements}
 use Rattle.hsms_machine.specs.Repair.{Change, Other, First, Without, Asks, Steps, Passed, LeftOut, Changed, Preceded, Mended, IsRepaired, change_by, remedy_of}
-use Rattle.hsms_machine.specs.Run.{Broken as IsFirstBroken}
 use Rattle.hsms_machine.specs.Settings.{Parameters}
 use Rattle.hsms_machine.specs.View.{view_of, waiting_of}
 use Rattle.hsms_machine.proofs.Lawful.{one_first}
@@ -139,14 +136,14 @@ lines_repaired s number log (line ∷ lines) after placed (put, rest, places, in
       entries,
       ([], entries, inl (blank, refl), carry, refl),
       subst (λ l. IsRepaired s l entries after) (ap (λ p. log ++ p) none ∙ append-nil log)
-      (subst (λ a. IsRepaired s (log ++ put) entries a) (sym (is ∙ ap (λ p. p ++ rest) none)) repaired),
+          (subst (λ a. IsRepaired s (log ++ put) entries a) (sym (is ∙ ap (λ p. p ++ rest) none)) repaired),
     )
 lines_repaired s number log (line ∷ lines) after placed (put, rest, places, inr (inl (unread, none)), is, placed_is, later) =
     let (entries, carry, repaired) = lines_repaired s (number + 1) (log ++ put) lines rest places later in (
       entries,
       ([], entries, inr (inl (unread, refl)), carry, refl),
       subst (λ l. IsRepaired s l entries after) (ap (λ p. log ++ p) none ∙ append-nil log)
-      (subst (λ a. IsRepaired s (log ++ put) entries a) (sym (is ∙ ap (λ p. p ++ rest) none)) repaired),
+          (subst (λ a. IsRepaired s (log ++ put) entries a) (sym (is ∙ ap (λ p. p ++ rest) none)) repaired),
     )
 lines_repaired s number log (line ∷ lines) after placed (put, rest, places, inr (inr (entry, steps, carries, mended)), is, placed_is, later) =
     let (entries, carry, repaired) = lines_repaired s (number + 1) (log ++ put) lines rest places later in (

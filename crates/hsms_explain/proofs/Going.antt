@@ -2,10 +2,8 @@
 use Rattle.std.proofs.Common.{◌≡◌, ◌+◌, ◌++◌, inl, inr, ℕ, List, [], ◌∷◌, length, map, refl, sym, ap, ◌∙◌, subst, arith, append_assoc, length-append}
 use Rattle.std.proofs.lemmas.List.{append-nil}
 use Rattle.hsms_machine.specs.declared.entry.Entry.{Entry}
-use Rattle.hsms_machine.specs.declared.view.View.{View}
 use Rattle.hsms_machine.specs.Placed.{at_place}
 use Rattle.hsms_machine.specs.Settings.{Parameters}
-use Rattle.hsms_machine.specs.View.{waiting_of}
 use Rattle.hsms_log.specs.Spelling.{SpellsSettings, line_limit, settings_limit}
 use Rattle.hsms_explain.specs.declared.known.Known.{Known}
 use Rattle.hsms_explain.specs.declared.note.Note.{Note}

@@ -6,7 +6,7 @@ use Rattle.hsms_machine.specs.Placed.{at_place}
 use Rattle.hsms_machine.specs.Repair.{Change, Other, First, Without, Steps, Mended, change_by, remedy_of}
 use Rattle.hsms_machine.specs.Run.{Broken as IsFirstBroken}
 use Rattle.hsms_machine.specs.Settings.{Parameters}
-use Rattle.hsms_machine.specs.View.{view_of, waiting_of}
+use Rattle.hsms_machine.specs.View.{view_of}
 use Rattle.hsms_log.specs.declared.verdict.Why.TheVariants as why
 use Rattle.hsms_explain.specs.declared.course.Judged.{Judged}
 use Rattle.hsms_explain.specs.declared.course.Judged.TheVariants.{Lawful, Broken}

@@ -483,7 +483,7 @@ module _ (some : SomeTextAnswer) (not_both : NotBothOfText) (settings : Paramete
     over = tt;
     lawful = λ log run h. tt;
     others = λ waiting log run timely any few rule is h. omitted settings Anything (waiting * 2 + 1) log entry rule run h
-    (ap (λ r. change_by r entry) (left_out (view_of settings log) entry discards (lacks (view_of settings log)) rule is)) tt (omega arith);
+        (ap (λ r. change_by r entry) (left_out (view_of settings log) entry discards (lacks (view_of settings log)) rule is)) tt (omega arith);
   }
 
   -- a taken frame is thrown away
@@ -556,7 +556,7 @@ module _ (some : SomeTextAnswer) (not_both : NotBothOfText) (settings : Paramete
         ap (λ v. v.last_time) (view-push settings log (entry_of_event time Down)),
       );
       others = λ waiting log run timely up few rule is h.
-      absurd (down_breaks log up rule is (applies (BreaksAt settings log (entry_of_event time Down)) all_rules rule h));
+          absurd (down_breaks log up rule is (applies (BreaksAt settings log (entry_of_event time Down)) all_rules rule h));
     }
 
     -- then an `up` is lawful, where the log may have several connections
