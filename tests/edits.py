@@ -99,7 +99,7 @@ BUT_FOR_HOLES = re.compile(r"^fn (\S+): (?:no holes|depends on a hole)", re.MULT
 # What a check says of a function that isn't proved, of a goal, and of a line of a proof by hand.
 NOT_PROVED = re.compile(r"^fn (\S+): (?:not proved|no proof)(.*)", re.MULTILINE)
 LINE_OF_A_PROOF = re.compile(r"^(?:note: )?(?:\./)?proofs/(\S+?)\.antt:\d+:\d+: error: (.*)", re.MULTILINE)
-A_NAME_IS_GONE = re.compile(r"has no\b|is not in scope|was not admitted")
+A_NAME_IS_GONE = re.compile(r"has no field|is not in scope|has no `|was not admitted")
 
 
 class BadEdit(Exception):
