@@ -34,6 +34,7 @@ tests/edits.py --one CRATE NAME [BODY] tries one edit and writes what the check 
 tries all twins, or some.
 """
 import argparse
+import functools
 import os
 import re
 import shutil
@@ -73,7 +74,8 @@ IS_PROVED = re.compile(r"^rt: (\w+) (?:proved|is kept)\b", re.MULTILINE)
 
 # Where an item of a source begins, and an `impl` of a type, or of a trait for one.
 ITEM = re.compile(r"(?m)^(?=(?:pub(?:\(\w+\))? )?(?:unsafe )?(?:const|enum|fn|ghost|impl|mod|static|struct|trait|type|use)\b)")
-NAME_OF_TYPE = r"&?(?:\w+::)*(\w+)(?:<[^{]*?>)?"
+NAME_OF_TYPE = r"&?(?:\w+::)*(\w+)(?:<([^{]*?)>)?"
+TYPE = re.compile(r"(?m)^(?:pub(?:\(\w+\))? )?(?:struct|enum) (\w+)")
 OF_TYPE = re.compile(rf"(?:unsafe )?impl(?:<[^{{]*?>)? {NAME_OF_TYPE}(?: for {NAME_OF_TYPE})? \{{")
 
 # Where a function begins, and one of a cycle of calls, whose attribute stands above it.
@@ -99,7 +101,7 @@ BUT_FOR_HOLES = re.compile(r"^fn (\S+): (?:no holes|depends on a hole)", re.MULT
 # What a check says of a function that isn't proved, of a goal, and of a line of a proof by hand.
 NOT_PROVED = re.compile(r"^fn (\S+): (?:not proved|no proof)(.*)", re.MULTILINE)
 LINE_OF_A_PROOF = re.compile(r"^(?:note: )?(?:\./)?proofs/(\S+?)\.antt:\d+:\d+: error: (.*)", re.MULTILINE)
-A_NAME_IS_GONE = re.compile(r"has no field|is not in scope|has no `|was not admitted")
+A_NAME_IS_GONE = re.compile(r"has no\b|is not in scope|was not admitted")
 
 
 class BadEdit(Exception):
@@ -172,15 +174,27 @@ def function_at(crate, change):
     *_, item = ITEM.split(text[: line_end if line_end >= 0 else len(text)])
     names = re.findall(r"\bfn (\w+)", item)
     of_type = OF_TYPE.match(item)
-    module = "" if change.path in ("src/lib.rt", "src/main.rt") else change.path[4:-3]
-    owner = named_impl(of_type[1], of_type[2]) if of_type else module
+    owner = named_impl(of_type) if of_type else "/".join(module_at(change.path))
     return (owner, names[-1]) if names else None
 
 
-def named_impl(first, second):
-    """How a check names an `impl`: by its type, and then by its trait if it is one of a trait."""
-    trait, of_type = (first, second) if second else ("", first)
-    return (of_type[0].upper() + of_type[1:] if len(of_type) > 1 else "Any") + trait
+def module_at(path):
+    """The module of a source, by its parts."""
+    return [] if path in ("src/lib.rt", "src/main.rt") else path[4:-3].split("/")
+
+
+def is_of_trait(of_type):
+    return bool(of_type[3]) and of_type[1] != "Drop"
+
+
+def named_impl(of_type):
+    """How a check names an `impl`: by its type, and then by its trait with what that is given, if it is one of a trait. What
+    drops a value is named as a function of its type.
+    """
+    name = of_type[3] or of_type[1]
+    # (a trait may also be given what is said at the `impl`, a letter, or a lifetime)
+    trait = [of_type[1], *re.findall(r"(?<!')\b(?:[A-Z]\w+|\d+)", of_type[2] or "")] if is_of_trait(of_type) else []
+    return "".join([name[0].upper() + name[1:] if len(name) > 1 else "Any", *trait])
 
 
 def changes_in(lines):
@@ -278,17 +292,34 @@ def functions_in(crate):
     found = []
     for at, _, names in os.walk(f"{TOP}/crates/{crate}/src"):
         for file in names:
-            text = text_of(f"{at}/{file}")
-            path = os.path.relpath(f"{at}/{file}", f"{TOP}/crates/{crate}/src").removesuffix(".rt")
-            module = [] if path in ("lib", "main") else path.split("/")
-            found += ["/".join([*module, *it]) for item in ITEM.split(text) for it in functions_of(item)]
+            path = os.path.relpath(f"{at}/{file}", f"{TOP}/crates/{crate}")
+            for item in ITEM.split(text_of(f"{at}/{file}")):
+                module = module_of(f"{TOP}/crates/{crate}", path, OF_TYPE.match(item))
+                found += ["/".join([*module, *it]) for it in functions_of(item)]
     return sorted(set(found))
+
+
+@functools.lru_cache(maxsize=None)
+def types_in(folder):
+    """The modules of the types that a crate's sources define, by their names."""
+    found = {}
+    for at, _, names in os.walk(f"{folder}/src"):
+        for file in names:
+            path = os.path.relpath(f"{at}/{file}", folder)
+            found.update({it: module_at(path) for it in TYPE.findall(text_of(f"{at}/{file}"))})
+    return found
+
+
+def module_of(folder, path, of_type):
+    """The module that a check names for what stands in a source of a crate: for the functions of a type the type's."""
+    name = of_type and not is_of_trait(of_type) and (of_type[3] or of_type[1])
+    return types_in(folder).get(name) or module_at(path)
 
 
 def functions_of(item):
     """The functions of an item, each by the type whose it is, if it is one's, and by its name."""
     of_type = OF_TYPE.match(item)
-    owner = [named_impl(of_type[1], of_type[2])] if of_type else []
+    owner = [named_impl(of_type)] if of_type else []
     return [[*owner, it[2]] for it in FUNCTION.finditer(item) if len(it[1]) == 4 * len(owner) and not IN_A_CYCLE.search(item[: it.start()])]
 
 
@@ -300,12 +331,12 @@ def span_of(text, owner, name):
     for item in ITEM.split(text):
         of_type = OF_TYPE.match(item)
         found = [it for it in FUNCTION.finditer(item) if it[2] == name and len(it[1]) == (4 if of_type else 0)]
-        if found and (named_impl(of_type[1], of_type[2]) == owner if of_type else not owner[:1].isupper()):
+        if found and (named_impl(of_type) == owner if of_type else not owner[:1].isupper()):
             indent = found[0][1]
             begin = start + found[0].start()
             end = text.find(f"\n{indent}}}\n", begin)
             *_, above = re.split(r"(?m)^ *$|^.*[{}]$", text[:begin])
-            is_other = IN_A_CYCLE.search(text[:begin]) or (of_type and of_type[2]) or end < 0
+            is_other = IN_A_CYCLE.search(text[:begin]) or (of_type and of_type[3]) or end < 0
             return None if is_other else (begin - len(above.lstrip("\n")), end + len(indent) + 3, indent)
         start += len(item)
     return None
@@ -327,6 +358,7 @@ class Double:
                 raise BadEdit(f"the function has {text.count(it.old)} times, and not once: {it.old}")
             text = text.replace(it.old, it.new)
         self.named = f"{self.name}_otherwise_{number}"
+        self.module = types_in(folder).get(self.owner) or module_at(self.path)
         self.text = re.sub(rf"\bfn {self.name}\b", f"fn {self.named}", text, count=1)
 
     def add_to(self, text):
@@ -342,8 +374,7 @@ class Double:
         return {path: turn(text) for path, text in by_hand.items()}
 
     def parts(self, name):
-        module = [] if self.path in ("src/lib.rt", "src/main.rt") else self.path[4:-3].split("/")
-        return [*module, *([self.owner] if self.owner[:1].isupper() else []), name]
+        return [*self.module, *([self.owner] if self.owner[:1].isupper() else []), name]
 
     def function(self):
         return self.owner, self.named
@@ -357,14 +388,6 @@ class Room:
         self.by_hand = {}
         for path in like.by_hand if like else functions_in(crate):
             self.make_hole(path)
-        if not like:
-            # where a function is named otherwise, there can be none
-            status, output = check_of({""}, self.folder)
-            while status and NO_HOLE.search(output):
-                for path in set(NO_HOLE.findall(output)):
-                    self.fill_hole(path)
-                    del self.by_hand[path]
-                status, output = check_of({""}, self.folder)
 
     def make_hole(self, path):
         """Puts a hole in the place of a function's proof."""
@@ -382,6 +405,14 @@ class Room:
         write_all(folder, self.by_hand[path])
         if not os.listdir(folder):
             os.rmdir(folder)
+
+    def fill_those_that_cant_be(self, output):
+        """Takes away the holes of functions that a check names otherwise, and says whether there were any."""
+        found = {path for path in NO_HOLE.findall(output) if path in self.by_hand}
+        for path in found:
+            self.fill_hole(path)
+            del self.by_hand[path]
+        return bool(found)
 
     def proof_of(self, path):
         """The proof by hand of a function, if it has one."""
@@ -424,6 +455,8 @@ class Room:
         write_all(self.folder, texts)
         try:
             status, output = check_of(asked, self.folder)
+            while status and self.fill_those_that_cant_be(output):
+                status, output = check_of(asked, self.folder)
             only = asked
             while status == NO_SUCH_FUNCTION and only:
                 # a check names a function of an `impl` otherwise at times: then the others are tried
@@ -434,7 +467,8 @@ class Room:
             for path in texts.keys() - before.keys():
                 shutil.rmtree(os.path.dirname(f"{self.folder}/{path}"), ignore_errors=True)
             for path in filled:
-                self.make_hole(path)
+                if path in self.by_hand:
+                    self.make_hole(path)
         found = refused_in(output)
         proved = {named(path.split("::")[1:]) for path in BUT_FOR_HOLES.findall(output)}
         refused = {it: [said for of in function(it) for said in found.get(of, [])] for it in edits if function(it) & found.keys()}
@@ -623,6 +657,9 @@ class Trial:
     def alone(self, edit):
         """Tries a wrong body by itself: if need be, in a check of the whole crate too."""
         proved, refused, output = self.check([edit])
+        if not refused and None in edit.turned():
+            # what a definition turns may be a lemma of its functions
+            refused = refused_in(output)
         if not refused and edit.paths():
             proved, _, output = self.check([edit], of_crate=True)
             refused = refused_in(output)
