@@ -112,7 +112,19 @@ fn serve_host(
     settings: Settings,
     script: &[Step],
 ) -> Result<ServedAgain, ServeFault> {
-    serve_again(alloc, link, log, settings, HostDesk, 1, script, &[], None, 100, 3)
+    serve_again(
+        alloc,
+        link,
+        log,
+        settings,
+        HostDesk,
+        1,
+        script,
+        &[],
+        None,
+        100,
+        3,
+    )
 }
 
 /// Three connections of a host leave a log that passes the audit with 15 entries.
