@@ -170,6 +170,24 @@ fn add_pending(alloc: Global, text: &mut Vec<u8>, pending: &[u8]) -> Result<(), 
     add_line(text, "pending ", hex::encode(alloc, pending)?.as_str())
 }
 
+/// Adds the lines of entries. There is no fault.
+fn add_entries(
+    alloc: Global,
+    entries: &[Entry],
+    text: &mut Vec<u8>,
+) -> Result<Option<EndFault>, Fail> {
+    let lines = lines_of(alloc, entries)?;
+    text.extend_from_slice(&lines)?;
+    Ok(None)
+}
+
+/// Adds the line of a fault, and answers it.
+fn add_fault(alloc: Global, fault: EndFault, text: &mut Vec<u8>) -> Result<Option<EndFault>, Fail> {
+    let name = format!(in alloc; "{fault:?}")?;
+    add_line(text, "refused ", name.as_str())?;
+    Ok(Some(fault))
+}
+
 /// Tells an end one input, and adds the lines of what it answers. Answers its fault.
 fn add_answer<D: TurnDesk>(
     alloc: Global,
@@ -178,15 +196,8 @@ fn add_answer<D: TurnDesk>(
     text: &mut Vec<u8>,
 ) -> Result<Option<EndFault>, Fail> {
     match tell(end, input) {
-        Ok(entries) => {
-            text.extend_from_slice(&lines_of(alloc, &entries)?)?;
-            Ok(None)
-        }
-        Err(fault) => {
-            let name = format!(in alloc; "{fault:?}")?;
-            add_line(text, "refused ", name.as_str())?;
-            Ok(Some(fault))
-        }
+        Ok(entries) => add_entries(alloc, &entries, text),
+        Err(fault) => add_fault(alloc, fault, text),
     }
 }
 
@@ -349,15 +360,37 @@ fn accepted_lines(alloc: Global, session: &str) -> Result<Vec<u8>, AllocError> {
     Ok(text)
 }
 
+/// The lines of what comes of a list of inputs.
+fn lines_of_all(
+    alloc: Global,
+    settings: Settings,
+    first_system: u32,
+    inputs: &[Input],
+) -> Result<Vec<u8>, Fail> {
+    let driven = driven(alloc, settings, first_system, inputs)?;
+    driven_lines(alloc, &driven)
+}
+
+/// These are the lines of entries and of what is pending in a session.
+fn assert_accepted(
+    rt: &impl Abort,
+    alloc: Global,
+    lines: &[u8],
+    session: &str,
+    name: &str,
+) -> Result<(), Fail> {
+    let accepted = accepted_lines(alloc, session)?;
+    assert_octets(rt, lines, &accepted, name);
+    Ok(())
+}
+
 /// The entries of the list of a session are the lines of its calls, one after the other.
 fn judge_driven(rt: &impl Abort, alloc: Global, session: &Session) -> Result<(), Fail> {
     let (name, line, first_system, text) = *session;
     let settings = read_settings(line.as_bytes()).ok_or("the settings")?;
     let inputs = inputs_of(alloc, text)?;
-    let driven = driven(alloc, settings, first_system, &inputs)?;
-    let lines = driven_lines(alloc, &driven)?;
-    assert_octets(rt, &lines, &accepted_lines(alloc, text)?, name);
-    Ok(())
+    let lines = lines_of_all(alloc, settings, first_system, &inputs)?;
+    assert_accepted(rt, alloc, &lines, text, name)
 }
 
 fn judge_all_driven(rt: &impl Abort, alloc: Global, sessions: &[Session]) -> Result<(), Fail> {

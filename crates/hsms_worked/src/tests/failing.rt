@@ -8,7 +8,7 @@ use hsms_ends::{Scripted, ServeFault, Served};
 use hsms_log::{Summary, Verdict, judge};
 
 /// Select.req, Linktest.req and Separate.req of the host.
-const SAID: [&[u8]; 3] = [
+const SAID: &[&[u8]] = &[
     b"\x00\x00\x00\x0a\xff\xff\x00\x00\x00\x01\x00\x00\x00\x01",
     b"\x00\x00\x00\x0a\xff\xff\x00\x00\x00\x05\x00\x00\x00\x02",
     b"\x00\x00\x00\x0a\xff\xff\x00\x00\x00\x09\x00\x00\x00\x03",
@@ -51,6 +51,22 @@ fn link_of(alloc: Global, piece: usize, fuse: u64) -> Result<Scripted, AllocErro
     }
     let room = vec![in alloc; 0u8; 100]?;
     Ok(Scripted::new(Vec::new(alloc), waits, room, piece, fuse))
+}
+
+/// A link, and the log of what comes over it.
+#[derive(Drop)]
+struct Pair {
+    link: Scripted,
+    log: Store,
+}
+
+/// Both move so many octets a call. The link fails after so many calls, and so does the log.
+fn pair_of(alloc: Global, piece: usize, link: u64, log: u64) -> Result<Pair, AllocError>
+    requires { 0 < piece }
+{
+    let link = link_of(alloc, piece, link)?;
+    let log = log_of(alloc, 400, piece, log)?;
+    Ok(Pair { link, log })
 }
 
 /// What equipment answers, served over this link with this log. Want of memory ends the test.
@@ -158,9 +174,8 @@ fn judge_link(
 fn fail_link_at(rt: &impl Abort, alloc: Global, piece: usize, fuse: u64) -> Result<bool, Fail>
     requires { 0 < piece }
 {
-    let mut link = link_of(alloc, piece, fuse)?;
-    let mut log = log_of(alloc, 400, piece, u64::MAX)?;
-    judge_link(rt, alloc, &mut link, &mut log)
+    let mut pair = pair_of(alloc, piece, fuse, u64::MAX)?;
+    judge_link(rt, alloc, &mut pair.link, &mut pair.log)
 }
 
 /// The log fails, or nothing does. Answers whether nothing did.
@@ -187,9 +202,8 @@ fn judge_log(
 fn fail_log_at(rt: &impl Abort, alloc: Global, piece: usize, fuse: u64) -> Result<bool, Fail>
     requires { 0 < piece }
 {
-    let mut link = link_of(alloc, piece, u64::MAX)?;
-    let mut log = log_of(alloc, 400, piece, fuse)?;
-    judge_log(rt, alloc, &mut link, &mut log)
+    let mut pair = pair_of(alloc, piece, u64::MAX, fuse)?;
+    judge_log(rt, alloc, &mut pair.link, &mut pair.log)
 }
 
 /// The link fails after each number of calls, until it meets no failure.
@@ -310,9 +324,8 @@ fn judge_row(
 }
 
 fn judge_failing(rt: &impl Abort, alloc: Global, row: &Failing) -> Result<(), Fail> {
-    let mut link = link_of(alloc, 400, row.link)?;
-    let mut log = log_of(alloc, 400, 400, row.log)?;
-    judge_row(rt, alloc, row, &mut link, &mut log)
+    let mut pair = pair_of(alloc, 400, row.link, row.log)?;
+    judge_row(rt, alloc, row, &mut pair.link, &mut pair.log)
 }
 
 #[test]

@@ -1,12 +1,11 @@
 //! Several replies of a script to one primary.
 
-use super::connection::{audited, log_of, settings_of};
-use super::reconnect::{assert_served, link_of};
+use super::connection::log_of;
+use super::reconnect::{judge_lent, link_of};
 use super::{
-    Fail, Global, Message, Role, Side, assert_octets, assert_so, end_of, equipment, judge, read,
-    settings,
+    EquipmentDesk, Fail, Global, Message, Role, Side, end_of, equipment, judge, read, settings,
 };
-use hsms_ends::{EquipmentDesk, Lent, ScriptedDesk, serve_again};
+use hsms_ends::ScriptedDesk;
 
 /// Three replies to S7F3, and between them two to S10F3.
 const REPLIES: &[&str] = &[
@@ -110,43 +109,22 @@ const TWICE: &str = "hsms-log 2 equipment passive 0 45000 6000 10000 5000 104857
 7 down
 ";
 
+/// What comes in two connections.
+const ASKED_TWICE: &str = "ffff0000000100000001
+00008703000000000002
+00008703000000000003
+ffff0000000900000004
+ffff0000000100000001
+00008703000000000002
+ffff0000000900000003
+";
+
 /// With each connection the turns begin anew.
 #[test]
 fn turns_begin_anew(rt: HostRuntime) -> Result<(), Fail> {
     let alloc = rt.alloc();
-    let settings = settings_of(Role::Equipment).ok_or("settings")?;
-    let mut link = link_of(
-        alloc,
-        &[7, 7, 7, 7, 7, 7, 7, 7, 7, 7, 7, 7, 7, 7, 7, 7],
-        &[
-            "ffff0000000100000001",
-            "00008703000000000002",
-            "00008703000000000003",
-            "ffff0000000900000004",
-            "ffff0000000100000001",
-            "00008703000000000002",
-            "ffff0000000900000003",
-        ],
-    )?;
+    let mut link = link_of(alloc, &[7; 16], ASKED_TWICE)?;
     let mut log = log_of(alloc, 4096, 4096, u64::MAX)?;
     let desk = scripted(alloc)?;
-    let lent = Lent { desk: &desk };
-    let answer = serve_again(
-        alloc,
-        &mut link,
-        &mut log,
-        settings,
-        lent,
-        1,
-        &[],
-        &[],
-        None,
-        100,
-        2,
-    );
-    assert_served(&rt, answer, 2)?;
-    assert_octets(&rt, log.written(), TWICE.as_bytes(), "log");
-    let summary = audited(alloc, log.written())?;
-    assert_so(&rt, summary.entries == 16, "entries");
-    Ok(())
+    judge_lent(&rt, alloc, &mut link, &mut log, &desk, TWICE, 16)
 }

@@ -88,6 +88,16 @@ fn assert_sent(
     Ok(())
 }
 
+/// A message with this item, that awaits no reply.
+fn assert_item_sent(
+    rt: &impl Abort,
+    end: &mut End<EquipmentDesk>,
+    item: Item,
+    want: (usize, u32),
+) -> Result<(), Fail> {
+    assert_sent(rt, end, false, Some(item), want)
+}
+
 /// No transaction is open for another primary that awaits a reply, nor for a Linktest.req.
 fn assert_full(rt: &impl Abort, end: &mut End<EquipmentDesk>) {
     let full = send_item(true, None, end);
@@ -104,8 +114,8 @@ fn judge_greatest(
 ) -> Result<(), Fail> {
     assert_refused(rt, end, zeros(alloc, 245)?, EndFault::TooLong)?;
     assert_refused(rt, end, nested(alloc, 33)?, EndFault::TooDeep)?;
-    assert_sent(rt, end, false, Some(zeros(alloc, 244)?), (256, 1))?;
-    assert_sent(rt, end, false, Some(nested(alloc, 32)?), (74, 2))
+    assert_item_sent(rt, end, zeros(alloc, 244)?, (256, 1))?;
+    assert_item_sent(rt, end, nested(alloc, 32)?, (74, 2))
 }
 
 #[test]

@@ -1,18 +1,17 @@
 //! Connection after connection, served over a link in memory in one log.
 
 use super::connection::{audited, log_of, settings_of};
-use super::{Abort, Fail, Global, Role, assert_octets, assert_so, equipment, octets_of};
+use super::{
+    Abort, Fail, Global, Role, Settings, Store, TurnDesk, assert_octets, assert_so, equipment,
+    octets_of,
+};
 use hsms_ends::{HostDesk, Lent, Scripted, ServeFault, ServedAgain, Step, serve_again};
 use secs_text::read;
 
-/// A link whose clock goes back after the first connection. Each wait gives the octets of one message.
-pub fn link_of(
-    alloc: Global,
-    moments: &[u64],
-    messages: &[&'static str],
-) -> Result<Scripted, Fail> {
+/// A link with these moments. Each wait gives the octets of the message of one line.
+pub fn link_of(alloc: Global, moments: &[u64], messages: &str) -> Result<Scripted, Fail> {
     let mut waits = Vec::new(alloc);
-    for message in messages {
+    for message in messages.lines() {
         waits.push(Some(octets_of(alloc, message)?))?;
     }
     let moments = Vec::from_slice(alloc, moments)?;
@@ -21,7 +20,7 @@ pub fn link_of(
 }
 
 /// Want of memory is handed up.
-pub fn assert_served(
+fn assert_served(
     rt: &impl Abort,
     answer: Result<ServedAgain, ServeFault>,
     connections: u64,
@@ -39,6 +38,42 @@ pub fn assert_served(
     }
 }
 
+/// A log passes the audit with so many entries.
+fn assert_entries(rt: &impl Abort, alloc: Global, log: &Store, entries: u64) -> Result<(), Fail> {
+    let summary = audited(alloc, log.written())?;
+    assert_so(rt, summary.entries == entries, "entries");
+    Ok(())
+}
+
+/// Serves two connections of equipment.
+fn serve_lent<D: TurnDesk>(
+    alloc: Global,
+    link: &mut Scripted,
+    log: &mut Store,
+    settings: Settings,
+    desk: &D,
+) -> Result<ServedAgain, ServeFault> {
+    let lent = Lent { desk };
+    serve_again(alloc, link, log, settings, lent, 1, &[], &[], None, 100, 2)
+}
+
+/// Two connections of equipment leave this text, which passes the audit with so many entries.
+pub fn judge_lent<D: TurnDesk>(
+    rt: &impl Abort,
+    alloc: Global,
+    link: &mut Scripted,
+    log: &mut Store,
+    desk: &D,
+    text: &str,
+    entries: u64,
+) -> Result<(), Fail> {
+    let settings = settings_of(Role::Equipment).ok_or("settings")?;
+    let answer = serve_lent(alloc, link, log, settings, desk);
+    assert_served(rt, answer, 2)?;
+    assert_octets(rt, log.written(), text.as_bytes(), "log");
+    assert_entries(rt, alloc, log, entries)
+}
+
 const EQUIPMENT_LOG: &str = "hsms-log 2 equipment passive 0 45000 6000 10000 5000 1048576 32
 7 up
 7 < ffff0000000100000001
@@ -52,78 +87,83 @@ const EQUIPMENT_LOG: &str = "hsms-log 2 equipment passive 0 45000 6000 10000 500
 7 down
 ";
 
+/// What comes to the equipment: it is selected and left, twice.
+const SELECTED_TWICE: &str = "ffff0000000100000001
+ffff0000000900000003
+ffff0000000100000001
+ffff0000000900000003
+";
+
 /// The clock goes back to 3 with the second connection: times don't.
 #[test]
 fn a_tool_is_selected_twice(rt: HostRuntime) -> Result<(), Fail> {
     let alloc = rt.alloc();
-    let settings = settings_of(Role::Equipment).ok_or("settings")?;
-    let mut link = link_of(
-        alloc,
-        &[7, 7, 7, 7, 7, 3],
-        &[
-            "ffff0000000100000001",
-            "ffff0000000900000003",
-            "ffff0000000100000001",
-            "ffff0000000900000003",
-        ],
-    )?;
+    let mut link = link_of(alloc, &[7, 7, 7, 7, 7, 3], SELECTED_TWICE)?;
     let mut log = log_of(alloc, 4096, 4096, u64::MAX)?;
     let desk = equipment(alloc)?;
-    let lent = Lent { desk: &desk };
-    let answer = serve_again(
+    judge_lent(&rt, alloc, &mut link, &mut log, &desk, EQUIPMENT_LOG, 10)
+}
+
+/// Serves three connections of a host.
+fn serve_host(
+    alloc: Global,
+    link: &mut Scripted,
+    log: &mut Store,
+    settings: Settings,
+    script: &[Step],
+) -> Result<ServedAgain, ServeFault> {
+    serve_again(
         alloc,
-        &mut link,
-        &mut log,
+        link,
+        log,
         settings,
-        lent,
+        HostDesk,
         1,
-        &[],
+        script,
         &[],
         None,
         100,
-        2,
-    );
-    assert_served(&rt, answer, 2)?;
-    assert_octets(&rt, log.written(), EQUIPMENT_LOG.as_bytes(), "log");
-    let summary = audited(alloc, log.written())?;
-    assert_so(&rt, summary.entries == 10, "entries");
-    Ok(())
+        3,
+    )
 }
+
+/// Three connections of a host leave a log that passes the audit with 15 entries.
+fn judge_host(
+    rt: &impl Abort,
+    alloc: Global,
+    link: &mut Scripted,
+    log: &mut Store,
+    script: &[Step],
+) -> Result<(), Fail> {
+    let settings = settings_of(Role::Host).ok_or("settings")?;
+    let answer = serve_host(alloc, link, log, settings, script);
+    assert_served(rt, answer, 3)?;
+    assert_entries(rt, alloc, log, 15)
+}
+
+/// What the host sends.
+fn script(alloc: Global) -> Result<Vec<Step>, Fail> {
+    let message = read(alloc, b"S1F1 W .", 32)?;
+    let mut script = Vec::new(alloc);
+    script.push(Step::Send(message))?;
+    Ok(script)
+}
+
+/// What comes to the host: in the first connection it is selected, answered and left, and in the second one it is
+/// selected and left.
+const ANSWERED_ONCE: &str = "ffff0000000200000001
+00000102000000000002
+ffff0000000900000003
+ffff0000000200000001
+ffff0000000900000003
+";
 
 /// A host that sends its script in the first connection alone. The third one finds the peer gone.
 #[test]
 fn a_host_connects_again(rt: HostRuntime) -> Result<(), Fail> {
     let alloc = rt.alloc();
-    let settings = settings_of(Role::Host).ok_or("settings")?;
-    let mut link = link_of(
-        alloc,
-        &[],
-        &[
-            "ffff0000000200000001",
-            "00000102000000000002",
-            "ffff0000000900000003",
-            "ffff0000000200000001",
-            "ffff0000000900000003",
-        ],
-    )?;
+    let mut link = link_of(alloc, &[], ANSWERED_ONCE)?;
     let mut log = log_of(alloc, 4096, 4096, u64::MAX)?;
-    let mut script = Vec::new(alloc);
-    script.push(Step::Send(read(alloc, b"S1F1 W .", 32)?))?;
-    let answer = serve_again(
-        alloc,
-        &mut link,
-        &mut log,
-        settings,
-        HostDesk,
-        1,
-        &script,
-        &[],
-        None,
-        100,
-        3,
-    );
-    assert_served(&rt, answer, 3)?;
-    let summary = audited(alloc, log.written())?;
-    assert_so(&rt, summary.entries == 15, "entries");
-    Ok(())
+    let script = script(alloc)?;
+    judge_host(&rt, alloc, &mut link, &mut log, &script)
 }

@@ -73,11 +73,22 @@ fn assert_moments(rt: &impl Abort, link: &mut Scripted, moments: &[u64]) {
     }
 }
 
-#[test]
-fn moments_in_order(rt: HostRuntime) -> Result<(), Fail> {
-    assert_moments(&rt, &mut clock(rt.alloc(), &[3, 7, 5])?, &[3, 7, 5, 5, 5]);
-    assert_moments(&rt, &mut clock(rt.alloc(), &[])?, &[0, 0]);
+/// A link with these moments has those.
+fn judge_moments(
+    rt: &impl Abort,
+    alloc: Global,
+    given: &[u64],
+    moments: &[u64],
+) -> Result<(), AllocError> {
+    let mut link = clock(alloc, given)?;
+    assert_moments(rt, &mut link, moments);
     Ok(())
+}
+
+#[test]
+fn moments_in_order(rt: HostRuntime) -> Result<(), AllocError> {
+    judge_moments(&rt, rt.alloc(), &[3, 7, 5], &[3, 7, 5, 5, 5])?;
+    judge_moments(&rt, rt.alloc(), &[], &[0, 0])
 }
 
 const WAITS: &[Option<&[u8]>] = &[
@@ -115,49 +126,70 @@ fn assert_waits(rt: &impl Abort, link: &mut Scripted, waited: &[(Got, &[u8])]) {
     }
 }
 
-#[test]
-fn waits_in_order(rt: HostRuntime) -> Result<(), Fail> {
-    assert_waits(&rt, &mut peer(rt.alloc(), WAITS, 10, u64::MAX)?, WAITED);
-    assert_waits(
-        &rt,
-        &mut peer(rt.alloc(), WAITS, 1, u64::MAX)?,
-        WAITED_FOR_ONE,
-    );
+/// Where waits give so many octets at most, they answer this.
+fn judge_waits(
+    rt: &impl Abort,
+    alloc: Global,
+    piece: usize,
+    waited: &[(Got, &[u8])],
+) -> Result<(), AllocError>
+    requires { 0 < piece }
+{
+    let mut link = peer(alloc, WAITS, piece, u64::MAX)?;
+    assert_waits(rt, &mut link, waited);
     Ok(())
+}
+
+#[test]
+fn waits_in_order(rt: HostRuntime) -> Result<(), AllocError> {
+    judge_waits(&rt, rt.alloc(), 10, WAITED)?;
+    judge_waits(&rt, rt.alloc(), 1, WAITED_FOR_ONE)
+}
+
+fn judge_room(rt: &impl Abort, link: &mut Scripted) {
+    assert_taken(rt, link, b"");
+    assert_send(rt, link, b"abcde", Ok(3));
+    assert_send(rt, link, b"", Ok(0));
+    assert_send(rt, link, b"fg", Ok(1));
+    assert_taken(rt, link, b"abcf");
+    assert_send(rt, link, b"g", Err(LinkFault));
+    assert_send(rt, link, b"", Err(LinkFault));
+    assert_taken(rt, link, b"abcf");
 }
 
 #[test]
 fn room_and_pieces(rt: HostRuntime) -> Result<(), Fail> {
     let mut link = peer(rt.alloc(), &[], 3, u64::MAX)?;
-    assert_taken(&rt, &link, b"");
-    assert_send(&rt, &mut link, b"abcde", Ok(3));
-    assert_send(&rt, &mut link, b"", Ok(0));
-    assert_send(&rt, &mut link, b"fg", Ok(1));
-    assert_taken(&rt, &link, b"abcf");
-    assert_send(&rt, &mut link, b"g", Err(LinkFault));
-    assert_send(&rt, &mut link, b"", Err(LinkFault));
-    assert_taken(&rt, &link, b"abcf");
+    judge_room(&rt, &mut link);
     Ok(())
+}
+
+fn judge_fuse(rt: &impl Abort, link: &mut Scripted) {
+    assert_wait(rt, link, Got::Octets(1), b"a");
+    assert_send(rt, link, b"x", Ok(1));
+    assert_now(rt, link, 0);
+    assert_send(rt, link, b"y", Err(LinkFault));
+    assert_until(rt, link, None, true);
+    assert_taken(rt, link, b"x");
 }
 
 #[test]
 fn waits_and_sends_share_a_fuse(rt: HostRuntime) -> Result<(), Fail> {
     let mut link = peer(rt.alloc(), &[Some(b"ab")], 1, 2)?;
-    assert_wait(&rt, &mut link, Got::Octets(1), b"a");
-    assert_send(&rt, &mut link, b"x", Ok(1));
-    assert_now(&rt, &mut link, 0);
-    assert_send(&rt, &mut link, b"y", Err(LinkFault));
-    assert_until(&rt, &mut link, None, true);
-    assert_taken(&rt, &link, b"x");
+    judge_fuse(&rt, &mut link);
     Ok(())
+}
+
+fn judge_until(rt: &impl Abort, link: &mut Scripted) {
+    assert_so(rt, link.until().is_none(), "no wait");
+    assert_until(rt, link, Some(9), false);
+    assert_until(rt, link, None, false);
+    assert_until(rt, link, Some(8), true);
 }
 
 #[test]
 fn until_is_noted(rt: HostRuntime) -> Result<(), Fail> {
     let mut link = peer(rt.alloc(), &[], 1, 2)?;
-    assert_so(&rt, link.until().is_none(), "no wait");
-    for until in [Some(9), None, Some(8)] {
-        assert_until(&rt, &mut link, until, until == Some(8));
-    }
+    judge_until(&rt, &mut link);
     Ok(())
 }

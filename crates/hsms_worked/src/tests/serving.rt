@@ -327,19 +327,21 @@ fn answer_to(
     }
 }
 
-/// Serves a connection, and tells until when the last wait was asked to wait.
+/// Serves a connection. Until then the last wait was asked to wait.
 fn judge_connection(
     rt: &impl Abort,
     alloc: Global,
     case: &Connection,
     link: &mut Scripted,
     log: &mut Store,
-) -> Result<Option<u64>, Fail> {
+    until: Option<u64>,
+) -> Result<(), Fail> {
     let answer = answer_to(alloc, case, link, log)?;
     assert_so(rt, answer == case.answer, case.name);
     judge_log(rt, alloc, case, log)?;
     judge_link(rt, alloc, case, link)?;
-    Ok(link.until())
+    assert_so(rt, link.until() == until, case.name);
+    Ok(())
 }
 
 /// A connection that is served moves so many octets a call, and until then its last wait was asked to wait.
@@ -354,9 +356,7 @@ fn judge_served(
 {
     let mut link = link_of(alloc, case, piece)?;
     let mut log = log_of(alloc, case.room, 4096, u64::MAX)?;
-    let last = judge_connection(rt, alloc, case, &mut link, &mut log)?;
-    assert_so(rt, last == until, case.name);
-    Ok(())
+    judge_connection(rt, alloc, case, &mut link, &mut log, until)
 }
 
 #[test]

@@ -34,11 +34,12 @@ const EQUIPMENT_LOG: &str = "hsms-log 1 equipment passive 0 45000 6000 10000 500
 9 down
 ";
 
-const SAID: &[&str] = &[
-    "send S1F13 W <L> .",
-    "send S2F25 W <B 0x01 0x02> .",
-    "linktest",
-    "separate",
+/// When what ends sent begins to go to and fro, and what the host is told then.
+const SAID: &[(u64, &str)] = &[
+    (1, "send S1F13 W <L> ."),
+    (3, "send S2F25 W <B 0x01 0x02> ."),
+    (5, "linktest"),
+    (7, "separate"),
 ];
 
 /// What one end sent comes to the other one, at this time.
@@ -73,12 +74,20 @@ fn talk<D: Desk + Drop, E: Desk + Drop>(
     host: &mut Party<D>,
     tool: &mut Party<E>,
 ) -> Result<(), Fail> {
-    tool.tell(alloc, &Input::Start(0))?;
-    host.tell(alloc, &Input::Start(0))?;
-    for (line, now) in SAID.iter().zip([1, 3, 5, 7]) {
-        exchange(alloc, host, tool, now, line)?;
+    for (now, line) in SAID {
+        exchange(alloc, host, tool, *now, line)?;
     }
     pass(alloc, host, tool, 9)
+}
+
+/// Both start, the equipment first.
+fn start<D: Desk + Drop, E: Desk + Drop>(
+    alloc: Global,
+    host: &mut Party<D>,
+    tool: &mut Party<E>,
+) -> Result<(), Fail> {
+    tool.tell(alloc, &Input::Start(0))?;
+    host.tell(alloc, &Input::Start(0))
 }
 
 /// The log of a party is this text of 11 entries, and passes the audit.
@@ -100,6 +109,7 @@ fn judge_talk<D: Desk + Drop, E: Desk + Drop>(
     host: &mut Party<D>,
     tool: &mut Party<E>,
 ) -> Result<(), Fail> {
+    start(alloc, host, tool)?;
     talk(alloc, host, tool)?;
     assert_log(rt, alloc, host, HOST_LOG)?;
     assert_log(rt, alloc, tool, EQUIPMENT_LOG)

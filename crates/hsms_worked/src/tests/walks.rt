@@ -222,7 +222,7 @@ fn walk(alloc: Global, seed: u64) -> Result<[Summary; 2], Fail> {
 fn walks_of_two_ends(rt: HostRuntime) -> Result<(), Fail> {
     let (mut entries, mut discarded, mut expired) = (0u64, 0u64, 0u64);
     for seed in 0..20u64 {
-        for summary in walk(rt.alloc(), seed)? {
+        for summary in &walk(rt.alloc(), seed)? {
             entries = entries.saturating_add(summary.entries);
             discarded = discarded.saturating_add(summary.discarded);
             expired = expired.saturating_add(summary.expired);
