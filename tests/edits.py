@@ -320,7 +320,15 @@ def functions_of(item):
     """The functions of an item, each by the type whose it is, if it is one's, and by its name."""
     of_type = OF_TYPE.match(item)
     owner = [named_impl(of_type)] if of_type else []
-    return [[*owner, it[2]] for it in FUNCTION.finditer(item) if len(it[1]) == 4 * len(owner) and not IN_A_CYCLE.search(item[: it.start()])]
+    found = [it for it in FUNCTION.finditer(item) if len(it[1]) == 4 * len(owner)]
+    ends = [*(it.start() for it in found[1:]), len(item)]
+    return [[*owner, it[2]] for it, end in zip(found, ends) if not is_in_a_cycle(item, it, end)]
+
+
+def is_in_a_cycle(item, function, end):
+    """Whether a function of an item, which ends there, calls itself, by others or not."""
+    call = re.compile(rf"(?:(?<![\w:.])|\bself\.|\bSelf::){function[2]}\(")
+    return bool(IN_A_CYCLE.search(item[: function.start()]) or call.search(item, function.end(), end))
 
 
 def span_of(text, owner, name):
@@ -782,7 +790,7 @@ class Proofs:
 
     def lanes(self):
         """How many checks may run at once."""
-        return processors() if self.ended() is not None else max(1, processors() // 2)
+        return processors() if self.ended() is not None else max(1, processors() - 1)
 
     def mark(self):
         """The crates that are proved, whose libraries are marked so."""
