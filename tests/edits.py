@@ -184,6 +184,7 @@ def module_at(path):
 
 
 def is_of_trait(of_type):
+    """Whether a check names an `impl` by a trait too."""
     return bool(of_type[3]) and of_type[1] != "Drop"
 
 
