@@ -20,8 +20,8 @@ An edit of what is no function, as of a constant or a definition, names by lines
 tried on, as `rt check --only` takes them. It is tried by itself, as it may turn others too.
 
 Bodies of different functions are tried in one check of a copy of their crate, since a proof sees of another function
-its contract alone. So there the other functions' proofs are holes, which a check takes by their contracts: that they
-are proved is what was proved of the crate. A body is refused where the check names a goal of the function that it
+its contract alone. So there the other functions have no bodies, and their proofs are holes, which a check takes by their
+contracts: that they are proved is what was proved of the crate. A body is refused where the check names a goal of the function that it
 turns, or a line of this function's own proof that no longer fits, and not where only a function that it calls isn't
 proved. What such a check doesn't name is tried again among others, and at last alone. The last line is `N passed, M
 failed`.
@@ -50,7 +50,7 @@ from dataclasses import dataclass
 
 sys.dont_write_bytecode = True
 
-from rooms import TOP, bring, crates_below, crates_listed, link, mark_as_built, processors, room_for
+from rooms import TOP, bring, crates_below, crates_listed, link, mark_as_built, processors, room_for, words_of_check
 
 EDITS = f"{TOP}/tests/must-fail"
 TWINS = f"{TOP}/tests/twins"
@@ -65,7 +65,7 @@ LONGEST_CHECK = 3600
 NO_SUCH_FUNCTION = 2
 
 # How many bodies are tried together, and how many such checks a body may have before it is tried alone.
-TOGETHER = 40
+TOGETHER = 90
 AMONG_OTHERS = 2
 
 # How many seconds pass between two looks at what `rt ci` has proved, and what it says of a crate then.
@@ -81,6 +81,9 @@ OF_TYPE = re.compile(rf"(?:unsafe )?impl(?:<[^{{]*?>)? {NAME_OF_TYPE}(?: for {NA
 # Where a function begins, and one of a cycle of calls, whose attribute stands above it.
 FUNCTION = re.compile(r"(?m)^( *)(?:pub(?:\(\w+\))? )?(?:const )?(?:unsafe )?fn (\w+)")
 IN_A_CYCLE = re.compile(r"#\[cycle\(\w+\)\]\n(?: *(?://.*|#\[.*)\n)*$")
+
+# What stands in the place of a body that no check looks at.
+NO_BODY = "unreachable!()"
 
 # What a check says of a function that isn't there.
 NO_FUNCTION = re.compile(r"has no function `([^`]+)`")
@@ -126,11 +129,11 @@ class Edit:
     changes: tuple
     only: tuple = ()
 
-    def texts(self, folder, texts=()):
-        """The edited files, by their paths in the crate: as these texts have them, or else as the folder does."""
+    def texts(self, texts=()):
+        """The edited files, by their paths in the crate: as these texts have them, or else as the crate does."""
         texts = dict(texts)
         for it in self.changes:
-            text = texts.get(it.path) or text_of(f"{folder}/{it.path}")
+            text = texts.get(it.path) or text_of(f"{folder_of(self.crate)}/{it.path}")
             if not it.old or text.count(it.old) != 1:
                 raise BadEdit(f"{it.path} has {text.count(it.old)} times, and not once: {it.old}")
             texts[it.path] = text.replace(it.old, it.new)
@@ -160,6 +163,10 @@ def text_of(path):
         return file.read()
 
 
+def folder_of(crate):
+    return f"{TOP}/crates/{crate}"
+
+
 def path_of(crate, owner, name):
     """A function's path, as `rt check --only` takes it."""
     return "::".join([*owner.split("/"), name] if owner else [crate, name])
@@ -169,7 +176,7 @@ def function_at(crate, change):
     """The function that a change lies in: its module, or the type whose it is, and its name; None where it lies in none."""
     if not change.path.startswith("src/"):
         return None
-    text = text_of(f"{TOP}/crates/{crate}/{change.path}")
+    text = text_of(f"{folder_of(crate)}/{change.path}")
     line_end = text.find("\n", text.find(change.old))
     *_, item = ITEM.split(text[: line_end if line_end >= 0 else len(text)])
     names = re.findall(r"\bfn (\w+)", item)
@@ -286,44 +293,60 @@ def write_all(folder, texts):
             file.write(text)
 
 
+def sources_of(crate):
+    """The sources of a crate, by their paths in it."""
+    top = folder_of(crate)
+    found = [os.path.relpath(f"{at}/{name}", top) for at, _, names in os.walk(f"{top}/src") for name in names]
+    return {path: text_of(f"{top}/{path}") for path in found}
+
+
 def functions_in(crate):
     """The functions of a crate's sources that may have a proof of their own, by their paths: those that are no trait's, no
     macro's and in no cycle of calls.
     """
-    found = []
-    for at, _, names in os.walk(f"{TOP}/crates/{crate}/src"):
-        for file in names:
-            path = os.path.relpath(f"{at}/{file}", f"{TOP}/crates/{crate}")
-            for item in ITEM.split(text_of(f"{at}/{file}")):
-                module = module_of(f"{TOP}/crates/{crate}", path, OF_TYPE.match(item))
-                found += ["/".join([*module, *it]) for it in functions_of(item)]
-    return sorted(set(found))
+    texts = sources_of(crate).items()
+    return sorted({it for path, text in texts for item in ITEM.split(text) for it, _ in functions_of(crate, path, item)})
 
 
 @functools.lru_cache(maxsize=None)
-def types_in(folder):
+def types_in(crate):
     """The modules of the types that a crate's sources define, by their names."""
-    found = {}
-    for at, _, names in os.walk(f"{folder}/src"):
-        for file in names:
-            path = os.path.relpath(f"{at}/{file}", folder)
-            found.update({it: module_at(path) for it in TYPE.findall(text_of(f"{at}/{file}"))})
-    return found
+    return {name: module_at(path) for path, text in sources_of(crate).items() for name in TYPE.findall(text)}
 
 
-def module_of(folder, path, of_type):
+def module_of(crate, path, of_type):
     """The module that a check names for what stands in a source of a crate: for the functions of a type the type's."""
     name = of_type and not is_of_trait(of_type) and (of_type[3] or of_type[1])
-    return types_in(folder).get(name) or module_at(path)
+    return types_in(crate).get(name) or module_at(path)
 
 
-def functions_of(item):
-    """The functions of an item, each by the type whose it is, if it is one's, and by its name."""
+def functions_of(crate, path, item):
+    """The functions of an item of a source, each by its path, with where it stands."""
     of_type = OF_TYPE.match(item)
     owner = [named_impl(of_type)] if of_type else []
     found = [it for it in FUNCTION.finditer(item) if len(it[1]) == 4 * len(owner)]
     ends = [*(it.start() for it in found[1:]), len(item)]
-    return [[*owner, it[2]] for it, end in zip(found, ends) if not is_in_a_cycle(item, it, end)]
+    named_so = lambda it: "/".join([*module_of(crate, path, of_type), *owner, it[2]])
+    return [(named_so(it), it) for it, end in zip(found, ends) if not is_in_a_cycle(item, it, end)]
+
+
+def without_bodies(crate, path, text, functions):
+    """A source of a crate in which these functions do nothing."""
+    items = ITEM.split(text)
+    for number, item in enumerate(items):
+        for name, function in reversed(functions_of(crate, path, item)):
+            begin, end = body_at(item, function) if name in functions else (0, 0)
+            if begin < end:
+                items[number] = item = f"{item[:begin]}\n{function[1]}    {NO_BODY}{item[end:]}"
+    return "".join(items)
+
+
+def body_at(item, function):
+    """From where to where the body of a function stands within its braces; nowhere where these stand in one line."""
+    indent = function[1]
+    brace = re.compile(rf"(?m)^{indent}(?:\S.*)?\{{(\}})?$").search(item, function.start())
+    end = item.find(f"\n{indent}}}\n", brace.end() - 1) if brace and not brace[1] else -1
+    return (brace.end(), end) if end >= 0 else (0, 0)
 
 
 def is_in_a_cycle(item, function, end):
@@ -356,18 +379,19 @@ class Double:
     tries several bodies of one function.
     """
 
-    def __init__(self, edit, folder, number):
+    def __init__(self, edit, number):
         self.owner, self.name, self.path = edit.place() or (None, None, None)
-        span = self.path and span_of(text_of(f"{folder}/{self.path}"), self.owner, self.name)
+        source = self.path and text_of(f"{folder_of(edit.crate)}/{self.path}")
+        span = source and span_of(source, self.owner, self.name)
         if not span:
             raise BadEdit("it is no edit of a single function that can have another name")
-        text = text_of(f"{folder}/{self.path}")[span[0] : span[1]]
+        text = source[span[0] : span[1]]
         for it in edit.changes:
             if text.count(it.old) != 1:
                 raise BadEdit(f"the function has {text.count(it.old)} times, and not once: {it.old}")
             text = text.replace(it.old, it.new)
         self.named = f"{self.name}_otherwise_{number}"
-        self.module = types_in(folder).get(self.owner) or module_at(self.path)
+        self.module = types_in(edit.crate).get(self.owner) or module_at(self.path)
         self.text = re.sub(rf"\bfn {self.name}\b", f"fn {self.named}", text, count=1)
 
     def add_to(self, text):
@@ -390,11 +414,14 @@ class Double:
 
 
 class Room:
-    """A copy of a crate, in which edits are checked. There the proof of each function that no edit turns is a hole."""
+    """A copy of a crate, in which edits are checked. There each function that no edit turns has no body, and its proof is a
+    hole.
+    """
 
     def __init__(self, crate, home, like=None):
         self.crate, self.folder = crate, room_with_what_is_kept(crate, home)
-        self.by_hand = {}
+        self.words = ["nice", "-n", "19", *words_of_check(crate, home)]
+        self.sources, self.by_hand = sources_of(crate), {}
         for path in like.by_hand if like else functions_in(crate):
             self.make_hole(path)
 
@@ -434,9 +461,9 @@ class Room:
         texts, doubles, turned = {}, {}, set()
         for number, edit in enumerate(edits):
             if turned & edit.functions():
-                doubles[edit] = Double(edit, self.folder, number)
+                doubles[edit] = Double(edit, number)
             else:
-                texts = edit.texts(self.folder, texts)
+                texts = edit.texts(texts)
                 turned |= edit.functions()
         for it in doubles.values():
             texts[it.path] = it.add_to(texts[it.path])
@@ -458,19 +485,18 @@ class Room:
         asked |= {path_of(self.crate, *it.function()) for it in doubles.values() if asked}
         turned = set().union(*map(function, edits))
         filled = [it for it in self.by_hand if not asked or named(it.split("/")) in turned]
-        before = {path: text_of(f"{self.folder}/{path}") for path in texts if os.path.exists(f"{self.folder}/{path}")}
         for path in filled:
             self.fill_hole(path)
-        write_all(self.folder, texts)
+        before = {path: text_of(f"{self.folder}/{path}") for path in texts if os.path.exists(f"{self.folder}/{path}")}
         try:
-            status, output = check_of(asked, self.folder)
+            status, output = self.check_past_holes(asked, texts, filled)
             while status and self.fill_those_that_cant_be(output):
-                status, output = check_of(asked, self.folder)
+                status, output = self.check_past_holes(asked, texts, filled)
             only = asked
             while status == NO_SUCH_FUNCTION and only:
                 # a check names a function of an `impl` otherwise at times: then the others are tried
                 only = only - (set(NO_FUNCTION.findall(output)) or only)
-                status, output = check_of(only, self.folder) if only else (1, output)
+                status, output = self.check_of(only) if only else (1, output)
         finally:
             write_all(self.folder, before)
             for path in texts.keys() - before.keys():
@@ -484,16 +510,20 @@ class Room:
         return {it for it in edits if (function(it) <= proved if asked else not status)}, refused, output
 
 
-def check_of(only, folder):
-    """A check of these functions, past holes, or of the crate where there are none: its status, and what it writes."""
-    asked = [word for path in sorted(only) for word in ("--only", path)]
-    return run(["nice", "-n", "19", "rt", "check", "--jobs", "1", *(["--allow-holes", *asked] if asked else [])], folder)
+    def check_past_holes(self, only, texts, filled):
+        """Checks functions of the crate with these texts of its files, where only those whose holes are filled have bodies."""
+        holes = self.by_hand.keys() - set(filled)
+        whole = {**self.sources, **texts}
+        sources = {path: without_bodies(self.crate, path, whole[path], holes) for path in self.sources}
+        write_all(self.folder, {**texts, **sources})
+        return self.check_of(only)
 
-
-def run(words, folder):
-    how = {"stdout": subprocess.PIPE, "stderr": subprocess.STDOUT, "timeout": LONGEST_CHECK, "check": False}
-    ran = subprocess.run(words, cwd=folder, **how)
-    return ran.returncode, ran.stdout.decode(errors="replace")
+    def check_of(self, only):
+        """A check of these functions, past holes, or of the crate where there are none: its status, and what it writes."""
+        asked = [word for path in sorted(only) for word in ("--only", path)]
+        how = {"stdout": subprocess.PIPE, "stderr": subprocess.STDOUT, "timeout": LONGEST_CHECK, "check": False}
+        ran = subprocess.run([*self.words, *(["--allow-holes", *asked] if asked else [])], cwd=self.folder, **how)
+        return ran.returncode, ran.stdout.decode(errors="replace")
 
 
 def refused_in(output):
@@ -517,29 +547,29 @@ def named(parts):
     return owners[-1] if owners and owners[-1][0].isupper() else "/".join(owners), name
 
 
-def in_lots(folder, edits):
+def in_lots(edits):
     """Edits in lots that can each be tried in one check, and at most so many. None that turns more than functions is among
     others. The lots are of one size, so that they end together.
     """
     left, lots = edits, []
     while left:
-        lot = chosen(folder, left, -(-len(left) // -(-len(left) // TOGETHER)))
+        lot = chosen(left, -(-len(left) // -(-len(left) // TOGETHER)))
         left = [it for it in left if it not in lot]
         lots.append(lot)
     return lots
 
 
-def chosen(folder, edits, most):
+def chosen(edits, most):
     """Edits that can be tried in one check: of a function one, and doubles of it."""
     texts, taken, functions = {}, [], set()
-    doubles = {it: can_be_double(folder, it) for it in edits}
+    doubles = {it: can_be_double(it) for it in edits}
     for edit in sorted(edits, key=doubles.get):
         is_apart = taken and None in edit.turned() | taken[0].turned()
         is_second = bool(functions & edit.functions())
         if is_apart or (is_second and not doubles[edit]) or len(taken) == most:
             continue
         try:
-            texts = texts if is_second else edit.texts(folder, texts)
+            texts = texts if is_second else edit.texts(texts)
         except BadEdit:
             continue
         taken.append(edit)
@@ -547,10 +577,10 @@ def chosen(folder, edits, most):
     return taken
 
 
-def can_be_double(folder, edit):
+def can_be_double(edit):
     """Whether an edit can stand beside another one of its function."""
     try:
-        return bool(Double(edit, folder, 0))
+        return bool(Double(edit, 0))
     except BadEdit:
         return False
 
@@ -628,7 +658,7 @@ class Trial:
         good = []
         for edit in edits:
             try:
-                edit.texts(self.rooms.first.folder)
+                edit.texts()
                 good.append(edit)
             except (BadEdit, OSError) as error:
                 self.fail(edit, f"BAD EDIT: {error}")
@@ -640,14 +670,11 @@ class Trial:
         with ThreadPoolExecutor(self.rooms.made) as pool:
             return list(pool.map(call, given))
 
-    def lots(self, edits):
-        return in_lots(self.rooms.first.folder, edits)
-
     def refuse(self, bodies):
         """Tries wrong bodies: each has to be refused."""
         left = self.applicable(bodies)
         for _ in range(AMONG_OTHERS):
-            left = sum(self.at_once(self.not_named, self.lots(left)), [])
+            left = sum(self.at_once(self.not_named, in_lots(left)), [])
         self.at_once(self.alone, left)
 
     def not_named(self, lot):
@@ -681,7 +708,7 @@ class Trial:
 
     def prove(self, twins):
         """Tries twins: each has to be proved."""
-        left = sum(self.at_once(self.not_proved, self.lots(self.applicable(twins))), [])
+        left = sum(self.at_once(self.not_proved, in_lots(self.applicable(twins))), [])
         self.at_once(self.prove_alone, left)
 
     def not_proved(self, lot):

@@ -12,7 +12,7 @@ import glob
 import json
 import sys
 import zlib
-from concurrent.futures import ThreadPoolExecutor
+from concurrent.futures import ProcessPoolExecutor
 from typing import List, Optional
 
 # The modules below leave no compiled files in the repository.
@@ -23,8 +23,6 @@ import pages
 from second_reading import corners, explaining, walks
 from second_reading.explaining import WHOLE, Excerpt
 from second_reading.inputs import Chance
-
-WORKERS = 2
 
 # The first line of a log.
 EMPTY = b"hsms-log 1 host active 0 45000 6000 10000 5000 1048576 32\n"
@@ -131,7 +129,7 @@ def main() -> int:
     random = [walks.random_log(Chance(f"{seed} explain {number}")) for number in range(count)]
     logs = [*example_logs(), *walks.logs_at_edges(), *corners.logs(), *markup(), *random]
     logs += [many_sorts(), many_kinds(), *(repeated(log) for log in random + example_logs())]
-    with ThreadPoolExecutor(WORKERS) as pool:
+    with ProcessPoolExecutor() as pool:
         differences = [(len(log), told) for log, told in zip(logs, pool.map(difference, logs)) if told]
     if differences:
         print(min(differences)[1])

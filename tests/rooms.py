@@ -3,6 +3,7 @@
 While `rt` works on a crate, it lets no other `rt` work on a crate that stands on the same ones. Side by side they are
 worked on in rooms, as are copies that an edit changes.
 """
+import functools
 import importlib
 import os
 import shutil
@@ -41,28 +42,45 @@ def made_at(crate):
     return os.stat(made).st_mtime if made and os.stat(made).st_mtime > newest else 0
 
 
+@functools.lru_cache(maxsize=None)
+def toolchain():
+    """What `rt` does, as a module."""
+    kit = subprocess.run(["rt", "doc"], stdout=subprocess.PIPE, check=False).stdout.decode().strip()
+    sys.path.append(f"{os.path.dirname(kit)}/bin")
+    return importlib.import_module("rtlib")
+
+
+def words_of_check(crate, room):
+    """The words by which a crate is checked in a room: those by which `rt check` calls the prover, once it has read all that
+    the crates below are made of, which is as it was. Where the toolchain doesn't tell them, those of `rt check`.
+    """
+    jobs = ["--jobs", "1"]
+    try:
+        found = next(it for it in toolchain().crates_below(room) if it.name == crate)
+        return [toolchain().RATTLE, "check", *found.words(jobs), *toolchain().KEPT]
+    except (ImportError, AttributeError, StopIteration):
+        return ["rt", "check", *jobs]
+
+
 def mark_as_built():
     """Marks the libraries that `rt ci` has made, and says which crates it has proved, over such ones.
 
     It leaves them without the sum of what they are made of, by which other commands know that they need not prove them
     anew. The toolchain itself tells that sum. Where it has no such call, none is marked.
     """
-    kit = subprocess.run(["rt", "doc"], stdout=subprocess.PIPE, check=False).stdout.decode().strip()
-    sys.path.append(f"{os.path.dirname(kit)}/bin")
-    try:
-        toolchain = importlib.import_module("rtlib")
-        crates = {it.name: it for it in toolchain.crates_below(TOP)}
-        sums = {name: it.stamp() for name, it in crates.items()}
-    except (ImportError, AttributeError):
-        return set()
     listed = crates_listed()
     made = {name: made_at(name) for name in listed}
     proved = {name for name in listed if all(0 < made[it] <= made[name] for it in {name, *crates_below(name, listed)})}
-    for name in proved:
-        rlib = f"{TOP}/crates/{name}/{BUILT}"
-        if os.path.isdir(rlib) and not os.path.exists(f"{rlib}/stamp"):
-            with open(f"{rlib}/stamp", "w", encoding="utf-8") as file:
-                file.write(sums[name])
+    libraries = {name: f"{TOP}/crates/{name}/{BUILT}" for name in proved}
+    bare = [name for name, it in libraries.items() if os.path.isdir(it) and not os.path.exists(f"{it}/stamp")]
+    try:
+        crates = {it.name: it for it in toolchain().crates_below(TOP)}
+        sums = {name: crates[name].stamp() for name in bare}
+    except (ImportError, AttributeError):
+        return set()
+    for name, it in sums.items():
+        with open(f"{libraries[name]}/stamp", "w", encoding="utf-8") as file:
+            file.write(it)
     return proved
 
 
