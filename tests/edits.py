@@ -20,11 +20,11 @@ An edit of what is no function, as of a constant or a definition, names by lines
 tried on, as `rt check --only` takes them. It is tried by itself, as it may turn others too.
 
 Bodies of different functions are tried in one check of a copy of their crate, since a proof sees of another function
-its contract alone. So there the other functions have no bodies, and their proofs are holes, which a check takes by their
-contracts: that they are proved is what was proved of the crate. A body is refused where the check names a goal of the function that it
-turns, or a line of this function's own proof that no longer fits, and not where only a function that it calls isn't
-proved. What such a check doesn't name is tried again among others, and at last alone. The last line is `N passed, M
-failed`.
+its contract alone. So there the other functions have no bodies, and their proofs are holes, which a check takes by
+their contracts: that they are proved is what was proved of the crate. A body is refused where the check names a goal of
+the function that it turns, or a line of this function's own proof that no longer fits, and not where only a function
+that it calls isn't proved. What such a check doesn't name is tried again among others, and at last alone. The last line
+is `N passed, M failed`.
 
 Use: tests/edits.py [CRATE..] tries all edits of these crates, or of each that has a folder in tests/must-fail/. What
 they stand on is built first, by ./build, where neither that nor `rt ci` has built it.
