@@ -146,12 +146,14 @@ fn take_turns(turns: &mut Turns, told: &mut Vec<Packet>) -> Result<(), TurnsFaul
     Ok(())
 }
 
-// The packets whose turn it was are told by their numbers.
-fn assert_numbers(rt: &impl Abort, told: &[Packet], wanted: &[u64]) {
-    assert_so(rt, told.len() == wanted.len(), "how many turns");
+// The packets whose turn it was have these numbers.
+fn are_numbered(told: &[Packet], wanted: &[u64]) -> bool {
     for (packet, number) in told.iter().zip(wanted) {
-        assert_so(rt, packet.packet == *number, "whose turn");
+        if packet.packet != *number {
+            return false;
+        }
     }
+    told.len() == wanted.len()
 }
 
 #[test]
@@ -159,7 +161,7 @@ fn turns_of_packets(rt: std::rt::HostRuntime) -> Result<(), TurnsFault> {
     let mut turns = Turns::new(rt.alloc(), 1000, 1000);
     let mut told = Vec::new(rt.alloc());
     take_turns(&mut turns, &mut told)?;
-    assert_numbers(&rt, &told, &[1, 2, 5, 6, 4, 3]);
+    assert_so(&rt, are_numbered(&told, &[1, 2, 5, 6, 4, 3]), "whose turn");
     Ok(())
 }
 
@@ -337,18 +339,20 @@ fn is_like(told: &Happening, want: &(u64, u64, u8)) -> bool {
     told.packet == packet && told.time == time && kind_of(&told.event) == kind
 }
 
-fn assert_told(rt: &impl Abort, told: &[Happening], wanted: &[(u64, u64, u8)]) {
-    assert_so(rt, told.len() == wanted.len(), "how much happens");
+fn are_told(told: &[Happening], wanted: &[(u64, u64, u8)]) -> bool {
     for (happening, want) in told.iter().zip(wanted) {
-        assert_so(rt, is_like(happening, want), "what happens");
+        if !is_like(happening, want) {
+            return false;
+        }
     }
+    told.len() == wanted.len()
 }
 
 fn judge(rt: &impl Abort, alloc: Global, case: &Followed) -> Result<(), ConnectionFault> {
     let mut told = Vec::new(alloc);
     let ending = follow(alloc, case, &mut told)?;
     assert_so(rt, ending == case.ending, "how it ends");
-    assert_told(rt, &told, case.wanted);
+    assert_so(rt, are_told(&told, case.wanted), "what happens");
     Ok(())
 }
 
@@ -371,11 +375,6 @@ const WHOLE: Followed = Followed {
     ending: Ending::Complete,
 };
 
-#[test]
-fn a_whole_connection(rt: std::rt::HostRuntime) -> Result<(), ConnectionFault> {
-    judge(&rt, rt.alloc(), &WHOLE)
-}
-
 // The reply that packet 5 acknowledges wasn't captured.
 const LOST: Followed = Followed {
     packets: &[
@@ -390,11 +389,6 @@ const LOST: Followed = Followed {
     wanted: &[(3, 3, 100), (4, 4, 1)],
     ending: Ending::Lost(5),
 };
-
-#[test]
-fn a_lost_reply(rt: std::rt::HostRuntime) -> Result<(), ConnectionFault> {
-    judge(&rt, rt.alloc(), &LOST)
-}
 
 // Packet 5 brings other octets than packet 4.
 const DIFFERING: Followed = Followed {
@@ -411,7 +405,15 @@ const DIFFERING: Followed = Followed {
     ending: Ending::Differs(5),
 };
 
+// A whole connection, a lost reply, and a copy that differs.
 #[test]
-fn a_copy_that_differs(rt: std::rt::HostRuntime) -> Result<(), ConnectionFault> {
-    judge(&rt, rt.alloc(), &DIFFERING)
+fn connections_that_end(rt: std::rt::HostRuntime) -> Result<(), ConnectionFault> {
+    judge_each(&rt, rt.alloc(), &[WHOLE, LOST, DIFFERING])
+}
+
+fn judge_each(rt: &impl Abort, alloc: Global, cases: &[Followed]) -> Result<(), ConnectionFault> {
+    for case in cases {
+        judge(rt, alloc, case)?;
+    }
+    Ok(())
 }
