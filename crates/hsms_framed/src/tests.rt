@@ -21,9 +21,9 @@ const LONGEST: [u8; 15] = *b"\xff\xff\xff\xff\xff\xff\x00\x00\x00\x01\x00\x00\x0
 
 const REPORT: [u8; 24] = *b"\0\0\0\x14\0\0\x86\x0b\0\0\0\0\0\x01\x01\x02A\x02AB\xa5\x02\x01\xff";
 
-// An assertion stands in a function of its own, since it is proved in a tenth of the time there. What a value is written as
-// tells all of it, and one text is compared in less time than its parts. A constant
-// is followed through the function that names it, and so a table is gone through by another one.
+// An assertion stands in a function of its own, since it is proved in a tenth of the time there. What a value is written
+// as tells all of it, and one text is compared in less time than its parts. A constant is followed through the function
+// that names it, and so a table is gone through by another one.
 
 fn assert_so(rt: &impl Abort, is_so: bool, what: &str) {
     assert!(rt; is_so, "{what}");

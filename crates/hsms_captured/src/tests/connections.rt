@@ -217,80 +217,89 @@ fn loss_of_an_octet(rt: std::rt::HostRuntime) -> Result<(), AllocError> {
     lose(&rt, &mut losses)
 }
 
-const CELLS: &[(u64, Option<Cell>)] = &[
-    (0, Some(Cell::Syn)),
-    (1, Some(Cell::Octet(7))),
-    (2, Some(Cell::Octet(8))),
-    (3, Some(Cell::Octet(9))),
-    (4, None),
-];
-
-const CELLS_BEHIND: &[(u64, Option<Cell>)] = &[(2, None), (3, Some(Cell::Octet(9)))];
-
-fn assert_cells(rt: &impl Abort, held: &Held, cells: &[(u64, Option<Cell>)]) {
-    for (place, cell) in cells {
-        assert_so(rt, held.cell(*place) == *cell, "a cell");
-    }
+// What is put or passed, or how it is looked at: a cell, whether a copy from place 1 on contradicts what is held, where so
+// many octets are acknowledged, or how many octets the front at a place has, of what is there before another one.
+enum Look {
+    Put(u64, Flags, &'static [u8]),
+    Pass(u64),
+    Cell(u64, Option<Cell>),
+    Copy(u64, &'static [u8], bool),
+    Front(u64, u64, Option<u64>),
 }
 
-// Octets from place 1 on, where so many are acknowledged; and whether they contradict what is held.
-const COPIES: &[(u64, &[u8], bool)] = &[
-    (1, &[7, 0], true),
-    (1, &[7, 8, 9, 10], false),
-    (3, &[7, 0, 9], false),
-];
+fn judge_look(rt: &impl Abort, held: &mut Held, look: &Look) -> Result<(), HeldFault> {
+    let is_so = match look {
+        Look::Put(place, flags, octets) => {
+            held.put(*place, *flags, octets)?;
+            true
+        }
+        Look::Pass(place) => {
+            held.pass(*place);
+            true
+        }
+        Look::Cell(place, want) => held.cell(*place) == *want,
+        Look::Copy(acknowledged, octets, want) => {
+            held.contradicts(*acknowledged, 1, PUSHED, octets) == *want
+        }
+        Look::Front(place, upto, want) => held.front(*place, *upto) == *want,
+    };
+    assert_so(rt, is_so, "a cell, a copy or a front");
+    Ok(())
+}
 
-fn assert_copies(rt: &impl Abort, held: &Held) {
-    for (acknowledged, octets, want) in COPIES {
-        assert_so(
-            rt,
-            held.contradicts(*acknowledged, 1, PUSHED, octets) == *want,
-            "a copy",
-        );
+fn judge_looks(rt: &impl Abort, held: &mut Held, looks: &[Look]) -> Result<(), HeldFault> {
+    for look in looks {
+        judge_look(rt, held, look)?;
     }
+    Ok(())
 }
 
 // A SYN and the octets 7, 8 and 9, of which 8 is captured first, and again with another value.
-fn hold_first_copies(rt: &impl Abort, held: &mut Held) -> Result<(), HeldFault> {
-    held.put(2, PUSHED, &[8])?;
-    held.put(0, OPENS, &[7, 0, 9])?;
-    assert_cells(rt, held, CELLS);
-    assert_copies(rt, held);
-    held.pass(3);
-    assert_cells(rt, held, CELLS_BEHIND);
+const COPIES: &[Look] = &[
+    Look::Put(2, PUSHED, &[8]),
+    Look::Put(0, OPENS, &[7, 0, 9]),
+    Look::Cell(0, Some(Cell::Syn)),
+    Look::Cell(1, Some(Cell::Octet(7))),
+    Look::Cell(2, Some(Cell::Octet(8))),
+    Look::Cell(3, Some(Cell::Octet(9))),
+    Look::Cell(4, None),
+    Look::Copy(1, &[7, 0], true),
+    Look::Copy(1, &[7, 8, 9, 10], false),
+    Look::Copy(3, &[7, 0, 9], false),
+    Look::Pass(3),
+    Look::Cell(2, None),
+    Look::Cell(3, Some(Cell::Octet(9))),
+];
+
+fn assert_full(rt: &impl Abort, held: &mut Held) {
     let full = held.put(67108867, PUSHED, &[1]);
     assert_so(rt, full == Err(HeldFault::Full), "what isn't held");
-    Ok(())
 }
 
 #[test]
 fn first_copies_of_octets(rt: std::rt::HostRuntime) -> Result<(), HeldFault> {
     let mut held = Held::new(rt.alloc());
-    hold_first_copies(&rt, &mut held)
-}
-
-// The front at a place, of what is there before another one, has so many octets.
-fn assert_front(rt: &impl Abort, held: &Held, place: u64, upto: u64, want: Option<u64>) {
-    assert_so(rt, held.front(place, upto) == want, "a front");
+    judge_looks(&rt, &mut held, COPIES)?;
+    assert_full(&rt, &mut held);
+    Ok(())
 }
 
 // A SYN, and a message of a length of 2 whose last octet is captured later.
-fn cut_a_message(rt: &impl Abort, held: &mut Held) -> Result<(), HeldFault> {
-    held.put(0, OPENS, &[0, 0, 0, 2, 7])?;
-    assert_front(rt, held, 0, 6, Some(1));
-    held.pass(1);
-    assert_front(rt, held, 1, 7, None);
-    held.put(6, PUSHED, &[8])?;
-    assert_front(rt, held, 1, 6, None);
-    assert_front(rt, held, 1, 7, Some(6));
-    assert_front(rt, held, 0, 7, None);
-    Ok(())
-}
+const FRONTS: &[Look] = &[
+    Look::Put(0, OPENS, &[0, 0, 0, 2, 7]),
+    Look::Front(0, 6, Some(1)),
+    Look::Pass(1),
+    Look::Front(1, 7, None),
+    Look::Put(6, PUSHED, &[8]),
+    Look::Front(1, 6, None),
+    Look::Front(1, 7, Some(6)),
+    Look::Front(0, 7, None),
+];
 
 #[test]
 fn messages_at_the_front(rt: std::rt::HostRuntime) -> Result<(), HeldFault> {
     let mut held = Held::new(rt.alloc());
-    cut_a_message(&rt, &mut held)
+    judge_looks(&rt, &mut held, FRONTS)
 }
 
 // A Select.req and a Select.rsp, a Separate and a Linktest.req, without a text.
