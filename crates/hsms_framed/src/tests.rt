@@ -4,12 +4,12 @@ mod reading_ahead;
 mod writing;
 
 use hsms_frame::{
-    Feed, Frame, FrameFault, Header, Kind, ReadFault, Reader, Sink, Store, Writer, front, give_all,
-    kind, read_frame,
+    Feed, Header, Kind, ReadFault, Reader, Sink, Store, Writer, front, give_all, kind, read_frame,
 };
 use std::alloc::{AllocError, Global};
+use std::fmt::Debug;
+use std::io::Write;
 use std::process::Abort;
-use std::test::Fail;
 
 const SELECT: [u8; 14] = *b"\x00\x00\x00\x0a\xff\xff\x00\x00\x00\x01\x00\x00\x00\x01";
 
@@ -21,24 +21,9 @@ const LONGEST: [u8; 15] = *b"\xff\xff\xff\xff\xff\xff\x00\x00\x00\x01\x00\x00\x0
 
 const REPORT: [u8; 24] = *b"\0\0\0\x14\0\0\x86\x0b\0\0\0\0\0\x01\x01\x02A\x02AB\xa5\x02\x01\xff";
 
-#[derive(Drop)]
-struct Run {
-    result: Result<Option<Frame>, ReadFault>,
-    left: usize,
-}
-
-// Reads a message. Want of memory is handed up.
-fn read(alloc: Global, octets: &[u8]) -> Result<Run, AllocError> {
-    let mut source = Feed::new(Vec::from_slice(alloc, octets)?, 5, u64::MAX);
-    let result = read_frame(alloc, &mut source, 256);
-    if let Err(ReadFault::Memory) = &result {
-        return Err(AllocError);
-    }
-    let left = source.left().len();
-    Ok(Run { result, left })
-}
-
-// An assertion stands in a function of its own, since it is proved in a tenth of the time there.
+// An assertion stands in a function of its own, since it is proved in a tenth of the time there. What a value is written
+// as tells all of it, and one text is compared in less time than its parts. A constant is followed through the function
+// that names it, and so a table is gone through by another one.
 
 fn assert_so(rt: &impl Abort, is_so: bool, what: &str) {
     assert!(rt; is_so, "{what}");
@@ -48,141 +33,143 @@ fn assert_octets(rt: &impl Abort, octets: &[u8], want: &[u8]) {
     assert_so(rt, octets == want, "octets");
 }
 
-fn assert_left(rt: &impl Abort, run: &Run, left: usize) {
-    assert_so(rt, run.left == left, "what is left");
-}
-
 fn assert_kind(rt: &impl Abort, header: Header, want: Kind) {
     assert_so(rt, kind(header) == want, "a kind");
 }
 
-// The one message that is read, and how many octets are left.
-fn read_one(alloc: Global, octets: &[u8]) -> Result<(Frame, usize), Fail> {
-    let run = read(alloc, octets)?;
-    let left = run.left;
-    let frame = run.result.ok().flatten().ok_or("a message")?;
-    Ok((frame, left))
-}
-
-fn assert_no_message(rt: &impl Abort, run: &Run) {
-    assert_so(rt, matches!(run.result, Ok(None)), "no message");
-}
-
-#[test]
-fn reads_one_message(rt: HostRuntime) -> Result<(), Fail> {
-    let alloc = rt.alloc();
-    let mut octets = Vec::from_slice(alloc, &SELECT)?;
-    octets.extend_from_slice(&DATA)?;
-    let (frame, left) = read_one(alloc, &octets)?;
-    assert_kind(&rt, frame.header, Kind::SelectReq);
-    assert_so(&rt, frame.header.system == 1 && left == 16, "a message");
-    assert_octets(&rt, &frame.text, b"");
-    assert_no_message(&rt, &read(alloc, &[])?);
+// A value is written so by Debug.
+fn assert_named<T: Debug>(
+    rt: &impl Abort,
+    alloc: Global,
+    value: &T,
+    want: &str,
+) -> Result<(), AllocError> {
+    let name = format!(in alloc; "{value:?}")?;
+    assert_so(rt, name.as_str() == want, want);
     Ok(())
 }
 
-// The text of DATA has two octets.
-fn has_two(max: u32) -> bool {
-    matches!(front(&DATA, max), Ok(Some((_, 2))))
+// What a message is read as, and how many octets are left. Want of memory is handed up.
+fn judge_source(
+    rt: &impl Abort,
+    alloc: Global,
+    source: &mut Feed,
+    want: &str,
+) -> Result<(), AllocError> {
+    match read_frame(alloc, source, 256) {
+        Err(ReadFault::Memory) => Err(AllocError),
+        read => assert_named(rt, alloc, &(read, source.left().len()), want),
+    }
 }
 
-fn assert_front(rt: &impl Abort) {
-    assert_so(rt, has_two(256) && has_two(12), "a message");
-    let cut = front(&DATA[..15], 256);
-    assert_so(rt, matches!(cut, Ok(None)), "a part");
-    let long = front(&DATA, 11);
-    let is_too_long = matches!(long, Err(FrameFault::TooLong { length: 12, .. }));
-    assert_so(rt, is_too_long, "a length");
+fn judge_read(rt: &impl Abort, alloc: Global, octets: &[u8], want: &str) -> Result<(), AllocError> {
+    let mut source = Feed::new(Vec::from_slice(alloc, octets)?, 5, u64::MAX);
+    judge_source(rt, alloc, &mut source, want)
 }
 
-#[test]
-fn finds_a_message_at_the_front(rt: HostRuntime) -> Result<(), Fail> {
-    assert_front(&rt);
-    let (header, _) = front(&DATA, 256).ok().flatten().ok_or("a message")?;
-    assert_octets(&rt, header.octets().as_slice(), &DATA[4..14]);
+// What is read of octets, and how many of them are left: one message of two, no message, a text, and each fault.
+const READ: &[(&[u8], &str)] = &[
+    (
+        b"\x00\x00\x00\x0a\xff\xff\x00\x00\x00\x01\x00\x00\x00\x01\x00\x00\x00\x0c\x00\x00\x81\x0d\x00\x00\x00\x00\x00\x01\x01\x00",
+        "(Ok(Some(Frame { header: Header { session: 65535, byte2: 0, byte3: 0, ptype: 0, stype: 1, system: 1 }, text: [] })), 16)",
+    ),
+    (b"", "(Ok(None), 0)"),
+    (
+        &DATA,
+        "(Ok(Some(Frame { header: Header { session: 0, byte2: 129, byte3: 13, ptype: 0, stype: 0, system: 1 }, text: [1, 0] })), 0)",
+    ),
+    (
+        b"\x00\x00\x01\x01\x00\x00\x81\x01\x00\x00\x00\x00\x00",
+        "(Err(CutOff), 0)",
+    ),
+    (b"\x00\x00\x01\x01", "(Err(CutOff), 0)"),
+    (b"\x00\x00\x00\x09\x07", "(Err(TooShort { length: 9 }), 1)"),
+    (
+        &LONG,
+        "(Err(TooLong { length: 257, header: Header { session: 0, byte2: 129, byte3: 1, ptype: 0, stype: 0, system: 2 } }), 0)",
+    ),
+    (
+        &LONGEST,
+        "(Err(TooLong { length: 4294967295, header: Header { session: 65535, byte2: 0, byte3: 0, ptype: 0, stype: 1, system: 1 } }), 1)",
+    ),
+];
+
+fn judge_each_read(
+    rt: &impl Abort,
+    alloc: Global,
+    rows: &[(&[u8], &str)],
+) -> Result<(), AllocError> {
+    for (octets, want) in rows {
+        judge_read(rt, alloc, octets, want)?;
+    }
     Ok(())
 }
 
-fn assert_header(rt: &impl Abort, header: Header) {
+#[test]
+fn reads_messages_and_finds_each_fault(rt: HostRuntime) -> Result<(), AllocError> {
+    judge_each_read(&rt, rt.alloc(), READ)
+}
+
+fn judge_cuts(rt: &impl Abort, alloc: Global, octets: &[u8]) -> Result<(), AllocError> {
+    for length in 1..octets.len() {
+        judge_read(rt, alloc, &octets[..length], "(Err(CutOff), 0)")?;
+    }
+    Ok(())
+}
+
+#[test]
+fn finds_each_cut(rt: HostRuntime) -> Result<(), AllocError> {
+    judge_cuts(&rt, rt.alloc(), &REPORT)?;
+    judge_cuts(&rt, rt.alloc(), &DATA)?;
+    judge_cuts(&rt, rt.alloc(), &SELECT)
+}
+
+// What stands at the front of so many octets of DATA, with this limit. Its text has two octets.
+const FRONTS: &[(usize, u32, &str)] = &[
+    (
+        16,
+        256,
+        "Ok(Some((Header { session: 0, byte2: 129, byte3: 13, ptype: 0, stype: 0, system: 1 }, 2)))",
+    ),
+    (
+        16,
+        12,
+        "Ok(Some((Header { session: 0, byte2: 129, byte3: 13, ptype: 0, stype: 0, system: 1 }, 2)))",
+    ),
+    (15, 256, "Ok(None)"),
+    (
+        16,
+        11,
+        "Err(TooLong { length: 12, header: Header { session: 0, byte2: 129, byte3: 13, ptype: 0, stype: 0, system: 1 } })",
+    ),
+];
+
+fn judge_fronts(
+    rt: &impl Abort,
+    alloc: Global,
+    octets: &[u8],
+    fronts: &[(usize, u32, &str)],
+) -> Result<(), AllocError> {
+    for (length, max, want) in fronts {
+        let front = front(octets.get(..*length).unwrap_or(b""), *max);
+        assert_named(rt, alloc, &front, want)?;
+    }
+    Ok(())
+}
+
+#[test]
+fn finds_a_message_at_the_front(rt: HostRuntime) -> Result<(), AllocError> {
+    judge_fronts(&rt, rt.alloc(), &DATA, FRONTS)
+}
+
+// The header of DATA is that of S1F13 W, and has its octets.
+#[test]
+fn has_a_header(rt: HostRuntime) {
+    let octets = *b"\x00\x00\x81\x0d\x00\x00\x00\x00\x00\x01";
+    let header = Header::of(octets);
     let is_s1f13 = header.stream() == 1 && header.function() == 13;
-    assert_so(rt, is_s1f13 && header.wait(), "S1F13 W");
-    assert_octets(rt, header.octets().as_slice(), &DATA[4..14]);
-}
-
-#[test]
-fn reads_a_text(rt: HostRuntime) -> Result<(), Fail> {
-    let (frame, _) = read_one(rt.alloc(), &DATA)?;
-    assert_header(&rt, frame.header);
-    assert_octets(&rt, &frame.text, &[1, 0]);
-    Ok(())
-}
-
-fn assert_cut_off(rt: &impl Abort, run: &Run, length: usize) {
-    assert!(rt;
-        matches!(run.result, Err(ReadFault::CutOff)),
-        "after {length}"
-    );
-    assert_left(rt, run, 0);
-}
-
-fn judge_cut_off(rt: &impl Abort, alloc: Global, octets: &[u8]) -> Result<(), Fail> {
-    let run = read(alloc, octets)?;
-    assert_cut_off(rt, &run, octets.len());
-    Ok(())
-}
-
-fn assert_too_short(rt: &impl Abort, run: &Run) {
-    let is_too_short = matches!(run.result, Err(ReadFault::TooShort { length: 9 }));
-    assert_so(rt, is_too_short, "too short");
-    assert_left(rt, run, 1);
-}
-
-fn assert_too_long(rt: &impl Abort, run: &Run) {
-    assert!(rt;
-        matches!(run.result, Err(ReadFault::TooLong { length: 257, header }) if header.system == 2)
-    );
-    assert_left(rt, run, 0);
-}
-
-fn assert_longest(rt: &impl Abort, run: &Run) {
-    assert!(rt;
-        matches!(
-            run.result,
-            Err(ReadFault::TooLong {
-                length: 4294967295,
-                ..
-            })
-        )
-    );
-    assert_left(rt, run, 1);
-}
-
-#[test]
-fn finds_each_fault(rt: HostRuntime) -> Result<(), Fail> {
-    let alloc = rt.alloc();
-    for octets in [
-        &DATA[..15],
-        &DATA[..14],
-        &LONG[..13],
-        &LONG[..4],
-        &SELECT[..1],
-    ] {
-        judge_cut_off(&rt, alloc, octets)?;
-    }
-    assert_too_short(&rt, &read(alloc, &[0, 0, 0, 9, 7])?);
-    assert_too_long(&rt, &read(alloc, &LONG)?);
-    assert_longest(&rt, &read(alloc, &LONGEST)?);
-    Ok(())
-}
-
-#[test]
-fn finds_each_cut(rt: HostRuntime) -> Result<(), Fail> {
-    for octets in [REPORT.as_slice(), DATA.as_slice(), SELECT.as_slice()] {
-        for length in 1..octets.len() {
-            judge_cut_off(&rt, rt.alloc(), &octets[..length])?;
-        }
-    }
-    Ok(())
+    assert_so(&rt, is_s1f13 && header.wait(), "S1F13 W");
+    assert_so(&rt, header.octets() == octets, "octets");
 }
 
 fn assert_gives<W: Sink>(rt: &impl Abort, sink: &mut W, is_well: bool) {
@@ -193,32 +180,65 @@ fn assert_gives<W: Sink>(rt: &impl Abort, sink: &mut W, is_well: bool) {
     );
 }
 
-#[test]
-fn moves_octets_through_std(rt: HostRuntime) -> Result<(), Fail> {
-    let mut source = Reader::new(DATA.as_slice());
-    let frame = read_frame(rt.alloc(), &mut source, 256)?.ok_or("a message")?;
-    assert_kind(&rt, frame.header, Kind::Primary);
-    let mut sink = Writer::new(Vec::with_capacity(rt.alloc(), 16)?);
-    assert_gives(&rt, &mut sink, true);
-    assert_so(&rt, sink.flush().is_ok(), "a flush");
-    let mut store = Store::new(vec![in rt.alloc(); 0u8; 16]?, 3, 6);
-    assert_gives(&rt, &mut store, true);
-    assert_octets(&rt, store.written(), &DATA);
-    assert_gives(&rt, &mut store, false);
+fn judge_reader(
+    rt: &impl Abort,
+    alloc: Global,
+    octets: &[u8],
+    want: Kind,
+) -> Result<(), ReadFault> {
+    let mut source = Reader::new(octets);
+    match read_frame(alloc, &mut source, 256)? {
+        Some(frame) => assert_kind(rt, frame.header, want),
+        None => assert_so(rt, false, "a message"),
+    }
     Ok(())
+}
+
+fn assert_flushes<W: Write>(rt: &impl Abort, sink: &mut Writer<W>) {
+    assert_gives(rt, sink, true);
+    assert_so(rt, sink.flush().is_ok(), "a flush");
+}
+
+fn judge_writer(rt: &impl Abort, alloc: Global) -> Result<(), AllocError> {
+    let mut sink = Writer::new(Vec::with_capacity(alloc, 16)?);
+    assert_flushes(rt, &mut sink);
+    Ok(())
+}
+
+fn assert_stores(rt: &impl Abort, store: &mut Store) {
+    assert_gives(rt, store, true);
+    assert_octets(rt, store.written(), &DATA);
+    assert_gives(rt, store, false);
+}
+
+fn judge_store(rt: &impl Abort, alloc: Global) -> Result<(), AllocError> {
+    let mut store = Store::new(vec![in alloc; 0u8; 16]?, 3, 6);
+    assert_stores(rt, &mut store);
+    Ok(())
+}
+
+#[test]
+fn moves_octets_through_std(rt: HostRuntime) -> Result<(), ReadFault> {
+    judge_reader(&rt, rt.alloc(), &SELECT, Kind::SelectReq)?;
+    judge_reader(&rt, rt.alloc(), &DATA, Kind::Primary)?;
+    judge_writer(&rt, rt.alloc())?;
+    judge_store(&rt, rt.alloc())?;
+    Ok(())
+}
+
+fn judge_refused(rt: &impl Abort, alloc: Global, source: &mut Feed) {
+    match read_frame(alloc, source, 256) {
+        Ok(Some(frame)) => assert_octets(rt, &frame.text, &DATA[14..]),
+        Err(ReadFault::Memory) => assert_octets(rt, source.left(), &DATA[14..]),
+        _ => assert_so(rt, false, "the message, or want of memory"),
+    }
 }
 
 // Where its own input is refused, this test has nothing to say.
 #[test]
-fn refused_text(rt: HostRuntime) -> Result<(), Fail> {
-    let Ok(octets) = Vec::from_slice(rt.alloc(), &DATA) else {
-        return Ok(());
-    };
-    let mut source = Feed::new(octets, 5, u64::MAX);
-    match read_frame(rt.alloc(), &mut source, 256) {
-        Ok(Some(frame)) => assert_octets(&rt, &frame.text, &DATA[14..]),
-        Err(ReadFault::Memory) => assert_octets(&rt, source.left(), &DATA[14..]),
-        _ => return Err("the message, or want of memory".into()),
+fn refused_text(rt: HostRuntime) {
+    if let Ok(octets) = Vec::from_slice(rt.alloc(), &DATA) {
+        let mut source = Feed::new(octets, 5, u64::MAX);
+        judge_refused(&rt, rt.alloc(), &mut source);
     }
-    Ok(())
 }

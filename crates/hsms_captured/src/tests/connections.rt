@@ -146,12 +146,14 @@ fn take_turns(turns: &mut Turns, told: &mut Vec<Packet>) -> Result<(), TurnsFaul
     Ok(())
 }
 
-// The packets whose turn it was are told by their numbers.
-fn assert_numbers(rt: &impl Abort, told: &[Packet], wanted: &[u64]) {
-    assert_so(rt, told.len() == wanted.len(), "how many turns");
+// The packets whose turn it was have these numbers.
+fn are_numbered(told: &[Packet], wanted: &[u64]) -> bool {
     for (packet, number) in told.iter().zip(wanted) {
-        assert_so(rt, packet.packet == *number, "whose turn");
+        if packet.packet != *number {
+            return false;
+        }
     }
+    told.len() == wanted.len()
 }
 
 #[test]
@@ -159,7 +161,7 @@ fn turns_of_packets(rt: std::rt::HostRuntime) -> Result<(), TurnsFault> {
     let mut turns = Turns::new(rt.alloc(), 1000, 1000);
     let mut told = Vec::new(rt.alloc());
     take_turns(&mut turns, &mut told)?;
-    assert_numbers(&rt, &told, &[1, 2, 5, 6, 4, 3]);
+    assert_so(&rt, are_numbered(&told, &[1, 2, 5, 6, 4, 3]), "whose turn");
     Ok(())
 }
 
@@ -215,80 +217,89 @@ fn loss_of_an_octet(rt: std::rt::HostRuntime) -> Result<(), AllocError> {
     lose(&rt, &mut losses)
 }
 
-const CELLS: &[(u64, Option<Cell>)] = &[
-    (0, Some(Cell::Syn)),
-    (1, Some(Cell::Octet(7))),
-    (2, Some(Cell::Octet(8))),
-    (3, Some(Cell::Octet(9))),
-    (4, None),
-];
-
-const CELLS_BEHIND: &[(u64, Option<Cell>)] = &[(2, None), (3, Some(Cell::Octet(9)))];
-
-fn assert_cells(rt: &impl Abort, held: &Held, cells: &[(u64, Option<Cell>)]) {
-    for (place, cell) in cells {
-        assert_so(rt, held.cell(*place) == *cell, "a cell");
-    }
+// What is put or passed, or how it is looked at: a cell, whether a copy from place 1 on contradicts what is held, where so
+// many octets are acknowledged, or how many octets the front at a place has, of what is there before another one.
+enum Look {
+    Put(u64, Flags, &'static [u8]),
+    Pass(u64),
+    Cell(u64, Option<Cell>),
+    Copy(u64, &'static [u8], bool),
+    Front(u64, u64, Option<u64>),
 }
 
-// Octets from place 1 on, where so many are acknowledged; and whether they contradict what is held.
-const COPIES: &[(u64, &[u8], bool)] = &[
-    (1, &[7, 0], true),
-    (1, &[7, 8, 9, 10], false),
-    (3, &[7, 0, 9], false),
-];
+fn judge_look(rt: &impl Abort, held: &mut Held, look: &Look) -> Result<(), HeldFault> {
+    let is_so = match look {
+        Look::Put(place, flags, octets) => {
+            held.put(*place, *flags, octets)?;
+            true
+        }
+        Look::Pass(place) => {
+            held.pass(*place);
+            true
+        }
+        Look::Cell(place, want) => held.cell(*place) == *want,
+        Look::Copy(acknowledged, octets, want) => {
+            held.contradicts(*acknowledged, 1, PUSHED, octets) == *want
+        }
+        Look::Front(place, upto, want) => held.front(*place, *upto) == *want,
+    };
+    assert_so(rt, is_so, "a cell, a copy or a front");
+    Ok(())
+}
 
-fn assert_copies(rt: &impl Abort, held: &Held) {
-    for (acknowledged, octets, want) in COPIES {
-        assert_so(
-            rt,
-            held.contradicts(*acknowledged, 1, PUSHED, octets) == *want,
-            "a copy",
-        );
+fn judge_looks(rt: &impl Abort, held: &mut Held, looks: &[Look]) -> Result<(), HeldFault> {
+    for look in looks {
+        judge_look(rt, held, look)?;
     }
+    Ok(())
 }
 
 // A SYN and the octets 7, 8 and 9, of which 8 is captured first, and again with another value.
-fn hold_first_copies(rt: &impl Abort, held: &mut Held) -> Result<(), HeldFault> {
-    held.put(2, PUSHED, &[8])?;
-    held.put(0, OPENS, &[7, 0, 9])?;
-    assert_cells(rt, held, CELLS);
-    assert_copies(rt, held);
-    held.pass(3);
-    assert_cells(rt, held, CELLS_BEHIND);
+const COPIES: &[Look] = &[
+    Look::Put(2, PUSHED, &[8]),
+    Look::Put(0, OPENS, &[7, 0, 9]),
+    Look::Cell(0, Some(Cell::Syn)),
+    Look::Cell(1, Some(Cell::Octet(7))),
+    Look::Cell(2, Some(Cell::Octet(8))),
+    Look::Cell(3, Some(Cell::Octet(9))),
+    Look::Cell(4, None),
+    Look::Copy(1, &[7, 0], true),
+    Look::Copy(1, &[7, 8, 9, 10], false),
+    Look::Copy(3, &[7, 0, 9], false),
+    Look::Pass(3),
+    Look::Cell(2, None),
+    Look::Cell(3, Some(Cell::Octet(9))),
+];
+
+fn assert_full(rt: &impl Abort, held: &mut Held) {
     let full = held.put(67108867, PUSHED, &[1]);
     assert_so(rt, full == Err(HeldFault::Full), "what isn't held");
-    Ok(())
 }
 
 #[test]
 fn first_copies_of_octets(rt: std::rt::HostRuntime) -> Result<(), HeldFault> {
     let mut held = Held::new(rt.alloc());
-    hold_first_copies(&rt, &mut held)
-}
-
-// The front at a place, of what is there before another one, has so many octets.
-fn assert_front(rt: &impl Abort, held: &Held, place: u64, upto: u64, want: Option<u64>) {
-    assert_so(rt, held.front(place, upto) == want, "a front");
+    judge_looks(&rt, &mut held, COPIES)?;
+    assert_full(&rt, &mut held);
+    Ok(())
 }
 
 // A SYN, and a message of a length of 2 whose last octet is captured later.
-fn cut_a_message(rt: &impl Abort, held: &mut Held) -> Result<(), HeldFault> {
-    held.put(0, OPENS, &[0, 0, 0, 2, 7])?;
-    assert_front(rt, held, 0, 6, Some(1));
-    held.pass(1);
-    assert_front(rt, held, 1, 7, None);
-    held.put(6, PUSHED, &[8])?;
-    assert_front(rt, held, 1, 6, None);
-    assert_front(rt, held, 1, 7, Some(6));
-    assert_front(rt, held, 0, 7, None);
-    Ok(())
-}
+const FRONTS: &[Look] = &[
+    Look::Put(0, OPENS, &[0, 0, 0, 2, 7]),
+    Look::Front(0, 6, Some(1)),
+    Look::Pass(1),
+    Look::Front(1, 7, None),
+    Look::Put(6, PUSHED, &[8]),
+    Look::Front(1, 6, None),
+    Look::Front(1, 7, Some(6)),
+    Look::Front(0, 7, None),
+];
 
 #[test]
 fn messages_at_the_front(rt: std::rt::HostRuntime) -> Result<(), HeldFault> {
     let mut held = Held::new(rt.alloc());
-    cut_a_message(&rt, &mut held)
+    judge_looks(&rt, &mut held, FRONTS)
 }
 
 // A Select.req and a Select.rsp, a Separate and a Linktest.req, without a text.
@@ -337,18 +348,20 @@ fn is_like(told: &Happening, want: &(u64, u64, u8)) -> bool {
     told.packet == packet && told.time == time && kind_of(&told.event) == kind
 }
 
-fn assert_told(rt: &impl Abort, told: &[Happening], wanted: &[(u64, u64, u8)]) {
-    assert_so(rt, told.len() == wanted.len(), "how much happens");
+fn are_told(told: &[Happening], wanted: &[(u64, u64, u8)]) -> bool {
     for (happening, want) in told.iter().zip(wanted) {
-        assert_so(rt, is_like(happening, want), "what happens");
+        if !is_like(happening, want) {
+            return false;
+        }
     }
+    told.len() == wanted.len()
 }
 
 fn judge(rt: &impl Abort, alloc: Global, case: &Followed) -> Result<(), ConnectionFault> {
     let mut told = Vec::new(alloc);
     let ending = follow(alloc, case, &mut told)?;
     assert_so(rt, ending == case.ending, "how it ends");
-    assert_told(rt, &told, case.wanted);
+    assert_so(rt, are_told(&told, case.wanted), "what happens");
     Ok(())
 }
 
@@ -371,11 +384,6 @@ const WHOLE: Followed = Followed {
     ending: Ending::Complete,
 };
 
-#[test]
-fn a_whole_connection(rt: std::rt::HostRuntime) -> Result<(), ConnectionFault> {
-    judge(&rt, rt.alloc(), &WHOLE)
-}
-
 // The reply that packet 5 acknowledges wasn't captured.
 const LOST: Followed = Followed {
     packets: &[
@@ -390,11 +398,6 @@ const LOST: Followed = Followed {
     wanted: &[(3, 3, 100), (4, 4, 1)],
     ending: Ending::Lost(5),
 };
-
-#[test]
-fn a_lost_reply(rt: std::rt::HostRuntime) -> Result<(), ConnectionFault> {
-    judge(&rt, rt.alloc(), &LOST)
-}
 
 // Packet 5 brings other octets than packet 4.
 const DIFFERING: Followed = Followed {
@@ -411,7 +414,15 @@ const DIFFERING: Followed = Followed {
     ending: Ending::Differs(5),
 };
 
+// A whole connection, a lost reply, and a copy that differs.
 #[test]
-fn a_copy_that_differs(rt: std::rt::HostRuntime) -> Result<(), ConnectionFault> {
-    judge(&rt, rt.alloc(), &DIFFERING)
+fn connections_that_end(rt: std::rt::HostRuntime) -> Result<(), ConnectionFault> {
+    judge_each(&rt, rt.alloc(), &[WHOLE, LOST, DIFFERING])
+}
+
+fn judge_each(rt: &impl Abort, alloc: Global, cases: &[Followed]) -> Result<(), ConnectionFault> {
+    for case in cases {
+        judge(rt, alloc, case)?;
+    }
+    Ok(())
 }

@@ -16,50 +16,47 @@ const SESSION: Session = Session {
 };
 
 // Within a text stands a Select.req, with fourteen octets of text behind it. From its third octet on they might be data
-// of 720,895 octets. Behind the text come an S1F13, a Linktest.req, and the answer to it but for its last five octets.
-const MIDST: [u8; 70] =
-    *b"\x09\x09\x09\0\0\0\x0a\xff\xff\0\0\0\x01\0\0\0\x01AAAAAAAAAAAAAA\0\0\0\x0c\0\0\x81\x0d\0\0\0\0\0\x01\x01\0\0\0\0\x0a\xff\xff\0\0\0\x05\0\0\0\x02\0\0\0\x0a\xff\xff\0\0\0";
+// of 720,895 octets. Behind the text come an S1F13, a Linktest.req, and the answer to it, from place 61 on.
+const MIDST: &[u8] =
+    b"\x09\x09\x09\0\0\0\x0a\xff\xff\0\0\0\x01\0\0\0\x01AAAAAAAAAAAAAA\0\0\0\x0c\0\0\x81\x0d\0\0\0\0\0\x01\x01\0\0\0\0\x0a\xff\xff\0\0\0\x05\0\0\0\x02\0\0\0\x0a\xff\xff\0\0\0\x06\0\0\0\x02";
 
-const LAST: [u8; 5] = *b"\x06\0\0\0\x02";
-
-// Where a direction begins whose octets so far are so many of these.
-fn begins_in(octets: usize) -> Beginning {
-    begins(SESSION, &MIDST[..octets.min(70)], 0)
-}
-
-// How many octets are there, and where a direction begins then.
-const BEGINNINGS: &[(usize, Beginning)] = &[
-    (0, Beginning::Open(0)),
-    (17, Beginning::Open(3)),
-    (30, Beginning::Open(3)),
-    (31, Beginning::Open(5)),
-    (70, Beginning::Open(5)),
+// How many octets are there, from which place on is looked, and where a direction begins then.
+const BEGINNINGS: &[(usize, usize, Beginning)] = &[
+    (0, 0, Beginning::Open(0)),
+    (17, 0, Beginning::Open(3)),
+    (30, 0, Beginning::Open(3)),
+    (31, 0, Beginning::Open(5)),
+    (70, 0, Beginning::Open(5)),
+    (70, 6, Beginning::Open(31)),
+    (75, 31, Beginning::Sure(31)),
 ];
 
-#[test]
-fn fronts_within_a_text(rt: std::rt::HostRuntime) -> Result<(), AllocError> {
-    for (octets, want) in BEGINNINGS {
-        assert_so(&rt, begins_in(*octets) == *want, "where it begins");
+fn judge_beginnings(rt: &impl Abort, octets: &[u8], rows: &[(usize, usize, Beginning)]) {
+    for (length, from, want) in rows {
+        let octets = octets.get(..*length).unwrap_or(b"");
+        let place = begins(SESSION, octets, (*from).min(octets.len()));
+        assert_so(rt, place == *want, "where it begins");
     }
-    let behind = begins(SESSION, &MIDST, 6);
-    assert_so(
-        &rt,
-        behind == Beginning::Open(31),
-        "where it begins behind 6",
-    );
-    let mut whole = Vec::from_slice(rt.alloc(), &MIDST)?;
-    whole.extend_from_slice(&LAST)?;
-    let whole = begins(SESSION, &whole, 31);
-    assert_so(&rt, whole == Beginning::Sure(31), "where it surely begins");
-    Ok(())
+}
+
+#[test]
+fn fronts_within_a_text(rt: std::rt::HostRuntime) {
+    judge_beginnings(&rt, MIDST, BEGINNINGS);
+}
+
+// How many octets are there, and where a direction begins at their end.
+const ENDS: &[(usize, usize)] = &[(70, 31), (30, 3), (46, 46), (47, 31)];
+
+fn judge_ends(rt: &impl Abort, octets: &[u8], rows: &[(usize, usize)]) {
+    for (length, want) in rows {
+        let place = begins_at_end(SESSION, octets.get(..*length).unwrap_or(b""), 0);
+        assert_so(rt, place == *want, "where it begins");
+    }
 }
 
 #[test]
 fn beginnings_at_the_end(rt: std::rt::HostRuntime) {
-    for (octets, want) in [(70, 31), (30, 3), (46, 46), (47, 31)] {
-        let place = begins_at_end(SESSION, &MIDST[..octets.min(70)], 0);
-        assert_so(&rt, place == want, "where it begins");
-    }
+    judge_ends(&rt, MIDST, ENDS);
 }
 
 // A segment from this number on with so many octets: how many lie before the number 1000 or 4.

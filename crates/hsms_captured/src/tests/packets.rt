@@ -3,59 +3,73 @@
 mod blocks;
 mod kinds;
 
-use super::assert_so;
+use super::{assert_named, assert_so};
 use hsms_packets::{
-    Address, CaptureFault, Front, Opening, Reader, Reason, Record, Segment, Shown, format_of,
-    octets_of, segment_of,
+    Address, CaptureFault, Front, Opening, Reader, Record, Segment, Shown, format_of, octets_of,
+    segment_of,
 };
-use std::alloc::Global;
+use kinds::OLD;
+use std::alloc::{AllocError, Global};
 use std::process::Abort;
 
 // A SYN and a RST of pcap: raw IP, lowest octet first, microseconds.
-static REFUSED: [u8; 136] = [
-    0xd4, 0xc3, 0xb2, 0xa1, 0x02, 0x00, 0x04, 0x00, 0x00, 0x00, 0x00, 0x00, 0x00, 0x00, 0x00, 0x00,
-    0x00, 0x00, 0x04, 0x00, 0x65, 0x00, 0x00, 0x00, 0x00, 0xf1, 0x53, 0x65, 0x00, 0x00, 0x00, 0x00,
-    0x28, 0x00, 0x00, 0x00, 0x28, 0x00, 0x00, 0x00, 0x45, 0x00, 0x00, 0x28, 0x00, 0x00, 0x40, 0x00,
-    0x40, 0x06, 0x00, 0x00, 0x0a, 0x00, 0x00, 0x01, 0x0a, 0x00, 0x00, 0x02, 0x9c, 0x40, 0x13, 0x88,
-    0x00, 0x00, 0x03, 0xe8, 0x00, 0x00, 0x00, 0x00, 0x50, 0x02, 0xff, 0xff, 0x00, 0x00, 0x00, 0x00,
-    0x00, 0xf1, 0x53, 0x65, 0xe8, 0x03, 0x00, 0x00, 0x28, 0x00, 0x00, 0x00, 0x28, 0x00, 0x00, 0x00,
-    0x45, 0x00, 0x00, 0x28, 0x00, 0x00, 0x40, 0x00, 0x40, 0x06, 0x00, 0x00, 0x0a, 0x00, 0x00, 0x02,
-    0x0a, 0x00, 0x00, 0x01, 0x13, 0x88, 0x9c, 0x40, 0x00, 0x00, 0x23, 0x28, 0x00, 0x00, 0x03, 0xe9,
-    0x50, 0x14, 0xff, 0xff, 0x00, 0x00, 0x00, 0x00,
-];
+const REFUSED: &[u8] = b"\
+    \xd4\xc3\xb2\xa1\x02\x00\x04\x00\x00\x00\x00\x00\x00\x00\x00\x00\
+    \x00\x00\x04\x00\x65\x00\x00\x00\x00\xf1\x53\x65\x00\x00\x00\x00\
+    \x28\x00\x00\x00\x28\x00\x00\x00\x45\x00\x00\x28\x00\x00\x40\x00\
+    \x40\x06\x00\x00\x0a\x00\x00\x01\x0a\x00\x00\x02\x9c\x40\x13\x88\
+    \x00\x00\x03\xe8\x00\x00\x00\x00\x50\x02\xff\xff\x00\x00\x00\x00\
+    \x00\xf1\x53\x65\xe8\x03\x00\x00\x28\x00\x00\x00\x28\x00\x00\x00\
+    \x45\x00\x00\x28\x00\x00\x40\x00\x40\x06\x00\x00\x0a\x00\x00\x02\
+    \x0a\x00\x00\x01\x13\x88\x9c\x40\x00\x00\x23\x28\x00\x00\x03\xe9\
+    \x50\x14\xff\xff\x00\x00\x00\x00\
+";
+
+// The same, but that the second packet claims too many octets.
+const DAMAGED: &[u8] = b"\
+    \xd4\xc3\xb2\xa1\x02\x00\x04\x00\x00\x00\x00\x00\x00\x00\x00\x00\
+    \x00\x00\x04\x00\x65\x00\x00\x00\x00\xf1\x53\x65\x00\x00\x00\x00\
+    \x28\x00\x00\x00\x28\x00\x00\x00\x45\x00\x00\x28\x00\x00\x40\x00\
+    \x40\x06\x00\x00\x0a\x00\x00\x01\x0a\x00\x00\x02\x9c\x40\x13\x88\
+    \x00\x00\x03\xe8\x00\x00\x00\x00\x50\x02\xff\xff\x00\x00\x00\x00\
+    \x00\xf1\x53\x65\xe8\x03\x00\x00\x28\x00\x00\x01\x28\x00\x00\x00\
+    \x45\x00\x00\x28\x00\x00\x40\x00\x40\x06\x00\x00\x0a\x00\x00\x02\
+    \x0a\x00\x00\x01\x13\x88\x9c\x40\x00\x00\x23\x28\x00\x00\x03\xe9\
+    \x50\x14\xff\xff\x00\x00\x00\x00\
+";
 
 // A section of pcapng: an interface that counts nanoseconds, a custom block, and the SYN.
-static SECTION: [u8; 148] = [
-    0x0a, 0x0d, 0x0d, 0x0a, 0x1c, 0x00, 0x00, 0x00, 0x4d, 0x3c, 0x2b, 0x1a, 0x01, 0x00, 0x00, 0x00,
-    0xff, 0xff, 0xff, 0xff, 0xff, 0xff, 0xff, 0xff, 0x1c, 0x00, 0x00, 0x00, 0x01, 0x00, 0x00, 0x00,
-    0x20, 0x00, 0x00, 0x00, 0x65, 0x00, 0x00, 0x00, 0x00, 0x00, 0x00, 0x00, 0x09, 0x00, 0x01, 0x00,
-    0x09, 0x00, 0x00, 0x00, 0x00, 0x00, 0x00, 0x00, 0x20, 0x00, 0x00, 0x00, 0xad, 0x0b, 0x00, 0x00,
-    0x10, 0x00, 0x00, 0x00, 0x00, 0x00, 0x00, 0x00, 0x10, 0x00, 0x00, 0x00, 0x06, 0x00, 0x00, 0x00,
-    0x48, 0x00, 0x00, 0x00, 0x00, 0x00, 0x00, 0x00, 0xfe, 0x9c, 0x97, 0x17, 0x7f, 0x8d, 0x85, 0x36,
-    0x28, 0x00, 0x00, 0x00, 0x28, 0x00, 0x00, 0x00, 0x45, 0x00, 0x00, 0x28, 0x00, 0x00, 0x40, 0x00,
-    0x40, 0x06, 0x00, 0x00, 0x0a, 0x00, 0x00, 0x01, 0x0a, 0x00, 0x00, 0x02, 0x9c, 0x40, 0x13, 0x88,
-    0x00, 0x00, 0x03, 0xe8, 0x00, 0x00, 0x00, 0x00, 0x50, 0x02, 0xff, 0xff, 0x00, 0x00, 0x00, 0x00,
-    0x48, 0x00, 0x00, 0x00,
-];
+const SECTION: &[u8] = b"\
+    \x0a\x0d\x0d\x0a\x1c\x00\x00\x00\x4d\x3c\x2b\x1a\x01\x00\x00\x00\
+    \xff\xff\xff\xff\xff\xff\xff\xff\x1c\x00\x00\x00\x01\x00\x00\x00\
+    \x20\x00\x00\x00\x65\x00\x00\x00\x00\x00\x00\x00\x09\x00\x01\x00\
+    \x09\x00\x00\x00\x00\x00\x00\x00\x20\x00\x00\x00\xad\x0b\x00\x00\
+    \x10\x00\x00\x00\x00\x00\x00\x00\x10\x00\x00\x00\x06\x00\x00\x00\
+    \x48\x00\x00\x00\x00\x00\x00\x00\xfe\x9c\x97\x17\x7f\x8d\x85\x36\
+    \x28\x00\x00\x00\x28\x00\x00\x00\x45\x00\x00\x28\x00\x00\x40\x00\
+    \x40\x06\x00\x00\x0a\x00\x00\x01\x0a\x00\x00\x02\x9c\x40\x13\x88\
+    \x00\x00\x03\xe8\x00\x00\x00\x00\x50\x02\xff\xff\x00\x00\x00\x00\
+    \x48\x00\x00\x00\
+";
 
 // A packet behind a VLAN tag: IPv6 with a hop-by-hop header, two octets of TCP.
-static TAGGED: [u8; 88] = [
-    0x00, 0x00, 0x00, 0x00, 0x00, 0x00, 0x00, 0x00, 0x00, 0x00, 0x00, 0x00, 0x81, 0x00, 0x00, 0x05,
-    0x86, 0xdd, 0x60, 0x00, 0x00, 0x00, 0x00, 0x1e, 0x00, 0x40, 0xfe, 0x80, 0x00, 0x00, 0x00, 0x00,
-    0x00, 0x00, 0x00, 0x00, 0x00, 0x00, 0x00, 0x00, 0x00, 0x0a, 0xfe, 0x80, 0x00, 0x00, 0x00, 0x00,
-    0x00, 0x00, 0x00, 0x00, 0x00, 0x00, 0x00, 0x00, 0x00, 0x0b, 0x06, 0x00, 0x01, 0x04, 0x00, 0x00,
-    0x00, 0x00, 0x9c, 0x40, 0x13, 0x88, 0x00, 0x00, 0x03, 0xe9, 0x00, 0x00, 0x23, 0x29, 0x50, 0x18,
-    0xff, 0xff, 0x00, 0x00, 0x00, 0x00, 0x41, 0x42,
-];
+const TAGGED: &[u8] = b"\
+    \x00\x00\x00\x00\x00\x00\x00\x00\x00\x00\x00\x00\x81\x00\x00\x05\
+    \x86\xdd\x60\x00\x00\x00\x00\x1e\x00\x40\xfe\x80\x00\x00\x00\x00\
+    \x00\x00\x00\x00\x00\x00\x00\x00\x00\x0a\xfe\x80\x00\x00\x00\x00\
+    \x00\x00\x00\x00\x00\x00\x00\x00\x00\x0b\x06\x00\x01\x04\x00\x00\
+    \x00\x00\x9c\x40\x13\x88\x00\x00\x03\xe9\x00\x00\x23\x29\x50\x18\
+    \xff\xff\x00\x00\x00\x00\x41\x42\
+";
 
 // A packet of Ethernet that was filled up: IPv4 with an option, the same two octets.
-static PADDED: [u8; 66] = [
-    0x00, 0x00, 0x00, 0x00, 0x00, 0x00, 0x00, 0x00, 0x00, 0x00, 0x00, 0x00, 0x08, 0x00, 0x46, 0x00,
-    0x00, 0x2e, 0x00, 0x00, 0x40, 0x00, 0x40, 0x06, 0x00, 0x00, 0x0a, 0x00, 0x00, 0x01, 0x0a, 0x00,
-    0x00, 0x02, 0x01, 0x01, 0x01, 0x01, 0x9c, 0x40, 0x13, 0x88, 0x00, 0x00, 0x03, 0xe9, 0x00, 0x00,
-    0x23, 0x29, 0x50, 0x18, 0xff, 0xff, 0x00, 0x00, 0x00, 0x00, 0x41, 0x42, 0x00, 0x00, 0x00, 0x00,
-    0x00, 0x00,
-];
+const PADDED: &[u8] = b"\
+    \x00\x00\x00\x00\x00\x00\x00\x00\x00\x00\x00\x00\x08\x00\x46\x00\
+    \x00\x2e\x00\x00\x40\x00\x40\x06\x00\x00\x0a\x00\x00\x01\x0a\x00\
+    \x00\x02\x01\x01\x01\x01\x9c\x40\x13\x88\x00\x00\x03\xe9\x00\x00\
+    \x23\x29\x50\x18\xff\xff\x00\x00\x00\x00\x41\x42\x00\x00\x00\x00\
+    \x00\x00\
+";
 
 // The SYN and the RST.
 const SYN: Segment = Segment {
@@ -82,78 +96,52 @@ const RESET: Segment = Segment {
     end: 40,
 };
 
-// What stands at the front: which of both it is, with its time, or a block; and how many octets it has.
+// What stands at the front: which of both packets it is, with its time, or a block, or a packet that is cut; and how many
+// octets it has. Or how many packets were passed, and how many octets.
 type Row = (&'static str, Option<u128>, usize);
 
 const OF_PCAP: &[Row] = &[
     ("syn", Some(1_700_000_000_000), 56),
     ("reset", Some(1_700_000_000_001), 56),
+    ("passed", Some(2), 136),
 ];
 
-const BEFORE_THE_SYN: &[Row] = &[
+const OF_PCAPNG: &[Row] = &[
     ("block", None, 28),
     ("block", None, 32),
     ("block", None, 16),
+    ("passed", Some(1), 76),
+    ("syn", Some(1_700_000_000_005), 72),
+    ("passed", Some(2), 148),
 ];
 
-const FROM_THE_SYN_ON: &[Row] = &[("syn", Some(1_700_000_000_005), 72)];
+const OF_OTHER_KINDS: &[Row] = &[
+    ("block", None, 28),
+    ("block", None, 44),
+    ("syn", Some(1_700_000_001_500), 72),
+    ("cut", None, 56),
+];
+
+// A file, how many octets its header has, and what stands behind it.
+type File = (&'static [u8], usize, &'static [Row]);
+
+const FILES: &[File] = &[
+    (REFUSED, 24, OF_PCAP),
+    (SECTION, 0, OF_PCAPNG),
+    (OLD, 0, OF_OTHER_KINDS),
+];
 
 #[test]
-fn packets_of_pcap(rt: std::rt::HostRuntime) -> Result<(), CaptureFault> {
-    let octets = REFUSED.as_slice();
-    let mut reader = opened(rt.alloc(), octets)?;
-    let (_, records) = octets.split_at(24);
-    let end = behind(&rt, &mut reader, records, OF_PCAP)?;
-    assert_so(&rt, end.is_empty(), "the end");
-    assert_passed(&rt, &reader, 2, 136);
+fn packets_of_files(rt: std::rt::HostRuntime) -> Result<(), CaptureFault> {
+    judge_files(&rt, rt.alloc(), FILES)
+}
+
+fn judge_files(rt: &impl Abort, alloc: Global, files: &[File]) -> Result<(), CaptureFault> {
+    for (octets, header, rows) in files {
+        let behind = octets.get(*header..).unwrap_or(b"");
+        judge_rows(rt, opened(alloc, octets)?, behind, rows)?;
+    }
     Ok(())
-}
-
-#[test]
-fn packets_of_pcapng(rt: std::rt::HostRuntime) -> Result<(), CaptureFault> {
-    let octets = SECTION.as_slice();
-    let mut reader = opened(rt.alloc(), octets)?;
-    let packet = behind(&rt, &mut reader, octets, BEFORE_THE_SYN)?;
-    assert_passed(&rt, &reader, 1, 76);
-    let end = behind(&rt, &mut reader, packet, FROM_THE_SYN_ON)?;
-    assert_so(&rt, end.is_empty(), "the end");
-    assert_passed(&rt, &reader, 2, 148);
-    Ok(())
-}
-
-#[test]
-fn files_that_are_none(rt: std::rt::HostRuntime) {
-    let zipped = format_of(b"\x1f\x8b\x08\x00".as_slice());
-    assert_so(&rt, matches!(zipped, Err(CaptureFault::Unknown)), "gzip");
-    let text = format_of(b"hsms-log 1".as_slice());
-    assert_so(&rt, matches!(text, Err(CaptureFault::Unknown)), "a log");
-    let part = format_of(b"\x0a\x0d".as_slice());
-    assert_so(&rt, matches!(part, Ok(Opening::More)), "two octets");
-}
-
-#[test]
-fn what_is_damaged(rt: std::rt::HostRuntime) -> Result<(), CaptureFault> {
-    let reader = opened(rt.alloc(), SECTION.as_slice())?;
-    assert_so(&rt, is_more(&reader, &SECTION[..27]), "a part");
-    assert_refused(&rt, &reader, &SECTION[76..], CaptureFault::Interface);
-    assert_refused(&rt, &reader, &SECTION[2..], CaptureFault::Length);
-    Ok(())
-}
-
-#[test]
-fn segments_of_links(rt: std::rt::HostRuntime) {
-    assert_so(&rt, has_two_octets(&TAGGED), "a tag");
-    assert_so(&rt, has_two_octets(&PADDED), "filled up");
-    let cut = segment_of(1, &PADDED[..50]);
-    assert_so(&rt, matches!(cut, Shown::LeftOut(Reason::Cut)), "a part");
-    let linked = segment_of(147, &PADDED[..50]);
-    assert_so(
-        &rt,
-        matches!(linked, Shown::LeftOut(Reason::Link)),
-        "a link",
-    );
-    let other = segment_of(1, [0; 14].as_slice());
-    assert_so(&rt, matches!(other, Shown::Other), "no IP");
 }
 
 fn opened(alloc: Global, octets: &[u8]) -> Result<Reader, CaptureFault> {
@@ -163,49 +151,43 @@ fn opened(alloc: Global, octets: &[u8]) -> Result<Reader, CaptureFault> {
     }
 }
 
-fn is_more(reader: &Reader, octets: &[u8]) -> bool {
-    matches!(reader.front(octets), Ok(Front::More))
+// These rows are passed, and nothing is behind them.
+fn judge_rows(
+    rt: &impl Abort,
+    mut reader: Reader,
+    octets: &[u8],
+    rows: &[Row],
+) -> Result<(), CaptureFault> {
+    let mut rest = octets;
+    for row in rows {
+        if row.0 == "passed" {
+            assert_passed(rt, &reader, row);
+        } else {
+            rest = pass(rt, &mut reader, rest, row)?;
+        }
+    }
+    assert_so(rt, rest.is_empty(), "the end");
+    Ok(())
 }
 
-// What stands at the front is refused with a fault.
-fn assert_refused(rt: &impl Abort, reader: &Reader, octets: &[u8], want: CaptureFault) {
-    let fault = reader.front(octets).err();
-    assert_so(rt, fault == Some(want), "a fault");
-}
-
-// So many packets were passed, and so many octets.
-fn assert_passed(rt: &impl Abort, reader: &Reader, packets: u64, place: u64) {
-    assert_so(rt, reader.packets() == packets, "how many packets");
-    assert_so(rt, reader.place() == place, "the place");
-}
-
-// Passes what these rows say. Answers the octets behind it.
-fn behind<'a>(
+// Passes what this row says. Answers the octets behind it.
+fn pass<'a>(
     rt: &impl Abort,
     reader: &mut Reader,
     octets: &'a [u8],
-    rows: &[Row],
-) -> Result<&'a [u8], CaptureFault> {
-    let mut rest = octets;
-    for row in rows {
-        let size = pass(rt, reader, rest, row)?;
-        rest = rest.get(size..).ok_or(CaptureFault::Length)?;
-    }
-    Ok(rest)
-}
-
-// Passes what this row says.
-fn pass(
-    rt: &impl Abort,
-    reader: &mut Reader,
-    octets: &[u8],
     row: &Row,
-) -> Result<usize, CaptureFault> {
+) -> Result<&'a [u8], CaptureFault> {
     let (kind, time) = found(reader, octets)?;
     let size = reader.pass(reader.front(octets)?)?;
-    let is_row = kind == row.0 && time == row.1 && size == row.2;
-    assert_so(rt, is_row, row.0);
-    Ok(size)
+    assert_so(rt, (kind, time, size) == *row, row.0);
+    octets.get(size..).ok_or(CaptureFault::Length)
+}
+
+// So many packets were passed, and so many octets.
+fn assert_passed(rt: &impl Abort, reader: &Reader, row: &Row) {
+    let packets = Some(u128::from(reader.packets()));
+    assert_so(rt, packets == row.1, "how many packets");
+    assert_so(rt, reader.place() == row.2 as u64, "the place");
 }
 
 // Which packet stands at the front, with its time; or that it is another block.
@@ -219,11 +201,20 @@ fn found(reader: &Reader, octets: &[u8]) -> Result<(&'static str, Option<u128>),
 // Which packet it is of those that are written out.
 fn kind_of(record: &Record, held: &[u8]) -> &'static str {
     if !record.whole {
-        return "cut";
+        return cut_of(record);
     }
     match segment_of(record.link, held) {
         Shown::Segment(segment) => name_of(&segment),
         _ => "no segment",
+    }
+}
+
+// A packet without a time, of which 40 octets are held and not all; or another one that is cut.
+fn cut_of(record: &Record) -> &'static str {
+    if record.time.is_none() && record.link == 101 && record.held == 40 {
+        "cut"
+    } else {
+        "another cut"
     }
 }
 
@@ -249,13 +240,74 @@ fn is_like(segment: &Segment, other: &Segment) -> bool {
         && segment.end == other.end
 }
 
-// The packet's segment has the two octets.
-fn has_two_octets(packet: &[u8]) -> bool {
-    let Shown::Segment(segment) = segment_of(1, packet) else {
-        return false;
-    };
-    packet.get(segment.body..segment.end) == Some(b"AB".as_slice())
-        && segment.number == 1001
-        && segment.acknowledged == Some(9001)
-        && segment.flags == 8
+#[test]
+fn files_that_are_none(rt: std::rt::HostRuntime) {
+    let zipped = format_of(b"\x1f\x8b\x08\x00".as_slice());
+    assert_so(&rt, matches!(zipped, Err(CaptureFault::Unknown)), "gzip");
+    let text = format_of(b"hsms-log 1".as_slice());
+    assert_so(&rt, matches!(text, Err(CaptureFault::Unknown)), "a log");
+    let part = format_of(b"\x0a\x0d".as_slice());
+    assert_so(&rt, matches!(part, Ok(Opening::More)), "two octets");
+}
+
+// Octets from one place to another, and what stands at their front.
+type Part = (&'static [u8], usize, usize, &'static str);
+
+const OF_SECTION: &[Part] = &[
+    (SECTION, 0, 27, "Ok(More)"),
+    (SECTION, 76, 148, "Err(Interface)"),
+    (SECTION, 2, 148, "Err(Length)"),
+];
+
+#[test]
+fn what_is_damaged(rt: std::rt::HostRuntime) -> Result<(), CaptureFault> {
+    let reader = opened(rt.alloc(), SECTION)?;
+    judge_parts(&rt, rt.alloc(), &reader, OF_SECTION).map_err(|_| CaptureFault::Memory)
+}
+
+fn judge_parts(
+    rt: &impl Abort,
+    alloc: Global,
+    reader: &Reader,
+    parts: &[Part],
+) -> Result<(), AllocError> {
+    for (octets, from, to, want) in parts {
+        let front = reader.front(octets.get(*from..*to).unwrap_or(b""));
+        assert_named(rt, alloc, &front, want)?;
+    }
+    Ok(())
+}
+
+// A link, a packet, how many of its octets are there, and what it shows. The segments have the octets 41 and 42.
+type Linked = (u32, &'static [u8], usize, &'static str);
+
+const LINKED: &[Linked] = &[
+    (
+        1,
+        TAGGED,
+        88,
+        "Segment(Segment { source: V6(338288524927261089654018896841347694602), source_port: 40000, target: V6(338288524927261089654018896841347694603), target_port: 5000, number: 1001, acknowledged: Some(9001), flags: 8, body: 86, end: 88 })",
+    ),
+    (
+        1,
+        PADDED,
+        66,
+        "Segment(Segment { source: V4(167772161), source_port: 40000, target: V4(167772162), target_port: 5000, number: 1001, acknowledged: Some(9001), flags: 8, body: 58, end: 60 })",
+    ),
+    (1, PADDED, 50, "LeftOut(Cut)"),
+    (147, PADDED, 50, "LeftOut(Link)"),
+    (1, b"\0\0\0\0\0\0\0\0\0\0\0\0\0\0", 14, "Other"),
+];
+
+#[test]
+fn segments_of_links(rt: std::rt::HostRuntime) -> Result<(), AllocError> {
+    judge_links(&rt, rt.alloc(), LINKED)
+}
+
+fn judge_links(rt: &impl Abort, alloc: Global, rows: &[Linked]) -> Result<(), AllocError> {
+    for (link, packet, length, want) in rows {
+        let shown = segment_of(*link, packet.get(..*length).unwrap_or(b""));
+        assert_named(rt, alloc, &shown, want)?;
+    }
+    Ok(())
 }

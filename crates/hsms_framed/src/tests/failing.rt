@@ -2,6 +2,7 @@ use super::assert_so;
 use hsms_frame::{Failed, Reader, Sink, Source, Writer};
 use std::io;
 use std::io::{ErrorKind, Read, Write};
+use std::process::Abort;
 
 // Fails at its first call as one that was interrupted, which std's own helpers would try again. From then on it moves
 // one octet a call.
@@ -38,17 +39,33 @@ impl Write for Flaky {
     }
 }
 
+// The first call fails, and the second one moves an octet.
+fn assert_second(rt: &impl Abort, first: Result<usize, Failed>, second: Result<usize, Failed>) {
+    assert_so(rt, first == Err(Failed), "the first call");
+    assert_so(rt, second == Ok(1), "the second call");
+}
+
+fn judge_reads(rt: &impl Abort, source: &mut Reader<Flaky>) {
+    let first = source.pull(&mut [0u8; 2]);
+    assert_second(rt, first, source.pull(&mut [0u8; 2]));
+}
+
+fn judge_writes(rt: &impl Abort, sink: &mut Writer<Flaky>) {
+    let first = sink.give(b"ab");
+    assert_second(rt, first, sink.give(b"ab"));
+}
+
+fn judge_flushes(rt: &impl Abort, sink: &mut Writer<Flaky>) {
+    assert_so(rt, sink.flush() == Err(Failed), "the first flush");
+    assert_so(rt, sink.flush() == Ok(()), "the second flush");
+}
+
 #[test]
 fn tells_each_error_of_std_at_once(rt: HostRuntime) {
     let mut source = Reader::new(Flaky { is_well: false });
-    let first = source.pull(&mut [0u8; 2]);
-    assert_so(&rt, first == Err(Failed), "the first read");
-    let second = source.pull(&mut [0u8; 2]);
-    assert_so(&rt, second == Ok(1), "the second read");
+    judge_reads(&rt, &mut source);
     let mut sink = Writer::new(Flaky { is_well: false });
-    assert_so(&rt, sink.give(b"ab") == Err(Failed), "the first write");
-    assert_so(&rt, sink.give(b"ab") == Ok(1), "the second write");
+    judge_writes(&rt, &mut sink);
     let mut sink = Writer::new(Flaky { is_well: false });
-    assert_so(&rt, sink.flush() == Err(Failed), "the first flush");
-    assert_so(&rt, sink.flush() == Ok(()), "the second flush");
+    judge_flushes(&rt, &mut sink);
 }

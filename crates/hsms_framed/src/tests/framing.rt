@@ -1,26 +1,25 @@
-use super::{DATA, LONG, SELECT, assert_octets};
-use hsms_frame::{Frame, FrameFault, Framer, encode_frame};
+use super::{DATA, LONG, SELECT, assert_octets, assert_so};
+use hsms_frame::{Frame, FrameFault, Framer, Header, encode_frame};
 use std::alloc::Global;
 use std::process::Abort;
-use std::test::Fail;
 
 // Memory is refused, and the framer is as it was.
 fn assert_as_before(rt: &impl Abort, framer: &Framer, fault: FrameFault, before: &[u8]) {
-    assert!(rt; fault == FrameFault::Memory);
+    assert_so(rt, fault == FrameFault::Memory, "want of memory");
     assert_octets(rt, framer.pending(), before);
 }
 
-// No message is whole.
-fn assert_none(rt: &impl Abort, framer: &mut Framer) {
-    assert!(rt; matches!(framer.next(), Ok(None)));
-}
-
 fn assert_empty(rt: &impl Abort, framer: &Framer) {
-    assert!(rt; framer.pending().is_empty());
+    assert_so(rt, framer.pending().is_empty(), "nothing is pending");
 }
 
 // Pushes octets. Where memory is refused the framer is as it was, and a second try meets no refusal.
-fn push(rt: &impl Abort, alloc: Global, framer: &mut Framer, octets: &[u8]) -> Result<(), Fail> {
+fn push(
+    rt: &impl Abort,
+    alloc: Global,
+    framer: &mut Framer,
+    octets: &[u8],
+) -> Result<(), FrameFault> {
     let before = Vec::from_slice(alloc, framer.pending())?;
     if let Err(fault) = framer.push(octets) {
         assert_as_before(rt, framer, fault, &before);
@@ -31,59 +30,104 @@ fn push(rt: &impl Abort, alloc: Global, framer: &mut Framer, octets: &[u8]) -> R
 
 // Takes the message at the front away. Where memory is refused the framer is as it was, and a second try meets no
 // refusal.
-fn next(rt: &impl Abort, alloc: Global, framer: &mut Framer) -> Result<Option<Frame>, Fail> {
+fn next(rt: &impl Abort, alloc: Global, framer: &mut Framer) -> Result<Option<Frame>, FrameFault> {
     let before = Vec::from_slice(alloc, framer.pending())?;
     match framer.next() {
         Ok(taken) => Ok(taken),
-        Err(fault) => {
-            assert_as_before(rt, framer, fault, &before);
-            Ok(framer.next()?)
+        Err(FrameFault::Memory) => {
+            assert_as_before(rt, framer, FrameFault::Memory, &before);
+            framer.next()
         }
+        Err(fault) => Err(fault),
     }
 }
 
-// The system bytes of the messages at the front, which are taken away.
-fn systems(rt: &impl Abort, alloc: Global, framer: &mut Framer) -> Result<Vec<u32>, Fail> {
-    let mut systems = Vec::new(alloc);
+// Adds the octets of a message.
+fn add_frame(alloc: Global, frame: &Frame, given: &mut Vec<u8>) -> Result<(), FrameFault> {
+    let octets = encode_frame(alloc, frame)?;
+    given.extend_from_slice(&octets)?;
+    Ok(())
+}
+
+// Adds the octets of the messages at the front, which are taken away.
+fn add_frames(
+    rt: &impl Abort,
+    alloc: Global,
+    framer: &mut Framer,
+    given: &mut Vec<u8>,
+) -> Result<(), FrameFault> {
     for _ in 0..4 {
         match next(rt, alloc, framer)? {
-            Some(frame) => systems.push(frame.header.system)?,
+            Some(frame) => add_frame(alloc, &frame, given)?,
             None => break,
         }
-    }
-    Ok(systems)
-}
-
-#[test]
-fn gives_the_same_from_any_two_pieces(rt: HostRuntime) -> Result<(), Fail> {
-    let alloc = rt.alloc();
-    let mut octets = Vec::from_slice(alloc, &SELECT)?;
-    octets.extend_from_slice(&DATA)?;
-    for cut in 0..=octets.len() {
-        let (first, last) = octets.split_at(cut);
-        let mut framer = Framer::new(alloc, 256);
-        assert_given(&rt, alloc, &mut framer, first, last)?;
     }
     Ok(())
 }
 
-fn assert_systems(rt: &impl Abort, systems: &[u32], cut: usize) {
-    assert_eq!(rt; systems, [1, 1].as_slice(), "cut at {cut}");
+// Behind this piece all that is given has these octets.
+fn judge_piece(
+    rt: &impl Abort,
+    alloc: Global,
+    framer: &mut Framer,
+    given: &mut Vec<u8>,
+    piece: &[u8],
+    want: &[u8],
+) -> Result<(), FrameFault> {
+    push(rt, alloc, framer, piece)?;
+    add_frames(rt, alloc, framer, given)?;
+    assert_octets(rt, given, want);
+    Ok(())
 }
 
-fn assert_given(
+// Octets come in two pieces. Behind the first one these octets are given, and all behind the second one.
+fn judge_pieces(
     rt: &impl Abort,
     alloc: Global,
     framer: &mut Framer,
     first: &[u8],
     last: &[u8],
-) -> Result<(), Fail> {
-    push(rt, alloc, framer, first)?;
-    let mut given = systems(rt, alloc, framer)?;
-    push(rt, alloc, framer, last)?;
-    given.extend_from_slice(&systems(rt, alloc, framer)?)?;
-    assert_systems(rt, given.as_slice(), first.len());
-    assert_empty(rt, framer);
+    before: &[u8],
+    all: &[u8],
+) -> Result<(), FrameFault> {
+    let mut given = Vec::new(alloc);
+    judge_piece(rt, alloc, framer, &mut given, first, before)?;
+    judge_piece(rt, alloc, framer, &mut given, last, all)
+}
+
+fn judge_cut(
+    rt: &impl Abort,
+    alloc: Global,
+    first: &[u8],
+    last: &[u8],
+    before: &[u8],
+    all: &[u8],
+) -> Result<(), FrameFault> {
+    let mut framer = Framer::new(alloc, 256);
+    judge_pieces(rt, alloc, &mut framer, first, last, before, all)?;
+    assert_empty(rt, &framer);
+    Ok(())
+}
+
+// SELECT and DATA.
+const BOTH: &[u8] =
+    b"\x00\x00\x00\x0a\xff\xff\x00\x00\x00\x01\x00\x00\x00\x01\x00\x00\x00\x0c\x00\x00\x81\x0d\x00\x00\x00\x00\x00\x01\x01\x00";
+
+// What is given of both behind so many octets.
+fn given_of_both(length: usize) -> &'static [u8] {
+    match length {
+        0..14 => b"",
+        14..30 => &SELECT,
+        _ => BOTH,
+    }
+}
+
+#[test]
+fn gives_the_same_from_any_two_pieces(rt: HostRuntime) -> Result<(), FrameFault> {
+    for cut in 0..=BOTH.len() {
+        let (first, last) = BOTH.split_at(cut);
+        judge_cut(&rt, rt.alloc(), first, last, given_of_both(cut), BOTH)?;
+    }
     Ok(())
 }
 
@@ -148,7 +192,7 @@ const DATA_MESSAGES: &[&[u8]] = &[
     b"\0\0\0\x16\0\0\t\x07\0\0\0\0\0\x03!\n\0\0\x82\x19\0\0\0\0\0\x04",
 ];
 
-fn gives_each_back(rt: &impl Abort, alloc: Global, messages: &[&[u8]]) -> Result<(), Fail> {
+fn gives_each_back(rt: &impl Abort, alloc: Global, messages: &[&[u8]]) -> Result<(), FrameFault> {
     for octets in messages {
         gives_back_from_any_two_pieces(rt, alloc, octets)?;
     }
@@ -156,17 +200,17 @@ fn gives_each_back(rt: &impl Abort, alloc: Global, messages: &[&[u8]]) -> Result
 }
 
 #[test]
-fn gives_each_message_from_any_two_pieces(rt: HostRuntime) -> Result<(), Fail> {
+fn gives_each_message_from_any_two_pieces(rt: HostRuntime) -> Result<(), FrameFault> {
     gives_each_back(&rt, rt.alloc(), MESSAGES)
 }
 
 #[test]
-fn gives_each_control_message_from_any_two_pieces(rt: HostRuntime) -> Result<(), Fail> {
+fn gives_each_control_message_from_any_two_pieces(rt: HostRuntime) -> Result<(), FrameFault> {
     gives_each_back(&rt, rt.alloc(), CONTROL)
 }
 
 #[test]
-fn gives_each_data_message_from_any_two_pieces(rt: HostRuntime) -> Result<(), Fail> {
+fn gives_each_data_message_from_any_two_pieces(rt: HostRuntime) -> Result<(), FrameFault> {
     gives_each_back(&rt, rt.alloc(), DATA_MESSAGES)
 }
 
@@ -174,112 +218,167 @@ fn gives_back_from_any_two_pieces(
     rt: &impl Abort,
     alloc: Global,
     octets: &[u8],
-) -> Result<(), Fail> {
+) -> Result<(), FrameFault> {
     for cut in 0..octets.len() {
         let (first, last) = octets.split_at(cut);
-        let mut framer = Framer::new(alloc, 256);
-        push(rt, alloc, &mut framer, first)?;
-        assert_none(rt, &mut framer);
-        push(rt, alloc, &mut framer, last)?;
-        assert_gives_back(rt, alloc, &mut framer, octets, cut)?;
-        assert_empty(rt, &framer);
+        judge_cut(rt, alloc, first, last, b"", octets)?;
     }
     Ok(())
 }
 
-fn assert_same(rt: &impl Abort, octets: &[u8], want: &[u8], cut: usize) {
-    assert_eq!(rt; octets, want, "cut at {cut}");
-}
+// A piece, the messages that are given behind it in all, if they are asked for, and the fault that is told then.
+type Step = (&'static [u8], Option<&'static [u8]>, Option<FrameFault>);
 
-fn assert_gives_back(
+fn fault_of(
     rt: &impl Abort,
     alloc: Global,
     framer: &mut Framer,
-    octets: &[u8],
-    cut: usize,
-) -> Result<(), Fail> {
-    let frame = next(rt, alloc, framer)?.ok_or("a message")?;
-    assert_same(rt, encode_frame(alloc, &frame)?.as_slice(), octets, cut);
-    Ok(())
+    given: &mut Vec<u8>,
+) -> Result<Option<FrameFault>, FrameFault> {
+    match add_frames(rt, alloc, framer, given) {
+        Ok(()) => Ok(None),
+        Err(FrameFault::Memory) => Err(FrameFault::Memory),
+        Err(fault) => Ok(Some(fault)),
+    }
 }
 
-// The next message has this text.
-fn assert_text(
+fn judge_step(
     rt: &impl Abort,
     alloc: Global,
     framer: &mut Framer,
-    want: &[u8],
-) -> Result<(), Fail> {
-    let frame = next(rt, alloc, framer)?.ok_or("a message")?;
-    assert_octets(rt, &frame.text, want);
-    Ok(())
-}
-
-#[test]
-fn waits_for_the_last_octet(rt: HostRuntime) -> Result<(), Fail> {
-    let alloc = rt.alloc();
-    let mut framer = Framer::new(alloc, 256);
-    for octet in &DATA[..15] {
-        push(&rt, alloc, &mut framer, &[*octet])?;
-        assert_none(&rt, &mut framer);
+    given: &mut Vec<u8>,
+    step: &Step,
+) -> Result<(), FrameFault> {
+    push(rt, alloc, framer, step.0)?;
+    if let Some(want) = step.1 {
+        let fault = fault_of(rt, alloc, framer, given)?;
+        assert_so(rt, fault == step.2, "a fault");
+        assert_octets(rt, given, want);
     }
-    push(&rt, alloc, &mut framer, &DATA[15..])?;
-    assert_text(&rt, alloc, &mut framer, &DATA[14..])?;
-    assert_empty(&rt, &framer);
     Ok(())
 }
 
-fn assert_too_short(rt: &impl Abort, framer: &mut Framer) {
-    assert!(rt; matches!(framer.next(), Err(FrameFault::TooShort { length: 9 })));
-}
-
-fn assert_too_long(rt: &impl Abort, framer: &mut Framer) {
-    assert!(rt;
-        matches!(framer.next(), Err(FrameFault::TooLong { length: 257, header }) if header.system == 2)
-    );
-}
-
-#[test]
-fn tells_a_fault_as_soon_as_it_is_there(rt: HostRuntime) -> Result<(), Fail> {
-    let alloc = rt.alloc();
-    let mut framer = Framer::new(alloc, 256);
-    push(&rt, alloc, &mut framer, &[0, 0, 0])?;
-    assert_none(&rt, &mut framer);
-    push(&rt, alloc, &mut framer, &[9])?;
-    assert_too_short(&rt, &mut framer);
-    let mut framer = Framer::new(alloc, 256);
-    for octet in &LONG[..13] {
-        push(&rt, alloc, &mut framer, &[*octet])?;
-        assert_none(&rt, &mut framer);
+// These steps leave that pending.
+fn judge_steps(
+    rt: &impl Abort,
+    alloc: Global,
+    framer: &mut Framer,
+    steps: &[Step],
+    pending: &[u8],
+) -> Result<(), FrameFault> {
+    let mut given = Vec::new(alloc);
+    for step in steps {
+        judge_step(rt, alloc, framer, &mut given, step)?;
     }
-    push(&rt, alloc, &mut framer, &LONG[13..])?;
-    assert_too_long(&rt, &mut framer);
-    assert_octets(&rt, framer.pending(), &LONG);
+    assert_octets(rt, framer.pending(), pending);
     Ok(())
 }
 
+fn judge_session(
+    rt: &impl Abort,
+    alloc: Global,
+    steps: &[Step],
+    pending: &[u8],
+) -> Result<(), FrameFault> {
+    let mut framer = Framer::new(alloc, 256);
+    judge_steps(rt, alloc, &mut framer, steps, pending)
+}
+
+// The octets of DATA come one by one.
+const ONE_BY_ONE: &[Step] = &[
+    (b"\x00", Some(b""), None),
+    (b"\x00", Some(b""), None),
+    (b"\x00", Some(b""), None),
+    (b"\x0c", Some(b""), None),
+    (b"\x00", Some(b""), None),
+    (b"\x00", Some(b""), None),
+    (b"\x81", Some(b""), None),
+    (b"\x0d", Some(b""), None),
+    (b"\x00", Some(b""), None),
+    (b"\x00", Some(b""), None),
+    (b"\x00", Some(b""), None),
+    (b"\x00", Some(b""), None),
+    (b"\x00", Some(b""), None),
+    (b"\x01", Some(b""), None),
+    (b"\x01", Some(b""), None),
+    (b"\x00", Some(&DATA), None),
+];
+
 #[test]
-fn gives_each_of_a_thousand_once(rt: HostRuntime) -> Result<(), Fail> {
-    let mut framer = Framer::new(rt.alloc(), 256);
+fn waits_for_the_last_octet(rt: HostRuntime) -> Result<(), FrameFault> {
+    judge_session(&rt, rt.alloc(), ONE_BY_ONE, b"")
+}
+
+const TOO_SHORT: &[Step] = &[
+    (b"\0\0\0", Some(b""), None),
+    (b"\x09", Some(b""), Some(FrameFault::TooShort { length: 9 })),
+];
+
+// The octets of LONG come one by one.
+const TOO_LONG: &[Step] = &[
+    (b"\x00", Some(b""), None),
+    (b"\x00", Some(b""), None),
+    (b"\x01", Some(b""), None),
+    (b"\x01", Some(b""), None),
+    (b"\x00", Some(b""), None),
+    (b"\x00", Some(b""), None),
+    (b"\x81", Some(b""), None),
+    (b"\x01", Some(b""), None),
+    (b"\x00", Some(b""), None),
+    (b"\x00", Some(b""), None),
+    (b"\x00", Some(b""), None),
+    (b"\x00", Some(b""), None),
+    (b"\x00", Some(b""), None),
+    (
+        b"\x02",
+        Some(b""),
+        Some(FrameFault::TooLong {
+            length: 257,
+            header: Header {
+                session: 0,
+                byte2: 0x81,
+                byte3: 1,
+                ptype: 0,
+                stype: 0,
+                system: 2,
+            },
+        }),
+    ),
+];
+
+#[test]
+fn tells_a_fault_as_soon_as_it_is_there(rt: HostRuntime) -> Result<(), FrameFault> {
+    judge_session(&rt, rt.alloc(), TOO_SHORT, b"\0\0\0\x09")?;
+    judge_session(&rt, rt.alloc(), TOO_LONG, &LONG)
+}
+
+fn push_thousand(framer: &mut Framer) -> Result<(), FrameFault> {
     for _ in 0..1000 {
         framer.push(&SELECT)?;
     }
-    for _ in 0..1000 {
-        assert!(rt; matches!(framer.next(), Ok(Some(_))));
-    }
-    assert!(rt; framer.pending().is_empty() && matches!(framer.next(), Ok(None)));
     Ok(())
 }
 
-// Two messages come in two pieces.
+fn assert_thousand(rt: &impl Abort, framer: &mut Framer) {
+    for _ in 0..1000 {
+        assert_so(rt, matches!(framer.next(), Ok(Some(_))), "a message");
+    }
+    assert_empty(rt, framer);
+    assert_so(rt, matches!(framer.next(), Ok(None)), "no message");
+}
+
 #[test]
-fn gives_a_text_behind_a_bare_header(rt: HostRuntime) -> Result<(), Fail> {
-    let alloc = rt.alloc();
-    let mut framer = Framer::new(alloc, 256);
-    push(&rt, alloc, &mut framer, &SELECT)?;
-    push(&rt, alloc, &mut framer, &DATA)?;
-    assert_text(&rt, alloc, &mut framer, b"")?;
-    assert_text(&rt, alloc, &mut framer, &[1, 0])?;
-    assert_empty(&rt, &framer);
+fn gives_each_of_a_thousand_once(rt: HostRuntime) -> Result<(), FrameFault> {
+    let mut framer = Framer::new(rt.alloc(), 256);
+    push_thousand(&mut framer)?;
+    assert_thousand(&rt, &mut framer);
     Ok(())
+}
+
+// Two messages come in two pieces, and are asked for behind both.
+const TWO: &[Step] = &[(&SELECT, None, None), (&DATA, Some(BOTH), None)];
+
+#[test]
+fn gives_a_text_behind_a_bare_header(rt: HostRuntime) -> Result<(), FrameFault> {
+    judge_session(&rt, rt.alloc(), TWO, b"")
 }

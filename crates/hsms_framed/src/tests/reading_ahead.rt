@@ -1,65 +1,82 @@
-use super::{assert_octets, assert_so};
+use super::assert_so;
 use hsms_frame::{Ahead, AheadFault, Feed};
-use std::alloc::AllocError;
+use std::alloc::{AllocError, Global};
 use std::process::Abort;
-use std::test::Fail;
 
-// Whether more was read, or None where the source failed. Want of memory is handed up.
-fn more(ahead: &mut Ahead, source: &mut Feed) -> Result<Option<bool>, AllocError> {
+// What a read answers, or a pass over three octets of more. Want of memory is handed up.
+fn answer_to(ahead: &mut Ahead, source: &mut Feed, step: &str) -> Result<&'static str, AllocError> {
+    if step == "pass" {
+        if 3 < ahead.as_slice().len() {
+            ahead.pass(3);
+        }
+        return Ok("pass");
+    }
     match ahead.read_more(source) {
-        Ok(is_more) => Ok(Some(is_more)),
-        Err(AheadFault::Read) => Ok(None),
+        Ok(true) => Ok("more"),
+        Ok(false) => Ok("end"),
+        Err(AheadFault::Read) => Ok("failed"),
         Err(AheadFault::Memory) => Err(AllocError),
     }
 }
 
-// A read answers this.
-fn assert_more(
+// What is done or answered, and what stands ahead then, if that is looked at.
+type Step = (&'static str, Option<&'static [u8]>);
+
+fn judge_steps(
     rt: &impl Abort,
     ahead: &mut Ahead,
     source: &mut Feed,
-    want: Option<bool>,
+    steps: &[Step],
 ) -> Result<(), AllocError> {
-    assert_so(rt, more(ahead, source)? == want, "whether more was read");
+    for (step, octets) in steps {
+        let answer = answer_to(ahead, source, step)?;
+        let octets = octets.unwrap_or(ahead.as_slice());
+        assert_so(rt, answer == *step && octets == ahead.as_slice(), step);
+    }
     Ok(())
 }
 
-fn judge_passed(rt: &impl Abort, ahead: &mut Ahead, source: &mut Feed) -> Result<(), Fail> {
-    assert_more(rt, ahead, source, Some(true))?;
-    ahead.as_slice().get(3).ok_or("four octets")?;
-    ahead.pass(3);
-    assert_octets(rt, ahead.as_slice(), b"3");
-    assert_more(rt, ahead, source, Some(true))?;
-    assert_octets(rt, ahead.as_slice(), b"3456");
-    assert_more(rt, ahead, source, Some(false))?;
-    assert_more(rt, ahead, source, None)?;
-    assert_octets(rt, ahead.as_slice(), b"3456");
+// Octets that come so many at a time, where so many calls are well. At first nothing stands ahead, at last so much.
+fn judge_ahead(
+    rt: &impl Abort,
+    alloc: Global,
+    source: &mut Feed,
+    steps: &[Step],
+    length: usize,
+) -> Result<(), AllocError> {
+    let mut ahead = Ahead::new(alloc)?;
+    assert_so(rt, ahead.as_slice().is_empty(), "nothing");
+    judge_steps(rt, &mut ahead, source, steps)?;
+    assert_so(rt, ahead.as_slice().len() == length, "all of it");
     Ok(())
 }
+
+const PASSED: &[Step] = &[
+    ("more", Some(b"0123")),
+    ("pass", Some(b"3")),
+    ("more", Some(b"3456")),
+    ("end", Some(b"3456")),
+    ("failed", Some(b"3456")),
+];
 
 #[test]
-fn reads_ahead_of_what_is_passed(rt: HostRuntime) -> Result<(), Fail> {
-    let alloc = rt.alloc();
-    let mut source = Feed::new(Vec::from_slice(alloc, b"0123456")?, 4, 3);
-    let mut ahead = Ahead::new(alloc)?;
-    assert_octets(&rt, ahead.as_slice(), b"");
-    judge_passed(&rt, &mut ahead, &mut source)
+fn reads_ahead_of_what_is_passed(rt: HostRuntime) -> Result<(), AllocError> {
+    let octets = Vec::from_slice(rt.alloc(), b"0123456")?;
+    let mut source = Feed::new(octets, 4, 3);
+    judge_ahead(&rt, rt.alloc(), &mut source, PASSED, 4)
 }
 
-fn judge_far(rt: &impl Abort, ahead: &mut Ahead, source: &mut Feed) -> Result<(), AllocError> {
-    for is_more in [true, true, true, false] {
-        assert_more(rt, ahead, source, Some(is_more))?;
-    }
-    assert_so(rt, ahead.as_slice().len() == 200_000, "all of it");
-    Ok(())
-}
+const FAR: &[Step] = &[
+    ("more", None),
+    ("more", None),
+    ("more", None),
+    ("end", None),
+];
 
 // Nothing is passed, so each read needs more room than the one before.
 #[test]
-fn reads_far_ahead(rt: HostRuntime) -> Result<(), Fail> {
-    let alloc = rt.alloc();
-    let mut source = Feed::new(vec![in alloc; 7u8; 200_000]?, 100_000, u64::MAX);
-    let mut ahead = Ahead::new(alloc)?;
-    judge_far(&rt, &mut ahead, &mut source)?;
-    Ok(())
+fn reads_far_ahead(rt: HostRuntime) -> Result<(), AllocError> {
+    let octets = vec![in rt.alloc(); 7u8; 200_000]?;
+    let mut source = Feed::new(octets, 100_000, u64::MAX);
+    judge_ahead(&rt, rt.alloc(), &mut source, FAR, 200_000)
 }

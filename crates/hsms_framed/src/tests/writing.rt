@@ -5,11 +5,20 @@ use hsms_frame::{
 };
 use std::alloc::{AllocError, Global};
 use std::process::Abort;
-use std::test::Fail;
 
-fn assert_header(rt: &impl Abort, header: Header, octets: &[u8]) {
-    assert_octets(rt, header.octets().as_slice(), octets);
-}
+// The headers that are built, one behind the other.
+const HEADERS: &[u8] = b"\
+    \x00\x00\x81\x0d\x00\x00\x00\x00\x00\x01\
+    \x00\x00\x01\x02\x00\x00\x00\x00\x00\x02\
+    \xff\xff\x00\x00\x00\x01\x00\x00\x00\x01\
+    \xff\xff\x00\x01\x00\x02\x00\x00\x00\x06\
+    \xff\xff\x00\x00\x00\x05\x00\x00\x00\x00\
+    \xff\xff\x00\x00\x00\x06\x00\x00\x00\x06\
+    \xff\xff\x00\x00\x00\x09\x00\x00\x00\x02\
+    \x00\x00\x00\x04\x00\x07\x00\x00\x00\x02\
+    \x00\x00\x01\x02\x00\x07\x00\x00\x00\x02\
+    \xff\xff\x03\x01\x00\x07\x00\x00\x00\x05\
+";
 
 #[test]
 fn builds_each_header(rt: HostRuntime) {
@@ -17,42 +26,19 @@ fn builds_each_header(rt: HostRuntime) {
     let no_select = Header::of(*b"\x00\x00\x81\x01\x00\x00\x00\x00\x00\x02");
     let no_ptype = Header::of(*b"\x00\x00\x81\x01\x01\x00\x00\x00\x00\x02");
     let no_stype = Header::of(*b"\xff\xff\x00\x00\x00\x03\x00\x00\x00\x05");
-    let rows = [
-        (
-            data_header(0, 1, 13, true, 1),
-            b"\x00\x00\x81\x0d\x00\x00\x00\x00\x00\x01",
-        ),
-        (
-            data_header(0, 1, 2, false, 2),
-            b"\x00\x00\x01\x02\x00\x00\x00\x00\x00\x02",
-        ),
-        (select_req(1), b"\xff\xff\x00\x00\x00\x01\x00\x00\x00\x01"),
-        (
-            select_rsp(request, 1),
-            b"\xff\xff\x00\x01\x00\x02\x00\x00\x00\x06",
-        ),
-        (linktest_req(0), b"\xff\xff\x00\x00\x00\x05\x00\x00\x00\x00"),
-        (
-            linktest_rsp(request),
-            b"\xff\xff\x00\x00\x00\x06\x00\x00\x00\x06",
-        ),
-        (separate(2), b"\xff\xff\x00\x00\x00\x09\x00\x00\x00\x02"),
-        (
-            reject_of(no_select, 4),
-            b"\x00\x00\x00\x04\x00\x07\x00\x00\x00\x02",
-        ),
-        (
-            reject_of(no_ptype, 2),
-            b"\x00\x00\x01\x02\x00\x07\x00\x00\x00\x02",
-        ),
-        (
-            reject_of(no_stype, 1),
-            b"\xff\xff\x03\x01\x00\x07\x00\x00\x00\x05",
-        ),
+    let headers = [
+        data_header(0, 1, 13, true, 1).octets(),
+        data_header(0, 1, 2, false, 2).octets(),
+        select_req(1).octets(),
+        select_rsp(request, 1).octets(),
+        linktest_req(0).octets(),
+        linktest_rsp(request).octets(),
+        separate(2).octets(),
+        reject_of(no_select, 4).octets(),
+        reject_of(no_ptype, 2).octets(),
+        reject_of(no_stype, 1).octets(),
     ];
-    for (header, octets) in rows {
-        assert_header(&rt, header, octets);
-    }
+    assert_octets(&rt, headers.as_flattened(), HEADERS);
 }
 
 fn data_frame(alloc: Global) -> Result<Frame, AllocError> {
@@ -88,10 +74,9 @@ fn judge_writes(
 }
 
 #[test]
-fn writes_messages(rt: HostRuntime) -> Result<(), Fail> {
+fn writes_messages(rt: HostRuntime) -> Result<(), AllocError> {
     judge_writes(&rt, rt.alloc(), 16, Ok(()), &DATA)?;
-    judge_writes(&rt, rt.alloc(), 15, Err(WriteFault::Write), &DATA[..15])?;
-    Ok(())
+    judge_writes(&rt, rt.alloc(), 15, Err(WriteFault::Write), &DATA[..15])
 }
 
 fn assert_encoded(rt: &impl Abort, answer: Result<Vec<u8>, FrameFault>, want: &[u8]) {

@@ -2,7 +2,7 @@
 
 ghost use Rattle.std.specs.Prelude.{◌≤◌};
 
-use secs_item::{Item, ItemFault, decode_front, decode_text};
+use secs_item::{Item, ItemFault, decode_front};
 use std::alloc::Global;
 
 /// An item. Its drop is written out: a proof over one that is dropped has one step for it, not one for each format.
@@ -28,14 +28,4 @@ pub fn front_of(alloc: Global, octets: &[u8], depth: u8) -> Result<(OwnItem, usi
 {
     let (item, length) = decode_front(alloc, octets, depth)?;
     Ok((OwnItem { item }, length))
-}
-
-/// The item that a text is, or none.
-pub fn text_of(alloc: Global, octets: &[u8], depth: u8) -> Result<Option<OwnItem>, ItemFault>
-    requires { depth ≤ 100 }
-{
-    match decode_text(alloc, octets, depth)? {
-        Some(item) => Ok(Some(OwnItem { item })),
-        None => Ok(None),
-    }
 }

@@ -3,7 +3,7 @@
 ghost use Rattle.std.specs.Prelude.{◌<◌};
 
 use super::super::assert_so;
-use super::{REFUSED, SECTION, kind_of};
+use super::{DAMAGED, REFUSED, SECTION, kind_of};
 use hsms_frame::Feed;
 use hsms_packets::{CaptureFault, FileFault, Packets, Record, Step};
 use std::alloc::Global;
@@ -26,53 +26,49 @@ const NO_RECORD: Found = Err(FileFault::Capture {
     fault: CaptureFault::Length,
 });
 
+const NO_CAPTURE: Found = Err(FileFault::Capture {
+    place: 0,
+    fault: CaptureFault::Unknown,
+});
+
+// A file of which so many octets are there, how many come at once, what its steps find, and the
+// place that they come to; or why it is not opened.
+type File = (&'static [u8], usize, usize, &'static [Found], Option<u64>);
+
+const FILES: &[File] = &[
+    (REFUSED, 136, 1, &[SYN, RESET, END], Some(136)),
+    (REFUSED, 136, 7, &[SYN, RESET, END], Some(136)),
+    (REFUSED, 136, 65536, &[SYN, RESET, END], Some(136)),
+    (
+        SECTION,
+        148,
+        5,
+        &[PASSED, PASSED, PASSED, Ok(("syn", 2)), END],
+        Some(148),
+    ),
+    (REFUSED, 135, 64, &[SYN, Err(FileFault::CutOff)], Some(80)),
+    (DAMAGED, 136, 3, &[SYN, NO_RECORD, NO_RECORD], Some(80)),
+    (REFUSED, 23, 64, &[Err(FileFault::CutOff)], None),
+    (b"hsms-log 1", 10, 3, &[NO_CAPTURE], None),
+];
+
 #[test]
 fn files_in_pieces(rt: std::rt::HostRuntime) -> Result<(), FileFault> {
-    reads_both(&rt, rt.alloc(), 1)?;
-    reads_both(&rt, rt.alloc(), 7)?;
-    reads_both(&rt, rt.alloc(), 65536)
+    judge_files(&rt, rt.alloc(), FILES)
 }
 
-#[test]
-fn sections_in_pieces(rt: std::rt::HostRuntime) -> Result<(), FileFault> {
-    let mut source = feed(rt.alloc(), &SECTION, 5, u64::MAX)?;
-    let wants = [PASSED, PASSED, PASSED, Ok(("syn", 2)), END];
-    reads(&rt, rt.alloc(), &mut source, &wants, 148)
-}
-
-#[test]
-fn files_that_end_within(rt: std::rt::HostRuntime) -> Result<(), FileFault> {
-    let mut source = feed(rt.alloc(), &REFUSED[..135], 64, u64::MAX)?;
-    reads(
-        &rt,
-        rt.alloc(),
-        &mut source,
-        &[SYN, Err(FileFault::CutOff)],
-        80,
-    )?;
-    is_refused(&rt, rt.alloc(), &REFUSED[..23], 64, FileFault::CutOff)
-}
-
-#[test]
-fn faults_in_pieces(rt: std::rt::HostRuntime) -> Result<(), FileFault> {
-    let mut source = without_a_record(rt.alloc())?;
-    reads(
-        &rt,
-        rt.alloc(),
-        &mut source,
-        &[SYN, NO_RECORD, NO_RECORD],
-        80,
-    )?;
-    let want = FileFault::Capture {
-        place: 0,
-        fault: CaptureFault::Unknown,
-    };
-    is_refused(&rt, rt.alloc(), b"hsms-log 1", 3, want)
+fn judge_files(rt: &impl Abort, alloc: Global, files: &[File]) -> Result<(), FileFault> {
+    for (octets, length, piece, wants, place) in files {
+        let octets = octets.get(..*length).unwrap_or(b"");
+        let source = feed(alloc, octets, (*piece).max(1), u64::MAX)?;
+        reads(rt, alloc, source, wants, *place)?;
+    }
+    Ok(())
 }
 
 #[test]
 fn failed_reads_lose_nothing(rt: std::rt::HostRuntime) -> Result<(), FileFault> {
-    let mut broken = feed(rt.alloc(), &REFUSED, 9, 5)?;
+    let mut broken = feed(rt.alloc(), REFUSED, 9, 5)?;
     let mut packets = Packets::open(rt.alloc(), &mut broken)?;
     goes_on(&rt, rt.alloc(), &mut packets, &mut broken)
 }
@@ -89,34 +85,34 @@ fn goes_on(
     finds(rt, packets, &mut source, &[SYN, RESET])
 }
 
-// Both packets of a file that comes in pieces of so many octets.
-fn reads_both(rt: &impl Abort, alloc: Global, piece: usize) -> Result<(), FileFault>
-    requires { 0 < piece }
-{
-    let mut source = feed(alloc, &REFUSED, piece, u64::MAX)?;
-    reads(rt, alloc, &mut source, &[SYN, RESET, END], 136)
-}
-
-// A file whose second packet claims too many octets.
-fn without_a_record(alloc: Global) -> Result<Feed, FileFault> {
-    let mut octets = Vec::from_slice(alloc, &REFUSED)?;
-    if let Some(octet) = octets.get_mut(91) {
-        *octet = 1;
-    }
-    Ok(Feed::new(octets, 3, u64::MAX))
-}
-
-// Opens a file, whose steps find this, and come to this place.
+// Opens a file, whose steps find this, and come to this place. One that isn't opened has this fault.
 fn reads(
     rt: &impl Abort,
     alloc: Global,
+    mut source: Feed,
+    wants: &[Found],
+    place: Option<u64>,
+) -> Result<(), FileFault> {
+    match Packets::open(alloc, &mut source) {
+        Ok(packets) => comes_to(rt, packets, &mut source, wants, place),
+        Err(FileFault::Memory) => Err(FileFault::Memory),
+        Err(fault) => {
+            let is_wanted = wants.first() == Some(&Err(fault)) && place.is_none();
+            assert_so(rt, is_wanted, "why it isn't opened");
+            Ok(())
+        }
+    }
+}
+
+fn comes_to(
+    rt: &impl Abort,
+    mut packets: Packets,
     source: &mut Feed,
     wants: &[Found],
-    place: u64,
+    place: Option<u64>,
 ) -> Result<(), FileFault> {
-    let mut packets = Packets::open(alloc, source)?;
     finds(rt, &mut packets, source, wants)?;
-    assert_so(rt, packets.reader().place() == place, "the place");
+    assert_so(rt, place == Some(packets.reader().place()), "the place");
     Ok(())
 }
 
@@ -148,30 +144,6 @@ fn found(packets: &mut Packets, source: &mut Feed) -> Result<Found, FileFault> {
 fn kind_in(packets: &Packets, record: &Record) -> &'static str {
     let behind = packets.octets().get(record.body..).unwrap_or(b"");
     kind_of(record, behind.get(..record.held).unwrap_or(b""))
-}
-
-// A file isn't opened, for this fault, where memory is there to look at it.
-fn is_refused(
-    rt: &impl Abort,
-    alloc: Global,
-    octets: &[u8],
-    piece: usize,
-    want: FileFault,
-) -> Result<(), FileFault>
-    requires { 0 < piece }
-{
-    let mut source = feed(alloc, octets, piece, u64::MAX)?;
-    let fault = refusal_of(alloc, &mut source)?;
-    assert_so(rt, fault == Some(want), "the fault");
-    Ok(())
-}
-
-fn refusal_of(alloc: Global, source: &mut Feed) -> Result<Option<FileFault>, FileFault> {
-    match Packets::open(alloc, source) {
-        Ok(_) => Ok(None),
-        Err(FileFault::Memory) => Err(FileFault::Memory),
-        Err(fault) => Ok(Some(fault)),
-    }
 }
 
 fn feed(alloc: Global, octets: &[u8], piece: usize, fuse: u64) -> Result<Feed, FileFault>

@@ -1,44 +1,38 @@
 //! Blocks of the other kinds, and numbers at their greatest.
 
 use super::super::assert_so;
-use super::{Row, assert_refused, behind, is_more, opened};
+use super::{Part, judge_parts};
 use hsms_packets::{CaptureFault, Format, Front, Interface, Order, Reader};
-use std::alloc::Global;
+use std::alloc::{AllocError, Global};
 use std::process::Abort;
 
 // A section of pcapng: an interface that counts 1,024 ticks a second from 1,700,000,000 seconds on and holds 40 octets of
 // a packet, an old packet block with the SYN and drops before it, and a simple block with the front of a longer packet.
-static OLD: [u8; 200] = [
-    0x0a, 0x0d, 0x0d, 0x0a, 0x1c, 0x00, 0x00, 0x00, 0x4d, 0x3c, 0x2b, 0x1a, 0x01, 0x00, 0x00, 0x00,
-    0xff, 0xff, 0xff, 0xff, 0xff, 0xff, 0xff, 0xff, 0x1c, 0x00, 0x00, 0x00, 0x01, 0x00, 0x00, 0x00,
-    0x2c, 0x00, 0x00, 0x00, 0x65, 0x00, 0x00, 0x00, 0x28, 0x00, 0x00, 0x00, 0x09, 0x00, 0x01, 0x00,
-    0x8a, 0x00, 0x00, 0x00, 0x0e, 0x00, 0x08, 0x00, 0x00, 0xf1, 0x53, 0x65, 0x00, 0x00, 0x00, 0x00,
-    0x00, 0x00, 0x00, 0x00, 0x2c, 0x00, 0x00, 0x00, 0x02, 0x00, 0x00, 0x00, 0x48, 0x00, 0x00, 0x00,
-    0x00, 0x00, 0x07, 0x00, 0x00, 0x00, 0x00, 0x00, 0x00, 0x06, 0x00, 0x00, 0x28, 0x00, 0x00, 0x00,
-    0x28, 0x00, 0x00, 0x00, 0x45, 0x00, 0x00, 0x28, 0x00, 0x00, 0x40, 0x00, 0x40, 0x06, 0x00, 0x00,
-    0x0a, 0x00, 0x00, 0x01, 0x0a, 0x00, 0x00, 0x02, 0x9c, 0x40, 0x13, 0x88, 0x00, 0x00, 0x03, 0xe8,
-    0x00, 0x00, 0x00, 0x00, 0x50, 0x02, 0xff, 0xff, 0x00, 0x00, 0x00, 0x00, 0x48, 0x00, 0x00, 0x00,
-    0x03, 0x00, 0x00, 0x00, 0x38, 0x00, 0x00, 0x00, 0x3c, 0x00, 0x00, 0x00, 0x45, 0x00, 0x00, 0x28,
-    0x00, 0x00, 0x40, 0x00, 0x40, 0x06, 0x00, 0x00, 0x0a, 0x00, 0x00, 0x01, 0x0a, 0x00, 0x00, 0x02,
-    0x9c, 0x40, 0x13, 0x88, 0x00, 0x00, 0x03, 0xe8, 0x00, 0x00, 0x00, 0x00, 0x50, 0x02, 0xff, 0xff,
-    0x00, 0x00, 0x00, 0x00, 0x38, 0x00, 0x00, 0x00,
-];
+pub const OLD: &[u8] = b"\
+    \x0a\x0d\x0d\x0a\x1c\x00\x00\x00\x4d\x3c\x2b\x1a\x01\x00\x00\x00\
+    \xff\xff\xff\xff\xff\xff\xff\xff\x1c\x00\x00\x00\x01\x00\x00\x00\
+    \x2c\x00\x00\x00\x65\x00\x00\x00\x28\x00\x00\x00\x09\x00\x01\x00\
+    \x8a\x00\x00\x00\x0e\x00\x08\x00\x00\xf1\x53\x65\x00\x00\x00\x00\
+    \x00\x00\x00\x00\x2c\x00\x00\x00\x02\x00\x00\x00\x48\x00\x00\x00\
+    \x00\x00\x07\x00\x00\x00\x00\x00\x00\x06\x00\x00\x28\x00\x00\x00\
+    \x28\x00\x00\x00\x45\x00\x00\x28\x00\x00\x40\x00\x40\x06\x00\x00\
+    \x0a\x00\x00\x01\x0a\x00\x00\x02\x9c\x40\x13\x88\x00\x00\x03\xe8\
+    \x00\x00\x00\x00\x50\x02\xff\xff\x00\x00\x00\x00\x48\x00\x00\x00\
+    \x03\x00\x00\x00\x38\x00\x00\x00\x3c\x00\x00\x00\x45\x00\x00\x28\
+    \x00\x00\x40\x00\x40\x06\x00\x00\x0a\x00\x00\x01\x0a\x00\x00\x02\
+    \x9c\x40\x13\x88\x00\x00\x03\xe8\x00\x00\x00\x00\x50\x02\xff\xff\
+    \x00\x00\x00\x00\x38\x00\x00\x00\
+";
 
 // The header of a pcapng block, of which nothing else is there.
-static LONG_BLOCK: [u8; 12] = [6, 0, 0, 0, 0, 0, 0, 1, 0, 0, 0, 0];
+const LONG_BLOCK: &[u8] = b"\x06\x00\x00\x00\x00\x00\x00\x01\x00\x00\x00\x00";
 
-static TOO_LONG_BLOCK: [u8; 12] = [6, 0, 0, 0, 4, 0, 0, 1, 0, 0, 0, 0];
+const TOO_LONG_BLOCK: &[u8] = b"\x06\x00\x00\x00\x04\x00\x00\x01\x00\x00\x00\x00";
 
 // The header of a pcap record, likewise.
-static LONG_RECORD: [u8; 16] = [0, 0, 0, 0, 0, 0, 0, 0, 0, 0, 0, 1, 0, 0, 0, 1];
+const LONG_RECORD: &[u8] = b"\x00\x00\x00\x00\x00\x00\x00\x00\x00\x00\x00\x01\x00\x00\x00\x01";
 
-static TOO_LONG_RECORD: [u8; 16] = [0, 0, 0, 0, 0, 0, 0, 0, 1, 0, 0, 1, 1, 0, 0, 1];
-
-const BEFORE_THE_SIMPLE_BLOCK: &[Row] = &[
-    ("block", None, 28),
-    ("block", None, 44),
-    ("syn", Some(1_700_000_001_500), 72),
-];
+const TOO_LONG_RECORD: &[u8] = b"\x00\x00\x00\x00\x00\x00\x00\x00\x01\x00\x00\x01\x01\x00\x00\x01";
 
 const BLOCKS: Format = Format::Pcapng {
     order: Order::Little,
@@ -50,57 +44,57 @@ const RECORDS: Format = Format::Pcap {
     link: 101,
 };
 
-#[test]
-fn blocks_of_other_kinds(rt: std::rt::HostRuntime) -> Result<(), CaptureFault> {
-    let mut reader = opened(rt.alloc(), &OLD)?;
-    let simple = behind(&rt, &mut reader, &OLD, BEFORE_THE_SIMPLE_BLOCK)?;
-    assert_so(&rt, is_cut(&reader, simple), "a front of a packet");
-    Ok(())
-}
+const OF_BLOCKS: &[Part] = &[
+    (LONG_BLOCK, 0, 12, "Ok(More)"),
+    (TOO_LONG_BLOCK, 0, 12, "Err(Length)"),
+];
 
-// A packet without a time, of which 40 octets are held and not all.
-fn is_cut(reader: &Reader, octets: &[u8]) -> bool {
-    let Ok(Front::Packet(packet)) = reader.front(octets) else {
-        return false;
-    };
-    packet.time.is_none() && packet.link == 101 && packet.held == 40 && !packet.whole
-}
+const OF_RECORDS: &[Part] = &[
+    (LONG_RECORD, 0, 16, "Ok(More)"),
+    (TOO_LONG_RECORD, 0, 16, "Err(Length)"),
+];
 
 #[test]
-fn the_longest_of_each(rt: std::rt::HostRuntime) {
+fn the_longest_of_each(rt: std::rt::HostRuntime) -> Result<(), AllocError> {
     let blocks = Reader::new(rt.alloc(), BLOCKS, 0);
-    assert_longest(&rt, &blocks, &LONG_BLOCK, &TOO_LONG_BLOCK);
+    judge_parts(&rt, rt.alloc(), &blocks, OF_BLOCKS)?;
     let records = Reader::new(rt.alloc(), RECORDS, 0);
-    assert_longest(&rt, &records, &LONG_RECORD, &TOO_LONG_RECORD);
+    judge_parts(&rt, rt.alloc(), &records, OF_RECORDS)
 }
 
-fn assert_longest(rt: &impl Abort, reader: &Reader, long: &[u8], too_long: &[u8]) {
-    assert_so(rt, is_more(reader, long), "the longest");
-    assert_refused(rt, reader, too_long, CaptureFault::Length);
-}
+// A resolution, and the time of the old block, or its fault, behind an interface that has it.
+type Resolved = (u8, Result<Option<u128>, CaptureFault>);
+
+const RESOLUTIONS: &[Resolved] = &[
+    (0x13, Ok(Some(1_700_000_000_000))),
+    (0x14, Err(CaptureFault::Resolution)),
+    (0x7f, Err(CaptureFault::Resolution)),
+    (0x80, Ok(Some(1_700_001_536_000))),
+    (0xbf, Ok(Some(1_700_000_000_000))),
+    (0xc0, Err(CaptureFault::Resolution)),
+];
 
 #[test]
 fn resolutions(rt: std::rt::HostRuntime) -> Result<(), CaptureFault> {
-    for (resolution, want) in [
-        (0x13, Ok(Some(1_700_000_000_000))),
-        (0x14, Err(CaptureFault::Resolution)),
-        (0x7f, Err(CaptureFault::Resolution)),
-        (0x80, Ok(Some(1_700_001_536_000))),
-        (0xbf, Ok(Some(1_700_000_000_000))),
-        (0xc0, Err(CaptureFault::Resolution)),
-    ] {
-        judge_resolution(&rt, rt.alloc(), resolution, want)?;
+    judge_resolutions(&rt, rt.alloc(), OLD, RESOLUTIONS)
+}
+
+fn judge_resolutions(
+    rt: &impl Abort,
+    alloc: Global,
+    octets: &[u8],
+    rows: &[Resolved],
+) -> Result<(), CaptureFault> {
+    let old = octets.get(72..).unwrap_or(b"");
+    for (resolution, want) in rows {
+        let reader = described(alloc, *resolution)?;
+        assert_so(rt, time_of(&reader, old) == *want, "a time");
     }
     Ok(())
 }
 
-// The time of the old block, or its fault, behind an interface that has this resolution.
-fn judge_resolution(
-    rt: &impl Abort,
-    alloc: Global,
-    resolution: u8,
-    want: Result<Option<u128>, CaptureFault>,
-) -> Result<(), CaptureFault> {
+// A reader behind an interface that has this resolution.
+fn described(alloc: Global, resolution: u8) -> Result<Reader, CaptureFault> {
     let mut reader = Reader::new(alloc, BLOCKS, 0);
     let interface = Interface {
         link: 101,
@@ -109,19 +103,13 @@ fn judge_resolution(
         offset: 1_700_000_000,
     };
     reader.pass(Front::Described(interface, 0))?;
-    let (_, old) = OLD.as_slice().split_at(72);
-    has_time(rt, reader.front(old), want);
-    Ok(())
+    Ok(reader)
 }
 
-fn has_time(
-    rt: &impl Abort,
-    front: Result<Front, CaptureFault>,
-    want: Result<Option<u128>, CaptureFault>,
-) {
-    match front {
-        Ok(Front::Packet(record)) => assert!(rt; want == Ok(record.time)),
-        Ok(_) => panic!(rt; "no packet"),
-        Err(fault) => assert!(rt; want == Err(fault)),
+// The time of a packet, or its fault.
+fn time_of(reader: &Reader, octets: &[u8]) -> Result<Option<u128>, CaptureFault> {
+    match reader.front(octets)? {
+        Front::Packet(record) => Ok(record.time),
+        _ => Ok(None),
     }
 }
