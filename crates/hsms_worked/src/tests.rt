@@ -490,14 +490,42 @@ fn assert_accepted(
     Ok(())
 }
 
+/// The lines of what comes of the list of a session.
+fn lines_of_session(
+    alloc: Global,
+    settings: Settings,
+    first_system: u32,
+    session: &str,
+) -> Result<Vec<u8>, Stop> {
+    let inputs = inputs_of(alloc, session)?;
+    lines_of_all(alloc, settings, first_system, &inputs)
+}
+
 /// The entries of the list of a session are the lines of its calls, one after the other.
+fn judge_list(
+    rt: &impl Abort,
+    alloc: Global,
+    settings: Settings,
+    first_system: u32,
+    session: &str,
+    name: &str,
+) -> Result<(), Stop> {
+    let lines = lines_of_session(alloc, settings, first_system, session)?;
+    assert_accepted(rt, alloc, &lines, session, name)
+}
+
 fn judge_driven(rt: &impl Abort, alloc: Global, session: &str) -> Result<(), Stop> {
     let (name, rest) = first_of(session);
     let (line, rest) = first_of(rest);
     let (first, lines) = first_of(rest);
-    let inputs = inputs_of(alloc, lines)?;
-    let accepted = lines_of_all(alloc, settings_in(line)?, system_in(first)?, &inputs)?;
-    assert_accepted(rt, alloc, &accepted, lines, name)
+    judge_list(
+        rt,
+        alloc,
+        settings_in(line)?,
+        system_in(first)?,
+        lines,
+        name,
+    )
 }
 
 fn judge_all_driven(rt: &impl Abort, alloc: Global, sessions: &str) -> Result<(), Stop> {

@@ -1,7 +1,8 @@
 //! An end of two that talk over memory.
 
 use super::{
-    Desk, End, EndFault, Entry, Event, Global, Input, Settings, Stop, Store, end_of, lines_of, tell,
+    Desk, End, EndFault, Entry, EquipmentDesk, Event, Global, HostDesk, Input, Settings, Stop,
+    Store, end_of, equipment, lines_of, tell,
 };
 use hsms_frame::{Feed, encode_frame};
 use hsms_log::{Summary, Verdict, audit, write_settings};
@@ -76,4 +77,18 @@ impl<D: Desk + Drop> Party<D> {
             Verdict::Fail { .. } => Err(Stop::Verdict),
         }
     }
+}
+
+/// A host whose first system bytes are these.
+pub fn host_of(
+    alloc: Global,
+    given: Option<Settings>,
+    first: u32,
+) -> Result<Party<HostDesk>, Stop> {
+    Party::new(alloc, given.ok_or(Stop::Line)?, HostDesk, first)
+}
+
+/// Equipment whose first system bytes are 1.
+pub fn tool_of(alloc: Global, given: Option<Settings>) -> Result<Party<EquipmentDesk>, Stop> {
+    Party::new(alloc, given.ok_or(Stop::Line)?, equipment(alloc)?, 1)
 }

@@ -1,9 +1,8 @@
 //! A host and an equipment talk over memory, one octet at a time.
 
-use super::party::Party;
+use super::party::{Party, host_of, tool_of};
 use super::{
-    Abort, Desk, EquipmentDesk, Global, HostDesk, Input, Role, Side, Stop, assert_octets,
-    assert_so, equipment, input_of, settings,
+    Abort, Desk, Global, Input, Role, Side, Stop, assert_octets, assert_so, input_of, settings,
 };
 
 const HOST_LOG: &str = "hsms-log 1 host active 0 45000 6000 10000 5000 1048576 32
@@ -115,19 +114,11 @@ fn judge_talk<D: Desk + Drop, E: Desk + Drop>(
     assert_log(rt, alloc, tool, EQUIPMENT_LOG)
 }
 
-fn host_of(alloc: Global) -> Result<Party<HostDesk>, Stop> {
-    let given = settings(Role::Host, Side::Active, 1_048_576).ok_or(Stop::Line)?;
-    Party::new(alloc, given, HostDesk, 1)
-}
-
-fn tool_of(alloc: Global) -> Result<Party<EquipmentDesk>, Stop> {
-    let given = settings(Role::Equipment, Side::Passive, 1_048_576).ok_or(Stop::Line)?;
-    Party::new(alloc, given, equipment(alloc)?, 1)
-}
-
 #[test]
 fn two_ends_talk(rt: HostRuntime) -> Result<(), Stop> {
-    let mut host = host_of(rt.alloc())?;
-    let mut tool = tool_of(rt.alloc())?;
+    let host = settings(Role::Host, Side::Active, 1_048_576);
+    let tool = settings(Role::Equipment, Side::Passive, 1_048_576);
+    let mut host = host_of(rt.alloc(), host, 1)?;
+    let mut tool = tool_of(rt.alloc(), tool)?;
     judge_talk(&rt, rt.alloc(), &mut host, &mut tool)
 }

@@ -1,10 +1,7 @@
 //! Two ends are told long random lists, and each log that they leave passes the audit.
 
-use super::party::Party;
-use super::{
-    Desk, EquipmentDesk, Global, HostDesk, Input, Message, Role, Settings, Side, Stop, equipment,
-    octets_of, read,
-};
+use super::party::{Party, host_of, tool_of};
+use super::{Desk, Global, Input, Message, Role, Settings, Side, Stop, octets_of, read};
 use hsms_log::Summary;
 
 /// What an end may be sent that no end sends by itself. The system bytes are then made other ones.
@@ -156,16 +153,6 @@ fn jump(chance: &mut Chance) -> Result<u64, Stop> {
     one_of(chance, jumps)
 }
 
-fn host_of(alloc: Global, link: Side) -> Result<Party<HostDesk>, Stop> {
-    let given = settings(Role::Host, link).ok_or(Stop::Line)?;
-    Party::new(alloc, given, HostDesk, 0xffff_fff0)
-}
-
-fn tool_of(alloc: Global, link: Side) -> Result<Party<EquipmentDesk>, Stop> {
-    let given = settings(Role::Equipment, link).ok_or(Stop::Line)?;
-    Party::new(alloc, given, equipment(alloc)?, 1)
-}
-
 /// Time goes on, and then one thing happens to one of two ends. Answers the time.
 fn go_on<D: Desk + Drop, E: Desk + Drop>(
     alloc: Global,
@@ -218,8 +205,8 @@ fn walk(alloc: Global, seed: u64) -> Result<[Summary; 2], Stop> {
     } else {
         (Side::Passive, Side::Active)
     };
-    let mut host = host_of(alloc, one)?;
-    let mut tool = tool_of(alloc, two)?;
+    let mut host = host_of(alloc, settings(Role::Host, one), 0xffff_fff0)?;
+    let mut tool = tool_of(alloc, settings(Role::Equipment, two))?;
     live(alloc, &mut chance, &mut host, &mut tool)
 }
 
