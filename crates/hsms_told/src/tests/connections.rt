@@ -1,24 +1,48 @@
 //! Logs of two connections, and the lines of their verdicts.
 
-/// The lines that a word of a row stands for. The first connection ends with a primary that waits for its reply.
+/// Words of rows, and the lines that each stands for. The first connection ends with a primary that waits for its reply.
+const PARTS: &str = "# one
+hsms-log 1 host active 0 45000 6000 10000 5000 1048576 32
+# several
+hsms-log 2 host active 0 45000 6000 10000 5000 1048576 32
+# other
+hsms-log 3 host active 0 45000 6000 10000 5000 1048576 32
+# first
+0 up
+0 > ffff0000000100000001
+5 < ffff0000000200000001
+10 > 00008101000000000002
+# down
+20 down
+# up
+90000 up
+# early
+19 up
+# select
+90000 > ffff0000000100000001
+90001 < ffff0000000200000001
+# unselected
+90000 < 00000102000000000002
+90001 < ffff0000000200000001
+# question
+90002 > 00008101000000000002
+# unasked
+90001 < 00000102000000000002
+# answer
+90003 < 00000102000000000002
+90004 down
+";
+
+/// The lines that a word stands for.
 pub fn part_of(word: &str) -> &'static str {
-    match word {
-        "one" => "hsms-log 1 host active 0 45000 6000 10000 5000 1048576 32\n",
-        "several" => "hsms-log 2 host active 0 45000 6000 10000 5000 1048576 32\n",
-        "other" => "hsms-log 3 host active 0 45000 6000 10000 5000 1048576 32\n",
-        "first" => {
-            "0 up\n0 > ffff0000000100000001\n5 < ffff0000000200000001\n10 > 00008101000000000002\n"
+    for part in PARTS.split("# ") {
+        if let Some((name, lines)) = part.split_once('\n')
+            && name == word
+        {
+            return lines;
         }
-        "down" => "20 down\n",
-        "up" => "90000 up\n",
-        "early" => "19 up\n",
-        "select" => "90000 > ffff0000000100000001\n90001 < ffff0000000200000001\n",
-        "unselected" => "90000 < 00000102000000000002\n90001 < ffff0000000200000001\n",
-        "question" => "90002 > 00008101000000000002\n",
-        "unasked" => "90001 < 00000102000000000002\n",
-        "answer" => "90003 < 00000102000000000002\n90004 down\n",
-        _ => "no such word\n",
     }
+    "no such word\n"
 }
 
 /// The words of a log, what comes of its audit, and the line that is told.
