@@ -21,33 +21,117 @@ mod walks;
 use answers::ANSWERS;
 use corners::CORNERS;
 use edges::EDGES;
+use hex::FromHexError;
 use hsms_ends::{
     Answer, Desk, Driven, End, EndFault, EquipmentDesk, HostDesk, Input, TurnDesk, drive,
 };
-use hsms_frame::Store;
-use hsms_log::{read_settings, write_entry};
+use hsms_frame::{FrameFault, Store};
+use hsms_log::{AuditFault, LogFault, read_settings, write_entry};
 use hsms_machine::{Entry, Event, Role, Settings, Side};
 use own::OWN;
-use secs_text::{Message, read};
-use std::alloc::{AllocError, Global};
+use secs_text::{Message, TextFault, read};
+use std::alloc::{AllocError, AllocFailed, Global};
 use std::process::Abort;
-use std::test::Fail;
 
-/// A session: its name, the first line of its log, the first system bytes, and its lines. These are what the end is
-/// told, each with the lines of the log or the fault that it answers below it, and last what is pending, if something is.
-///
-/// An end is told `start N`, `tick N`, `comes DIGITS`, a message as a line of a log has it, `octets DIGITS`,
-/// `send NOTATION`, `linktest`, `separate` or `lost`. It is one text, since a constant of many parts takes the check
-/// longer, and so does each function that is given one.
-type Session = (&'static str, &'static str, u32, &'static str);
+/// Why a test ends. It is small and can be copied, since the check follows each one to where the test ends, and std's
+/// own, which holds a text, takes it several times as long.
+#[derive(Clone, Copy, Debug)]
+enum Stop {
+    Memory,
+    /// A call was refused that isn't to be.
+    Refused,
+    /// What stands in a row can't be read.
+    Line,
+    /// A log fails its audit.
+    Verdict,
+    /// A run has no end.
+    Endless,
+}
 
-const EQUIPMENT: &str = "hsms-log 1 equipment passive 0 45000 6000 10000 5000 1048576 32";
+impl From<AllocError> for Stop {
+    fn from(_: AllocError) -> Stop {
+        Stop::Memory
+    }
+}
 
-const HOST: &str = "hsms-log 1 host active 0 45000 6000 10000 5000 1048576 32";
+impl<T: Drop> From<AllocFailed<T>> for Stop {
+    fn from(_: AllocFailed<T>) -> Stop {
+        Stop::Memory
+    }
+}
 
-const SMALL_EQUIPMENT: &str = "hsms-log 1 equipment passive 0 45000 6000 10000 5000 256 32";
+impl From<EndFault> for Stop {
+    fn from(fault: EndFault) -> Stop {
+        match fault {
+            EndFault::Memory => Stop::Memory,
+            _ => Stop::Refused,
+        }
+    }
+}
 
-const SMALL_HOST: &str = "hsms-log 1 host active 0 45000 6000 10000 5000 256 32";
+impl From<FromHexError> for Stop {
+    fn from(fault: FromHexError) -> Stop {
+        match fault {
+            FromHexError::OutOfMemory => Stop::Memory,
+            _ => Stop::Line,
+        }
+    }
+}
+
+impl From<TextFault> for Stop {
+    fn from(fault: TextFault) -> Stop {
+        match fault {
+            TextFault::Memory => Stop::Memory,
+            _ => Stop::Line,
+        }
+    }
+}
+
+impl From<FrameFault> for Stop {
+    fn from(fault: FrameFault) -> Stop {
+        match fault {
+            FrameFault::Memory => Stop::Memory,
+            _ => Stop::Refused,
+        }
+    }
+}
+
+impl From<AuditFault> for Stop {
+    fn from(fault: AuditFault) -> Stop {
+        match fault {
+            AuditFault::Memory => Stop::Memory,
+            _ => Stop::Refused,
+        }
+    }
+}
+
+impl From<LogFault> for Stop {
+    fn from(_: LogFault) -> Stop {
+        Stop::Refused
+    }
+}
+
+// Sessions are one text, since a constant of many parts takes the check longer, and so does each function that is given
+// one. Each begins with `# ` and its name, the first line of its log, and `from` with the first system bytes. Its other
+// lines are what the end is told, each with the lines of the log or the fault that it answers below it, and last what is
+// pending, if something is. An end is told `start N`, `tick N`, `comes DIGITS`, a message as a line of a log has it,
+// `octets DIGITS`, `send NOTATION`, `linktest`, `separate` or `lost`.
+
+/// The first line of lines, and the others.
+fn first_of<'a>(lines: &'a str) -> (&'a str, &'a str) {
+    lines.split_once('\n').unwrap_or((lines, ""))
+}
+
+/// The settings of a session's second line.
+fn settings_in(line: &str) -> Result<Settings, Stop> {
+    read_settings(line.as_bytes()).ok_or(Stop::Line)
+}
+
+/// The first system bytes of its third line.
+fn system_in(line: &str) -> Result<u32, Stop> {
+    let number = number_of(line.strip_prefix("from ").ok_or(Stop::Line)?)?;
+    u32::try_from(number).ok().ok_or(Stop::Line)
+}
 
 fn settings(role: Role, side: Side, max: u32) -> Option<Settings> {
     Settings::new(role, side, 0, 45000, 6000, 10000, 5000, max, 32)
@@ -62,7 +146,7 @@ fn equipment(alloc: Global) -> Result<EquipmentDesk, AllocError> {
 }
 
 /// The lines of entries.
-fn lines_of(alloc: Global, entries: &[Entry]) -> Result<Vec<u8>, Fail> {
+fn lines_of(alloc: Global, entries: &[Entry]) -> Result<Vec<u8>, Stop> {
     let room = entries.len().saturating_mul(600);
     let mut store = Store::new(vec![in alloc; 0u8; room]?, 4096, u64::MAX);
     for entry in entries {
@@ -72,20 +156,29 @@ fn lines_of(alloc: Global, entries: &[Entry]) -> Result<Vec<u8>, Fail> {
 }
 
 /// The octets of the message of a line.
-fn octets_of(alloc: Global, digits: &str) -> Result<Vec<u8>, Fail> {
+fn octets_of(alloc: Global, digits: &str) -> Result<Vec<u8>, Stop> {
     let octets = hex::decode(alloc, digits)?;
-    let length = u32::try_from(octets.len()).ok().ok_or("a length")?;
+    let length = u32::try_from(octets.len()).ok().ok_or(Stop::Line)?;
     let mut message = Vec::from_slice(alloc, &length.to_be_bytes())?;
     message.extend_from_slice(&octets)?;
     Ok(message)
 }
 
-fn number_of(text: &str) -> Result<u64, Fail> {
-    Ok(text.parse::<u64>().ok().ok_or("a number")?)
+/// The octets of the messages of words.
+fn octets_of_all(alloc: Global, messages: &str) -> Result<Vec<u8>, Stop> {
+    let mut octets = Vec::new(alloc);
+    for message in messages.split_whitespace() {
+        octets.extend_from_slice(&octets_of(alloc, message)?)?;
+    }
+    Ok(octets)
+}
+
+fn number_of(text: &str) -> Result<u64, Stop> {
+    Ok(text.parse::<u64>().ok().ok_or(Stop::Line)?)
 }
 
 /// What an end is told by a line, or None where the line says what it answers.
-fn input_of(alloc: Global, line: &str) -> Result<Option<Input>, Fail> {
+fn input_of(alloc: Global, line: &str) -> Result<Option<Input>, Stop> {
     let (word, rest) = line.split_once(' ').unwrap_or((line, ""));
     let input = match word {
         "start" => Input::Start(number_of(rest)?),
@@ -136,8 +229,8 @@ fn assert_refused<D: TurnDesk>(rt: &impl Abort, end: &mut End<D>, input: &Input)
 }
 
 /// Tells an end something that it doesn't refuse.
-fn tell_well<D: TurnDesk>(alloc: Global, end: &mut End<D>, line: &str) -> Result<(), Fail> {
-    let input = input_of(alloc, line)?.ok_or("no input")?;
+fn tell_well<D: TurnDesk>(alloc: Global, end: &mut End<D>, line: &str) -> Result<(), Stop> {
+    let input = input_of(alloc, line)?.ok_or(Stop::Line)?;
     tell(end, &input)?;
     Ok(())
 }
@@ -175,14 +268,14 @@ fn add_entries(
     alloc: Global,
     entries: &[Entry],
     text: &mut Vec<u8>,
-) -> Result<Option<EndFault>, Fail> {
+) -> Result<Option<EndFault>, Stop> {
     let lines = lines_of(alloc, entries)?;
     text.extend_from_slice(&lines)?;
     Ok(None)
 }
 
 /// Adds the line of a fault, and answers it.
-fn add_fault(alloc: Global, fault: EndFault, text: &mut Vec<u8>) -> Result<Option<EndFault>, Fail> {
+fn add_fault(alloc: Global, fault: EndFault, text: &mut Vec<u8>) -> Result<Option<EndFault>, Stop> {
     let name = format!(in alloc; "{fault:?}")?;
     add_line(text, "refused ", name.as_str())?;
     Ok(Some(fault))
@@ -194,7 +287,7 @@ fn add_answer<D: TurnDesk>(
     end: &mut End<D>,
     input: &Input,
     text: &mut Vec<u8>,
-) -> Result<Option<EndFault>, Fail> {
+) -> Result<Option<EndFault>, Stop> {
     match tell(end, input) {
         Ok(entries) => add_entries(alloc, &entries, text),
         Err(fault) => add_fault(alloc, fault, text),
@@ -207,7 +300,7 @@ fn add_told<D: TurnDesk>(
     end: &mut End<D>,
     line: &str,
     text: &mut Vec<u8>,
-) -> Result<Option<EndFault>, Fail> {
+) -> Result<Option<EndFault>, Stop> {
     let Some(input) = input_of(alloc, line)? else {
         return Ok(None);
     };
@@ -221,7 +314,7 @@ fn add_session<D: TurnDesk>(
     end: &mut End<D>,
     session: &str,
     text: &mut Vec<u8>,
-) -> Result<bool, Fail> {
+) -> Result<bool, Stop> {
     for line in session.lines() {
         if add_told(alloc, end, line, text)? == Some(EndFault::Memory) {
             return Ok(true);
@@ -238,14 +331,14 @@ fn judge<D: TurnDesk>(
     end: &mut End<D>,
     session: &str,
     name: &str,
-) -> Result<(), Fail> {
+) -> Result<(), Stop> {
     let mut text = Vec::new(alloc);
     let is_spent = add_session(alloc, end, session, &mut text)?;
     if is_spent {
         assert_spent(rt, alloc, end);
     }
     if is_spent && text.as_slice() != session.as_bytes() {
-        return Err(EndFault::Memory.into());
+        return Err(Stop::Memory);
     }
     assert_octets(rt, &text, session.as_bytes(), name);
     Ok(())
@@ -255,68 +348,72 @@ fn end_of<D: TurnDesk>(alloc: Global, settings: Settings, desk: D, first_system:
     End::new(alloc, settings, desk, first_system)
 }
 
-fn judge_one(rt: &impl Abort, alloc: Global, session: &Session) -> Result<(), Fail> {
-    let (name, line, first_system, text) = *session;
-    let settings = read_settings(line.as_bytes()).ok_or("the settings")?;
+/// Each role has a desk of its own.
+fn judge_lines(
+    rt: &impl Abort,
+    alloc: Global,
+    settings: Settings,
+    first_system: u32,
+    lines: &str,
+    name: &str,
+) -> Result<(), Stop> {
     match settings.role() {
         Role::Host => {
             let mut end = end_of(alloc, settings, HostDesk, first_system);
-            judge(rt, alloc, &mut end, text, name)
+            judge(rt, alloc, &mut end, lines, name)
         }
         Role::Equipment => {
             let mut end = end_of(alloc, settings, equipment(alloc)?, first_system);
-            judge(rt, alloc, &mut end, text, name)
+            judge(rt, alloc, &mut end, lines, name)
         }
     }
 }
 
-fn judge_all(rt: &impl Abort, alloc: Global, sessions: &[Session]) -> Result<(), Fail> {
-    for session in sessions {
-        judge_one(rt, alloc, session)?;
+fn judge_one(rt: &impl Abort, alloc: Global, session: &str) -> Result<(), Stop> {
+    let (name, rest) = first_of(session);
+    let (line, rest) = first_of(rest);
+    let (first, lines) = first_of(rest);
+    judge_lines(
+        rt,
+        alloc,
+        settings_in(line)?,
+        system_in(first)?,
+        lines,
+        name,
+    )
+}
+
+fn judge_all(rt: &impl Abort, alloc: Global, sessions: &str) -> Result<(), Stop> {
+    for session in sessions.split("# ") {
+        if !session.is_empty() {
+            judge_one(rt, alloc, session)?;
+        }
     }
     Ok(())
 }
 
-// Where a constant is used, the check reads all of it.
-
-fn answer_cases() -> &'static [Session] {
-    ANSWERS
-}
-
-fn own_cases() -> &'static [Session] {
-    OWN
-}
-
-fn corner_cases() -> &'static [Session] {
-    CORNERS
-}
-
-fn edge_cases() -> &'static [Session] {
-    EDGES
+#[test]
+fn what_follows_messages(rt: HostRuntime) -> Result<(), Stop> {
+    judge_all(&rt, rt.alloc(), ANSWERS)
 }
 
 #[test]
-fn what_follows_messages(rt: HostRuntime) -> Result<(), Fail> {
-    judge_all(&rt, rt.alloc(), answer_cases())
+fn own_messages_and_timers(rt: HostRuntime) -> Result<(), Stop> {
+    judge_all(&rt, rt.alloc(), OWN)
 }
 
 #[test]
-fn own_messages_and_timers(rt: HostRuntime) -> Result<(), Fail> {
-    judge_all(&rt, rt.alloc(), own_cases())
+fn corners_of_an_end(rt: HostRuntime) -> Result<(), Stop> {
+    judge_all(&rt, rt.alloc(), CORNERS)
 }
 
 #[test]
-fn corners_of_an_end(rt: HostRuntime) -> Result<(), Fail> {
-    judge_all(&rt, rt.alloc(), corner_cases())
-}
-
-#[test]
-fn edges_of_an_end(rt: HostRuntime) -> Result<(), Fail> {
-    judge_all(&rt, rt.alloc(), edge_cases())
+fn edges_of_an_end(rt: HostRuntime) -> Result<(), Stop> {
+    judge_all(&rt, rt.alloc(), EDGES)
 }
 
 /// What the end is told in a session, as a list.
-fn inputs_of(alloc: Global, session: &str) -> Result<Vec<Input>, Fail> {
+fn inputs_of(alloc: Global, session: &str) -> Result<Vec<Input>, Stop> {
     let mut inputs = Vec::new(alloc);
     for line in session.lines() {
         if let Some(input) = input_of(alloc, line)? {
@@ -332,7 +429,7 @@ fn driven(
     settings: Settings,
     first_system: u32,
     inputs: &[Input],
-) -> Result<Driven, Fail> {
+) -> Result<Driven, Stop> {
     match settings.role() {
         Role::Host => Ok(drive(alloc, settings, HostDesk, first_system, inputs)?),
         Role::Equipment => {
@@ -343,17 +440,26 @@ fn driven(
 }
 
 /// The lines of what comes of a list.
-fn driven_lines(alloc: Global, driven: &Driven) -> Result<Vec<u8>, Fail> {
+fn driven_lines(alloc: Global, driven: &Driven) -> Result<Vec<u8>, Stop> {
     let mut text = lines_of(alloc, &driven.entries)?;
     add_pending(alloc, &mut text, &driven.pending)?;
     Ok(text)
+}
+
+/// Whether a line says what came of a call: an entry, or what is pending.
+fn is_accepted(line: &str) -> bool {
+    match line.split_once(' ') {
+        Some(("pending", _)) => true,
+        Some((time, _)) => number_of(time).is_ok(),
+        None => false,
+    }
 }
 
 /// The lines of entries and of what is pending in a session, one after the other.
 fn accepted_lines(alloc: Global, session: &str) -> Result<Vec<u8>, AllocError> {
     let mut text = Vec::new(alloc);
     for line in session.lines() {
-        if line.starts_with(|c: char| c.is_ascii_digit()) || line.starts_with("pending") {
+        if is_accepted(line) {
             add_line(&mut text, line, "")?;
         }
     }
@@ -366,7 +472,7 @@ fn lines_of_all(
     settings: Settings,
     first_system: u32,
     inputs: &[Input],
-) -> Result<Vec<u8>, Fail> {
+) -> Result<Vec<u8>, Stop> {
     let driven = driven(alloc, settings, first_system, inputs)?;
     driven_lines(alloc, &driven)
 }
@@ -378,36 +484,67 @@ fn assert_accepted(
     lines: &[u8],
     session: &str,
     name: &str,
-) -> Result<(), Fail> {
+) -> Result<(), Stop> {
     let accepted = accepted_lines(alloc, session)?;
     assert_octets(rt, lines, &accepted, name);
     Ok(())
 }
 
-/// The entries of the list of a session are the lines of its calls, one after the other.
-fn judge_driven(rt: &impl Abort, alloc: Global, session: &Session) -> Result<(), Fail> {
-    let (name, line, first_system, text) = *session;
-    let settings = read_settings(line.as_bytes()).ok_or("the settings")?;
-    let inputs = inputs_of(alloc, text)?;
-    let lines = lines_of_all(alloc, settings, first_system, &inputs)?;
-    assert_accepted(rt, alloc, &lines, text, name)
+/// The lines of what comes of the list of a session.
+fn lines_of_session(
+    alloc: Global,
+    settings: Settings,
+    first_system: u32,
+    session: &str,
+) -> Result<Vec<u8>, Stop> {
+    let inputs = inputs_of(alloc, session)?;
+    lines_of_all(alloc, settings, first_system, &inputs)
 }
 
-fn judge_all_driven(rt: &impl Abort, alloc: Global, sessions: &[Session]) -> Result<(), Fail> {
-    for session in sessions {
-        judge_driven(rt, alloc, session)?;
+/// The entries of the list of a session are the lines of its calls, one after the other.
+fn judge_list(
+    rt: &impl Abort,
+    alloc: Global,
+    settings: Settings,
+    first_system: u32,
+    session: &str,
+    name: &str,
+) -> Result<(), Stop> {
+    let lines = lines_of_session(alloc, settings, first_system, session)?;
+    assert_accepted(rt, alloc, &lines, session, name)
+}
+
+fn judge_driven(rt: &impl Abort, alloc: Global, session: &str) -> Result<(), Stop> {
+    let (name, rest) = first_of(session);
+    let (line, rest) = first_of(rest);
+    let (first, lines) = first_of(rest);
+    judge_list(
+        rt,
+        alloc,
+        settings_in(line)?,
+        system_in(first)?,
+        lines,
+        name,
+    )
+}
+
+fn judge_all_driven(rt: &impl Abort, alloc: Global, sessions: &str) -> Result<(), Stop> {
+    for session in sessions.split("# ") {
+        if !session.is_empty() {
+            judge_driven(rt, alloc, session)?;
+        }
     }
     Ok(())
 }
 
 #[test]
-fn sessions_as_lists(rt: HostRuntime) -> Result<(), Fail> {
-    judge_all_driven(&rt, rt.alloc(), answer_cases())?;
-    judge_all_driven(&rt, rt.alloc(), own_cases())?;
-    judge_all_driven(&rt, rt.alloc(), corner_cases())
+fn sessions_as_lists(rt: HostRuntime) -> Result<(), Stop> {
+    judge_all_driven(&rt, rt.alloc(), ANSWERS)?;
+    judge_all_driven(&rt, rt.alloc(), OWN)?;
+    judge_all_driven(&rt, rt.alloc(), CORNERS)
 }
 
 #[test]
-fn edges_as_lists(rt: HostRuntime) -> Result<(), Fail> {
-    judge_all_driven(&rt, rt.alloc(), edge_cases())
+fn edges_as_lists(rt: HostRuntime) -> Result<(), Stop> {
+    judge_all_driven(&rt, rt.alloc(), EDGES)
 }

@@ -1,187 +1,106 @@
 //! What answers what, and which system bytes are free, in sessions of a host.
 
-use super::Happening::{Discarded, Down, Sent, Taken};
-use super::{
-    Case, LINKTEST_REQ, LINKTEST_RSP, S1F1, S1F1_W, S1F2, SELECT_REQ, SELECT_RSP, SELECTED,
-    SEPARATE,
-};
-use hsms_machine::Rule;
-
-pub const CLOSING: &[Case] = &[
-    Case {
-        name: "another stream",
-        after: SELECTED,
-        entries: &[
-            (5, Sent(S1F1_W, 2, &[])),
-            (6, Taken(0x0000_0202_0000, 2, &[])),
-        ],
-        broken: Some(Rule::NoTransaction),
-        waiting: 1,
-    },
-    Case {
-        name: "the abort of another stream",
-        after: SELECTED,
-        entries: &[
-            (5, Sent(S1F1_W, 2, &[])),
-            (6, Taken(0x0000_0200_0000, 2, &[])),
-        ],
-        broken: Some(Rule::NoTransaction),
-        waiting: 1,
-    },
-    Case {
-        name: "other system bytes",
-        after: SELECTED,
-        entries: &[(5, Sent(S1F1_W, 2, &[])), (6, Taken(S1F2, 3, &[]))],
-        broken: Some(Rule::NoTransaction),
-        waiting: 1,
-    },
-    Case {
-        name: "the same direction",
-        after: SELECTED,
-        entries: &[(5, Sent(S1F1_W, 2, &[])), (6, Sent(S1F2, 2, &[]))],
-        broken: Some(Rule::NoTransaction),
-        waiting: 1,
-    },
-    Case {
-        name: "a function further on",
-        after: SELECTED,
-        entries: &[
-            (5, Sent(S1F1_W, 2, &[])),
-            (6, Taken(0x0000_0104_0000, 2, &[])),
-        ],
-        broken: Some(Rule::NoTransaction),
-        waiting: 1,
-    },
-    Case {
-        name: "function 254 to 253",
-        after: SELECTED,
-        entries: &[
-            (6, Sent(0x0000_81fd_0000, 2, &[])),
-            (7, Taken(0x0000_01fe_0000, 2, &[])),
-        ],
-        broken: None,
-        waiting: 0,
-    },
-    Case {
-        name: "a reply to a primary without W",
-        after: SELECTED,
-        entries: &[(6, Sent(S1F1, 2, &[])), (7, Taken(S1F2, 2, &[]))],
-        broken: Some(Rule::NoTransaction),
-        waiting: 0,
-    },
-    Case {
-        name: "a data reply to a Linktest.req",
-        after: SELECTED,
-        entries: &[(5, Sent(LINKTEST_REQ, 3, &[])), (6, Taken(S1F2, 3, &[]))],
-        broken: Some(Rule::NoTransaction),
-        waiting: 0,
-    },
-    Case {
-        name: "Select.rsp to a Linktest.req",
-        after: SELECTED,
-        entries: &[
-            (5, Sent(LINKTEST_REQ, 3, &[])),
-            (6, Taken(SELECT_RSP, 3, &[])),
-        ],
-        broken: Some(Rule::NoTransaction),
-        waiting: 0,
-    },
-    Case {
-        name: "Linktest.rsp to data",
-        after: SELECTED,
-        entries: &[(5, Sent(S1F1_W, 2, &[])), (6, Taken(LINKTEST_RSP, 2, &[]))],
-        broken: Some(Rule::NoTransaction),
-        waiting: 1,
-    },
-    Case {
-        name: "a second selection with status 1",
-        after: SELECTED,
-        entries: &[
-            (5, Sent(SELECT_REQ, 2, &[])),
-            (6, Taken(0xffff_0001_0002, 2, &[])),
-        ],
-        broken: None,
-        waiting: 0,
-    },
-    Case {
-        name: "a Reject of a Linktest.req",
-        after: SELECTED,
-        entries: &[
-            (5, Sent(LINKTEST_REQ, 3, &[])),
-            (6, Taken(0xffff_0503_0007, 3, &[])),
-            (99999, Down),
-        ],
-        broken: None,
-        waiting: 0,
-    },
-    Case {
-        name: "a Reject of nothing",
-        after: SELECTED,
-        entries: &[
-            (6, Taken(0xffff_0503_0007, 3, &[])),
-            (6, Sent(0x7777_0503_0007, 3, &[])),
-        ],
-        broken: None,
-        waiting: 0,
-    },
-    Case {
-        name: "a Reject of the same direction",
-        after: SELECTED,
-        entries: &[
-            (5, Sent(S1F1_W, 2, &[])),
-            (6, Sent(0x0000_0004_0007, 2, &[])),
-        ],
-        broken: None,
-        waiting: 1,
-    },
-    Case {
-        name: "a discarded Reject ends nothing",
-        after: SELECTED,
-        entries: &[
-            (5, Sent(S1F1_W, 2, &[])),
-            (6, Discarded(0x0000_0004_0007, 2, &[0])),
-            (7, Taken(S1F2, 2, &[])),
-        ],
-        broken: None,
-        waiting: 0,
-    },
-    Case {
-        name: "a number of data for a Linktest.req",
-        after: SELECTED,
-        entries: &[(5, Sent(S1F1_W, 2, &[])), (6, Sent(LINKTEST_REQ, 2, &[]))],
-        broken: Some(Rule::SystemInUse),
-        waiting: 1,
-    },
-    Case {
-        name: "a number of a Linktest.req for data",
-        after: SELECTED,
-        entries: &[(5, Sent(LINKTEST_REQ, 3, &[])), (6, Sent(S1F1_W, 3, &[]))],
-        broken: Some(Rule::SystemInUse),
-        waiting: 0,
-    },
-    Case {
-        name: "a number in use, without W",
-        after: SELECTED,
-        entries: &[(5, Sent(S1F1_W, 2, &[])), (6, Sent(S1F1, 2, &[]))],
-        broken: None,
-        waiting: 1,
-    },
-    Case {
-        name: "a number in use, for Separate.req",
-        after: SELECTED,
-        entries: &[(5, Sent(S1F1_W, 2, &[])), (6, Sent(SEPARATE, 2, &[]))],
-        broken: None,
-        waiting: 1,
-    },
-    Case {
-        name: "a number that is free again",
-        after: SELECTED,
-        entries: &[
-            (5, Sent(S1F1_W, 2, &[])),
-            (6, Taken(S1F2, 2, &[])),
-            (6, Sent(S1F1_W, 2, &[])),
-        ],
-        broken: None,
-        waiting: 1,
-    },
-];
+pub const CLOSING: &str = "# another stream
+selected
+5 > 00008101000000000002
+6 < 00000202000000000002
+= Some(NoTransaction), 1 waiting
+# the abort of another stream
+selected
+5 > 00008101000000000002
+6 < 00000200000000000002
+= Some(NoTransaction), 1 waiting
+# other system bytes
+selected
+5 > 00008101000000000002
+6 < 00000102000000000003
+= Some(NoTransaction), 1 waiting
+# the same direction
+selected
+5 > 00008101000000000002
+6 > 00000102000000000002
+= Some(NoTransaction), 1 waiting
+# a function further on
+selected
+5 > 00008101000000000002
+6 < 00000104000000000002
+= Some(NoTransaction), 1 waiting
+# function 254 to 253
+selected
+6 > 000081fd000000000002
+7 < 000001fe000000000002
+= None, 0 waiting
+# a reply to a primary without W
+selected
+6 > 00000101000000000002
+7 < 00000102000000000002
+= Some(NoTransaction), 0 waiting
+# a data reply to a Linktest.req
+selected
+5 > ffff0000000500000003
+6 < 00000102000000000003
+= Some(NoTransaction), 0 waiting
+# Select.rsp to a Linktest.req
+selected
+5 > ffff0000000500000003
+6 < ffff0000000200000003
+= Some(NoTransaction), 0 waiting
+# Linktest.rsp to data
+selected
+5 > 00008101000000000002
+6 < ffff0000000600000002
+= Some(NoTransaction), 1 waiting
+# a second selection with status 1
+selected
+5 > ffff0000000100000002
+6 < ffff0001000200000002
+= None, 0 waiting
+# a Reject of a Linktest.req
+selected
+5 > ffff0000000500000003
+6 < ffff0503000700000003
+99999 down
+= None, 0 waiting
+# a Reject of nothing
+selected
+6 < ffff0503000700000003
+6 > 77770503000700000003
+= None, 0 waiting
+# a Reject of the same direction
+selected
+5 > 00008101000000000002
+6 > 00000004000700000002
+= None, 1 waiting
+# a discarded Reject ends nothing
+selected
+5 > 00008101000000000002
+6 ! 0000000400070000000200
+7 < 00000102000000000002
+= None, 0 waiting
+# a number of data for a Linktest.req
+selected
+5 > 00008101000000000002
+6 > ffff0000000500000002
+= Some(SystemInUse), 1 waiting
+# a number of a Linktest.req for data
+selected
+5 > ffff0000000500000003
+6 > 00008101000000000003
+= Some(SystemInUse), 0 waiting
+# a number in use, without W
+selected
+5 > 00008101000000000002
+6 > 00000101000000000002
+= None, 1 waiting
+# a number in use, for Separate.req
+selected
+5 > 00008101000000000002
+6 > ffff0000000900000002
+= None, 1 waiting
+# a number that is free again
+selected
+5 > 00008101000000000002
+6 < 00000102000000000002
+6 > 00008101000000000002
+= None, 1 waiting
+";

@@ -1,109 +1,70 @@
 //! Logs of several connections.
 
-use super::Happening::{Cut, Down, Sent, Taken, Up};
-use super::{Case, Happening, S1F1_W, S1F2, SELECT_REQ, SELECT_RSP, SELECTED};
-use hsms_machine::{Cause, Rule};
-
 /// A connection that goes down while a primary waits for its reply.
-const FIRST: &[(u64, Happening)] = &[
-    (0, Up),
-    (0, Sent(SELECT_REQ, 1, &[])),
-    (5, Taken(SELECT_RSP, 1, &[])),
-    (10, Sent(S1F1_W, 2, &[])),
-    (20, Down),
-];
+pub const FIRST: &str = "0 up
+0 > ffff0000000100000001
+5 < ffff0000000200000001
+10 > 00008101000000000002
+20 down
+";
 
 /// The version of one connection.
-pub const ALONE: &[Case] = &[Case {
-    name: "a second connection in version 1",
-    after: FIRST,
-    entries: &[(90000, Up)],
-    broken: Some(Rule::NotUp),
-    waiting: 1,
-}];
+pub const ALONE: &str = "# a second connection in version 1
+first
+90000 up
+= Some(NotUp), 1 waiting
+";
 
 /// The version of several connections.
-pub const CONNECTIONS: &[Case] = &[
-    Case {
-        name: "the first connection",
-        after: FIRST,
-        entries: &[],
-        broken: None,
-        waiting: 1,
-    },
-    Case {
-        name: "the second comes up",
-        after: FIRST,
-        entries: &[(90000, Up)],
-        broken: None,
-        waiting: 0,
-    },
-    Case {
-        name: "the second is used with the numbers of the first",
-        after: FIRST,
-        entries: &[
-            (90000, Up),
-            (90000, Sent(SELECT_REQ, 1, &[])),
-            (90001, Taken(SELECT_RSP, 1, &[])),
-            (90002, Sent(S1F1_W, 2, &[])),
-            (90003, Taken(S1F2, 2, &[])),
-            (90004, Down),
-        ],
-        broken: None,
-        waiting: 0,
-    },
-    Case {
-        name: "no down before the second",
-        after: SELECTED,
-        entries: &[(10, Sent(S1F1_W, 2, &[])), (90000, Up)],
-        broken: Some(Rule::NotUp),
-        waiting: 1,
-    },
-    Case {
-        name: "a cut before the second",
-        after: SELECTED,
-        entries: &[(10, Cut(Cause::Length)), (11, Up)],
-        broken: Some(Rule::NotUp),
-        waiting: 0,
-    },
-    Case {
-        name: "time goes back",
-        after: FIRST,
-        entries: &[(19, Up)],
-        broken: Some(Rule::Backwards),
-        waiting: 1,
-    },
-    Case {
-        name: "a second down",
-        after: FIRST,
-        entries: &[(21, Down)],
-        broken: Some(Rule::NotUp),
-        waiting: 1,
-    },
-    Case {
-        name: "the selection of the first",
-        after: FIRST,
-        entries: &[(90000, Up), (90000, Taken(S1F2, 2, &[]))],
-        broken: Some(Rule::NotSelected),
-        waiting: 0,
-    },
-    Case {
-        name: "a reply to the first",
-        after: FIRST,
-        entries: &[
-            (90000, Up),
-            (90000, Sent(SELECT_REQ, 1, &[])),
-            (90001, Taken(SELECT_RSP, 1, &[])),
-            (90001, Taken(S1F2, 2, &[])),
-        ],
-        broken: Some(Rule::NoTransaction),
-        waiting: 0,
-    },
-    Case {
-        name: "T7 of the second",
-        after: FIRST,
-        entries: &[(90000, Up), (100001, Down)],
-        broken: Some(Rule::LinkOverdue),
-        waiting: 0,
-    },
-];
+pub const CONNECTIONS: &str = "# the first connection
+first
+= None, 1 waiting
+# the second comes up
+first
+90000 up
+= None, 0 waiting
+# the second is used with the numbers of the first
+first
+90000 up
+90000 > ffff0000000100000001
+90001 < ffff0000000200000001
+90002 > 00008101000000000002
+90003 < 00000102000000000002
+90004 down
+= None, 0 waiting
+# no down before the second
+selected
+10 > 00008101000000000002
+90000 up
+= Some(NotUp), 1 waiting
+# a cut before the second
+selected
+10 cut length
+11 up
+= Some(NotUp), 0 waiting
+# time goes back
+first
+19 up
+= Some(Backwards), 1 waiting
+# a second down
+first
+21 down
+= Some(NotUp), 1 waiting
+# the selection of the first
+first
+90000 up
+90000 < 00000102000000000002
+= Some(NotSelected), 0 waiting
+# a reply to the first
+first
+90000 up
+90000 > ffff0000000100000001
+90001 < ffff0000000200000001
+90001 < 00000102000000000002
+= Some(NoTransaction), 0 waiting
+# T7 of the second
+first
+90000 up
+100001 down
+= Some(LinkOverdue), 0 waiting
+";

@@ -1,11 +1,12 @@
 //! How deep a text may be nested.
 
 use super::{
-    Abort, AllocError, Entry, Event, Fail, Frame, Global, Role, Rule, S1F1_W, SELECTED, Settings,
-    Side, Tracker, assert_broken, header, judge_entries,
+    Abort, AllocError, Entry, Event, Frame, Global, Role, SELECTED, Settings, Side, Stop, Tracker,
+    assert_so, header_of, judge_lines,
 };
+use hsms_machine::Rule;
 
-fn settings(depth: u8) -> Option<Settings> {
+fn settings(depth: u8) -> Result<Settings, Stop> {
     Settings::new(
         Role::Host,
         Side::Active,
@@ -17,31 +18,28 @@ fn settings(depth: u8) -> Option<Settings> {
         256,
         depth,
     )
+    .ok_or(Stop::Line)
 }
 
 /// So many lists in one another, the innermost one empty.
 fn lists(alloc: Global, count: u8) -> Result<Vec<u8>, AllocError> {
-    let mut text = Vec::with_capacity(alloc, 256)?;
-    for _ in 1..count {
-        text.extend_from_slice(&[1, 1])?;
-    }
+    let ones = [1u8; 510];
+    let (outer, _) = ones.split_at(2 * usize::from(count.saturating_sub(1)));
+    let mut text = Vec::from_slice(alloc, outer)?;
     text.extend_from_slice(&[1, 0])?;
     Ok(text)
 }
 
-/// S1F1 with them. Where memory was refused, a second try meets no refusal.
-fn taken(alloc: Global, count: u8) -> Result<Entry, AllocError> {
+/// S1F1 W with them. Where memory was refused, a second try meets no refusal.
+fn taken(alloc: Global, count: u8) -> Result<Entry, Stop> {
+    let header = header_of("00008101000000000002")?;
     let text = match lists(alloc, count) {
         Ok(text) => text,
         Err(_) => lists(alloc, count)?,
     };
-    let frame = Frame {
-        header: header(S1F1_W, 2),
-        text,
-    };
     Ok(Entry {
         time: 6,
-        event: Event::Taken(frame),
+        event: Event::Taken(Frame { header, text }),
     })
 }
 
@@ -51,16 +49,16 @@ fn judge_lists(
     tracker: &Tracker,
     count: u8,
     want: Option<Rule>,
-) -> Result<(), AllocError> {
+) -> Result<(), Stop> {
     let entry = taken(alloc, count)?;
-    assert_broken(rt, tracker.check(&entry), want, "the depth");
+    assert_so(rt, tracker.check(&entry) == want, "the depth");
     Ok(())
 }
 
 /// As many lists as the depth are taken, and no more.
-fn judge_depth(rt: &impl Abort, alloc: Global, depth: u8) -> Result<(), Fail> {
-    let mut tracker = Tracker::new(alloc, settings(depth).ok_or("the settings")?);
-    judge_entries(rt, alloc, &mut tracker, SELECTED, None, "selected")?;
+fn judge_depth(rt: &impl Abort, alloc: Global, depth: u8) -> Result<(), Stop> {
+    let mut tracker = Tracker::new(alloc, settings(depth)?);
+    judge_lines(rt, alloc, &mut tracker, SELECTED, "selected")?;
     judge_lists(rt, alloc, &tracker, depth, None)?;
     judge_lists(
         rt,
@@ -68,12 +66,11 @@ fn judge_depth(rt: &impl Abort, alloc: Global, depth: u8) -> Result<(), Fail> {
         &tracker,
         depth.saturating_add(1),
         Some(Rule::Text),
-    )?;
-    Ok(())
+    )
 }
 
 #[test]
-fn texts_as_deep_as_the_settings_say(rt: HostRuntime) -> Result<(), Fail> {
+fn texts_as_deep_as_the_settings_say(rt: HostRuntime) -> Result<(), Stop> {
     judge_depth(&rt, rt.alloc(), 1)?;
     for depth in 91..=100 {
         judge_depth(&rt, rt.alloc(), depth)?;

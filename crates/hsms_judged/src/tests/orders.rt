@@ -1,327 +1,186 @@
 //! Sessions of a host whose last entry breaks several rules: the first one is told.
 
-use super::Happening::{Cut, Discarded, Down, Sent, T3, Taken, Up};
-use super::{
-    CONNECTED, Case, LINKTEST_REQ, S1F1_W, S1F2, SELECT_REQ, SELECT_RSP, SELECTED, SEPARATE,
-};
-use hsms_machine::{Cause, Rule};
-
-pub const ORDERS: &[Case] = &[
-    Case {
-        name: "Backwards before NotUp",
-        after: SELECTED,
-        entries: &[(4, Up)],
-        broken: Some(Rule::Backwards),
-        waiting: 0,
-    },
-    Case {
-        name: "Backwards before Ended",
-        after: SELECTED,
-        entries: &[(6, Sent(SEPARATE, 2, &[])), (5, Sent(SEPARATE, 3, &[]))],
-        broken: Some(Rule::Backwards),
-        waiting: 0,
-    },
-    Case {
-        name: "Backwards before PType",
-        after: SELECTED,
-        entries: &[(4, Taken(0x0000_8101_0100, 2, &[]))],
-        broken: Some(Rule::Backwards),
-        waiting: 0,
-    },
-    Case {
-        name: "NotUp before Ended",
-        after: SELECTED,
-        entries: &[
-            (6, Sent(SEPARATE, 2, &[])),
-            (6, Down),
-            (6, Sent(SEPARATE, 3, &[])),
-        ],
-        broken: Some(Rule::NotUp),
-        waiting: 0,
-    },
-    Case {
-        name: "NotUp before PType",
-        after: &[],
-        entries: &[(0, Taken(0x0000_8101_0100, 2, &[]))],
-        broken: Some(Rule::NotUp),
-        waiting: 0,
-    },
-    Case {
-        name: "NotUp before NotDue",
-        after: &[],
-        entries: &[(0, T3(2))],
-        broken: Some(Rule::NotUp),
-        waiting: 0,
-    },
-    Case {
-        name: "NotUp before T3Overdue",
-        after: SELECTED,
-        entries: &[(5, Sent(S1F1_W, 2, &[])), (45006, Up)],
-        broken: Some(Rule::NotUp),
-        waiting: 1,
-    },
-    Case {
-        name: "Ended before NotDue",
-        after: SELECTED,
-        entries: &[(6, Sent(SEPARATE, 2, &[])), (6, T3(2))],
-        broken: Some(Rule::Ended),
-        waiting: 0,
-    },
-    Case {
-        name: "a cut after Separate.req",
-        after: SELECTED,
-        entries: &[(6, Sent(SEPARATE, 2, &[])), (6, Cut(Cause::Length))],
-        broken: Some(Rule::Ended),
-        waiting: 0,
-    },
-    Case {
-        name: "a cut by T8 after a cut",
-        after: SELECTED,
-        entries: &[(6, Cut(Cause::Length)), (6, Cut(Cause::T8))],
-        broken: Some(Rule::Ended),
-        waiting: 0,
-    },
-    Case {
-        name: "a cut by T7 after Separate.req",
-        after: CONNECTED,
-        entries: &[(6, Sent(SEPARATE, 2, &[])), (10000, Cut(Cause::T7))],
-        broken: Some(Rule::Ended),
-        waiting: 0,
-    },
-    Case {
-        name: "Linktest.req after Separate.req was taken",
-        after: SELECTED,
-        entries: &[
-            (6, Taken(SEPARATE, 2, &[])),
-            (6, Taken(LINKTEST_REQ, 3, &[])),
-        ],
-        broken: Some(Rule::Ended),
-        waiting: 0,
-    },
-    Case {
-        name: "Ended before PType",
-        after: SELECTED,
-        entries: &[
-            (6, Sent(SEPARATE, 2, &[])),
-            (6, Taken(0x0000_8101_0100, 2, &[])),
-        ],
-        broken: Some(Rule::Ended),
-        waiting: 0,
-    },
-    Case {
-        name: "T3Overdue before LinkOverdue",
-        after: SELECTED,
-        entries: &[
-            (5, Sent(S1F1_W, 2, &[])),
-            (5, Sent(LINKTEST_REQ, 3, &[])),
-            (45006, Down),
-        ],
-        broken: Some(Rule::T3Overdue),
-        waiting: 1,
-    },
-    Case {
-        name: "T3Overdue before NotDue",
-        after: SELECTED,
-        entries: &[(5, Sent(S1F1_W, 2, &[])), (45006, Cut(Cause::T7))],
-        broken: Some(Rule::T3Overdue),
-        waiting: 1,
-    },
-    Case {
-        name: "T3Overdue before PType",
-        after: SELECTED,
-        entries: &[
-            (5, Sent(S1F1_W, 2, &[])),
-            (45006, Taken(0x0000_8101_0100, 2, &[])),
-        ],
-        broken: Some(Rule::T3Overdue),
-        waiting: 1,
-    },
-    Case {
-        name: "T3Overdue before NoCause",
-        after: SELECTED,
-        entries: &[
-            (5, Sent(S1F1_W, 2, &[])),
-            (45006, Discarded(LINKTEST_REQ, 2, &[])),
-        ],
-        broken: Some(Rule::T3Overdue),
-        waiting: 1,
-    },
-    Case {
-        name: "T3Overdue before a cut by T6",
-        after: SELECTED,
-        entries: &[
-            (5, Sent(S1F1_W, 2, &[])),
-            (5, Sent(LINKTEST_REQ, 3, &[])),
-            (45006, Cut(Cause::T6)),
-        ],
-        broken: Some(Rule::T3Overdue),
-        waiting: 1,
-    },
-    Case {
-        name: "LinkOverdue before PType",
-        after: SELECTED,
-        entries: &[
-            (5, Sent(LINKTEST_REQ, 3, &[])),
-            (6006, Taken(0x0000_8101_0100, 2, &[])),
-        ],
-        broken: Some(Rule::LinkOverdue),
-        waiting: 0,
-    },
-    Case {
-        name: "LinkOverdue before NoCause",
-        after: SELECTED,
-        entries: &[
-            (5, Sent(LINKTEST_REQ, 3, &[])),
-            (6006, Discarded(LINKTEST_REQ, 2, &[])),
-        ],
-        broken: Some(Rule::LinkOverdue),
-        waiting: 0,
-    },
-    Case {
-        name: "LinkOverdue before a cut by T8",
-        after: SELECTED,
-        entries: &[(5, Sent(LINKTEST_REQ, 3, &[])), (6006, Cut(Cause::T8))],
-        broken: Some(Rule::LinkOverdue),
-        waiting: 0,
-    },
-    Case {
-        name: "PType before another SType",
-        after: SELECTED,
-        entries: &[(5, Taken(0xffff_0000_0103, 2, &[]))],
-        broken: Some(Rule::PType),
-        waiting: 0,
-    },
-    Case {
-        name: "PType before the text of a control message",
-        after: SELECTED,
-        entries: &[(5, Taken(0xffff_0000_0105, 2, &[0]))],
-        broken: Some(Rule::PType),
-        waiting: 0,
-    },
-    Case {
-        name: "PType before Session",
-        after: SELECTED,
-        entries: &[(5, Taken(0x0001_8101_0100, 2, &[]))],
-        broken: Some(Rule::PType),
-        waiting: 0,
-    },
-    Case {
-        name: "SType before Session and a text",
-        after: SELECTED,
-        entries: &[(5, Taken(0x0001_8101_0003, 2, &[0]))],
-        broken: Some(Rule::SType),
-        waiting: 0,
-    },
-    Case {
-        name: "ControlText before Session",
-        after: SELECTED,
-        entries: &[(5, Taken(0x0000_0000_0005, 2, &[0]))],
-        broken: Some(Rule::ControlText),
-        waiting: 0,
-    },
-    Case {
-        name: "ControlText before Direction",
-        after: SELECTED,
-        entries: &[(5, Taken(SELECT_REQ, 2, &[0]))],
-        broken: Some(Rule::ControlText),
-        waiting: 0,
-    },
-    Case {
-        name: "Session before Direction",
-        after: SELECTED,
-        entries: &[(5, Taken(0x0000_0000_0001, 2, &[]))],
-        broken: Some(Rule::Session),
-        waiting: 0,
-    },
-    Case {
-        name: "Session of data before Direction",
-        after: SELECTED,
-        entries: &[(5, Sent(0x0001_0901_0000, 2, &[]))],
-        broken: Some(Rule::Session),
-        waiting: 0,
-    },
-    Case {
-        name: "Session before NotSelected",
-        after: CONNECTED,
-        entries: &[(3, Taken(0x0001_8101_0000, 2, &[]))],
-        broken: Some(Rule::Session),
-        waiting: 0,
-    },
-    Case {
-        name: "Session before WBit",
-        after: SELECTED,
-        entries: &[(5, Taken(0x0001_8102_0000, 2, &[]))],
-        broken: Some(Rule::Session),
-        waiting: 0,
-    },
-    Case {
-        name: "Direction before NotSelected",
-        after: CONNECTED,
-        entries: &[(3, Sent(0x0000_0901_0000, 2, &[]))],
-        broken: Some(Rule::Direction),
-        waiting: 0,
-    },
-    Case {
-        name: "Direction before WBit",
-        after: SELECTED,
-        entries: &[(5, Sent(0x0000_8901_0000, 2, &[]))],
-        broken: Some(Rule::Direction),
-        waiting: 0,
-    },
-    Case {
-        name: "NotSelected before WBit",
-        after: CONNECTED,
-        entries: &[(3, Taken(0x0000_8102_0000, 2, &[]))],
-        broken: Some(Rule::NotSelected),
-        waiting: 0,
-    },
-    Case {
-        name: "NotSelected before Text",
-        after: CONNECTED,
-        entries: &[(3, Taken(0x0000_0101_0000, 2, &[0x40]))],
-        broken: Some(Rule::NotSelected),
-        waiting: 0,
-    },
-    Case {
-        name: "NotSelected before NoTransaction",
-        after: CONNECTED,
-        entries: &[(3, Taken(S1F2, 2, &[]))],
-        broken: Some(Rule::NotSelected),
-        waiting: 0,
-    },
-    Case {
-        name: "WBit before Text",
-        after: SELECTED,
-        entries: &[(5, Taken(0x0000_8102_0000, 2, &[0x40]))],
-        broken: Some(Rule::WBit),
-        waiting: 0,
-    },
-    Case {
-        name: "WBit of stream 9",
-        after: SELECTED,
-        entries: &[(5, Taken(0x0000_8901_0000, 2, &[]))],
-        broken: Some(Rule::WBit),
-        waiting: 0,
-    },
-    Case {
-        name: "Text before SystemInUse",
-        after: SELECTED,
-        entries: &[(5, Taken(S1F1_W, 7, &[])), (5, Taken(S1F1_W, 7, &[0x40]))],
-        broken: Some(Rule::Text),
-        waiting: 0,
-    },
-    Case {
-        name: "Text before NoTransaction",
-        after: SELECTED,
-        entries: &[(5, Taken(S1F2, 2, &[0x40]))],
-        broken: Some(Rule::Text),
-        waiting: 0,
-    },
-    Case {
-        name: "NoTransaction before SelectStatus",
-        after: SELECTED,
-        entries: &[(5, Taken(SELECT_RSP, 2, &[]))],
-        broken: Some(Rule::NoTransaction),
-        waiting: 0,
-    },
-];
+pub const ORDERS: &str = "# Backwards before NotUp
+selected
+4 up
+= Some(Backwards), 0 waiting
+# Backwards before Ended
+selected
+6 > ffff0000000900000002
+5 > ffff0000000900000003
+= Some(Backwards), 0 waiting
+# Backwards before PType
+selected
+4 < 00008101010000000002
+= Some(Backwards), 0 waiting
+# NotUp before Ended
+selected
+6 > ffff0000000900000002
+6 down
+6 > ffff0000000900000003
+= Some(NotUp), 0 waiting
+# NotUp before PType
+0 < 00008101010000000002
+= Some(NotUp), 0 waiting
+# NotUp before NotDue
+0 t3 00000002
+= Some(NotUp), 0 waiting
+# NotUp before T3Overdue
+selected
+5 > 00008101000000000002
+45006 up
+= Some(NotUp), 1 waiting
+# Ended before NotDue
+selected
+6 > ffff0000000900000002
+6 t3 00000002
+= Some(Ended), 0 waiting
+# a cut after Separate.req
+selected
+6 > ffff0000000900000002
+6 cut length
+= Some(Ended), 0 waiting
+# a cut by T8 after a cut
+selected
+6 cut length
+6 cut t8
+= Some(Ended), 0 waiting
+# a cut by T7 after Separate.req
+connected
+6 > ffff0000000900000002
+10000 cut t7
+= Some(Ended), 0 waiting
+# Linktest.req after Separate.req was taken
+selected
+6 < ffff0000000900000002
+6 < ffff0000000500000003
+= Some(Ended), 0 waiting
+# Ended before PType
+selected
+6 > ffff0000000900000002
+6 < 00008101010000000002
+= Some(Ended), 0 waiting
+# T3Overdue before LinkOverdue
+selected
+5 > 00008101000000000002
+5 > ffff0000000500000003
+45006 down
+= Some(T3Overdue), 1 waiting
+# T3Overdue before NotDue
+selected
+5 > 00008101000000000002
+45006 cut t7
+= Some(T3Overdue), 1 waiting
+# T3Overdue before PType
+selected
+5 > 00008101000000000002
+45006 < 00008101010000000002
+= Some(T3Overdue), 1 waiting
+# T3Overdue before NoCause
+selected
+5 > 00008101000000000002
+45006 ! ffff0000000500000002
+= Some(T3Overdue), 1 waiting
+# T3Overdue before a cut by T6
+selected
+5 > 00008101000000000002
+5 > ffff0000000500000003
+45006 cut t6
+= Some(T3Overdue), 1 waiting
+# LinkOverdue before PType
+selected
+5 > ffff0000000500000003
+6006 < 00008101010000000002
+= Some(LinkOverdue), 0 waiting
+# LinkOverdue before NoCause
+selected
+5 > ffff0000000500000003
+6006 ! ffff0000000500000002
+= Some(LinkOverdue), 0 waiting
+# LinkOverdue before a cut by T8
+selected
+5 > ffff0000000500000003
+6006 cut t8
+= Some(LinkOverdue), 0 waiting
+# PType before another SType
+selected
+5 < ffff0000010300000002
+= Some(PType), 0 waiting
+# PType before the text of a control message
+selected
+5 < ffff000001050000000200
+= Some(PType), 0 waiting
+# PType before Session
+selected
+5 < 00018101010000000002
+= Some(PType), 0 waiting
+# SType before Session and a text
+selected
+5 < 0001810100030000000200
+= Some(SType), 0 waiting
+# ControlText before Session
+selected
+5 < 0000000000050000000200
+= Some(ControlText), 0 waiting
+# ControlText before Direction
+selected
+5 < ffff000000010000000200
+= Some(ControlText), 0 waiting
+# Session before Direction
+selected
+5 < 00000000000100000002
+= Some(Session), 0 waiting
+# Session of data before Direction
+selected
+5 > 00010901000000000002
+= Some(Session), 0 waiting
+# Session before NotSelected
+connected
+3 < 00018101000000000002
+= Some(Session), 0 waiting
+# Session before WBit
+selected
+5 < 00018102000000000002
+= Some(Session), 0 waiting
+# Direction before NotSelected
+connected
+3 > 00000901000000000002
+= Some(Direction), 0 waiting
+# Direction before WBit
+selected
+5 > 00008901000000000002
+= Some(Direction), 0 waiting
+# NotSelected before WBit
+connected
+3 < 00008102000000000002
+= Some(NotSelected), 0 waiting
+# NotSelected before Text
+connected
+3 < 0000010100000000000240
+= Some(NotSelected), 0 waiting
+# NotSelected before NoTransaction
+connected
+3 < 00000102000000000002
+= Some(NotSelected), 0 waiting
+# WBit before Text
+selected
+5 < 0000810200000000000240
+= Some(WBit), 0 waiting
+# WBit of stream 9
+selected
+5 < 00008901000000000002
+= Some(WBit), 0 waiting
+# Text before SystemInUse
+selected
+5 < 00008101000000000007
+5 < 0000810100000000000740
+= Some(Text), 0 waiting
+# Text before NoTransaction
+selected
+5 < 0000010200000000000240
+= Some(Text), 0 waiting
+# NoTransaction before SelectStatus
+selected
+5 < ffff0000000200000002
+= Some(NoTransaction), 0 waiting
+";

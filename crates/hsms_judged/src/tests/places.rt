@@ -2,90 +2,91 @@
 
 ghost use Rattle.std.specs.Prelude.{◌≤◌};
 
-use super::Happening::{Sent, Taken, Up};
-use super::{Happening, S1F1_W, S1F2, SELECT_REQ, SELECT_RSP, happened, header, settings};
-use hsms_machine::{EntryRef, Mark, Places};
-use std::alloc::{AllocError, Global};
-use std::process::Abort;
-use std::test::Fail;
+use super::{Abort, AllocError, Entry, EntryRef, Global, Stop, assert_so, happened, settings};
+use hsms_machine::Places;
 
-fn assert_closes(
-    rt: &impl Abort,
-    places: &Places,
-    entry: &EntryRef<'_>,
-    line: u64,
-    want: Option<u64>,
-) {
-    assert_eq!(rt; places.closes(entry), want, "line {line}");
+/// An entry closes what stands in this line.
+fn assert_closes(rt: &impl Abort, places: &Places, entry: &Entry, want: Option<u64>, name: &str) {
+    assert_so(rt, places.closes(&entry.as_ref()) == want, name);
 }
 
 fn assert_oldest(rt: &impl Abort, places: &Places, want: Option<u64>) {
-    assert_eq!(rt; places.oldest_data(), want);
+    assert_so(rt, places.oldest_data() == want, "the oldest");
 }
 
-/// A sent primary with these system bytes meets the one of this line.
-fn assert_met(rt: &impl Abort, places: &Places, system: u32, want: Option<u64>) {
-    let entry = EntryRef::of_frame(1001, Mark::Sent, header(S1F1_W, system), &[]);
-    assert_eq!(rt; places.in_use(&entry), want, "{system}");
+/// A sent primary meets the one of this line.
+fn assert_met(
+    rt: &impl Abort,
+    alloc: Global,
+    places: &Places,
+    primary: &str,
+    want: Option<u64>,
+) -> Result<(), Stop> {
+    let entry = happened(alloc, primary)?;
+    assert_so(rt, places.in_use(&entry.as_ref()) == want, primary);
+    Ok(())
 }
 
-/// What stands in this line closes what was wanted, and is noted. Where memory was refused, a second try meets no
-/// refusal.
+/// Notes an entry. Where memory was refused, a second try meets no refusal.
+fn note(places: &mut Places, place: u64, entry: &EntryRef<'_>) -> Result<(), AllocError>
+    requires rising { places.old.last_time ≤ place }
+    ensures last { places.new.last_time ≤ place }
+{
+    match places.note(place, entry) {
+        Ok(()) => Ok(()),
+        Err(_) => places.note(place, entry),
+    }
+}
+
+/// What stands in this place closes what was wanted, and is noted.
 fn note_line(
     rt: &impl Abort,
     alloc: Global,
     places: &mut Places,
-    line: u64,
-    row: (u64, Happening, Option<u64>),
-) -> Result<(), AllocError>
-    requires rising { places.old.last_time ≤ line }
-    ensures last { places.new.last_time ≤ line }
+    place: u64,
+    line: &str,
+    want: Option<u64>,
+) -> Result<(), Stop>
+    requires rising { places.old.last_time ≤ place }
+    ensures last { places.new.last_time ≤ place }
 {
-    let (time, happening, want) = row;
-    let entry = happened(alloc, time, happening)?;
-    let entry = entry.as_ref();
-    assert_closes(rt, places, &entry, line, want);
-    match places.note(line, &entry) {
-        Ok(()) => Ok(()),
-        Err(_) => places.note(line, &entry),
-    }
+    let entry = happened(alloc, line)?;
+    assert_closes(rt, places, &entry, want, line);
+    Ok(note(places, place, &entry.as_ref())?)
 }
 
 #[test]
-fn a_late_reply_closes_its_primary(rt: HostRuntime) -> Result<(), Fail> {
+fn a_late_reply_closes_its_primary(rt: HostRuntime) -> Result<(), Stop> {
     let alloc = rt.alloc();
-    let mut places = Places::new(alloc, settings(256).ok_or("the settings")?);
-    note_line(&rt, alloc, &mut places, 2, (0, Up, None))?;
-    note_line(
-        &rt,
-        alloc,
-        &mut places,
-        3,
-        (0, Sent(SELECT_REQ, 1, &[]), None),
-    )?;
+    let mut places = Places::new(alloc, settings(256)?);
+    note_line(&rt, alloc, &mut places, 2, "0 up", None)?;
+    note_line(&rt, alloc, &mut places, 3, "0 > ffff0000000100000001", None)?;
     note_line(
         &rt,
         alloc,
         &mut places,
         4,
-        (5, Taken(SELECT_RSP, 1, &[]), Some(3)),
+        "5 < ffff0000000200000001",
+        Some(3),
     )?;
     note_line(
         &rt,
         alloc,
         &mut places,
         5,
-        (1000, Sent(S1F1_W, 2, &[]), None),
+        "1000 > 00008101000000000002",
+        None,
     )?;
     assert_oldest(&rt, &places, Some(5));
-    assert_met(&rt, &places, 2, Some(5));
-    assert_met(&rt, &places, 3, None);
+    assert_met(&rt, alloc, &places, "1001 > 00008101000000000002", Some(5))?;
+    assert_met(&rt, alloc, &places, "1001 > 00008101000000000003", None)?;
     note_line(
         &rt,
         alloc,
         &mut places,
         6,
-        (46001, Taken(S1F2, 2, &[]), Some(5)),
+        "46001 < 00000102000000000002",
+        Some(5),
     )?;
     assert_oldest(&rt, &places, None);
     Ok(())

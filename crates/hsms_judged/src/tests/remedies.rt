@@ -1,49 +1,51 @@
 //! How a log is gone on with behind an entry that breaks a rule: the log of a late reply, and what else may stand there.
 
-use super::Happening::{Sent, Taken, Up};
 use super::{
-    Happening, S1F1_W, S1F2, SELECT_REQ, SELECT_RSP, assert_broken, header, judge_entries, settings,
+    Abort, EntryRef, Global, InlineText, Stop, Tracker, assert_said, happened, judge_lines,
+    settings,
 };
-use hsms_machine::{EntryRef, Mark, Remedy, Rule, Tracker};
-use std::process::Abort;
-use std::test::Fail;
 
 /// The log up to its late reply.
-const ASKED: &[(u64, Happening)] = &[
-    (0, Up),
-    (0, Sent(SELECT_REQ, 1, &[])),
-    (5, Taken(SELECT_RSP, 1, &[])),
-    (1000, Sent(S1F1_W, 2, &[])),
-];
+const ASKED: &str = "selected
+1000 > 00008101000000000002
+";
 
-/// A reply with its time, mark and system bytes, the rule that it breaks, and the remedy.
-const REPLIES: &[(u64, Mark, u32, Rule, Remedy)] = &[
-    (
-        46001,
-        Mark::Taken,
-        2,
-        Rule::T3Overdue,
-        Remedy::ExpireFirst(46000, 2),
-    ),
-    (1001, Mark::Taken, 3, Rule::NoTransaction, Remedy::Discard),
-    (1001, Mark::Sent, 3, Rule::NoTransaction, Remedy::LeaveOut),
-    (1001, Mark::Discarded, 2, Rule::NoCause, Remedy::LeaveOut),
-    (999, Mark::Taken, 2, Rule::Backwards, Remedy::Raise(1000)),
-];
+/// Replies, the rules that they break, and the remedies.
+const REPLIES: &str = "46001 < 00000102000000000002 = T3Overdue ExpireFirst(46000, 2)
+1001 < 00000102000000000003 = NoTransaction Discard
+1001 > 00000102000000000003 = NoTransaction LeaveOut
+1001 ! 00000102000000000002 = NoCause LeaveOut
+999 < 00000102000000000002 = Backwards Raise(1000)
+";
 
-fn assert_remedy(rt: &impl Abort, tracker: &Tracker, row: (u64, Mark, u32, Rule, Remedy)) {
-    let (time, mark, system, rule, want) = row;
-    let entry = EntryRef::of_frame(time, mark, header(S1F2, system), &[]);
-    assert_broken(rt, tracker.check_ref(&entry), Some(rule), "a reply");
-    assert_eq!(rt; tracker.remedy(rule, &entry), want, "{time}");
+/// The rule that a reply breaks, and its remedy.
+fn remedy_of(tracker: &Tracker, reply: &EntryRef<'_>) -> InlineText<160> {
+    match tracker.check_ref(reply) {
+        Some(rule) => {
+            let remedy = tracker.remedy(rule, reply);
+            InlineText::of(format_args!("{rule:?} {remedy:?}"))
+        }
+        None => InlineText::new(),
+    }
+}
+
+fn judge_reply(rt: &impl Abort, alloc: Global, tracker: &Tracker, row: &str) -> Result<(), Stop> {
+    let (line, want) = row.split_once(" = ").ok_or(Stop::Line)?;
+    let entry = happened(alloc, line)?;
+    assert_said(rt, remedy_of(tracker, &entry.as_ref()), want, line);
+    Ok(())
+}
+
+fn judge_replies(rt: &impl Abort, alloc: Global, tracker: &Tracker) -> Result<(), Stop> {
+    for row in REPLIES.lines() {
+        judge_reply(rt, alloc, tracker, row)?;
+    }
+    Ok(())
 }
 
 #[test]
-fn what_a_failing_reply_asks_for(rt: HostRuntime) -> Result<(), Fail> {
-    let mut tracker = Tracker::new(rt.alloc(), settings(256).ok_or("the settings")?);
-    judge_entries(&rt, rt.alloc(), &mut tracker, ASKED, None, "asked")?;
-    for row in REPLIES {
-        assert_remedy(&rt, &tracker, *row);
-    }
-    Ok(())
+fn what_a_failing_reply_asks_for(rt: HostRuntime) -> Result<(), Stop> {
+    let mut tracker = Tracker::new(rt.alloc(), settings(256)?);
+    judge_lines(&rt, rt.alloc(), &mut tracker, ASKED, "asked")?;
+    judge_replies(&rt, rt.alloc(), &tracker)
 }

@@ -1,211 +1,117 @@
 //! Sessions of a host: replies and expiries, and what may follow them.
 
-use super::Happening::{Cut, Discarded, Down, Sent, T3, Taken, Up};
-use super::{CONNECTED, Case, LINKTEST_REQ, S1F1_W, S1F2, SELECT_REQ, SELECTED};
-use hsms_machine::{Cause, Rule};
-
-pub const SESSIONS: &[Case] = &[
-    Case {
-        name: "a reply at T3",
-        after: SELECTED,
-        entries: &[
-            (1000, Sent(S1F1_W, 2, &[])),
-            (46000, Taken(S1F2, 2, &[1, 2, 0x41, 1, 0x41, 0x41, 1, 0x42])),
-        ],
-        broken: None,
-        waiting: 0,
-    },
-    Case {
-        name: "a reply after T3",
-        after: SELECTED,
-        entries: &[
-            (1000, Sent(S1F1_W, 2, &[])),
-            (46001, Taken(S1F2, 2, &[1, 2, 0x41, 1, 0x41, 0x41, 1, 0x42])),
-        ],
-        broken: Some(Rule::T3Overdue),
-        waiting: 1,
-    },
-    Case {
-        name: "a reply after its expiry",
-        after: SELECTED,
-        entries: &[
-            (1000, Sent(S1F1_W, 2, &[])),
-            (46000, T3(2)),
-            (46500, Taken(S1F2, 2, &[])),
-        ],
-        broken: Some(Rule::NoTransaction),
-        waiting: 0,
-    },
-    Case {
-        name: "a discarded reply after its expiry",
-        after: SELECTED,
-        entries: &[
-            (1000, Sent(S1F1_W, 2, &[])),
-            (46000, T3(2)),
-            (46500, Discarded(S1F2, 2, &[])),
-        ],
-        broken: None,
-        waiting: 0,
-    },
-    Case {
-        name: "one of two expiries",
-        after: SELECTED,
-        entries: &[
-            (1000, Sent(S1F1_W, 2, &[])),
-            (1000, Sent(S1F1_W, 3, &[])),
-            (46001, T3(2)),
-            (46001, Sent(LINKTEST_REQ, 4, &[])),
-        ],
-        broken: Some(Rule::T3Overdue),
-        waiting: 1,
-    },
-    Case {
-        name: "two of two expiries",
-        after: SELECTED,
-        entries: &[
-            (1000, Sent(S1F1_W, 2, &[])),
-            (1000, Sent(S1F1_W, 3, &[])),
-            (46001, T3(2)),
-            (46001, T3(3)),
-            (46001, Sent(LINKTEST_REQ, 4, &[])),
-        ],
-        broken: None,
-        waiting: 0,
-    },
-    Case {
-        name: "function 255 answered by 0",
-        after: SELECTED,
-        entries: &[
-            (6, Sent(0x0000_81ff_0000, 2, &[])),
-            (7, Taken(0x0000_0100_0000, 2, &[])),
-        ],
-        broken: None,
-        waiting: 0,
-    },
-    Case {
-        name: "function 255 answered by 2",
-        after: SELECTED,
-        entries: &[
-            (6, Sent(0x0000_81ff_0000, 2, &[])),
-            (7, Taken(S1F2, 2, &[])),
-        ],
-        broken: Some(Rule::NoTransaction),
-        waiting: 1,
-    },
-    Case {
-        name: "one number in both directions",
-        after: SELECTED,
-        entries: &[(6, Sent(S1F1_W, 2, &[])), (6, Taken(S1F1_W, 2, &[]))],
-        broken: None,
-        waiting: 1,
-    },
-    Case {
-        name: "one number twice in one direction",
-        after: SELECTED,
-        entries: &[(6, Sent(S1F1_W, 2, &[])), (6, Sent(S1F1_W, 2, &[]))],
-        broken: Some(Rule::SystemInUse),
-        waiting: 1,
-    },
-    Case {
-        name: "data before selection",
-        after: CONNECTED,
-        entries: &[(3, Taken(S1F1_W, 2, &[]))],
-        broken: Some(Rule::NotSelected),
-        waiting: 0,
-    },
-    Case {
-        name: "discarded data before selection",
-        after: CONNECTED,
-        entries: &[(3, Discarded(S1F1_W, 2, &[]))],
-        broken: None,
-        waiting: 0,
-    },
-    Case {
-        name: "a discard without a cause",
-        after: SELECTED,
-        entries: &[(5, Discarded(LINKTEST_REQ, 2, &[]))],
-        broken: Some(Rule::NoCause),
-        waiting: 0,
-    },
-    Case {
-        name: "the greatest time",
-        after: &[],
-        entries: &[
-            (18_446_744_073_709_551_615, Up),
-            (18_446_744_073_709_551_615, Sent(SELECT_REQ, 1, &[])),
-        ],
-        broken: None,
-        waiting: 0,
-    },
-    Case {
-        name: "a discarded reply closes nothing",
-        after: SELECTED,
-        entries: &[
-            (1000, Sent(S1F1_W, 2, &[])),
-            (2000, Discarded(0x0000_8102_0000, 2, &[])),
-            (46500, Down),
-        ],
-        broken: Some(Rule::T3Overdue),
-        waiting: 1,
-    },
-    Case {
-        name: "T6 logged",
-        after: SELECTED,
-        entries: &[
-            (5, Sent(LINKTEST_REQ, 2, &[])),
-            (6006, Cut(Cause::T6)),
-            (6006, Down),
-        ],
-        broken: None,
-        waiting: 0,
-    },
-    Case {
-        name: "T3 logged too early",
-        after: SELECTED,
-        entries: &[(1000, Sent(S1F1_W, 2, &[])), (45999, T3(2))],
-        broken: Some(Rule::NotDue),
-        waiting: 1,
-    },
-    Case {
-        name: "T7 unlogged",
-        after: &[],
-        entries: &[(0, Up), (10001, Down)],
-        broken: Some(Rule::LinkOverdue),
-        waiting: 0,
-    },
-    Case {
-        name: "T7 logged",
-        after: &[],
-        entries: &[(0, Up), (10000, Cut(Cause::T7)), (99999, Down)],
-        broken: None,
-        waiting: 0,
-    },
-    Case {
-        name: "T7 logged too early",
-        after: &[],
-        entries: &[(0, Up), (9999, Cut(Cause::T7))],
-        broken: Some(Rule::NotDue),
-        waiting: 0,
-    },
-    Case {
-        name: "a reply after a Reject",
-        after: SELECTED,
-        entries: &[
-            (6, Sent(S1F1_W, 2, &[])),
-            (7, Taken(0x1234_0004_0007, 2, &[])),
-            (8, Taken(S1F2, 2, &[])),
-        ],
-        broken: Some(Rule::NoTransaction),
-        waiting: 0,
-    },
-    Case {
-        name: "data after a refused selection",
-        after: CONNECTED,
-        entries: &[
-            (3, Taken(0xffff_0002_0002, 1, &[])),
-            (4, Taken(S1F1_W, 2, &[])),
-        ],
-        broken: Some(Rule::NotSelected),
-        waiting: 0,
-    },
-];
+pub const SESSIONS: &str = "# a reply at T3
+selected
+1000 > 00008101000000000002
+46000 < 000001020000000000020102410141410142
+= None, 0 waiting
+# a reply after T3
+selected
+1000 > 00008101000000000002
+46001 < 000001020000000000020102410141410142
+= Some(T3Overdue), 1 waiting
+# a reply after its expiry
+selected
+1000 > 00008101000000000002
+46000 t3 00000002
+46500 < 00000102000000000002
+= Some(NoTransaction), 0 waiting
+# a discarded reply after its expiry
+selected
+1000 > 00008101000000000002
+46000 t3 00000002
+46500 ! 00000102000000000002
+= None, 0 waiting
+# one of two expiries
+selected
+1000 > 00008101000000000002
+1000 > 00008101000000000003
+46001 t3 00000002
+46001 > ffff0000000500000004
+= Some(T3Overdue), 1 waiting
+# two of two expiries
+selected
+1000 > 00008101000000000002
+1000 > 00008101000000000003
+46001 t3 00000002
+46001 t3 00000003
+46001 > ffff0000000500000004
+= None, 0 waiting
+# function 255 answered by 0
+selected
+6 > 000081ff000000000002
+7 < 00000100000000000002
+= None, 0 waiting
+# function 255 answered by 2
+selected
+6 > 000081ff000000000002
+7 < 00000102000000000002
+= Some(NoTransaction), 1 waiting
+# one number in both directions
+selected
+6 > 00008101000000000002
+6 < 00008101000000000002
+= None, 1 waiting
+# one number twice in one direction
+selected
+6 > 00008101000000000002
+6 > 00008101000000000002
+= Some(SystemInUse), 1 waiting
+# data before selection
+connected
+3 < 00008101000000000002
+= Some(NotSelected), 0 waiting
+# discarded data before selection
+connected
+3 ! 00008101000000000002
+= None, 0 waiting
+# a discard without a cause
+selected
+5 ! ffff0000000500000002
+= Some(NoCause), 0 waiting
+# the greatest time
+18446744073709551615 up
+18446744073709551615 > ffff0000000100000001
+= None, 0 waiting
+# a discarded reply closes nothing
+selected
+1000 > 00008101000000000002
+2000 ! 00008102000000000002
+46500 down
+= Some(T3Overdue), 1 waiting
+# T6 logged
+selected
+5 > ffff0000000500000002
+6006 cut t6
+6006 down
+= None, 0 waiting
+# T3 logged too early
+selected
+1000 > 00008101000000000002
+45999 t3 00000002
+= Some(NotDue), 1 waiting
+# T7 unlogged
+0 up
+10001 down
+= Some(LinkOverdue), 0 waiting
+# T7 logged
+0 up
+10000 cut t7
+99999 down
+= None, 0 waiting
+# T7 logged too early
+0 up
+9999 cut t7
+= Some(NotDue), 0 waiting
+# a reply after a Reject
+selected
+6 > 00008101000000000002
+7 < 12340004000700000002
+8 < 00000102000000000002
+= Some(NoTransaction), 0 waiting
+# data after a refused selection
+connected
+3 < ffff0002000200000001
+4 < 00008101000000000002
+= Some(NotSelected), 0 waiting
+";

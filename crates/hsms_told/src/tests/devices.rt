@@ -1,7 +1,9 @@
 //! Devices that fail after one call more each time, until a run meets no failure.
 
 use super::auditing::{LOG, PASS};
-use super::{Run, SELECT, assert_octets};
+use super::{
+    DONE, Outcome, SELECT, WANT_OF_MEMORY, assert_octets, assert_so, feed_of, outcome_of, store_of,
+};
 use hsms_frame::{Feed, Sink, Store, Writer};
 use hsms_options::ToolFault;
 use hsms_tasks::{audit_to, encode_all, show};
@@ -9,7 +11,6 @@ use std::alloc::{AllocError, Global};
 use std::io;
 use std::io::Write;
 use std::process::Abort;
-use std::test::Fail;
 
 // More calls than any run makes.
 const FUSE: u64 = 1000;
@@ -130,35 +131,57 @@ fn worked<W: Sink>(
     }
 }
 
-// What comes of a row where each read past so many fails, and each write.
-fn run(alloc: Global, row: Row, reads: u64, writes: u64) -> Result<Run, AllocError> {
-    let mut source = Feed::new(Vec::from_slice(alloc, row.input)?, row.read.max(1), reads);
-    let mut sink = Store::new(vec![in alloc; 0u8; 256]?, row.write.max(1), writes);
-    let result = worked(alloc, row.work, &mut source, &mut sink);
-    let written = Vec::from_slice(alloc, sink.written())?;
-    Run { result, written }.or_want_of_memory()
+const NO_READ: &str = "Err(Device(\"Read\"))";
+
+const NO_WRITE: &str = "Err(Device(\"Write\"))";
+
+// What comes of a row where each read past so many fails.
+fn run(alloc: Global, row: &Row, reads: u64, sink: &mut Store) -> Result<Outcome, AllocError> {
+    let mut source = feed_of(alloc, row.input, row.read.max(1), reads)?;
+    Ok(outcome_of(worked(alloc, row.work, &mut source, sink)))
 }
 
-fn assert_word(rt: &impl Abort, run: &Run, want: &str) {
-    assert!(rt;
-        matches!(&run.result, Err(ToolFault::Device(word)) if *word == want),
-        "{want}"
-    );
+// Nothing failed, or a device did, and so much of the output is written. Answers whether one did. Want of memory is
+// handed up.
+fn judge_failure(
+    rt: &impl Abort,
+    row: &Row,
+    outcome: Outcome,
+    sink: &Store,
+    want: &str,
+    count: u64,
+) -> Result<bool, AllocError> {
+    let written = sink.written();
+    if outcome.as_str() == WANT_OF_MEMORY {
+        return Err(AllocError);
+    }
+    if outcome.as_str() == DONE {
+        assert_octets(rt, written, row.output, want);
+        return Ok(false);
+    }
+    assert_so(rt, outcome.as_str() == want, want);
+    assert_so(rt, written.len() as u64 == count, want);
+    assert_so(rt, row.output.starts_with(written), want);
+    Ok(true)
 }
 
-// A device failed, and so much of the output is written.
-fn assert_failed(rt: &impl Abort, run: &Run, want: &str, output: &[u8], count: u64) {
-    assert_word(rt, run, want);
-    assert_eq!(rt; run.written.len() as u64, count, "{want}");
-    assert!(rt; output.starts_with(run.written.as_slice()), "{want}");
-}
-
-fn assert_calls(rt: &impl Abort, calls: u64, want: u64, name: &str) {
-    assert_eq!(rt; calls, want, "{name}");
+// Runs a row where each read past so many fails, and each write. Answers whether one failed.
+fn fails(
+    rt: &impl Abort,
+    alloc: Global,
+    row: &Row,
+    reads: u64,
+    writes: u64,
+    want: &str,
+    count: u64,
+) -> Result<bool, AllocError> {
+    let mut sink = store_of(alloc, 256, row.write.max(1), writes)?;
+    let outcome = run(alloc, row, reads, &mut sink)?;
+    judge_failure(rt, row, outcome, &sink, want, count)
 }
 
 // How much is written before the read after so many: the line of each message that was read.
-fn written_before(row: Row, reads: u64) -> u64 {
+fn written_before(row: &Row, reads: u64) -> u64 {
     let messages = reads.saturating_mul(row.read as u64) / 14;
     match row.work {
         Work::Show => messages.saturating_mul(25).min(row.output.len() as u64),
@@ -167,42 +190,37 @@ fn written_before(row: Row, reads: u64) -> u64 {
 }
 
 // How many reads a run makes. Each of them is seen to fail.
-fn failing_reads(rt: &impl Abort, alloc: Global, row: Row) -> Result<u64, Fail> {
+fn failing_reads(rt: &impl Abort, alloc: Global, row: &Row) -> Result<u64, AllocError> {
     for reads in 0..FUSE {
-        let run = run(alloc, row, reads, u64::MAX)?;
-        if run.result.is_ok() {
-            assert_octets(rt, run.written.as_slice(), row.output, "Read");
+        let count = written_before(row, reads);
+        if !fails(rt, alloc, row, reads, u64::MAX, NO_READ, count)? {
             return Ok(reads);
         }
-        assert_failed(rt, &run, "Read", row.output, written_before(row, reads));
     }
     Ok(FUSE)
 }
 
 // How many writes a run makes. Each of them is seen to fail.
-fn failing_writes(rt: &impl Abort, alloc: Global, row: Row) -> Result<u64, Fail> {
+fn failing_writes(rt: &impl Abort, alloc: Global, row: &Row) -> Result<u64, AllocError> {
     for writes in 0..FUSE {
-        let run = run(alloc, row, u64::MAX, writes)?;
-        if run.result.is_ok() {
-            assert_octets(rt, run.written.as_slice(), row.output, "Write");
+        let count = writes.saturating_mul(row.write as u64);
+        if !fails(rt, alloc, row, u64::MAX, writes, NO_WRITE, count)? {
             return Ok(writes);
         }
-        let count = writes.saturating_mul(row.write as u64);
-        assert_failed(rt, &run, "Write", row.output, count);
     }
     Ok(FUSE)
 }
 
-fn judge_row(rt: &impl Abort, alloc: Global, row: Row) -> Result<(), Fail> {
-    assert_calls(rt, failing_reads(rt, alloc, row)?, row.reads, "reads");
-    assert_calls(rt, failing_writes(rt, alloc, row)?, row.writes, "writes");
+fn judge_row(rt: &impl Abort, alloc: Global, row: &Row) -> Result<(), AllocError> {
+    assert_so(rt, failing_reads(rt, alloc, row)? == row.reads, "reads");
+    assert_so(rt, failing_writes(rt, alloc, row)? == row.writes, "writes");
     Ok(())
 }
 
 #[test]
-fn tells_which_device_failed(rt: HostRuntime) -> Result<(), Fail> {
+fn tells_which_device_failed(rt: HostRuntime) -> Result<(), AllocError> {
     for row in ROWS {
-        judge_row(&rt, rt.alloc(), *row)?;
+        judge_row(&rt, rt.alloc(), row)?;
     }
     Ok(())
 }
@@ -221,19 +239,25 @@ impl Write for Full {
     }
 }
 
-fn judge_full(rt: &impl Abort, alloc: Global, row: Row) -> Result<(), Fail> {
-    let mut source = Feed::new(Vec::from_slice(alloc, row.input)?, 4096, u64::MAX);
-    let result = worked(alloc, row.work, &mut source, &mut Writer::new(Full));
-    let written = Vec::new(alloc);
-    let run = Run { result, written }.or_want_of_memory()?;
-    assert_word(rt, &run, "Write");
+// What comes of a row with such a writer.
+fn run_full(alloc: Global, row: &Row) -> Result<Outcome, AllocError> {
+    let mut source = feed_of(alloc, row.input, 4096, u64::MAX)?;
+    let mut sink = Writer::new(Full);
+    Ok(outcome_of(worked(alloc, row.work, &mut source, &mut sink)))
+}
+
+fn judge_full(rt: &impl Abort, alloc: Global, row: &Row) -> Result<(), AllocError> {
+    let outcome = run_full(alloc, row)?;
+    if outcome.as_str() == WANT_OF_MEMORY {
+        return Err(AllocError);
+    }
+    assert_so(rt, outcome.as_str() == NO_WRITE, "a full device");
     Ok(())
 }
 
 #[test]
-fn writer_that_takes_nothing_has_failed(rt: HostRuntime) -> Result<(), Fail> {
-    for row in [SHOW, ENCODE, AUDIT] {
-        judge_full(&rt, rt.alloc(), row)?;
-    }
-    Ok(())
+fn writer_that_takes_nothing_has_failed(rt: HostRuntime) -> Result<(), AllocError> {
+    judge_full(&rt, rt.alloc(), &SHOW)?;
+    judge_full(&rt, rt.alloc(), &ENCODE)?;
+    judge_full(&rt, rt.alloc(), &AUDIT)
 }

@@ -1,9 +1,10 @@
+use super::{Outcome, WANT_OF_MEMORY, assert_so, feed_of, judge, store_of};
 use hsms_explain::explain_to;
-use hsms_frame::{Feed, Store};
-use hsms_options::{Excerpt, Lines, Telling, ToolFault};
+use hsms_frame::Store;
+use hsms_options::{Excerpt, Lines, Telling};
 use std::alloc::{AllocError, Global};
+use std::fmt::InlineText;
 use std::process::Abort;
-use std::test::Fail;
 
 // Each line.
 const WHOLE: Excerpt = Excerpt {
@@ -16,139 +17,127 @@ const WHOLE: Excerpt = Excerpt {
 };
 
 // The reply comes a millisecond too late, and no line says that the wait for it was given up.
-const LATE: &[u8] = b"hsms-log 1 host active 0 45000 6000 10000 5000 1048576 32\n\
-    0 up\n\
-    0 > ffff0000000100000001\n\
-    5 < ffff0000000200000001\n\
-    1000 > 00008101000000000002\n\
-    46001 < 000001020000000000020102410141410142\n";
+const LATE: &str = "hsms-log 1 host active 0 45000 6000 10000 5000 1048576 32
+0 up
+0 > ffff0000000100000001
+5 < ffff0000000200000001
+1000 > 00008101000000000002
+46001 < 000001020000000000020102410141410142
+";
 
-const LATE_TOLD: &[u8] =
-    b"     1         hsms-log 1 host active 0 45000 6000 10000 5000 1048576 32\n     \
-    2       0 up\n     \
-    3       0 > select.req ffff 00000001\n     \
-    4       5 < select.rsp ffff 00000001 0\n       \
-    answers line 3 after 5 ms\n     \
-    5    1000 > data 0000 00000002 S1F1 W .\n     \
-    6   46001 < data 0000 00000002 S1F2 <L [2] <A [1] \"A\"> <A [1] \"B\">> .\n       \
-    FAIL T3Overdue: a reply is overdue, and no `t3` says so\n            \
-    concerns line 5\n            \
-    goes on as if `46000 t3 00000002` stood before it\n       \
-    FAIL NoTransaction: it answers nothing that is open\n            \
-    line 5 has its system bytes, and expired at line 6\n            \
-    goes on as if it were thrown away\n\
-    failures=2 T3Overdue=1 NoTransaction=1\n\
-    S1F1 W sent=1 expired=1\n\
-    fail line=6 rule=T3Overdue\n";
+const LATE_TOLD: &str = "     1         hsms-log 1 host active 0 45000 6000 10000 5000 1048576 32
+     2       0 up
+     3       0 > select.req ffff 00000001
+     4       5 < select.rsp ffff 00000001 0
+       answers line 3 after 5 ms
+     5    1000 > data 0000 00000002 S1F1 W .
+     6   46001 < data 0000 00000002 S1F2 <L [2] <A [1] \"A\"> <A [1] \"B\">> .
+       FAIL T3Overdue: a reply is overdue, and no `t3` says so
+            concerns line 5
+            goes on as if `46000 t3 00000002` stood before it
+       FAIL NoTransaction: it answers nothing that is open
+            line 5 has its system bytes, and expired at line 6
+            goes on as if it were thrown away
+failures=2 T3Overdue=1 NoTransaction=1
+S1F1 W sent=1 expired=1
+fail line=6 rule=T3Overdue
+";
 
 // A connection that isn't selected within T7, and behind it another one.
-const CUT: &[u8] = b"hsms-log 2 host active 0 45000 6000 10000 5000 1048576 32\r\n\
-    # a comment\n\
-    \n\
-    0 up\n\
-    10001 down\n\
-    nothing\n\
-    9000 up\n\
-    9000 ! 0000010200000000000201\n\
-    9001 up";
+const CUT: &str = "hsms-log 2 host active 0 45000 6000 10000 5000 1048576 32\r
+# a comment
 
-const CUT_TOLD: &[u8] =
-    b"     1         hsms-log 2 host active 0 45000 6000 10000 5000 1048576 32\n     \
-    2         # a comment\n     \
-    3         \n     \
-    4       0 up\n     \
-    5   10001 down\n       \
-    FAIL LinkOverdue: T6 or T7 has run out, and no `cut` says so\n            \
-    goes on as if `10000 cut t7` stood before it\n     \
-    6         nothing\n       \
-    FAIL unreadable: it can't be read\n     \
-    7    9000 up\n       \
-    FAIL Backwards: its time is before that of the last line\n            \
-    goes on as if its time were 10001\n     \
-    8    9000 ! data 0000 00000002 S1F2 ! 01\n       \
-    FAIL Backwards: its time is before that of the last line\n            \
-    goes on as if its time were 10001\n     \
-    9    9001 up\n       \
-    FAIL Backwards: its time is before that of the last line\n            \
-    goes on as if its time were 10001\n       \
-    FAIL NotUp: the connection isn't up, or this `up` may not stand here\n            \
-    goes on as if `10001 down` stood before it\n\
-    failures=6 LinkOverdue=1 unreadable=1 Backwards=3 NotUp=1\n\
-    fail line=5 rule=LinkOverdue\n";
+0 up
+10001 down
+nothing
+9000 up
+9000 ! 0000010200000000000201
+9001 up";
 
-const NOTHING: &[u8] = b"hsms-log 1 host active 0 45000 6000 10000 5000 1048576 32\n";
+const CUT_TOLD: &str = "     1         hsms-log 2 host active 0 45000 6000 10000 5000 1048576 32
+     2         # a comment
+     3         
+     4       0 up
+     5   10001 down
+       FAIL LinkOverdue: T6 or T7 has run out, and no `cut` says so
+            goes on as if `10000 cut t7` stood before it
+     6         nothing
+       FAIL unreadable: it can't be read
+     7    9000 up
+       FAIL Backwards: its time is before that of the last line
+            goes on as if its time were 10001
+     8    9000 ! data 0000 00000002 S1F2 ! 01
+       FAIL Backwards: its time is before that of the last line
+            goes on as if its time were 10001
+     9    9001 up
+       FAIL Backwards: its time is before that of the last line
+            goes on as if its time were 10001
+       FAIL NotUp: the connection isn't up, or this `up` may not stand here
+            goes on as if `10001 down` stood before it
+failures=6 LinkOverdue=1 unreadable=1 Backwards=3 NotUp=1
+fail line=5 rule=LinkOverdue
+";
 
-const NOTHING_TOLD: &[u8] =
-    b"     1         hsms-log 1 host active 0 45000 6000 10000 5000 1048576 32\n\
-    nothing was judged: the log has no entry\n\
-    failures=0\n\
-    pass entries=0 sent=0 taken=0 discarded=0 expired=0 waiting=0\n";
+const NOTHING: &str = "hsms-log 1 host active 0 45000 6000 10000 5000 1048576 32
+";
 
-const NO_LOG_TOLD: &[u8] = b"     1         0 up\n       \
-    FAIL unreadable: it can't be read\n     \
-    2         0 down\n\
-    nothing was judged: line 1 can't be read\n\
-    fail line=1 unreadable\n";
+const NOTHING_TOLD: &str = "     1         hsms-log 1 host active 0 45000 6000 10000 5000 1048576 32
+nothing was judged: the log has no entry
+failures=0
+pass entries=0 sent=0 taken=0 discarded=0 expired=0 waiting=0
+";
 
-#[derive(Drop)]
-struct Run {
-    result: Result<bool, ToolFault>,
-    written: Vec<u8>,
-}
-
-impl Run {
-    fn or_want_of_memory(self) -> Result<Run, AllocError> {
-        match &self.result {
-            Err(ToolFault::Memory) => Err(AllocError),
-            _ => Ok(self),
-        }
-    }
-}
+const NO_LOG_TOLD: &str = "     1         0 up
+       FAIL unreadable: it can't be read
+     2         0 down
+nothing was judged: line 1 can't be read
+fail line=1 unreadable
+";
 
 fn explained(
     alloc: Global,
     excerpt: Excerpt,
-    log: &[u8],
+    log: &str,
     reads: u64,
-    writes: u64,
-) -> Result<Run, AllocError> {
-    let mut source = Feed::new(Vec::from_slice(alloc, log)?, 100, reads);
-    let mut sink = Store::new(vec![in alloc; 0u8; 2048]?, 100, writes);
-    let result = explain_to(alloc, excerpt, &mut source, &mut sink);
-    let written = Vec::from_slice(alloc, sink.written())?;
-    Ok(Run { result, written })
-}
-
-fn assert_told(rt: &impl Abort, run: &Run, passes: bool, told: &[u8]) {
-    assert!(rt; matches!(run.result, Ok(well) if well == passes));
-    assert_eq!(rt; run.written.as_slice(), told);
+    sink: &mut Store,
+) -> Result<Outcome, AllocError> {
+    let mut source = feed_of(alloc, log.as_bytes(), 100, reads)?;
+    let result = explain_to(alloc, excerpt, &mut source, sink);
+    Ok(InlineText::of(format_args!("{result:?}")))
 }
 
 fn judge_log(
     rt: &impl Abort,
     alloc: Global,
     excerpt: Excerpt,
-    log: &[u8],
-    passes: bool,
-    told: &[u8],
-) -> Result<(), Fail> {
-    let run = explained(alloc, excerpt, log, u64::MAX, u64::MAX)?.or_want_of_memory()?;
-    assert_told(rt, &run, passes, told);
-    Ok(())
+    log: &str,
+    want: &str,
+    told: &str,
+) -> Result<(), AllocError> {
+    let mut sink = store_of(alloc, 2048, 100, u64::MAX)?;
+    let outcome = explained(alloc, excerpt, log, u64::MAX, &mut sink)?;
+    judge(rt, outcome, &sink, want, told.as_bytes(), told)
 }
 
 #[test]
-fn tells_each_failure(rt: HostRuntime) -> Result<(), Fail> {
+fn tells_each_failure(rt: HostRuntime) -> Result<(), AllocError> {
     let alloc = rt.alloc();
-    judge_log(&rt, alloc, WHOLE, LATE, false, LATE_TOLD)?;
-    judge_log(&rt, alloc, WHOLE, CUT, false, CUT_TOLD)
+    judge_log(&rt, alloc, WHOLE, LATE, "Ok(false)", LATE_TOLD)?;
+    judge_log(&rt, alloc, WHOLE, CUT, "Ok(false)", CUT_TOLD)
 }
 
 #[test]
-fn tells_that_nothing_was_judged(rt: HostRuntime) -> Result<(), Fail> {
+fn tells_that_nothing_was_judged(rt: HostRuntime) -> Result<(), AllocError> {
     let alloc = rt.alloc();
-    judge_log(&rt, alloc, WHOLE, NOTHING, true, NOTHING_TOLD)?;
-    judge_log(&rt, alloc, WHOLE, b"0 up\n0 down\n", false, NO_LOG_TOLD)
+    judge_log(&rt, alloc, WHOLE, NOTHING, "Ok(true)", NOTHING_TOLD)?;
+    judge_log(
+        &rt,
+        alloc,
+        WHOLE,
+        "0 up\n0 down\n",
+        "Ok(false)",
+        NO_LOG_TOLD,
+    )
 }
 
 // Failures alone, with a line around them.
@@ -161,18 +150,19 @@ const FAILURES: Excerpt = Excerpt {
     utc: false,
 };
 
-const LATE_FAILURES_TOLD: &[u8] = b"       ..\n     \
-    5    1000 > data 0000 00000002 S1F1 W .\n     \
-    6   46001 < data 0000 00000002 S1F2 <L [2] <A [1] \"A\"> <A [1] \"B\">> .\n       \
-    FAIL T3Overdue: a reply is overdue, and no `t3` says so\n            \
-    concerns line 5\n            \
-    goes on as if `46000 t3 00000002` stood before it\n       \
-    FAIL NoTransaction: it answers nothing that is open\n            \
-    line 5 has its system bytes, and expired at line 6\n            \
-    goes on as if it were thrown away\n\
-    failures=2 T3Overdue=1 NoTransaction=1\n\
-    S1F1 W sent=1 expired=1\n\
-    fail line=6 rule=T3Overdue\n";
+const LATE_FAILURES_TOLD: &str = "       ..
+     5    1000 > data 0000 00000002 S1F1 W .
+     6   46001 < data 0000 00000002 S1F2 <L [2] <A [1] \"A\"> <A [1] \"B\">> .
+       FAIL T3Overdue: a reply is overdue, and no `t3` says so
+            concerns line 5
+            goes on as if `46000 t3 00000002` stood before it
+       FAIL NoTransaction: it answers nothing that is open
+            line 5 has its system bytes, and expired at line 6
+            goes on as if it were thrown away
+failures=2 T3Overdue=1 NoTransaction=1
+S1F1 W sent=1 expired=1
+fail line=6 rule=T3Overdue
+";
 
 // Lines 2 to 4, of which the last one closes what line 3 opened.
 const FRONT: Excerpt = Excerpt {
@@ -184,80 +174,84 @@ const FRONT: Excerpt = Excerpt {
     utc: false,
 };
 
-const LATE_FRONT_TOLD: &[u8] = b"       ..\n     \
-    2       0 up\n     \
-    3       0 > select.req ffff 00000001\n     \
-    4       5 < select.rsp ffff 00000001 0\n       \
-    answers line 3 after 5 ms\n       \
-    ..\n\
-    failures=2 T3Overdue=1 NoTransaction=1\n\
-    S1F1 W sent=1 expired=1\n\
-    fail line=6 rule=T3Overdue\n";
+const LATE_FRONT_TOLD: &str = "       ..
+     2       0 up
+     3       0 > select.req ffff 00000001
+     4       5 < select.rsp ffff 00000001 0
+       answers line 3 after 5 ms
+       ..
+failures=2 T3Overdue=1 NoTransaction=1
+S1F1 W sent=1 expired=1
+fail line=6 rule=T3Overdue
+";
 
 #[test]
-fn tells_an_excerpt(rt: HostRuntime) -> Result<(), Fail> {
+fn tells_an_excerpt(rt: HostRuntime) -> Result<(), AllocError> {
     let alloc = rt.alloc();
-    judge_log(&rt, alloc, FAILURES, LATE, false, LATE_FAILURES_TOLD)?;
-    judge_log(&rt, alloc, FRONT, LATE, false, LATE_FRONT_TOLD)
+    judge_log(&rt, alloc, FAILURES, LATE, "Ok(false)", LATE_FAILURES_TOLD)?;
+    judge_log(&rt, alloc, FRONT, LATE, "Ok(false)", LATE_FRONT_TOLD)
 }
 
 // Data of another device: of the first three of a session each is told whole.
-const ALIKE: &[u8] = b"hsms-log 1 host active 0 45000 6000 10000 5000 1048576 32\n\
-    0 up\n\
-    0 > ffff0000000100000001\n\
-    5 < ffff0000000200000001\n\
-    10 < 0001060b000000000001\n\
-    11 < 0001060b000000000002\n\
-    12 < 0001060b000000000003\n\
-    13 < 0002060b000000000004\n\
-    14 < 0001060b000000000005\n\
-    15 < 0001060b000000000006\n\
-    16 < 0001060b000000000007\n";
+const ALIKE: &str = "hsms-log 1 host active 0 45000 6000 10000 5000 1048576 32
+0 up
+0 > ffff0000000100000001
+5 < ffff0000000200000001
+10 < 0001060b000000000001
+11 < 0001060b000000000002
+12 < 0001060b000000000003
+13 < 0002060b000000000004
+14 < 0001060b000000000005
+15 < 0001060b000000000006
+16 < 0001060b000000000007
+";
 
-const ALIKE_TOLD: &[u8] = b"       ..\n     \
-    7      12 < data 0001 00000003 S6F11 .\n       \
-    FAIL Session: its session ID isn't that of such a message\n            \
-    session 0000 expected, 0001 came\n            \
-    goes on as if it were thrown away\n     \
-    8      13 < data 0002 00000004 S6F11 .\n       \
-    FAIL Session: its session ID isn't that of such a message\n            \
-    session 0000 expected, 0002 came\n            \
-    goes on as if it were thrown away\n     \
-    9      14 < data 0001 00000005 S6F11 .\n       \
-    FAIL Session: its session ID isn't that of such a message\n            \
-    session 0000 expected, 0001 came\n            \
-    goes on as if it were thrown away\n    \
-    10      15 < data 0001 00000006 S6F11 .\n       \
-    FAIL Session: its session ID isn't that of such a message\n            \
-    session 0000 expected, 0001 came\n            \
-    goes on as if it were thrown away\n    \
-    11      16 < data 0001 00000007 S6F11 .\n       \
-    FAIL Session: like line 7\n\
-    Session: and 1 more like line 7, up to line 11\n\
-    failures=7 Session=7\n\
-    fail line=5 rule=Session\n";
+const ALIKE_TOLD: &str = "       ..
+     7      12 < data 0001 00000003 S6F11 .
+       FAIL Session: its session ID isn't that of such a message
+            session 0000 expected, 0001 came
+            goes on as if it were thrown away
+     8      13 < data 0002 00000004 S6F11 .
+       FAIL Session: its session ID isn't that of such a message
+            session 0000 expected, 0002 came
+            goes on as if it were thrown away
+     9      14 < data 0001 00000005 S6F11 .
+       FAIL Session: its session ID isn't that of such a message
+            session 0000 expected, 0001 came
+            goes on as if it were thrown away
+    10      15 < data 0001 00000006 S6F11 .
+       FAIL Session: its session ID isn't that of such a message
+            session 0000 expected, 0001 came
+            goes on as if it were thrown away
+    11      16 < data 0001 00000007 S6F11 .
+       FAIL Session: like line 7
+Session: and 1 more like line 7, up to line 11
+failures=7 Session=7
+fail line=5 rule=Session
+";
 
-const ALIKE_FAILURES_TOLD: &[u8] = b"       ..\n     \
-    5      10 < data 0001 00000001 S6F11 .\n       \
-    FAIL Session: its session ID isn't that of such a message\n            \
-    session 0000 expected, 0001 came\n            \
-    goes on as if it were thrown away\n     \
-    6      11 < data 0001 00000002 S6F11 .\n       \
-    FAIL Session: its session ID isn't that of such a message\n            \
-    session 0000 expected, 0001 came\n            \
-    goes on as if it were thrown away\n     \
-    7      12 < data 0001 00000003 S6F11 .\n       \
-    FAIL Session: its session ID isn't that of such a message\n            \
-    session 0000 expected, 0001 came\n            \
-    goes on as if it were thrown away\n     \
-    8      13 < data 0002 00000004 S6F11 .\n       \
-    FAIL Session: its session ID isn't that of such a message\n            \
-    session 0000 expected, 0002 came\n            \
-    goes on as if it were thrown away\n       \
-    ..\n\
-    Session: and 3 more like line 5, up to line 11\n\
-    failures=7 Session=7\n\
-    fail line=5 rule=Session\n";
+const ALIKE_FAILURES_TOLD: &str = "       ..
+     5      10 < data 0001 00000001 S6F11 .
+       FAIL Session: its session ID isn't that of such a message
+            session 0000 expected, 0001 came
+            goes on as if it were thrown away
+     6      11 < data 0001 00000002 S6F11 .
+       FAIL Session: its session ID isn't that of such a message
+            session 0000 expected, 0001 came
+            goes on as if it were thrown away
+     7      12 < data 0001 00000003 S6F11 .
+       FAIL Session: its session ID isn't that of such a message
+            session 0000 expected, 0001 came
+            goes on as if it were thrown away
+     8      13 < data 0002 00000004 S6F11 .
+       FAIL Session: its session ID isn't that of such a message
+            session 0000 expected, 0002 came
+            goes on as if it were thrown away
+       ..
+Session: and 3 more like line 5, up to line 11
+failures=7 Session=7
+fail line=5 rule=Session
+";
 
 // From line 7 on: of those that come before nothing is told.
 const FROM_SEVEN: Excerpt = Excerpt {
@@ -280,35 +274,44 @@ const BARE_FAILURES: Excerpt = Excerpt {
 };
 
 #[test]
-fn counts_failures_that_are_alike(rt: HostRuntime) -> Result<(), Fail> {
+fn counts_failures_that_are_alike(rt: HostRuntime) -> Result<(), AllocError> {
     let alloc = rt.alloc();
-    judge_log(&rt, alloc, FROM_SEVEN, ALIKE, false, ALIKE_TOLD)?;
-    judge_log(&rt, alloc, BARE_FAILURES, ALIKE, false, ALIKE_FAILURES_TOLD)
+    judge_log(&rt, alloc, FROM_SEVEN, ALIKE, "Ok(false)", ALIKE_TOLD)?;
+    judge_log(
+        &rt,
+        alloc,
+        BARE_FAILURES,
+        ALIKE,
+        "Ok(false)",
+        ALIKE_FAILURES_TOLD,
+    )
 }
 
 // Replies after 12, 40 and 5 ms, one that aborts, one that is awaited; and one of the host after 301 ms.
-const REPLIES: &[u8] = b"hsms-log 1 host active 0 45000 6000 10000 5000 1048576 32\n\
-    0 up\n\
-    0 > ffff0000000100000001\n\
-    5 < ffff0000000200000001\n\
-    1000 > 00008101000000000002\n\
-    1012 < 00000102000000000002\n\
-    2000 > 00008101000000000003\n\
-    2040 < 00000102000000000003\n\
-    3000 > 00008101000000000004\n\
-    3005 < 00000102000000000004\n\
-    4000 < 0000860b000000000009\n\
-    4301 > 0000060c000000000009\n\
-    5000 > 00008101000000000005\n\
-    5001 < 00000100000000000005\n\
-    6000 > 00008101000000000006\n";
+const REPLIES: &str = "hsms-log 1 host active 0 45000 6000 10000 5000 1048576 32
+0 up
+0 > ffff0000000100000001
+5 < ffff0000000200000001
+1000 > 00008101000000000002
+1012 < 00000102000000000002
+2000 > 00008101000000000003
+2040 < 00000102000000000003
+3000 > 00008101000000000004
+3005 < 00000102000000000004
+4000 < 0000860b000000000009
+4301 > 0000060c000000000009
+5000 > 00008101000000000005
+5001 < 00000100000000000005
+6000 > 00008101000000000006
+";
 
-const REPLIES_TOLD: &[u8] = b"       ..\n    \
-    15    6000 > data 0000 00000006 S1F1 W .\n\
-    failures=0\n\
-    S1F1 W sent=5 answered=3 aborted=1 waiting=1 least=5 median=12 p99=40 greatest=40 line=8\n\
-    S6F11 W received=1 answered=1 least=301 median=301 p99=301 greatest=301 line=12\n\
-    pass entries=14 sent=7 taken=6 discarded=0 expired=0 waiting=1\n";
+const REPLIES_TOLD: &str = "       ..
+    15    6000 > data 0000 00000006 S1F1 W .
+failures=0
+S1F1 W sent=5 answered=3 aborted=1 waiting=1 least=5 median=12 p99=40 greatest=40 line=8
+S6F11 W received=1 answered=1 least=301 median=301 p99=301 greatest=301 line=12
+pass entries=14 sent=7 taken=6 discarded=0 expired=0 waiting=1
+";
 
 // The last line alone.
 const LAST: Excerpt = Excerpt {
@@ -321,30 +324,43 @@ const LAST: Excerpt = Excerpt {
 };
 
 #[test]
-fn tells_how_long_replies_took(rt: HostRuntime) -> Result<(), Fail> {
+fn tells_how_long_replies_took(rt: HostRuntime) -> Result<(), AllocError> {
     let alloc = rt.alloc();
-    judge_log(&rt, alloc, LAST, REPLIES, true, REPLIES_TOLD)
+    judge_log(&rt, alloc, LAST, REPLIES, "Ok(true)", REPLIES_TOLD)
 }
 
-fn assert_stopped(rt: &impl Abort, run: &Run, word: &str, told: &[u8]) {
-    let count = run.written.len();
-    assert!(rt;
-        matches!(&run.result, Err(ToolFault::Device(found)) if *found == word),
-        "{word}"
-    );
-    assert!(rt; count <= told.len());
-    assert_eq!(rt; run.written.as_slice(), &told[..count], "{word}");
+// A device failed, and what was told before stands.
+fn assert_stopped(
+    rt: &impl Abort,
+    outcome: Outcome,
+    written: &[u8],
+    want: &str,
+) -> Result<(), AllocError> {
+    if outcome.as_str() == WANT_OF_MEMORY {
+        return Err(AllocError);
+    }
+    assert_so(rt, outcome.as_str() == want, want);
+    assert_so(rt, LATE_TOLD.as_bytes().starts_with(written), want);
+    Ok(())
 }
 
-// A device that fails: what was told before stands.
+fn judge_stopped(
+    rt: &impl Abort,
+    alloc: Global,
+    reads: u64,
+    writes: u64,
+    want: &str,
+) -> Result<(), AllocError> {
+    let mut sink = store_of(alloc, 2048, 100, writes)?;
+    let outcome = explained(alloc, WHOLE, LATE, reads, &mut sink)?;
+    assert_stopped(rt, outcome, sink.written(), want)
+}
+
 #[test]
-fn tells_until_a_device_fails(rt: HostRuntime) -> Result<(), Fail> {
-    let alloc = rt.alloc();
+fn tells_until_a_device_fails(rt: HostRuntime) -> Result<(), AllocError> {
     for calls in [0, 1, 2] {
-        let run = explained(alloc, WHOLE, LATE, calls, u64::MAX)?.or_want_of_memory()?;
-        assert_stopped(&rt, &run, "Read", LATE_TOLD);
-        let run = explained(alloc, WHOLE, LATE, u64::MAX, calls)?.or_want_of_memory()?;
-        assert_stopped(&rt, &run, "Write", LATE_TOLD);
+        judge_stopped(&rt, rt.alloc(), calls, u64::MAX, "Err(Device(\"Read\"))")?;
+        judge_stopped(&rt, rt.alloc(), u64::MAX, calls, "Err(Device(\"Write\"))")?;
     }
     Ok(())
 }

@@ -1,21 +1,39 @@
 ghost use Rattle.std.specs.Prelude.{◌<◌};
 
-use super::{Run, assert_done, assert_refused};
-use hsms_frame::{Feed, Store};
+use super::{DONE, Outcome, feed_of, judge, outcome_of, store_of};
+use hsms_frame::Store;
 use hsms_tasks::show_hex;
 use std::alloc::{AllocError, Global};
 use std::process::Abort;
-use std::test::Fail;
 
-// What is shown of lines that come in pieces, with `max` 256 and depth 32.
-fn shown(alloc: Global, text: &str, bare: bool, piece: usize) -> Result<Run, AllocError>
+// Lines that come in pieces, with `max` 256 and depth 32.
+fn shown(
+    alloc: Global,
+    text: &str,
+    bare: bool,
+    piece: usize,
+    sink: &mut Store,
+) -> Result<Outcome, AllocError>
     requires { 0 < piece }
 {
-    let mut source = Feed::new(Vec::from_slice(alloc, text.as_bytes())?, piece, u64::MAX);
-    let mut sink = Store::new(vec![in alloc; 0u8; 256]?, piece, u64::MAX);
-    let result = show_hex(alloc, &mut source, &mut sink, 256, 32, bare);
-    let written = Vec::from_slice(alloc, sink.written())?;
-    Ok(Run { result, written })
+    let mut source = feed_of(alloc, text.as_bytes(), piece, u64::MAX)?;
+    Ok(outcome_of(show_hex(alloc, &mut source, sink, 256, 32, bare)))
+}
+
+fn judge_lines(
+    rt: &impl Abort,
+    alloc: Global,
+    text: &str,
+    bare: bool,
+    piece: usize,
+    want: &str,
+    lines: &str,
+) -> Result<(), AllocError>
+    requires { 0 < piece }
+{
+    let mut sink = store_of(alloc, 256, piece, u64::MAX)?;
+    let outcome = shown(alloc, text, bare, piece, &mut sink)?;
+    judge(rt, outcome, &sink, want, lines.as_bytes(), text)
 }
 
 // Lines, whether they are bare, and what is shown of them.
@@ -39,90 +57,86 @@ const SHOWN: &[(&str, bool, &str)] = &[
     ),
 ];
 
+// Lines are shown an octet a call, and in one piece.
 fn judge_shown(
     rt: &impl Abort,
     alloc: Global,
     text: &str,
     bare: bool,
-    piece: usize,
     lines: &str,
-) -> Result<(), Fail>
-    requires { 0 < piece }
-{
-    let run = shown(alloc, text, bare, piece)?.or_want_of_memory()?;
-    assert_done(rt, &run, lines.as_bytes(), text);
-    Ok(())
+) -> Result<(), AllocError> {
+    judge_lines(rt, alloc, text, bare, 1, DONE, lines)?;
+    judge_lines(rt, alloc, text, bare, 4096, DONE, lines)
 }
 
 #[test]
-fn shows_lines(rt: HostRuntime) -> Result<(), Fail> {
+fn shows_lines(rt: HostRuntime) -> Result<(), AllocError> {
     for (text, bare, lines) in SHOWN {
-        for piece in [1, 4096] {
-            judge_shown(&rt, rt.alloc(), text, *bare, piece, lines)?;
-        }
+        judge_shown(&rt, rt.alloc(), text, *bare, lines)?;
     }
     Ok(())
 }
 
 const SELECT: &str = "select.req ffff 00000001\n";
 
-// Lines, whether they are bare, the words of their refusal, and what is shown before.
+const NO_MESSAGE: &str = "Err(Refused(\"NoMessage line=1\"))";
+
+// Lines, whether they are bare, the fault, and what is shown before.
 const REFUSED: &[(&str, bool, &str, &str)] = &[
-    ("0\n", false, "NoHex line=1", ""),
-    ("00 0 0\n", false, "NoHex line=1", ""),
+    ("0\n", false, "Err(Refused(\"NoHex line=1\"))", ""),
+    ("00 0 0\n", false, "Err(Refused(\"NoHex line=1\"))", ""),
     (
         "\n0000000affff0000000100000001\n0g\n",
         false,
-        "NoHex line=3",
+        "Err(Refused(\"NoHex line=3\"))",
         SELECT,
     ),
-    ("00\r\r\n", false, "NoHex line=1", ""),
-    (
-        "0000000bffff0000000100000001\n",
-        false,
-        "NoMessage line=1",
-        "",
-    ),
+    ("00\r\r\n", false, "Err(Refused(\"NoHex line=1\"))", ""),
+    ("0000000bffff0000000100000001\n", false, NO_MESSAGE, ""),
     (
         "ffff0000000100000001\nffff00000001000000\n",
         true,
-        "NoMessage line=2",
+        "Err(Refused(\"NoMessage line=2\"))",
         SELECT,
     ),
-    ("ffff00000001000000", true, "NoMessage line=1", ""),
+    ("ffff00000001000000", true, NO_MESSAGE, ""),
 ];
 
-fn judge_refused(
-    rt: &impl Abort,
-    alloc: Global,
-    text: &str,
-    bare: bool,
-    words: &str,
-    lines: &str,
-) -> Result<(), Fail> {
-    let run = shown(alloc, text, bare, 7)?.or_want_of_memory()?;
-    assert_refused(rt, &run, words, lines.as_bytes());
+#[test]
+fn refuses_lines(rt: HostRuntime) -> Result<(), AllocError> {
+    for (text, bare, want, lines) in REFUSED {
+        judge_lines(&rt, rt.alloc(), text, *bare, 7, want, lines)?;
+    }
     Ok(())
 }
 
-#[test]
-fn refuses_lines(rt: HostRuntime) -> Result<(), Fail> {
-    for (text, bare, words, lines) in REFUSED {
-        judge_refused(&rt, rt.alloc(), text, *bare, words, lines)?;
+// A line of a message and so many blanks.
+fn blank(alloc: Global, count: usize) -> Result<String, AllocError> {
+    let mut text = String::from_str(alloc, "ffff0000000100000001")?;
+    for _ in 0..count {
+        text.push(' ')?;
     }
-    Ok(())
+    Ok(text)
+}
+
+// What is shown of it.
+fn judge_blank(
+    rt: &impl Abort,
+    alloc: Global,
+    count: usize,
+    piece: usize,
+    want: &str,
+    lines: &str,
+) -> Result<(), AllocError>
+    requires { 0 < piece }
+{
+    let text = blank(alloc, count)?;
+    judge_lines(rt, alloc, text.as_str(), true, piece, want, lines)
 }
 
 // A line of as many octets as it may have, and of one more.
 #[test]
-fn lines_are_limited(rt: HostRuntime) -> Result<(), Fail> {
-    let alloc = rt.alloc();
-    let mut text = String::new(alloc);
-    text.push_str("ffff0000000100000001")?;
-    for _ in 0..4 * 256 + 64 - 20 {
-        text.push(' ')?;
-    }
-    judge_shown(&rt, alloc, text.as_str(), true, 4096, SELECT)?;
-    text.push(' ')?;
-    judge_refused(&rt, alloc, text.as_str(), true, "NoMessage line=1", "")
+fn lines_are_limited(rt: HostRuntime) -> Result<(), AllocError> {
+    judge_blank(&rt, rt.alloc(), 4 * 256 + 64 - 20, 4096, DONE, SELECT)?;
+    judge_blank(&rt, rt.alloc(), 4 * 256 + 64 - 19, 7, NO_MESSAGE, "")
 }

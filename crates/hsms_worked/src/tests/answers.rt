@@ -1,13 +1,9 @@
 //! What follows a received message.
 
-use super::{EQUIPMENT, HOST, SMALL_EQUIPMENT, Session};
-
-pub const ANSWERS: &[Session] = &[
-    (
-        "primaries that equipment takes",
-        EQUIPMENT,
-        1,
-        "start 0
+pub const ANSWERS: &str = "# primaries that equipment takes
+hsms-log 1 equipment passive 0 45000 6000 10000 5000 1048576 32
+from 1
+start 0
 0 up
 comes ffff0000000100000001
 0 < ffff0000000100000001
@@ -22,13 +18,10 @@ comes 00008703000000000008
 0 < 00008703000000000008
 0 > 00000903000000000001210a00008703000000000008
 0 > 00000700000000000008
-",
-    ),
-    (
-        "what else equipment receives",
-        EQUIPMENT,
-        1,
-        "start 0
+# what else equipment receives
+hsms-log 1 equipment passive 0 45000 6000 10000 5000 1048576 32
+from 1
+start 0
 0 up
 comes ffff0000000100000001
 0 < ffff0000000100000001
@@ -57,13 +50,10 @@ comes ffff0000000100000006
 0 > ffff0001000200000006
 comes 00000102000000000007
 0 ! 00000102000000000007
-",
-    ),
-    (
-        "a host aborts what it doesn't know",
-        HOST,
-        1,
-        "start 0
+# a host aborts what it doesn't know
+hsms-log 1 host active 0 45000 6000 10000 5000 1048576 32
+from 1
+start 0
 0 up
 0 > ffff0000000100000001
 comes ffff0000000200000001
@@ -79,26 +69,20 @@ comes 0000810d00000000000a
 0 > 0000010e00000000000a01022101000100
 comes 00000907000000000001210a00008703000000000008
 0 < 00000907000000000001210a00008703000000000008
-",
-    ),
-    (
-        "data before the session is selected",
-        HOST,
-        1,
-        "start 0
+# data before the session is selected
+hsms-log 1 host active 0 45000 6000 10000 5000 1048576 32
+from 1
+start 0
 0 up
 0 > ffff0000000100000001
 tick 3
 comes 00008101000000000002
 3 ! 00008101000000000002
 3 > 00000004000700000002
-",
-    ),
-    (
-        "a length past the limit",
-        SMALL_EQUIPMENT,
-        1,
-        "start 0
+# a length past the limit
+hsms-log 1 equipment passive 0 45000 6000 10000 5000 256 32
+from 1
+start 0
 0 up
 tick 10
 comes ffff0000000100000001
@@ -109,13 +93,10 @@ octets 0000010100008101000000000005
 10 cut length
 10 down
 pending 0000010100008101000000000005
-",
-    ),
-    (
-        "a length below 10",
-        SMALL_EQUIPMENT,
-        1,
-        "start 0
+# a length below 10
+hsms-log 1 equipment passive 0 45000 6000 10000 5000 256 32
+from 1
+start 0
 0 up
 tick 10
 comes ffff0000000100000001
@@ -125,6 +106,4 @@ octets 00000009
 10 cut length
 10 down
 pending 00000009
-",
-    ),
-];
+";

@@ -3,8 +3,8 @@
 ghost use Rattle.std.specs.Prelude.{◌<◌};
 
 use super::{
-    AllocError, EquipmentDesk, Fail, Global, HostDesk, Role, Settings, Side, Store, equipment,
-    settings,
+    AllocError, EquipmentDesk, Global, HostDesk, Role, Settings, Side, Stop, Store, equipment,
+    octets_of_all, settings,
 };
 use hsms_ends::{Scripted, ServeFault, Served, Step, serve};
 use hsms_log::{Summary, Verdict, judge};
@@ -13,6 +13,39 @@ pub const EQUIPMENT_LINE: &str =
     "hsms-log 1 equipment passive 0 45000 6000 10000 5000 1048576 32\n";
 
 pub const HOST_LINE: &str = "hsms-log 1 host active 0 45000 6000 10000 5000 1048576 32\n";
+
+/// What a wait gives: nothing where it is `quiet`, or the octets of messages.
+fn wait_of(alloc: Global, messages: &str) -> Result<Option<Vec<u8>>, Stop> {
+    match messages {
+        "quiet" => Ok(None),
+        _ => Ok(Some(octets_of_all(alloc, messages)?)),
+    }
+}
+
+/// What each wait gives, a line each.
+fn waits_of(alloc: Global, waits: &str) -> Result<Vec<Option<Vec<u8>>>, Stop> {
+    let mut given = Vec::new(alloc);
+    for messages in waits.lines() {
+        given.push(wait_of(alloc, messages)?)?;
+    }
+    Ok(given)
+}
+
+/// A link with these moments and waits, that moves so many octets a call, and fails after so many calls.
+pub fn link_of(
+    alloc: Global,
+    moments: &[u64],
+    waits: &str,
+    piece: usize,
+    fuse: u64,
+) -> Result<Scripted, Stop>
+    requires { 0 < piece }
+{
+    let waits = waits_of(alloc, waits)?;
+    let moments = Vec::from_slice(alloc, moments)?;
+    let room = vec![in alloc; 0u8; 1024]?;
+    Ok(Scripted::new(moments, waits, room, piece, fuse))
+}
 
 /// A log of so much room that takes so many octets a call, and fails after so many calls.
 pub fn log_of(alloc: Global, room: usize, piece: usize, fuse: u64) -> Result<Store, AllocError>
@@ -71,9 +104,9 @@ pub fn answer_of(
 }
 
 /// The summary of a log, which has to pass the audit.
-pub fn audited(alloc: Global, log: &[u8]) -> Result<Summary, Fail> {
+pub fn audited(alloc: Global, log: &[u8]) -> Result<Summary, Stop> {
     match judge(alloc, log)? {
         Verdict::Pass(summary) => Ok(summary),
-        Verdict::Fail { .. } => Err("a log that fails".into()),
+        Verdict::Fail { .. } => Err(Stop::Verdict),
     }
 }

@@ -1,13 +1,9 @@
 //! Corners of an end.
 
-use super::{EQUIPMENT, HOST, Session};
-
-pub const CORNERS: &[Session] = &[
-    (
-        "another device, before and after selection",
-        EQUIPMENT,
-        1,
-        "start 0
+pub const CORNERS: &str = "# another device, before and after selection
+hsms-log 1 equipment passive 0 45000 6000 10000 5000 1048576 32
+from 1
+start 0
 0 up
 comes 00018101000000000002
 0 ! 00018101000000000002
@@ -19,13 +15,10 @@ comes 00010901000000000002
 0 > 00000901000000000001210a00010901000000000002
 comes 00000901000000000002
 0 ! 00000901000000000002
-",
-    ),
-    (
-        "a reply that can't be read",
-        EQUIPMENT,
-        1,
-        "start 0
+# a reply that can't be read
+hsms-log 1 equipment passive 0 45000 6000 10000 5000 1048576 32
+from 1
+start 0
 0 up
 comes ffff0000000100000001
 0 < ffff0000000100000001
@@ -37,13 +30,10 @@ comes 0000010200000000000140
 0 > 00000907000000000002210a00000102000000000001
 comes 00000102000000000001
 0 < 00000102000000000001
-",
-    ),
-    (
-        "primaries without W",
-        EQUIPMENT,
-        1,
-        "start 0
+# primaries without W
+hsms-log 1 equipment passive 0 45000 6000 10000 5000 1048576 32
+from 1
+start 0
 0 up
 comes ffff0000000100000001
 0 < ffff0000000100000001
@@ -57,13 +47,10 @@ comes 0000ffff000000000002
 0 < 0000ffff000000000002
 0 > 00000903000000000002210a0000ffff000000000002
 0 > 00007f00000000000002
-",
-    ),
-    (
-        "control messages that nothing answers",
-        HOST,
-        1,
-        "start 0
+# control messages that nothing answers
+hsms-log 1 host active 0 45000 6000 10000 5000 1048576 32
+from 1
+start 0
 0 up
 0 > ffff0000000100000001
 comes ffff0000000100000002
@@ -83,13 +70,10 @@ linktest
 separate
 0 > ffff0000000900000003
 0 down
-",
-    ),
-    (
-        "a Separate.req before a whole message",
-        EQUIPMENT,
-        1,
-        "start 0
+# a Separate.req before a whole message
+hsms-log 1 equipment passive 0 45000 6000 10000 5000 1048576 32
+from 1
+start 0
 0 up
 octets 0000000affff00000005000000010000000affff00000009000000020000000affff0000000500000003
 0 < ffff0000000500000001
@@ -101,13 +85,10 @@ refused NotUp
 start 1
 refused NotUp
 pending 0000000affff0000000500000003
-",
-    ),
-    (
-        "time that goes back, and octets that are none",
-        HOST,
-        1,
-        "tick 0
+# time that goes back, and octets that are none
+hsms-log 1 host active 0 45000 6000 10000 5000 1048576 32
+from 1
+tick 0
 refused NotUp
 start 0
 0 up
@@ -126,13 +107,10 @@ tick 5010
 5010 cut t8
 5010 down
 pending 00
-",
-    ),
-    (
-        "an abort answers once",
-        EQUIPMENT,
-        0,
-        "start 0
+# an abort answers once
+hsms-log 1 equipment passive 0 45000 6000 10000 5000 1048576 32
+from 0
+start 0
 0 up
 comes ffff0000000100000001
 0 < ffff0000000100000001
@@ -143,6 +121,4 @@ comes 00000500000000000000
 0 < 00000500000000000000
 comes 00000500000000000000
 0 ! 00000500000000000000
-",
-    ),
-];
+";

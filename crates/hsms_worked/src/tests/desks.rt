@@ -1,6 +1,6 @@
 //! What desks say to messages that they are asked about directly.
 
-use super::{Abort, Answer, Desk, Fail, Global, HostDesk, Message, assert_so, equipment, read};
+use super::{Abort, Answer, Desk, Global, HostDesk, Message, Stop, assert_so, equipment, read};
 use secs_text::print;
 
 /// Messages, and what a host says to each. Neither W nor an item that isn't S2F25's is looked at.
@@ -64,7 +64,7 @@ fn item_in(printed: &str) -> &str {
 }
 
 /// Whether an answer says this: its name, or the item of a reply.
-fn is_said(alloc: Global, answer: Answer, want: &str) -> Result<bool, Fail> {
+fn is_said(alloc: Global, answer: Answer, want: &str) -> Result<bool, Stop> {
     match answer {
         Answer::Reply(item) => {
             let printed = print(alloc, &Message::new(0, 0, false, item))?;
@@ -78,13 +78,13 @@ fn is_said(alloc: Global, answer: Answer, want: &str) -> Result<bool, Fail> {
 }
 
 /// Whether a desk says this to a message.
-fn says<D: Desk>(alloc: Global, desk: &D, text: &str, want: &str) -> Result<bool, Fail> {
+fn says<D: Desk>(alloc: Global, desk: &D, text: &str, want: &str) -> Result<bool, Stop> {
     let message = read(alloc, text.as_bytes(), 100)?;
     is_said(alloc, desk.answer(alloc, &message)?, want)
 }
 
 /// A desk says what each line has behind its message.
-fn judge_desk<D: Desk>(rt: &impl Abort, alloc: Global, desk: &D, lines: &str) -> Result<(), Fail> {
+fn judge_desk<D: Desk>(rt: &impl Abort, alloc: Global, desk: &D, lines: &str) -> Result<(), Stop> {
     for line in lines.lines() {
         let (text, want) = line.split_once(" = ").unwrap_or((line, ""));
         assert_so(rt, says(alloc, desk, text, want)?, line);
@@ -93,7 +93,7 @@ fn judge_desk<D: Desk>(rt: &impl Abort, alloc: Global, desk: &D, lines: &str) ->
 }
 
 #[test]
-fn desks_asked_directly(rt: HostRuntime) -> Result<(), Fail> {
+fn desks_asked_directly(rt: HostRuntime) -> Result<(), Stop> {
     judge_desk(&rt, rt.alloc(), &HostDesk, ASKED_HOST)?;
     let desk = equipment(rt.alloc())?;
     judge_desk(&rt, rt.alloc(), &desk, ASKED_EQUIPMENT)

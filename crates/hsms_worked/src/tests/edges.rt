@@ -1,13 +1,9 @@
 //! What an end does at the edges of its table: what nothing follows, which timer comes first, what is too long.
 
-use super::{EQUIPMENT, HOST, SMALL_EQUIPMENT, SMALL_HOST, Session};
-
-pub const EDGES: &[Session] = &[
-    (
-        "what equipment discards without a word",
-        EQUIPMENT,
-        1,
-        "start 0
+pub const EDGES: &str = "# what equipment discards without a word
+hsms-log 1 equipment passive 0 45000 6000 10000 5000 1048576 32
+from 1
+start 0
 0 up
 comes ffff0000000100000001
 0 < ffff0000000100000001
@@ -26,13 +22,10 @@ comes 00000100000000000002
 0 ! 00000100000000000002
 comes ffff0000000200000001
 0 ! ffff0000000200000001
-",
-    ),
-    (
-        "what a host discards without a word",
-        HOST,
-        1,
-        "start 0
+# what a host discards without a word
+hsms-log 1 host active 0 45000 6000 10000 5000 1048576 32
+from 1
+start 0
 0 up
 0 > ffff0000000100000001
 comes ffff0000000200000001
@@ -45,13 +38,10 @@ comes 00008102000000000002
 0 ! 00008102000000000002
 comes ffff0000000100000002
 0 ! ffff0000000100000002
-",
-    ),
-    (
-        "what a host rejects",
-        HOST,
-        1,
-        "start 0
+# what a host rejects
+hsms-log 1 host active 0 45000 6000 10000 5000 1048576 32
+from 1
+start 0
 0 up
 0 > ffff0000000100000001
 comes ffff0000000200000001
@@ -68,13 +58,10 @@ comes ffff0000000200000001
 comes ffff0000000600000009
 0 ! ffff0000000600000009
 0 > ffff0603000700000009
-",
-    ),
-    (
-        "what equipment receives before it is selected",
-        EQUIPMENT,
-        1,
-        "start 0
+# what equipment receives before it is selected
+hsms-log 1 equipment passive 0 45000 6000 10000 5000 1048576 32
+from 1
+start 0
 0 up
 comes 00008101000000000002
 0 ! 00008101000000000002
@@ -101,13 +88,10 @@ comes ffff0000000600000009
 0 > ffff0603000700000009
 comes ffff0104000700000009
 0 < ffff0104000700000009
-",
-    ),
-    (
-        "primaries that equipment doesn't know",
-        EQUIPMENT,
-        1,
-        "start 0
+# primaries that equipment doesn't know
+hsms-log 1 equipment passive 0 45000 6000 10000 5000 1048576 32
+from 1
+start 0
 0 up
 comes ffff0000000100000001
 0 < ffff0000000100000001
@@ -128,25 +112,19 @@ comes 0000021900000000000541024142
 0 > 00000907000000000004210a00000219000000000005
 comes 00000219000000000006210101
 0 < 00000219000000000006210101
-",
-    ),
-    (
-        "T6 comes before T7",
-        HOST,
-        1,
-        "start 0
+# T6 comes before T7
+hsms-log 1 host active 0 45000 6000 10000 5000 1048576 32
+from 1
+start 0
 0 up
 0 > ffff0000000100000001
 tick 10001
 10001 cut t6
 10001 down
-",
-    ),
-    (
-        "T6 comes before T8",
-        HOST,
-        1,
-        "start 0
+# T6 comes before T8
+hsms-log 1 host active 0 45000 6000 10000 5000 1048576 32
+from 1
+start 0
 0 up
 0 > ffff0000000100000001
 octets 00
@@ -154,26 +132,20 @@ tick 6001
 6001 cut t6
 6001 down
 pending 00
-",
-    ),
-    (
-        "T7 comes before T8",
-        EQUIPMENT,
-        1,
-        "start 0
+# T7 comes before T8
+hsms-log 1 equipment passive 0 45000 6000 10000 5000 1048576 32
+from 1
+start 0
 0 up
 octets 00
 tick 10001
 10001 cut t7
 10001 down
 pending 00
-",
-    ),
-    (
-        "T8 comes before T7 where it runs out first",
-        EQUIPMENT,
-        1,
-        "start 0
+# T8 comes before T7 where it runs out first
+hsms-log 1 equipment passive 0 45000 6000 10000 5000 1048576 32
+from 1
+start 0
 0 up
 octets 00
 tick 5000
@@ -181,13 +153,10 @@ tick 5001
 5001 cut t8
 5001 down
 pending 00
-",
-    ),
-    (
-        "an expiry and T8",
-        EQUIPMENT,
-        1,
-        "start 0
+# an expiry and T8
+hsms-log 1 equipment passive 0 45000 6000 10000 5000 1048576 32
+from 1
+start 0
 0 up
 comes ffff0000000100000001
 0 < ffff0000000100000001
@@ -200,26 +169,20 @@ tick 45001
 45001 cut t8
 45001 down
 pending 00
-",
-    ),
-    (
-        "a start that isn't at 0",
-        HOST,
-        1,
-        "start 100
+# a start that isn't at 0
+hsms-log 1 host active 0 45000 6000 10000 5000 1048576 32
+from 1
+start 100
 100 up
 100 > ffff0000000100000001
 tick 6100
 tick 6101
 6101 cut t6
 6101 down
-",
-    ),
-    (
-        "a reply that is too long",
-        SMALL_EQUIPMENT,
-        1,
-        "start 0
+# a reply that is too long
+hsms-log 1 equipment passive 0 45000 6000 10000 5000 256 32
+from 1
+start 0
 0 up
 comes ffff0000000100000001
 0 < ffff0000000100000001
@@ -229,25 +192,19 @@ octets 0000010100000102000000000005
 0 cut length
 0 down
 pending 0000010100000102000000000005
-",
-    ),
-    (
-        "data that is too long before selection",
-        SMALL_EQUIPMENT,
-        1,
-        "start 0
+# data that is too long before selection
+hsms-log 1 equipment passive 0 45000 6000 10000 5000 256 32
+from 1
+start 0
 0 up
 octets 0000010100008101000000000005
 0 cut length
 0 down
 pending 0000010100008101000000000005
-",
-    ),
-    (
-        "data that is too long for another device",
-        SMALL_EQUIPMENT,
-        1,
-        "start 0
+# data that is too long for another device
+hsms-log 1 equipment passive 0 45000 6000 10000 5000 256 32
+from 1
+start 0
 0 up
 comes ffff0000000100000001
 0 < ffff0000000100000001
@@ -256,13 +213,10 @@ octets 0000010100018101000000000005
 0 cut length
 0 down
 pending 0000010100018101000000000005
-",
-    ),
-    (
-        "a control message that is too long",
-        SMALL_EQUIPMENT,
-        1,
-        "start 0
+# a control message that is too long
+hsms-log 1 equipment passive 0 45000 6000 10000 5000 256 32
+from 1
+start 0
 0 up
 comes ffff0000000100000001
 0 < ffff0000000100000001
@@ -271,13 +225,10 @@ octets 0000010100000000000500000005
 0 cut length
 0 down
 pending 0000010100000000000500000005
-",
-    ),
-    (
-        "another PType that is too long",
-        SMALL_EQUIPMENT,
-        1,
-        "start 0
+# another PType that is too long
+hsms-log 1 equipment passive 0 45000 6000 10000 5000 256 32
+from 1
+start 0
 0 up
 comes ffff0000000100000001
 0 < ffff0000000100000001
@@ -286,13 +237,10 @@ octets 0000010100008101010000000005
 0 cut length
 0 down
 pending 0000010100008101010000000005
-",
-    ),
-    (
-        "data that is too long for a host",
-        SMALL_HOST,
-        1,
-        "start 0
+# data that is too long for a host
+hsms-log 1 host active 0 45000 6000 10000 5000 256 32
+from 1
+start 0
 0 up
 0 > ffff0000000100000001
 comes ffff0000000200000001
@@ -301,6 +249,4 @@ octets 0000010100008101000000000005
 0 cut length
 0 down
 pending 0000010100008101000000000005
-",
-    ),
-];
+";

@@ -2,17 +2,16 @@
 
 ghost use Rattle.std.specs.Prelude.{◌<◌};
 
-use super::connection::{answer_of, audited, log_of, settings_of};
-use super::{Abort, AllocError, Fail, Global, Role, Store, assert_octets, assert_so};
+use super::connection::{answer_of, audited, link_of, log_of, settings_of};
+use super::{Abort, AllocError, Global, Role, Stop, Store, assert_octets, assert_so};
 use hsms_ends::{Scripted, ServeFault, Served};
 use hsms_log::{Summary, Verdict, judge};
 
 /// Select.req, Linktest.req and Separate.req of the host.
-const SAID: &[&[u8]] = &[
-    b"\x00\x00\x00\x0a\xff\xff\x00\x00\x00\x01\x00\x00\x00\x01",
-    b"\x00\x00\x00\x0a\xff\xff\x00\x00\x00\x05\x00\x00\x00\x02",
-    b"\x00\x00\x00\x0a\xff\xff\x00\x00\x00\x09\x00\x00\x00\x03",
-];
+const SAID: &str = "ffff0000000100000001
+ffff0000000500000002
+ffff0000000900000003
+";
 
 /// The equipment's Select.rsp and Linktest.rsp.
 const ANSWERED: &[u8] = b"\x00\x00\x00\x0a\xff\xff\x00\x00\x00\x02\x00\x00\x00\x01\
@@ -41,43 +40,15 @@ const LOG_OF_NOTHING: &str = "hsms-log 1 equipment passive 0 45000 6000 10000 50
 0 down
 ";
 
-/// The link of the host, that gives a message a wait and moves so many octets a call, and fails after so many calls.
-fn link_of(alloc: Global, piece: usize, fuse: u64) -> Result<Scripted, AllocError>
-    requires { 0 < piece }
-{
-    let mut waits = Vec::new(alloc);
-    for octets in SAID {
-        waits.push(Some(Vec::from_slice(alloc, octets)?))?;
-    }
-    let room = vec![in alloc; 0u8; 100]?;
-    Ok(Scripted::new(Vec::new(alloc), waits, room, piece, fuse))
-}
-
-/// A link, and the log of what comes over it.
-#[derive(Drop)]
-struct Pair {
-    link: Scripted,
-    log: Store,
-}
-
-/// Both move so many octets a call. The link fails after so many calls, and so does the log.
-fn pair_of(alloc: Global, piece: usize, link: u64, log: u64) -> Result<Pair, AllocError>
-    requires { 0 < piece }
-{
-    let link = link_of(alloc, piece, link)?;
-    let log = log_of(alloc, 400, piece, log)?;
-    Ok(Pair { link, log })
-}
-
 /// What equipment answers, served over this link with this log. Want of memory ends the test.
 fn served(
     alloc: Global,
     link: &mut Scripted,
     log: &mut Store,
-) -> Result<Result<Served, ServeFault>, Fail> {
-    let settings = settings_of(Role::Equipment).ok_or("the settings")?;
+) -> Result<Result<Served, ServeFault>, Stop> {
+    let settings = settings_of(Role::Equipment).ok_or(Stop::Line)?;
     match answer_of(alloc, link, log, settings, &[], 200)? {
-        Err(ServeFault::Memory) => Err(ServeFault::Memory.into()),
+        Err(ServeFault::Memory) => Err(Stop::Memory),
         answer => Ok(answer),
     }
 }
@@ -107,7 +78,7 @@ fn assert_none_taken(rt: &impl Abort, link: &Scripted) {
 }
 
 /// The link failed: the log passes the audit and ends with `down`.
-fn assert_closed(rt: &impl Abort, alloc: Global, link: &Scripted, log: &Store) -> Result<(), Fail> {
+fn assert_closed(rt: &impl Abort, alloc: Global, link: &Scripted, log: &Store) -> Result<(), Stop> {
     let summary = audited(alloc, log.written())?;
     assert_so(rt, summary.entries <= 7, "entries");
     assert_so(rt, log.written().ends_with(b"0 down\n"), "the last line");
@@ -150,94 +121,77 @@ fn assert_refused(rt: &impl Abort, alloc: Global, fault: ServeFault, link: &Scri
     );
 }
 
-/// The link fails, or nothing does. Answers whether nothing did.
-fn judge_link(
+/// The link fails, or the log, as is wanted, or nothing does. Answers whether nothing did.
+fn judge_served(
     rt: &impl Abort,
     alloc: Global,
     link: &mut Scripted,
     log: &mut Store,
-) -> Result<bool, Fail> {
+    want: ServeFault,
+) -> Result<bool, Stop> {
     match served(alloc, link, log)? {
         Ok(answer) => {
             assert_whole(rt, answer, link, log);
-            Ok(true)
+            return Ok(true);
         }
-        Err(fault) => {
-            assert_fault(rt, Some(fault), ServeFault::Link);
-            assert_closed(rt, alloc, link, log)?;
-            Ok(false)
-        }
+        Err(fault) => assert_fault(rt, Some(fault), want),
     }
+    match want {
+        ServeFault::Link => assert_closed(rt, alloc, link, log)?,
+        _ => assert_front(rt, link, log),
+    }
+    Ok(false)
 }
 
-/// The link fails after so many calls. Answers whether it met no failure.
-fn fail_link_at(rt: &impl Abort, alloc: Global, piece: usize, fuse: u64) -> Result<bool, Fail>
-    requires { 0 < piece }
-{
-    let mut pair = pair_of(alloc, piece, fuse, u64::MAX)?;
-    judge_link(rt, alloc, &mut pair.link, &mut pair.log)
-}
-
-/// The log fails, or nothing does. Answers whether nothing did.
-fn judge_log(
+/// Both move so many octets a call. The link fails after so many calls, and so does the log. Answers whether nothing
+/// failed.
+fn fail_at(
     rt: &impl Abort,
     alloc: Global,
-    link: &mut Scripted,
-    log: &mut Store,
-) -> Result<bool, Fail> {
-    match served(alloc, link, log)? {
-        Ok(answer) => {
-            assert_whole(rt, answer, link, log);
-            Ok(true)
-        }
-        Err(fault) => {
-            assert_fault(rt, Some(fault), ServeFault::Log);
-            assert_front(rt, link, log);
-            Ok(false)
-        }
-    }
-}
-
-/// The log fails after so many calls. Answers whether it met no failure.
-fn fail_log_at(rt: &impl Abort, alloc: Global, piece: usize, fuse: u64) -> Result<bool, Fail>
+    piece: usize,
+    link: u64,
+    log: u64,
+    want: ServeFault,
+) -> Result<bool, Stop>
     requires { 0 < piece }
 {
-    let mut pair = pair_of(alloc, piece, u64::MAX, fuse)?;
-    judge_log(rt, alloc, &mut pair.link, &mut pair.log)
+    let mut link = link_of(alloc, &[], SAID, piece, link)?;
+    let mut log = log_of(alloc, 400, piece, log)?;
+    judge_served(rt, alloc, &mut link, &mut log, want)
 }
 
 /// The link fails after each number of calls, until it meets no failure.
-fn fail_link(rt: &impl Abort, alloc: Global, piece: usize) -> Result<(), Fail>
+fn fail_link(rt: &impl Abort, alloc: Global, piece: usize) -> Result<(), Stop>
     requires { 0 < piece }
 {
     for fuse in 0..100 {
-        if fail_link_at(rt, alloc, piece, fuse)? {
+        if fail_at(rt, alloc, piece, fuse, u64::MAX, ServeFault::Link)? {
             return Ok(());
         }
     }
-    Err("a run without a failure".into())
+    Err(Stop::Endless)
 }
 
 /// The log fails after each number of calls, until it meets no failure.
-fn fail_log(rt: &impl Abort, alloc: Global, piece: usize) -> Result<(), Fail>
+fn fail_log(rt: &impl Abort, alloc: Global, piece: usize) -> Result<(), Stop>
     requires { 0 < piece }
 {
     for fuse in 0..400 {
-        if fail_log_at(rt, alloc, piece, fuse)? {
+        if fail_at(rt, alloc, piece, u64::MAX, fuse, ServeFault::Log)? {
             return Ok(());
         }
     }
-    Err("a run without a failure".into())
+    Err(Stop::Endless)
 }
 
 #[test]
-fn each_call_of_the_link_fails(rt: HostRuntime) -> Result<(), Fail> {
+fn each_call_of_the_link_fails(rt: HostRuntime) -> Result<(), Stop> {
     fail_link(&rt, rt.alloc(), 400)?;
     fail_link(&rt, rt.alloc(), 1)
 }
 
 #[test]
-fn each_call_of_the_log_fails(rt: HostRuntime) -> Result<(), Fail> {
+fn each_call_of_the_log_fails(rt: HostRuntime) -> Result<(), Stop> {
     fail_log(&rt, rt.alloc(), 400)?;
     fail_log(&rt, rt.alloc(), 1)
 }
@@ -294,7 +248,7 @@ const FAILING: &[Failing] = &[
 ];
 
 /// The log passes the audit with this summary.
-fn assert_summary(rt: &impl Abort, alloc: Global, log: &Store, want: Summary) -> Result<(), Fail> {
+fn assert_summary(rt: &impl Abort, alloc: Global, log: &Store, want: Summary) -> Result<(), Stop> {
     let summary = audited(alloc, log.written())?;
     assert_so(rt, summary == want, "a summary");
     Ok(())
@@ -307,7 +261,7 @@ fn judge_row(
     row: &Failing,
     link: &mut Scripted,
     log: &mut Store,
-) -> Result<(), Fail> {
+) -> Result<(), Stop> {
     let answer = served(alloc, link, log)?;
     assert_fault(rt, answer.err(), row.fault);
     assert_octets(
@@ -323,13 +277,14 @@ fn judge_row(
     }
 }
 
-fn judge_failing(rt: &impl Abort, alloc: Global, row: &Failing) -> Result<(), Fail> {
-    let mut pair = pair_of(alloc, 400, row.link, row.log)?;
-    judge_row(rt, alloc, row, &mut pair.link, &mut pair.log)
+fn judge_failing(rt: &impl Abort, alloc: Global, row: &Failing) -> Result<(), Stop> {
+    let mut link = link_of(alloc, &[], SAID, 400, row.link)?;
+    let mut log = log_of(alloc, 400, 400, row.log)?;
+    judge_row(rt, alloc, row, &mut link, &mut log)
 }
 
 #[test]
-fn worked_failures(rt: HostRuntime) -> Result<(), Fail> {
+fn worked_failures(rt: HostRuntime) -> Result<(), Stop> {
     for row in FAILING {
         judge_failing(&rt, rt.alloc(), row)?;
     }
@@ -343,7 +298,7 @@ fn judge_twice(
     room: usize,
     link: &mut Scripted,
     log: &mut Store,
-) -> Result<(), Fail> {
+) -> Result<(), Stop> {
     let answer = served(alloc, link, log)?;
     assert_fault(rt, answer.err(), ServeFault::Log);
     assert_so(rt, log.written().len() == room, "a full log");
@@ -352,15 +307,15 @@ fn judge_twice(
     Ok(())
 }
 
-fn fail_twice(rt: &impl Abort, alloc: Global, room: usize) -> Result<(), Fail> {
-    let mut link = link_of(alloc, 400, 1)?;
+fn fail_twice(rt: &impl Abort, alloc: Global, room: usize) -> Result<(), Stop> {
+    let mut link = link_of(alloc, &[], SAID, 400, 1)?;
     let mut log = log_of(alloc, room, 400, u64::MAX)?;
     judge_twice(rt, alloc, room, &mut link, &mut log)
 }
 
 /// The log fails at each octet of the line `0 down`.
 #[test]
-fn the_later_fault_is_told(rt: HostRuntime) -> Result<(), Fail> {
+fn the_later_fault_is_told(rt: HostRuntime) -> Result<(), Stop> {
     let whole = LOG_WITHOUT_SELECT_RSP.len();
     for less in 1..=7 {
         fail_twice(&rt, rt.alloc(), whole.saturating_sub(less))?;
@@ -383,7 +338,7 @@ fn judge_refused(rt: &impl Abort, alloc: Global, link: &mut Scripted, log: &mut 
 #[test]
 fn refused_connection(rt: HostRuntime) {
     let alloc = rt.alloc();
-    let Ok(mut link) = link_of(alloc, 400, u64::MAX) else {
+    let Ok(mut link) = link_of(alloc, &[], SAID, 400, u64::MAX) else {
         return;
     };
     let Ok(mut log) = log_of(alloc, 400, 400, u64::MAX) else {

@@ -1,9 +1,9 @@
 //! Several replies of a script to one primary.
 
-use super::connection::log_of;
-use super::reconnect::{judge_lent, link_of};
+use super::reconnect::judge_twice;
 use super::{
-    EquipmentDesk, Fail, Global, Message, Role, Side, end_of, equipment, judge, read, settings,
+    Abort, EquipmentDesk, Global, Message, Role, Side, Stop, end_of, equipment, judge, read,
+    settings,
 };
 use hsms_ends::ScriptedDesk;
 
@@ -17,7 +17,7 @@ const REPLIES: &[&str] = &[
 ];
 
 /// Equipment's desk behind the replies.
-fn scripted(alloc: Global) -> Result<ScriptedDesk<EquipmentDesk>, Fail> {
+fn scripted(alloc: Global) -> Result<ScriptedDesk<EquipmentDesk>, Stop> {
     let mut replies: Vec<Message> = Vec::new(alloc);
     for text in REPLIES {
         replies.push(read(alloc, text.as_bytes(), 32)?)?;
@@ -58,12 +58,16 @@ comes 00008a03000000000007
 0 > 00000a04000000000007
 ";
 
-#[test]
-fn replies_in_turn(rt: HostRuntime) -> Result<(), Fail> {
-    let alloc = rt.alloc();
-    let given = settings(Role::Equipment, Side::Passive, 256).ok_or("the settings")?;
+/// A session of equipment with this desk.
+fn judge_scripted(rt: &impl Abort, alloc: Global, session: &str, name: &str) -> Result<(), Stop> {
+    let given = settings(Role::Equipment, Side::Passive, 256).ok_or(Stop::Line)?;
     let mut end = end_of(alloc, given, scripted(alloc)?, 1);
-    judge(&rt, alloc, &mut end, IN_TURN, "replies in turn")
+    judge(rt, alloc, &mut end, session, name)
+}
+
+#[test]
+fn replies_in_turn(rt: HostRuntime) -> Result<(), Stop> {
+    judge_scripted(&rt, rt.alloc(), IN_TURN, "replies in turn")
 }
 
 /// A primary without W has its turn too, and no reply. One that is discarded has none.
@@ -83,11 +87,8 @@ comes 00008703000000000007
 ";
 
 #[test]
-fn a_turn_without_a_reply(rt: HostRuntime) -> Result<(), Fail> {
-    let alloc = rt.alloc();
-    let given = settings(Role::Equipment, Side::Passive, 256).ok_or("the settings")?;
-    let mut end = end_of(alloc, given, scripted(alloc)?, 1);
-    judge(&rt, alloc, &mut end, WITHOUT_W, "a turn without W")
+fn a_turn_without_a_reply(rt: HostRuntime) -> Result<(), Stop> {
+    judge_scripted(&rt, rt.alloc(), WITHOUT_W, "a turn without W")
 }
 
 const TWICE: &str = "hsms-log 2 equipment passive 0 45000 6000 10000 5000 1048576 32
@@ -121,10 +122,8 @@ ffff0000000900000003
 
 /// With each connection the turns begin anew.
 #[test]
-fn turns_begin_anew(rt: HostRuntime) -> Result<(), Fail> {
+fn turns_begin_anew(rt: HostRuntime) -> Result<(), Stop> {
     let alloc = rt.alloc();
-    let mut link = link_of(alloc, &[7; 16], ASKED_TWICE)?;
-    let mut log = log_of(alloc, 4096, 4096, u64::MAX)?;
     let desk = scripted(alloc)?;
-    judge_lent(&rt, alloc, &mut link, &mut log, &desk, TWICE, 16)
+    judge_twice(&rt, alloc, &[7; 16], ASKED_TWICE, &desk, TWICE, 16)
 }

@@ -1,15 +1,15 @@
 //! What an end refuses to send, replies past a limit, desks of others, and when an end is due.
 
 use super::{
-    Abort, AllocError, Answer, Desk, End, EndFault, Entry, EquipmentDesk, Event, Fail, Global,
-    HostDesk, Input, Message, Role, Settings, Side, assert_fault, assert_so, end_of, equipment,
-    judge, settings, tell, tell_well,
+    Abort, AllocError, Answer, Desk, End, EndFault, Entry, EquipmentDesk, Event, Global, HostDesk,
+    Input, Message, Role, Settings, Side, Stop, assert_fault, assert_so, end_of, equipment, judge,
+    settings, tell, tell_well,
 };
 use secs_item::Item;
 
 /// Equipment that was selected at 10, with MAX 256 and first system bytes 1.
-fn selected(alloc: Global) -> Result<End<EquipmentDesk>, Fail> {
-    let given = settings(Role::Equipment, Side::Passive, 256).ok_or("the settings")?;
+fn selected(alloc: Global) -> Result<End<EquipmentDesk>, Stop> {
+    let given = settings(Role::Equipment, Side::Passive, 256).ok_or(Stop::Line)?;
     let mut end = end_of(alloc, given, equipment(alloc)?, 1);
     tell_well(alloc, &mut end, "start 0")?;
     tell_well(alloc, &mut end, "tick 10")?;
@@ -69,7 +69,7 @@ fn assert_refused(
     end: &mut End<EquipmentDesk>,
     item: Item,
     want: EndFault,
-) -> Result<(), Fail> {
+) -> Result<(), Stop> {
     let answer = send_item(false, Some(item), end);
     assert_fault(rt, fault_of(answer)?, Some(want), "refused");
     Ok(())
@@ -82,7 +82,7 @@ fn assert_sent(
     wait: bool,
     item: Option<Item>,
     want: (usize, u32),
-) -> Result<(), Fail> {
+) -> Result<(), Stop> {
     let answer = send_item(wait, item, end)?;
     assert_so(rt, answer == Some(want), "what is sent");
     Ok(())
@@ -94,7 +94,7 @@ fn assert_item_sent(
     end: &mut End<EquipmentDesk>,
     item: Item,
     want: (usize, u32),
-) -> Result<(), Fail> {
+) -> Result<(), Stop> {
     assert_sent(rt, end, false, Some(item), want)
 }
 
@@ -111,7 +111,7 @@ fn judge_greatest(
     rt: &impl Abort,
     alloc: Global,
     end: &mut End<EquipmentDesk>,
-) -> Result<(), Fail> {
+) -> Result<(), Stop> {
     assert_refused(rt, end, zeros(alloc, 245)?, EndFault::TooLong)?;
     assert_refused(rt, end, nested(alloc, 33)?, EndFault::TooDeep)?;
     assert_item_sent(rt, end, zeros(alloc, 244)?, (256, 1))?;
@@ -119,13 +119,13 @@ fn judge_greatest(
 }
 
 #[test]
-fn the_greatest_items(rt: HostRuntime) -> Result<(), Fail> {
+fn the_greatest_items(rt: HostRuntime) -> Result<(), Stop> {
     let mut end = selected(rt.alloc())?;
     judge_greatest(&rt, rt.alloc(), &mut end)
 }
 
 /// 64 transactions are open at most.
-fn judge_open(rt: &impl Abort, end: &mut End<EquipmentDesk>) -> Result<(), Fail> {
+fn judge_open(rt: &impl Abort, end: &mut End<EquipmentDesk>) -> Result<(), Stop> {
     for system in 1..=64u32 {
         assert_sent(rt, end, true, None, (10, system))?;
     }
@@ -136,7 +136,7 @@ fn judge_open(rt: &impl Abort, end: &mut End<EquipmentDesk>) -> Result<(), Fail>
 }
 
 #[test]
-fn the_most_own_transactions(rt: HostRuntime) -> Result<(), Fail> {
+fn the_most_own_transactions(rt: HostRuntime) -> Result<(), Stop> {
     let mut end = selected(rt.alloc())?;
     judge_open(&rt, &mut end)
 }
@@ -189,9 +189,9 @@ refused Memory
 ";
 
 #[test]
-fn a_desk_of_its_own(rt: HostRuntime) -> Result<(), Fail> {
+fn a_desk_of_its_own(rt: HostRuntime) -> Result<(), Stop> {
     let alloc = rt.alloc();
-    let given = settings(Role::Equipment, Side::Passive, 256).ok_or("the settings")?;
+    let given = settings(Role::Equipment, Side::Passive, 256).ok_or(Stop::Line)?;
     let mut end = end_of(alloc, given, ByStream, 1);
     judge(
         &rt,
@@ -213,7 +213,7 @@ comes 0000810d000000000007
 ";
 
 /// Equipment that nests so deep, with a model of so many octets, aborts.
-fn judge_aborted(rt: &impl Abort, alloc: Global, depth: u8, length: usize) -> Result<(), Fail> {
+fn judge_aborted(rt: &impl Abort, alloc: Global, depth: u8, length: usize) -> Result<(), Stop> {
     let given = Settings::new(
         Role::Equipment,
         Side::Passive,
@@ -229,13 +229,13 @@ fn judge_aborted(rt: &impl Abort, alloc: Global, depth: u8, length: usize) -> Re
         mdln: vec![in alloc; 77u8; length]?,
         softrev: Vec::new(alloc),
     };
-    let mut end = end_of(alloc, given.ok_or("the settings")?, desk, 1);
+    let mut end = end_of(alloc, given.ok_or(Stop::Line)?, desk, 1);
     judge(rt, alloc, &mut end, ABORTED, "a reply past a limit")
 }
 
 // S1F14 nests 2, and with a model of 250 octets it is past the greatest size.
 #[test]
-fn a_reply_past_a_limit_is_an_abort(rt: HostRuntime) -> Result<(), Fail> {
+fn a_reply_past_a_limit_is_an_abort(rt: HostRuntime) -> Result<(), Stop> {
     let alloc = rt.alloc();
     judge_aborted(&rt, alloc, 1, 1)?;
     judge_aborted(&rt, alloc, 32, 250)
@@ -263,7 +263,7 @@ fn assert_due<D: Desk>(
     end: &mut End<D>,
     told: &str,
     due: Option<u64>,
-) -> Result<(), Fail> {
+) -> Result<(), Stop> {
     tell_well(alloc, end, told)?;
     assert_so(rt, end.next_due() == due, told);
     Ok(())
@@ -290,8 +290,8 @@ fn judge_due(
     role: Role,
     side: Side,
     rows: &[(&str, Option<u64>)],
-) -> Result<(), Fail> {
-    let given = settings(role, side, 256).ok_or("the settings")?;
+) -> Result<(), Stop> {
+    let given = settings(role, side, 256).ok_or(Stop::Line)?;
     let mut end = end_of(alloc, given, HostDesk, 1);
     for (told, due) in rows {
         assert_due(rt, alloc, &mut end, told, *due)?;
@@ -300,7 +300,7 @@ fn judge_due(
 }
 
 #[test]
-fn when_an_end_is_due(rt: HostRuntime) -> Result<(), Fail> {
+fn when_an_end_is_due(rt: HostRuntime) -> Result<(), Stop> {
     judge_due(&rt, rt.alloc(), Role::Host, Side::Active, DUE)?;
     judge_due(&rt, rt.alloc(), Role::Equipment, Side::Passive, DUE_LATE)?;
     judge_due(&rt, rt.alloc(), Role::Equipment, Side::Passive, DUE_LAST)

@@ -1,8 +1,8 @@
 //! Which fault is told where a call meets several: the first one of the list.
 
 use super::{
-    Abort, AllocError, Desk, End, EndFault, Entry, Fail, Global, HostDesk, Input, Message, Role,
-    Side, assert_fault, end_of, settings, tell, tell_well,
+    Abort, AllocError, Desk, End, EndFault, Entry, Global, HostDesk, Input, Message, Role, Side,
+    Stop, assert_fault, end_of, settings, tell, tell_well,
 };
 use secs_item::Item;
 
@@ -216,7 +216,7 @@ fn assert_met<D: Desk>(
     end: &mut End<D>,
     input: &Input,
     want: EndFault,
-) -> Result<(), Fail> {
+) -> Result<(), Stop> {
     let fault = fault_of(tell(end, input))?;
     assert_fault(rt, fault, Some(want), "the first fault");
     Ok(())
@@ -227,7 +227,7 @@ fn judge_met<D: Desk>(
     alloc: Global,
     end: &mut End<D>,
     met: &Met,
-) -> Result<(), Fail> {
+) -> Result<(), Stop> {
     let input = input_of(alloc, met)?;
     assert_met(rt, end, &input, met.fault)
 }
@@ -239,7 +239,7 @@ fn judge_all<D: Desk>(
     end: &mut End<D>,
     messages: &[Met],
     linktest: EndFault,
-) -> Result<(), Fail> {
+) -> Result<(), Stop> {
     for met in messages {
         judge_met(rt, alloc, end, met)?;
     }
@@ -247,7 +247,7 @@ fn judge_all<D: Desk>(
 }
 
 /// A host opens 64 transactions: a Select.req and 63 Linktest.req.
-fn open_all<D: Desk>(alloc: Global, end: &mut End<D>) -> Result<(), Fail> {
+fn open_all<D: Desk>(alloc: Global, end: &mut End<D>) -> Result<(), Stop> {
     tell_well(alloc, end, "start 0")?;
     for _ in 0..63 {
         tell_well(alloc, end, "linktest")?;
@@ -256,12 +256,12 @@ fn open_all<D: Desk>(alloc: Global, end: &mut End<D>) -> Result<(), Fail> {
 }
 
 /// Its Select.req is answered, and a primary takes the place.
-fn select<D: Desk>(alloc: Global, end: &mut End<D>) -> Result<(), Fail> {
+fn select<D: Desk>(alloc: Global, end: &mut End<D>) -> Result<(), Stop> {
     tell_well(alloc, end, "comes ffff0000000200000001")?;
     tell_well(alloc, end, "send S1F1 W .")
 }
 
-fn judge_host<D: Desk>(rt: &impl Abort, alloc: Global, end: &mut End<D>) -> Result<(), Fail> {
+fn judge_host<D: Desk>(rt: &impl Abort, alloc: Global, end: &mut End<D>) -> Result<(), Stop> {
     judge_all(rt, alloc, end, NOT_UP, EndFault::NotUp)?;
     open_all(alloc, end)?;
     judge_all(rt, alloc, end, NOT_SELECTED, EndFault::Full)?;
@@ -272,9 +272,9 @@ fn judge_host<D: Desk>(rt: &impl Abort, alloc: Global, end: &mut End<D>) -> Resu
 }
 
 #[test]
-fn the_first_fault_is_told(rt: HostRuntime) -> Result<(), Fail> {
+fn the_first_fault_is_told(rt: HostRuntime) -> Result<(), Stop> {
     let alloc = rt.alloc();
-    let given = settings(Role::Host, Side::Active, 256).ok_or("the settings")?;
+    let given = settings(Role::Host, Side::Active, 256).ok_or(Stop::Line)?;
     let mut end = end_of(alloc, given, HostDesk, 1);
     judge_host(&rt, alloc, &mut end)
 }

@@ -1,32 +1,20 @@
 //! Connection after connection, served over a link in memory in one log.
 
-use super::connection::{audited, log_of, settings_of};
+use super::connection::{audited, link_of, log_of, settings_of};
 use super::{
-    Abort, Fail, Global, Role, Settings, Store, TurnDesk, assert_octets, assert_so, equipment,
-    octets_of,
+    Abort, Global, Role, Settings, Stop, Store, TurnDesk, assert_octets, assert_so, equipment,
 };
 use hsms_ends::{HostDesk, Lent, Scripted, ServeFault, ServedAgain, Step, serve_again};
 use secs_text::read;
-
-/// A link with these moments. Each wait gives the octets of the message of one line.
-pub fn link_of(alloc: Global, moments: &[u64], messages: &str) -> Result<Scripted, Fail> {
-    let mut waits = Vec::new(alloc);
-    for message in messages.lines() {
-        waits.push(Some(octets_of(alloc, message)?))?;
-    }
-    let moments = Vec::from_slice(alloc, moments)?;
-    let room = vec![in alloc; 0u8; 1024]?;
-    Ok(Scripted::new(moments, waits, room, 4096, u64::MAX))
-}
 
 /// Want of memory is handed up.
 fn assert_served(
     rt: &impl Abort,
     answer: Result<ServedAgain, ServeFault>,
     connections: u64,
-) -> Result<(), Fail> {
+) -> Result<(), Stop> {
     match answer {
-        Err(ServeFault::Memory) => Err(ServeFault::Memory.into()),
+        Err(ServeFault::Memory) => Err(Stop::Memory),
         _ => {
             let want = ServedAgain {
                 connections,
@@ -39,7 +27,7 @@ fn assert_served(
 }
 
 /// A log passes the audit with so many entries.
-fn assert_entries(rt: &impl Abort, alloc: Global, log: &Store, entries: u64) -> Result<(), Fail> {
+fn assert_entries(rt: &impl Abort, alloc: Global, log: &Store, entries: u64) -> Result<(), Stop> {
     let summary = audited(alloc, log.written())?;
     assert_so(rt, summary.entries == entries, "entries");
     Ok(())
@@ -58,7 +46,7 @@ fn serve_lent<D: TurnDesk>(
 }
 
 /// Two connections of equipment leave this text, which passes the audit with so many entries.
-pub fn judge_lent<D: TurnDesk>(
+fn judge_lent<D: TurnDesk>(
     rt: &impl Abort,
     alloc: Global,
     link: &mut Scripted,
@@ -66,12 +54,27 @@ pub fn judge_lent<D: TurnDesk>(
     desk: &D,
     text: &str,
     entries: u64,
-) -> Result<(), Fail> {
-    let settings = settings_of(Role::Equipment).ok_or("settings")?;
+) -> Result<(), Stop> {
+    let settings = settings_of(Role::Equipment).ok_or(Stop::Line)?;
     let answer = serve_lent(alloc, link, log, settings, desk);
     assert_served(rt, answer, 2)?;
     assert_octets(rt, log.written(), text.as_bytes(), "log");
     assert_entries(rt, alloc, log, entries)
+}
+
+/// The same over a link with these moments and waits.
+pub fn judge_twice<D: TurnDesk>(
+    rt: &impl Abort,
+    alloc: Global,
+    moments: &[u64],
+    waits: &str,
+    desk: &D,
+    text: &str,
+    entries: u64,
+) -> Result<(), Stop> {
+    let mut link = link_of(alloc, moments, waits, 4096, u64::MAX)?;
+    let mut log = log_of(alloc, 4096, 4096, u64::MAX)?;
+    judge_lent(rt, alloc, &mut link, &mut log, desk, text, entries)
 }
 
 const EQUIPMENT_LOG: &str = "hsms-log 2 equipment passive 0 45000 6000 10000 5000 1048576 32
@@ -96,12 +99,18 @@ ffff0000000900000003
 
 /// The clock goes back to 3 with the second connection: times don't.
 #[test]
-fn a_tool_is_selected_twice(rt: HostRuntime) -> Result<(), Fail> {
+fn a_tool_is_selected_twice(rt: HostRuntime) -> Result<(), Stop> {
     let alloc = rt.alloc();
-    let mut link = link_of(alloc, &[7, 7, 7, 7, 7, 3], SELECTED_TWICE)?;
-    let mut log = log_of(alloc, 4096, 4096, u64::MAX)?;
     let desk = equipment(alloc)?;
-    judge_lent(&rt, alloc, &mut link, &mut log, &desk, EQUIPMENT_LOG, 10)
+    judge_twice(
+        &rt,
+        alloc,
+        &[7, 7, 7, 7, 7, 3],
+        SELECTED_TWICE,
+        &desk,
+        EQUIPMENT_LOG,
+        10,
+    )
 }
 
 /// Serves three connections of a host.
@@ -134,15 +143,15 @@ fn judge_host(
     link: &mut Scripted,
     log: &mut Store,
     script: &[Step],
-) -> Result<(), Fail> {
-    let settings = settings_of(Role::Host).ok_or("settings")?;
+) -> Result<(), Stop> {
+    let settings = settings_of(Role::Host).ok_or(Stop::Line)?;
     let answer = serve_host(alloc, link, log, settings, script);
     assert_served(rt, answer, 3)?;
     assert_entries(rt, alloc, log, 15)
 }
 
 /// What the host sends.
-fn script(alloc: Global) -> Result<Vec<Step>, Fail> {
+fn script(alloc: Global) -> Result<Vec<Step>, Stop> {
     let message = read(alloc, b"S1F1 W .", 32)?;
     let mut script = Vec::new(alloc);
     script.push(Step::Send(message))?;
@@ -160,9 +169,9 @@ ffff0000000900000003
 
 /// A host that sends its script in the first connection alone. The third one finds the peer gone.
 #[test]
-fn a_host_connects_again(rt: HostRuntime) -> Result<(), Fail> {
+fn a_host_connects_again(rt: HostRuntime) -> Result<(), Stop> {
     let alloc = rt.alloc();
-    let mut link = link_of(alloc, &[], ANSWERED_ONCE)?;
+    let mut link = link_of(alloc, &[], ANSWERED_ONCE, 4096, u64::MAX)?;
     let mut log = log_of(alloc, 4096, 4096, u64::MAX)?;
     let script = script(alloc)?;
     judge_host(&rt, alloc, &mut link, &mut log, &script)

@@ -1,7 +1,8 @@
 //! What a served connection leaves where memory is refused.
 
+use super::connection::link_of;
 use super::{
-    AllocError, Fail, Global, HostDesk, Message, Role, Settings, Side, Store, assert_so, equipment,
+    AllocError, Global, HostDesk, Message, Role, Settings, Side, Stop, Store, assert_so, equipment,
     settings,
 };
 use hsms_ends::{Scripted, ServeFault, Served, Step, serve};
@@ -13,7 +14,7 @@ use std::process::Abort;
 struct Connection {
     role: Role,
     side: Side,
-    said: &'static [&'static [u8]],
+    said: &'static str,
     log: &'static [&'static str],
     sent: &'static [&'static [u8]],
 }
@@ -26,11 +27,10 @@ const SELECT_RSP: &[u8] = b"\0\0\0\x0a\xff\xff\0\0\0\x02\0\0\0\x01";
 const EQUIPMENT: Connection = Connection {
     role: Role::Equipment,
     side: Side::Passive,
-    said: &[
-        SELECT_REQ,
-        b"\0\0\0\x0a\xff\xff\0\0\0\x05\0\0\0\x02",
-        b"\0\0\0\x0a\xff\xff\0\0\0\x09\0\0\0\x03",
-    ],
+    said: "ffff0000000100000001
+ffff0000000500000002
+ffff0000000900000003
+",
     log: &[
         "hsms-log 1 equipment passive 0 45000 6000 10000 5000 1048576 32\n",
         "0 up\n",
@@ -51,7 +51,9 @@ const EQUIPMENT: Connection = Connection {
 const HOST: Connection = Connection {
     role: Role::Host,
     side: Side::Active,
-    said: &[SELECT_RSP, b"\0\0\0\x0a\0\0\x01\x02\0\0\0\0\0\x02"],
+    said: "ffff0000000200000001
+00000102000000000002
+",
     log: &[
         "hsms-log 1 host active 0 45000 6000 10000 5000 1048576 32\n",
         "0 up\n0 > ffff0000000100000001\n",
@@ -69,15 +71,6 @@ const HOST: Connection = Connection {
         b"\0\0\0\x0a\xff\xff\0\0\0\x09\0\0\0\x03",
     ],
 };
-
-fn link_of(alloc: Global, case: &Connection) -> Result<Scripted, AllocError> {
-    let mut waits = Vec::new(alloc);
-    for octets in case.said {
-        waits.push(Some(Vec::from_slice(alloc, octets)?))?;
-    }
-    let room = vec![in alloc; 0u8; 100]?;
-    Ok(Scripted::new(Vec::new(alloc), waits, room, 100, u64::MAX))
-}
 
 /// Serves it. The host has a script.
 fn served(
@@ -145,8 +138,8 @@ fn judge_calls(
     case: &Connection,
     link: &mut Scripted,
     log: &mut Store,
-) -> Result<(), Fail> {
-    let settings = settings(case.role, case.side, 1_048_576).ok_or("the settings")?;
+) -> Result<(), Stop> {
+    let settings = settings(case.role, case.side, 1_048_576).ok_or(Stop::Line)?;
     let answer = served(alloc, case, settings, link, log);
     let calls = calls_of(rt, case, log.written(), link.taken());
     assert_answer(rt, answer, calls, case.log.len());
@@ -157,9 +150,9 @@ fn judge_calls(
 }
 
 /// Where the test's own memory is refused, it has nothing to say.
-fn assert_log_of_calls(rt: &impl Abort, alloc: Global, case: &Connection) -> Result<(), Fail> {
+fn assert_log_of_calls(rt: &impl Abort, alloc: Global, case: &Connection) -> Result<(), Stop> {
     let room = vec![in alloc; 0u8; 400];
-    let (Ok(mut link), Ok(room)) = (link_of(alloc, case), room) else {
+    let (Ok(mut link), Ok(room)) = (link_of(alloc, &[], case.said, 100, u64::MAX), room) else {
         return Ok(());
     };
     let mut log = Store::new(room, 400, u64::MAX);
@@ -167,7 +160,7 @@ fn assert_log_of_calls(rt: &impl Abort, alloc: Global, case: &Connection) -> Res
 }
 
 #[test]
-fn refused_connections(rt: HostRuntime) -> Result<(), Fail> {
+fn refused_connections(rt: HostRuntime) -> Result<(), Stop> {
     assert_log_of_calls(&rt, rt.alloc(), &EQUIPMENT)?;
     assert_log_of_calls(&rt, rt.alloc(), &HOST)
 }

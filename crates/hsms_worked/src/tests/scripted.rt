@@ -2,11 +2,10 @@
 
 ghost use Rattle.std.specs.Prelude.{◌<◌};
 
-use super::{assert_octets, assert_so};
+use super::{Stop, assert_octets, assert_so};
 use hsms_ends::{Got, Link, LinkFault, Scripted};
 use std::alloc::{AllocError, Global};
 use std::process::Abort;
-use std::test::Fail;
 
 /// A link with these moments.
 fn clock(alloc: Global, moments: &[u64]) -> Result<Scripted, AllocError> {
@@ -158,7 +157,7 @@ fn judge_room(rt: &impl Abort, link: &mut Scripted) {
 }
 
 #[test]
-fn room_and_pieces(rt: HostRuntime) -> Result<(), Fail> {
+fn room_and_pieces(rt: HostRuntime) -> Result<(), Stop> {
     let mut link = peer(rt.alloc(), &[], 3, u64::MAX)?;
     judge_room(&rt, &mut link);
     Ok(())
@@ -174,7 +173,7 @@ fn judge_fuse(rt: &impl Abort, link: &mut Scripted) {
 }
 
 #[test]
-fn waits_and_sends_share_a_fuse(rt: HostRuntime) -> Result<(), Fail> {
+fn waits_and_sends_share_a_fuse(rt: HostRuntime) -> Result<(), Stop> {
     let mut link = peer(rt.alloc(), &[Some(b"ab")], 1, 2)?;
     judge_fuse(&rt, &mut link);
     Ok(())
@@ -188,7 +187,7 @@ fn judge_until(rt: &impl Abort, link: &mut Scripted) {
 }
 
 #[test]
-fn until_is_noted(rt: HostRuntime) -> Result<(), Fail> {
+fn until_is_noted(rt: HostRuntime) -> Result<(), Stop> {
     let mut link = peer(rt.alloc(), &[], 1, 2)?;
     judge_until(&rt, &mut link);
     Ok(())

@@ -2,8 +2,10 @@
 
 ghost use Rattle.std.specs.Prelude.{◌<◌};
 
-use super::connection::{EQUIPMENT_LINE, HOST_LINE, answer_of, audited, log_of, settings_of};
-use super::{Abort, Fail, Global, Role, Store, assert_octets, assert_so, octets_of};
+use super::connection::{
+    EQUIPMENT_LINE, HOST_LINE, answer_of, audited, link_of, log_of, settings_of,
+};
+use super::{Abort, Global, Role, Stop, Store, assert_octets, assert_so, octets_of_all};
 use hsms_ends::{Scripted, ServeFault, Served, Step};
 use secs_text::read;
 
@@ -13,8 +15,8 @@ struct Connection {
     name: &'static str,
     role: Role,
     moments: &'static [u64],
-    /// What each wait gives: `quiet`, or the octets of the messages of these lines.
-    waits: &'static [&'static str],
+    /// What each wait gives, a line each: `quiet`, or the octets of these messages.
+    waits: &'static str,
     /// How many waits and sends don't fail.
     fuse: u64,
     /// How many octets the log has room for.
@@ -27,7 +29,7 @@ struct Connection {
     until: Option<u64>,
     /// The log after its first line.
     log: &'static str,
-    /// The messages that the link took, a line each.
+    /// The messages that the link took.
     sent: &'static str,
 }
 
@@ -36,7 +38,7 @@ const PASSIVE: Connection = Connection {
     name: "equipment is selected, tested and left",
     role: Role::Equipment,
     moments: &[],
-    waits: &["ffff0000000100000001\nffff0000000500000002\nffff0000000900000003"],
+    waits: "ffff0000000100000001 ffff0000000500000002 ffff0000000900000003\n",
     fuse: u64::MAX,
     room: 4096,
     script: "",
@@ -55,7 +57,7 @@ const PASSIVE: Connection = Connection {
 0 < ffff0000000900000003
 0 down
 ",
-    sent: "ffff0000000200000001\nffff0000000600000002",
+    sent: "ffff0000000200000001 ffff0000000600000002",
 };
 
 const HOST_LOG: &str = "0 up
@@ -72,7 +74,7 @@ const ACTIVE: Connection = Connection {
     name: "a host takes its script",
     role: Role::Host,
     moments: &[],
-    waits: &["ffff0000000200000001", "00000102000000000002"],
+    waits: "ffff0000000200000001\n00000102000000000002\n",
     fuse: u64::MAX,
     room: 4096,
     script: "S1F2 .\nS1F1 W .\nseparate",
@@ -84,7 +86,7 @@ const ACTIVE: Connection = Connection {
     }),
     until: Some(45001),
     log: HOST_LOG,
-    sent: "ffff0000000100000001\n00008101000000000002\nffff0000000900000003",
+    sent: "ffff0000000100000001 00008101000000000002 ffff0000000900000003",
 };
 
 /// With single octets each octet takes a turn.
@@ -99,13 +101,7 @@ const CONNECTIONS: &[Connection] = &[
     ACTIVE,
     Connection {
         name: "a message comes in each wait, and nothing between",
-        waits: &[
-            "ffff0000000100000001",
-            "quiet",
-            "ffff0000000500000002",
-            "",
-            "ffff0000000900000003",
-        ],
+        waits: "ffff0000000100000001\nquiet\nffff0000000500000002\n\nffff0000000900000003\n",
         until: None,
         ..PASSIVE
     },
@@ -119,7 +115,7 @@ const CONNECTIONS: &[Connection] = &[
 0 > 00008101000000000002
 0 < 00000102000000000002
 ",
-        sent: "ffff0000000100000001\n00008101000000000002",
+        sent: "ffff0000000100000001 00008101000000000002",
         ..ACTIVE
     },
     Connection {
@@ -134,7 +130,7 @@ const CONNECTIONS: &[Connection] = &[
     Connection {
         name: "nobody selects",
         moments: &[0, 0, 10001],
-        waits: &["quiet"],
+        waits: "quiet\n",
         turns: 2,
         answer: Ok(Served {
             entries: 3,
@@ -148,7 +144,7 @@ const CONNECTIONS: &[Connection] = &[
     },
     Connection {
         name: "the peer closes at once",
-        waits: &[],
+        waits: "",
         turns: 1,
         answer: Ok(Served {
             entries: 2,
@@ -163,7 +159,7 @@ const CONNECTIONS: &[Connection] = &[
     Connection {
         name: "octets come once T7 is past",
         moments: &[0, 0, 10001],
-        waits: &["ffff0000000100000001"],
+        waits: "ffff0000000100000001\n",
         turns: 1,
         answer: Ok(Served {
             entries: 3,
@@ -178,7 +174,7 @@ const CONNECTIONS: &[Connection] = &[
     Connection {
         name: "the peer closes once T7 is past",
         moments: &[0, 0, 10001],
-        waits: &[],
+        waits: "",
         turns: 1,
         answer: Ok(Served {
             entries: 3,
@@ -229,49 +225,14 @@ const CONNECTIONS: &[Connection] = &[
     },
 ];
 
-/// The octets of the messages of lines.
-fn octets_of_all(alloc: Global, messages: &str) -> Result<Vec<u8>, Fail> {
-    let mut octets = Vec::new(alloc);
-    for message in messages.lines() {
-        octets.extend_from_slice(&octets_of(alloc, message)?)?;
-    }
-    Ok(octets)
-}
-
-/// What a wait gives.
-fn wait_of(alloc: Global, messages: &str) -> Result<Option<Vec<u8>>, Fail> {
-    match messages {
-        "quiet" => Ok(None),
-        _ => Ok(Some(octets_of_all(alloc, messages)?)),
-    }
-}
-
-/// What each wait of a connection gives.
-fn waits_of(alloc: Global, waits: &[&'static str]) -> Result<Vec<Option<Vec<u8>>>, Fail> {
-    let mut given = Vec::new(alloc);
-    for messages in waits {
-        given.push(wait_of(alloc, messages)?)?;
-    }
-    Ok(given)
-}
-
-fn link_of(alloc: Global, case: &Connection, piece: usize) -> Result<Scripted, Fail>
-    requires { 0 < piece }
-{
-    let waits = waits_of(alloc, case.waits)?;
-    let moments = Vec::from_slice(alloc, case.moments)?;
-    let room = vec![in alloc; 0u8; 1024]?;
-    Ok(Scripted::new(moments, waits, room, piece, case.fuse))
-}
-
-fn step_of(alloc: Global, text: &str) -> Result<Step, Fail> {
+fn step_of(alloc: Global, text: &str) -> Result<Step, Stop> {
     match text {
         "separate" => Ok(Step::Separate),
         _ => Ok(Step::Send(read(alloc, text.as_bytes(), 100)?)),
     }
 }
 
-fn script_of(alloc: Global, lines: &str) -> Result<Vec<Step>, Fail> {
+fn script_of(alloc: Global, lines: &str) -> Result<Vec<Step>, Stop> {
     let mut script = Vec::new(alloc);
     for step in lines.lines() {
         script.push(step_of(alloc, step)?)?;
@@ -280,7 +241,7 @@ fn script_of(alloc: Global, lines: &str) -> Result<Vec<Step>, Fail> {
 }
 
 /// The text that the log of a connection is to be.
-fn text_of(alloc: Global, case: &Connection) -> Result<Vec<u8>, Fail> {
+fn text_of(alloc: Global, case: &Connection) -> Result<Vec<u8>, Stop> {
     let first_line = match case.role {
         Role::Host => HOST_LINE,
         Role::Equipment => EQUIPMENT_LINE,
@@ -291,7 +252,7 @@ fn text_of(alloc: Global, case: &Connection) -> Result<Vec<u8>, Fail> {
 }
 
 /// The log of a connection is what it is to be, and passes the audit, unless a write to it failed.
-fn judge_log(rt: &impl Abort, alloc: Global, case: &Connection, log: &Store) -> Result<(), Fail> {
+fn judge_log(rt: &impl Abort, alloc: Global, case: &Connection, log: &Store) -> Result<(), Stop> {
     let text = text_of(alloc, case)?;
     assert_octets(rt, log.written(), text.as_slice(), case.name);
     if case.answer != Err(ServeFault::Log) {
@@ -306,7 +267,7 @@ fn judge_link(
     alloc: Global,
     case: &Connection,
     link: &Scripted,
-) -> Result<(), Fail> {
+) -> Result<(), Stop> {
     let sent = octets_of_all(alloc, case.sent)?;
     assert_octets(rt, link.taken(), sent.as_slice(), case.name);
     Ok(())
@@ -318,11 +279,11 @@ fn answer_to(
     case: &Connection,
     link: &mut Scripted,
     log: &mut Store,
-) -> Result<Result<Served, ServeFault>, Fail> {
+) -> Result<Result<Served, ServeFault>, Stop> {
     let script = script_of(alloc, case.script)?;
-    let settings = settings_of(case.role).ok_or("the settings")?;
+    let settings = settings_of(case.role).ok_or(Stop::Line)?;
     match answer_of(alloc, link, log, settings, &script, case.turns)? {
-        Err(ServeFault::Memory) => Err(ServeFault::Memory.into()),
+        Err(ServeFault::Memory) => Err(Stop::Memory),
         answer => Ok(answer),
     }
 }
@@ -335,7 +296,7 @@ fn judge_connection(
     link: &mut Scripted,
     log: &mut Store,
     until: Option<u64>,
-) -> Result<(), Fail> {
+) -> Result<(), Stop> {
     let answer = answer_to(alloc, case, link, log)?;
     assert_so(rt, answer == case.answer, case.name);
     judge_log(rt, alloc, case, log)?;
@@ -351,16 +312,16 @@ fn judge_served(
     case: &Connection,
     piece: usize,
     until: Option<u64>,
-) -> Result<(), Fail>
+) -> Result<(), Stop>
     requires { 0 < piece }
 {
-    let mut link = link_of(alloc, case, piece)?;
+    let mut link = link_of(alloc, case.moments, case.waits, piece, case.fuse)?;
     let mut log = log_of(alloc, case.room, 4096, u64::MAX)?;
     judge_connection(rt, alloc, case, &mut link, &mut log, until)
 }
 
 #[test]
-fn connections_are_served(rt: HostRuntime) -> Result<(), Fail> {
+fn connections_are_served(rt: HostRuntime) -> Result<(), Stop> {
     for case in CONNECTIONS {
         judge_served(&rt, rt.alloc(), case, 4096, case.until)?;
     }
@@ -372,7 +333,7 @@ fn judge_pieces(
     alloc: Global,
     piece: usize,
     until: Option<u64>,
-) -> Result<(), Fail>
+) -> Result<(), Stop>
     requires { 0 < piece }
 {
     judge_served(rt, alloc, &PASSIVE, piece, until)
@@ -380,7 +341,7 @@ fn judge_pieces(
 
 /// Where a message came in part, a wait lasts until T8 is past.
 #[test]
-fn pieces_do_not_matter(rt: HostRuntime) -> Result<(), Fail> {
+fn pieces_do_not_matter(rt: HostRuntime) -> Result<(), Stop> {
     let alloc = rt.alloc();
     judge_pieces(&rt, alloc, 1, Some(5001))?;
     judge_pieces(&rt, alloc, 3, Some(5001))?;

@@ -1,9 +1,8 @@
 //! A host and an equipment talk over memory, one octet at a time.
 
-use super::party::Party;
+use super::party::{Party, host_of, tool_of};
 use super::{
-    Abort, Desk, EquipmentDesk, Fail, Global, HostDesk, Input, Role, Side, assert_octets,
-    assert_so, equipment, input_of, settings,
+    Abort, Desk, Global, Input, Role, Side, Stop, assert_octets, assert_so, input_of, settings,
 };
 
 const HOST_LOG: &str = "hsms-log 1 host active 0 45000 6000 10000 5000 1048576 32
@@ -48,7 +47,7 @@ fn pass<D: Desk + Drop, E: Desk + Drop>(
     from: &mut Party<D>,
     to: &mut Party<E>,
     now: u64,
-) -> Result<(), Fail> {
+) -> Result<(), Stop> {
     let octets = from.take(alloc, 100)?;
     to.tell(alloc, &Input::Tick(now))?;
     to.hear(alloc, &octets)
@@ -61,10 +60,10 @@ fn exchange<D: Desk + Drop, E: Desk + Drop>(
     tool: &mut Party<E>,
     now: u64,
     line: &str,
-) -> Result<(), Fail> {
+) -> Result<(), Stop> {
     pass(alloc, host, tool, now)?;
     pass(alloc, tool, host, now.saturating_add(1))?;
-    let input = input_of(alloc, line)?.ok_or("no input")?;
+    let input = input_of(alloc, line)?.ok_or(Stop::Line)?;
     host.tell(alloc, &input)
 }
 
@@ -73,7 +72,7 @@ fn talk<D: Desk + Drop, E: Desk + Drop>(
     alloc: Global,
     host: &mut Party<D>,
     tool: &mut Party<E>,
-) -> Result<(), Fail> {
+) -> Result<(), Stop> {
     for (now, line) in SAID {
         exchange(alloc, host, tool, *now, line)?;
     }
@@ -85,7 +84,7 @@ fn start<D: Desk + Drop, E: Desk + Drop>(
     alloc: Global,
     host: &mut Party<D>,
     tool: &mut Party<E>,
-) -> Result<(), Fail> {
+) -> Result<(), Stop> {
     tool.tell(alloc, &Input::Start(0))?;
     host.tell(alloc, &Input::Start(0))
 }
@@ -96,7 +95,7 @@ fn assert_log<D: Desk + Drop>(
     alloc: Global,
     party: &Party<D>,
     text: &str,
-) -> Result<(), Fail> {
+) -> Result<(), Stop> {
     assert_octets(rt, party.log.as_slice(), text.as_bytes(), "the log");
     let summary = party.audited(alloc)?;
     assert_so(rt, summary.entries == 11, "entries");
@@ -108,26 +107,18 @@ fn judge_talk<D: Desk + Drop, E: Desk + Drop>(
     alloc: Global,
     host: &mut Party<D>,
     tool: &mut Party<E>,
-) -> Result<(), Fail> {
+) -> Result<(), Stop> {
     start(alloc, host, tool)?;
     talk(alloc, host, tool)?;
     assert_log(rt, alloc, host, HOST_LOG)?;
     assert_log(rt, alloc, tool, EQUIPMENT_LOG)
 }
 
-fn host_of(alloc: Global) -> Result<Party<HostDesk>, Fail> {
-    let given = settings(Role::Host, Side::Active, 1_048_576).ok_or("the host's")?;
-    Party::new(alloc, given, HostDesk, 1)
-}
-
-fn tool_of(alloc: Global) -> Result<Party<EquipmentDesk>, Fail> {
-    let given = settings(Role::Equipment, Side::Passive, 1_048_576).ok_or("the tool's")?;
-    Party::new(alloc, given, equipment(alloc)?, 1)
-}
-
 #[test]
-fn two_ends_talk(rt: HostRuntime) -> Result<(), Fail> {
-    let mut host = host_of(rt.alloc())?;
-    let mut tool = tool_of(rt.alloc())?;
+fn two_ends_talk(rt: HostRuntime) -> Result<(), Stop> {
+    let host = settings(Role::Host, Side::Active, 1_048_576);
+    let tool = settings(Role::Equipment, Side::Passive, 1_048_576);
+    let mut host = host_of(rt.alloc(), host, 1)?;
+    let mut tool = tool_of(rt.alloc(), tool)?;
     judge_talk(&rt, rt.alloc(), &mut host, &mut tool)
 }

@@ -1,10 +1,7 @@
 //! Two ends are told long random lists, and each log that they leave passes the audit.
 
-use super::party::Party;
-use super::{
-    Desk, EquipmentDesk, Fail, Global, HostDesk, Input, Message, Role, Settings, Side, equipment,
-    octets_of, read,
-};
+use super::party::{Party, host_of, tool_of};
+use super::{Desk, Global, Input, Message, Role, Settings, Side, Stop, octets_of, read};
 use hsms_log::Summary;
 
 /// What an end may be sent that no end sends by itself. The system bytes are then made other ones.
@@ -78,27 +75,32 @@ fn settings(role: Role, link: Side) -> Option<Settings> {
 }
 
 /// One of some values.
-fn one_of<T: Copy>(chance: &mut Chance, values: &[T]) -> Result<T, Fail> {
+fn one_of<T: Copy>(chance: &mut Chance, values: &[T]) -> Result<T, Stop> {
     let index = chance.below(values.len() as u64) as usize;
-    Ok(*values.get(index).ok_or("no value")?)
+    Ok(*values.get(index).ok_or(Stop::Line)?)
 }
 
-/// A strange message, with system bytes from 0 to 7.
-fn strange(alloc: Global, chance: &mut Chance) -> Result<Vec<u8>, Fail> {
-    let mut octets = octets_of(alloc, one_of(chance, STRANGE)?)?;
-    let system = u8::try_from(chance.below(8)).unwrap_or(0);
+/// The last of a message's system bytes is this one.
+fn set_system(octets: &mut [u8], system: u8) {
     if let Some(last) = octets.get_mut(13) {
         *last = system;
     }
+}
+
+/// A strange message, with system bytes from 0 to 7.
+fn strange(alloc: Global, chance: &mut Chance) -> Result<Vec<u8>, Stop> {
+    let mut octets = octets_of(alloc, one_of(chance, STRANGE)?)?;
+    let system = u8::try_from(chance.below(8)).unwrap_or(0);
+    set_system(&mut octets, system);
     Ok(octets)
 }
 
-fn said(alloc: Global, chance: &mut Chance) -> Result<Message, Fail> {
+fn said(alloc: Global, chance: &mut Chance) -> Result<Message, Stop> {
     Ok(read(alloc, one_of(chance, SAID)?.as_bytes(), 100)?)
 }
 
 /// Octets that come, mostly those that the other end sent, with garbage between.
-fn garbled(alloc: Global, chance: &mut Chance, line: Vec<u8>) -> Result<Vec<u8>, Fail> {
+fn garbled(alloc: Global, chance: &mut Chance, line: Vec<u8>) -> Result<Vec<u8>, Stop> {
     match chance.below(2000) {
         0 => Ok(Vec::from_slice(alloc, &[0, 0, 0, 9])?),
         1 => Ok(Vec::from_slice(alloc, &[0, 0, 1, 1, 0, 0, 129, 1, 0, 0, 0, 0, 0, 5])?),
@@ -113,7 +115,7 @@ fn next_input<E: Desk + Drop>(
     chance: &mut Chance,
     other: &mut Party<E>,
     now: u64,
-) -> Result<Input, Fail> {
+) -> Result<Input, Stop> {
     let input = match chance.below(2000) {
         0..=599 => Input::Tick(now),
         600..=799 => Input::Send(said(alloc, chance)?),
@@ -136,29 +138,19 @@ fn step<D: Desk + Drop, E: Desk + Drop>(
     party: &mut Party<D>,
     other: &mut Party<E>,
     now: u64,
-) -> Result<(), Fail> {
+) -> Result<(), Stop> {
     let input = next_input(alloc, chance, other, now)?;
     party.tell(alloc, &input)
 }
 
 /// How far time goes.
-fn jump(chance: &mut Chance) -> Result<u64, Fail> {
+fn jump(chance: &mut Chance) -> Result<u64, Stop> {
     let jumps = if chance.below(500) == 0 {
         LONG_JUMPS
     } else {
         JUMPS
     };
     one_of(chance, jumps)
-}
-
-fn host_of(alloc: Global, link: Side) -> Result<Party<HostDesk>, Fail> {
-    let given = settings(Role::Host, link).ok_or("the host's")?;
-    Party::new(alloc, given, HostDesk, 0xffff_fff0)
-}
-
-fn tool_of(alloc: Global, link: Side) -> Result<Party<EquipmentDesk>, Fail> {
-    let given = settings(Role::Equipment, link).ok_or("the tool's")?;
-    Party::new(alloc, given, equipment(alloc)?, 1)
 }
 
 /// Time goes on, and then one thing happens to one of two ends. Answers the time.
@@ -168,7 +160,7 @@ fn go_on<D: Desk + Drop, E: Desk + Drop>(
     host: &mut Party<D>,
     tool: &mut Party<E>,
     now: u64,
-) -> Result<u64, Fail> {
+) -> Result<u64, Stop> {
     let now = now.saturating_add(jump(chance)?);
     if chance.below(2) == 0 {
         step(alloc, chance, host, tool, now)?;
@@ -184,7 +176,7 @@ fn wander<D: Desk + Drop, E: Desk + Drop>(
     chance: &mut Chance,
     host: &mut Party<D>,
     tool: &mut Party<E>,
-) -> Result<(), Fail> {
+) -> Result<(), Stop> {
     let mut now = 0u64;
     for _ in 0..1000 {
         now = go_on(alloc, chance, host, tool, now)?;
@@ -198,7 +190,7 @@ fn live<D: Desk + Drop, E: Desk + Drop>(
     chance: &mut Chance,
     host: &mut Party<D>,
     tool: &mut Party<E>,
-) -> Result<[Summary; 2], Fail> {
+) -> Result<[Summary; 2], Stop> {
     host.tell(alloc, &Input::Start(0))?;
     tool.tell(alloc, &Input::Start(0))?;
     wander(alloc, chance, host, tool)?;
@@ -206,20 +198,20 @@ fn live<D: Desk + Drop, E: Desk + Drop>(
 }
 
 /// Two ends live through a list of a thousand things.
-fn walk(alloc: Global, seed: u64) -> Result<[Summary; 2], Fail> {
+fn walk(alloc: Global, seed: u64) -> Result<[Summary; 2], Stop> {
     let mut chance = Chance { state: seed };
     let (one, two) = if chance.below(2) == 0 {
         (Side::Active, Side::Passive)
     } else {
         (Side::Passive, Side::Active)
     };
-    let mut host = host_of(alloc, one)?;
-    let mut tool = tool_of(alloc, two)?;
+    let mut host = host_of(alloc, settings(Role::Host, one), 0xffff_fff0)?;
+    let mut tool = tool_of(alloc, settings(Role::Equipment, two))?;
     live(alloc, &mut chance, &mut host, &mut tool)
 }
 
 #[test]
-fn walks_of_two_ends(rt: HostRuntime) -> Result<(), Fail> {
+fn walks_of_two_ends(rt: HostRuntime) -> Result<(), Stop> {
     let (mut entries, mut discarded, mut expired) = (0u64, 0u64, 0u64);
     for seed in 0..20u64 {
         for summary in &walk(rt.alloc(), seed)? {
