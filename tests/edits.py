@@ -80,7 +80,7 @@ OF_TYPE = re.compile(rf"(?:unsafe )?impl(?:<[^{{]*?>)? {NAME_OF_TYPE}(?: for {NA
 
 # Where a function begins, and one of a cycle of calls, whose attribute stands above it.
 FUNCTION = re.compile(r"(?m)^( *)(?:pub(?:\(\w+\))? )?(?:const )?(?:unsafe )?fn (\w+)")
-IN_A_CYCLE = re.compile(r"#\[cycle\(\w+\)\]\n(?: *(?://.*|#\[.*)\n)*$")
+IN_A_CYCLE = re.compile(r"(?m)^ *#\[cycle\(\w+\)\]\n(?: *(?://.*|#\[.*)\n)* *(?:pub(?:\(\w+\))? )?(?:unsafe )?fn (\w+)")
 
 # What stands in the place of a body that no check looks at.
 NO_BODY = "unreachable!()"
@@ -304,8 +304,11 @@ def functions_in(crate):
     """The functions of a crate's sources that may have a proof of their own, by their paths: those that are no trait's, no
     macro's and in no cycle of calls.
     """
-    texts = sources_of(crate).items()
-    return sorted({it for path, text in texts for item in ITEM.split(text) for it, _ in functions_of(crate, path, item)})
+    found = set()
+    for path, text in sources_of(crate).items():
+        in_cycles = set(IN_A_CYCLE.findall(text))
+        found.update(it for item in ITEM.split(text) for it, _ in functions_of(crate, path, item, in_cycles))
+    return sorted(found)
 
 
 @functools.lru_cache(maxsize=None)
@@ -320,21 +323,22 @@ def module_of(crate, path, of_type):
     return types_in(crate).get(name) or module_at(path)
 
 
-def functions_of(crate, path, item):
-    """The functions of an item of a source, each by its path, with where it stands."""
+def functions_of(crate, path, item, in_cycles):
+    """The functions of an item of a source that are in no cycle of calls, each by its path, with where it stands."""
     of_type = OF_TYPE.match(item)
     owner = [named_impl(of_type)] if of_type else []
     found = [it for it in FUNCTION.finditer(item) if len(it[1]) == 4 * len(owner)]
     ends = [*(it.start() for it in found[1:]), len(item)]
     named_so = lambda it: "/".join([*module_of(crate, path, of_type), *owner, it[2]])
-    return [(named_so(it), it) for it, end in zip(found, ends) if not is_in_a_cycle(item, it, end)]
+    is_alone = lambda it, end: it[2] not in in_cycles and not calls_itself(item, it, end)
+    return [(named_so(it), it) for it, end in zip(found, ends) if is_alone(it, end)]
 
 
 def without_bodies(crate, path, text, functions):
     """A source of a crate in which these functions do nothing."""
-    items = ITEM.split(text)
+    items, in_cycles = ITEM.split(text), set(IN_A_CYCLE.findall(text))
     for number, item in enumerate(items):
-        for name, function in reversed(functions_of(crate, path, item)):
+        for name, function in reversed(functions_of(crate, path, item, in_cycles)):
             begin, end = body_at(item, function) if name in functions else (0, 0)
             if begin < end:
                 items[number] = item = f"{item[:begin]}\n{function[1]}    {NO_BODY}{item[end:]}"
@@ -349,10 +353,10 @@ def body_at(item, function):
     return (brace.end(), end) if end >= 0 else (0, 0)
 
 
-def is_in_a_cycle(item, function, end):
-    """Whether a function of an item, which ends there, calls itself, by others or not."""
+def calls_itself(item, function, end):
+    """Whether a function of an item, which ends there, calls itself."""
     call = re.compile(rf"(?:(?<![\w:.])|\bself\.|\bSelf::){function[2]}\(")
-    return bool(IN_A_CYCLE.search(item[: function.start()]) or call.search(item, function.end(), end))
+    return bool(call.search(item, function.end(), end))
 
 
 def span_of(text, owner, name):
@@ -368,7 +372,7 @@ def span_of(text, owner, name):
             begin = start + found[0].start()
             end = text.find(f"\n{indent}}}\n", begin)
             *_, above = re.split(r"(?m)^ *$|^.*[{}]$", text[:begin])
-            is_other = IN_A_CYCLE.search(text[:begin]) or (of_type and of_type[3]) or end < 0
+            is_other = name in IN_A_CYCLE.findall(text) or (of_type and of_type[3]) or end < 0
             return None if is_other else (begin - len(above.lstrip("\n")), end + len(indent) + 3, indent)
         start += len(item)
     return None
