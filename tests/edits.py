@@ -513,7 +513,6 @@ class Room:
         refused = {it: [said for of in function(it) for said in found.get(of, [])] for it in edits if function(it) & found.keys()}
         return {it for it in edits if (function(it) <= proved if asked else not status)}, refused, output
 
-
     def check_past_holes(self, only, texts, filled):
         """Checks functions of the crate with these texts of its files, where only those whose holes are filled have bodies."""
         holes = self.by_hand.keys() - set(filled)
@@ -772,6 +771,8 @@ def try_one(crate, name, body):
     if not os.path.isfile(path):
         print(f"there is no {os.path.relpath(path, TOP)}")
         return 2
+    if not is_built_below([crate], mark_as_built()):
+        return 1
     wanted = [it for it in edits_in(path, crate, name) if not body or it.name == f"{name} {body}"]
     with tempfile.TemporaryDirectory(prefix="edit-") as home:
         try:
