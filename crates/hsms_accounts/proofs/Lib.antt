@@ -1,2 +1,3 @@
 mod Hears
 mod Logs
+mod Addresses

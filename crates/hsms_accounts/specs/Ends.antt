@@ -1,5 +1,5 @@
 -- What both ends of a connection log of what happens on it.
-use Rattle.std.specs.Prelude.{◌≡◌, ◌<◌, ◌+◌, ◌⊎◌, ℕ, Bool, true, false, if◌then◌else◌, List, [], ◌∷◌, ◌++◌, length, drop, max, Some, None}
+use Rattle.std.specs.Prelude.{◌≡◌, ◌<◌, ◌+◌, ◌⊎◌, ◌||◌, ℕ, nat_lt, Bool, true, false, if◌then◌else◌, List, [], ◌∷◌, ◌++◌, length, drop, max, Some, None}
 use Rattle.hsms_frame.specs.Frame.{Frame}
 use Rattle.hsms_machine.specs.Settings.{Parameters}
 use Rattle.hsms_machine.specs.declared.entry.Entry.{Entry}
@@ -68,3 +68,13 @@ abbrev pub HearsAs : ℕ → ℕ → Side → Happening → Heard → Standing �
 HearsAs most before side happening heard.Goes old new = HasNoted before side happening old new
 HearsAs most before side happening heard.Down old new = (happening.event ≡ happens.Down) × HasNoted before side happening old new
 HearsAs most before side happening heard.Length old new = IsNoMessage most happening.event × (new ≡ old)
+
+-- a message of so many octets, those of its length with them, is none that an end takes
+abbrev pub is_no_message : ℕ → ℕ → Bool
+is_no_message most count = nat_lt count 14 || nat_lt (most + 4) count
+
+-- whether both ends log what happens, and whether more may follow
+abbrev pub heard_of : ℕ → Happens → Heard
+heard_of most happens.Up = heard.Goes
+heard_of most (happens.Message from octets) = if is_no_message most (length octets.items) then heard.Length else heard.Goes
+heard_of most happens.Down = heard.Down

@@ -1,6 +1,7 @@
 //! The logs of both ends of a connection.
 
 ghost use Rattle.std.specs.Prelude.{◌≡◌, ◌<◌, ◌≤◌, ◌+◌, ◌⊎◌, IfOk, IfSome, OnOk, None, Some, length, drop};
+ghost use Rattle.std.specs.Option.{option_map};
 ghost use Rattle.hsms_frame.specs.Frame.{Frame as Message};
 ghost use Rattle.hsms_machine.specs.declared.entry.Event.TheVariants.{Sent, Taken};
 ghost use Rattle.hsms_accounts.specs.Ends.{Adds, note_of};
@@ -56,7 +57,7 @@ impl Ends {
     ghost use Rattle.hsms_accounts.specs.Account.{HasLogged, Note, log_text};
     ghost use Rattle.hsms_machine.specs.declared.entry.Event.TheVariants.{Down, Up};
     ghost use Rattle.hsms_accounts.specs.declared.account.Remark.TheVariants.{LeftOut, Replaced, Supposed};
-    ghost use Rattle.hsms_accounts.specs.Ends.{Adds, HearsAs, event_of, note_of, remark_alone};
+    ghost use Rattle.hsms_accounts.specs.Ends.{Adds, HearsAs, event_of, heard_of, note_of, remark_alone};
 
     /// The logs of ends with these settings, without an entry.
     pub fn new(alloc: Global, active: &Settings, passive: &Settings) -> Result<Ends, Stop>
@@ -78,6 +79,7 @@ impl Ends {
     pub fn hear(&mut self, alloc: Global, happening: Happening) -> Result<Heard, Stop>
         ensures active { IfOk result (λ heard. HearsAs self.old.max self.old.time Active happening heard self.old.active self.new.active) }
         ensures passive { IfOk result (λ heard. HearsAs self.old.max self.old.time Passive happening heard self.old.passive self.new.passive) }
+        ensures answer { IfOk result (λ heard. heard ≡ heard_of self.old.max happening.event) }
         ensures time { OnOk result (self.new.time ≡ max self.old.time happening.time) }
         ensures max { OnOk result (self.new.max ≡ self.old.max) }
     {
@@ -234,7 +236,9 @@ fn taken(sent: Event) -> Event
 }
 
 /// The logs of the ends of a connection, which don't stand apart any more.
-pub fn unboxed(ends: Option<Box<Ends>>) -> Option<Ends> {
+pub fn unboxed(ends: Option<Box<Ends>>) -> Option<Ends>
+    ensures { result ≡ option_map (λ ends. ends.value) ends }
+{
     match ends {
         Some(ends) => Some(Box::into_inner(ends)),
         None => None,
@@ -246,6 +250,7 @@ pub fn frame_within(max: u32, octets: Vec<u8>) -> Option<Frame>
     ensures some { IfSome result (λ frame. drop 4 octets.items ≡ message_octets frame) }
     ensures none { result ≡ None → (length octets.items < 14) ⊎ (max + 4 < length octets.items) }
     ensures most { IfSome result (λ frame. length octets.items ≤ max + 4) }
+    ensures least { IfSome result (λ frame. 14 ≤ length octets.items) }
 {
     if octets.len() as u64 > u64::from(max) + LENGTH as u64 {
         return None;

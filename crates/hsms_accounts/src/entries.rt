@@ -1,6 +1,6 @@
 //! What an end logs of what happens on its connection.
 
-ghost use Rattle.std.specs.Prelude.{◌≡◌, ◌<◌, IfSome, None, length, drop};
+ghost use Rattle.std.specs.Prelude.{◌≡◌, ◌<◌, ◌≤◌, IfSome, None, length, drop};
 ghost use Rattle.hsms_log.specs.Spelling.{message_octets};
 
 use hsms_frame::{Frame, HEADER_LENGTH, Header, drop_front};
@@ -13,6 +13,7 @@ pub const LENGTH: usize = 4;
 pub fn frame_of(octets: Vec<u8>) -> Option<Frame>
     ensures some { IfSome result (λ frame. drop 4 octets.items ≡ message_octets frame) }
     ensures none { result ≡ None → length octets.items < 14 }
+    ensures least { IfSome result (λ frame. 14 ≤ length octets.items) }
 {
     if octets.len() < LENGTH + HEADER_LENGTH {
         return None;

@@ -1,7 +1,7 @@
 //! The two ends of a connection, by their addresses.
 
-ghost use Rattle.std.specs.Prelude.{◌≡◌, true, false};
-ghost use Rattle.hsms_accounts.specs.Pair.{IsOfPeer};
+ghost use Rattle.std.specs.Prelude.{◌≡◌, Some, true, false};
+ghost use Rattle.hsms_accounts.specs.Pair.{HaveSameAddresses, IsOfPeer, has_syn, ip_of, pair_by, pairs_at, socket_at};
 
 use hsms_capture::Side;
 use hsms_packets::{Address, Segment};
@@ -16,9 +16,11 @@ pub struct Pair {
 
 impl Pair {
     /// The pair of a segment that this end sent.
-    fn of(segment: &Segment, from: Side) -> Pair {
-        let source = SocketAddr::new(address_of(segment.source), segment.source_port);
-        let target = SocketAddr::new(address_of(segment.target), segment.target_port);
+    fn of(segment: &Segment, from: Side) -> Pair
+        ensures { result ≡ pair_by from segment.now }
+    {
+        let source = end_of(segment.source, segment.source_port);
+        let target = end_of(segment.target, segment.target_port);
         match from {
             Side::Active => Pair {
                 active: source,
@@ -43,12 +45,26 @@ impl Pair {
     }
 
     /// Whether both ends have the addresses of another pair's, whatever their ports.
-    pub fn has_addresses_of(&self, other: &Pair) -> bool {
+    pub fn has_addresses_of(&self, other: &Pair) -> bool
+        ensures yes { result ≡ true → HaveSameAddresses self.now other.now }
+        ensures no { result ≡ false → HaveSameAddresses self.now other.now → ⊥ }
+    {
         self.active.ip() == other.active.ip() && self.passive.ip() == other.passive.ip()
     }
 }
 
-fn address_of(address: Address) -> IpAddr {
+// The end with this address and port.
+#[tactic(auto, using(crate::proofs::Addresses::socket_is))]
+fn end_of(address: Address, port: u16) -> SocketAddr
+    ensures { result ≡ socket_at (ip_of address) port }
+{
+    SocketAddr::new(address_of(address), port)
+}
+
+#[tactic(auto, using(crate::proofs::Addresses::v4_is, crate::proofs::Addresses::v6_is))]
+fn address_of(address: Address) -> IpAddr
+    ensures { result ≡ ip_of address }
+{
     match address {
         Address::V4(octets) => IpAddr::V4(Ipv4Addr::from(octets)),
         Address::V6(octets) => IpAddr::V6(Ipv6Addr::from(octets)),
@@ -57,7 +73,9 @@ fn address_of(address: Address) -> IpAddr {
 
 /// The pairs that a segment may belong to, with the end that sent it, where the passive end has this port. It belongs to
 /// the second one only where the first isn't known: where both ends have the port, and it doesn't begin a connection.
-pub fn pairs_of(segment: &Segment, port: u16) -> Option<(Pair, Side, Option<Pair>)> {
+pub fn pairs_of(segment: &Segment, port: u16) -> Option<(Pair, Side, Option<Pair>)>
+    ensures { result ≡ pairs_at port segment.now }
+{
     match (segment.source_port == port, segment.target_port == port) {
         (false, false) => None,
         (false, true) => Some((Pair::of(segment, Side::Active), Side::Active, None)),
@@ -67,14 +85,23 @@ pub fn pairs_of(segment: &Segment, port: u16) -> Option<(Pair, Side, Option<Pair
 }
 
 // The same where both ends have the port.
-fn pairs_of_equals(segment: &Segment) -> (Pair, Side, Option<Pair>) {
+fn pairs_of_equals(segment: &Segment) -> (Pair, Side, Option<Pair>)
+    requires { segment.now.target_port ≡ segment.now.source_port }
+    ensures { Some result ≡ pairs_at segment.now.source_port segment.now }
+{
     let as_active = Pair::of(segment, Side::Active);
     let as_passive = Pair::of(segment, Side::Passive);
-    if segment.flags & 2 == 0 {
+    if !is_syn(segment) {
         return (as_active, Side::Active, Some(as_passive));
     }
     match segment.acknowledged {
         None => (as_active, Side::Active, None),
         Some(_) => (as_passive, Side::Passive, None),
     }
+}
+
+fn is_syn(segment: &Segment) -> bool
+    ensures { result ≡ has_syn segment.now }
+{
+    (segment.flags >> 1) & 1 == 1
 }

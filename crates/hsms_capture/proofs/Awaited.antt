@@ -21,6 +21,7 @@ use Rattle.hsms_capture.specs.Connected.{AreRising, AreStreamsOf, IsLimit, IsStr
 use Rattle.hsms_capture.proofs.Lists.{Each, weaken}
 use Rattle.hsms_capture.proofs.Longer.{stream_length, stream_more}
 use Rattle.hsms_capture.proofs.Numbered.{before_later}
+use Rattle.hsms_capture.proofs.Onward.{drains_behind}
 use Rattle.hsms_capture.proofs.Turned.{Within, each_within, turns_each}
 use Rattle.hsms_capture.proofs.Whole.{piece_is}
 
@@ -241,20 +242,23 @@ closed_log es = record { told = es; closed = true }
 
 pub reset_told : (limit : Option ℕ) (queue left : List Due) (old new : Teller) (told later : List Happening) → Drains limit queue old told left new later true
     → TellsBefore limit old queue told new left later true
-reset_told limit queue left old new told later drains more ps rises none streams sound waits =
-    let h = comes limit queue left old new told later true drains more ps rises none streams sound waits in
+reset_told limit queue left old new told later drains away more ps rises none streams sound waits =
+    let behind = drains_behind away limit queue left old new told later true drains in
+    let h = comes limit queue left old new (away ++ told) (away ++ later) true behind more ps rises none streams sound waits in
     (h.0, h.1.4)
 
 pub before_told : (limit : Option ℕ) (queue left : List Due) (old new : Teller) (told later : List Happening) (closed : Bool) → Drains limit queue old told left new later false
     → IsHeldBack limit left → closed ≡ is_over new.telling → TellsBefore limit old queue told new left later closed
-before_told limit queue left old new told later true drains back over more ps rises none streams sound waits =
-    let h = comes limit queue left old new told later false drains more ps rises none streams sound waits in (
+before_told limit queue left old new told later true drains back over away more ps rises none streams sound waits =
+    let behind = drains_behind away limit queue left old new told later false drains in
+    let h = comes limit queue left old new (away ++ told) (away ++ later) false behind more ps rises none streams sound waits in (
       h.0,
       λ lt f.
           h.1.4 lt f
-          ∙ ap (and_log (map entry_as later)) (over_log new.telling new.opened (lefts new.streams (ps ++ lt)) (told_dues (ps ++ lt) (h.1.1 ++ turns ps lt)) (sym over))
-          ∙ ap (λ (es : List Entry). closed_log es) (append-nil (map entry_as later)),
+          ∙ ap (and_log (map entry_as (away ++ later))) (over_log new.telling new.opened (lefts new.streams (ps ++ lt)) (told_dues (ps ++ lt) (h.1.1 ++ turns ps lt)) (sym over))
+          ∙ ap (λ (es : List Entry). closed_log es) (append-nil (map entry_as (away ++ later))),
     )
-before_told limit queue left old new told later false drains back over more ps rises none streams sound waits =
-    let h = comes limit queue left old new told later false drains more ps rises none streams sound waits in
+before_told limit queue left old new told later false drains back over away more ps rises none streams sound waits =
+    let behind = drains_behind away limit queue left old new told later false drains in
+    let h = comes limit queue left old new (away ++ told) (away ++ later) false behind more ps rises none streams sound waits in
     (h.0, (h.1, back, sym over))

@@ -46,13 +46,27 @@ in_time_more r told ps qs h later rises =
     let whole : (ps ++ qs) ++ later ≡ ps ++ (qs ++ later) = append_assoc ps qs later in
     subst (TimedBy r told) (sym whole) (h (qs ++ later) (subst (AreRising 0) whole rises))
 
-in_time_next : (r next : Reading) (told later : List Happening) (ps : List Placed) (p : Placed) → latest ps ≤ p.time → IsInTimeOf r told ps → ReactsInTime (packet_of p) r told next later
-    → IsInTimeOf next later (ps ++ p ∷ [])
-in_time_next r next told later ps p low h reacts more rises =
+pub timed_both : (time : ℕ → ℕ) (xs ys : List Happening) → AreTimed time xs → AreTimed time ys → AreTimed time (xs ++ ys)
+timed_both time [] ys f g = g
+timed_both time (x ∷ xs) ys f g = (f.0, timed_both time xs ys f.1 g)
+
+pub timed_front : (time : ℕ → ℕ) (xs ys : List Happening) → AreTimed time (xs ++ ys) → AreTimed time xs
+timed_front time [] ys h = tt
+timed_front time (x ∷ xs) ys h = (h.0, timed_front time xs ys h.1)
+
+pub timed_back : (time : ℕ → ℕ) (xs ys : List Happening) → AreTimed time (xs ++ ys) → AreTimed time ys
+timed_back time [] ys h = h
+timed_back time (x ∷ xs) ys h = timed_back time xs ys h.1
+
+in_time_next : (r next : Reading) (away told later : List Happening) (ps : List Placed) (p : Placed) → latest ps ≤ p.time → IsInTimeOf r (away ++ told) ps
+    → ReactsInTime (packet_of p) r told next later → IsInTimeOf next (away ++ later) (ps ++ p ∷ [])
+in_time_next r next away told later ps p low h reacts more rises =
     let whole : (ps ++ p ∷ []) ++ more ≡ ps ++ p ∷ more = append_assoc ps (p ∷ []) more in
     let all : AreRising 0 (ps ++ p ∷ more) = subst (AreRising 0) whole rises in
+    let time = time_at (ps ++ p ∷ more) in
     let g = h (p ∷ more) all in
-    subst (TimedBy next later) (sym whole) (reacts (time_at (ps ++ p ∷ more)) (time_is 0 ps p more all low) g.0 g.1)
+    let now = reacts time (time_is 0 ps p more all low) g.0 (timed_back time away told g.1) in
+    subst (TimedBy next (away ++ later)) (sym whole) (now.0, timed_both time away later (timed_front time away told g.1) now.1)
 
 -- ---- a segment more
 
@@ -63,22 +77,22 @@ stays_by r told base before s h =
     subst (IsInTimeOf r told) (sym (one_more base before s)) (in_time_more r told ps (placed_behind base ps s) h)
 
 pub followed_in_none : (turns : Known) (r : Reading) (segment : Segment) (octets : List ℕ) (told : List Happening) → FollowsInTime turns r segment octets told r told
-followed_in_none turns r segment octets told base before stands h = stays_by r told base before (seen_of segment octets) h
+followed_in_none turns r segment octets told base before away stands h = stays_by r (away ++ told) base before (seen_of segment octets) h
 
 pub followed_in_some : (old new : Known) (r next : Reading) (segment : Segment) (octets : List ℕ) (told later : List Happening) (freed : List Packet) (packet : Packet)
     → GoesOn old [] (seen_of segment octets) new freed (Some packet) → ReactsInTime packet r told next later → FollowsInTime old r segment octets told next later
-followed_in_some old new r next segment octets told later freed packet goes reacts base before stands h =
+followed_in_some old new r next segment octets told later freed packet goes reacts base before away stands h =
     let s = seen_of segment octets in
     let ps = places base [] before in
     let g = goes base before stands.0 in
     let one = placed_one (received ps s.from) (timed ps s) (place_of (end_of ps s.from) (base s.from) s.number) (ack_place ps base (other s.from) s.acknowledged) packet g.2 in
     let time : one.0.time ≡ max (latest ps) s.time = one.5 in
     let now : places base [] (before ++ s ∷ []) ≡ ps ++ one.0 ∷ [] = one_more base before s ∙ ap (λ (z : List Placed). ps ++ z) one.1 in
-    subst (IsInTimeOf next later) (sym now)
-    (in_time_next r next told later ps one.0 (omega (arith, time)) h (subst (λ (q : Packet). ReactsInTime q r told next later) one.2 reacts))
+    subst (IsInTimeOf next (away ++ later)) (sym now)
+    (in_time_next r next away told later ps one.0 (omega (arith, time)) h (subst (λ (q : Packet). ReactsInTime q r told next later) one.2 reacts))
 
 pub stays_in_time : (c : Connection) (s : Seen) (told : List Happening) → TakesInTime c s told c told
-stays_in_time c s told base before stands h = stays_by c.reading told base before s h
+stays_in_time c s told base before away stands h = stays_by c.reading (away ++ told) base before s h
 
 not_ended : (o : Option Ending) → is_some o ≡ false → o ≡ None
 not_ended None e = refl
@@ -86,8 +100,8 @@ not_ended (Some x) e = absurd cc
 
 pub goes_in_time : (c next : Connection) (segment : Segment) (octets : List ℕ) (told later : List Happening) → is_some c.ending ≡ false
     → FollowsInTime c.turns c.reading segment octets told next.reading later → TakesInTime c (seen_of segment octets) told next later
-goes_in_time c next segment octets told later e followed base before stands h =
-    followed base before (subst (λ (o : Option Ending). StandsAs o c.turns c.reading told base before) (not_ended c.ending e) stands) h
+goes_in_time c next segment octets told later e followed base before away stands h =
+    followed base before away (subst (λ (o : Option Ending). StandsAs o c.turns c.reading (away ++ told) base before) (not_ended c.ending e) stands) h
 
 -- ---- the beginning and the end
 
@@ -101,9 +115,10 @@ in_time_now r told base seen numbered h =
     subst (TimedBy r told) (append-nil ps) (h [] (nothing_follows ps (all_rise base seen numbered)))
 
 pub ends_in_time : (c : Connection) (told : List Happening) → EndsInTime c told told
-ends_in_time c told base seen numbered h = (in_time_now c.reading told base seen numbered h).1
+ends_in_time c told base seen away numbered h = (in_time_now c.reading (away ++ told) base seen numbered h).1
 
 pub ends_later : (c : Connection) (told later : List Happening) (left : List Due) → TellsInTime c.reading.due.items told left later → EndsInTime c told later
-ends_later c told later left tells base seen numbered h =
-    let now = in_time_now c.reading told base seen numbered h in
-    (tells (time_at (places base [] seen)) now.0 now.1).1
+ends_later c told later left tells base seen away numbered h =
+    let time = time_at (places base [] seen) in
+    let now = in_time_now c.reading (away ++ told) base seen numbered h in
+    timed_both time away later (timed_front time away told now.1) (tells time now.0 (timed_back time away told now.1)).1

@@ -65,14 +65,14 @@ stands_by (Some x) turns r told base seen e h = h
 
 pub followed_none : (old new : Known) (r : Reading) (segment : Segment) (octets : List ℕ) (told : List Happening) (freed : List Packet)
     → GoesOn old [] (seen_of segment octets) new freed None → Followed old r segment octets told new r told None
-followed_none old new r segment octets told freed goes base before numbered stands =
+followed_none old new r segment octets told freed goes base before away numbered stands =
     let s = seen_of segment octets in
     let ps = places base [] before in
     let g = goes base before stands.0 in
     let none : placed_behind base ps s ≡ [] =
     placed_none (received ps s.from) (timed ps s) (place_of (end_of ps s.from) (base s.from) s.number) (ack_place ps base (other s.from) s.acknowledged) g.2 in
     let now : places base [] (before ++ s ∷ []) ≡ ps = one_more base before s ∙ ap (λ (z : List Placed). ps ++ z) none ∙ append-nil ps in
-    (g.0, subst (λ (z : List Placed). IsReading r z told) (sym now) stands.1)
+    (g.0, subst (λ (z : List Placed). IsReading r z (away ++ told)) (sym now) stands.1)
 
 abbrev received_by : Known → BothEnds
 received_by k = record { active = k.active.acknowledged; passive = k.passive.acknowledged }
@@ -89,7 +89,7 @@ pub followed_some : (old new : Known) (r next : Reading) (segment : Segment) (oc
     → acked ≡ of_side before_received segment.from → ends ≡ ends_by new → behind ≡ received_by new
     → Reacts (record { from = segment.from; flags = segment.flags; packet = packet; acknowledged = acked; ends = ends; received = behind }) octets freed r told next later end
     → Followed old r segment octets told new next later end
-followed_some old new r next segment octets told later freed packet acked before_received ends behind end goes was acks ends_are received_are reacts base before numbered stands =
+followed_some old new r next segment octets told later freed packet acked before_received ends behind end goes was acks ends_are received_are reacts base before away numbered stands =
     let s = seen_of segment octets in
     let ps = places base [] before in
     let g = goes base before stands.0 in
@@ -109,7 +109,8 @@ followed_some old new r next segment octets told later freed packet acked before
       received_are ∙ ap received_by knows,
     ) in
     let rises : AreRising 0 (ps ++ p ∷ []) = subst (AreRising 0) now (all_rise base (before ++ s ∷ []) numbered) in
-    stands_by end new next later base (before ++ s ∷ []) g.0 (subst (λ (z : List Placed). Outcome next z later end) (sym now) (reacts ps p arrival rises stands.1))
+    stands_by end new next (away ++ later) base (before ++ s ∷ []) g.0
+    (subst (λ (z : List Placed). Outcome next z (away ++ later) end) (sym now) (reacts away ps p arrival rises stands.1))
 
 -- ---- one that has ended stays so
 
@@ -127,7 +128,7 @@ stays_by (Some x) turns r told base before s e h =
     subst (λ (z : List Placed). IsEnded true z told x) (sym (one_more base before s)) (ended_more ps (placed_behind base ps s) told x h)
 
 pub stays : (c : Connection) (s : Seen) (told : List Happening) → is_some c.ending ≡ true → TakesOn c s told c told
-stays c s told e base before numbered stands = stays_by c.ending c.turns c.reading told base before s e stands
+stays c s told e base before away numbered stands = stays_by c.ending c.turns c.reading (away ++ told) base before s e stands
 
 pub not_ended : (o : Option Ending) → is_some o ≡ false → o ≡ None
 not_ended None e = refl
@@ -135,8 +136,8 @@ not_ended (Some x) e = absurd cc
 
 pub goes_further : (c next : Connection) (segment : Segment) (octets : List ℕ) (told later : List Happening) → is_some c.ending ≡ false
     → Followed c.turns c.reading segment octets told next.turns next.reading later next.ending → TakesOn c (seen_of segment octets) told next later
-goes_further c next segment octets told later e followed base before numbered stands =
-    followed base before numbered (subst (λ (o : Option Ending). StandsAs o c.turns c.reading told base before) (not_ended c.ending e) stands)
+goes_further c next segment octets told later e followed base before away numbered stands =
+    followed base before away numbered (subst (λ (o : Option Ending). StandsAs o c.turns c.reading (away ++ told) base before) (not_ended c.ending e) stands)
 
 -- ---- the end
 
@@ -147,10 +148,10 @@ at_end ps told e rises h =
     (r.0 ∙ tells_all ps rises, r.1)
 
 pub ends_before : (c : Connection) (told : List Happening) (e : Ending) → c.ending ≡ Some e → EndsAs c told told e
-ends_before c told e is base seen numbered stands =
+ends_before c told e is base seen away numbered stands =
     let ps = places base [] seen in
-    let h : IsEnded true ps told e = subst (λ (o : Option Ending). StandsAs o c.turns c.reading told base seen) is stands in
-    at_end ps told e (all_rise base seen numbered) (h [] (nothing_follows ps (all_rise base seen numbered)))
+    let h : IsEnded true ps (away ++ told) e = subst (λ (o : Option Ending). StandsAs o c.turns c.reading (away ++ told) base seen) is stands in
+    at_end ps (away ++ told) e (all_rise base seen numbered) (h [] (nothing_follows ps (all_rise base seen numbered)))
 
 breaks_here : (first d : Option ℕ) (ps : List Placed) → first ≡ loss [] ps → difference [] ps ≡ d → BreaksAt false (earlier first d) (broken first d) ps
 unfolding turns
@@ -165,13 +166,14 @@ waits_end t queue ps told rises w = (w.0, w.1, w.2, w.3, λ later h. w.4 later (
 
 pub ends_now : (c : Connection) (first : Option ℕ) (told later : List Happening) (e : Ending) → c.ending ≡ None → TellsLoss c.reading.losses first
     → Finishes first c.reading.differs c.reading.teller c.reading.due.items told later e → EndsAs c told later e
-ends_now c first told later e is tells finishes base seen numbered stands =
+ends_now c first told later e is tells finishes base seen away numbered stands =
     let ps = places base [] seen in
     let rises = all_rise base seen numbered in
-    let h = subst (λ (o : Option Ending). StandsAs o c.turns c.reading told base seen) is stands in
+    let h = subst (λ (o : Option Ending). StandsAs o c.turns c.reading (away ++ told) base seen) is stands in
     let r = h.1.0 in
-    at_end ps later e rises
-    (finishes false ps rises refl r.2 (breaks_here first c.reading.differs ps (tells ps r.0) r.1) (waits_end c.reading.teller c.reading.due.items ps told rises r.3) [] refl)
+    at_end ps (away ++ later) e rises
+    (finishes away false ps rises refl r.2 (breaks_here first c.reading.differs ps (tells ps r.0) r.1)
+    (waits_end c.reading.teller c.reading.due.items ps (away ++ told) rises r.3) [] refl)
 
 -- ---- the beginning
 

@@ -57,9 +57,9 @@ closed_log es closed = record { told = es; closed = closed }
 
 pub closed_ends : (lost differs limit : Option ℕ) (old new : Teller) (queue left : List Due) (told later : List Happening) → limit ≡ earlier lost differs
     → TellsBefore limit old queue told new left later true → Finishes lost differs old queue told later ending.Complete
-closed_ends lost differs limit old new queue left told later is tells more ps rises none streams breaks waits lt h =
+closed_ends lost differs limit old new queue left told later is tells away more ps rises none streams breaks waits lt h =
     let sound = limit_is more (earlier lost differs) (broken lost differs) ps breaks in
-    let r = tells more ps rises none streams (subst (λ (o : Option ℕ). IsLimit more o ps) (sym is) sound) waits in
+    let r = tells away more ps rises none streams (subst (λ (o : Option ℕ). IsLimit more o ps) (sym is) sound) waits in
     let log = r.1 lt h in
     (sym (ap (λ (l : Log). l.told) log), sym (ap (λ (l : Log). ended_by l.closed (ps ++ lt)) log))
 
@@ -69,11 +69,12 @@ over_none s all = refl
 
 pub open_ends : (lost differs limit : Option ℕ) (old new : Teller) (queue left : List Due) (told later : List Happening) → limit ≡ earlier lost differs
     → TellsBefore limit old queue told new left later false → Finishes lost differs old queue told later (broken lost differs)
-open_ends lost differs limit old new queue left told later is tells more ps rises none streams breaks waits lt h =
+open_ends lost differs limit old new queue left told later is tells away more ps rises none streams breaks waits lt h =
     let all = ps ++ lt in
     let at = breaks lt h in
+    let every_told = map entry_as (away ++ later) in
     let sound = limit_is more (earlier lost differs) (broken lost differs) ps breaks in
-    let r = tells more ps rises none streams (subst (λ (o : Option ℕ). IsLimit more o ps) (sym is) sound) waits in
+    let r = tells away more ps rises none streams (subst (λ (o : Option ℕ). IsLimit more o ps) (sym is) sound) waits in
     let w = r.1.0 in
     let gone = w.0 in
     let rest = w.1 in
@@ -81,10 +82,10 @@ open_ends lost differs limit old new queue left told later is tells more ps rise
     let behind = held_back (earlier lost differs) rest (ordered_back gone rest (subst Ordered w.2 (turns_ordered 0 [] ps rises))) back in
     let every : EachBehind (breaks_off all) (rest ++ turns ps lt) =
     subst (λ (o : Option ℕ). EachBehind o (rest ++ turns ps lt)) (sym at.0) (behind_append (earlier lost differs) rest (turns ps lt) behind at.2) in
-    let log : log_of all ≡ closed_log (map entry_as later) false =
+    let log : log_of all ≡ closed_log every_told false =
     w.4 lt h
-    ∙ ap (λ (ds : List Due). and_log (map entry_as later) (tell_on new.telling new.opened (lefts new.streams all) ds)) (none_kept all (rest ++ turns ps lt) every)
-    ∙ ap (and_log (map entry_as later)) (over_none new all)
-    ∙ ap (λ (b : Bool). and_log (map entry_as later) (closed_log [] b)) r.1.2
-    ∙ ap (λ (es : List Entry). closed_log es false) (append-nil (map entry_as later)) in
+    ∙ ap (λ (ds : List Due). and_log every_told (tell_on new.telling new.opened (lefts new.streams all) ds)) (none_kept all (rest ++ turns ps lt) every)
+    ∙ ap (and_log every_told) (over_none new all)
+    ∙ ap (λ (b : Bool). and_log every_told (closed_log [] b)) r.1.2
+    ∙ ap (λ (es : List Entry). closed_log es false) (append-nil every_told) in
     (sym (ap (λ (l : Log). l.told) log), at.1 ∙ sym (ap (λ (l : Log). ended_by l.closed all) log))

@@ -4,8 +4,8 @@ mod Asked
 mod Awaited
 mod Behind
 mod Bringing
-mod Clocked
-mod Connecting
+pub mod Clocked
+pub mod Connecting
 mod CutOff
 mod Differing
 mod Draining
@@ -15,7 +15,7 @@ mod Fronts
 mod Joined
 mod Kept
 mod Laid
-mod Later
+pub mod Later
 mod Lists
 mod Longer
 mod Nearest
@@ -30,9 +30,10 @@ mod SmallCaptures
 mod Stepped
 mod Stopped
 mod Sure
-mod Tells
+pub mod Tells
 mod Timing
 mod Turned
+pub mod UpToDown
 mod Waited
 mod Watched
 mod Whole

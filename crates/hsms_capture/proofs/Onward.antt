@@ -1,6 +1,6 @@
 -- Turns that are told one after another.
 use Rattle.std.proofs.Common.{◌≡◌, ◌≤◌, ◌+◌, ◌-◌, ◌++◌, ◌∷◌, ◌||◌, ℕ, zero, suc, Bool, true, false, cond, nat_lt, List, [], length, take, drop, map, Option, Some, None, refl, sym, ap, subst, ◌∙◌, arith, length-drop}
-use Rattle.std.proofs.lemmas.List.{append_assoc, drop-drop}
+use Rattle.std.proofs.lemmas.List.{append_assoc, drop-drop, map-append}
 use Rattle.std.specs.Option.{unwrap_or}
 use Rattle.hsms_capture.specs.declared.teller.Teller.{Teller}
 use Rattle.hsms_capture.specs.declared.packet.Side.{Side}
@@ -173,6 +173,37 @@ has_told_both xs ys a b c u v w closed f g both left =
           ap (λ (ts : List Due). and_log (map entry_as u) (tell_on a.telling a.opened both ts)) (append_assoc xs ys rest)
           ∙ first.3 (ys ++ rest) ∙ second.3 rest,
     )
+
+-- ---- what was told before, and taken away, stands before it
+
+told_behind : (away told : List Happening) (l : Log) → and_log (map entry_as (away ++ told)) l ≡ and_log (map entry_as away) (and_log (map entry_as told) l)
+told_behind away told l =
+    ap (λ (es : List Entry). and_log es l) (map-append entry_as away told) ∙ sym (and_twice (map entry_as away) (map entry_as told) l)
+
+log_behind : (closed : Bool) (away later : List Happening) (l : Log) → and_log (map entry_as away) (log_by closed later l) ≡ log_by closed (away ++ later) l
+log_behind true away later l = ap (λ (es : List Entry). record { told = es; closed = true }) (sym (map-append entry_as away later))
+log_behind false away later l = sym (told_behind away later l)
+
+has_told_behind : (away : List Happening) (taken : List Due) (old new : Teller) (told later : List Happening) (closed : Bool) → HasTold taken old told new later closed
+    → HasTold taken old (away ++ told) new (away ++ later) closed
+has_told_behind away taken old new told later closed h b left =
+    let r = h b left in (
+      r.0,
+      r.1,
+      r.2,
+      λ rest.
+          told_behind away told (tell_on old.telling old.opened b (taken ++ rest))
+          ∙ ap (and_log (map entry_as away)) (r.3 rest)
+          ∙ log_behind closed away later (tell_on new.telling new.opened r.0 rest),
+    )
+
+pub drains_behind : (away : List Happening) (limit : Option ℕ) (queue left : List Due) (old new : Teller) (told later : List Happening) (closed : Bool)
+    → Drains limit queue old told left new later closed → Drains limit queue old (away ++ told) left new (away ++ later) closed
+drains_behind away limit queue left old new told later closed drains ends span each =
+    let r = drains ends span each in
+    (r.0, r.1, r.2, r.3, r.4, has_told_behind away r.0 old new told later closed r.5)
+
+-- ---- as far as a queue is told
 
 pub drained_none : (limit : Option ℕ) (queue : List Due) (old : Teller) (told : List Happening) → Drains limit queue old told queue old told false
 drained_none limit queue old told ends span each = ([], refl, tt, span, (refl, refl), has_told_none old told)

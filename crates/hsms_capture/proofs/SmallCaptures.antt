@@ -2,7 +2,9 @@
 use Rattle.std.proofs.Common.{refl}
 use Rattle.hsms_capture.specs.Wire.{bound, cell_at, cells_up_to, cut_off, difference, loss, places, run, show, turns}
 use Rattle.hsms_capture.specs.Message.{cells_to, size_by}
-use Rattle.hsms_capture.specs.Examples.{Asked, EarlyReply, FinWithin, GapAtEnd, HalfOpen, LostReply, OtherCopy, Refused, RefusedOnce, ResetBetween, SeparateCrossed, UpLate}
+use Rattle.hsms_capture.specs.Telling.{hears}
+use Rattle.hsms_capture.specs.Turning.{tell_on}
+use Rattle.hsms_capture.specs.Examples.{Asked, EarlyReply, FinWithin, GapAtEnd, HalfOpen, LostReply, OtherCopy, OverUntold, Refused, RefusedOnce, ResetBetween, SeparateCrossed, UpLate}
 
 pub lost_reply : LostReply
 unfolding bound cell_at cells_up_to cut_off difference loss places run show turns
@@ -43,6 +45,10 @@ separate_crossed = refl
 pub reset_between : ResetBetween
 unfolding bound cell_at cells_to cells_up_to cut_off difference loss places run show size_by turns
 reset_between = refl
+
+pub over_untold : OverUntold
+unfolding bound cell_at cells_to cells_up_to cut_off difference hears loss places run show size_by tell_on turns
+over_untold = (refl, refl)
 
 pub up_late : UpLate
 unfolding bound cell_at cells_to cells_up_to cut_off difference loss places run show size_by turns

@@ -1,5 +1,5 @@
 -- When a connection is given up.
-use Rattle.std.proofs.Common.{◌≡◌, ◌<◌, ◌^◌, ◌∷◌, ◌+◌, ℕ, max, List, [], length, map, Option, Some, None, is_some, sym, ap, subst, ◌∙◌, arith, inl, inr, true, false}
+use Rattle.std.proofs.Common.{◌≡◌, ◌<◌, ◌^◌, ◌++◌, ◌∷◌, ◌+◌, ℕ, max, List, [], length, map, Option, Some, None, is_some, sym, ap, subst, ◌∙◌, arith, inl, inr, true, false}
 use Rattle.std.proofs.lemmas.Bool.{cases_lt}
 use Rattle.hsms_capture.specs.declared.connection.Connection.{Connection}
 use Rattle.hsms_capture.specs.declared.connection.ConnectionFault.{ConnectionFault}
@@ -51,8 +51,8 @@ own_side p s d e f = e ∙ ap side_of (sym f)
 pub stops_full : (fault : HeldFault) (old new : Known) (r : Reading) (segment : Segment) (octets : List ℕ) (told : List Happening) (freed : List Packet) (packet : Packet)
     → GoesOn old [] (seen_of segment octets) new freed (Some packet)
     → FullIf fault (IsFull (stream_at r.teller.streams segment.from).held packet (seen_of segment octets).cells) → StopsAt old r segment octets told (of_held fault)
-stops_full held.Memory old new r segment octets told freed packet goes full base before stands = tt
-stops_full held.Full old new r segment octets told freed packet goes full base before stands =
+stops_full held.Memory old new r segment octets told freed packet goes full base before away stands = tt
+stops_full held.Full old new r segment octets told freed packet goes full base before away stands =
     let s = seen_of segment octets in
     let ps = places base [] before in
     let g = goes base before stands.0 in
@@ -71,7 +71,7 @@ stops_full held.Full old new r segment octets told freed packet goes full base b
 
 pub goes_none : (old new : Known) (r : Reading) (segment : Segment) (octets : List ℕ) (told : List Happening) (freed : List Packet)
     → max old.active.end old.passive.end < 2 ^ 62 → GoesOn old [] (seen_of segment octets) new freed None → GoesAt old r segment octets told
-goes_none old new r segment octets told freed lt goes base before stands =
+goes_none old new r segment octets told freed lt goes base before away stands =
     let ps = places base [] before in
     let g = goes base before stands.0 in (
       near_far old base ps stands.0 lt,
@@ -85,7 +85,7 @@ goes_none old new r segment octets told freed lt goes base before stands =
 pub goes_some : (old new : Known) (r : Reading) (segment : Segment) (octets : List ℕ) (told : List Happening) (freed : List Packet) (packet : Packet)
     → max old.active.end old.passive.end < 2 ^ 62 → GoesOn old [] (seen_of segment octets) new freed (Some packet)
     → IsNear (stream_at r.teller.streams segment.from).held packet (seen_of segment octets).cells → GoesAt old r segment octets told
-goes_some old new r segment octets told freed packet lt goes near base before stands =
+goes_some old new r segment octets told freed packet lt goes near base before away stands =
     let s = seen_of segment octets in
     let ps = places base [] before in
     let g = goes base before stands.0 in
@@ -118,10 +118,11 @@ pub stops_by : (fault : ConnectionFault) (c : Connection) (segment : Segment) (o
     → StopsAt c.turns c.reading segment octets told fault → StopsBy c told (seen_of segment octets) fault
 stops_by fault c segment octets told e stops =
     let none = not_ended c.ending e in
-    (none, λ base before stands. stops base before (subst (λ (o : Option Ending). StandsAs o c.turns c.reading told base before) none stands))
+    (none, λ base before away stands. stops base before away (subst (λ (o : Option Ending). StandsAs o c.turns c.reading (away ++ told) base before) none stands))
 
 pub goes_by : (c : Connection) (segment : Segment) (octets : List ℕ) (told : List Happening) → GoesAt c.turns c.reading segment octets told → GoesBy c told (seen_of segment octets)
-goes_by c segment octets told goes none base before stands = goes base before (subst (λ (o : Option Ending). StandsAs o c.turns c.reading told base before) none stands)
+goes_by c segment octets told goes none base before away stands =
+    goes base before away (subst (λ (o : Option Ending). StandsAs o c.turns c.reading (away ++ told) base before) none stands)
 
 pub ended_goes : (c : Connection) (s : Seen) (told : List Happening) → is_some c.ending ≡ true → GoesBy c told s
-ended_goes c s told e none base before stands = absurd (let f : is_some c.ending ≡ false = ap is_some none in cc)
+ended_goes c s told e none base before away stands = absurd (let f : is_some c.ending ≡ false = ap is_some none in cc)

@@ -84,19 +84,19 @@ nothing_follows ps h = subst (AreRising 0) (sym (append-nil ps)) h
 
 pub sure_closed : (acked : BothEnds) (old new : Reading) (next : Teller) (left : List Due) (told later : List Happening) (first limit : Option ℕ) → first ≡ first_of old.losses
     → limit ≡ earlier first old.differs → TellsBefore limit old.teller old.due.items told next left later true → TellsSure acked old told new later (Some ending.Complete)
-sure_closed acked old new next left told later first limit e f tells ps rises acks r =
+sure_closed acked old new next left told later first limit e f tells away ps rises acks r =
     let is : limit ≡ earlier (first_of old.losses) old.differs = f ∙ ap (λ (o : Option ℕ). earlier o old.differs) e in
     let sound = subst (λ (o : Option ℕ). IsLimit true o ps) (sym is) (sure_limit old.losses ps old.differs r.0 r.1) in
-    closed_all ps later (tells true ps rises (nothing_follows ps rises) r.2 sound r.3).1
+    closed_all ps (away ++ later) (tells away true ps rises (nothing_follows ps rises) r.2 sound r.3).1
 
 pub sure_open : (acked : BothEnds) (old new : Reading) (next : Teller) (left : List Due) (told later : List Happening) (first limit : Option ℕ) → first ≡ first_of old.losses
     → limit ≡ earlier first old.differs → TellsBefore limit old.teller old.due.items told next left later false → PassesBoth next.streams acked new.teller.streams
     → new.losses ≡ old.losses → new.differs ≡ old.differs → new.due.items ≡ left → new.teller.telling ≡ next.telling → new.teller.opened ≡ next.opened
     → TellsSure acked old told new later None
-sure_open acked old new next left told later first limit e f tells pass losses differs queue telling opened ps rises acks r =
+sure_open acked old new next left told later first limit e f tells pass losses differs queue telling opened away ps rises acks r =
     let is : limit ≡ earlier (first_of old.losses) old.differs = f ∙ ap (λ (o : Option ℕ). earlier o old.differs) e in
     let sound = subst (λ (o : Option ℕ). IsLimit true o ps) (sym is) (sure_limit old.losses ps old.differs r.0 r.1) in
-    let h = tells true ps rises (nothing_follows ps rises) r.2 sound r.3 in (
+    let h = tells away true ps rises (nothing_follows ps rises) r.2 sound r.3 in (
       (
         subst (λ (ns : List Need). Watches ns ps) (sym losses) r.0,
         r.1 ∙ sym differs,
@@ -104,7 +104,7 @@ sure_open acked old new next left told later first limit e f tells pass losses d
           passed next.streams.active new.teller.streams.active acked.active ps active (ap (λ (b : BothEnds). b.active) acks) h.0.0 pass.0,
           passed next.streams.passive new.teller.streams.passive acked.passive ps passive (ap (λ (b : BothEnds). b.passive) acks) h.0.1 pass.1,
         ),
-        subst (λ (q : List Due). Waits true new.teller q ps later) (sym queue) (waits_same true next new.teller left ps later telling opened pass.0.0 pass.1.0 h.1.0),
+        subst (λ (q : List Due). Waits true new.teller q ps (away ++ later)) (sym queue) (waits_same true next new.teller left ps (away ++ later) telling opened pass.0.0 pass.1.0 h.1.0),
       ),
       subst (λ (q : List Due). IsHeldBack (earlier (first_of new.losses) new.differs) q) (sym queue)
           (subst (λ (o : Option ℕ). IsHeldBack o left) (is ∙ ap (λ (ns : List Need). earlier (first_of ns) old.differs) (sym losses) ∙ ap (earlier (first_of new.losses)) (sym differs)) h.1.1),
@@ -162,14 +162,14 @@ lost_breaks k d ps lost differs later h =
 
 pub lost_ends : (k : ℕ) (lost : Option ℕ) (acked : BothEnds) (old new : Reading) (told later : List Happening) (e : Ending) → lost ≡ Some k
     → Finishes (Some k) old.differs old.teller old.due.items told later e → GoesOn lost acked old told new later (Some e)
-lost_ends k lost acked old new told later e is finishes ps rises acks may differs streams waits =
+lost_ends k lost acked old new told later e is finishes away ps rises acks may differs streams waits =
     let sure = subst (λ (o : Option ℕ). MayLose o old.losses ps) is may in
-    finishes true ps rises (nothing_follows ps rises) streams (lost_breaks k old.differs ps sure differs) waits
+    finishes away true ps rises (nothing_follows ps rises) streams (lost_breaks k old.differs ps sure differs) waits
 
 pub none_lost : (lost : Option ℕ) (acked : BothEnds) (old new : Reading) (told later : List Happening) (r : Option Ending) → lost ≡ None
     → TellsSure acked old told new later r → GoesOn lost acked old told new later r
-none_lost lost acked old new told later r is tells ps rises acks may differs streams waits =
-    tells ps rises acks (subst (λ (o : Option ℕ). MayLose o old.losses ps) is may, differs, streams, waits)
+none_lost lost acked old new told later r is tells away ps rises acks may differs streams waits =
+    tells away ps rises acks (subst (λ (o : Option ℕ). MayLose o old.losses ps) is may, differs, streams, waits)
 
 -- ---- where a copy differs, and nothing before it lacks anything
 
@@ -226,13 +226,13 @@ differs_breaks needs k ps w differs e later h =
 
 pub differs_ends : (first : Option ℕ) (acked : BothEnds) (old new : Reading) (told later : List Happening) (e : Ending) → first ≡ first_of old.losses
     → breaks_sure first old.differs ≡ true → Finishes first old.differs old.teller old.due.items told later e → TellsSure acked old told new later (Some e)
-differs_ends first acked old new told later e is sure finishes ps rises acks r = by_differs old.differs refl sure
+differs_ends first acked old new told later e is sure finishes away ps rises acks r = by_differs old.differs refl sure
   where
-    by_differs : (o : Option ℕ) → old.differs ≡ o → breaks_sure first o ≡ true → IsEnded true ps later e
+    by_differs : (o : Option ℕ) → old.differs ≡ o → breaks_sure first o ≡ true → IsEnded true ps (away ++ later) e
     by_differs None f g = absurd cc
     by_differs (Some k) f g =
         let breaks = differs_breaks old.losses k ps r.0 (r.1 ∙ f) (subst (λ (o : Option ℕ). is_first o k ≡ true) is g) in
-        finishes true ps rises (nothing_follows ps rises) r.2
+        finishes away true ps rises (nothing_follows ps rises) r.2
         (subst (λ (o : Option ℕ). BreaksAt true (earlier o old.differs) (broken o old.differs) ps) (sym is)
         (subst (λ (o : Option ℕ). BreaksAt true (earlier (first_of old.losses) o) (broken (first_of old.losses) o) ps) (sym f) breaks)) r.3
 
@@ -248,11 +248,11 @@ pub reacts : {E : Type 0} (r : Result (Option ℕ) E) (a : Arrival) (octets : Li
     (end : Option Ending) → Arrives a octets freed old mid → r ≡ Ok lost → (r ≡ Ok None → WatchesOn mid.losses a.from a.packet a.ends some.losses)
     → ((k : ℕ) → r ≡ Ok (Some k) → FindsLoss mid.losses a.from a.packet a.ends k) → some.differs ≡ mid.differs → some.teller ≡ mid.teller → some.due.items ≡ mid.due.items
     → GoesOn lost a.received some told new later end → Reacts a octets freed old told new later end
-reacts r a octets freed old mid some new told later lost end arrives is none found differs teller queue goes ps p arrival rises reading =
+reacts r a octets freed old mid some new told later lost end arrives is none found differs teller queue goes away ps p arrival rises reading =
     let knows = reading.0 in
     let got = arrives ps p arrival knows.1 knows.2 in
     let watched : Watches mid.losses ps = subst (λ (ns : List Need). Watches ns ps) (sym got.2) knows.0 in
     let may = may_lose r lost a.from a.packet a.ends mid.losses some.losses ps p is none found watched (arrival.1, arrival.0, arrival.5) in
-    goes (ps ++ p ∷ []) rises arrival.6 may (got.0 ∙ sym differs) (subst (λ (t : Teller). AreStreamsOf t.streams (ps ++ p ∷ [])) (sym teller) got.1)
-    (subst (λ (q : List Due). Waits true some.teller q (ps ++ p ∷ []) told) (sym queue)
-    (subst (λ (t : Teller). Waits true t mid.due.items (ps ++ p ∷ []) told) (sym teller) (got.3 told knows.3)))
+    goes away (ps ++ p ∷ []) rises arrival.6 may (got.0 ∙ sym differs) (subst (λ (t : Teller). AreStreamsOf t.streams (ps ++ p ∷ [])) (sym teller) got.1)
+    (subst (λ (q : List Due). Waits true some.teller q (ps ++ p ∷ []) (away ++ told)) (sym queue)
+    (subst (λ (t : Teller). Waits true t mid.due.items (ps ++ p ∷ []) (away ++ told)) (sym teller) (got.3 (away ++ told) knows.3)))

@@ -9,7 +9,7 @@ use Rattle.hsms_capture.specs.declared.telling.Telling.{Telling}
 use Rattle.hsms_capture.specs.declared.telling.Telling.TheVariants as telling
 use Rattle.hsms_capture.specs.Wire.{End, active, passive, other, Cell, syn, octet, fin, Placed, Turn, Both, left_of, with_left, Delivery, deliveries, acknowledges, is_open, is_before, breaks_off, turns, up_to_reset, told_turns, earlier, Shown, show, shows_of, both_streams}
 use Rattle.hsms_capture.specs.Message.{message_size}
-use Rattle.hsms_capture.specs.Told.{Told, up, message, down, Entry, entry, entry_of, shown_entries, reset_entries, is_separate, is_left_out, separated_by, up_to_down, answered_at, first_message, is_message, behind_up, tells}
+use Rattle.hsms_capture.specs.Told.{Told, up, message, down, Entry, entry, entry_of, shown_entries, reset_entries, is_separate, is_left_out, separated_by, up_to_down, answered_at, first_message, is_message, is_up, behind_up, tells}
 use Rattle.hsms_capture.specs.Known.{end_at}
 use Rattle.hsms_capture.specs.Losses.{side_of}
 use Rattle.hsms_capture.specs.Telling.{Heard, hears, comes_up, says, separated_side, cut_entries, cut_to}
@@ -62,11 +62,6 @@ told_signs s o b (t ∷ ts) =
         ∙ sym (heard_told s (a ++ d) (signs more both ts)) ∙ ap (λ (z : List Entry). (hears s z).told) (append_assoc a d (signs more both ts))
 
 -- ---- those that aren't the coming up
-
-abbrev is_up : Told → Bool
-is_up up = true
-is_up (message d octets) = false
-is_up down = false
 
 no_ups : List Entry → List Entry
 no_ups [] = []

@@ -93,14 +93,15 @@ abbrev pub Outcome : Reading → List Placed → List Happening → Option Endin
 Outcome r ps told None = IsReading r ps told
 Outcome r ps told (Some e) = IsEnded true ps told e
 
--- what is sure is told
+-- what is sure is told, behind what was taken away
 abbrev pub TellsSure : BothEnds → Reading → List Happening → Reading → List Happening → Option Ending → Type 0
 TellsSure acked old told new later r =
-    (ps : List Placed) → AreRising 0 ps → acked ≡ received_of ps → IsKnown old ps told → Outcome new ps later r
+    (away : List Happening) (ps : List Placed) → AreRising 0 ps → acked ≡ received_of ps → IsKnown old ps (away ++ told) → Outcome new ps (away ++ later) r
 
 abbrev pub Reacts : Arrival → List ℕ → List Packet → Reading → List Happening → Reading → List Happening → Option Ending → Type 0
 Reacts a octets freed old told new later r =
-    (ps : List Placed) (p : Placed) → IsArrival a octets freed ps p → AreRising 0 (ps ++ p ∷ []) → IsReading old ps told → Outcome new (ps ++ p ∷ []) later r
+    (away : List Happening) (ps : List Placed) (p : Placed) → IsArrival a octets freed ps p → AreRising 0 (ps ++ p ∷ []) → IsReading old ps (away ++ told)
+    → Outcome new (ps ++ p ∷ []) (away ++ later) r
 
 abbrev pub PassesBoth : Streams → BothEnds → Streams → Type 0
 PassesBoth old acked new = PassesTo old.active acked.active new.active × PassesTo old.passive acked.passive new.passive
@@ -112,8 +113,8 @@ MayLose (Some k) needs ps = (later : List Placed) → loss [] (ps ++ later) ≡ 
 
 abbrev pub GoesOn : Option ℕ → BothEnds → Reading → List Happening → Reading → List Happening → Option Ending → Type 0
 GoesOn lost acked old told new later r =
-    (ps : List Placed) → AreRising 0 ps → acked ≡ received_of ps → MayLose lost old.losses ps → difference [] ps ≡ old.differs → AreStreamsOf old.teller.streams ps
-    → Waits true old.teller old.due.items ps told → Outcome new ps later r
+    (away : List Happening) (ps : List Placed) → AreRising 0 ps → acked ≡ received_of ps → MayLose lost old.losses ps → difference [] ps ≡ old.differs
+    → AreStreamsOf old.teller.streams ps → Waits true old.teller old.due.items ps (away ++ told) → Outcome new ps (away ++ later) r
 
 -- a copy differs, and no packet before it lacks anything
 abbrev pub is_first : Option ℕ → ℕ → Bool

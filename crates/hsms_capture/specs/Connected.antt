@@ -74,11 +74,13 @@ abbrev pub by_closed : Bool → Type 0 → Type 0 → Type 0
 by_closed true A B = A
 by_closed false A B = B
 
--- what stands before a limit is told, up to the end of the connection
+-- What stands before a limit is told, up to the end of the connection, behind what was told before. Of that some may have
+-- been taken away.
 abbrev pub TellsBefore : Option ℕ → Teller → List Due → List Happening → Teller → List Due → List Happening → Bool → Type 0
 TellsBefore limit old queue told new left later closed =
-    (more : Bool) (ps : List Placed) → AreRising 0 ps → MayFollow more ps [] → AreStreamsOf old.streams ps → IsLimit more limit ps → Waits more old queue ps told
-    → AreStreamsOf new.streams ps × by_closed closed (IsClosed more ps later) (IsOpen more limit new left ps later)
+    (away : List Happening) (more : Bool) (ps : List Placed) → AreRising 0 ps → MayFollow more ps [] → AreStreamsOf old.streams ps → IsLimit more limit ps
+    → Waits more old queue ps (away ++ told)
+    → AreStreamsOf new.streams ps × by_closed closed (IsClosed more ps (away ++ later)) (IsOpen more limit new left ps (away ++ later))
 
 -- A log tells what is told turn by turn, where the numbers of packets rise.
 abbrev pub LogIsTold : Type 0

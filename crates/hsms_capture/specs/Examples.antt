@@ -3,6 +3,7 @@ use Rattle.std.specs.Prelude.{◌≡◌, ℕ, true, false, List, [], ◌∷◌, 
 use Rattle.hsms_capture.specs.Wire.{End, active, passive, Cell, syn, octet, Seen, places, loss, difference, wire_shows}
 use Rattle.hsms_capture.specs.Message.{cells_of}
 use Rattle.hsms_capture.specs.Told.{up, message, down, Entry, entry, tells}
+use Rattle.hsms_capture.specs.Connected.{log_of}
 
 abbrev pub one_cell : List Cell → Option ℕ
 one_cell [] = None
@@ -104,6 +105,13 @@ abbrev pub ResetBetween : Type 0
 ResetBetween =
     told_of (connected (sent active 3 1001 (Some 1001) [] ∷ brings active 4 1001 1001 1 ∷ resets passive 5 1001 1015 ∷ brings active 6 1015 1001 5 ∷ []))
     ≡ entry 3 up ∷ entry 4 (message active (control 1)) ∷ entry 5 down ∷ []
+
+-- the SYN brings an octet, which is no message yet, and a reset ends it: it is over, and nothing is told
+abbrev pub over_untold : List Seen
+over_untold = sent active 1 1000 None (syn ∷ octet 0 ∷ []) ∷ record (sent active 2 1002 None []) { reset = true } ∷ []
+
+abbrev pub OverUntold : Type 0
+OverUntold = ((log_of (places base [] over_untold)).closed ≡ true) × (told_of over_untold ≡ [])
 
 -- the SYN and ACK is captured behind the Select.req that acknowledges it
 abbrev pub UpLate : Type 0

@@ -42,8 +42,8 @@ abbrev pub IsEnded : Bool → List Placed → List Happening → Ending → Type
 IsEnded more ps told e =
     (later : List Placed) → MayFollow more ps later → (map entry_as told ≡ (log_of (ps ++ later)).told) × (e ≡ ended (ps ++ later))
 
--- where it breaks off by a loss and a copy, all before that is told
+-- where it breaks off by a loss and a copy, all before that is told, behind what was taken away
 abbrev pub Finishes : Option ℕ → Option ℕ → Teller → List Due → List Happening → List Happening → Ending → Type 0
 Finishes lost differs old queue told later e =
-    (more : Bool) (ps : List Placed) → AreRising 0 ps → MayFollow more ps [] → AreStreamsOf old.streams ps → BreaksAt more (earlier lost differs) (broken lost differs) ps
-    → Waits more old queue ps told → IsEnded more ps later e
+    (away : List Happening) (more : Bool) (ps : List Placed) → AreRising 0 ps → MayFollow more ps [] → AreStreamsOf old.streams ps
+    → BreaksAt more (earlier lost differs) (broken lost differs) ps → Waits more old queue ps (away ++ told) → IsEnded more ps (away ++ later) e

@@ -2,6 +2,7 @@
 use Rattle.std.specs.Prelude.{◌%◌, ◌^◌, ◌+◌, ◌≡◌, ◌<◌, ◌≤◌, ◌⊎◌, ◌&&◌, ℕ, max, nat_le, nat_lt, if◌then◌else◌, Bool, List, [], ◌∷◌, ◌++◌, length, map, filter, Option, Some, is_some, true, false}
 use Rattle.hsms_capture.specs.declared.waiting.Span.{Span}
 use Rattle.hsms_capture.specs.Message.{message_size}
+use Rattle.hsms_capture.specs.Told.{up, down, Entry, entry, has_up, tells}
 use Rattle.hsms_capture.specs.Wire.{End, other, Cell, cell_at, end_of, in_order, turns_at, Seen, Placed, Shown, same_end, stream_of, is_behind, loss, difference, nearest, shows_of, wire_shows}
 
 -- ---- the end of what is there, by the spans that wait in the order of their places
@@ -144,6 +145,25 @@ abbrev pub FrontOfCapture : Type 0
 FrontOfCapture =
     (size : List Cell → Option ℕ) (base : End → ℕ) (first later : List Seen) → IsSize size → AreNumbered 0 (first ++ later)
     → (rest : List Shown) × (wire_shows size base (first ++ later) ≡ wire_shows size base first ++ rest)
+
+-- ---- what a log tells
+
+-- Where it tells that the connection went down, nothing follows.
+abbrev pub DownComesLast : Type 0
+DownComesLast =
+    (ps : List Placed) (front : List Entry) (e : Entry) (rest : List Entry) → tells ps ≡ front ++ e ∷ rest → e.told ≡ down → rest ≡ []
+
+-- It tells nothing, or first that the connection came up, and that once.
+abbrev pub UpComesFirst : Type 0
+UpComesFirst =
+    (ps : List Placed)
+    → (tells ps ≡ []) ⊎ ((k : ℕ) × (rest : List Entry) × (tells ps ≡ entry k up ∷ rest) × (has_up rest ≡ false))
+
+-- So the first entry says that it came up, and no other does.
+abbrev pub OnlyFirstIsUp : Type 0
+OnlyFirstIsUp =
+    (ps : List Placed) (front : List Entry) (e : Entry) (rest : List Entry) → tells ps ≡ front ++ e ∷ rest
+    → (front ≡ [] → e.told ≡ up) × (e.told ≡ up → front ≡ [])
 
 -- ---- places
 

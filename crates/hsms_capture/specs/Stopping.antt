@@ -1,5 +1,5 @@
 -- When a connection is given up: a stream has come too far, or more than is held of it waits.
-use Rattle.std.specs.Prelude.{◌≡◌, ◌<◌, ◌≤◌, ◌^◌, ◌∷◌, ℕ, List, [], length, max, None}
+use Rattle.std.specs.Prelude.{◌≡◌, ◌<◌, ◌≤◌, ◌^◌, ◌++◌, ◌∷◌, ℕ, List, [], length, max, None}
 use Rattle.hsms_capture.specs.declared.connection.Connection.{Connection}
 use Rattle.hsms_capture.specs.declared.connection.ConnectionFault.{ConnectionFault}
 use Rattle.hsms_capture.specs.declared.connection.ConnectionFault.TheVariants as stop
@@ -40,16 +40,18 @@ StopsFor stop.Far r base ps s = IsFar ps
 StopsFor stop.Full r base ps s = EndsPast r base ps s
 StopsFor stop.Memory r base ps s = Unit {0}
 
--- a connection that hasn't ended is given up for this
+-- a connection that hasn't ended is given up for this, also where what was told was taken away
 abbrev pub StopsBy : Connection → List Happening → Seen → ConnectionFault → Type 0
 StopsBy c told s fault =
-    (c.ending ≡ None) × ((base : End → ℕ) (before : List Seen) → Stands c told base before → StopsFor fault c.reading base (places base [] before) s)
+    (c.ending ≡ None)
+    × ((base : End → ℕ) (before : List Seen) (away : List Happening) → Stands c (away ++ told) base before
+    → StopsFor fault c.reading base (places base [] before) s)
 
 -- and it is given up wherever there is such a reason
 abbrev pub GoesBy : Connection → List Happening → Seen → Type 0
 GoesBy c told s =
     c.ending ≡ None
-    → (base : End → ℕ) (before : List Seen) → Stands c told base before
+    → (base : End → ℕ) (before : List Seen) (away : List Happening) → Stands c (away ++ told) base before
     → (IsFar (places base [] before) → ⊥) × (EndsPast c.reading base (places base [] before) s → ⊥)
 
 -- ---- what code does
@@ -82,10 +84,10 @@ IsNearAt s a octets = IsNear (stream_at s a.from).held a.packet (arrival_cells a
 
 abbrev pub StopsAt : Known → Reading → Segment → List ℕ → List Happening → ConnectionFault → Type 0
 StopsAt turns r segment octets told fault =
-    (base : End → ℕ) (before : List Seen) → StandsAs None turns r told base before
+    (base : End → ℕ) (before : List Seen) (away : List Happening) → StandsAs None turns r (away ++ told) base before
     → StopsFor fault r base (places base [] before) (seen_of segment octets)
 
 abbrev pub GoesAt : Known → Reading → Segment → List ℕ → List Happening → Type 0
 GoesAt turns r segment octets told =
-    (base : End → ℕ) (before : List Seen) → StandsAs None turns r told base before
+    (base : End → ℕ) (before : List Seen) (away : List Happening) → StandsAs None turns r (away ++ told) base before
     → (IsFar (places base [] before) → ⊥) × (EndsPast r base (places base [] before) (seen_of segment octets) → ⊥)

@@ -64,15 +64,17 @@ IsInTime c told base seen = IsInTimeOf c.reading told (places base [] seen)
 
 abbrev pub FollowsInTime : Known → Reading → Segment → List ℕ → List Happening → Reading → List Happening → Type 0
 FollowsInTime turns old segment octets told new later =
-    (base : End → ℕ) (before : List Seen) → StandsAs None turns old told base before → IsInTimeOf old told (places base [] before)
-    → IsInTimeOf new later (places base [] (before ++ seen_of segment octets ∷ []))
+    (base : End → ℕ) (before : List Seen) (away : List Happening) → StandsAs None turns old (away ++ told) base before
+    → IsInTimeOf old (away ++ told) (places base [] before) → IsInTimeOf new (away ++ later) (places base [] (before ++ seen_of segment octets ∷ []))
 
--- one segment more
+-- one segment more, where what was told before may have been taken away
 abbrev pub TakesInTime : Connection → Seen → List Happening → Connection → List Happening → Type 0
 TakesInTime old s told new later =
-    (base : End → ℕ) (before : List Seen) → Stands old told base before → IsInTime old told base before → IsInTime new later base (before ++ s ∷ [])
+    (base : End → ℕ) (before : List Seen) (away : List Happening) → Stands old (away ++ told) base before → IsInTime old (away ++ told) base before
+    → IsInTime new (away ++ later) base (before ++ s ∷ [])
 
--- what is told of these segments has the times of its packets
+-- what is told of these segments has the times of its packets, and so has what was taken away
 abbrev pub EndsInTime : Connection → List Happening → List Happening → Type 0
 EndsInTime c told later =
-    (base : End → ℕ) (seen : List Seen) → AreNumbered 0 seen → IsInTime c told base seen → AreTimed (time_at (places base [] seen)) later
+    (base : End → ℕ) (seen : List Seen) (away : List Happening) → AreNumbered 0 seen → IsInTime c (away ++ told) base seen
+    → AreTimed (time_at (places base [] seen)) (away ++ later)

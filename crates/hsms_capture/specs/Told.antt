@@ -79,3 +79,24 @@ told_by es ts = behind_up (earlier (answered_at ts) (first_message es)) (es ++ r
 
 abbrev pub tells : List Placed → List Entry
 tells ps = told_by (shown_entries (shows_of message_size ps)) (told_turns ps)
+
+-- ---- whether it came up, and went down
+
+abbrev pub is_up : Told → Bool
+is_up up = true
+is_up (message d octets) = false
+is_up down = false
+
+abbrev pub is_down : Told → Bool
+is_down up = false
+is_down (message d octets) = false
+is_down down = true
+
+-- by some of these entries
+abbrev pub has_up : List Entry → Bool
+has_up [] = false
+has_up (e ∷ es) = is_up e.told || has_up es
+
+abbrev pub ends_down : List Entry → Bool
+ends_down [] = false
+ends_down (e ∷ es) = is_down e.told || ends_down es

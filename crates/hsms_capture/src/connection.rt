@@ -1,6 +1,7 @@
 //! One connection: its segments are taken one after another, and what happens on it is told.
 
 ghost use Rattle.std.specs.Prelude.{◌≡◌, IfErr, IfOk, OnOk};
+ghost use Rattle.hsms_capture.specs.declared.connection.ConnectionFault.TheVariants.{Memory};
 ghost use Rattle.hsms_capture.specs.Standing.{Followed, of_side};
 ghost use Rattle.hsms_capture.specs.Stopping.{GoesAt, StopsAt};
 ghost use Rattle.hsms_capture.specs.Time.{FollowsInTime};
@@ -128,12 +129,14 @@ impl Connection {
         }
     }
 
-    /// Takes a segment with its octets, and tells what happens as soon as that is sure.
+    /// Takes a segment with its octets, and tells what happens as soon as that is sure, behind what `told` holds. What
+    /// was told before may have been taken away.
     ///
     /// # Errors
     ///
     /// `Far` where a stream has come past 2^62 octets; `Full` where a packet ends past 2^26 places behind the first octet
-    /// of its direction that isn't told or isn't acknowledged; and `Memory`. The connection is gone then.
+    /// of its direction that isn't told or isn't acknowledged: nothing is told with it; and `Memory`. The connection is gone
+    /// then.
     pub fn take(
         self,
         alloc: Global,
@@ -143,6 +146,7 @@ impl Connection {
     ) -> Result<Connection, ConnectionFault>
         ensures told { IfOk result (λ next. TakesOn self (seen_of segment octets.now) told.old.items next told.new.items) }
         ensures times { IfOk result (λ next. TakesInTime self (seen_of segment octets.now) told.old.items next told.new.items) }
+        ensures kept { IfErr result (λ fault. (fault ≡ Memory → ⊥) → told.new.items ≡ told.old.items) }
         ensures stops { IfErr result (λ fault. StopsBy self told.old.items (seen_of segment octets.now) fault) }
         ensures goes { OnOk result (GoesBy self told.old.items (seen_of segment octets.now)) }
     {
@@ -168,7 +172,8 @@ impl Connection {
         self.ending
     }
 
-    /// Tells what is left where no segment follows, and how what is told ends.
+    /// Tells what is left where no segment follows, behind what `told` holds, and how what is told ends. What was told
+    /// before may have been taken away.
     ///
     /// # Errors
     ///
@@ -216,6 +221,7 @@ fn follow(
 ) -> Result<Option<Ending>, ConnectionFault>
     ensures told { IfOk result (λ r. Followed turns.old reading.old segment octets.now told.old.items turns.new reading.new told.new.items r) }
     ensures times { OnOk result (FollowsInTime turns.old reading.old segment octets.now told.old.items reading.new told.new.items) }
+    ensures kept { IfErr result (λ fault. (fault ≡ Memory → ⊥) → told.new.items ≡ told.old.items) }
     ensures stops { IfErr result (λ fault. StopsAt turns.old reading.old segment octets.now told.old.items fault) }
     ensures goes { OnOk result (GoesAt turns.old reading.old segment octets.now told.old.items) }
 {

@@ -2,8 +2,8 @@
 
 ghost use Rattle.hsms_capture.specs.Connected.{LogIsTold};
 ghost use Rattle.hsms_capture.specs.Known.{TurnsGoOn};
-ghost use Rattle.hsms_capture.specs.Laws.{AbsorbGivesTheEnd, EndGoesOn, EndIsEnd, FrontOfCapture, LossIsSure, MessagesHaveSizes, NearestIsFound, NearestIsNear, NothingBehindALoss, OneEnd, QueueGoesOn, QueueStays, QueueTakes, SettledIsSure, StreamsAreKept};
-ghost use Rattle.hsms_capture.specs.Standing.{ToldAtOnce, ToldIsSure};
+ghost use Rattle.hsms_capture.specs.Laws.{AbsorbGivesTheEnd, DownComesLast, EndGoesOn, EndIsEnd, FrontOfCapture, LossIsSure, MessagesHaveSizes, NearestIsFound, NearestIsNear, NothingBehindALoss, OneEnd, OnlyFirstIsUp, QueueGoesOn, QueueStays, QueueTakes, SettledIsSure, StreamsAreKept, UpComesFirst};
+ghost use Rattle.hsms_capture.specs.Standing.{ClosedWhereDown, DownIsAll, DownIsComplete, ToldAtOnce, ToldIsSure};
 ghost use Rattle.hsms_capture.specs.Time.{TimesNeverGoBack};
 
 /// Spans that wait in the order of their places give the end of what is there.
@@ -36,6 +36,25 @@ pub fn segments_tell_the_turns()
 #[tactic(auto, using(crate::proofs::Tells::tells_all))]
 pub fn turns_tell_the_log()
     ensures { LogIsTold }
+{}
+
+/// A connection tells nothing, or first that it came up, and that once.
+pub fn up_comes_first()
+    ensures first { UpComesFirst }
+    ensures only { OnlyFirstIsUp }
+{}
+
+/// Where a connection tells that it went down, it tells nothing more.
+pub fn down_comes_last()
+    ensures { DownComesLast }
+{}
+
+/// A connection that tells anything is over, turn by turn, exactly where it tells that it went down. All of it was told
+/// then, whatever follows, and whatever is lost behind that.
+pub fn one_that_went_down_is_over()
+    ensures over { ClosedWhereDown }
+    ensures whole { DownIsComplete }
+    ensures all { DownIsAll }
 {}
 
 /// What a [`Connection`](crate::Connection) has told, wherever its capture is cut, is the front of what is told of

@@ -2,6 +2,7 @@
 
 ghost use Rattle.std.specs.Prelude.{◌≡◌, ◌++◌, IfErr, IfOk, OnOk, map};
 ghost use Rattle.hsms_capture.specs.Arrived.{Arrives, Brings, BringsTo, GoesOn, PassesBoth, PassesTo, Reacts, TellsSure, breaks_sure, due_as, or_differs};
+ghost use Rattle.hsms_capture.specs.declared.held.HeldFault.TheVariants.{Memory};
 ghost use Rattle.hsms_capture.specs.Message.{cells_of};
 ghost use Rattle.hsms_capture.specs.Stopping.{FullIf, IsFull, IsFullAt, IsNear, IsNearAt};
 ghost use Rattle.hsms_capture.specs.Time.{QueuesInTime, ReactsInTime, TellsInTime};
@@ -254,6 +255,7 @@ pub(crate) fn react(
 ) -> Result<Option<Ending>, HeldFault>
     ensures told { IfOk result (λ r. Reacts arrival octets.now freed.now reading.old told.old.items reading.new told.new.items r) }
     ensures times { OnOk result (ReactsInTime arrival.packet reading.old told.old.items reading.new told.new.items) }
+    ensures kept { IfErr result (λ f. (f ≡ Memory → ⊥) → told.new.items ≡ told.old.items) }
     ensures full { IfErr result (λ f. FullIf f (IsFullAt reading.old.teller.streams arrival octets.now)) }
     ensures near { OnOk result (IsNearAt reading.old.teller.streams arrival octets.now) }
 {

@@ -1,6 +1,6 @@
 //! Small captures, and what the definitions say of them.
 
-ghost use Rattle.hsms_capture.specs.Examples.{Asked, EarlyReply, FinWithin, GapAtEnd, HalfOpen, LostReply, OtherCopy, Refused, RefusedOnce, ResetBetween, SeparateCrossed, UpLate};
+ghost use Rattle.hsms_capture.specs.Examples.{Asked, EarlyReply, FinWithin, GapAtEnd, HalfOpen, LostReply, OtherCopy, OverUntold, Refused, RefusedOnce, ResetBetween, SeparateCrossed, UpLate};
 
 /// Of five captures the definitions tell the loss, the order of cause, or the copy that differs.
 pub fn small_captures()
@@ -11,14 +11,15 @@ pub fn small_captures()
     ensures gap { GapAtEnd }
 {}
 
-/// Of seven captures the definitions tell what a log has: nothing where the connection never came up, when it came up,
-/// also where it was refused before, and went down, and no message that crosses a Separate.
+/// Of eight captures the definitions tell what a log has: nothing where the connection never came up, also where a reset
+/// ended it; when it came up, also where it was refused before, and went down; and no message that crosses a Separate.
 pub fn small_logs()
     ensures refused { Refused }
     ensures once { RefusedOnce }
     ensures half_open { HalfOpen }
     ensures separate { SeparateCrossed }
     ensures reset { ResetBetween }
+    ensures untold { OverUntold }
     ensures late { UpLate }
     ensures fin { FinWithin }
 {}

@@ -1,4 +1,4 @@
-use Rattle.hsms_capture.proofs.SmallCaptures.{fin_within, half_open, refused, refused_once, reset_between, separate_crossed, up_late}
+use Rattle.hsms_capture.proofs.SmallCaptures.{fin_within, half_open, over_untold, refused, refused_once, reset_between, separate_crossed, up_late}
 use Rattle.hsms_capture.proofs.worked.small_logs.Goals as goal
 
 pub returns-clause-refused : goal.returns-clause-refused
@@ -12,6 +12,9 @@ returns-clause-separate c = separate_crossed
 
 pub returns-clause-reset : goal.returns-clause-reset
 returns-clause-reset c = reset_between
+
+pub returns-clause-untold : goal.returns-clause-untold
+returns-clause-untold c = over_untold
 
 pub returns-clause-late : goal.returns-clause-late
 returns-clause-late c = up_late
