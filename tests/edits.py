@@ -589,21 +589,26 @@ def can_be_double(edit):
 
 
 class Lanes:
-    """Room for some checks at once: whoever comes when all are taken waits."""
+    """Room for some checks at once: whoever comes when all are taken waits, and who takes longest goes first."""
 
     def __init__(self, most):
-        self.most, self.taken, self.freed = most, 0, threading.Condition()
+        self.most, self.taken, self.waiting, self.freed = most, 0, [], threading.Condition()
 
-    def __enter__(self):
+    @contextmanager
+    def one(self, size):
+        """A lane for a check of so many edits."""
         with self.freed:
-            while self.taken >= self.most():
+            self.waiting.append(size)
+            while self.taken >= self.most() or size < max(self.waiting):
                 self.freed.wait(PAUSE)
+            self.waiting.remove(size)
             self.taken += 1
-
-    def __exit__(self, *why):
-        with self.freed:
-            self.taken -= 1
-            self.freed.notify()
+        try:
+            yield
+        finally:
+            with self.freed:
+                self.taken -= 1
+                self.freed.notify_all()
 
 
 class Rooms:
@@ -633,7 +638,7 @@ class Trial:
 
     def __init__(self, crate, home, lanes):
         self.crate, self.lanes = crate, lanes
-        with lanes:
+        with lanes.one(len(bodies_of(crate))):
             self.rooms = Rooms(crate, home)
         self.passed, self.failed, self.checks, self.counting = 0, [], 0, threading.Lock()
 
@@ -648,7 +653,7 @@ class Trial:
     def check(self, edits=(), of_crate=False):
         """Checks the functions that edits turn, or the whole crate, with these edits."""
         self.count(checks=1)
-        with self.lanes, self.rooms.one() as room:
+        with self.lanes.one(len(edits)), self.rooms.one() as room:
             return room.check(edits, of_crate)
 
     def is_proved(self):

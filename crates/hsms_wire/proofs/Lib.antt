@@ -2,3 +2,8 @@ mod Counted
 mod Tellings
 mod Written
 mod Quiet
+mod Logging
+mod Following
+mod Concluding
+mod Connections
+mod Stages

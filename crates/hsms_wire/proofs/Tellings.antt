@@ -11,13 +11,12 @@ use Rattle.hsms_accounts.specs.declared.ends.Ends.{Ends}
 use Rattle.hsms_accounts.specs.declared.journal.Journal.{Journal}
 use Rattle.hsms_wire.specs.declared.left_out.LeftOut.{LeftOut}
 use Rattle.hsms_accounts.specs.declared.pair.Pair.{Pair}
-use Rattle.hsms_wire.specs.declared.report.Manner.{Manner}
 use Rattle.hsms_wire.specs.declared.report.Manner.TheVariants.{Verdicts, Log}
 use Rattle.hsms_wire.specs.declared.report.Report.{Report}
 use Rattle.hsms_wire.specs.declared.shortfall.Shortfall.{Shortfall}
 use Rattle.hsms_accounts.specs.declared.stop.Stop.{Stop}
 use Rattle.hsms_wire.specs.Capturing.{CapturesTo}
-use Rattle.hsms_wire.specs.Report.{AnswersWell, Concludes, EndsWith, Finishes, Found, HasTold, HasWritten, IsTold, Telling, Tells, TellsBy, TellsVerdicts, Writes, failed_after, found_after, found_behind, found_of, found_with, lines_of, missing_after, nothing_found, telling_lines}
+use Rattle.hsms_wire.specs.Report.{AnswersWell, Concludes, EndsWith, Finishes, Found, HasTold, IsTold, Telling, Tells, TellsBy, TellsVerdicts, Writes, failed_after, found_after, found_behind, found_of, found_with, lines_of, missing_after, nothing_found, telling_lines}
 
 -- ---- what is told
 

@@ -1,5 +1,5 @@
 -- What was written.
-use Rattle.std.proofs.Common.{◌≡◌, ◌++◌, ℕ, List, [], Option, Some, sym, ◌∙◌, ap, take, append_assoc}
+use Rattle.std.proofs.Common.{◌++◌, ℕ, List, [], Option, Some, sym, ◌∙◌, ap, take, append_assoc}
 use Rattle.std.proofs.lemmas.List.{append-nil}
 use Rattle.hsms_frame.specs.Device.{Grows, GrowsByFront}
 use Rattle.hsms_wire.specs.Capturing.{GrowsBySome}

@@ -4,3 +4,8 @@ pub mod Report
 pub mod Capturing
 pub mod Joined
 pub mod Said
+pub mod Courses
+pub mod Logged
+pub mod Followed
+pub mod Staged
+pub mod Segments

@@ -4,6 +4,7 @@ ghost use Rattle.std.specs.Prelude.{◌≡◌, IfErr, IfOk, OnOk, None, codes};
 ghost use Rattle.hsms_lines.specs.Devices.{CountsFailure, IsReadWriteOrEndless};
 ghost use Rattle.hsms_wire.specs.Capturing.{CapturesTo, GrowsBySome, IsMissingBy, IsWriteOrEndless};
 ghost use Rattle.hsms_wire.specs.Report.{Concludes, EndsWith, Tells, Writes};
+ghost use Rattle.hsms_wire.specs.Segments.{body_in};
 
 use crate::report::Report;
 use crate::shortfall::Shortfall;
@@ -145,7 +146,9 @@ fn take_packet(
 }
 
 // The octets of a segment.
-fn body_of<'a>(segment: &Segment, octets: &'a [u8]) -> &'a [u8] {
+fn body_of<'a>(segment: &Segment, octets: &'a [u8]) -> &'a [u8]
+    ensures { result.now ≡ body_in segment.now octets.now }
+{
     match octets.get(segment.body..segment.end) {
         Some(body) => body,
         None => &[],

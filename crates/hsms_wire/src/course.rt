@@ -11,8 +11,13 @@ pub enum Course {
 }
 
 impl Course {
+    ghost use Rattle.std.specs.Prelude.{◌≡◌};
+    ghost use Rattle.hsms_wire.specs.Courses.{course_behind};
+
     /// Whether more is told behind what was heard of a packet.
-    pub fn behind(heard: Heard, packet: u64) -> Course {
+    pub fn behind(heard: Heard, packet: u64) -> Course
+        ensures { result ≡ course_behind heard packet }
+    {
         match heard {
             Heard::Goes => Course::Goes,
             Heard::Down => Course::Over(None),

@@ -1,17 +1,23 @@
 //! A connection of a capture, from its first SYN on, or from the first packet of a session that was running before.
 
-ghost use Rattle.std.specs.Prelude.{OnOk};
+ghost use Rattle.std.specs.Prelude.{◌≡◌, ◌&&◌, ◌||◌, ◌++◌, [], ◌∷◌, IfOk, OnOk, is_some, map};
+ghost use Rattle.hsms_capture.specs.Known.{seen_of};
+ghost use Rattle.hsms_wire.specs.declared.report.Manner.TheVariants.{Verdicts};
+ghost use Rattle.hsms_wire.specs.Followed.{BeginsWith, DownBy, EndsOpen, Follows, FollowsAll, GoesOn, HearsThem, TakesSegment, seen_waiting};
+ghost use Rattle.hsms_wire.specs.Logged.{is_there};
 ghost use Rattle.hsms_wire.specs.Report.{Tells};
+ghost use Rattle.hsms_wire.specs.Staged.{ToldUnanswered, WaitsOn, answers, first_shown, if_answered, shows, stage_by};
 
 use crate::course::Course;
 use crate::joining::{Joining, begin, gather};
 use crate::report::Report;
+use crate::resets::{note_reset, time_of};
 use crate::shortfall::Shortfall;
 use crate::within::Within;
 use hsms_accounts::{Ends, Pair, Stop, unboxed};
 use hsms_capture::{Connection, ConnectionFault, Ending, Event, Happening, Segment, Side};
 use hsms_joined::Gathering;
-use std::alloc::{AllocError, Global};
+use std::alloc::Global;
 
 // How many packets may wait for the number of the passive end's SYN.
 const GREATEST_WAIT: usize = 4096;
@@ -113,7 +119,7 @@ impl Flow {
     /// Whether nothing is left to be told of it, unless more of its packets come.
     pub fn is_idle(&self) -> bool {
         match &self.stage {
-            Stage::Opening(waiting) => !waiting.iter().any(shows_loss),
+            Stage::Opening(waiting) => lost_at(waiting).is_none(),
             Stage::Joining(gathering) => gathering.is_silent(),
             Stage::Open(_) | Stage::Within(_) => false,
             Stage::Over => true,
@@ -135,8 +141,10 @@ impl Drop for Stage {
 }
 
 impl Stage {
-    ghost use Rattle.std.specs.Prelude.{OnOk};
+    ghost use Rattle.std.specs.Prelude.{IfOk, OnOk};
+    ghost use Rattle.hsms_capture.specs.Known.{seen_of};
     ghost use Rattle.hsms_wire.specs.Report.{Tells};
+    ghost use Rattle.hsms_wire.specs.Staged.{EndsStage, TakesStage};
 
     /// Takes a packet of a connection that begins with a SYN of this number, if it does with one.
     #[tactic(auto, using(crate::proofs::Tellings::tells_nothing, crate::proofs::Tellings::tells_then, crate::proofs::Tellings::ok_then))]
@@ -150,6 +158,8 @@ impl Stage {
         octets: &[u8],
     ) -> Result<Stage, Stop>
         ensures told { OnOk result (Tells report.old report.new) }
+        ensures takes { IfOk result (λ stage.
+            TakesStage pair.now syn (seen_of segment octets.now) self stage report.old report.new) }
     {
         match self {
             Stage::Over => Ok(Stage::Over),
@@ -181,6 +191,7 @@ impl Stage {
         missing: Option<Shortfall>,
     ) -> Result<(), Stop>
         ensures told { OnOk result (Tells report.old report.new) }
+        ensures ends { OnOk result (EndsStage pair.now is_replaced missing self report.old report.new) }
     {
         match self {
             Stage::Over => Ok(()),
@@ -196,10 +207,16 @@ impl Stage {
 }
 
 impl Logs {
-    ghost use Rattle.std.specs.Prelude.{OnOk};
+    ghost use Rattle.std.specs.Prelude.{◌≡◌, ◌||◌, [], false, OnOk, None, is_some};
+    ghost use Rattle.hsms_wire.specs.declared.report.Manner.TheVariants.{Verdicts};
+    ghost use Rattle.hsms_wire.specs.Followed.{WhenTold, is_up_event, timed_by, unboxed_ends};
     ghost use Rattle.hsms_wire.specs.Report.{Tells};
 
-    fn new(alloc: Global) -> Logs {
+    fn new(alloc: Global) -> Logs
+        ensures ends { result.ends ≡ None }
+        ensures up { result.is_up ≡ false }
+        ensures bare { result.bare_resets.items ≡ [] }
+    {
         Logs {
             ends: None,
             is_up: false,
@@ -207,25 +224,13 @@ impl Logs {
         }
     }
 
-    // Notes a packet that resets it and acknowledges nothing.
-    fn note_reset(&mut self, segment: &Segment) -> Result<(), AllocError> {
-        if segment.reset && segment.acknowledged.is_none() {
-            self.bare_resets.push(segment.packet)?;
-        }
-        Ok(())
-    }
-
-    // Notes that it comes up. It goes down at the time of the entry before where a reset acknowledges nothing: nobody
-    // knows when the other end had it.
-    fn timed(&mut self, happening: Happening) -> Happening {
-        let time = match &happening.event {
-            Event::Up => {
-                self.is_up = true;
-                happening.time
-            }
-            Event::Down if self.bare_resets.contains(&happening.packet) => 0,
-            Event::Down | Event::Message { .. } => happening.time,
-        };
+    // Notes that it comes up.
+    fn timed(&mut self, happening: Happening) -> Happening
+        ensures timed { result ≡ timed_by self.old.bare_resets.items happening }
+        ensures same { self.new ≡ record self.old { is_up = self.old.is_up || is_up_event happening.event } }
+    {
+        self.is_up = self.is_up || matches!(happening.event, Event::Up);
+        let time = time_of(&self.bare_resets, &happening);
         Happening { time, ..happening }
     }
 
@@ -239,6 +244,8 @@ impl Logs {
         shortfall: Option<Shortfall>,
     ) -> Result<(), Stop>
         ensures told { OnOk result (Tells report.old report.new) }
+        ensures once { OnOk result (report.old.manner ≡ Verdicts
+            → WhenTold (self.is_up || is_some shortfall) pair.now shortfall (unboxed_ends self.ends) report.old report.new) }
     {
         let Logs {
             ends,
@@ -253,7 +260,9 @@ impl Logs {
 }
 
 // How far a connection is that is followed, as long as it isn't over.
-fn stage_of(left: Option<Open>) -> Stage {
+fn stage_of(left: Option<Open>) -> Stage
+    ensures { result ≡ stage_by left }
+{
     match left {
         Some(open) => Stage::Open(open),
         None => Stage::Over,
@@ -272,6 +281,8 @@ fn begin_with(
     octets: &[u8],
 ) -> Result<Option<Open>, Stop>
     ensures told { OnOk result (Tells report.old report.new) }
+    ensures begins { IfOk result (λ left. BeginsWith pair.now syn segment.number
+        (map seen_waiting waiting.items ++ seen_of segment octets.now ∷ []) left report.old report.new) }
 {
     let open = Open {
         connection: Connection::new(alloc, syn, segment.number),
@@ -331,6 +342,7 @@ fn end_open(
     missing: Option<Shortfall>,
 ) -> Result<(), Stop>
     ensures told { OnOk result (Tells report.old report.new) }
+    ensures ends { OnOk result (EndsOpen pair.now is_replaced missing «open» report.old report.new) }
 {
     let Open {
         connection,
@@ -341,14 +353,14 @@ fn end_open(
         Ok(ending) => ending,
         Err(_) => return Err(Stop::Memory),
     };
-    let course = hear_all(alloc, report, pair, &mut logs, told)?;
-    let shortfall = match course {
-        Course::Over(shortfall) => shortfall,
-        Course::Goes => Shortfall::of_ending(ending).or(missing),
-    };
-    let is_left = matches!(course, Course::Goes) && shortfall.is_none();
-    go_down(alloc, report, &mut logs, is_replaced && is_left)?;
-    logs.conclude(alloc, report, pair, shortfall)
+    match hear_all(alloc, report, pair, &mut logs, told)? {
+        Course::Over(shortfall) => logs.conclude(alloc, report, pair, shortfall),
+        Course::Goes => {
+            let shortfall = Shortfall::of_ending(ending).or(missing);
+            go_down(alloc, report, &mut logs, is_replaced && shortfall.is_none())?;
+            logs.conclude(alloc, report, pair, shortfall)
+        }
+    }
 }
 
 // A connection that is up goes down, where a later one replaces it.
@@ -360,6 +372,8 @@ fn go_down(
     is_replaced: bool,
 ) -> Result<(), Stop>
     ensures told { OnOk result (Tells report.old report.new) }
+    ensures down { OnOk result (report.old.manner ≡ Verdicts → DownBy (is_replaced && logs.old.is_up) logs.old logs.new) }
+    ensures same { OnOk result (report.old.manner ≡ Verdicts → report.new ≡ report.old) }
 {
     if is_replaced && logs.is_up {
         return report.replace(alloc, &mut logs.ends);
@@ -368,13 +382,24 @@ fn go_down(
 }
 
 // The number of the active end's SYN, where a segment is that of the passive end and acknowledges it.
-fn answered(syn: Option<u32>, segment: &Segment) -> Option<u32> {
+fn answered(syn: Option<u32>, segment: &Segment) -> Option<u32>
+    ensures { result ≡ if_answered syn segment.now }
+{
     let syn = syn?;
-    let is_answer = segment.acknowledged == Some(syn.wrapping_add(1));
-    if segment.flags.syn && segment.from == Side::Passive && is_answer {
+    if is_answer(segment, syn) {
         Some(syn)
     } else {
         None
+    }
+}
+
+// Whether a segment is the SYN of the passive end that acknowledges this number of the active end's.
+fn is_answer(segment: &Segment, syn: u32) -> bool
+    ensures { result ≡ answers syn segment.now }
+{
+    match (segment.from, segment.acknowledged) {
+        (Side::Passive, Some(number)) => segment.flags.syn && number == syn.wrapping_add(1),
+        (Side::Passive, None) | (Side::Active, _) => false,
     }
 }
 
@@ -389,6 +414,8 @@ fn wait(
     octets: &[u8],
 ) -> Result<Stage, Stop>
     ensures told { OnOk result (Tells report.old report.new) }
+    ensures waits { IfOk result (λ stage. report.old.manner ≡ Verdicts → WaitsOn pair.now
+        (map seen_waiting waiting.items ++ seen_of segment octets.now ∷ []) stage report.old report.new) }
 {
     let mut held = Vec::new(alloc);
     held.extend_from_slice(octets)?;
@@ -410,20 +437,36 @@ fn wait(
 #[tactic(auto, using(crate::proofs::Tellings::tells_nothing, crate::proofs::Tellings::tells_then, crate::proofs::Tellings::ok_then))]
 fn give_up(alloc: Global, report: &mut Report, pair: &Pair, waiting: &[Waiting]) -> Result<(), Stop>
     ensures told { OnOk result (Tells report.old report.new) }
+    ensures unanswered { OnOk result (report.old.manner ≡ Verdicts
+        → ToldUnanswered pair.now (map seen_waiting waiting.now) report.old report.new) }
 {
-    match waiting.iter().find(|packet| shows_loss(*packet)) {
-        Some(packet) => {
-            let lost = Shortfall::Lost(packet.segment.packet);
-            report.conclude(alloc, pair, None, Some(lost))
-        }
+    match lost_at(waiting) {
+        Some(packet) => report.conclude(alloc, pair, None, Some(Shortfall::Lost(packet))),
         None => Ok(()),
     }
 }
 
-// Whether a packet shows that the passive end's SYN was there.
-fn shows_loss(packet: &Waiting) -> bool {
-    let acknowledges = packet.segment.from == Side::Active && packet.segment.acknowledged.is_some();
-    acknowledges || !packet.octets.is_empty()
+// The first packet that shows that the passive end's SYN was there.
+fn lost_at(waiting: &[Waiting]) -> Option<u64>
+    ensures { result ≡ first_shown (map seen_waiting waiting.now) }
+{
+    for packet in waiting {
+        if shows_loss(packet) {
+            return Some(packet.segment.packet);
+        }
+    }
+    None
+}
+
+// Whether a packet shows that it was there.
+fn shows_loss(packet: &Waiting) -> bool
+    ensures { result ≡ shows packet.now.segment.from packet.now.segment.acknowledged (is_there packet.now.octets.items) }
+{
+    let is_some = !packet.octets.is_empty();
+    match packet.segment.from {
+        Side::Active => packet.segment.acknowledged.is_some() || is_some,
+        Side::Passive => is_some,
+    }
 }
 
 // Takes the packets that waited. None is left of a connection that is over.
@@ -436,6 +479,8 @@ fn follow_all(
     waiting: Vec<Waiting>,
 ) -> Result<Option<Open>, Stop>
     ensures told { OnOk result (Tells report.old report.new) }
+    ensures follows { IfOk result (λ left.
+        FollowsAll pair.now (map seen_waiting waiting.items) «open» left report.old report.new) }
 {
     let mut left = Some(open);
     for packet in waiting {
@@ -458,6 +503,8 @@ fn follow(
     octets: &[u8],
 ) -> Result<Option<Open>, Stop>
     ensures told { OnOk result (Tells report.old report.new) }
+    ensures follows { IfOk result (λ left.
+        Follows pair.now (seen_of segment octets.now) «open» left report.old report.new) }
 {
     let Open {
         connection,
@@ -465,7 +512,7 @@ fn follow(
     } = open;
     let mut told = Vec::new(alloc);
     let followed = take_segment(alloc, connection, segment, octets, &mut told)?;
-    logs.note_reset(&segment)?;
+    note_reset(&mut logs.bare_resets, &segment)?;
     let course = hear_all(alloc, report, pair, &mut logs, told)?;
     go_on(alloc, report, pair, logs, course, followed)
 }
@@ -477,14 +524,19 @@ fn take_segment(
     segment: Segment,
     octets: &[u8],
     told: &mut Vec<Happening>,
-) -> Result<Followed, Stop> {
+) -> Result<Followed, Stop>
+    ensures { IfOk result (λ followed.
+        TakesSegment connection (seen_of segment octets.now) told.old.items told.new.items followed) }
+{
     match connection.take(alloc, segment, octets, told) {
         Ok(connection) => match connection.ending() {
             None => Ok(Followed::Goes(connection)),
             Some(ending) => Ok(Followed::Ends(Shortfall::of_ending(ending))),
         },
         Err(ConnectionFault::Memory) => Err(Stop::Memory),
-        Err(_) => Ok(Followed::Ends(Some(Shortfall::Full(segment.packet)))),
+        Err(ConnectionFault::Far | ConnectionFault::Full) => {
+            Ok(Followed::Ends(Some(Shortfall::Full(segment.packet))))
+        }
     }
 }
 
@@ -499,6 +551,8 @@ fn go_on(
     followed: Followed,
 ) -> Result<Option<Open>, Stop>
     ensures told { OnOk result (Tells report.old report.new) }
+    ensures goes { IfOk result (λ left. report.old.manner ≡ Verdicts
+        → GoesOn pair.now logs course followed left report.old report.new) }
 {
     let shortfall = match course {
         Course::Over(shortfall) => shortfall,
@@ -521,6 +575,9 @@ fn hear_all(
     told: Vec<Happening>,
 ) -> Result<Course, Stop>
     ensures told { OnOk result (Tells report.old report.new) }
+    ensures heard { IfOk result (λ course. report.old.manner ≡ Verdicts
+        → HearsThem report.old.active report.old.passive logs.old told.items course logs.new) }
+    ensures same { OnOk result (report.old.manner ≡ Verdicts → report.new ≡ report.old) }
 {
     for happening in told {
         let packet = happening.packet;

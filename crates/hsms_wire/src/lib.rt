@@ -19,6 +19,7 @@ mod joining;
 mod left_out;
 mod line;
 mod report;
+mod resets;
 mod said;
 mod shortfall;
 mod stop;

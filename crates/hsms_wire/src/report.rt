@@ -35,13 +35,14 @@ pub struct Report {
 }
 
 impl Report {
-    ghost use Rattle.std.specs.Prelude.{◌≡◌, ◌≤◌, ◌⊎◌, ◌++◌, [], List, ℕ, None, Some, IfErr, OnOk, true};
+    ghost use Rattle.std.specs.Prelude.{◌≡◌, ◌≤◌, ◌⊎◌, ◌++◌, [], List, ℕ, None, Some, IfErr, IfOk, OnOk, true};
     ghost use Rattle.hsms_frame.specs.Count.{count_failure};
     ghost use Rattle.hsms_frame.specs.Device.{Grows};
     ghost use Rattle.hsms_lines.specs.Devices.{IsWrite};
     ghost use Rattle.hsms_wire.specs.Capturing.{GrowsBySome};
     ghost use Rattle.hsms_wire.specs.declared.report.Manner.TheVariants.{Verdicts};
     ghost use Rattle.hsms_accounts.specs.declared.stop.Stop.TheVariants.{Memory};
+    ghost use Rattle.hsms_wire.specs.Followed.{Begins, HearsOn, Replaces, TellsOnce};
     ghost use Rattle.hsms_wire.specs.Line.{end_line_of};
     ghost use Rattle.hsms_wire.specs.Report.{Finishes, IsTold, Tells, TellsBy, TellsVerdicts, failed_after, first_of, found_of, missing_after, nothing_found, role_at};
 
@@ -99,6 +100,9 @@ impl Report {
         happening: Happening,
     ) -> Result<Heard, Stop>
         ensures told { OnOk result (Tells self.old self.new) }
+        ensures heard { IfOk result (λ heard. self.old.manner ≡ Verdicts
+            → HearsOn self.old.active self.old.passive happening heard ends.old ends.new) }
+        ensures same { OnOk result (self.old.manner ≡ Verdicts → self.new ≡ self.old) }
     {
         self.begin(alloc, ends)?;
         match (&mut self.manner, ends) {
@@ -109,7 +113,10 @@ impl Report {
     }
 
     // Begins the logs of the ends of a connection, where they are audited.
-    fn begin(&self, alloc: Global, ends: &mut Option<Box<Ends>>) -> Result<(), Stop> {
+    fn begin(&self, alloc: Global, ends: &mut Option<Box<Ends>>) -> Result<(), Stop>
+        ensures { OnOk result (self.now.manner ≡ Verdicts
+            → Begins self.now.active self.now.passive ends.old ends.new) }
+    {
         match &self.manner {
             Manner::Verdicts if ends.is_none() => {
                 let new = Ends::new(alloc, &self.active, &self.passive)?;
@@ -127,6 +134,8 @@ impl Report {
     #[tactic(auto, using(crate::proofs::Tellings::tells_nothing, crate::proofs::Tellings::log_tells))]
     pub fn replace(&mut self, alloc: Global, ends: &mut Option<Box<Ends>>) -> Result<(), Stop>
         ensures told { OnOk result (Tells self.old self.new) }
+        ensures replaced { OnOk result (self.old.manner ≡ Verdicts → Replaces ends.old ends.new) }
+        ensures same { OnOk result (self.old.manner ≡ Verdicts → self.new ≡ self.old) }
     {
         match (&mut self.manner, ends) {
             (Manner::Log(journal), _) => journal.replace(&mut self.page),
@@ -229,6 +238,7 @@ impl Report {
         shortfall: Option<Shortfall>,
     ) -> Result<(), Stop>
         ensures told { OnOk result (Tells self.old self.new) }
+        ensures once { OnOk result (self.old.manner ≡ Verdicts → TellsOnce pair.now shortfall ends self.old self.new) }
         ensures missing { OnOk result (self.new.shortfall ≡ missing_after self.old.shortfall shortfall) }
         ensures has_told { OnOk result (self.new.has_told ≡ true) }
         ensures lines { OnOk result (TellsBy self.old.manner pair.now shortfall ends self.old self.new) }

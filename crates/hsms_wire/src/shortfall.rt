@@ -25,6 +25,7 @@ pub enum Shortfall {
 
 impl Shortfall {
     ghost use Rattle.std.specs.Prelude.{◌≡◌};
+    ghost use Rattle.hsms_wire.specs.Courses.{missing_by};
     ghost use Rattle.hsms_wire.specs.Line.{packet_of};
     ghost use Rattle.hsms_wire.specs.Stop.{IsRefusalOf};
 
@@ -43,7 +44,9 @@ impl Shortfall {
     }
 
     /// What is missing by how it ends, if something is.
-    pub fn of_ending(ending: Ending) -> Option<Shortfall> {
+    pub fn of_ending(ending: Ending) -> Option<Shortfall>
+        ensures { result ≡ missing_by ending }
+    {
         match ending {
             Ending::Complete => None,
             Ending::Lost(packet) => Some(Shortfall::Lost(packet)),

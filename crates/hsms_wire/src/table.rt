@@ -1,5 +1,8 @@
 //! The connections of a capture at a port.
 
+ghost use Rattle.std.specs.Prelude.{◌≡◌, ◌+◌, ◌<◌, true};
+ghost use Rattle.hsms_wire.specs.Segments.{has_flag, taken_segment, syn_by};
+
 use crate::flow::{Flow, Stage};
 use crate::report::Report;
 use crate::shortfall::Shortfall;
@@ -51,9 +54,10 @@ impl Drop for Table {
 }
 
 impl Table {
-    ghost use Rattle.std.specs.Prelude.{OnOk, IfSome};
+    ghost use Rattle.std.specs.Prelude.{◌≡◌, OnOk, IfNone, IfSome, Some};
     ghost use Rattle.hsms_accounts.specs.Pair.{IsOfPeer};
     ghost use Rattle.hsms_wire.specs.Report.{Tells};
+    ghost use Rattle.hsms_wire.specs.Segments.{pair_at};
 
     /// No connection, at this port of passive ends, with an end of this address, where there is one; those that were
     /// running before the capture are looked at or not.
@@ -122,7 +126,10 @@ impl Table {
 
     // The pair of a segment, and the end that sent it, if it is one that is looked at.
     fn pair_of(&self, segment: &packets::Segment) -> Option<(Pair, Side)>
-        ensures { IfSome result (λ found. IsOfPeer self.now.peer found.0) }
+        ensures peer { IfSome result (λ found. IsOfPeer self.now.peer found.0) }
+        ensures pair { IfSome result (λ found. pair_at self.now.port self.now.flows segment.now ≡ Some found) }
+        ensures none { IfNone result (IfSome (pair_at self.now.port self.now.flows segment.now)
+            (λ found. IsOfPeer self.now.peer found.0 → ⊥)) }
     {
         let (pair, side) = self.pair_at_port(segment)?;
         if pair.is_of(&self.peer) {
@@ -133,7 +140,9 @@ impl Table {
     }
 
     // The same, if it is one of the port.
-    fn pair_at_port(&self, segment: &packets::Segment) -> Option<(Pair, Side)> {
+    fn pair_at_port(&self, segment: &packets::Segment) -> Option<(Pair, Side)>
+        ensures { result ≡ pair_at self.now.port self.now.flows segment.now }
+    {
         match pairs_of(segment, self.port)? {
             (pair, side, None) => Some((pair, side)),
             (pair, side, Some(other)) => {
@@ -220,34 +229,46 @@ impl Table {
 }
 
 // Whether a connection is forgotten once so many have begun.
-fn is_forgotten(flow: &Flow, begun: u64) -> bool {
+fn is_forgotten(flow: &Flow, begun: u64) -> bool
+    ensures { result ≡ true → flow.now.born + 4096 < begun }
+{
     flow.is_idle() && begun.saturating_sub(flow.born) > REMEMBERED
 }
 
 // The number of the active end's SYN, where a segment tells it: its own SYN, or what the other end's SYN acknowledges.
-fn syn_of(segment: &packets::Segment, from: Side) -> Option<u32> {
+fn syn_of(segment: &packets::Segment, from: Side) -> Option<u32>
+    ensures { result ≡ syn_by from segment.now }
+{
+    if !is_set(segment, SYN) {
+        return None;
+    }
     match (from, segment.acknowledged) {
-        _ if !is_set(segment, SYN) => None,
         (Side::Active, None) => Some(segment.number),
         (Side::Passive, Some(acknowledged)) => Some(acknowledged.wrapping_sub(1)),
         (Side::Active, Some(_)) | (Side::Passive, None) => None,
     }
 }
 
-const FIN: u8 = 1;
+// The bits of TCP's flags.
+const FIN: u32 = 0;
 
-const SYN: u8 = 2;
+const SYN: u32 = 1;
 
-const RST: u8 = 4;
+const RST: u32 = 2;
 
-const PSH: u8 = 8;
+const PSH: u32 = 3;
 
-fn is_set(segment: &packets::Segment, flag: u8) -> bool {
-    segment.flags & flag != 0
+fn is_set(segment: &packets::Segment, bit: u32) -> bool
+    requires { bit < 8 }
+    ensures { result ≡ has_flag bit segment.now }
+{
+    (segment.flags >> bit) & 1 == 1
 }
 
 // A segment as a connection takes it.
-fn segment_of(segment: &packets::Segment, from: Side, packet: u64, time: u64) -> Segment {
+fn segment_of(segment: &packets::Segment, from: Side, packet: u64, time: u64) -> Segment
+    ensures { result ≡ taken_segment from packet time segment.now }
+{
     Segment {
         from,
         packet,

@@ -6,11 +6,12 @@ ghost use Rattle.hsms_wire.specs.Report.{Tells};
 use crate::course::Course;
 use crate::joined::Joined;
 use crate::report::Report;
+use crate::resets::{note_reset, time_of};
 use crate::shortfall::Shortfall;
 use hsms_accounts::{Pair, Stop};
-use hsms_capture::{Connection, ConnectionFault, Ending, Event, Happening, Segment, Side};
+use hsms_capture::{Connection, ConnectionFault, Ending, Happening, Segment, Side};
 use hsms_joined::{Beginnings, Gathered, Start, octets_before, opening, segment_from};
-use std::alloc::{AllocError, Global};
+use std::alloc::Global;
 
 // So many packets of the connection weren't captured: those by which it came up.
 const OPENING: u64 = 3;
@@ -176,14 +177,6 @@ pub fn take_all(
     Ok(left)
 }
 
-// Notes a packet that resets it and acknowledges nothing.
-fn note_reset(bare_resets: &mut Vec<u64>, segment: &Segment) -> Result<(), AllocError> {
-    if segment.reset && segment.acknowledged.is_none() {
-        bare_resets.push(segment.packet)?;
-    }
-    Ok(())
-}
-
 // A connection takes one of the packets by which it came up.
 fn opened(alloc: Global, connection: Connection, segment: Segment) -> Result<Connection, Stop> {
     let mut told = Vec::new(alloc);
@@ -240,7 +233,7 @@ fn over_by(course: Course, followed: Followed) -> Followed {
     }
 }
 
-// Hears what happens. A connection goes down at the time of the entry before where a reset acknowledges nothing.
+// Hears what happens.
 #[tactic(auto, using(crate::proofs::Tellings::tells_nothing, crate::proofs::Tellings::tells_then, crate::proofs::Tellings::ok_then))]
 fn hear_all(
     alloc: Global,
@@ -265,15 +258,12 @@ fn hear_all(
 // What happens, at its packet of the capture.
 fn timed(bare_resets: &[u64], happening: Happening) -> Happening {
     let packet = captured(happening.packet);
-    let time = match &happening.event {
-        Event::Down if bare_resets.contains(&packet) => 0,
-        Event::Down | Event::Up | Event::Message { .. } => happening.time,
-    };
-    Happening {
+    let happening = Happening {
         packet,
-        time,
         ..happening
-    }
+    };
+    let time = time_of(bare_resets, &happening);
+    Happening { time, ..happening }
 }
 
 // It is over, and what waits is told before.

@@ -1,6 +1,16 @@
+use Rattle.std.proofs.Common.{◌≡◌, ◌++◌, ℕ, List, map}
+use Rattle.hsms_capture.specs.Wire.{End, Seen}
+use Rattle.hsms_capture.specs.Laws.{AreNumbered}
+use Rattle.hsms_wire.specs.declared.report.Manner.TheVariants.{Verdicts}
+use Rattle.hsms_wire.specs.Followed.{FollowsThem, IsFollowed, seen_waiting}
 use Rattle.hsms_wire.specs.Report.{Tells}
 use Rattle.hsms_wire.proofs.flow.follow_all.Given as goal
 
--- so far some connections were told
+-- so far some connections were told, and of this one what those packets tell that were taken
 abbrev pub invariant-loop-packet : goal.invariant-loop-packet
-invariant-loop-packet l = Tells l.initial.report l.report
+invariant-loop-packet l = record {
+  told : Tells l.initial.report l.report;
+  follows : l.initial.report.manner ≡ Verdicts → (base : End → ℕ) (before : List Seen) → AreNumbered 0 (before ++ map seen_waiting l.fn.waiting.items)
+      → IsFollowed l.initial.report.active l.initial.report.passive base before l.fn.«open»
+      → FollowsThem l.initial.report.active l.initial.report.passive l.fn.pair base before (map seen_waiting l.yielded) l.left l.initial.report l.report;
+}

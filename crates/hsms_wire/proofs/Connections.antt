@@ -1,0 +1,420 @@
+-- A connection that is followed, segment by segment and to its end.
+use Rattle.std.proofs.Common.{◌≡◌, ◌<◌, ◌+◌, ◌||◌, ◌&&◌, ◌++◌, ◌∷◌, ℕ, Bool, true, false, not, List, [], length, take, drop, get_or, map, Option, Some, None, is_some, is_none, Box, Global, inl, inr, refl, sym, ap, subst, ◌∙◌, append_assoc}
+use Rattle.std.specs.Prelude.{Result, Ok, Err, IfOk, OnOk}
+use Rattle.std.proofs.lemmas.List.{append-nil, drop_more, map-append, map-id, take-append-drop}
+use Rattle.std.specs.Option.{option_or}
+use Rattle.std.proofs.lemmas.Grind.{flat_map-append}
+use Rattle.hsms_machine.specs.Settings.{Parameters}
+use Rattle.hsms_capture.specs.declared.connection.Connection.{Connection}
+use Rattle.hsms_capture.specs.declared.ending.Ending.{Ending}
+use Rattle.hsms_capture.specs.declared.telling.Happening.{Happening}
+use Rattle.hsms_capture.specs.Wire.{End, Placed, Seen, places}
+use Rattle.hsms_capture.specs.Connected.{AreRising}
+use Rattle.hsms_capture.specs.Finished.{ended}
+use Rattle.hsms_capture.specs.Known.{bases}
+use Rattle.hsms_capture.specs.Laws.{AreNumbered}
+use Rattle.hsms_capture.specs.Standing.{EndsAs, Stands, TakesOn}
+use Rattle.hsms_capture.specs.Telling.{entry_as}
+use Rattle.hsms_capture.specs.Time.{AreTimed, EndsInTime, IsInTime, TakesInTime, time_at}
+use Rattle.hsms_capture.specs.Told.{tells}
+use Rattle.hsms_capture.proofs.Connecting.{all_rise, ends_before, told_sure}
+use Rattle.hsms_accounts.specs.declared.ends.Ends.{Ends}
+use Rattle.hsms_accounts.specs.declared.pair.Pair.{Pair}
+use Rattle.hsms_wire.specs.declared.course.Course.{Course}
+use Rattle.hsms_wire.specs.declared.course.Course.TheVariants as course
+use Rattle.hsms_wire.specs.declared.flow.Followed.{Followed as Taken}
+use Rattle.hsms_wire.specs.declared.flow.Followed.TheVariants as taken
+use Rattle.hsms_wire.specs.declared.flow.Logs.{Logs}
+use Rattle.hsms_wire.specs.declared.flow.Open.{Open}
+use Rattle.hsms_wire.specs.declared.flow.Waiting.{Waiting}
+use Rattle.hsms_wire.specs.declared.report.Manner.TheVariants.{Verdicts}
+use Rattle.hsms_wire.specs.declared.report.Report.{Report}
+use Rattle.hsms_wire.specs.declared.shortfall.Shortfall.{Shortfall}
+use Rattle.hsms_wire.specs.declared.shortfall.Shortfall.TheVariants as lacks
+use Rattle.hsms_wire.specs.Courses.{missing_by}
+use Rattle.hsms_wire.specs.Logged.{Shown, TellsIf, ToldOf, bare_of, bare_resets, came_up, clock_of, course_by, entries_logged, is_replaced_by, is_there}
+use Rattle.hsms_wire.specs.Followed.{BeginsWith, DownBy, EndsHave, EndsOpen, Follows, FollowsAll, FollowsOn, FollowsThem, GivesUp, GoesOn, HearsThem, IsFollowed, Replaces, TakesSegment, WhenTold, came_up_by, course_by_events, hears_event, logged_by, seen_waiting, timed_by, unboxed_ends}
+use Rattle.hsms_wire.proofs.Logging.{all_logged, times_stay}
+use Rattle.hsms_wire.proofs.Concluding.{ClosedBy, HeardAfter, all_heard, closed_by_next, ended_told, have_closed, heard_after, nothing_there, over_told, tells_if, there_same}
+
+-- ---- segments are numbered
+
+pub numbered_front : (last : ℕ) (xs ys : List Seen) → AreNumbered last (xs ++ ys) → AreNumbered last xs
+numbered_front last [] ys h = tt
+numbered_front last (x ∷ xs) ys h = (h.0, numbered_front x.packet xs ys h.1)
+
+numbered_all : (xs : List Seen) → AreNumbered 0 xs → AreNumbered 0 (xs ++ [])
+numbered_all xs h = subst (AreNumbered 0) (sym (append-nil xs)) h
+
+-- ---- one segment more
+
+abbrev with_bare : Logs → Logs → Seen → Type 0
+with_bare old first s =
+    (first.bare_resets.items ≡ old.bare_resets.items ++ bare_of s) × (first.ends ≡ old.ends) × (first.is_up ≡ old.is_up)
+
+stands_next : (c next : Connection) (s : Seen) (base : End → ℕ) (before : List Seen) (told now : List Happening) → TakesOn c s [] next now
+    → AreNumbered 0 (before ++ s ∷ []) → Stands c told base before → Stands next (told ++ now) base (before ++ s ∷ [])
+stands_next c next s base before told now takes numbered stands =
+    takes base before told numbered (subst (λ (hs : List Happening). Stands c hs base before) (sym (append-nil told)) stands)
+
+in_time_next : (c next : Connection) (s : Seen) (base : End → ℕ) (before : List Seen) (told now : List Happening) → TakesInTime c s [] next now
+    → Stands c told base before → IsInTime c told base before → IsInTime next (told ++ now) base (before ++ s ∷ [])
+in_time_next c next s base before told now takes stands timed =
+    takes base before told (subst (λ (hs : List Happening). Stands c hs base before) (sym (append-nil told)) stands)
+    (subst (λ (hs : List Happening). IsInTime c hs base before) (sym (append-nil told)) timed)
+
+timed_now : (c : Connection) (told : List Happening) (base : End → ℕ) (seen : List Seen) → AreNumbered 0 seen → IsInTime c told base seen
+    → AreTimed (time_at (places base [] seen)) told
+timed_now c told base seen numbered timed =
+    let ps = places base [] seen in
+    subst (λ (z : List Placed). AreTimed (time_at z) told) (append-nil ps) (timed [] (subst (AreRising 0) (sym (append-nil ps)) (all_rise base seen numbered))).1
+
+bares : (before : List Seen) (s : Seen) (old new : List ℕ) → new ≡ old ++ bare_of s → old ≡ bare_resets before → new ≡ bare_resets (before ++ s ∷ [])
+bares before s old new is was =
+    is ∙ ap (λ (ns : List ℕ). ns ++ bare_of s) was ∙ ap (λ (ns : List ℕ). bare_resets before ++ ns) (sym (append-nil (bare_of s)))
+    ∙ sym (flat_map-append bare_of before (s ∷ []))
+
+heard_next : (a p : Parameters) (base : End → ℕ) (before : List Seen) (s : Seen) (o : Open) (first logs : Logs) (now : List Happening) (c : Course)
+    → (f : IsFollowed a p base before o) → with_bare o.logs first s → HearsThem a p first now c logs
+    → HeardAfter a p (bare_resets (before ++ s ∷ [])) (f.told ++ now) c logs
+heard_next a p base before s o first logs now c f notes hears =
+    subst (λ (ns : List ℕ). HeardAfter a p ns (f.told ++ now) c logs) (bares before s o.logs.bare_resets.items first.bare_resets.items notes.0 f.bare)
+    (heard_after a p f.told now first logs c f.goes (notes.2 ∙ f.up) (subst (EndsHave a p f.told) (sym notes.1) f.ends) hears)
+
+pub follow_over : (a p : Parameters) (pair : Pair) (base : End → ℕ) (before : List Seen) (s : Seen) (o : Open) (next : Connection) (first logs : Logs) (now : List Happening)
+    → (lack : Option Shortfall) (old new : Report) → AreNumbered 0 (before ++ s ∷ []) → IsFollowed a p base before o → TakesOn o.connection s [] next now
+    → TakesInTime o.connection s [] next now → with_bare o.logs first s → HearsThem a p first now (course.Over lack) logs
+    → WhenTold (logs.is_up || is_some lack) pair lack (unboxed_ends logs.ends) old new → ToldOf a p pair base (before ++ s ∷ []) false None old new
+follow_over a p pair base before s o next first logs now lack old new numbered f takes times notes hears when =
+    let seen = before ++ s ∷ [] in
+    let all = f.told ++ now in
+    let stands = stands_next o.connection next s base before f.told now takes numbered f.stands in
+    let sure = told_sure next all base seen [] stands (numbered_all seen numbered) in
+    over_told a p pair base seen false None all sure.0 lack logs old new
+    (timed_now next all base seen numbered (in_time_next o.connection next s base before f.told now times f.stands f.timed))
+    (subst (λ (z : List Seen). tells (places base [] z) ≡ map entry_as all ++ sure.0) (append-nil seen) sure.1)
+    (heard_next a p base before s o first logs now (course.Over lack) f notes hears) when
+
+or_none : (lack : Option Shortfall) → lack ≡ option_or lack None
+or_none None = refl
+or_none (Some x) = refl
+
+pub follow_ended : (a p : Parameters) (pair : Pair) (base : End → ℕ) (before : List Seen) (s : Seen) (o : Open) (next : Connection) (ending : Ending) (first logs : Logs)
+    → (now : List Happening) (lack : Option Shortfall) (old new : Report) → AreNumbered 0 (before ++ s ∷ []) → IsFollowed a p base before o → TakesOn o.connection s [] next now
+    → TakesInTime o.connection s [] next now → next.ending ≡ Some ending → lack ≡ missing_by ending → with_bare o.logs first s
+    → HearsThem a p first now course.Goes logs → WhenTold (logs.is_up || is_some lack) pair lack (unboxed_ends logs.ends) old new
+    → ToldOf a p pair base (before ++ s ∷ []) false None old new
+follow_ended a p pair base before s o next ending first logs now lack old new numbered f takes times is lack_is notes hears when =
+    let seen = before ++ s ∷ [] in
+    let all = f.told ++ now in
+    let stands = stands_next o.connection next s base before f.told now takes numbered f.stands in
+    let whole = ends_before next all ending is base seen [] numbered stands in
+    let h = heard_next a p base before s o first logs now course.Goes f notes hears in
+    let up : logs.is_up ≡ came_up_by all = h.up ∙ ap came_up_by (all_logged (hears_event a.max) (λ h. h.packet) all h.course_is) in
+    ended_told a p pair base seen false None all ending lack false logs.is_up (unboxed_ends logs.ends) old new
+    (timed_now next all base seen numbered (in_time_next o.connection next s base before f.told now times f.stands f.timed)) whole.0 whole.1 h.course_is up (lack_is ∙ or_none (missing_by ending)) refl
+    (λ _. have_closed a p all logs.ends (all_heard a p (bare_resets seen) all logs h)) when
+
+pub follow_goes : (a p : Parameters) (base : End → ℕ) (before : List Seen) (s : Seen) (o : Open) (next : Connection) (first logs : Logs) (now : List Happening)
+    → AreNumbered 0 (before ++ s ∷ []) → IsFollowed a p base before o → TakesOn o.connection s [] next now → TakesInTime o.connection s [] next now
+    → with_bare o.logs first s → HearsThem a p first now course.Goes logs → IsFollowed a p base (before ++ s ∷ []) (record { connection = next; logs = logs })
+follow_goes a p base before s o next first logs now numbered f takes times notes hears =
+    let seen = before ++ s ∷ [] in
+    let all = f.told ++ now in
+    let h = heard_next a p base before s o first logs now course.Goes f notes hears in
+    record {
+      told = all;
+      stands = stands_next o.connection next s base before f.told now takes numbered f.stands;
+      timed = in_time_next o.connection next s base before f.told now times f.stands f.timed;
+      goes = h.course_is;
+      up = h.up ∙ ap came_up_by (all_logged (hears_event a.max) (λ h. h.packet) all h.course_is);
+      bare = h.bare_is;
+      ends = all_heard a p (bare_resets seen) all logs h;
+    }
+
+-- a segment is taken with which it is given up: nothing is told with it
+never_replaced : (c : Course) (lack : Option Shortfall) → is_replaced_by false c lack ≡ false
+never_replaced course.Goes lack = refl
+never_replaced (course.Over other) lack = refl
+
+pub follow_full : (a p : Parameters) (pair : Pair) (base : End → ℕ) (before : List Seen) (s : Seen) (o : Open) (first logs : Logs) (now : List Happening)
+    → (lack : Option Shortfall) (old new : Report) → AreNumbered 0 (before ++ s ∷ []) → IsFollowed a p base before o → lack ≡ Some (lacks.Full s.packet) → now ≡ []
+    → with_bare o.logs first s → HearsThem a p first now course.Goes logs → WhenTold (logs.is_up || is_some lack) pair lack (unboxed_ends logs.ends) old new
+    → GivesUp a p pair base before s old new
+follow_full a p pair base before s o first logs now lack old new numbered f lack_is none notes hears when =
+    let earlier = numbered_front 0 before (s ∷ []) numbered in
+    let told = f.told in
+    let es = map entry_as told in
+    let full = Some (lacks.Full s.packet) in
+    let sure = told_sure o.connection told base before [] f.stands (numbered_all before earlier) in
+    let all : told ++ now ≡ told = ap (λ (hs : List Happening). told ++ hs) none ∙ append-nil told in
+    let h = subst (λ (hs : List Happening). HeardAfter a p (bare_resets (before ++ s ∷ [])) hs course.Goes logs) all (heard_next a p base before s o first logs now course.Goes f notes hears) in
+    let whole = all_logged (hears_event a.max) (λ h. h.packet) told f.goes in
+    let have = have_closed a p told logs.ends (all_heard a p (bare_resets (before ++ s ∷ [])) told logs h) in
+    let has : ClosedBy (is_there es) false a p (map (timed_by (bare_resets before)) (logged_by a.max told)) (unboxed_ends logs.ends) =
+    subst (λ (hs : List Happening). ClosedBy (is_there es) false a p hs (unboxed_ends logs.ends)) (sym (ap (map (timed_by (bare_resets before))) whole ∙ times_stay a.max (bare_resets before) told f.goes))
+    (subst (λ (b : Bool). ClosedBy b false a p told (unboxed_ends logs.ends)) (sym (there_same told)) have) in
+    let says = tells_if a p pair (time_at (places base [] before)) (bare_resets before) told es false full logs.is_up (unboxed_ends logs.ends) old new
+    (timed_now o.connection told base before earlier f.timed) refl h.up (λ _. has)
+    (subst (λ (l : Option Shortfall). WhenTold (logs.is_up || is_some l) pair l (unboxed_ends logs.ends) old new) lack_is when) in (
+      es,
+      sure.0,
+      subst (λ (z : List Seen). tells (places base [] z) ≡ es ++ sure.0) (append-nil before) sure.1,
+      subst (λ (b : Bool). TellsIf (came_up (entries_logged a.max es) || is_some full) (Shown a p pair (clock_of base before) es b full) old new)
+          (sym (never_replaced (course_by a.max es) full)) says,
+    )
+
+pub follows : (c : Course) (t : Taken) (a p : Parameters) (pair : Pair) (s : Seen) (o : Open) (first logs : Logs) (now : List Happening) (left : Option Open) (old new : Report)
+    → TakesSegment o.connection s [] now t → with_bare o.logs first s → HearsThem a p first now c logs → GoesOn pair logs c t left old new
+    → (base : End → ℕ) (before : List Seen) → AreNumbered 0 (before ++ s ∷ []) → IsFollowed a p base before o → FollowsOn a p pair base before s left old new
+follows course.Goes (taken.Goes next) a p pair s o first logs now left old new takes notes hears goes base before numbered f =
+    subst (λ (l : Option Open). FollowsOn a p pair base before s l old new) (sym goes.0)
+    (goes.1, follow_goes a p base before s o next first logs now numbered f takes.1 takes.2 notes hears)
+follows course.Goes (taken.Ends lack) a p pair s o first logs now left old new takes notes hears goes base before numbered f =
+    subst (λ (l : Option Open). FollowsOn a p pair base before s l old new) (sym goes.0)
+    (elim takes [
+      | inl t ↦ inl (follow_ended a p pair base before s o t.0 t.1 first logs now lack old new numbered f t.4 t.5 t.2 t.3 notes hears goes.1)
+      | inr full ↦ inr (follow_full a p pair base before s o first logs now lack old new numbered f full.0 full.1 notes hears goes.1)
+    ])
+follows (course.Over lack) (taken.Goes next) a p pair s o first logs now left old new takes notes hears goes base before numbered f =
+    subst (λ (l : Option Open). FollowsOn a p pair base before s l old new) (sym goes.0)
+    (inl (follow_over a p pair base before s o next first logs now lack old new numbered f takes.1 takes.2 notes hears goes.1))
+follows (course.Over lack) (taken.Ends other) a p pair s o first logs now left old new takes notes hears goes base before numbered f =
+    subst (λ (l : Option Open). FollowsOn a p pair base before s l old new) (sym goes.0)
+    (elim takes [
+      | inl t ↦ inl (follow_over a p pair base before s o t.0 first logs now lack old new numbered f t.4 t.5 notes hears goes.1)
+      | inr full ↦
+          let h = heard_next a p base before s o first logs now (course.Over lack) f notes hears in
+          let all : f.told ++ now ≡ f.told = ap (λ (hs : List Happening). f.told ++ hs) full.1 ∙ append-nil f.told in
+          let no : course.Goes ≡ course.Over lack = sym f.goes ∙ ap (course_by_events a.max) (sym all) ∙ h.course_is in
+          absurd cc
+    ])
+
+pub follows_ok : {E : Type 0} (result : Result (Option Open) E) (pair : Pair) (s : Seen) (o : Open) (t : Taken) (c : Course) (first logs : Logs) (empty now : List Happening)
+    → (old mid new : Report) → empty ≡ [] → TakesSegment o.connection s empty now t → with_bare o.logs first s
+    → (old.manner ≡ Verdicts → HearsThem old.active old.passive first now c logs) → (old.manner ≡ Verdicts → mid ≡ old)
+    → IfOk result (λ left. mid.manner ≡ Verdicts → GoesOn pair logs c t left mid new) → IfOk result (λ left. Follows pair s o left old new)
+follows_ok (Ok left) pair s o t c first logs empty now old mid new none takes notes hears same goes = λ verdicts.
+    let is = same verdicts in
+    follows c t old.active old.passive pair s o first logs now left old new (subst (λ (hs : List Happening). TakesSegment o.connection s hs now t) none takes) notes
+    (hears verdicts) (subst (λ (r : Report). GoesOn pair logs c t left r new) is (goes (ap (λ (r : Report). r.manner) is ∙ verdicts)))
+follows_ok (Err stop) pair s o t c first logs empty now old mid new none takes notes hears same goes = tt
+
+-- ---- no segment follows
+
+heard_last : (a p : Parameters) (base : End → ℕ) (seen : List Seen) (o : Open) (logs : Logs) (now : List Happening) (c : Course) → (f : IsFollowed a p base seen o)
+    → HearsThem a p o.logs now c logs → HeardAfter a p (bare_resets seen) (f.told ++ now) c logs
+heard_last a p base seen o logs now c f hears =
+    subst (λ (ns : List ℕ). HeardAfter a p ns (f.told ++ now) c logs) f.bare (heard_after a p f.told now o.logs logs c f.goes f.up f.ends hears)
+
+all_told : (a p : Parameters) (base : End → ℕ) (seen : List Seen) (o : Open) (now : List Happening) (ending : Ending) → (f : IsFollowed a p base seen o) → AreNumbered 0 seen
+    → EndsAs o.connection [] now ending → (map entry_as (f.told ++ now) ≡ tells (places base [] seen)) × (ending ≡ ended (places base [] seen))
+all_told a p base seen o now ending f numbered ends =
+    ends base seen f.told numbered (subst (λ (hs : List Happening). Stands o.connection hs base seen) (sym (append-nil f.told)) f.stands)
+
+all_timed : (a p : Parameters) (base : End → ℕ) (seen : List Seen) (o : Open) (now : List Happening) → (f : IsFollowed a p base seen o) → AreNumbered 0 seen
+    → EndsInTime o.connection [] now → AreTimed (time_at (places base [] seen)) (f.told ++ now)
+all_timed a p base seen o now f numbered times =
+    times base seen f.told numbered (subst (λ (hs : List Happening). IsInTime o.connection hs base seen) (sym (append-nil f.told)) f.timed)
+
+pub end_over : (a p : Parameters) (pair : Pair) (replaced : Bool) (missing : Option Shortfall) (o : Open) (logs : Logs) (now : List Happening) (ending : Ending) (lack : Option Shortfall)
+    → (old new : Report) → EndsAs o.connection [] now ending → EndsInTime o.connection [] now → HearsThem a p o.logs now (course.Over lack) logs
+    → WhenTold (logs.is_up || is_some lack) pair lack (unboxed_ends logs.ends) old new → (base : End → ℕ) (seen : List Seen) → AreNumbered 0 seen → IsFollowed a p base seen o
+    → ToldOf a p pair base seen replaced missing old new
+end_over a p pair replaced missing o logs now ending lack old new ends times hears when base seen numbered f =
+    let all = f.told ++ now in
+    over_told a p pair base seen replaced missing all [] lack logs old new (all_timed a p base seen o now f numbered times)
+    (sym (all_told a p base seen o now ending f numbered ends).0 ∙ sym (append-nil (map entry_as all))) (heard_last a p base seen o logs now (course.Over lack) f hears) when
+
+replaced_closed : (a p : Parameters) (all : List Happening) (old new : Option (Box Ends Global)) → EndsHave a p all old → Replaces old new
+    → ClosedBy (is_there all) true a p all (unboxed_ends new)
+replaced_closed a p all None new have r = subst (λ (n : Option (Box Ends Global)). ClosedBy (is_there all) true a p all (unboxed_ends n)) (sym r) (ap is_there have)
+replaced_closed a p all (Some old) None have r = absurd r
+replaced_closed a p all (Some old) (Some new) have r =
+    (nothing_there all have.0, old.value.time, closed_by_next a p all old.value new.value have.1 r.0 r.1)
+
+nothing_lacks : (b : Bool) (lack : Option Shortfall) → (b && is_none lack) ≡ true → is_some lack ≡ false
+nothing_lacks b None e = refl
+nothing_lacks true (Some x) e = absurd cc
+nothing_lacks false (Some x) e = absurd cc
+
+pub end_goes : (a p : Parameters) (pair : Pair) (replaced : Bool) (missing : Option Shortfall) (o : Open) (logs last : Logs) (now : List Happening) (ending : Ending)
+    → (lack : Option Shortfall) (old new : Report) → EndsAs o.connection [] now ending → EndsInTime o.connection [] now → HearsThem a p o.logs now course.Goes logs
+    → lack ≡ option_or (missing_by ending) missing → DownBy ((replaced && is_none lack) && logs.is_up) logs last
+    → WhenTold (last.is_up || is_some lack) pair lack (unboxed_ends last.ends) old new → (base : End → ℕ) (seen : List Seen) → AreNumbered 0 seen → IsFollowed a p base seen o
+    → ToldOf a p pair base seen replaced missing old new
+end_goes a p pair replaced missing o logs last now ending lack old new ends times hears lack_is downs when base seen numbered f =
+    by_flags (replaced && is_none lack) logs.is_up refl refl downs
+  where
+    all : List Happening
+    all = f.told ++ now
+
+    h : HeardAfter a p (bare_resets seen) (f.told ++ now) course.Goes logs
+    h = heard_last a p base seen o logs now course.Goes f hears
+
+    up : logs.is_up ≡ came_up_by (f.told ++ now)
+    up = h.up ∙ ap came_up_by (all_logged (hears_event a.max) (λ h. h.packet) (f.told ++ now) h.course_is)
+
+    tell : (closes : Bool) → last.is_up ≡ logs.is_up → (replaced && is_none lack) ≡ closes
+        → ((last.is_up || is_some lack) ≡ true → ClosedBy (is_there (f.told ++ now)) closes a p (f.told ++ now) (unboxed_ends last.ends)) → ToldOf a p pair base seen replaced missing old new
+    tell closes same closes_is has =
+        let whole = all_told a p base seen o now ending f numbered ends in
+        ended_told a p pair base seen replaced missing (f.told ++ now) ending lack closes last.is_up (unboxed_ends last.ends) old new (all_timed a p base seen o now f numbered times)
+        whole.0 whole.1 h.course_is (same ∙ up) lack_is closes_is has when
+
+    by_flags : (closes u : Bool) → (replaced && is_none lack) ≡ closes → logs.is_up ≡ u → DownBy (closes && u) logs last → ToldOf a p pair base seen replaced missing old new
+    by_flags false u closes_is up_is same =
+        tell false (ap (λ (l : Logs). l.is_up) same) closes_is
+        (λ _. have_closed a p (f.told ++ now) last.ends (subst (λ (l : Logs). EndsHave a p (f.told ++ now) l.ends) (sym same) (all_heard a p (bare_resets seen) (f.told ++ now) logs h)))
+    by_flags true false closes_is up_is same =
+        tell true (ap (λ (l : Logs). l.is_up) same) closes_is
+        (λ told.
+        let down : last.is_up ≡ false = ap (λ (l : Logs). l.is_up) same ∙ up_is in
+        let no : (last.is_up || is_some lack) ≡ false = rw (down, nothing_lacks replaced lack closes_is) refl in
+        absurd cc)
+    by_flags true true closes_is up_is downs =
+        tell true downs.0 closes_is (λ _. replaced_closed a p (f.told ++ now) logs.ends last.ends (all_heard a p (bare_resets seen) (f.told ++ now) logs h) downs.1)
+
+pub end_over_ok : {E : Type 0} (result : Result (Unit {0}) E) (pair : Pair) (replaced : Bool) (missing : Option Shortfall) (o : Open) (logs : Logs) (empty now : List Happening)
+    → (ending : Ending) (c : Course) (lack : Option Shortfall) (old mid new : Report) → empty ≡ [] → EndsAs o.connection empty now ending → EndsInTime o.connection empty now
+    → c ≡ course.Over lack → (old.manner ≡ Verdicts → HearsThem old.active old.passive o.logs now c logs) → (old.manner ≡ Verdicts → mid ≡ old)
+    → OnOk result (mid.manner ≡ Verdicts → WhenTold (logs.is_up || is_some lack) pair lack (unboxed_ends logs.ends) mid new)
+    → OnOk result (EndsOpen pair replaced missing o old new)
+end_over_ok (Ok done) pair replaced missing o logs empty now ending c lack old mid new none ends times over hears same when = λ verdicts.
+    let is = same verdicts in
+    end_over old.active old.passive pair replaced missing o logs now ending lack old new (subst (λ (hs : List Happening). EndsAs o.connection hs now ending) none ends)
+    (subst (λ (hs : List Happening). EndsInTime o.connection hs now) none times) (subst (λ (x : Course). HearsThem old.active old.passive o.logs now x logs) over (hears verdicts))
+    (subst (λ (r : Report). WhenTold (logs.is_up || is_some lack) pair lack (unboxed_ends logs.ends) r new) is (when (ap (λ (r : Report). r.manner) is ∙ verdicts)))
+end_over_ok (Err stop) pair replaced missing o logs empty now ending c lack old mid new none ends times over hears same when = tt
+
+pub end_goes_ok : {E : Type 0} (result : Result (Unit {0}) E) (pair : Pair) (replaced : Bool) (missing : Option Shortfall) (o : Open) (logs last : Logs) (empty now : List Happening)
+    → (ending : Ending) (c : Course) (lack : Option Shortfall) (downs : Bool) (old mid down new : Report) → empty ≡ [] → EndsAs o.connection empty now ending
+    → EndsInTime o.connection empty now → c ≡ course.Goes → (old.manner ≡ Verdicts → HearsThem old.active old.passive o.logs now c logs)
+    → (old.manner ≡ Verdicts → mid ≡ old) → lack ≡ option_or (missing_by ending) missing → downs ≡ (replaced && is_none lack)
+    → (mid.manner ≡ Verdicts → DownBy (downs && logs.is_up) logs last) → (mid.manner ≡ Verdicts → down ≡ mid)
+    → OnOk result (down.manner ≡ Verdicts → WhenTold (last.is_up || is_some lack) pair lack (unboxed_ends last.ends) down new)
+    → OnOk result (EndsOpen pair replaced missing o old new)
+end_goes_ok (Ok done) pair replaced missing o logs last empty now ending c lack downs old mid down new none ends times goes hears same lack_is downs_is goes_down stays when = λ verdicts.
+    let one = same verdicts in
+    let at_mid : mid.manner ≡ Verdicts = ap (λ (r : Report). r.manner) one ∙ verdicts in
+    let two = stays at_mid in
+    let at_down : down.manner ≡ Verdicts = ap (λ (r : Report). r.manner) two ∙ at_mid in
+    end_goes old.active old.passive pair replaced missing o logs last now ending lack old new (subst (λ (hs : List Happening). EndsAs o.connection hs now ending) none ends)
+    (subst (λ (hs : List Happening). EndsInTime o.connection hs now) none times) (subst (λ (x : Course). HearsThem old.active old.passive o.logs now x logs) goes (hears verdicts))
+    lack_is (subst (λ (b : Bool). DownBy (b && logs.is_up) logs last) downs_is (goes_down at_mid))
+    (subst (λ (r : Report). WhenTold (last.is_up || is_some lack) pair lack (unboxed_ends last.ends) r new) (two ∙ one) (when at_down))
+end_goes_ok (Err stop) pair replaced missing o logs last empty now ending c lack downs old mid down new none ends times goes hears same lack_is downs_is goes_down stays when = tt
+
+-- ---- several segments
+
+pub none_yet : (a p : Parameters) (pair : Pair) (base : End → ℕ) (before : List Seen) (o : Open) (r : Report) → IsFollowed a p base before o
+    → FollowsThem a p pair base before [] (Some o) r r
+none_yet a p pair base before o r f = (refl, subst (λ (z : List Seen). IsFollowed a p base z o) (sym (append-nil before)) f)
+
+pub one_more : (a p : Parameters) (pair : Pair) (base : End → ℕ) (before ss : List Seen) (s : Seen) (o : Open) (left : Option Open) (old mid new : Report)
+    → FollowsThem a p pair base before ss (Some o) old mid → FollowsOn a p pair base (before ++ ss) s left mid new
+    → FollowsThem a p pair base before (ss ++ s ∷ []) left old new
+one_more a p pair base before ss s o None old mid new them on =
+    (ss, s, [], refl, subst (λ (r : Report). FollowsOn a p pair base (before ++ ss) s None r new) them.0 on)
+one_more a p pair base before ss s o (Some next) old mid new them on =
+    (on.0 ∙ them.0, subst (λ (z : List Seen). IsFollowed a p base z next) (append_assoc before ss (s ∷ [])) on.1)
+
+pub none_more : (a p : Parameters) (pair : Pair) (base : End → ℕ) (before ss : List Seen) (s : Seen) (old new : Report)
+    → FollowsThem a p pair base before ss None old new → FollowsThem a p pair base before (ss ++ s ∷ []) None old new
+none_more a p pair base before ss s old new them =
+    (them.0, them.1, them.2 ++ s ∷ [], ap (λ (z : List Seen). z ++ s ∷ []) them.3 ∙ append_assoc them.0 (them.1 ∷ them.2) (s ∷ []), them.4)
+
+pub begun_open : (a p : Parameters) (x y : ℕ) (c : Connection) (logs : Logs) → Stands c [] (bases x y) [] → IsInTime c [] (bases x y) [] → logs.ends ≡ None
+    → logs.is_up ≡ false → logs.bare_resets.items ≡ [] → IsFollowed a p (bases x y) [] (record { connection = c; logs = logs })
+begun_open a p x y c logs stands timed none down bare = record {
+  told = [];
+  stands = stands;
+  timed = timed;
+  goes = refl;
+  up = down;
+  bare = bare;
+  ends = subst (EndsHave a p []) (sym none) refl;
+}
+
+-- ---- whether it goes down
+
+none_is : (l : Option Shortfall) (b : Bool) → is_some l ≡ not b → b ≡ is_none l
+none_is None true e = refl
+none_is None false e = absurd cc
+none_is (Some x) true e = absurd cc
+none_is (Some x) false e = refl
+
+pub replaced_then : (replaced : Bool) (l : Option Shortfall) (b downs : Bool) → replaced ≡ true → is_some l ≡ not b → downs ≡ b → downs ≡ (replaced && is_none l)
+replaced_then replaced l b downs is none same = rw is (same ∙ none_is l b none)
+
+pub replaced_else : (replaced : Bool) (l : Option Shortfall) (downs : Bool) → replaced ≡ false → downs ≡ false → downs ≡ (replaced && is_none l)
+replaced_else replaced l downs is same = rw is same
+
+-- ---- it begins
+
+pub begins_some : {E : Type 0} (result : Result (Option Open) E) (pair : Pair) (x y : ℕ) (ss : List Seen) (s : Seen) (first o : Open) (kept : Option Open) (old mid new : Report)
+    → ((a p : Parameters) → IsFollowed a p (bases x y) [] first) → FollowsAll pair ss first kept old mid → kept ≡ Some o
+    → IfOk result (λ left. Follows pair s o left mid new) → IfOk result (λ left. BeginsWith pair x y (ss ++ s ∷ []) left old new)
+begins_some (Ok left) pair x y ss s first o kept old mid new begins all is goes = λ verdicts numbered.
+    let them : FollowsThem old.active old.passive pair (bases x y) [] ss (Some o) old mid =
+    subst (λ (l : Option Open). FollowsThem old.active old.passive pair (bases x y) [] ss l old mid) is
+    (all verdicts (bases x y) [] (numbered_front 0 ss (s ∷ []) numbered) (begins old.active old.passive)) in
+    one_more old.active old.passive pair (bases x y) [] ss s o left old old new (refl, them.1)
+    (subst (λ (r : Report). Follows pair s o left r new) them.0 goes verdicts (bases x y) ss numbered them.1)
+begins_some (Err stop) pair x y ss s first o kept old mid new begins all is goes = tt
+
+pub begins_none : (pair : Pair) (x y : ℕ) (ss : List Seen) (s : Seen) (first : Open) (kept : Option Open) (old new : Report)
+    → ((a p : Parameters) → IsFollowed a p (bases x y) [] first) → FollowsAll pair ss first kept old new → kept ≡ None
+    → BeginsWith pair x y (ss ++ s ∷ []) None old new
+begins_none pair x y ss s first kept old new begins all is = λ verdicts numbered.
+    none_more old.active old.passive pair (bases x y) [] ss s old new
+    (subst (λ (l : Option Open). FollowsThem old.active old.passive pair (bases x y) [] ss l old new) is
+    (all verdicts (bases x y) [] (numbered_front 0 ss (s ∷ []) numbered) (begins old.active old.passive)))
+
+-- ---- packet by packet
+
+pub taken_apart : {A : Type 0} (all yielded : List A) (x : A) → map (λ (y : A). y) yielded ≡ take (length yielded) all → length yielded < length all
+    → x ≡ get_or all (length yielded) x → all ≡ yielded ++ x ∷ drop (length yielded + 1) all
+taken_apart {A} all yielded x front less is =
+    let n = length yielded in
+    sym (take-append-drop n all) ∙ ap (λ (ys : List A). ys ++ drop n all) (sym front ∙ map-id yielded)
+    ∙ ap (λ (ys : List A). yielded ++ ys) (drop_more all n x less ∙ ap (λ (y : A). y ∷ drop (n + 1) all) (sym is))
+
+numbered_next : (before : List Seen) (all yielded rest : List Waiting) (x : Waiting) → AreNumbered 0 (before ++ map seen_waiting all) → all ≡ yielded ++ x ∷ rest
+    → AreNumbered 0 ((before ++ map seen_waiting yielded) ++ seen_waiting x ∷ [])
+numbered_next before all yielded rest x numbered is =
+    let front = before ++ map seen_waiting yielded in
+    let whole : before ++ map seen_waiting all ≡ (front ++ seen_waiting x ∷ []) ++ map seen_waiting rest =
+    ap (λ (ws : List Waiting). before ++ map seen_waiting ws) is
+    ∙ ap (λ (ss : List Seen). before ++ ss) (map-append seen_waiting yielded (x ∷ rest))
+    ∙ sym (append_assoc before (map seen_waiting yielded) (seen_waiting x ∷ map seen_waiting rest))
+    ∙ sym (append_assoc front (seen_waiting x ∷ []) (map seen_waiting rest)) in
+    numbered_front 0 (front ++ seen_waiting x ∷ []) (map seen_waiting rest) (subst (AreNumbered 0) whole numbered)
+
+-- so far
+abbrev pub FollowsSoFar : Pair → List Waiting → Open → Report → List Waiting → Option Open → Report → Type 0
+FollowsSoFar pair all first old yielded left new =
+    old.manner ≡ Verdicts → (base : End → ℕ) (before : List Seen) → AreNumbered 0 (before ++ map seen_waiting all) → IsFollowed old.active old.passive base before first
+    → FollowsThem old.active old.passive pair base before (map seen_waiting yielded) left old new
+
+pub so_far_open : (pair : Pair) (all : List Waiting) (first o : Open) (old mid new : Report) (yielded rest : List Waiting) (x : Waiting) (kept left : Option Open)
+    → all ≡ yielded ++ x ∷ rest → FollowsSoFar pair all first old yielded kept mid → kept ≡ Some o → Follows pair (seen_waiting x) o left mid new
+    → FollowsSoFar pair all first old (yielded ++ x ∷ []) left new
+so_far_open pair all first o old mid new yielded rest x kept left whole so_far is goes verdicts base before numbered f =
+    let a = old.active in
+    let p = old.passive in
+    let ss = map seen_waiting yielded in
+    let them : FollowsThem a p pair base before ss (Some o) old mid =
+    subst (λ (l : Option Open). FollowsThem a p pair base before ss l old mid) is (so_far verdicts base before numbered f) in
+    subst (λ (zs : List Seen). FollowsThem a p pair base before zs left old new) (sym (map-append seen_waiting yielded (x ∷ [])))
+    (one_more a p pair base before ss (seen_waiting x) o left old old new (refl, them.1)
+    (subst (λ (r : Report). Follows pair (seen_waiting x) o left r new) them.0 goes verdicts base (before ++ ss) (numbered_next before all yielded rest x numbered whole) them.1))
+
+pub so_far_over : (pair : Pair) (all : List Waiting) (first : Open) (old new : Report) (yielded : List Waiting) (x : Waiting) (kept : Option Open)
+    → FollowsSoFar pair all first old yielded kept new → kept ≡ None → FollowsSoFar pair all first old (yielded ++ x ∷ []) None new
+so_far_over pair all first old new yielded x kept so_far is verdicts base before numbered f =
+    let a = old.active in
+    let p = old.passive in
+    let ss = map seen_waiting yielded in
+    subst (λ (zs : List Seen). FollowsThem a p pair base before zs None old new) (sym (map-append seen_waiting yielded (x ∷ [])))
+    (none_more a p pair base before ss (seen_waiting x) old new (subst (λ (l : Option Open). FollowsThem a p pair base before ss l old new) is (so_far verdicts base before numbered f)))

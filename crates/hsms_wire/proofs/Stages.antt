@@ -1,0 +1,154 @@
+-- A connection by the number of its SYN.
+use Rattle.std.proofs.Common.{◌≡◌, ◌+◌, ◌%◌, ◌^◌, ◌&&◌, ◌++◌, ◌∷◌, ℕ, Bool, true, false, cond, List, [], map, Option, Some, None, Vec, Global, refl, sym, ap, subst, ◌∙◌}
+use Rattle.std.specs.Prelude.{Result, Ok, Err, IfOk, OnOk}
+use Rattle.hsms_capture.specs.declared.packet.Segment.{Segment}
+use Rattle.hsms_capture.specs.declared.packet.Side.{Side}
+use Rattle.hsms_capture.specs.declared.packet.Side.TheVariants as side
+use Rattle.hsms_capture.specs.Wire.{passive, same_end, Seen}
+use Rattle.hsms_capture.specs.Known.{bases, end_at, seen_of}
+use Rattle.hsms_capture.specs.Message.{cells_of}
+use Rattle.hsms_accounts.specs.declared.pair.Pair.{Pair}
+use Rattle.hsms_wire.specs.declared.flow.Open.{Open}
+use Rattle.hsms_wire.specs.declared.flow.Stage.{Stage}
+use Rattle.hsms_wire.specs.declared.flow.Stage.TheVariants as stage
+use Rattle.hsms_wire.specs.declared.flow.Waiting.{Waiting}
+use Rattle.hsms_wire.specs.declared.report.Manner.TheVariants.{Verdicts}
+use Rattle.hsms_wire.specs.declared.report.Report.{Report}
+use Rattle.hsms_wire.specs.declared.shortfall.Shortfall.{Shortfall}
+use Rattle.hsms_wire.specs.Followed.{BeginsWith, EndsOpen, Follows, FollowsThem, seen_waiting}
+use Rattle.hsms_wire.specs.Staged.{EndsBy, EndsStage, OverBy, StageGoes, StageIs, TakesStage, ToldUnanswered, WaitsOn, answered_by, answers, begins_with_syn, if_answered, is_answer, is_number, is_passive, stage_by}
+
+-- ---- the SYN of the passive end
+
+begins_same : (b : Bool) (xs : List ℕ) (f : Bool) → begins_with_syn (cells_of b xs f) ≡ b
+begins_same true xs f = refl
+begins_same false [] true = refl
+begins_same false [] false = refl
+begins_same false (x ∷ xs) f = refl
+
+passive_same : (s : Side) → same_end (end_at s) passive ≡ is_passive s
+passive_same side.Active = refl
+passive_same side.Passive = refl
+
+answer_same : (number : ℕ) (s : Segment) (octets : List ℕ) → is_answer number (seen_of s octets) ≡ answers number s
+answer_same number s octets =
+    ap (λ (b : Bool). b && (begins_with_syn (cells_of s.flags.syn octets s.flags.fin) && is_number s.acknowledged ((number + 1) % 2 ^ 32))) (passive_same s.from)
+    ∙ ap (λ (b : Bool). is_passive s.from && (b && is_number s.acknowledged ((number + 1) % 2 ^ 32))) (begins_same s.flags.syn octets s.flags.fin)
+
+answered_more : (number : ℕ) (xs : List Seen) (s : Seen) → answered_by number xs ≡ None
+    → answered_by number (xs ++ s ∷ []) ≡ cond (is_answer number s) (Some s.number) None
+answered_more number [] s none = refl
+answered_more number (x ∷ xs) s none = by_answer (is_answer number x) none (answered_more number xs s)
+  where
+    by_answer : (b : Bool) → cond b (Some x.number) (answered_by number xs) ≡ None
+        → (answered_by number xs ≡ None → answered_by number (xs ++ s ∷ []) ≡ cond (is_answer number s) (Some s.number) None)
+        → cond b (Some x.number) (answered_by number (xs ++ s ∷ [])) ≡ cond (is_answer number s) (Some s.number) None
+    by_answer true none rest = absurd cc
+    by_answer false none rest = rest none
+
+answered_kept : (number : ℕ) (xs : List Seen) (s : Seen) (other : ℕ) → answered_by number xs ≡ Some other → answered_by number (xs ++ s ∷ []) ≡ Some other
+answered_kept number [] s other is = absurd cc
+answered_kept number (x ∷ xs) s other is = by_answer (is_answer number x) is (answered_kept number xs s other)
+  where
+    by_answer : (b : Bool) → cond b (Some x.number) (answered_by number xs) ≡ Some other
+        → (answered_by number xs ≡ Some other → answered_by number (xs ++ s ∷ []) ≡ Some other)
+        → cond b (Some x.number) (answered_by number (xs ++ s ∷ [])) ≡ Some other
+    by_answer true is rest = is
+    by_answer false is rest = rest is
+
+answered_now : (number : ℕ) (xs : List Seen) (s : Segment) (octets : List ℕ) (b : Bool) → answered_by number xs ≡ None → answers number s ≡ b
+    → answered_by number (xs ++ seen_of s octets ∷ []) ≡ cond b (Some s.number) None
+answered_now number xs s octets b none is =
+    answered_more number xs (seen_of s octets) none ∙ ap (λ (c : Bool). cond c (Some s.number) None) (answer_same number s octets ∙ is)
+
+-- whether a segment is it
+is_answered : (number kept : ℕ) (s : Segment) → Some kept ≡ cond (answers number s) (Some number) None → (answers number s ≡ true) × (kept ≡ number)
+is_answered number kept s is = by_answer (answers number s) refl is
+  where
+    by_answer : (b : Bool) → answers number s ≡ b → Some kept ≡ cond b (Some number) None → (answers number s ≡ true) × (kept ≡ number)
+    by_answer true yes_is is = (yes_is, cc)
+    by_answer false no_is is = absurd cc
+
+isnt_answered : (number : ℕ) (s : Segment) → None ≡ cond (answers number s) (Some number) None → answers number s ≡ false
+isnt_answered number s is = by_answer (answers number s) refl is
+  where
+    by_answer : (b : Bool) → answers number s ≡ b → None ≡ cond b (Some number) None → answers number s ≡ false
+    by_answer true yes_is is = absurd cc
+    by_answer false no_is is = no_is
+
+-- ---- one segment more
+
+pub take_open : (pair : Pair) (begins : Option ℕ) (s : Seen) (o : Open) (left : Option Open) (old new : Report) → Follows pair s o left old new
+    → TakesStage pair begins s (stage.Open o) (stage_by left) old new
+take_open pair begins s o None old new goes verdicts number is seen numbered st =
+    subst (λ (m : Option ℕ). OverBy m old.active old.passive pair number (seen ++ s ∷ []) old new) (sym (answered_kept number seen s st.0 st.1))
+    (seen, s, [], refl, goes verdicts (bases number st.0) seen numbered st.2)
+take_open pair begins s o (Some next) old new goes verdicts number is seen numbered st =
+    let on = goes verdicts (bases number st.0) seen numbered st.2 in
+    (on.0, (st.0, answered_kept number seen s st.0 st.1, on.1))
+
+pub take_begun : (pair : Pair) (begins : Option ℕ) (s : Segment) (octets : List ℕ) (kept : ℕ) (waiting : Vec Waiting Global) (left : Option Open) (old new : Report)
+    → Some kept ≡ if_answered begins s → BeginsWith pair kept s.number (map seen_waiting waiting.items ++ seen_of s octets ∷ []) left old new
+    → TakesStage pair begins (seen_of s octets) (stage.Opening waiting) (stage_by left) old new
+take_begun pair begins s octets kept waiting left old new answered goes verdicts number is seen numbered st =
+    let found = is_answered number kept s (answered ∙ ap (λ (b : Option ℕ). if_answered b s) is) in
+    let now : answered_by number (seen ++ seen_of s octets ∷ []) ≡ Some s.number = answered_now number seen s octets true st.1 found.0 in
+    by_left left
+    (subst (λ (ss : List Seen). BeginsWith pair number s.number (ss ++ seen_of s octets ∷ []) left old new) st.0
+    (subst (λ (k : ℕ). BeginsWith pair k s.number (map seen_waiting waiting.items ++ seen_of s octets ∷ []) left old new) found.1 goes) verdicts numbered) now
+  where
+    by_left : (l : Option Open) → FollowsThem old.active old.passive pair (bases number s.number) [] (seen ++ seen_of s octets ∷ []) l old new
+        → answered_by number (seen ++ seen_of s octets ∷ []) ≡ Some s.number
+        → StageGoes old.active old.passive pair number (seen ++ seen_of s octets ∷ []) (stage_by l) old new
+    by_left None them now =
+        subst (λ (m : Option ℕ). OverBy m old.active old.passive pair number (seen ++ seen_of s octets ∷ []) old new) (sym now)
+        (them.0, them.1, them.2, them.3, them.4)
+    by_left (Some o) them now = (them.0, (s.number, now, them.1))
+
+pub take_waits : {E : Type 0} (result : Result Stage E) (pair : Pair) (begins : Option ℕ) (s : Segment) (octets : List ℕ) (waiting : Vec Waiting Global) (old new : Report)
+    → None ≡ if_answered begins s
+    → IfOk result (λ st. old.manner ≡ Verdicts → WaitsOn pair (map seen_waiting waiting.items ++ seen_of s octets ∷ []) st old new)
+    → IfOk result (λ st. TakesStage pair begins (seen_of s octets) (stage.Opening waiting) st old new)
+take_waits (Ok next) pair begins s octets waiting old new answered waits = λ verdicts number is seen numbered st.
+    let not_it = isnt_answered number s (answered ∙ ap (λ (b : Option ℕ). if_answered b s) is) in
+    by_stage number seen next (answered_now number seen s octets false st.1 not_it)
+    (subst (λ (ss : List Seen). WaitsOn pair (ss ++ seen_of s octets ∷ []) next old new) st.0 (waits verdicts))
+  where
+    by_stage : (number : ℕ) (seen : List Seen) (next : Stage) → answered_by number (seen ++ seen_of s octets ∷ []) ≡ None
+        → WaitsOn pair (seen ++ seen_of s octets ∷ []) next old new
+        → StageGoes old.active old.passive pair number (seen ++ seen_of s octets ∷ []) next old new
+    by_stage number seen (stage.Opening w) none waits = (waits.0, (waits.1, none))
+    by_stage number seen (stage.Open o) none waits = absurd waits
+    by_stage number seen (stage.Joining g) none waits = absurd waits
+    by_stage number seen (stage.Within w) none waits = absurd waits
+    by_stage number seen stage.Over none waits =
+        subst (λ (m : Option ℕ). OverBy m old.active old.passive pair number (seen ++ seen_of s octets ∷ []) old new) (sym none) waits
+take_waits (Err stop) pair begins s octets waiting old new answered waits = tt
+
+-- one that began otherwise
+pub take_never : {E : Type 0} (result : Result Stage E) (pair : Pair) (begins : Option ℕ) (s : Seen) (st : Stage) (old new : Report)
+    → ((number : ℕ) (seen : List Seen) → StageIs old.active old.passive number seen st → ⊥) → IfOk result (λ next. TakesStage pair begins s st next old new)
+take_never (Ok next) pair begins s st old new never = λ verdicts number is seen numbered h. absurd (never number seen h)
+take_never (Err stop) pair begins s st old new never = tt
+
+-- ---- no segment follows
+
+pub end_open_stage : {E : Type 0} (result : Result (Unit {0}) E) (pair : Pair) (replaced : Bool) (missing : Option Shortfall) (o : Open) (old new : Report)
+    → OnOk result (EndsOpen pair replaced missing o old new) → OnOk result (EndsStage pair replaced missing (stage.Open o) old new)
+end_open_stage (Ok done) pair replaced missing o old new ends = λ verdicts number seen numbered st.
+    subst (λ (m : Option ℕ). EndsBy m old.active old.passive pair number seen replaced missing old new) (sym st.1)
+    (ends verdicts (bases number st.0) seen numbered st.2)
+end_open_stage (Err stop) pair replaced missing o old new ends = tt
+
+pub end_opening : {E : Type 0} (result : Result (Unit {0}) E) (pair : Pair) (replaced : Bool) (missing : Option Shortfall) (waiting : Vec Waiting Global) (old new : Report)
+    → OnOk result (old.manner ≡ Verdicts → ToldUnanswered pair (map seen_waiting waiting.items) old new)
+    → OnOk result (EndsStage pair replaced missing (stage.Opening waiting) old new)
+end_opening (Ok done) pair replaced missing waiting old new tells = λ verdicts number seen numbered st.
+    subst (λ (m : Option ℕ). EndsBy m old.active old.passive pair number seen replaced missing old new) (sym st.1)
+    (subst (λ (ss : List Seen). ToldUnanswered pair ss old new) st.0 (tells verdicts))
+end_opening (Err stop) pair replaced missing waiting old new tells = tt
+
+pub end_never : {E : Type 0} (result : Result (Unit {0}) E) (pair : Pair) (replaced : Bool) (missing : Option Shortfall) (st : Stage) (old new : Report)
+    → ((number : ℕ) (seen : List Seen) → StageIs old.active old.passive number seen st → ⊥) → OnOk result (EndsStage pair replaced missing st old new)
+end_never (Ok done) pair replaced missing st old new never = λ verdicts number seen numbered h. absurd (never number seen h)
+end_never (Err stop) pair replaced missing st old new never = tt

@@ -1,0 +1,25 @@
+use Rattle.std.proofs.Common.{map}
+use Rattle.hsms_machine.specs.Settings.{Parameters}
+use Rattle.hsms_capture.specs.Known.{seen_of}
+use Rattle.hsms_wire.specs.declared.flow.Open.{Open}
+use Rattle.hsms_wire.specs.Followed.{seen_waiting}
+use Rattle.hsms_wire.proofs.Connections.{begins_none, begins_some, begun_open}
+use Rattle.hsms_wire.proofs.flow.begin_with.Goals as goal
+
+pub returns-in-Some-clause-begins : goal.returns-in-Some-clause-begins
+returns-in-Some-clause-begins c =
+    let first : Open = record { connection = c.new.result; logs = c.new-2.result } in
+    begins_some c.follow.result c.args.pair.now c.args.syn c.args.segment.number (map seen_waiting c.args.waiting.items)
+    (seen_of c.args.segment c.args.octets.now) first c.in-Some.«open» c.in_ok-open.field-0 c.args.report.now c.follow_all.new.report c.follow.new.report
+    (λ (a p : Parameters). begun_open a p c.args.syn c.args.segment.number c.new.result c.new-2.result c.new.ensures.told c.new.ensures.times
+    c.new-2.ensures.ends c.new-2.ensures.up c.new-2.ensures.bare)
+    c.in_ok-open.ensures.follows c.in-Some.is c.follow.ensures.follows
+
+pub returns-in-None-clause-begins : goal.returns-in-None-clause-begins
+returns-in-None-clause-begins c =
+    let first : Open = record { connection = c.new.result; logs = c.new-2.result } in
+    begins_none c.args.pair.now c.args.syn c.args.segment.number (map seen_waiting c.args.waiting.items) (seen_of c.args.segment c.args.octets.now) first
+    c.in_ok-open.field-0 c.args.report.now c.follow_all.new.report
+    (λ (a p : Parameters). begun_open a p c.args.syn c.args.segment.number c.new.result c.new-2.result c.new.ensures.told c.new.ensures.times
+    c.new-2.ensures.ends c.new-2.ensures.up c.new-2.ensures.bare)
+    c.in_ok-open.ensures.follows c.in-None.is

@@ -1,0 +1,45 @@
+use Rattle.std.proofs.Common.{◌≡◌, List, ℕ, length, vec_len, rules, subst, ◌∙◌}
+use Rattle.std.proofs.lemmas.Iterator.Adapters.{YieldsList-from_vec}
+use Rattle.std.proofs.lemmas.Iterator.Consumers.{YieldsList-so_far, YieldsList-turn}
+use Rattle.hsms_capture.specs.Known.{seen_of}
+use Rattle.hsms_wire.specs.Followed.{Follows}
+use Rattle.hsms_wire.proofs.Connections.{none_yet, so_far_open, so_far_over, taken_apart}
+use Rattle.hsms_wire.proofs.Tellings.{tells_nothing, tells_then}
+use Rattle.hsms_wire.proofs.flow.follow_all.Goals.{in-Some-left+in_ok-left-in-Some-left, in-None-left}
+use Rattle.hsms_wire.proofs.flow.follow_all.Goals as goal
+
+pub loop-packet-init : goal.loop-packet-init
+loop-packet-init c = record {
+  told = tells_nothing c.args.report.now;
+  follows = λ verdicts base before numbered f.
+      none_yet c.args.report.now.active c.args.report.now.passive c.args.pair.now base before c.args.«open» c.args.report.now f;
+}
+
+pub loop-packet-preserved : goal.loop-packet-preserved
+loop-packet-preserved c =
+    let inv = c.loop-packet.invariant in
+    let first = c.args.report.now in
+    let mid = c.loop-packet.report in
+    let x = c.in-Some.packet in
+    let yielded = c.loop-packet.yielded in
+    let len : vec_len c.args.waiting ≡ length c.args.waiting.items = search rules in
+    let all = YieldsList-from_vec {s = c.into_iter-packet-iterator.result} c.args.waiting.items c.into_iter-packet-iterator.ensures.into_iter_gives.0
+    (c.into_iter-packet-iterator.ensures.into_iter_gives.1 ∙ len) in
+    let turn = YieldsList-turn all yielded c.loop-packet.packet-iterator c.loop-packet.yielded_by c.next.result c.next.new.self x c.in-Some.is
+    c.next.ensures.steps in
+    let front = YieldsList-so_far all yielded c.loop-packet.packet-iterator c.loop-packet.yielded_by in
+    let whole = taken_apart c.args.waiting.items yielded x front turn.0 turn.1 in
+    elim c.match-left.branch [
+      | in-Some-left+in_ok-left-in-Some-left w ↦ record {
+        told = rw w.report-is (tells_then first mid w.follow.new.report inv.told w.in_ok-left-in-Some-left.ensures.told);
+        follows = rw (w.left-is, w.report-is) (so_far_open c.args.pair.now c.args.waiting.items c.args.«open» w.in-Some-left.«open» first mid w.follow.new.report yielded _ x
+            c.loop-packet.left w.in_ok-left-in-Some-left.left whole inv.follows w.in-Some-left.is
+            (subst (λ (octets : List ℕ). Follows c.args.pair.now (seen_of x.segment octets) w.in-Some-left.«open» w.in_ok-left-in-Some-left.left mid w.follow.new.report) w.deref.ensures.value
+            w.in_ok-left-in-Some-left.ensures.follows));
+      }
+      | in-None-left w ↦ record {
+        told = rw w.report-is inv.told;
+        follows = rw (w.left-is, w.report-is) (so_far_over c.args.pair.now c.args.waiting.items c.args.«open» first mid yielded x c.loop-packet.left inv.follows
+            w.in-None-left.is);
+      }
+    ]

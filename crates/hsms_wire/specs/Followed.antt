@@ -1,0 +1,228 @@
+-- A connection in the midst of a capture: both logs have what was told of it so far.
+use Rattle.std.specs.Prelude.{◌≡◌, ◌⊎◌, ◌||◌, ◌++◌, ◌∷◌, max, ℕ, Bool, true, false, if◌then◌else◌, List, [], map, Option, Some, None, is_some, Box}
+use Rattle.std.specs.List.{list_any}
+use Rattle.std.specs.Option.{option_map}
+use Rattle.std.specs.declared.alloc.Global.{Global}
+use Rattle.hsms_machine.specs.Settings.{Parameters}
+use Rattle.hsms_machine.specs.declared.entry.Event.TheVariants as logs_event
+use Rattle.hsms_capture.specs.declared.connection.Connection.{Connection}
+use Rattle.hsms_capture.specs.declared.ending.Ending.{Ending}
+use Rattle.hsms_capture.specs.declared.packet.Side.{Side}
+use Rattle.hsms_capture.specs.declared.packet.Side.TheVariants as side
+use Rattle.hsms_capture.specs.declared.telling.Event.{Event}
+use Rattle.hsms_capture.specs.declared.telling.Event.TheVariants as happens
+use Rattle.hsms_capture.specs.declared.telling.Happening.{Happening}
+use Rattle.hsms_capture.specs.Wire.{End, Seen, places}
+use Rattle.hsms_capture.specs.Known.{bases, seen_of}
+use Rattle.hsms_capture.specs.Laws.{AreNumbered}
+use Rattle.hsms_capture.specs.Standing.{Stands, TakesOn}
+use Rattle.hsms_capture.specs.Time.{IsInTime, TakesInTime}
+use Rattle.hsms_capture.specs.Told.{Entry, tells}
+use Rattle.hsms_accounts.specs.Account.{HasLogged, Note}
+use Rattle.hsms_accounts.specs.Ends.{Adds, Records, heard_of, note_of}
+use Rattle.hsms_accounts.specs.declared.account.Remark.TheVariants as remark
+use Rattle.hsms_accounts.specs.declared.account.Told.{Told as Judged}
+use Rattle.hsms_accounts.specs.declared.ends.Ends.{Ends}
+use Rattle.hsms_accounts.specs.declared.ends.Heard.{Heard}
+use Rattle.hsms_accounts.specs.declared.ends.Heard.TheVariants as heard
+use Rattle.hsms_accounts.specs.declared.pair.Pair.{Pair}
+use Rattle.hsms_wire.specs.declared.course.Course.{Course}
+use Rattle.hsms_wire.specs.declared.course.Course.TheVariants as course
+use Rattle.hsms_wire.specs.declared.flow.Followed.{Followed as Taken}
+use Rattle.hsms_wire.specs.declared.flow.Followed.TheVariants as taken
+use Rattle.hsms_wire.specs.declared.flow.Logs.{Logs}
+use Rattle.hsms_wire.specs.declared.flow.Open.{Open}
+use Rattle.hsms_wire.specs.declared.flow.Waiting.{Waiting}
+use Rattle.hsms_wire.specs.declared.report.Manner.TheVariants.{Verdicts}
+use Rattle.hsms_wire.specs.declared.report.Report.{Report}
+use Rattle.hsms_wire.specs.declared.shortfall.Shortfall.{Shortfall}
+use Rattle.hsms_wire.specs.declared.shortfall.Shortfall.TheVariants as lacks
+use Rattle.hsms_wire.specs.Courses.{missing_by}
+use Rattle.hsms_wire.specs.Logged.{TellsOf, ToldOf, bare_resets, clock_of, course_of, is_among, logged}
+use Rattle.hsms_wire.specs.Report.{HasTold, IsVerdictOn}
+
+-- ---- what both ends have heard
+
+-- the entries of an end, one for each thing that happened, behind an entry of one time, up to that of another one
+abbrev pub AreNotes : Side → ℕ → List Happening → List Note → ℕ → Type 0
+AreNotes side before [] notes last = (notes ≡ []) × (last ≡ before)
+AreNotes side before (h ∷ hs) notes last =
+    (note : Note) × (rest : List Note) × (notes ≡ note ∷ rest) × Records before side h note × AreNotes side (max before h.time) hs rest last
+
+-- both logs have them
+pub record HaveHeard (a p : Parameters) (hs : List Happening) (last : ℕ) (ends : Ends) : Type 0 where
+  pub most : ends.max ≡ a.max
+  pub notes_a : List Note
+  pub notes_p : List Note
+  pub logged_a : HasLogged a notes_a ends.active
+  pub logged_p : HasLogged p notes_p ends.passive
+  pub are_a : AreNotes side.Active 0 hs notes_a last
+  pub are_p : AreNotes side.Passive 0 hs notes_p last
+
+abbrev pub IsNothing : {A : Type 0} → List A → Bool
+IsNothing [] = true
+IsNothing (x ∷ xs) = false
+
+-- more may follow: there are no logs where nothing happened
+abbrev pub EndsHave : Parameters → Parameters → List Happening → Option (Box Ends Global) → Type 0
+EndsHave a p hs None = hs ≡ []
+EndsHave a p hs (Some box) = (IsNothing hs ≡ false) × HaveHeard a p hs box.value.time box.value
+
+-- nothing more is logged
+abbrev pub EndsHad : Parameters → Parameters → List Happening → Option (Box Ends Global) → Type 0
+EndsHad a p hs None = ⊥
+EndsHad a p hs (Some box) = (last : ℕ) × HaveHeard a p hs last box.value
+
+abbrev pub EndsBy : Course → Parameters → Parameters → List Happening → Option (Box Ends Global) → Type 0
+EndsBy course.Goes a p hs ends = EndsHave a p hs ends
+EndsBy (course.Over lack) a p hs ends = EndsHad a p hs ends
+
+-- ---- something happens
+
+-- the logs of both ends begin with it
+abbrev pub Begins : Parameters → Parameters → Option (Box Ends Global) → Option (Box Ends Global) → Type 0
+Begins a p None new = (box : Box Ends Global) × (new ≡ Some box) × HaveHeard a p [] box.value.time box.value
+Begins a p (Some box) new = new ≡ Some box
+
+abbrev pub HearsBy : Heard → Parameters → Parameters → List Happening → Happening → Option (Box Ends Global) → Type 0
+HearsBy heard.Goes a p hs h new = EndsHave a p (hs ++ h ∷ []) new
+HearsBy heard.Down a p hs h new = EndsHad a p (hs ++ h ∷ []) new
+HearsBy heard.Length a p hs h new = EndsHad a p hs new
+
+abbrev pub HearsOn : Parameters → Parameters → Happening → Heard → Option (Box Ends Global) → Option (Box Ends Global) → Type 0
+HearsOn a p h heard old new = (hs : List Happening) → EndsHave a p hs old → (heard ≡ heard_of a.max h.event) × HearsBy heard a p hs h new
+
+-- at the time of the entry before, where a reset that acknowledges nothing ends it
+abbrev pub time_by : Event → Bool → ℕ → ℕ
+time_by happens.Up bare time = time
+time_by (happens.Message from octets) bare time = time
+time_by happens.Down bare time = if bare then 0 else time
+
+abbrev pub timed_by : List ℕ → Happening → Happening
+timed_by bare h = record h { time = time_by h.event (is_among bare h.packet) h.time }
+
+abbrev pub is_up_event : Event → Bool
+is_up_event happens.Up = true
+is_up_event (happens.Message from octets) = false
+is_up_event happens.Down = false
+
+abbrev pub came_up_by : List Happening → Bool
+came_up_by hs = list_any (λ h. is_up_event h.event) hs
+
+abbrev pub hears_event : ℕ → Happening → Heard
+hears_event most h = heard_of most h.event
+
+abbrev pub logged_by : ℕ → List Happening → List Happening
+logged_by most hs = logged (hears_event most) hs
+
+abbrev pub course_by_events : ℕ → List Happening → Course
+course_by_events most hs = course_of (hears_event most) (λ h. h.packet) hs
+
+-- what happens is heard, thing by thing, as far as more may follow
+abbrev pub times : Logs → List Happening → List Happening
+times first told = map (timed_by first.bare_resets.items) told
+
+pub record HearsAll (a p : Parameters) (hs : List Happening) (old : Logs) (told : List Happening) (course : Course) (new : Logs) : Type 0 where
+  pub course_is : course ≡ course_by_events a.max (times old told)
+  pub up : new.is_up ≡ (old.is_up || came_up_by (logged_by a.max (times old told)))
+  pub bare : new.bare_resets ≡ old.bare_resets
+  pub ends : EndsBy course a p (hs ++ logged_by a.max (times old told)) new.ends
+
+abbrev pub HearsThem : Parameters → Parameters → Logs → List Happening → Course → Logs → Type 0
+HearsThem a p old told course new = (hs : List Happening) → EndsHave a p hs old.ends → HearsAll a p hs old told course new
+
+-- ---- a connection is over
+
+-- its lines are told, with the verdicts on its logs
+abbrev pub TellsOnce : Pair → Option Shortfall → Option Ends → Report → Report → Type 0
+TellsOnce pair lack None old new = HasTold (record { pair = pair; shortfall = lack; active = None; passive = None } ∷ []) old new
+TellsOnce pair lack (Some ends) old new =
+    (active passive : Judged) × IsVerdictOn ends.active active × IsVerdictOn ends.passive passive
+    × HasTold (record { pair = pair; shortfall = lack; active = Some active; passive = Some passive } ∷ []) old new
+
+abbrev pub WhenTold : Bool → Pair → Option Shortfall → Option Ends → Report → Report → Type 0
+WhenTold false pair lack ends old new = new ≡ old
+WhenTold true pair lack ends old new = TellsOnce pair lack ends old new
+
+abbrev pub unboxed_ends : Option (Box Ends Global) → Option Ends
+unboxed_ends ends = option_map (λ box. box.value) ends
+
+-- both logs go down since a later connection replaces it
+abbrev pub Replaces : Option (Box Ends Global) → Option (Box Ends Global) → Type 0
+Replaces None new = new ≡ None
+Replaces (Some old) None = ⊥
+Replaces (Some old) (Some new) =
+    Adds (note_of remark.Replaced old.value.time logs_event.Down) old.value.active new.value.active
+    × Adds (note_of remark.Replaced old.value.time logs_event.Down) old.value.passive new.value.passive
+
+abbrev pub DownBy : Bool → Logs → Logs → Type 0
+DownBy false old new = new ≡ old
+DownBy true old new = (new.is_up ≡ old.is_up) × Replaces old.ends new.ends
+
+-- ---- a segment is taken
+
+abbrev pub TakesSegment : Connection → Seen → List Happening → List Happening → Taken → Type 0
+TakesSegment c s told later (taken.Goes next) = (next.ending ≡ None) × TakesOn c s told next later × TakesInTime c s told next later
+TakesSegment c s told later (taken.Ends lack) =
+    ((next : Connection) × (ending : Ending) × (next.ending ≡ Some ending) × (lack ≡ missing_by ending)
+    × TakesOn c s told next later × TakesInTime c s told next later)
+    ⊎ ((lack ≡ Some (lacks.Full s.packet)) × (later ≡ told))
+
+-- it goes on, or it is over, by what was heard of it or by what it lacks
+abbrev pub GoesOn : Pair → Logs → Course → Taken → Option Open → Report → Report → Type 0
+GoesOn pair logs course.Goes (taken.Goes c) left old new = (left ≡ Some (record { connection = c; logs = logs })) × (new ≡ old)
+GoesOn pair logs course.Goes (taken.Ends lack) left old new = (left ≡ None) × WhenTold (logs.is_up || is_some lack) pair lack (unboxed_ends logs.ends) old new
+GoesOn pair logs (course.Over lack) t left old new = (left ≡ None) × WhenTold (logs.is_up || is_some lack) pair lack (unboxed_ends logs.ends) old new
+
+-- a connection that goes on, behind these segments
+pub record IsFollowed (a p : Parameters) (base : End → ℕ) (seen : List Seen) (o : Open) : Type 0 where
+  pub told : List Happening
+  pub stands : Stands o.connection told base seen
+  pub timed : IsInTime o.connection told base seen
+  pub goes : course_by_events a.max told ≡ course.Goes
+  pub up : o.logs.is_up ≡ came_up_by told
+  pub bare : o.logs.bare_resets.items ≡ bare_resets seen
+  pub ends : EndsHave a p told o.logs.ends
+
+-- it is given up with a segment: both logs end with a front of what is told of those before it
+abbrev pub GivesUp : Parameters → Parameters → Pair → (End → ℕ) → List Seen → Seen → Report → Report → Type 0
+GivesUp a p pair base before s old new =
+    (front rest : List Entry) × (tells (places base [] before) ≡ front ++ rest)
+    × TellsOf a p pair (clock_of base before) front false (Some (lacks.Full s.packet)) old new
+
+abbrev pub FollowsOn : Parameters → Parameters → Pair → (End → ℕ) → List Seen → Seen → Option Open → Report → Report → Type 0
+FollowsOn a p pair base before s None old new = ToldOf a p pair base (before ++ s ∷ []) false None old new ⊎ GivesUp a p pair base before s old new
+FollowsOn a p pair base before s (Some o) old new = (new ≡ old) × IsFollowed a p base (before ++ s ∷ []) o
+
+-- one segment more, where verdicts are told
+abbrev pub Follows : Pair → Seen → Open → Option Open → Report → Report → Type 0
+Follows pair s o left old new =
+    old.manner ≡ Verdicts → (base : End → ℕ) (before : List Seen) → AreNumbered 0 (before ++ s ∷ []) → IsFollowed old.active old.passive base before o
+    → FollowsOn old.active old.passive pair base before s left old new
+
+-- no segment follows
+abbrev pub EndsOpen : Pair → Bool → Option Shortfall → Open → Report → Report → Type 0
+EndsOpen pair replaced missing o old new =
+    old.manner ≡ Verdicts → (base : End → ℕ) (seen : List Seen) → AreNumbered 0 seen → IsFollowed old.active old.passive base seen o
+    → ToldOf old.active old.passive pair base seen replaced missing old new
+
+-- ---- several segments, one after another
+
+abbrev pub seen_waiting : Waiting → Seen
+seen_waiting w = seen_of w.segment w.octets.items
+
+-- it goes on behind all of them, or it is over with one of them
+abbrev pub FollowsThem : Parameters → Parameters → Pair → (End → ℕ) → List Seen → List Seen → Option Open → Report → Report → Type 0
+FollowsThem a p pair base before ss None old new =
+    (front : List Seen) × (s : Seen) × (rest : List Seen) × (ss ≡ front ++ s ∷ rest) × FollowsOn a p pair base (before ++ front) s None old new
+FollowsThem a p pair base before ss (Some o) old new = (new ≡ old) × IsFollowed a p base (before ++ ss) o
+
+abbrev pub FollowsAll : Pair → List Seen → Open → Option Open → Report → Report → Type 0
+FollowsAll pair ss o left old new =
+    old.manner ≡ Verdicts → (base : End → ℕ) (before : List Seen) → AreNumbered 0 (before ++ ss) → IsFollowed old.active old.passive base before o
+    → FollowsThem old.active old.passive pair base before ss left old new
+
+-- it begins by the numbers of both SYNs
+abbrev pub BeginsWith : Pair → ℕ → ℕ → List Seen → Option Open → Report → Report → Type 0
+BeginsWith pair a p ss left old new =
+    old.manner ≡ Verdicts → AreNumbered 0 ss → FollowsThem old.active old.passive pair (bases a p) [] ss left old new

@@ -1,0 +1,132 @@
+-- A connection by the number of its SYN: its packets wait until the SYN of the passive end is there, and then it is followed.
+use Rattle.std.specs.Prelude.{◌≡◌, ◌⊎◌, ◌<◌, ◌+◌, ◌%◌, ◌^◌, ◌==◌, ◌&&◌, ◌||◌, ◌++◌, ◌∷◌, ℕ, Bool, true, false, if◌then◌else◌, List, [], length, map, Option, Some, None, is_some}
+use Rattle.std.specs.Option.{option_map}
+use Rattle.hsms_machine.specs.Settings.{Parameters}
+use Rattle.hsms_capture.specs.declared.packet.Segment.{Segment}
+use Rattle.hsms_capture.specs.declared.packet.Side.{Side}
+use Rattle.hsms_capture.specs.declared.packet.Side.TheVariants as side
+use Rattle.hsms_capture.specs.Wire.{End, active, passive, same_end, Cell, syn, octet, fin, Seen}
+use Rattle.hsms_capture.specs.Known.{bases}
+use Rattle.hsms_capture.specs.Laws.{AreNumbered}
+use Rattle.hsms_accounts.specs.declared.pair.Pair.{Pair}
+use Rattle.hsms_wire.specs.declared.flow.Open.{Open}
+use Rattle.hsms_wire.specs.declared.flow.Stage.{Stage}
+use Rattle.hsms_wire.specs.declared.flow.Stage.TheVariants as stage
+use Rattle.hsms_wire.specs.declared.report.Manner.TheVariants.{Verdicts}
+use Rattle.hsms_wire.specs.declared.report.Report.{Report}
+use Rattle.hsms_wire.specs.declared.shortfall.Shortfall.{Shortfall}
+use Rattle.hsms_wire.specs.declared.shortfall.Shortfall.TheVariants.{Lost}
+use Rattle.hsms_wire.specs.Logged.{ToldOf}
+use Rattle.hsms_wire.specs.Followed.{GivesUp, IsFollowed, WhenTold, seen_waiting}
+
+-- ---- the SYN of the passive end
+
+abbrev pub begins_with_syn : List Cell → Bool
+begins_with_syn [] = false
+begins_with_syn (syn ∷ cs) = true
+begins_with_syn (octet n ∷ cs) = false
+begins_with_syn (fin ∷ cs) = false
+
+abbrev pub is_number : Option ℕ → ℕ → Bool
+is_number None n = false
+is_number (Some m) n = m == n
+
+-- it acknowledges the active end's SYN
+abbrev pub is_answer : ℕ → Seen → Bool
+is_answer number s = same_end s.from passive && (begins_with_syn s.cells && is_number s.acknowledged ((number + 1) % 2 ^ 32))
+
+-- the number of the first one
+abbrev pub answered_by : ℕ → List Seen → Option ℕ
+answered_by number [] = None
+answered_by number (s ∷ ss) = if is_answer number s then Some s.number else answered_by number ss
+
+-- ---- where none was captured
+
+abbrev pub has_octets : List Cell → Bool
+has_octets [] = false
+has_octets (syn ∷ cs) = has_octets cs
+has_octets (octet n ∷ cs) = true
+has_octets (fin ∷ cs) = has_octets cs
+
+-- a packet shows that there was one: the active end acknowledges it, or there is data
+abbrev pub shows_answer : Seen → Bool
+shows_answer s = (same_end s.from active && is_some s.acknowledged) || has_octets s.cells
+
+abbrev pub first_shown : List Seen → Option ℕ
+first_shown [] = None
+first_shown (s ∷ ss) = if shows_answer s then Some s.packet else first_shown ss
+
+-- it is lost at the first such packet; where there is none, nothing is told: the connection was refused, or is half open
+abbrev pub ToldUnanswered : Pair → List Seen → Report → Report → Type 0
+ToldUnanswered pair ss old new = WhenTold (is_some (first_shown ss)) pair (option_map (λ packet. Lost packet) (first_shown ss)) None old new
+
+-- ---- what code does
+
+abbrev pub is_passive : Side → Bool
+is_passive side.Active = false
+is_passive side.Passive = true
+
+abbrev pub answers : ℕ → Segment → Bool
+answers number s = is_passive s.from && (s.flags.syn && is_number s.acknowledged ((number + 1) % 2 ^ 32))
+
+abbrev pub if_answered : Option ℕ → Segment → Option ℕ
+if_answered None s = None
+if_answered (Some number) s = if answers number s then Some number else None
+
+abbrev pub shows : Side → Option ℕ → Bool → Bool
+shows side.Active acknowledged some = is_some acknowledged || some
+shows side.Passive acknowledged some = some
+
+-- behind these segments: packets wait, or it is followed
+abbrev pub StageIs : Parameters → Parameters → ℕ → List Seen → Stage → Type 0
+StageIs a p number seen (stage.Opening waiting) = (map seen_waiting waiting.items ≡ seen) × (answered_by number seen ≡ None)
+StageIs a p number seen (stage.Open o) = (other : ℕ) × (answered_by number seen ≡ Some other) × IsFollowed a p (bases number other) seen o
+StageIs a p number seen (stage.Joining gathering) = ⊥
+StageIs a p number seen (stage.Within within) = ⊥
+StageIs a p number seen stage.Over = ⊥
+
+-- it is over with one of these segments, or given up with it
+abbrev pub OverWith : Parameters → Parameters → Pair → (End → ℕ) → List Seen → Report → Report → Type 0
+OverWith a p pair base all old new =
+    (front : List Seen) × (s : Seen) × (rest : List Seen) × (all ≡ front ++ s ∷ rest)
+    × (ToldOf a p pair base (front ++ s ∷ []) false None old new ⊎ GivesUp a p pair base front s old new)
+
+-- Without the SYN of the passive end it is over where more than 4,096 packets wait.
+abbrev pub OverBy : Option ℕ → Parameters → Parameters → Pair → ℕ → List Seen → Report → Report → Type 0
+OverBy None a p pair number all old new = (4096 < length all) × ToldUnanswered pair all old new
+OverBy (Some other) a p pair number all old new = OverWith a p pair (bases number other) all old new
+
+abbrev pub StageGoes : Parameters → Parameters → Pair → ℕ → List Seen → Stage → Report → Report → Type 0
+StageGoes a p pair number all (stage.Opening waiting) old new = (new ≡ old) × StageIs a p number all (stage.Opening waiting)
+StageGoes a p pair number all (stage.Open o) old new = (new ≡ old) × StageIs a p number all (stage.Open o)
+StageGoes a p pair number all (stage.Joining gathering) old new = ⊥
+StageGoes a p pair number all (stage.Within within) old new = ⊥
+StageGoes a p pair number all stage.Over old new = OverBy (answered_by number all) a p pair number all old new
+
+-- one segment more, where verdicts are told
+abbrev pub TakesStage : Pair → Option ℕ → Seen → Stage → Stage → Report → Report → Type 0
+TakesStage pair begins s old_stage new_stage old new =
+    old.manner ≡ Verdicts → (number : ℕ) → begins ≡ Some number → (seen : List Seen) → AreNumbered 0 (seen ++ s ∷ [])
+    → StageIs old.active old.passive number seen old_stage → StageGoes old.active old.passive pair number (seen ++ s ∷ []) new_stage old new
+
+abbrev pub WaitsOn : Pair → List Seen → Stage → Report → Report → Type 0
+WaitsOn pair all (stage.Opening waiting) old new = (new ≡ old) × (map seen_waiting waiting.items ≡ all)
+WaitsOn pair all (stage.Open o) old new = ⊥
+WaitsOn pair all (stage.Joining gathering) old new = ⊥
+WaitsOn pair all (stage.Within within) old new = ⊥
+WaitsOn pair all stage.Over old new = (4096 < length all) × ToldUnanswered pair all old new
+
+-- how far it is that is followed
+abbrev pub stage_by : Option Open → Stage
+stage_by None = stage.Over
+stage_by (Some o) = stage.Open o
+
+-- no segment follows
+abbrev pub EndsBy : Option ℕ → Parameters → Parameters → Pair → ℕ → List Seen → Bool → Option Shortfall → Report → Report → Type 0
+EndsBy None a p pair number all replaced missing old new = ToldUnanswered pair all old new
+EndsBy (Some other) a p pair number all replaced missing old new = ToldOf a p pair (bases number other) all replaced missing old new
+
+abbrev pub EndsStage : Pair → Bool → Option Shortfall → Stage → Report → Report → Type 0
+EndsStage pair replaced missing s old new =
+    old.manner ≡ Verdicts → (number : ℕ) (seen : List Seen) → AreNumbered 0 seen → StageIs old.active old.passive number seen s
+    → EndsBy (answered_by number seen) old.active old.passive pair number seen replaced missing old new
