@@ -22,7 +22,7 @@ from dataclasses import dataclass
 
 sys.dont_write_bytecode = True
 
-from loopback import HERE, PROGRAM, SCRIPT, SOON, A_WHILE, Serving, audited, events, free_port, same, times
+from loopback import HERE, PROGRAM, SCRIPT, SOON, Serving, audited, events, free_port, same, times
 
 TOOLS = ["tcpdump", "dumpcap", "editcap", "reordercap", "mergecap"]
 
@@ -101,7 +101,7 @@ def served_logs(way, port):
     script = {way.active: {}, OTHER_ROLE[way.active]: {}}
     script["host"] = {"script": SCRIPT}
     listens = Serving(OTHER_ROLE[way.active], "passive", port, *again, **others, **script[OTHER_ROLE[way.active]])
-    time.sleep(A_WHILE)
+    listens.listens()
     again += ["--t5", "20"] if again else []
     connects = Serving(way.active, "active", port, *again, **others, **script[way.active])
     logs = []

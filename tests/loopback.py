@@ -39,6 +39,9 @@ for _ in range(os.getpid() % 12768):
 SOON = 30
 A_WHILE = 0.5
 
+# How /proc/net/tcp tells of a socket that it listens.
+LISTENS = "0A"
+
 SELECT = bytes.fromhex("0000000affff0000000100000001")
 SELECTED = bytes.fromhex("0000000affff0000000200000001")
 PASSED = "pass entries={} sent={} taken={} discarded={} expired={} waiting={}\n"
@@ -55,6 +58,16 @@ def free_port():
             except OSError:
                 pass
     raise AssertionError("no port is free")
+
+
+def is_listened_at(port):
+    """Whether the system has a socket that listens at a port, of IPv4 or IPv6. To ask it takes no connection away."""
+    for table in filter(os.path.exists, ("/proc/net/tcp", "/proc/net/tcp6")):
+        with open(table, encoding="ascii") as sockets:
+            for _, address, _, state, *_ in map(str.split, sockets):
+                if state == LISTENS and address.endswith(f":{port:04X}"):
+                    return True
+    return False
 
 
 def message(session, byte2, byte3, stype, system, text=b""):
@@ -87,6 +100,7 @@ class Serving:
             env=env,
         )
         Serving.started.append(self.run)
+        self.port = port
         self.read = b""
         if script is not None:
             try:
@@ -95,6 +109,14 @@ class Serving:
             except BrokenPipeError:
                 pass
             self.run.stdin = None
+
+    def listens(self):
+        """Waits until this end listens, so that one that connects then isn't refused."""
+        end = time.monotonic() + SOON
+        while not is_listened_at(self.port):
+            if time.monotonic() > end or self.run.poll() is not None:
+                raise AssertionError(f"nobody listens at port {self.port}")
+            time.sleep(0.01)
 
     def line_soon(self, wanted):
         """Whether the log has this event before long, while the connection is up."""
@@ -325,7 +347,7 @@ SCRIPT = b'S1F13 W <L> .\nS1F1 W .\nS2F25 W <B 0x01 0x02> .\nS1F2 .\nS6F11 W <L 
 def two_processes():
     port = free_port()
     equipment = Serving("equipment", "passive", port, "--mdln", "M", "--softrev", "1", "--t3", "10000")
-    time.sleep(A_WHILE)
+    equipment.listens()
     host = Serving("host", "active", port, script=SCRIPT)
     log = served(
         host,
@@ -771,7 +793,7 @@ def replies_are_given_in_turn():
 def equipment_answers_by_its_script():
     port = free_port()
     equipment = Serving("equipment", "passive", port, "--answer", script=b'S7F0 . S2F18 <A "T"> . S2F32 <B 0x00> .', send=False)
-    time.sleep(A_WHILE)
+    equipment.listens()
     host = Serving("host", "active", port, script=50 * b"S2F17 W . S2F31 W <A> ." + b"S7F3 W . S7F5 .")
     for serving in (host, equipment):
         status, log, told = serving.ended()
@@ -992,6 +1014,7 @@ def all_that_is_logged_arrives():
     """The host sends 100 messages and separates, and has read nothing of what the equipment says of them."""
     port = free_port()
     equipment = Serving("equipment", "passive", port)
+    equipment.listens()
     host = Serving("host", "active", port, script=100 * UNANSWERED)
     logs = []
     for serving in (host, equipment):

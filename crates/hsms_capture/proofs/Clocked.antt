@@ -14,8 +14,9 @@ use Rattle.hsms_capture.specs.Known.{GoesOn, Known, packet_of, placed_behind, se
 use Rattle.hsms_capture.specs.Laws.{AreNumbered}
 use Rattle.hsms_capture.specs.Connected.{AreRising}
 use Rattle.hsms_capture.specs.Standing.{StandsAs}
-use Rattle.hsms_capture.specs.Time.{AreDueTimed, AreTimed, EndsInTime, FollowsInTime, IsInTimeOf, ReactsInTime, TakesInTime, TellsInTime, time_at}
+use Rattle.hsms_capture.specs.Time.{AreDueTimed, AreTimed, EndsInTime, FollowsInTime, IsInTime, IsInTimeOf, ReactsInTime, TakesInTime, TellsInTime, time_at}
 use Rattle.hsms_capture.proofs.Connecting.{all_rise, placed_one}
+use Rattle.hsms_capture.proofs.Fronts.{places_begin, places_more}
 use Rattle.hsms_capture.proofs.Stepped.{one_more}
 use Rattle.hsms_capture.proofs.Sure.{nothing_follows}
 
@@ -67,6 +68,15 @@ in_time_next r next away told later ps p low h reacts more rises =
     let g = h (p ∷ more) all in
     let now = reacts time (time_is 0 ps p more all low) g.0 (timed_back time away told g.1) in
     subst (TimedBy next (away ++ later)) (sym whole) (now.0, timed_both time away later (timed_front time away told g.1) now.1)
+
+-- what was told has the time of its packet, whichever segments follow
+pub timed_later : (c : Connection) (told : List Happening) (base : End → ℕ) (seen later : List Seen) → AreNumbered 0 (seen ++ later) → IsInTime c told base seen
+    → AreTimed (time_at (places base [] (seen ++ later))) told
+timed_later c told base seen later numbered timed =
+    let ps = places base [] seen in
+    let split = places_begin base ps later in
+    let whole : places base [] (seen ++ later) ≡ ps ++ split.0 = places_more base [] seen later ∙ split.1 in
+    subst (λ (z : List Placed). AreTimed (time_at z) told) (sym whole) (timed split.0 (subst (AreRising 0) whole (all_rise base (seen ++ later) numbered))).1
 
 -- ---- a segment more
 

@@ -56,7 +56,7 @@ abbrev closed_log : List Entry → Bool → Log
 closed_log es closed = record { told = es; closed = closed }
 
 pub closed_ends : (lost differs limit : Option ℕ) (old new : Teller) (queue left : List Due) (told later : List Happening) → limit ≡ earlier lost differs
-    → TellsBefore limit old queue told new left later true → Finishes lost differs old queue told later ending.Complete
+    → TellsBefore limit old queue told new left later true → Finishes lost differs old queue told later ending.Closed
 closed_ends lost differs limit old new queue left told later is tells away more ps rises none streams breaks waits lt h =
     let sound = limit_is more (earlier lost differs) (broken lost differs) ps breaks in
     let r = tells away more ps rises none streams (subst (λ (o : Option ℕ). IsLimit more o ps) (sym is) sound) waits in

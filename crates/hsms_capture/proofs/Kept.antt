@@ -2,8 +2,10 @@
 use Rattle.std.proofs.Common.{◌≡◌, ◌<◌, ◌≤◌, ◌⊎◌, inl, inr, min, arith, ℕ, zero, suc, ◌+◌, ◌&&◌, ◌||◌, Bool, true, false, nat_lt, cond, List, [], ◌∷◌, ◌++◌, length, take, drop, map, filter, flat_map, Option, Some, None, refl, sym, ap, subst, ◌∙◌}
 use Rattle.std.proofs.lemmas.Bool.{ltb-true}
 use Rattle.std.proofs.lemmas.List.{append_assoc, take-append-drop}
-use Rattle.hsms_capture.specs.Wire.{End, active, passive, same_end, Cell, Placed, Turn, Delivery, deliveries, is_before, is_open, Left, Cut, and_then, cut_by, cut_off, Shown, Both, left_of, with_left, delivered, show, both_streams, shows_of, stream_of, turns, loss, difference, earlier, breaks_off, told_turns, up_to_reset}
+use Rattle.hsms_capture.specs.Wire.{End, active, passive, same_end, Cell, Placed, Turn, Delivery, deliveries, is_before, Left, Cut, and_then, cut_by, cut_off, Shown, Both, left_of, with_left, delivered, show, both_streams, shows_of, stream_of, turns, loss, difference, earlier, breaks_off, told_turns}
 use Rattle.hsms_capture.specs.Laws.{cells_shown, EachShown}
+use Rattle.hsms_capture.proofs.Lists.{Each, each_filter, everywhere, weaken}
+use Rattle.hsms_capture.proofs.Turned.{flat_each, reset_each}
 
 flat : List (List Cell) → List Cell
 flat [] = []
@@ -77,60 +79,30 @@ show_keeps size (x ∷ ds) d b = step size b x.of x.upto x.at ds d (show_keeps s
 
 -- ---- nothing behind a loss
 
-each_map : (P : Placed → Type 0) (o : End) (at : Placed) (ms : List (List Cell)) (ss : List Shown) → P at → EachShown P ss
+each_message : (P : Placed → Type 0) (o : End) (at : Placed) (ms : List (List Cell)) (ss : List Shown) → P at → EachShown P ss
     → EachShown P (map (λ m. record { of = o; cells = m; at = at }) ms ++ ss)
-each_map P o at [] ss p h = h
-each_map P o at (m ∷ ms) ss p h = (p, each_map P o at ms ss p h)
+each_message P o at [] ss p h = h
+each_message P o at (m ∷ ms) ss p h = (p, each_message P o at ms ss p h)
 
-EachDelivery : (Placed → Type 0) → List Delivery → Type 0
-EachDelivery P [] = Unit {0}
-EachDelivery P (d ∷ ds) = P d.at × EachDelivery P ds
-
-show_each : (P : Placed → Type 0) (size : List Cell → Option ℕ) (ds : List Delivery) (b : Both) → EachDelivery P ds → EachShown P (show size b ds)
-unfolding show EachDelivery
+show_each : (P : Placed → Type 0) (size : List Cell → Option ℕ) (ds : List Delivery) (b : Both) → Each (λ (d : Delivery). P d.at) ds → EachShown P (show size b ds)
+unfolding show
 show_each P size [] b h = tt
 show_each P size (d ∷ ds) b h =
     let cut = delivered size b d in
-    each_map P d.of d.at cut.messages (show size (with_left b d.of cut.left) ds) h.0 (show_each P size ds (with_left b d.of cut.left) h.1)
+    each_message P d.of d.at cut.messages (show size (with_left b d.of cut.left) ds) h.0 (show_each P size ds (with_left b d.of cut.left) h.1)
 
-of_turn : (P : Placed → Type 0) (at own : Placed) (a : Option ℕ) (ds : List Delivery) → P at → EachDelivery P ds
-    → EachDelivery P (deliveries (record { at = at; own = record own { acknowledged = a } }) ++ ds)
-unfolding EachDelivery
-of_turn P at own None ds p h = (p, h)
-of_turn P at own (Some n) ds p h = (p, (p, h))
+of_turn : (P : Placed → Type 0) (at own : Placed) (a : Option ℕ) → P at
+    → Each (λ (d : Delivery). P d.at) (deliveries (record { at = at; own = record own { acknowledged = a } }))
+of_turn P at own None p = (p, tt)
+of_turn P at own (Some n) p = (p, (p, tt))
 
-EachTurn : (Placed → Type 0) → List Turn → Type 0
-EachTurn P [] = Unit {0}
-EachTurn P (t ∷ ts) = P t.at × EachTurn P ts
-
-turn_each : (k : ℕ) (ts : List Turn) → EachTurn (λ at. at.packet < k) (filter (is_before (Some k)) ts)
-unfolding EachTurn
-turn_each k [] = tt
-turn_each k (t ∷ ts) = by_test (turn_each k ts) (nat_lt t.at.packet k) refl
-  where
-    by_test : EachTurn (λ at. at.packet < k) (filter (is_before (Some k)) ts) → (b : Bool) → nat_lt t.at.packet k ≡ b
-        → EachTurn (λ at. at.packet < k) (cond b (t ∷ filter (is_before (Some k)) ts) (filter (is_before (Some k)) ts))
-    by_test later true e = (ltb-true t.at.packet k e, later)
-    by_test later false e = later
-
-weaken : (P Q : Placed → Type 0) (ts : List Turn) → ((at : Placed) → P at → Q at) → EachTurn P ts → EachTurn Q ts
-unfolding EachTurn
-weaken P Q [] f h = tt
-weaken P Q (t ∷ ts) f h = (f t.at h.0, weaken P Q ts f h.1)
-
-reset_each : (P : Placed → Type 0) (opened : Bool) (ts : List Turn) → EachTurn P ts → EachTurn P (up_to_reset opened ts)
-unfolding EachTurn
-reset_each P opened [] h = tt
-reset_each P opened (t ∷ ts) h = by_reset (t.own.reset && (opened || is_open t)) (reset_each P (opened || is_open t) ts h.1)
-  where
-    by_reset : (b : Bool) → EachTurn P (up_to_reset (opened || is_open t) ts) → EachTurn P (cond b (t ∷ []) (t ∷ up_to_reset (opened || is_open t) ts))
-    by_reset true later = (h.0, tt)
-    by_reset false later = (h.0, later)
-
-delivery_each : (P : Placed → Type 0) (ts : List Turn) → EachTurn P ts → EachDelivery P (flat_map deliveries ts)
-unfolding EachTurn EachDelivery
-delivery_each P [] h = tt
-delivery_each P (t ∷ ts) h = of_turn P t.at t.own t.own.acknowledged (flat_map deliveries ts) h.0 (delivery_each P ts h.1)
+-- what is shown is shown at the packets of the turns
+pub shows_each : (P : Placed → Type 0) (size : List Cell → Option ℕ) (ps : List Placed) → Each (λ (t : Turn). P t.at) (told_turns ps) → EachShown P (shows_of size ps)
+shows_each P size ps h =
+    show_each P size (flat_map deliveries (told_turns ps)) (both_streams ps)
+    (flat_each (λ (d : Delivery). P d.at) (told_turns ps)
+    (weaken (λ (t : Turn). P t.at) (λ (t : Turn). Each (λ (d : Delivery). P d.at) (deliveries t)) (told_turns ps)
+    (λ t at. of_turn P t.at t.own t.own.acknowledged at) h))
 
 -- where it breaks off is at the first of both, or before
 breaks_by : (a b : Option ℕ) (k : ℕ) → (a ≡ Some k) ⊎ (b ≡ Some k) → (j : ℕ) × (earlier a b ≡ Some j) × (j ≤ k)
@@ -146,12 +118,12 @@ pub none_behind : (size : List Cell → Option ℕ) (ps : List Placed) (k : ℕ)
 none_behind size ps k e =
     let off = breaks_by (loss [] ps) (difference [] ps) k e in
     let le = off.2 in
-    let near : EachTurn (λ at. at.packet < k) (filter (is_before (Some off.0)) (turns [] ps)) =
-    weaken (λ at. at.packet < off.0) (λ at. at.packet < k) (filter (is_before (Some off.0)) (turns [] ps)) (λ at lt. omega (arith, lt, le)) (turn_each off.0 (turns [] ps)) in
-    let each : EachTurn (λ at. at.packet < k) (filter (is_before (breaks_off ps)) (turns [] ps)) =
-    subst (λ (o : Option ℕ). EachTurn (λ at. at.packet < k) (filter (is_before o) (turns [] ps))) (sym off.1) near in
-    show_each (λ at. at.packet < k) size (flat_map deliveries (told_turns ps)) (both_streams ps)
-    (delivery_each (λ at. at.packet < k) (told_turns ps) (reset_each (λ at. at.packet < k) false (filter (is_before (breaks_off ps)) (turns [] ps)) each))
+    let kept = filter (is_before (breaks_off ps)) (turns [] ps) in
+    shows_each (λ at. at.packet < k) size ps
+    (reset_each (λ (t : Turn). t.at.packet < k) false kept
+    (weaken (λ (t : Turn). Unit {0} × (is_before (breaks_off ps) t ≡ true)) (λ (t : Turn). t.at.packet < k) kept
+    (λ t f. let lt = ltb-true t.at.packet off.0 (subst (λ (o : Option ℕ). is_before o t ≡ true) off.1 f.1) in omega (arith, lt, le))
+    (each_filter (λ (t : Turn). Unit {0}) (is_before (breaks_off ps)) (turns [] ps) (everywhere (turns [] ps)))))
 
 pub kept : (size : List Cell → Option ℕ) (ps : List Placed) (d : End) → (rest : List Cell) × (stream_of ps d ≡ cells_shown d (shows_of size ps) ++ rest)
 kept size ps active = show_keeps size (flat_map deliveries (told_turns ps)) active (both_streams ps)

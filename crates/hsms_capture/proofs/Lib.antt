@@ -15,6 +15,7 @@ mod Fronts
 mod Joined
 mod Kept
 mod Laid
+pub mod Lasting
 pub mod Later
 mod Lists
 mod Longer

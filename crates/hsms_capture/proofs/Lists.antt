@@ -6,6 +6,10 @@ abbrev pub Each : {A : Type 0} → (A → Type 0) → List A → Type 0
 Each P [] = Unit {0}
 Each P (x ∷ xs) = P x × Each P xs
 
+pub everywhere : {A : Type 0} (xs : List A) → Each (λ (x : A). Unit {0}) xs
+everywhere [] = tt
+everywhere (x ∷ xs) = (tt, everywhere xs)
+
 pub weaken : {A : Type 0} (P Q : A → Type 0) (xs : List A) → ((x : A) → P x → Q x) → Each P xs → Each Q xs
 weaken P Q [] f h = tt
 weaken P Q (x ∷ xs) f h = (f x h.0, weaken P Q xs f h.1)

@@ -74,7 +74,7 @@ waits_same more t u queue ps told telling opened a b w =
         ≡ and_log (map entry_as told) (tell_on u.telling u.opened (lefts u.streams all) (told_dues all us))
     same_log all us = rw (telling, opened, a, b) refl
 
-closed_all : (ps : List Placed) (told : List Happening) → IsClosed true ps told → IsEnded true ps told ending.Complete
+closed_all : (ps : List Placed) (told : List Happening) → IsClosed true ps told → IsEnded true ps told ending.Closed
 closed_all ps told closed lt h =
     let log = closed lt h in
     (sym (ap (λ (l : Log). l.told) log), sym (ap (λ (l : Log). ended_by l.closed (ps ++ lt)) log))
@@ -83,7 +83,7 @@ pub nothing_follows : (ps : List Placed) → AreRising 0 ps → AreRising 0 (ps 
 nothing_follows ps h = subst (AreRising 0) (sym (append-nil ps)) h
 
 pub sure_closed : (acked : BothEnds) (old new : Reading) (next : Teller) (left : List Due) (told later : List Happening) (first limit : Option ℕ) → first ≡ first_of old.losses
-    → limit ≡ earlier first old.differs → TellsBefore limit old.teller old.due.items told next left later true → TellsSure acked old told new later (Some ending.Complete)
+    → limit ≡ earlier first old.differs → TellsBefore limit old.teller old.due.items told next left later true → TellsSure acked old told new later (Some ending.Closed)
 sure_closed acked old new next left told later first limit e f tells away ps rises acks r =
     let is : limit ≡ earlier (first_of old.losses) old.differs = f ∙ ap (λ (o : Option ℕ). earlier o old.differs) e in
     let sound = subst (λ (o : Option ℕ). IsLimit true o ps) (sym is) (sure_limit old.losses ps old.differs r.0 r.1) in

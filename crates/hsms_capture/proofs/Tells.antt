@@ -277,7 +277,7 @@ rise_at : (n : ℕ) (xs ys : List Entry) → AllAt n xs → Rise n ys → Rise n
 rise_at n [] ys h r = r
 rise_at n (x ∷ xs) ys h r = let e = h.0 in (omega (arith, e), subst (λ (k : ℕ). Rise k (xs ++ ys)) (sym e) (rise_at n xs ys h.1 r))
 
-at_cells : (d : End) (n : ℕ) (octets : List ℕ) (cs : List Cell) → AllAt n (entry_of d n octets cs)
+pub at_cells : (d : End) (n : ℕ) (octets : List ℕ) (cs : List Cell) → AllAt n (entry_of d n octets cs)
 at_cells d n octets [] = (refl, tt)
 at_cells d n octets (syn ∷ cs) = tt
 at_cells d n octets (fin ∷ cs) = (refl, tt)

@@ -3,7 +3,7 @@ use Rattle.std.proofs.Common.{◌≡◌, ◌<◌, ◌≤◌, ℕ, ◌+◌, ◌&&
 use Rattle.std.proofs.lemmas.Bool.{leb-true, ltb-false, le-ltb}
 use Rattle.std.proofs.lemmas.List.{append_assoc, append-nil}
 use Rattle.hsms_capture.specs.Wire.{End, active, passive, same_end, other, Placed, Turn, end_of, insert_by_place, in_order, turns_at, turns, loss, breaks_off, difference, is_before, is_open, is_past, up_to_reset, told_turns, Delivery, deliveries}
-use Rattle.hsms_capture.proofs.Lists.{Each, weaken, both_hold, each_append, each_filter, each_map, Begins, begins_cons}
+use Rattle.hsms_capture.proofs.Lists.{Each, everywhere, weaken, both_hold, each_append, each_filter, each_map, Begins, begins_cons}
 use Rattle.hsms_capture.proofs.Longer.{end_more, Holds, each_holds, within_own}
 use Rattle.hsms_capture.proofs.Numbered.{Rising, rising_front, later_packets, before_later, passes, passes_less, passes_both, loss_settled, breaks_more}
 
@@ -34,10 +34,6 @@ order_each P [] h = tt
 order_each P (p ∷ ps) h = insert_each P p (in_order ps) h.0 (order_each P ps h.1)
 
 -- ---- at which packet
-
-everywhere : (ps : List Placed) → Each (λ (p : Placed). Unit {0}) ps
-everywhere [] = tt
-everywhere (p ∷ ps) = (tt, everywhere ps)
 
 pub at_itself : (before : List Placed) (p : Placed) → Each (λ (t : Turn). t.at ≡ p) (turns_at before p)
 at_itself before p = by_gap (nat_lt (end_of before p.from) p.place)
@@ -186,7 +182,7 @@ turn_within : (ps : List Placed) (at own : Placed) (a : Option ℕ) → own.plac
 turn_within ps at own None le past = (le, tt)
 turn_within ps at own (Some n) le past = (ltb-false (end_of ps (other own.from)) n past, (le, tt))
 
-reset_each : (P : Turn → Type 0) (opened : Bool) (ts : List Turn) → Each P ts → Each P (up_to_reset opened ts)
+pub reset_each : (P : Turn → Type 0) (opened : Bool) (ts : List Turn) → Each P ts → Each P (up_to_reset opened ts)
 reset_each P opened [] h = tt
 reset_each P opened (t ∷ ts) h = by_reset (t.own.reset && (opened || is_open t)) (reset_each P (opened || is_open t) ts h.1)
   where
@@ -194,7 +190,7 @@ reset_each P opened (t ∷ ts) h = by_reset (t.own.reset && (opened || is_open t
     by_reset true later = (h.0, tt)
     by_reset false later = (h.0, later)
 
-flat_each : (P : Delivery → Type 0) (ts : List Turn) → Each (λ (t : Turn). Each P (deliveries t)) ts → Each P (flat_map deliveries ts)
+pub flat_each : (P : Delivery → Type 0) (ts : List Turn) → Each (λ (t : Turn). Each P (deliveries t)) ts → Each P (flat_map deliveries ts)
 flat_each P [] h = tt
 flat_each P (t ∷ ts) h = each_append P (deliveries t) (flat_map deliveries ts) h.0 (flat_each P ts h.1)
 

@@ -1,12 +1,13 @@
 -- What a log tells begins where the connection comes up, and ends where it goes down.
-use Rattle.std.proofs.Common.{◌≡◌, ◌⊎◌, ◌++◌, ◌∷◌, ◌||◌, inl, inr, ℕ, Bool, true, false, cond, nat_le, List, [], filter, map, Option, Some, None, refl, sym, ap, subst, ◌∙◌}
+use Rattle.std.proofs.Common.{◌≡◌, ◌⊎◌, ◌++◌, ◌∷◌, ◌||◌, inl, inr, ℕ, Bool, true, false, cond, nat_le, nat_lt, List, [], filter, map, Option, Some, None, refl, sym, ap, subst, ◌∙◌}
 use Rattle.std.proofs.lemmas.List.{append-nil, append_assoc}
 use Rattle.std.specs.Option.{option_map}
+use Rattle.hsms_capture.specs.declared.ending.Ending.TheVariants as ending
 use Rattle.hsms_capture.specs.declared.packet.Side.{Side}
 use Rattle.hsms_capture.specs.declared.streams.Due.{Due}
 use Rattle.hsms_capture.specs.declared.telling.Telling.{Telling}
 use Rattle.hsms_capture.specs.declared.telling.Telling.TheVariants as telling
-use Rattle.hsms_capture.specs.Wire.{End, Placed, Both, both_streams, earlier, places, shows_of, told_turns, turns}
+use Rattle.hsms_capture.specs.Wire.{End, Placed, Both, both_streams, difference, earlier, loss, places, shows_of, told_turns, turns}
 use Rattle.hsms_capture.specs.Message.{message_size}
 use Rattle.hsms_capture.specs.Told.{Told, up, message, down, Entry, entry, and_later, answered_at, behind_up, ends_down, first_message, has_up, is_down, is_left_out, is_separate, is_up, reset_entries, separated_by, shown_entries, tells, up_to_down}
 use Rattle.hsms_capture.specs.Known.{end_at}
@@ -14,9 +15,9 @@ use Rattle.hsms_capture.specs.Laws.{DownComesLast, OnlyFirstIsUp, UpComesFirst}
 use Rattle.hsms_capture.specs.Losses.{side_of}
 use Rattle.hsms_capture.specs.Telling.{Heard, and_heard, comes_up, entry_as, goes_down, hear, hears, is_at, says, separated_side}
 use Rattle.hsms_capture.specs.Turning.{Log, and_log, answer_entries, delivers, entries_at, is_over, opens, resets, tell_on}
-use Rattle.hsms_capture.specs.Connected.{log_of, told_dues}
-use Rattle.hsms_capture.specs.Finished.{ended_by}
-use Rattle.hsms_capture.specs.Standing.{ClosedWhereDown, DownIsAll, DownIsComplete}
+use Rattle.hsms_capture.specs.Connected.{AreRising, log_of, told_dues}
+use Rattle.hsms_capture.specs.Finished.{broken, ended, ended_by}
+use Rattle.hsms_capture.specs.Standing.{ClosedWhereDown, DownIsAll, DownIsClosed}
 use Rattle.hsms_capture.proofs.Connecting.{all_rise, told_sure}
 use Rattle.hsms_capture.proofs.Onward.{tell_first, told_then}
 use Rattle.hsms_capture.proofs.Slicing.{hears_append}
@@ -265,11 +266,33 @@ closed_where_down ps rises =
       | inr is ↦ inr (is ∙ ap ends_down told)
     ]
 
-pub down_is_complete : DownIsComplete
-down_is_complete ps rises e =
+pub down_is_closed : DownIsClosed
+down_is_closed ps rises e =
     elim (closed_where_down ps rises) [
       | inl none ↦ absurd (let f : ends_down (tells ps) ≡ false = ap ends_down none in cc)
       | inr is ↦ ap (λ (b : Bool). ended_by b ps) (is ∙ e)
+    ]
+
+ended_closes : (closed : Bool) (ps : List Placed) → ended_by closed ps ≡ ending.Closed → closed ≡ true
+ended_closes true ps e = refl
+ended_closes false ps e = by_breaks (loss [] ps) (difference [] ps) e
+  where
+    by_breaks : (l d : Option ℕ) → broken l d ≡ ending.Closed → false ≡ true
+    by_breaks None None e = absurd cc
+    by_breaks (Some j) None e = absurd cc
+    by_breaks None (Some k) e = absurd cc
+    by_breaks (Some j) (Some k) e = by_first (nat_lt j k) e
+      where
+        by_first : (b : Bool) → cond b (ending.Lost j) (ending.Differs k) ≡ ending.Closed → false ≡ true
+        by_first true e = absurd cc
+        by_first false e = absurd cc
+
+-- one that is over tells nothing, or that it went down
+pub closed_tells : (ps : List Placed) → AreRising 0 ps → ended ps ≡ ending.Closed → (tells ps ≡ []) ⊎ (ends_down (tells ps) ≡ true)
+closed_tells ps rises e =
+    elim (closed_where_down ps rises) [
+      | inl none ↦ inl none
+      | inr is ↦ inr (sym is ∙ ended_closes (log_of ps).closed ps e)
     ]
 
 -- ---- once a down was told
@@ -297,4 +320,4 @@ down_is_all c told base seen later stands numbered e =
     let sure = told_sure c told base seen later stands numbered in
     let none : sure.0 ≡ [] = none_behind (map entry_as told) sure.0 (subst DownLast sure.1 (all_last ps)) e in
     let whole : tells ps ≡ map entry_as told = sure.1 ∙ ap (λ (es : List Entry). map entry_as told ++ es) none ∙ append-nil (map entry_as told) in
-    (whole, down_is_complete ps (all_rise base (seen ++ later) numbered) (ap ends_down whole ∙ e))
+    (whole, down_is_closed ps (all_rise base (seen ++ later) numbered) (ap ends_down whole ∙ e))

@@ -10,7 +10,7 @@ use Rattle.hsms_capture.specs.Known.{packet_of}
 use Rattle.hsms_capture.proofs.Absorbed.{absorbed, none_waits, stopped}
 use Rattle.hsms_capture.proofs.Draining.{goes_on, stops}
 use Rattle.hsms_capture.proofs.Ends.{either, from_first, from_second, of_span, in_span, goes_on as end_goes_on}
-use Rattle.hsms_capture.proofs.Lists.{Each, weaken, each_filter}
+use Rattle.hsms_capture.proofs.Lists.{Each, everywhere, weaken, each_filter}
 use Rattle.hsms_capture.proofs.Longer.{Holds, each_holds, within_own}
 use Rattle.hsms_capture.proofs.Queue.{Sorted, order_sorted}
 use Rattle.hsms_capture.proofs.Turned.{order_each, same_from}
@@ -196,7 +196,3 @@ all_wait before d =
     order_each (λ (q : Placed). waits before d q ≡ true) kept
     (weaken (λ (q : Placed). Unit {0} × (waits before d q ≡ true)) (λ (q : Placed). waits before d q ≡ true) kept (λ q h. h.1)
     (each_filter (λ (q : Placed). Unit {0}) (waits before d) before (everywhere before)))
-  where
-    everywhere : (ps : List Placed) → Each (λ (p : Placed). Unit {0}) ps
-    everywhere [] = tt
-    everywhere (p ∷ ps) = (tt, everywhere ps)

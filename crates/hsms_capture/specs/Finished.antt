@@ -17,9 +17,9 @@ broken (Some j) None = ending.Lost j
 broken None (Some k) = ending.Differs k
 broken (Some j) (Some k) = if nat_lt j k then ending.Lost j else ending.Differs k
 
--- whole, where the connection went down before that
+-- whole, where the connection was over before that
 abbrev pub ended_by : Bool → List Placed → Ending
-ended_by true ps = ending.Complete
+ended_by true ps = ending.Closed
 ended_by false ps = broken (loss [] ps) (difference [] ps)
 
 abbrev pub ended : List Placed → Ending

@@ -1,9 +1,10 @@
 -- What holds of the wire, whatever the code does.
-use Rattle.std.specs.Prelude.{◌%◌, ◌^◌, ◌+◌, ◌≡◌, ◌<◌, ◌≤◌, ◌⊎◌, ◌&&◌, ℕ, max, nat_le, nat_lt, if◌then◌else◌, Bool, List, [], ◌∷◌, ◌++◌, length, map, filter, Option, Some, is_some, true, false}
+use Rattle.std.specs.Prelude.{◌%◌, ◌^◌, ◌+◌, ◌≡◌, ◌<◌, ◌≤◌, ◌⊎◌, ◌&&◌, ℕ, max, nat_eq, nat_le, nat_lt, if◌then◌else◌, Bool, List, [], ◌∷◌, ◌++◌, length, map, filter, Option, Some, is_some, true, false}
+use Rattle.std.specs.List.{list_any}
 use Rattle.hsms_capture.specs.declared.waiting.Span.{Span}
 use Rattle.hsms_capture.specs.Message.{message_size}
 use Rattle.hsms_capture.specs.Told.{up, down, Entry, entry, has_up, tells}
-use Rattle.hsms_capture.specs.Wire.{End, other, Cell, cell_at, end_of, in_order, turns_at, Seen, Placed, Shown, same_end, stream_of, is_behind, loss, difference, nearest, shows_of, wire_shows}
+use Rattle.hsms_capture.specs.Wire.{End, other, Cell, cell_at, end_of, in_order, turns_at, Seen, Placed, Shown, same_end, stream_of, is_behind, loss, difference, nearest, places, shows_of, wire_shows}
 
 -- ---- the end of what is there, by the spans that wait in the order of their places
 
@@ -164,6 +165,16 @@ abbrev pub OnlyFirstIsUp : Type 0
 OnlyFirstIsUp =
     (ps : List Placed) (front : List Entry) (e : Entry) (rest : List Entry) → tells ps ≡ front ++ e ∷ rest
     → (front ≡ [] → e.told ≡ up) × (e.told ≡ up → front ≡ [])
+
+-- The packets of entries.
+abbrev pub EachEntry : (ℕ → Type 0) → List Entry → Type 0
+EachEntry P [] = Unit {0}
+EachEntry P (e ∷ es) = P e.packet × EachEntry P es
+
+-- Each entry is told at a packet of the connection.
+abbrev pub ToldAtPackets : Type 0
+ToldAtPackets =
+    (base : End → ℕ) (seen : List Seen) → EachEntry (λ n. list_any (λ s. nat_eq s.packet n) seen ≡ true) (tells (places base [] seen))
 
 -- ---- places
 

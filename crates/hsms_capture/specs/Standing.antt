@@ -55,6 +55,14 @@ ToldIsSure =
     (c : Connection) (told : List Happening) (base : End → ℕ) (seen later : List Seen) → Stands c told base seen → AreNumbered 0 (seen ++ later)
     → (rest : List Entry) × (tells (places base [] (seen ++ later)) ≡ map entry_as told ++ rest)
 
+-- Where it is known in the midst of a capture how what is told ends, that is how it ends, whatever follows: all that is
+-- told of these segments and any more was told, and then the connection is over, or a loss or a copy that differs is sure.
+abbrev pub EndingIsSure : Type 0
+EndingIsSure =
+    (c : Connection) (told : List Happening) (e : Ending) (base : End → ℕ) (seen later : List Seen) → c.ending ≡ Some e → Stands c told base seen
+    → AreNumbered 0 (seen ++ later)
+    → (map entry_as told ≡ tells (places base [] (seen ++ later))) × (e ≡ ended (places base [] (seen ++ later))) × (e ≡ ending.Complete → ⊥)
+
 -- Where these segments have no loss and no copy that differs, all that is told of them was told at the last of them.
 abbrev pub ToldAtOnce : Type 0
 ToldAtOnce =
@@ -66,13 +74,13 @@ ToldAtOnce =
 abbrev pub ClosedWhereDown : Type 0
 ClosedWhereDown = (ps : List Placed) → AreRising 0 ps → (tells ps ≡ []) ⊎ ((log_of ps).closed ≡ ends_down (tells ps))
 
--- Where it is told that it went down, all of it was told.
-abbrev pub DownIsComplete : Type 0
-DownIsComplete = (ps : List Placed) → AreRising 0 ps → ends_down (tells ps) ≡ true → ended ps ≡ ending.Complete
+-- Where it is told that it went down, it is over.
+abbrev pub DownIsClosed : Type 0
+DownIsClosed = (ps : List Placed) → AreRising 0 ps → ends_down (tells ps) ≡ true → ended ps ≡ ending.Closed
 
--- Once a connection has told that it went down, that is all of these segments and any more, and it ends whole.
+-- Once a connection has told that it went down, that is all of these segments and any more, and it is over.
 abbrev pub DownIsAll : Type 0
 DownIsAll =
     (c : Connection) (told : List Happening) (base : End → ℕ) (seen later : List Seen) → Stands c told base seen → AreNumbered 0 (seen ++ later)
     → ends_down (map entry_as told) ≡ true
-    → (tells (places base [] (seen ++ later)) ≡ map entry_as told) × (ended (places base [] (seen ++ later)) ≡ ending.Complete)
+    → (tells (places base [] (seen ++ later)) ≡ map entry_as told) × (ended (places base [] (seen ++ later)) ≡ ending.Closed)

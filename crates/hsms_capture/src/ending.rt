@@ -14,7 +14,9 @@ use std::collections::VecDeque;
 /// How what is told of a connection ends.
 #[derive(Clone, Copy, Debug, PartialEq, Eq)]
 pub enum Ending {
-    /// All of it was told.
+    /// The connection is over, and all of it was told: nothing that follows says more of it.
+    Closed,
+    /// All that its packets show was told, and more may follow.
     Complete,
     /// The capture lost something: from the packet with this number on nothing is told.
     Lost(u64),
@@ -74,7 +76,7 @@ pub(crate) fn finish(
     ensures times { OnOk result (TellsInTime due.old.items told.old.items due.new.items told.new.items) }
 {
     if tell_before(alloc, teller, due, least(lost, differs), told)? {
-        return Ok(Ending::Complete);
+        return Ok(Ending::Closed);
     }
     Ok(broken(lost, differs))
 }

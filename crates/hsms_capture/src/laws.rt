@@ -2,8 +2,8 @@
 
 ghost use Rattle.hsms_capture.specs.Connected.{LogIsTold};
 ghost use Rattle.hsms_capture.specs.Known.{TurnsGoOn};
-ghost use Rattle.hsms_capture.specs.Laws.{AbsorbGivesTheEnd, DownComesLast, EndGoesOn, EndIsEnd, FrontOfCapture, LossIsSure, MessagesHaveSizes, NearestIsFound, NearestIsNear, NothingBehindALoss, OneEnd, OnlyFirstIsUp, QueueGoesOn, QueueStays, QueueTakes, SettledIsSure, StreamsAreKept, UpComesFirst};
-ghost use Rattle.hsms_capture.specs.Standing.{ClosedWhereDown, DownIsAll, DownIsComplete, ToldAtOnce, ToldIsSure};
+ghost use Rattle.hsms_capture.specs.Laws.{AbsorbGivesTheEnd, DownComesLast, EndGoesOn, EndIsEnd, FrontOfCapture, LossIsSure, MessagesHaveSizes, NearestIsFound, NearestIsNear, NothingBehindALoss, OneEnd, OnlyFirstIsUp, QueueGoesOn, QueueStays, QueueTakes, SettledIsSure, StreamsAreKept, ToldAtPackets, UpComesFirst};
+ghost use Rattle.hsms_capture.specs.Standing.{ClosedWhereDown, DownIsAll, DownIsClosed, EndingIsSure, ToldAtOnce, ToldIsSure};
 ghost use Rattle.hsms_capture.specs.Time.{TimesNeverGoBack};
 
 /// Spans that wait in the order of their places give the end of what is there.
@@ -53,7 +53,7 @@ pub fn down_comes_last()
 /// then, whatever follows, and whatever is lost behind that.
 pub fn one_that_went_down_is_over()
     ensures over { ClosedWhereDown }
-    ensures whole { DownIsComplete }
+    ensures whole { DownIsClosed }
     ensures all { DownIsAll }
 {}
 
@@ -62,6 +62,12 @@ pub fn one_that_went_down_is_over()
 #[tactic(auto, using(crate::proofs::Connecting::told_sure))]
 pub fn what_was_told_is_sure()
     ensures { ToldIsSure }
+{}
+
+/// How what a [`Connection`](crate::Connection) tells ends, once it is known in the midst of a capture, is how it ends,
+/// whatever follows.
+pub fn a_known_ending_is_sure()
+    ensures { EndingIsSure }
 {}
 
 /// Nothing is held back where nothing is lacking: where the segments so far have no loss and no copy that differs, all
@@ -76,6 +82,12 @@ pub fn what_is_sure_is_told()
 #[tactic(auto, using(crate::proofs::Later::times_never_go_back))]
 pub fn times_never_go_back()
     ensures { TimesNeverGoBack }
+{}
+
+/// Each entry of a log is told at one of the connection's packets.
+#[tactic(auto, using(crate::proofs::Lasting::told_at_packets))]
+pub fn entries_are_told_at_packets()
+    ensures { ToldAtPackets }
 {}
 
 /// The messages of a direction are a front of its stream: none is left out, none made up.

@@ -173,7 +173,7 @@ fn tell_sure(
 {
     let limit = least(reading.losses.first(), reading.differs);
     if tell_before(alloc, &mut reading.teller, &mut reading.due, limit, told)? {
-        return Ok(Some(Ending::Complete));
+        return Ok(Some(Ending::Closed));
     }
     pass_both(&mut reading.teller.streams, received);
     Ok(None)

@@ -1,6 +1,5 @@
 -- What is told of a connection is what the definition tells of its segments.
 use Rattle.std.proofs.Common.{◌≡◌, ◌||◌, ◌&&◌, ◌++◌, ◌∷◌, ℕ, Bool, true, false, List, [], map, Option, Some, None, is_some, is_none, Box, Vec, Global, refl, sym, ap, subst, ◌∙◌}
-use Rattle.std.specs.Option.{option_or}
 use Rattle.std.proofs.lemmas.List.{append-nil, map-append}
 use Rattle.hsms_machine.specs.Settings.{Parameters}
 use Rattle.hsms_machine.specs.declared.entry.Event.TheVariants as logs_event
@@ -24,7 +23,7 @@ use Rattle.hsms_wire.specs.declared.course.Course.TheVariants as course
 use Rattle.hsms_wire.specs.declared.flow.Logs.{Logs}
 use Rattle.hsms_wire.specs.declared.report.Report.{Report}
 use Rattle.hsms_wire.specs.declared.shortfall.Shortfall.{Shortfall}
-use Rattle.hsms_wire.specs.Courses.{missing_by}
+use Rattle.hsms_wire.specs.Courses.{lack_behind}
 use Rattle.hsms_wire.specs.Report.{HasTold, IsVerdictOn, Telling}
 use Rattle.hsms_wire.specs.Logged.{AreEntries, JudgedIf, Shown, TellsIf, ToldOf, bare_resets, came_up, clock_by, clock_of, course_by, entries_logged, hears_entry, is_replaced_by, is_there, lack_by, replaced_at}
 use Rattle.hsms_wire.specs.Followed.{AreNotes, EndsBy, EndsHad, EndsHave, HaveHeard, HearsThem, IsNothing, TellsOnce, WhenTold, came_up_by, course_by_events, hears_event, logged_by, timed_by, times, unboxed_ends}
@@ -202,24 +201,27 @@ over_front most told es rest lack is over =
     by_told [] is over = absurd cc
     by_told (h ∷ hs) is over = ap is_there is
 
--- it is over by what was heard of it
+-- it is over by what was heard of it, at times that stay
 pub over_told : (a p : Parameters) (pair : Pair) (base : End → ℕ) (seen : List Seen) (replaced : Bool) (missing : Option Shortfall) (all : List Happening) (rest : List Entry)
-    → (lack : Option Shortfall) (logs : Logs) (old new : Report) → AreTimed (time_at (places base [] seen)) all → tells (places base [] seen) ≡ map entry_as all ++ rest
-    → HeardAfter a p (bare_resets seen) all (course.Over lack) logs → WhenTold (logs.is_up || is_some lack) pair lack (unboxed_ends logs.ends) old new
+    → (lack : Option Shortfall) (bare : List ℕ) (logs : Logs) (old new : Report) → AreTimed (time_at (places base [] seen)) all
+    → tells (places base [] seen) ≡ map entry_as all ++ rest
+    → map (timed_by (bare_resets seen)) (logged_by a.max all) ≡ map (timed_by bare) (logged_by a.max all)
+    → HeardAfter a p bare all (course.Over lack) logs → WhenTold (logs.is_up || is_some lack) pair lack (unboxed_ends logs.ends) old new
     → ToldOf a p pair base seen replaced missing old new
-over_told a p pair base seen replaced missing all rest lack logs old new timed is h when =
+over_told a p pair base seen replaced missing all rest lack bare logs old new timed is same h when =
     let es = tells (places base [] seen) in
     let f = over_front a.max all es rest lack is h.course_is in
     let has : ClosedBy (is_there es) false a p (map (timed_by (bare_resets seen)) (logged_by a.max all)) (unboxed_ends logs.ends) =
     subst (λ (b : Bool). ClosedBy b false a p (map (timed_by (bare_resets seen)) (logged_by a.max all)) (unboxed_ends logs.ends)) (sym f.2)
-    (had_closed a p (map (timed_by (bare_resets seen)) (logged_by a.max all)) logs.ends h.ends) in
+    (subst (λ (hs : List Happening). ClosedBy true false a p hs (unboxed_ends logs.ends)) (sym same)
+    (had_closed a p (map (timed_by bare) (logged_by a.max all)) logs.ends h.ends)) in
     told_of a p pair base seen replaced missing old new (course.Over lack) (ended (places base [] seen)) f.1 refl
     (tells_if a p pair (time_at (places base [] seen)) (bare_resets seen) all es false lack logs.is_up (unboxed_ends logs.ends) old new timed f.0 h.up (λ _. has) when)
 
 -- it goes on to how it ends
 pub ended_told : (a p : Parameters) (pair : Pair) (base : End → ℕ) (seen : List Seen) (replaced : Bool) (missing : Option Shortfall) (all : List Happening) (ending : Ending)
     → (lack : Option Shortfall) (closes up : Bool) (ends : Option Ends) (old new : Report) → AreTimed (time_at (places base [] seen)) all → map entry_as all ≡ tells (places base [] seen)
-    → ending ≡ ended (places base [] seen) → course_by_events a.max all ≡ course.Goes → up ≡ came_up_by all → lack ≡ option_or (missing_by ending) missing
+    → ending ≡ ended (places base [] seen) → course_by_events a.max all ≡ course.Goes → up ≡ came_up_by all → lack ≡ lack_behind ending missing
     → (replaced && is_none lack) ≡ closes → ((up || is_some lack) ≡ true → ClosedBy (is_there all) closes a p all ends)
     → WhenTold (up || is_some lack) pair lack ends old new → ToldOf a p pair base seen replaced missing old new
 ended_told a p pair base seen replaced missing all ending lack closes up ends old new timed is ended_is goes up_is lack_is closes_is has when =

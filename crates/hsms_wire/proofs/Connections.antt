@@ -2,11 +2,13 @@
 use Rattle.std.proofs.Common.{◌≡◌, ◌<◌, ◌+◌, ◌||◌, ◌&&◌, ◌++◌, ◌∷◌, ℕ, Bool, true, false, not, List, [], length, take, drop, get_or, map, Option, Some, None, is_some, is_none, Box, Global, inl, inr, refl, sym, ap, subst, ◌∙◌, append_assoc}
 use Rattle.std.specs.Prelude.{Result, Ok, Err, IfOk, OnOk}
 use Rattle.std.proofs.lemmas.List.{append-nil, drop_more, map-append, map-id, take-append-drop}
-use Rattle.std.specs.Option.{option_or}
 use Rattle.std.proofs.lemmas.Grind.{flat_map-append}
 use Rattle.hsms_machine.specs.Settings.{Parameters}
 use Rattle.hsms_capture.specs.declared.connection.Connection.{Connection}
 use Rattle.hsms_capture.specs.declared.ending.Ending.{Ending}
+use Rattle.hsms_capture.specs.declared.ending.Ending.TheVariants.{Closed as closed_ending}
+use Rattle.hsms_capture.specs.declared.connection.ConnectionFault.{ConnectionFault}
+use Rattle.hsms_capture.specs.declared.connection.ConnectionFault.TheVariants as stop
 use Rattle.hsms_capture.specs.declared.telling.Happening.{Happening}
 use Rattle.hsms_capture.specs.Wire.{End, Placed, Seen, places}
 use Rattle.hsms_capture.specs.Connected.{AreRising}
@@ -14,10 +16,13 @@ use Rattle.hsms_capture.specs.Finished.{ended}
 use Rattle.hsms_capture.specs.Known.{bases}
 use Rattle.hsms_capture.specs.Laws.{AreNumbered}
 use Rattle.hsms_capture.specs.Standing.{EndsAs, Stands, TakesOn}
+use Rattle.hsms_capture.specs.Stopping.{StopsBy}
 use Rattle.hsms_capture.specs.Telling.{entry_as}
 use Rattle.hsms_capture.specs.Time.{AreTimed, EndsInTime, IsInTime, TakesInTime, time_at}
 use Rattle.hsms_capture.specs.Told.{tells}
-use Rattle.hsms_capture.proofs.Connecting.{all_rise, ends_before, told_sure}
+use Rattle.hsms_capture.proofs.Clocked.{timed_later}
+use Rattle.hsms_capture.proofs.Connecting.{all_rise, told_sure}
+use Rattle.hsms_capture.proofs.Lasting.{ending_sure, numbered_front}
 use Rattle.hsms_accounts.specs.declared.ends.Ends.{Ends}
 use Rattle.hsms_accounts.specs.declared.pair.Pair.{Pair}
 use Rattle.hsms_wire.specs.declared.course.Course.{Course}
@@ -31,17 +36,14 @@ use Rattle.hsms_wire.specs.declared.report.Manner.TheVariants.{Verdicts}
 use Rattle.hsms_wire.specs.declared.report.Report.{Report}
 use Rattle.hsms_wire.specs.declared.shortfall.Shortfall.{Shortfall}
 use Rattle.hsms_wire.specs.declared.shortfall.Shortfall.TheVariants as lacks
-use Rattle.hsms_wire.specs.Courses.{missing_by}
-use Rattle.hsms_wire.specs.Logged.{Shown, TellsIf, ToldOf, bare_of, bare_resets, came_up, clock_of, course_by, entries_logged, is_replaced_by, is_there}
-use Rattle.hsms_wire.specs.Followed.{BeginsWith, DownBy, EndsHave, EndsOpen, Follows, FollowsAll, FollowsOn, FollowsThem, GivesUp, GoesOn, HearsThem, IsFollowed, Replaces, TakesSegment, WhenTold, came_up_by, course_by_events, hears_event, logged_by, seen_waiting, timed_by, unboxed_ends}
+use Rattle.hsms_wire.specs.Courses.{lack_behind}
+use Rattle.hsms_wire.specs.Logged.{Shown, TellsIf, ToldForGood, ToldOf, bare_of, bare_resets, came_up, clock_of, course_by, entries_logged, is_replaced_by, is_there}
+use Rattle.hsms_wire.specs.Followed.{BeginsWith, DownBy, EndsHave, EndsOpen, Follows, FollowsAll, FollowsOn, FollowsThem, GivesUp, GoesOn, HearsThem, IsFollowed, IsTooMuch, Replaces, TakesSegment, WhenTold, came_up_by, course_by_events, hears_event, logged_by, seen_waiting, timed_by, unboxed_ends}
+use Rattle.hsms_wire.proofs.Lasting.{closed_never_up, lack_lasts, never_closes, times_last}
 use Rattle.hsms_wire.proofs.Logging.{all_logged, times_stay}
 use Rattle.hsms_wire.proofs.Concluding.{ClosedBy, HeardAfter, all_heard, closed_by_next, ended_told, have_closed, heard_after, nothing_there, over_told, tells_if, there_same}
 
 -- ---- segments are numbered
-
-pub numbered_front : (last : ℕ) (xs ys : List Seen) → AreNumbered last (xs ++ ys) → AreNumbered last xs
-numbered_front last [] ys h = tt
-numbered_front last (x ∷ xs) ys h = (h.0, numbered_front x.packet xs ys h.1)
 
 numbered_all : (xs : List Seen) → AreNumbered 0 xs → AreNumbered 0 (xs ++ [])
 numbered_all xs h = subst (AreNumbered 0) (sym (append-nil xs)) h
@@ -66,8 +68,7 @@ in_time_next c next s base before told now takes stands timed =
 timed_now : (c : Connection) (told : List Happening) (base : End → ℕ) (seen : List Seen) → AreNumbered 0 seen → IsInTime c told base seen
     → AreTimed (time_at (places base [] seen)) told
 timed_now c told base seen numbered timed =
-    let ps = places base [] seen in
-    subst (λ (z : List Placed). AreTimed (time_at z) told) (append-nil ps) (timed [] (subst (AreRising 0) (sym (append-nil ps)) (all_rise base seen numbered))).1
+    subst (λ (z : List Seen). AreTimed (time_at (places base [] z)) told) (append-nil seen) (timed_later c told base seen [] (numbered_all seen numbered) timed)
 
 bares : (before : List Seen) (s : Seen) (old new : List ℕ) → new ≡ old ++ bare_of s → old ≡ bare_resets before → new ≡ bare_resets (before ++ s ∷ [])
 bares before s old new is was =
@@ -84,36 +85,38 @@ heard_next a p base before s o first logs now c f notes hears =
 pub follow_over : (a p : Parameters) (pair : Pair) (base : End → ℕ) (before : List Seen) (s : Seen) (o : Open) (next : Connection) (first logs : Logs) (now : List Happening)
     → (lack : Option Shortfall) (old new : Report) → AreNumbered 0 (before ++ s ∷ []) → IsFollowed a p base before o → TakesOn o.connection s [] next now
     → TakesInTime o.connection s [] next now → with_bare o.logs first s → HearsThem a p first now (course.Over lack) logs
-    → WhenTold (logs.is_up || is_some lack) pair lack (unboxed_ends logs.ends) old new → ToldOf a p pair base (before ++ s ∷ []) false None old new
-follow_over a p pair base before s o next first logs now lack old new numbered f takes times notes hears when =
+    → WhenTold (logs.is_up || is_some lack) pair lack (unboxed_ends logs.ends) old new → ToldForGood a p pair base (before ++ s ∷ []) old new
+follow_over a p pair base before s o next first logs now lack old new numbered f takes times notes hears when later replaced missing whole =
     let seen = before ++ s ∷ [] in
     let all = f.told ++ now in
     let stands = stands_next o.connection next s base before f.told now takes numbered f.stands in
-    let sure = told_sure next all base seen [] stands (numbered_all seen numbered) in
-    over_told a p pair base seen false None all sure.0 lack logs old new
-    (timed_now next all base seen numbered (in_time_next o.connection next s base before f.told now times f.stands f.timed))
-    (subst (λ (z : List Seen). tells (places base [] z) ≡ map entry_as all ++ sure.0) (append-nil seen) sure.1)
+    let here = told_sure next all base seen [] stands (numbered_all seen numbered) in
+    let sure = told_sure next all base seen later stands whole in
+    over_told a p pair base (seen ++ later) replaced missing all sure.0 lack (bare_resets seen) logs old new
+    (timed_later next all base seen later whole (in_time_next o.connection next s base before f.told now times f.stands f.timed)) sure.1
+    (times_last a.max base seen later all here.0 whole (subst (λ (z : List Seen). tells (places base [] z) ≡ map entry_as all ++ here.0) (append-nil seen) here.1))
     (heard_next a p base before s o first logs now (course.Over lack) f notes hears) when
-
-or_none : (lack : Option Shortfall) → lack ≡ option_or lack None
-or_none None = refl
-or_none (Some x) = refl
 
 pub follow_ended : (a p : Parameters) (pair : Pair) (base : End → ℕ) (before : List Seen) (s : Seen) (o : Open) (next : Connection) (ending : Ending) (first logs : Logs)
     → (now : List Happening) (lack : Option Shortfall) (old new : Report) → AreNumbered 0 (before ++ s ∷ []) → IsFollowed a p base before o → TakesOn o.connection s [] next now
-    → TakesInTime o.connection s [] next now → next.ending ≡ Some ending → lack ≡ missing_by ending → with_bare o.logs first s
+    → TakesInTime o.connection s [] next now → next.ending ≡ Some ending → lack ≡ lack_behind ending None → with_bare o.logs first s
     → HearsThem a p first now course.Goes logs → WhenTold (logs.is_up || is_some lack) pair lack (unboxed_ends logs.ends) old new
-    → ToldOf a p pair base (before ++ s ∷ []) false None old new
-follow_ended a p pair base before s o next ending first logs now lack old new numbered f takes times is lack_is notes hears when =
+    → ToldForGood a p pair base (before ++ s ∷ []) old new
+follow_ended a p pair base before s o next ending first logs now lack old new numbered f takes times is lack_is notes hears when later replaced missing whole =
     let seen = before ++ s ∷ [] in
     let all = f.told ++ now in
+    let ps = places base [] (seen ++ later) in
     let stands = stands_next o.connection next s base before f.told now takes numbered f.stands in
-    let whole = ends_before next all ending is base seen [] numbered stands in
+    let sure = ending_sure next all ending base seen later is stands whole in
     let h = heard_next a p base before s o first logs now course.Goes f notes hears in
     let up : logs.is_up ≡ came_up_by all = h.up ∙ ap came_up_by (all_logged (hears_event a.max) (λ h. h.packet) all h.course_is) in
-    ended_told a p pair base seen false None all ending lack false logs.is_up (unboxed_ends logs.ends) old new
-    (timed_now next all base seen numbered (in_time_next o.connection next s base before f.told now times f.stands f.timed)) whole.0 whole.1 h.course_is up (lack_is ∙ or_none (missing_by ending)) refl
-    (λ _. have_closed a p all logs.ends (all_heard a p (bare_resets seen) all logs h)) when
+    let down : ending ≡ closed_ending → logs.is_up ≡ false =
+    λ e. up ∙ closed_never_up a.max ps all (all_rise base (seen ++ later) whole) sure.0 h.course_is (sym sure.1 ∙ e) in
+    ended_told a p pair base (seen ++ later) replaced missing all ending lack (replaced && is_none lack) logs.is_up (unboxed_ends logs.ends) old new
+    (timed_later next all base seen later whole (in_time_next o.connection next s base before f.told now times f.stands f.timed)) sure.0 sure.1 h.course_is up
+    (lack_lasts ending lack missing lack_is sure.2) refl
+    (λ told. subst (λ (b : Bool). ClosedBy (is_there all) b a p all (unboxed_ends logs.ends)) (sym (never_closes ending logs.is_up replaced lack lack_is sure.2 down told))
+    (have_closed a p all logs.ends (all_heard a p (bare_resets seen) all logs h))) when
 
 pub follow_goes : (a p : Parameters) (base : End → ℕ) (before : List Seen) (s : Seen) (o : Open) (next : Connection) (first logs : Logs) (now : List Happening)
     → AreNumbered 0 (before ++ s ∷ []) → IsFollowed a p base before o → TakesOn o.connection s [] next now → TakesInTime o.connection s [] next now
@@ -139,14 +142,13 @@ never_replaced (course.Over other) lack = refl
 
 pub follow_full : (a p : Parameters) (pair : Pair) (base : End → ℕ) (before : List Seen) (s : Seen) (o : Open) (first logs : Logs) (now : List Happening)
     → (lack : Option Shortfall) (old new : Report) → AreNumbered 0 (before ++ s ∷ []) → IsFollowed a p base before o → lack ≡ Some (lacks.Full s.packet) → now ≡ []
-    → with_bare o.logs first s → HearsThem a p first now course.Goes logs → WhenTold (logs.is_up || is_some lack) pair lack (unboxed_ends logs.ends) old new
+    → ((base : End → ℕ) (before : List Seen) (away : List Happening) → Stands o.connection (away ++ []) base before → IsTooMuch o.connection base before s) → with_bare o.logs first s → HearsThem a p first now course.Goes logs → WhenTold (logs.is_up || is_some lack) pair lack (unboxed_ends logs.ends) old new
     → GivesUp a p pair base before s old new
-follow_full a p pair base before s o first logs now lack old new numbered f lack_is none notes hears when =
+follow_full a p pair base before s o first logs now lack old new numbered f lack_is none much notes hears when =
     let earlier = numbered_front 0 before (s ∷ []) numbered in
     let told = f.told in
     let es = map entry_as told in
     let full = Some (lacks.Full s.packet) in
-    let sure = told_sure o.connection told base before [] f.stands (numbered_all before earlier) in
     let all : told ++ now ≡ told = ap (λ (hs : List Happening). told ++ hs) none ∙ append-nil told in
     let h = subst (λ (hs : List Happening). HeardAfter a p (bare_resets (before ++ s ∷ [])) hs course.Goes logs) all (heard_next a p base before s o first logs now course.Goes f notes hears) in
     let whole = all_logged (hears_event a.max) (λ h. h.packet) told f.goes in
@@ -157,12 +159,19 @@ follow_full a p pair base before s o first logs now lack old new numbered f lack
     let says = tells_if a p pair (time_at (places base [] before)) (bare_resets before) told es false full logs.is_up (unboxed_ends logs.ends) old new
     (timed_now o.connection told base before earlier f.timed) refl h.up (λ _. has)
     (subst (λ (l : Option Shortfall). WhenTold (logs.is_up || is_some l) pair l (unboxed_ends logs.ends) old new) lack_is when) in (
-      es,
-      sure.0,
-      subst (λ (z : List Seen). tells (places base [] z) ≡ es ++ sure.0) (append-nil before) sure.1,
+      o.connection,
+      told,
+      f.stands,
+      much base before told (subst (λ (hs : List Happening). Stands o.connection hs base before) (sym (append-nil told)) f.stands),
       subst (λ (b : Bool). TellsIf (came_up (entries_logged a.max es) || is_some full) (Shown a p pair (clock_of base before) es b full) old new)
           (sym (never_replaced (course_by a.max es) full)) says,
     )
+
+pub too_much : (fault : ConnectionFault) (c : Connection) (told : List Happening) (s : Seen) → (fault ≡ stop.Memory → ⊥) → StopsBy c told s fault
+    → (base : End → ℕ) (before : List Seen) (away : List Happening) → Stands c (away ++ told) base before → IsTooMuch c base before s
+too_much stop.Far c told s other stops base before away stands = inl (stops.1 base before away stands)
+too_much stop.Full c told s other stops base before away stands = inr (stops.1 base before away stands)
+too_much stop.Memory c told s other stops base before away stands = absurd (other refl)
 
 pub follows : (c : Course) (t : Taken) (a p : Parameters) (pair : Pair) (s : Seen) (o : Open) (first logs : Logs) (now : List Happening) (left : Option Open) (old new : Report)
     → TakesSegment o.connection s [] now t → with_bare o.logs first s → HearsThem a p first now c logs → GoesOn pair logs c t left old new
@@ -174,7 +183,7 @@ follows course.Goes (taken.Ends lack) a p pair s o first logs now left old new t
     subst (λ (l : Option Open). FollowsOn a p pair base before s l old new) (sym goes.0)
     (elim takes [
       | inl t ↦ inl (follow_ended a p pair base before s o t.0 t.1 first logs now lack old new numbered f t.4 t.5 t.2 t.3 notes hears goes.1)
-      | inr full ↦ inr (follow_full a p pair base before s o first logs now lack old new numbered f full.0 full.1 notes hears goes.1)
+      | inr full ↦ inr (follow_full a p pair base before s o first logs now lack old new numbered f full.0 full.1 full.2 notes hears goes.1)
     ])
 follows (course.Over lack) (taken.Goes next) a p pair s o first logs now left old new takes notes hears goes base before numbered f =
     subst (λ (l : Option Open). FollowsOn a p pair base before s l old new) (sym goes.0)
@@ -223,8 +232,8 @@ pub end_over : (a p : Parameters) (pair : Pair) (replaced : Bool) (missing : Opt
     → ToldOf a p pair base seen replaced missing old new
 end_over a p pair replaced missing o logs now ending lack old new ends times hears when base seen numbered f =
     let all = f.told ++ now in
-    over_told a p pair base seen replaced missing all [] lack logs old new (all_timed a p base seen o now f numbered times)
-    (sym (all_told a p base seen o now ending f numbered ends).0 ∙ sym (append-nil (map entry_as all))) (heard_last a p base seen o logs now (course.Over lack) f hears) when
+    over_told a p pair base seen replaced missing all [] lack (bare_resets seen) logs old new (all_timed a p base seen o now f numbered times)
+    (sym (all_told a p base seen o now ending f numbered ends).0 ∙ sym (append-nil (map entry_as all))) refl (heard_last a p base seen o logs now (course.Over lack) f hears) when
 
 replaced_closed : (a p : Parameters) (all : List Happening) (old new : Option (Box Ends Global)) → EndsHave a p all old → Replaces old new
     → ClosedBy (is_there all) true a p all (unboxed_ends new)
@@ -240,7 +249,7 @@ nothing_lacks false (Some x) e = absurd cc
 
 pub end_goes : (a p : Parameters) (pair : Pair) (replaced : Bool) (missing : Option Shortfall) (o : Open) (logs last : Logs) (now : List Happening) (ending : Ending)
     → (lack : Option Shortfall) (old new : Report) → EndsAs o.connection [] now ending → EndsInTime o.connection [] now → HearsThem a p o.logs now course.Goes logs
-    → lack ≡ option_or (missing_by ending) missing → DownBy ((replaced && is_none lack) && logs.is_up) logs last
+    → lack ≡ lack_behind ending missing → DownBy ((replaced && is_none lack) && logs.is_up) logs last
     → WhenTold (last.is_up || is_some lack) pair lack (unboxed_ends last.ends) old new → (base : End → ℕ) (seen : List Seen) → AreNumbered 0 seen → IsFollowed a p base seen o
     → ToldOf a p pair base seen replaced missing old new
 end_goes a p pair replaced missing o logs last now ending lack old new ends times hears lack_is downs when base seen numbered f =
@@ -290,7 +299,7 @@ end_over_ok (Err stop) pair replaced missing o logs empty now ending c lack old 
 pub end_goes_ok : {E : Type 0} (result : Result (Unit {0}) E) (pair : Pair) (replaced : Bool) (missing : Option Shortfall) (o : Open) (logs last : Logs) (empty now : List Happening)
     → (ending : Ending) (c : Course) (lack : Option Shortfall) (downs : Bool) (old mid down new : Report) → empty ≡ [] → EndsAs o.connection empty now ending
     → EndsInTime o.connection empty now → c ≡ course.Goes → (old.manner ≡ Verdicts → HearsThem old.active old.passive o.logs now c logs)
-    → (old.manner ≡ Verdicts → mid ≡ old) → lack ≡ option_or (missing_by ending) missing → downs ≡ (replaced && is_none lack)
+    → (old.manner ≡ Verdicts → mid ≡ old) → lack ≡ lack_behind ending missing → downs ≡ (replaced && is_none lack)
     → (mid.manner ≡ Verdicts → DownBy (downs && logs.is_up) logs last) → (mid.manner ≡ Verdicts → down ≡ mid)
     → OnOk result (down.manner ≡ Verdicts → WhenTold (last.is_up || is_some lack) pair lack (unboxed_ends last.ends) down new)
     → OnOk result (EndsOpen pair replaced missing o old new)

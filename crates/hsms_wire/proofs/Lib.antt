@@ -5,5 +5,6 @@ mod Quiet
 mod Logging
 mod Following
 mod Concluding
+mod Lasting
 mod Connections
 mod Stages

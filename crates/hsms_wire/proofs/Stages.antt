@@ -1,13 +1,17 @@
 -- A connection by the number of its SYN.
-use Rattle.std.proofs.Common.{◌≡◌, ◌+◌, ◌%◌, ◌^◌, ◌&&◌, ◌++◌, ◌∷◌, ℕ, Bool, true, false, cond, List, [], map, Option, Some, None, Vec, Global, refl, sym, ap, subst, ◌∙◌}
+use Rattle.std.proofs.Common.{◌≡◌, ◌+◌, ◌%◌, ◌^◌, ◌&&◌, ◌++◌, ◌∷◌, ℕ, Bool, true, false, cond, List, [], map, Option, Some, None, Vec, Global, inl, inr, refl, sym, ap, subst, ◌∙◌, append_assoc}
+use Rattle.std.proofs.lemmas.List.{append-nil}
 use Rattle.std.specs.Prelude.{Result, Ok, Err, IfOk, OnOk}
+use Rattle.hsms_machine.specs.Settings.{Parameters}
 use Rattle.hsms_capture.specs.declared.packet.Segment.{Segment}
 use Rattle.hsms_capture.specs.declared.packet.Side.{Side}
 use Rattle.hsms_capture.specs.declared.packet.Side.TheVariants as side
-use Rattle.hsms_capture.specs.Wire.{passive, same_end, Seen}
+use Rattle.hsms_capture.specs.Wire.{End, passive, same_end, Seen}
 use Rattle.hsms_capture.specs.Known.{bases, end_at, seen_of}
+use Rattle.hsms_capture.specs.Laws.{AreNumbered}
 use Rattle.hsms_capture.specs.Message.{cells_of}
 use Rattle.hsms_accounts.specs.declared.pair.Pair.{Pair}
+use Rattle.hsms_wire.specs.declared.flow.Flow.{Flow}
 use Rattle.hsms_wire.specs.declared.flow.Open.{Open}
 use Rattle.hsms_wire.specs.declared.flow.Stage.{Stage}
 use Rattle.hsms_wire.specs.declared.flow.Stage.TheVariants as stage
@@ -16,7 +20,8 @@ use Rattle.hsms_wire.specs.declared.report.Manner.TheVariants.{Verdicts}
 use Rattle.hsms_wire.specs.declared.report.Report.{Report}
 use Rattle.hsms_wire.specs.declared.shortfall.Shortfall.{Shortfall}
 use Rattle.hsms_wire.specs.Followed.{BeginsWith, EndsOpen, Follows, FollowsThem, seen_waiting}
-use Rattle.hsms_wire.specs.Staged.{EndsBy, EndsStage, OverBy, StageGoes, StageIs, TakesStage, ToldUnanswered, WaitsOn, answered_by, answers, begins_with_syn, if_answered, is_answer, is_number, is_passive, stage_by}
+use Rattle.hsms_wire.specs.Logged.{ToldForGood, ToldOf}
+use Rattle.hsms_wire.specs.Staged.{EndsBy, EndsFlows, EndsStage, OverBy, StageGoes, StageIs, TakesStage, ToldUnanswered, WaitsOn, answered_by, answers, begins_with_syn, if_answered, is_answer, is_number, is_passive, stage_by}
 
 -- ---- the SYN of the passive end
 
@@ -78,11 +83,21 @@ isnt_answered number s is = by_answer (answers number s) refl is
 
 -- ---- one segment more
 
+good_more : (a p : Parameters) (pair : Pair) (base : End → ℕ) (xs ys : List Seen) (old new : Report) → ToldForGood a p pair base xs old new
+    → ToldForGood a p pair base (xs ++ ys) old new
+good_more a p pair base xs ys old new good later replaced missing numbered =
+    let whole : (xs ++ ys) ++ later ≡ xs ++ (ys ++ later) = append_assoc xs ys later in
+    subst (λ (ss : List Seen). ToldOf a p pair base ss replaced missing old new) (sym whole)
+    (good (ys ++ later) replaced missing (subst (AreNumbered 0) whole numbered))
+
 pub take_open : (pair : Pair) (begins : Option ℕ) (s : Seen) (o : Open) (left : Option Open) (old new : Report) → Follows pair s o left old new
     → TakesStage pair begins s (stage.Open o) (stage_by left) old new
 take_open pair begins s o None old new goes verdicts number is seen numbered st =
     subst (λ (m : Option ℕ). OverBy m old.active old.passive pair number (seen ++ s ∷ []) old new) (sym (answered_kept number seen s st.0 st.1))
-    (seen, s, [], refl, goes verdicts (bases number st.0) seen numbered st.2)
+    (elim (goes verdicts (bases number st.0) seen numbered st.2) [
+      | inl good ↦ inl good
+      | inr full ↦ inr (seen, s, [], refl, full)
+    ])
 take_open pair begins s o (Some next) old new goes verdicts number is seen numbered st =
     let on = goes verdicts (bases number st.0) seen numbered st.2 in
     (on.0, (st.0, answered_kept number seen s st.0 st.1, on.1))
@@ -102,7 +117,13 @@ take_begun pair begins s octets kept waiting left old new answered goes verdicts
         → StageGoes old.active old.passive pair number (seen ++ seen_of s octets ∷ []) (stage_by l) old new
     by_left None them now =
         subst (λ (m : Option ℕ). OverBy m old.active old.passive pair number (seen ++ seen_of s octets ∷ []) old new) (sym now)
-        (them.0, them.1, them.2, them.3, them.4)
+        (elim them.4 [
+          | inl good ↦ inl
+              (subst (λ (ss : List Seen). ToldForGood old.active old.passive pair (bases number s.number) ss old new)
+              (append_assoc them.0 (them.1 ∷ []) them.2 ∙ sym them.3)
+              (good_more old.active old.passive pair (bases number s.number) (them.0 ++ them.1 ∷ []) them.2 old new good))
+          | inr full ↦ inr (them.0, them.1, them.2, them.3, full)
+        ])
     by_left (Some o) them now = (them.0, (s.number, now, them.1))
 
 pub take_waits : {E : Type 0} (result : Result Stage E) (pair : Pair) (begins : Option ℕ) (s : Segment) (octets : List ℕ) (waiting : Vec Waiting Global) (old new : Report)
@@ -152,3 +173,28 @@ pub end_never : {E : Type 0} (result : Result (Unit {0}) E) (pair : Pair) (repla
     → ((number : ℕ) (seen : List Seen) → StageIs old.active old.passive number seen st → ⊥) → OnOk result (EndsStage pair replaced missing st old new)
 end_never (Ok done) pair replaced missing st old new never = λ verdicts number seen numbered h. absurd (never number seen h)
 end_never (Err stop) pair replaced missing st old new never = tt
+
+-- of one connection more
+pub flows_more : (missing : Option Shortfall) (flows : List (Pair × Flow)) (pair : Pair) (flow : Flow) (old mid new : Report) → EndsFlows missing flows old mid
+    → EndsStage pair false missing flow.stage mid new → EndsFlows missing (flows ++ (pair, flow) ∷ []) old new
+flows_more missing [] pair flow old mid new before ends = (new, subst (λ (r : Report). EndsStage pair false missing flow.stage r new) before ends, refl)
+flows_more missing ((other, first) ∷ flows) pair flow old mid new before ends =
+    (before.0, before.1, flows_more missing flows pair flow before.0 mid new before.2 ends)
+
+-- so far the first ones were told, and the others are left
+abbrev pub AreEnded : Option Shortfall → List (Pair × Flow) → List (Pair × Flow) → Report → Report → Type 0
+AreEnded missing all left old new = (done : List (Pair × Flow)) × (all ≡ done ++ left) × EndsFlows missing done old new
+
+pub flows_turn : (missing : Option Shortfall) (all left rest : List (Pair × Flow)) (pair : Pair) (flow : Flow) (old mid new : Report) → AreEnded missing all left old mid
+    → left ≡ (pair, flow) ∷ rest → EndsStage pair false missing flow.stage mid new → AreEnded missing all rest old new
+flows_turn missing all left rest pair flow old mid new ended takes ends = (
+  ended.0 ++ (pair, flow) ∷ [],
+  ended.1 ∙ ap (λ (fs : List (Pair × Flow)). ended.0 ++ fs) takes ∙ sym (append_assoc ended.0 ((pair, flow) ∷ []) rest),
+  flows_more missing ended.0 pair flow old mid new ended.2 ends,
+)
+
+pub flows_ended : (missing : Option Shortfall) (all left : List (Pair × Flow)) (old new : Report) → AreEnded missing all left old new → left ≡ []
+    → EndsFlows missing all old new
+flows_ended missing all left old new ended none =
+    subst (λ (fs : List (Pair × Flow)). EndsFlows missing fs old new)
+    (sym (ended.1 ∙ ap (λ (fs : List (Pair × Flow)). ended.0 ++ fs) none ∙ append-nil ended.0)) ended.2

@@ -15,8 +15,10 @@ course_behind heard.Goes packet = Goes
 course_behind heard.Down packet = Over None
 course_behind heard.Length packet = Over (Some (Length packet))
 
--- what a connection lacks by how what is told of it ends
-abbrev pub missing_by : Ending → Option Shortfall
-missing_by ending.Complete = None
-missing_by (ending.Lost packet) = Some (Lost packet)
-missing_by (ending.Differs packet) = Some (Differs packet)
+-- what a connection lacks by how what is told of it ends, where something may be missing behind it: nothing that follows
+-- says more of one that is over
+abbrev pub lack_behind : Ending → Option Shortfall → Option Shortfall
+lack_behind ending.Closed missing = None
+lack_behind ending.Complete missing = missing
+lack_behind (ending.Lost packet) missing = Some (Lost packet)
+lack_behind (ending.Differs packet) missing = Some (Differs packet)

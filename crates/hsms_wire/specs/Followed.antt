@@ -16,8 +16,9 @@ use Rattle.hsms_capture.specs.Wire.{End, Seen, places}
 use Rattle.hsms_capture.specs.Known.{bases, seen_of}
 use Rattle.hsms_capture.specs.Laws.{AreNumbered}
 use Rattle.hsms_capture.specs.Standing.{Stands, TakesOn}
+use Rattle.hsms_capture.specs.Stopping.{EndsPast, IsFar}
+use Rattle.hsms_capture.specs.Telling.{entry_as}
 use Rattle.hsms_capture.specs.Time.{IsInTime, TakesInTime}
-use Rattle.hsms_capture.specs.Told.{Entry, tells}
 use Rattle.hsms_accounts.specs.Account.{HasLogged, Note}
 use Rattle.hsms_accounts.specs.Ends.{Adds, Records, heard_of, note_of}
 use Rattle.hsms_accounts.specs.declared.account.Remark.TheVariants as remark
@@ -37,8 +38,8 @@ use Rattle.hsms_wire.specs.declared.report.Manner.TheVariants.{Verdicts}
 use Rattle.hsms_wire.specs.declared.report.Report.{Report}
 use Rattle.hsms_wire.specs.declared.shortfall.Shortfall.{Shortfall}
 use Rattle.hsms_wire.specs.declared.shortfall.Shortfall.TheVariants as lacks
-use Rattle.hsms_wire.specs.Courses.{missing_by}
-use Rattle.hsms_wire.specs.Logged.{TellsOf, ToldOf, bare_resets, clock_of, course_of, is_among, logged}
+use Rattle.hsms_wire.specs.Courses.{lack_behind}
+use Rattle.hsms_wire.specs.Logged.{TellsOf, ToldForGood, ToldOf, bare_resets, clock_of, course_of, is_among, logged}
 use Rattle.hsms_wire.specs.Report.{HasTold, IsVerdictOn}
 
 -- ---- what both ends have heard
@@ -161,12 +162,17 @@ DownBy true old new = (new.is_up ≡ old.is_up) × Replaces old.ends new.ends
 
 -- ---- a segment is taken
 
+-- a stream has come too far, or too much would wait
+abbrev pub IsTooMuch : Connection → (End → ℕ) → List Seen → Seen → Type 0
+IsTooMuch c base before s = IsFar (places base [] before) ⊎ EndsPast c.reading base (places base [] before) s
+
 abbrev pub TakesSegment : Connection → Seen → List Happening → List Happening → Taken → Type 0
 TakesSegment c s told later (taken.Goes next) = (next.ending ≡ None) × TakesOn c s told next later × TakesInTime c s told next later
 TakesSegment c s told later (taken.Ends lack) =
-    ((next : Connection) × (ending : Ending) × (next.ending ≡ Some ending) × (lack ≡ missing_by ending)
+    ((next : Connection) × (ending : Ending) × (next.ending ≡ Some ending) × (lack ≡ lack_behind ending None)
     × TakesOn c s told next later × TakesInTime c s told next later)
-    ⊎ ((lack ≡ Some (lacks.Full s.packet)) × (later ≡ told))
+    ⊎ ((lack ≡ Some (lacks.Full s.packet)) × (later ≡ told)
+    × ((base : End → ℕ) (before : List Seen) (away : List Happening) → Stands c (away ++ told) base before → IsTooMuch c base before s))
 
 -- it goes on, or it is over, by what was heard of it or by what it lacks
 abbrev pub GoesOn : Pair → Logs → Course → Taken → Option Open → Report → Report → Type 0
@@ -184,14 +190,14 @@ pub record IsFollowed (a p : Parameters) (base : End → ℕ) (seen : List Seen)
   pub bare : o.logs.bare_resets.items ≡ bare_resets seen
   pub ends : EndsHave a p told o.logs.ends
 
--- it is given up with a segment: both logs end with a front of what is told of those before it
+-- it is given up with a segment, with which too much would wait: both logs end with what was told of those before it
 abbrev pub GivesUp : Parameters → Parameters → Pair → (End → ℕ) → List Seen → Seen → Report → Report → Type 0
 GivesUp a p pair base before s old new =
-    (front rest : List Entry) × (tells (places base [] before) ≡ front ++ rest)
-    × TellsOf a p pair (clock_of base before) front false (Some (lacks.Full s.packet)) old new
+    (c : Connection) × (told : List Happening) × Stands c told base before × IsTooMuch c base before s
+    × TellsOf a p pair (clock_of base before) (map entry_as told) false (Some (lacks.Full s.packet)) old new
 
 abbrev pub FollowsOn : Parameters → Parameters → Pair → (End → ℕ) → List Seen → Seen → Option Open → Report → Report → Type 0
-FollowsOn a p pair base before s None old new = ToldOf a p pair base (before ++ s ∷ []) false None old new ⊎ GivesUp a p pair base before s old new
+FollowsOn a p pair base before s None old new = ToldForGood a p pair base (before ++ s ∷ []) old new ⊎ GivesUp a p pair base before s old new
 FollowsOn a p pair base before s (Some o) old new = (new ≡ old) × IsFollowed a p base (before ++ s ∷ []) o
 
 -- one segment more, where verdicts are told

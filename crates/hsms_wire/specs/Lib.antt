@@ -9,3 +9,4 @@ pub mod Logged
 pub mod Followed
 pub mod Staged
 pub mod Segments
+pub mod Tabled

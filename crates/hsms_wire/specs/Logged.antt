@@ -1,7 +1,6 @@
 -- What both ends of a connection that begins with a SYN log of it, by what the wire shows, and what is told of it.
 use Rattle.std.specs.Prelude.{◌≡◌, ◌&&◌, ◌||◌, ◌++◌, ◌∷◌, max, ℕ, nat_eq, Bool, true, false, if◌then◌else◌, List, [], length, drop, flat_map, Option, Some, None, is_some, is_none}
 use Rattle.std.specs.List.{list_any}
-use Rattle.std.specs.Option.{option_or}
 use Rattle.hsms_frame.specs.Frame.{Frame}
 use Rattle.hsms_machine.specs.Settings.{Parameters}
 use Rattle.hsms_machine.specs.declared.entry.Entry.{Entry as LogEntry}
@@ -13,6 +12,7 @@ use Rattle.hsms_capture.specs.declared.ending.Ending.{Ending}
 use Rattle.hsms_capture.specs.declared.packet.Side.{Side}
 use Rattle.hsms_capture.specs.declared.packet.Side.TheVariants as side
 use Rattle.hsms_capture.specs.Wire.{End, Seen, places}
+use Rattle.hsms_capture.specs.Laws.{AreNumbered}
 use Rattle.hsms_capture.specs.Losses.{side_of}
 use Rattle.hsms_capture.specs.Finished.{ended}
 use Rattle.hsms_capture.specs.Time.{time_at}
@@ -28,7 +28,7 @@ use Rattle.hsms_wire.specs.declared.course.Course.{Course}
 use Rattle.hsms_wire.specs.declared.course.Course.TheVariants as course
 use Rattle.hsms_wire.specs.declared.report.Report.{Report}
 use Rattle.hsms_wire.specs.declared.shortfall.Shortfall.{Shortfall}
-use Rattle.hsms_wire.specs.Courses.{course_behind, missing_by}
+use Rattle.hsms_wire.specs.Courses.{course_behind, lack_behind}
 use Rattle.hsms_wire.specs.Report.{HasTold, Telling}
 
 -- ---- which part of what is told both ends log
@@ -134,7 +134,7 @@ JudgedIf true settings clock side es replaced judged =
 
 -- what it lacks: nothing, where it went down before
 abbrev pub lack_by : Course → Ending → Option Shortfall → Option Shortfall
-lack_by course.Goes ending missing = option_or (missing_by ending) missing
+lack_by course.Goes ending missing = lack_behind ending missing
 lack_by (course.Over lack) ending missing = lack
 
 -- it goes down since it is replaced, where it is open still, and lacks nothing
@@ -178,3 +178,9 @@ unfoldable pub ToldOf : Parameters → Parameters → Pair → (End → ℕ) →
 ToldOf a p ends base seen replaced missing old new =
     (let es = tells (places base [] seen) in
     TellsOf a p ends (clock_of base seen) es replaced (lack_by (course_by a.max es) (ended (places base [] seen)) missing) old new)
+
+-- all is told of it, whichever segments follow, whether a later connection replaces it, and whatever may be missing
+abbrev pub ToldForGood : Parameters → Parameters → Pair → (End → ℕ) → List Seen → Report → Report → Type 0
+ToldForGood a p ends base seen old new =
+    (later : List Seen) (replaced : Bool) (missing : Option Shortfall) → AreNumbered 0 (seen ++ later)
+    → ToldOf a p ends base (seen ++ later) replaced missing old new

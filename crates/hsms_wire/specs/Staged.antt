@@ -9,6 +9,8 @@ use Rattle.hsms_capture.specs.Wire.{End, active, passive, same_end, Cell, syn, o
 use Rattle.hsms_capture.specs.Known.{bases}
 use Rattle.hsms_capture.specs.Laws.{AreNumbered}
 use Rattle.hsms_accounts.specs.declared.pair.Pair.{Pair}
+use Rattle.hsms_joined.specs.Gathering.{AreSilent}
+use Rattle.hsms_wire.specs.declared.flow.Flow.{Flow}
 use Rattle.hsms_wire.specs.declared.flow.Open.{Open}
 use Rattle.hsms_wire.specs.declared.flow.Stage.{Stage}
 use Rattle.hsms_wire.specs.declared.flow.Stage.TheVariants as stage
@@ -16,7 +18,7 @@ use Rattle.hsms_wire.specs.declared.report.Manner.TheVariants.{Verdicts}
 use Rattle.hsms_wire.specs.declared.report.Report.{Report}
 use Rattle.hsms_wire.specs.declared.shortfall.Shortfall.{Shortfall}
 use Rattle.hsms_wire.specs.declared.shortfall.Shortfall.TheVariants.{Lost}
-use Rattle.hsms_wire.specs.Logged.{ToldOf}
+use Rattle.hsms_wire.specs.Logged.{ToldForGood, ToldOf}
 use Rattle.hsms_wire.specs.Followed.{GivesUp, IsFollowed, WhenTold, seen_waiting}
 
 -- ---- the SYN of the passive end
@@ -60,6 +62,20 @@ first_shown (s ∷ ss) = if shows_answer s then Some s.packet else first_shown s
 abbrev pub ToldUnanswered : Pair → List Seen → Report → Report → Type 0
 ToldUnanswered pair ss old new = WhenTold (is_some (first_shown ss)) pair (option_map (λ packet. Lost packet) (first_shown ss)) None old new
 
+-- ---- whether anything is left to be told of it
+
+-- It waits, and none of its packets shows that there was an answer, or that the session runs; or it is over.
+abbrev pub IsIdle : Stage → Type 0
+IsIdle (stage.Opening waiting) = is_some (first_shown (map seen_waiting waiting.items)) ≡ false
+IsIdle (stage.Open o) = ⊥
+IsIdle (stage.Joining gathering) = AreSilent gathering
+IsIdle (stage.Within within) = ⊥
+IsIdle stage.Over = Unit {0}
+
+-- it is forgotten where more than 4,096 connections have begun after it
+abbrev pub IsForgotten : Flow → ℕ → Type 0
+IsForgotten flow begun = IsIdle flow.stage × (flow.born + 4096 < begun)
+
 -- ---- what code does
 
 abbrev pub is_passive : Side → Bool
@@ -85,11 +101,11 @@ StageIs a p number seen (stage.Joining gathering) = ⊥
 StageIs a p number seen (stage.Within within) = ⊥
 StageIs a p number seen stage.Over = ⊥
 
--- it is over with one of these segments, or given up with it
+-- all is told of it, or it is given up with one of these segments
 abbrev pub OverWith : Parameters → Parameters → Pair → (End → ℕ) → List Seen → Report → Report → Type 0
 OverWith a p pair base all old new =
-    (front : List Seen) × (s : Seen) × (rest : List Seen) × (all ≡ front ++ s ∷ rest)
-    × (ToldOf a p pair base (front ++ s ∷ []) false None old new ⊎ GivesUp a p pair base front s old new)
+    ToldForGood a p pair base all old new
+    ⊎ ((front : List Seen) × (s : Seen) × (rest : List Seen) × (all ≡ front ++ s ∷ rest) × GivesUp a p pair base front s old new)
 
 -- Without the SYN of the passive end it is over where more than 4,096 packets wait.
 abbrev pub OverBy : Option ℕ → Parameters → Parameters → Pair → ℕ → List Seen → Report → Report → Type 0
@@ -130,3 +146,8 @@ abbrev pub EndsStage : Pair → Bool → Option Shortfall → Stage → Report �
 EndsStage pair replaced missing s old new =
     old.manner ≡ Verdicts → (number : ℕ) (seen : List Seen) → AreNumbered 0 seen → StageIs old.active old.passive number seen s
     → EndsBy (answered_by number seen) old.active old.passive pair number seen replaced missing old new
+
+-- no packet follows: what is left of each connection is told, in the order in which they began
+abbrev pub EndsFlows : Option Shortfall → List (Pair × Flow) → Report → Report → Type 0
+EndsFlows missing [] old new = new ≡ old
+EndsFlows missing ((pair, flow) ∷ flows) old new = (mid : Report) × EndsStage pair false missing flow.stage old mid × EndsFlows missing flows mid new

@@ -90,6 +90,10 @@ enum Followed {
 }
 
 impl Flow {
+    ghost use Rattle.std.specs.Prelude.{◌≡◌, ◌↔◌, IsTrue};
+    ghost use Rattle.hsms_wire.specs.Staged.{IsIdle};
+    ghost use Rattle.hsms_wire.specs.Tabled.{is_live};
+
     /// A connection that begins with a SYN of this number.
     pub fn new(alloc: Global, syn: u32, born: u64) -> Flow {
         Flow {
@@ -109,7 +113,9 @@ impl Flow {
     }
 
     /// Whether more may be told of it.
-    pub fn is_live(&self) -> bool {
+    pub fn is_live(&self) -> bool
+        ensures { result ≡ is_live self.now.stage }
+    {
         match self.stage {
             Stage::Opening(_) | Stage::Open(_) | Stage::Joining(_) | Stage::Within(_) => true,
             Stage::Over => false,
@@ -117,7 +123,9 @@ impl Flow {
     }
 
     /// Whether nothing is left to be told of it, unless more of its packets come.
-    pub fn is_idle(&self) -> bool {
+    pub fn is_idle(&self) -> bool
+        ensures { IsTrue result ↔ IsIdle self.now.stage }
+    {
         match &self.stage {
             Stage::Opening(waiting) => lost_at(waiting).is_none(),
             Stage::Joining(gathering) => gathering.is_silent(),
@@ -356,7 +364,7 @@ fn end_open(
     match hear_all(alloc, report, pair, &mut logs, told)? {
         Course::Over(shortfall) => logs.conclude(alloc, report, pair, shortfall),
         Course::Goes => {
-            let shortfall = Shortfall::of_ending(ending).or(missing);
+            let shortfall = Shortfall::behind(ending, missing);
             go_down(alloc, report, &mut logs, is_replaced && shortfall.is_none())?;
             logs.conclude(alloc, report, pair, shortfall)
         }
@@ -531,7 +539,7 @@ fn take_segment(
     match connection.take(alloc, segment, octets, told) {
         Ok(connection) => match connection.ending() {
             None => Ok(Followed::Goes(connection)),
-            Some(ending) => Ok(Followed::Ends(Shortfall::of_ending(ending))),
+            Some(ending) => Ok(Followed::Ends(Shortfall::behind(ending, None))),
         },
         Err(ConnectionFault::Memory) => Err(Stop::Memory),
         Err(ConnectionFault::Far | ConnectionFault::Full) => {

@@ -25,7 +25,7 @@ pub enum Shortfall {
 
 impl Shortfall {
     ghost use Rattle.std.specs.Prelude.{◌≡◌};
-    ghost use Rattle.hsms_wire.specs.Courses.{missing_by};
+    ghost use Rattle.hsms_wire.specs.Courses.{lack_behind};
     ghost use Rattle.hsms_wire.specs.Line.{packet_of};
     ghost use Rattle.hsms_wire.specs.Stop.{IsRefusalOf};
 
@@ -43,12 +43,13 @@ impl Shortfall {
         }
     }
 
-    /// What is missing by how it ends, if something is.
-    pub fn of_ending(ending: Ending) -> Option<Shortfall>
-        ensures { result ≡ missing_by ending }
+    /// What a connection lacks by how what is told of it ends, where something may be missing behind it.
+    pub fn behind(ending: Ending, missing: Option<Shortfall>) -> Option<Shortfall>
+        ensures { result ≡ lack_behind ending missing }
     {
         match ending {
-            Ending::Complete => None,
+            Ending::Closed => None,
+            Ending::Complete => missing,
             Ending::Lost(packet) => Some(Shortfall::Lost(packet)),
             Ending::Differs(packet) => Some(Shortfall::Differs(packet)),
         }

@@ -1,7 +1,8 @@
 //! The connections of a capture at a port.
 
-ghost use Rattle.std.specs.Prelude.{◌≡◌, ◌+◌, ◌<◌, true};
+ghost use Rattle.std.specs.Prelude.{◌≡◌, ◌↔◌, ◌<◌, IsTrue};
 ghost use Rattle.hsms_wire.specs.Segments.{has_flag, taken_segment, syn_by};
+ghost use Rattle.hsms_wire.specs.Staged.{IsForgotten};
 
 use crate::flow::{Flow, Stage};
 use crate::report::Report;
@@ -54,10 +55,13 @@ impl Drop for Table {
 }
 
 impl Table {
-    ghost use Rattle.std.specs.Prelude.{◌≡◌, OnOk, IfNone, IfSome, Some};
+    ghost use Rattle.std.specs.Prelude.{◌≡◌, ◌↔◌, true, OnOk, IfNone, IfSome, IsTrue, Some};
+    ghost use Rattle.hsms_capture.specs.Known.{seen_of};
     ghost use Rattle.hsms_accounts.specs.Pair.{IsOfPeer};
     ghost use Rattle.hsms_wire.specs.Report.{Tells};
     ghost use Rattle.hsms_wire.specs.Segments.{pair_at};
+    ghost use Rattle.hsms_wire.specs.Staged.{EndsFlows};
+    ghost use Rattle.hsms_wire.specs.Tabled.{FollowsFlow, HasFlow, Joins, is_live};
 
     /// No connection, at this port of passive ends, with an end of this address, where there is one; those that were
     /// running before the capture are looked at or not.
@@ -110,6 +114,7 @@ impl Table {
         missing: Option<Shortfall>,
     ) -> Result<(), Stop>
         ensures told { OnOk result (Tells report.old report.new) }
+        ensures ends { OnOk result (EndsFlows missing self.flows.entries report.old report.new) }
     {
         let Table {
             port: _,
@@ -156,26 +161,43 @@ impl Table {
     }
 
     // Whether the connection of a pair has this number of its SYN.
-    fn has(&self, pair: &Pair, syn: u32) -> bool {
-        self.flow(pair).is_some_and(|flow| flow.syn == Some(syn))
+    fn has(&self, pair: &Pair, syn: u32) -> bool
+        ensures { IsTrue result ↔ HasFlow self.now pair.now (λ flow. flow.syn ≡ Some syn) }
+    {
+        match self.flow(pair) {
+            Some(flow) => flow.syn == Some(syn),
+            None => false,
+        }
     }
 
     // Whether a segment is the first of a session that was running before the capture.
-    fn joins(&self, pair: &Pair, segment: &packets::Segment) -> bool {
+    fn joins(&self, pair: &Pair, segment: &packets::Segment) -> bool
+        ensures { IsTrue result ↔ Joins self.now pair.now segment.now }
+    {
         let begins = !is_set(segment, SYN) && !is_set(segment, RST);
         self.is_joined && begins && self.flow(pair).is_none()
     }
 
     // Whether more may be told of the connection of a pair.
-    fn is_live(&self, pair: &Pair) -> bool {
-        self.flow(pair).is_some_and(|flow| flow.is_live())
+    fn is_live(&self, pair: &Pair) -> bool
+        ensures { IsTrue result ↔ HasFlow self.now pair.now (λ flow. is_live flow.stage ≡ true) }
+    {
+        match self.flow(pair) {
+            Some(flow) => flow.is_live(),
+            None => false,
+        }
     }
 
     // The connection of a pair, where it isn't forgotten.
-    fn flow(&self, pair: &Pair) -> Option<&Flow> {
-        self.flows
-            .get(pair)
-            .filter(|flow| !is_forgotten(flow, self.begun))
+    fn flow(&self, pair: &Pair) -> Option<&Flow>
+        ensures there { IfSome result (λ flow. HasFlow self.now pair.now (λ it. it ≡ flow.now)) }
+        ensures none { IfNone result (HasFlow self.now pair.now (λ flow. Unit {0}) → ⊥) }
+    {
+        let flow = self.flows.get(pair)?;
+        if is_forgotten(flow, self.begun) {
+            return None;
+        }
+        Some(flow)
     }
 
     // Begins a connection of a pair, with a SYN of this number if there is one, and ends the one before.
@@ -218,6 +240,8 @@ impl Table {
         octets: &[u8],
     ) -> Result<(), Stop>
         ensures told { OnOk result (Tells report.old report.new) }
+        ensures follows { OnOk result (FollowsFlow pair.now (seen_of segment octets.now) self.old self.new
+            report.old report.new) }
     {
         let Some(flow) = self.flows.get_mut(pair) else {
             return Ok(());
@@ -230,7 +254,7 @@ impl Table {
 
 // Whether a connection is forgotten once so many have begun.
 fn is_forgotten(flow: &Flow, begun: u64) -> bool
-    ensures { result ≡ true → flow.now.born + 4096 < begun }
+    ensures { IsTrue result ↔ IsForgotten flow.now begun }
 {
     flow.is_idle() && begun.saturating_sub(flow.born) > REMEMBERED
 }

@@ -139,7 +139,7 @@ impl Within {
         let course = hear_all(alloc, report, pair, &bare_resets, &mut joined, told)?;
         let shortfall = match course {
             Course::Over(shortfall) => return finish(alloc, report, pair, joined, shortfall),
-            Course::Goes => shortfall_of(ending).or(missing),
+            Course::Goes => Shortfall::behind(in_capture(ending), missing),
         };
         if is_replaced && shortfall.is_none() {
             return replace(alloc, report, pair, joined);
@@ -204,19 +204,20 @@ fn take_segment(
     match connection.take(alloc, counted, kept, told) {
         Ok(connection) => match connection.ending() {
             None => Ok(Followed::Goes(connection)),
-            Some(ending) => Ok(Followed::Ends(shortfall_of(ending))),
+            Some(ending) => Ok(Followed::Ends(Shortfall::behind(in_capture(ending), None))),
         },
         Err(ConnectionFault::Memory) => Err(Stop::Memory),
         Err(_) => Ok(Followed::Ends(Some(Shortfall::Full(segment.packet)))),
     }
 }
 
-// What is missing by how a connection ends.
-fn shortfall_of(ending: Ending) -> Option<Shortfall> {
+// How it ends, at a packet of the capture.
+fn in_capture(ending: Ending) -> Ending {
     match ending {
-        Ending::Complete => None,
-        Ending::Lost(packet) => Some(Shortfall::Lost(captured(packet))),
-        Ending::Differs(packet) => Some(Shortfall::Differs(captured(packet))),
+        Ending::Closed => Ending::Closed,
+        Ending::Complete => Ending::Complete,
+        Ending::Lost(packet) => Ending::Lost(captured(packet)),
+        Ending::Differs(packet) => Ending::Differs(captured(packet)),
     }
 }
 

@@ -381,7 +381,7 @@ const WHOLE: Followed = Followed {
     ],
     resets: 9,
     wanted: &[(2, 2, 100), (3, 7, 1), (5, 7, 2), (6, 7, 9), (9, 9, 200)],
-    ending: Ending::Complete,
+    ending: Ending::Closed,
 };
 
 // The reply that packet 5 acknowledges wasn't captured.

@@ -1,5 +1,4 @@
-use Rattle.std.proofs.Common.{ap, ◌∙◌}
-use Rattle.std.specs.Option.{option_or}
+use Rattle.std.proofs.Common.{◌∙◌}
 use Rattle.hsms_wire.proofs.Connections.{end_goes_ok, end_over_ok, replaced_else, replaced_then}
 use Rattle.hsms_wire.proofs.flow.end_open.Goals as goal
 use Rattle.hsms_wire.proofs.flow.end_open.Goals.{then-is_replaced, else-is_replaced}
@@ -14,14 +13,14 @@ returns-in-Over-clause-ends c =
 pub returns-in_ok-go_down-in-Goes-clause-ends : goal.returns-in_ok-go_down-in-Goes-clause-ends
 returns-in_ok-go_down-in-Goes-clause-ends c =
     end_goes_ok c.conclude-in-Goes.result c.args.pair.now c.args.is_replaced c.args.missing c.args.«open» c.hear_all.new.logs c.go_down.new.logs
-    c.new-told.result.items c.end.new.told.items c.in-Ok.ending c.in_ok-shortfall.field-0 c.or-shortfall.result c.if-is_replaced.go_down c.args.report.now
+    c.new-told.result.items c.end.new.told.items c.in-Ok.ending c.in_ok-shortfall.field-0 c.behind-shortfall.result c.if-is_replaced.go_down c.args.report.now
     c.hear_all.new.report c.go_down.new.report c.conclude-in-Goes.new.report c.new-told.ensures.items c.in-Ok.ensures.told c.in-Ok.ensures.times
     c.in-Goes.is c.in_ok-shortfall.ensures.heard c.in_ok-shortfall.ensures.same
-    (c.or-shortfall.ensures ∙ ap (λ l. option_or l c.args.missing) c.of_ending.ensures)
+    c.behind-shortfall.ensures
     (elim c.if-is_replaced.branch [
       | then-is_replaced w ↦
-          replaced_then c.args.is_replaced c.or-shortfall.result w.is_none.result c.if-is_replaced.go_down w.if-is_replaced.true w.is_none.ensures w.go_down-is
-      | else-is_replaced w ↦ replaced_else c.args.is_replaced c.or-shortfall.result c.if-is_replaced.go_down w.if-is_replaced.false
+          replaced_then c.args.is_replaced c.behind-shortfall.result w.is_none.result c.if-is_replaced.go_down w.if-is_replaced.true w.is_none.ensures w.go_down-is
+      | else-is_replaced w ↦ replaced_else c.args.is_replaced c.behind-shortfall.result c.if-is_replaced.go_down w.if-is_replaced.false
           (w.go_down-is ∙ w.if-is_replaced.false)
     ])
     c.in_ok-go_down-in-Goes.ensures.down c.in_ok-go_down-in-Goes.ensures.same c.conclude-in-Goes.ensures.once

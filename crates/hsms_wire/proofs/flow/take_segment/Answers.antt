@@ -4,4 +4,4 @@ use Rattle.hsms_wire.proofs.flow.take_segment.Goals as goal
 pub returns-in-Some : goal.returns-in-Some
 returns-in-Some c =
     inl
-    (c.in-Ok.connection, c.in-Some.ending, sym c.ending.ensures ∙ c.in-Some.is, c.of_ending.ensures, c.in-Ok.ensures.told, c.in-Ok.ensures.times)
+    (c.in-Ok.connection, c.in-Some.ending, sym c.ending.ensures ∙ c.in-Some.is, c.behind.ensures, c.in-Ok.ensures.told, c.in-Ok.ensures.times)

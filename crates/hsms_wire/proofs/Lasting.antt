@@ -1,0 +1,154 @@
+-- What was told of a connection that is over stays, whichever segments follow.
+use Rattle.std.proofs.Common.{◌≡◌, ◌<◌, ◌||◌, ◌&&◌, ◌++◌, ◌∷◌, ℕ, Bool, true, false, nat_eq, List, [], map, Option, Some, None, is_some, is_none, refl, sym, ap, subst, ◌∙◌, arith, inl, inr}
+use Rattle.std.proofs.lemmas.Bool.{eqb-true, ne_eqb}
+use Rattle.std.proofs.lemmas.Grind.{flat_map-append}
+use Rattle.std.specs.List.{list_any}
+use Rattle.hsms_capture.specs.declared.ending.Ending.{Ending}
+use Rattle.hsms_capture.specs.declared.ending.Ending.TheVariants as ending
+use Rattle.hsms_capture.specs.declared.telling.Event.{Event}
+use Rattle.hsms_capture.specs.declared.telling.Event.TheVariants as happens
+use Rattle.hsms_capture.specs.declared.telling.Happening.{Happening}
+use Rattle.hsms_capture.specs.Wire.{End, Placed, Seen, places}
+use Rattle.hsms_capture.specs.Connected.{AreRising}
+use Rattle.hsms_capture.specs.Finished.{ended}
+use Rattle.hsms_capture.specs.Laws.{AreNumbered, EachEntry}
+use Rattle.hsms_capture.specs.Telling.{entry_as, told_as}
+use Rattle.hsms_capture.specs.Told.{Entry, ends_down, is_down, tells}
+use Rattle.hsms_capture.proofs.Lasting.{told_at_packets}
+use Rattle.hsms_capture.proofs.UpToDown.{closed_tells}
+use Rattle.hsms_accounts.specs.Ends.{heard_of}
+use Rattle.hsms_accounts.specs.declared.ends.Heard.{Heard}
+use Rattle.hsms_accounts.specs.declared.ends.Heard.TheVariants as heard
+use Rattle.hsms_wire.specs.declared.course.Course.TheVariants as course
+use Rattle.hsms_wire.specs.declared.shortfall.Shortfall.{Shortfall}
+use Rattle.hsms_wire.specs.Courses.{lack_behind}
+use Rattle.hsms_wire.specs.Logged.{and_course, and_logged, bare_if, bare_of, bare_resets, entries_logged, hears_entry, is_among, logged}
+use Rattle.hsms_wire.specs.Followed.{came_up_by, course_by_events, logged_by, time_by, timed_by}
+use Rattle.hsms_wire.proofs.Logging.{entries_of}
+
+-- ---- entries at some packets
+
+each_front : (P : ℕ → Type 0) (xs ys : List Entry) → EachEntry P (xs ++ ys) → EachEntry P xs
+each_front P [] ys h = tt
+each_front P (x ∷ xs) ys h = (h.0, each_front P xs ys h.1)
+
+weaken : (P Q : ℕ → Type 0) (es : List Entry) → ((n : ℕ) → P n → Q n) → EachEntry P es → EachEntry Q es
+weaken P Q [] f h = tt
+weaken P Q (e ∷ es) f h = (f e.packet h.0, weaken P Q es f h.1)
+
+each_logged : (P : ℕ → Type 0) (hears : Entry → Heard) (es : List Entry) → EachEntry P es → EachEntry P (logged hears es)
+each_logged P hears [] h = tt
+each_logged P hears (e ∷ es) h = by_heard (hears e) (each_logged P hears es h.1)
+  where
+    by_heard : (answer : Heard) → EachEntry P (logged hears es) → EachEntry P (and_logged answer e (logged hears es))
+    by_heard heard.Goes rest = (h.0, rest)
+    by_heard heard.Down rest = (h.0, tt)
+    by_heard heard.Length rest = tt
+
+-- ---- packets behind them
+
+numbered_lower : (m n : ℕ) (ss : List Seen) → m < n → AreNumbered n ss → AreNumbered m ss
+numbered_lower m n [] lt h = tt
+numbered_lower m n (s ∷ ss) lt h = (omega (arith, lt, h.0), h.1)
+
+numbered_behind : (last : ℕ) (xs ys : List Seen) → AreNumbered last (xs ++ ys) → AreNumbered last ys
+numbered_behind last [] ys h = h
+numbered_behind last (x ∷ xs) ys h = numbered_lower last x.packet ys h.0 (numbered_behind x.packet xs ys h.1)
+
+numbered_at : (last n : ℕ) (seen later : List Seen) → AreNumbered last (seen ++ later) → list_any (λ s. nat_eq s.packet n) seen ≡ true → AreNumbered n later
+numbered_at last n [] later h e = absurd cc
+numbered_at last n (s ∷ ss) later h e = by_test (nat_eq s.packet n) refl e (numbered_at s.packet n ss later h.1)
+  where
+    by_test : (b : Bool) → nat_eq s.packet n ≡ b → (b || list_any (λ (x : Seen). nat_eq x.packet n) ss) ≡ true
+        → (list_any (λ (x : Seen). nat_eq x.packet n) ss ≡ true → AreNumbered n later) → AreNumbered n later
+    by_test true is e rest = subst (λ (k : ℕ). AreNumbered k later) (eqb-true s.packet n is) (numbered_behind s.packet ss later h.1)
+    by_test false is e rest = rest e
+
+none_among : (n : ℕ) (later : List Seen) → AreNumbered n later → is_among (bare_resets later) n ≡ false
+none_among n [] h = refl
+none_among n (s ∷ ss) h = by_bare (s.reset && is_none s.acknowledged) (none_among n ss (numbered_lower n s.packet ss h.0 h.1))
+  where
+    by_bare : (b : Bool) → is_among (bare_resets ss) n ≡ false → is_among (bare_if b s.packet ++ bare_resets ss) n ≡ false
+    by_bare true rest = let lt = h.0 in rw (ne_eqb s.packet n (λ e. omega (arith, e, lt))) rest
+    by_bare false rest = rest
+
+-- ---- times that stay
+
+among_more : (xs ys : List ℕ) (n : ℕ) → is_among ys n ≡ false → is_among (xs ++ ys) n ≡ is_among xs n
+among_more [] ys n none = none
+among_more (x ∷ xs) ys n none = ap (λ (b : Bool). nat_eq x n || b) (among_more xs ys n none)
+
+times_more : (bare more : List ℕ) (hs : List Happening) → EachEntry (λ n. is_among more n ≡ false) (map entry_as hs)
+    → map (timed_by (bare ++ more)) hs ≡ map (timed_by bare) hs
+times_more bare more [] h = refl
+times_more bare more (x ∷ hs) h =
+    ap (λ (b : Bool). (let one : Happening = record x { time = time_by x.event b x.time } in one) ∷ map (timed_by (bare ++ more)) hs) (among_more bare more x.packet h.0)
+    ∙ ap (λ (ys : List Happening). timed_by bare x ∷ ys) (times_more bare more hs h.1)
+
+-- a packet that resets the connection behind what was told changes no time of it
+pub times_last : (most : ℕ) (base : End → ℕ) (seen later : List Seen) (told : List Happening) (rest : List Entry) → AreNumbered 0 (seen ++ later)
+    → tells (places base [] seen) ≡ map entry_as told ++ rest
+    → map (timed_by (bare_resets (seen ++ later))) (logged_by most told) ≡ map (timed_by (bare_resets seen)) (logged_by most told)
+times_last most base seen later told rest numbered is =
+    let P : ℕ → Type 0 = λ n. list_any (λ s. nat_eq s.packet n) seen ≡ true in
+    let Q : ℕ → Type 0 = λ n. is_among (bare_resets later) n ≡ false in
+    let front = each_front P (map entry_as told) rest (subst (EachEntry P) is (told_at_packets base seen)) in
+    let none = weaken P Q (map entry_as told) (λ n e. none_among n later (numbered_at 0 n seen later numbered e)) front in
+    ap (λ (ns : List ℕ). map (timed_by ns) (logged_by most told)) (flat_map-append bare_of seen later)
+    ∙ times_more (bare_resets seen) (bare_resets later) (logged_by most told)
+    (subst (EachEntry Q) (sym (entries_of most told)) (each_logged Q (hears_entry most) (map entry_as told) none))
+
+-- ---- what it lacks stays
+
+pub lack_lasts : (e : Ending) (lack missing : Option Shortfall) → lack ≡ lack_behind e None → (e ≡ ending.Complete → ⊥) → lack ≡ lack_behind e missing
+lack_lasts ending.Closed lack missing is sure = is
+lack_lasts ending.Complete lack missing is sure = absurd (sure refl)
+lack_lasts (ending.Lost packet) lack missing is sure = is
+lack_lasts (ending.Differs packet) lack missing is sure = is
+
+-- one that is over goes down no more, where anything is told of it
+pub never_closes : (e : Ending) (up replaced : Bool) (lack : Option Shortfall) → lack ≡ lack_behind e None → (e ≡ ending.Complete → ⊥) → (e ≡ ending.Closed → up ≡ false)
+    → (up || is_some lack) ≡ true → (replaced && is_none lack) ≡ false
+never_closes ending.Closed up replaced lack is sure down told =
+    let no : (up || is_some lack) ≡ false = rw (down refl, is) refl in
+    absurd cc
+never_closes ending.Complete up replaced lack is sure down told = absurd (sure refl)
+never_closes (ending.Lost packet) up replaced lack is sure down told = rw is (never replaced)
+  where
+    never : (b : Bool) → (b && false) ≡ false
+    never true = refl
+    never false = refl
+never_closes (ending.Differs packet) up replaced lack is sure down told = rw is (never replaced)
+  where
+    never : (b : Bool) → (b && false) ≡ false
+    never true = refl
+    never false = refl
+
+-- ---- one that is over, and went down in no entry, tells nothing
+
+not_down : (most : ℕ) (e : Event) → heard_of most e ≡ heard.Goes → is_down (told_as e) ≡ false
+not_down most happens.Up goes = refl
+not_down most (happens.Message from octets) goes = refl
+not_down most happens.Down goes = absurd cc
+
+none_down : (most : ℕ) (hs : List Happening) → course_by_events most hs ≡ course.Goes → ends_down (map entry_as hs) ≡ false
+none_down most [] goes = refl
+none_down most (h ∷ hs) goes = by_heard (heard_of most h.event) refl goes (none_down most hs)
+  where
+    by_heard : (answer : Heard) → heard_of most h.event ≡ answer → and_course answer h.packet (course_by_events most hs) ≡ course.Goes
+        → (course_by_events most hs ≡ course.Goes → ends_down (map entry_as hs) ≡ false) → (is_down (told_as h.event) || ends_down (map entry_as hs)) ≡ false
+    by_heard heard.Goes is goes rest = rw (not_down most h.event is) (rest goes)
+    by_heard heard.Down is goes rest = absurd cc
+    by_heard heard.Length is goes rest = absurd cc
+
+nothing_up : (hs : List Happening) → map entry_as hs ≡ [] → came_up_by hs ≡ false
+nothing_up [] e = refl
+nothing_up (h ∷ hs) e = absurd cc
+
+pub closed_never_up : (most : ℕ) (ps : List Placed) (hs : List Happening) → AreRising 0 ps → map entry_as hs ≡ tells ps → course_by_events most hs ≡ course.Goes
+    → ended ps ≡ ending.Closed → came_up_by hs ≡ false
+closed_never_up most ps hs rises is goes closed =
+    elim (closed_tells ps rises closed) [
+      | inl none ↦ nothing_up hs (is ∙ none)
+      | inr down ↦ absurd (let no : ends_down (map entry_as hs) ≡ false = none_down most hs goes in let yes : ends_down (map entry_as hs) ≡ true = ap ends_down is ∙ down in cc)
+    ]

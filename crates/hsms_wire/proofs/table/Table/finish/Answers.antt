@@ -1,0 +1,25 @@
+use Rattle.std.proofs.Common.{[], refl, sym}
+use Rattle.hsms_wire.proofs.Stages.{flows_ended, flows_turn}
+use Rattle.hsms_wire.proofs.Tellings.{tells_nothing, tells_then}
+use Rattle.hsms_wire.proofs.table.Table.finish.Goals as goal
+
+pub loop-pair-init : goal.loop-pair-init
+loop-pair-init c = record {
+  told = tells_nothing c.args.report.now;
+  ends = ([], sym c.into_iter-pair-iterator.ensures.into_iter_gives.0, refl);
+}
+
+pub loop-pair-preserved : goal.loop-pair-preserved
+loop-pair-preserved c =
+    let first = c.args.report.now in
+    let inv = c.loop-pair.invariant in
+    record {
+      told = tells_then first c.loop-pair.report c.end.new.report inv.told c.in_ok-end.ensures.told;
+      ends = flows_turn c.args.missing c.args.self.flows.entries c.loop-pair.pair-iterator c.next.new.self c.in-Some.pair c.in-Some.flow first
+          c.loop-pair.report c.end.new.report inv.ends c.in-Some.ensures.steps c.in_ok-end.ensures.ends;
+    }
+
+pub returns-clause-ends : goal.returns-clause-ends
+returns-clause-ends c =
+    flows_ended c.args.missing c.args.self.flows.entries c.loop-pair.pair-iterator c.args.report.now c.loop-pair.report c.loop-pair.invariant.ends
+    c.in-None.ensures.steps.0
