@@ -24,6 +24,7 @@ mod Onward
 mod Numbered
 mod Pieces
 mod Queue
+mod Shown
 mod Sizes
 mod Slicing
 mod SmallCaptures
