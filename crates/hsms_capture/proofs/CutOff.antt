@@ -27,7 +27,7 @@ by_end (Some n) upto l next fits h = by_late (nat_lt upto (l.place + n))
         let e = h n in
         omega (arith, le, dropped, e)
 
-cut_end : (size : List Cell → Option ℕ) → IsSize size → (k upto : ℕ) (l : Left) → end_left (cut_off k size upto l).left ≡ end_left l
+pub cut_end : (size : List Cell → Option ℕ) → IsSize size → (k upto : ℕ) (l : Left) → end_left (cut_off k size upto l).left ≡ end_left l
 unfolding cut_off
 cut_end size is zero upto l = refl
 cut_end size is (suc k) upto l =

@@ -49,7 +49,7 @@ places_rise base before n (s ∷ ss) h =
 abbrev both_of : List Cell → List Cell → Both
 both_of a p = record { active = record { place = 0; cells = a }; passive = record { place = 0; cells = p } }
 
-streams_end : (ps : List Placed) (d : End) → end_left (left_of (both_streams ps) d) ≡ end_of ps d
+pub streams_end : (ps : List Placed) (d : End) → end_left (left_of (both_streams ps) d) ≡ end_of ps d
 streams_end ps active = let e = stream_length ps active in omega (arith, e)
 streams_end ps passive = let e = stream_length ps passive in omega (arith, e)
 

@@ -1,5 +1,5 @@
 -- What is shown of a direction is a front of its stream, and nothing of it stands behind a loss.
-use Rattle.std.proofs.Common.{◌≡◌, ◌<◌, ◌≤◌, ◌⊎◌, inl, inr, min, arith, ℕ, zero, suc, ◌+◌, ◌&&◌, ◌||◌, Bool, true, false, nat_lt, cond, List, [], ◌∷◌, ◌++◌, length, take, drop, map, filter, flat_map, Option, Some, None, refl, sym, ap, subst, ◌∙◌}
+use Rattle.std.proofs.Common.{◌≡◌, ◌<◌, ◌≤◌, ◌⊎◌, inl, inr, min, arith, ℕ, zero, suc, ◌+◌, Bool, true, false, nat_lt, cond, List, [], ◌∷◌, ◌++◌, length, take, drop, map, filter, flat_map, Option, Some, None, refl, sym, ap, subst, ◌∙◌}
 use Rattle.std.proofs.lemmas.Bool.{ltb-true}
 use Rattle.std.proofs.lemmas.List.{append_assoc, take-append-drop}
 use Rattle.hsms_capture.specs.Wire.{End, active, passive, same_end, Cell, Placed, Turn, Delivery, deliveries, is_before, Left, Cut, and_then, cut_by, cut_off, Shown, Both, left_of, with_left, delivered, show, both_streams, shows_of, stream_of, turns, loss, difference, earlier, breaks_off, told_turns}

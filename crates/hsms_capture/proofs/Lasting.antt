@@ -1,9 +1,8 @@
 -- What was told of a connection that is over is all of it, whatever follows, and each entry is told at a packet of it.
-use Rattle.std.proofs.Common.{◌≡◌, ◌<◌, ◌≤◌, ◌+◌, ◌++◌, ◌∷◌, ◌&&◌, ◌||◌, inl, inr, ℕ, Bool, true, false, cond, max, min, nat_eq, nat_le, nat_lt, List, [], filter, map, take, Option, Some, None, is_some, refl, sym, ap, subst, ◌∙◌, arith}
+use Rattle.std.proofs.Common.{◌≡◌, ◌<◌, ◌≤◌, ◌+◌, ◌++◌, ◌∷◌, ◌&&◌, ◌||◌, inl, inr, ℕ, Bool, true, false, cond, max, min, nat_eq, nat_le, nat_lt, List, [], filter, take, Option, Some, None, is_some, refl, sym, ap, subst, ◌∙◌, arith}
 use Rattle.std.proofs.lemmas.Bool.{cases_lt, eq-eqb, lt-ltb}
-use Rattle.std.proofs.lemmas.List.{append-nil, append_assoc}
+use Rattle.std.proofs.lemmas.List.{append_assoc}
 use Rattle.std.specs.List.{list_any}
-use Rattle.hsms_capture.specs.declared.connection.Connection.{Connection}
 use Rattle.hsms_capture.specs.declared.ending.Ending.{Ending}
 use Rattle.hsms_capture.specs.declared.ending.Ending.TheVariants as ending
 use Rattle.hsms_capture.specs.declared.telling.Happening.{Happening}
@@ -11,8 +10,6 @@ use Rattle.hsms_capture.specs.Wire.{End, active, passive, other, Placed, Seen, S
 use Rattle.hsms_capture.specs.Message.{message_size}
 use Rattle.hsms_capture.specs.Told.{Told, up, message, down, Entry, entry, entry_of, and_later, answered_at, behind_up, first_message, is_left_out, is_message, is_separate, reset_entries, separated_by, shown_entries, tells, up_to_down}
 use Rattle.hsms_capture.specs.Laws.{AreNumbered, EachEntry, EachShown, ToldAtPackets}
-use Rattle.hsms_capture.specs.Telling.{entry_as}
-use Rattle.hsms_capture.specs.Turning.{Log}
 use Rattle.hsms_capture.specs.Connected.{AreRising, log_of}
 use Rattle.hsms_capture.specs.Finished.{IsEnded, broken, ended, ended_by}
 use Rattle.hsms_capture.specs.Standing.{EndingIsSure, StandsAs}

@@ -25,6 +25,7 @@ mod Onward
 mod Numbered
 mod Pieces
 mod Queue
+mod Shown
 mod Sizes
 mod Slicing
 mod SmallCaptures

@@ -54,7 +54,7 @@ passes_earlier (Some j) (Some k) n e f =
 
 -- ---- loss
 
-neither : (a b : Bool) → (a || b) ≡ false → (a ≡ false) × (b ≡ false)
+pub neither : (a b : Bool) → (a || b) ≡ false → (a ≡ false) × (b ≡ false)
 neither true b e = absurd cc
 neither false b e = (refl, e)
 
@@ -72,7 +72,7 @@ not_past_by xs ys p (Some n) e =
 not_past_more : (xs zs : List Placed) (p : Placed) → Begins Placed xs zs → is_past xs p ≡ false → is_past zs p ≡ false
 not_past_more xs zs p h e = subst (λ (z : List Placed). is_past z p ≡ false) (sym h.1) (not_past_by xs h.0 p p.acknowledged e)
 
-not_gap_more : (xs zs : List Placed) (p : Placed) → Begins Placed xs zs → nat_lt (end_of xs p.from) p.place ≡ false → nat_lt (end_of zs p.from) p.place ≡ false
+pub not_gap_more : (xs zs : List Placed) (p : Placed) → Begins Placed xs zs → nat_lt (end_of xs p.from) p.place ≡ false → nat_lt (end_of zs p.from) p.place ≡ false
 not_gap_more xs zs p h e =
     let le = ltb-false (end_of xs p.from) p.place e in
     let more = end_more xs h.0 p.from in

@@ -195,7 +195,7 @@ turns_by_queue before p le =
 
 -- ---- the queue behind a packet
 
-end_stays : (before : List Placed) (p : Placed) (d : End) → (is_some (cell_in p d (end_of before d)) ≡ true → ⊥) → end_of (before ++ (p ∷ [])) d ≡ end_of before d
+pub end_stays : (before : List Placed) (p : Placed) (d : End) → (is_some (cell_in p d (end_of before d)) ≡ true → ⊥) → end_of (before ++ (p ∷ [])) d ≡ end_of before d
 end_stays before p d never =
     let more = end_more before (p ∷ []) d in
     elim (cases_lt (end_of before d) (end_of (before ++ (p ∷ [])) d)) [
@@ -206,7 +206,7 @@ end_stays before p d never =
       | inr le ↦ omega (arith, more, le)
     ]
 
-of_other : (p : Placed) (d : End) (n : ℕ) → same_end p.from d ≡ false → is_some (cell_in p d n) ≡ true → ⊥
+pub of_other : (p : Placed) (d : End) (n : ℕ) → same_end p.from d ≡ false → is_some (cell_in p d n) ≡ true → ⊥
 of_other p d n e h = absurd cc
 
 waits_later : (same : Bool) (e f x : ℕ) → e ≤ f → (same && nat_lt f x) ≡ ((same && nat_lt e x) && nat_lt f x)

@@ -15,10 +15,10 @@ turns_more before (x ∷ xs) ys =
     (turns_more (before ++ (x ∷ [])) xs ys ∙ ap (λ (z : List Placed). turns (before ++ (x ∷ [])) xs ++ turns z ys) (append_assoc before (x ∷ []) xs))
     ∙ sym (append_assoc (turns_at before x) (turns (before ++ (x ∷ [])) xs) (turns (before ++ (x ∷ xs)) ys))
 
-abbrev turn_of : Placed → Placed → Turn
+abbrev pub turn_of : Placed → Placed → Turn
 turn_of p q = record { at = p; own = q }
 
-abbrev frees : List Placed → Placed → Placed → Bool
+abbrev pub frees : List Placed → Placed → Placed → Bool
 frees before p q = same_end q.from p.from && nat_lt (end_of before p.from) q.place && nat_le q.place (end_of (before ++ (p ∷ [])) p.from)
 
 insert_each : (P : Placed → Type 0) (p : Placed) (qs : List Placed) → P p → Each P qs → Each P (insert_by_place p qs)

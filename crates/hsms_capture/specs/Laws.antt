@@ -1,5 +1,5 @@
 -- What holds of the wire, whatever the code does.
-use Rattle.std.specs.Prelude.{◌%◌, ◌^◌, ◌+◌, ◌≡◌, ◌<◌, ◌≤◌, ◌⊎◌, ◌&&◌, ℕ, max, nat_eq, nat_le, nat_lt, if◌then◌else◌, Bool, List, [], ◌∷◌, ◌++◌, length, map, filter, Option, Some, is_some, true, false}
+use Rattle.std.specs.Prelude.{◌%◌, ◌^◌, ◌+◌, ◌≡◌, ◌<◌, ◌≤◌, ◌⊎◌, ◌&&◌, ℕ, zero, suc, max, nat_eq, nat_le, nat_lt, if◌then◌else◌, Bool, List, [], ◌∷◌, ◌++◌, length, take, drop, map, filter, Option, Some, None, is_some, true, false}
 use Rattle.std.specs.List.{list_any}
 use Rattle.hsms_capture.specs.declared.waiting.Span.{Span}
 use Rattle.hsms_capture.specs.Message.{message_size}
@@ -135,6 +135,42 @@ pub record IsSize (size : List Cell → Option ℕ) : Type 0 where
 -- so are the sizes of the messages of HSMS
 abbrev pub MessagesHaveSizes : Type 0
 MessagesHaveSizes = IsSize message_size
+
+-- the messages of a direction
+abbrev pub messages_shown : End → List Shown → List (List Cell)
+messages_shown d [] = []
+messages_shown d (s ∷ ss) = if same_end s.of d then s.cells ∷ messages_shown d ss else messages_shown d ss
+
+-- the message at the front of these cells, where it is there whole, and what `next` gives behind it
+abbrev pub front_and : List Cell → (ℕ → List (List Cell)) → Option ℕ → List (List Cell)
+front_and cells next None = []
+front_and cells next (Some n) = take n cells ∷ next n
+
+unfoldable pub messages_by : ℕ → (List Cell → Option ℕ) → List Cell → List (List Cell)
+messages_by zero size cells = []
+messages_by (suc k) size cells = front_and cells (λ n. messages_by k size (drop n cells)) (size cells)
+
+-- the messages that a stream has whole, one behind the other from its front on
+abbrev pub messages_in : (List Cell → Option ℕ) → List Cell → List (List Cell)
+messages_in size cells = messages_by (length cells) size cells
+
+-- Of a whole connection nothing is lost, no copy of a cell differs, and no packet resets it.
+pub record IsWhole (ps : List Placed) : Type 0 where
+  pub nothing_lost : loss [] ps ≡ None
+  pub none_differs : difference [] ps ≡ None
+  pub never_reset : list_any (λ p. p.reset) ps ≡ false
+
+-- Then each message that a stream has whole is shown, in its order, and no other.
+abbrev pub AllIsShown : Type 0
+AllIsShown =
+    (size : List Cell → Option ℕ) (ps : List Placed) (d : End) → IsSize size → IsWhole ps
+    → messages_shown d (shows_of size ps) ≡ messages_in size (stream_of ps d)
+
+-- However the same cells are cut into packets, repeated or swapped, a direction's messages are the same.
+abbrev pub AnySegmentsGiveTheSame : Type 0
+AnySegmentsGiveTheSame =
+    (size : List Cell → Option ℕ) (ps qs : List Placed) (d : End) → IsSize size → IsWhole ps → IsWhole qs
+    → ((n : ℕ) → cell_at ps d n ≡ cell_at qs d n) → messages_shown d (shows_of size ps) ≡ messages_shown d (shows_of size qs)
 
 -- each packet's number is past the one before it
 abbrev pub AreNumbered : ℕ → List Seen → Type 0

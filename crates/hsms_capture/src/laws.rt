@@ -2,7 +2,7 @@
 
 ghost use Rattle.hsms_capture.specs.Connected.{LogIsTold};
 ghost use Rattle.hsms_capture.specs.Known.{TurnsGoOn};
-ghost use Rattle.hsms_capture.specs.Laws.{AbsorbGivesTheEnd, DownComesLast, EndGoesOn, EndIsEnd, FrontOfCapture, LossIsSure, MessagesHaveSizes, NearestIsFound, NearestIsNear, NothingBehindALoss, OneEnd, OnlyFirstIsUp, QueueGoesOn, QueueStays, QueueTakes, SettledIsSure, StreamsAreKept, ToldAtPackets, UpComesFirst};
+ghost use Rattle.hsms_capture.specs.Laws.{AbsorbGivesTheEnd, AllIsShown, AnySegmentsGiveTheSame, DownComesLast, EndGoesOn, EndIsEnd, FrontOfCapture, LossIsSure, MessagesHaveSizes, NearestIsFound, NearestIsNear, NothingBehindALoss, OneEnd, OnlyFirstIsUp, QueueGoesOn, QueueStays, QueueTakes, SettledIsSure, StreamsAreKept, ToldAtPackets, UpComesFirst};
 ghost use Rattle.hsms_capture.specs.Standing.{ClosedWhereDown, DownIsAll, DownIsClosed, EndingIsSure, ToldAtOnce, ToldIsSure};
 ghost use Rattle.hsms_capture.specs.Time.{TimesNeverGoBack};
 
@@ -93,6 +93,14 @@ pub fn entries_are_told_at_packets()
 /// The messages of a direction are a front of its stream: none is left out, none made up.
 pub fn streams_are_kept()
     ensures { StreamsAreKept }
+{}
+
+/// Of a connection of which nothing is lost, no copy differs, and that no packet resets, each message is shown that a
+/// stream has whole. So however the same cells are cut into packets, repeated or swapped, a direction's messages are the
+/// same. That holds of messages whose own cells tell their size, as those of HSMS do.
+pub fn any_segments_give_the_same()
+    ensures all { AllIsShown }
+    ensures same { AnySegmentsGiveTheSame }
 {}
 
 /// Nothing is shown at the first loss, nor at the first copy that differs, nor behind them.
