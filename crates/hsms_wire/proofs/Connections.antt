@@ -10,8 +10,7 @@ use Rattle.hsms_capture.specs.declared.ending.Ending.TheVariants.{Closed as clos
 use Rattle.hsms_capture.specs.declared.connection.ConnectionFault.{ConnectionFault}
 use Rattle.hsms_capture.specs.declared.connection.ConnectionFault.TheVariants as stop
 use Rattle.hsms_capture.specs.declared.telling.Happening.{Happening}
-use Rattle.hsms_capture.specs.Wire.{End, Placed, Seen, places}
-use Rattle.hsms_capture.specs.Connected.{AreRising}
+use Rattle.hsms_capture.specs.Wire.{End, Seen, places}
 use Rattle.hsms_capture.specs.Finished.{ended}
 use Rattle.hsms_capture.specs.Known.{bases}
 use Rattle.hsms_capture.specs.Laws.{AreNumbered}

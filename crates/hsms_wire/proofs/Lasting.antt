@@ -1,5 +1,5 @@
 -- What was told of a connection that is over stays, whichever segments follow.
-use Rattle.std.proofs.Common.{◌≡◌, ◌<◌, ◌||◌, ◌&&◌, ◌++◌, ◌∷◌, ℕ, Bool, true, false, nat_eq, List, [], map, Option, Some, None, is_some, is_none, refl, sym, ap, subst, ◌∙◌, arith, inl, inr}
+use Rattle.std.proofs.Common.{◌≡◌, ◌<◌, ◌||◌, ◌&&◌, ◌++◌, ◌∷◌, ℕ, Bool, true, false, nat_eq, List, [], map, Option, None, is_some, is_none, refl, sym, ap, subst, ◌∙◌, arith, inl, inr}
 use Rattle.std.proofs.lemmas.Bool.{eqb-true, ne_eqb}
 use Rattle.std.proofs.lemmas.Grind.{flat_map-append}
 use Rattle.std.specs.List.{list_any}
@@ -22,7 +22,7 @@ use Rattle.hsms_accounts.specs.declared.ends.Heard.TheVariants as heard
 use Rattle.hsms_wire.specs.declared.course.Course.TheVariants as course
 use Rattle.hsms_wire.specs.declared.shortfall.Shortfall.{Shortfall}
 use Rattle.hsms_wire.specs.Courses.{lack_behind}
-use Rattle.hsms_wire.specs.Logged.{and_course, and_logged, bare_if, bare_of, bare_resets, entries_logged, hears_entry, is_among, logged}
+use Rattle.hsms_wire.specs.Logged.{and_course, and_logged, bare_if, bare_of, bare_resets, hears_entry, is_among, logged}
 use Rattle.hsms_wire.specs.Followed.{came_up_by, course_by_events, logged_by, time_by, timed_by}
 use Rattle.hsms_wire.proofs.Logging.{entries_of}
 
