@@ -93,6 +93,9 @@ BARE_NAME = re.compile(r"(?<![\w:])[A-Z]\w*\b(?!::)")
 FUNCTION = re.compile(r"(?m)^( *)(?:pub(?:\(\w+\))? )?(?:const )?(?:unsafe )?fn (\w+)")
 IN_A_CYCLE = re.compile(r"(?m)^ *#\[cycle\(\w+\)\]\n(?: *(?://.*|#\[.*)\n)* *(?:pub(?:\(\w+\))? )?(?:unsafe )?fn (\w+)")
 
+# What is said above a function, and asked of its proof: comments and attributes, each in lines of its own.
+ABOVE = re.compile(r"(?m)(?:^ *(?://|#\[).*\n)*\Z")
+
 # What stands in the place of a body that no check looks at.
 NO_BODY = "unreachable!()"
 
@@ -412,9 +415,9 @@ def span_of(text, owner, name):
             indent = found[0][1]
             begin = start + found[0].start()
             end = text.find(f"\n{indent}}}\n", begin)
-            *_, above = re.split(r"(?m)^ *$|^.*[{}]$", text[:begin])
+            above = ABOVE.search(text, 0, begin)
             is_other = name in IN_A_CYCLE.findall(text) or (of_type and of_type[3]) or end < 0
-            return None if is_other else (begin - len(above.lstrip("\n")), end + len(indent) + 3, indent)
+            return None if is_other else (above.start(), end + len(indent) + 3, indent)
         start += len(item)
     return None
 
@@ -465,6 +468,10 @@ class Copies:
     def named_in(self, text):
         """A text that names these constants in the place of those that they are copies of."""
         return BARE_NAME.sub(lambda it: self.path_to(it[0]) if it[0] in self.texts else it[0], text)
+
+    def steps_of(self, proof):
+        """A proof whose steps are named after these constants."""
+        return re.sub(r"(?<![\w.])[A-Z]\w*", lambda it: self.other(it[0]) if it[0] in self.texts else it[0], proof)
 
     def path_to(self, name):
         return "::".join(["crate", *module_at(constants_in(self.crate)[name][0]), self.other(name)])
@@ -519,7 +526,7 @@ class Double:
         of, to = (".".join(["proofs", *it]) for it in (self.parts(self.name), self.parts(self.named)))
         said, say = (".".join(["contracts", *it]) for it in (self.parts(self.name), self.parts(self.named)))
         turn = lambda text: re.sub(rf"\b{said}\b", say, re.sub(rf"\b{of}\b", to, text))
-        return {path: turn(text) for path, text in by_hand.items()}
+        return {path: self.copies.steps_of(turn(text)) if self.copies else turn(text) for path, text in by_hand.items()}
 
     def parts(self, name):
         return [*self.module, *([self.owner] if self.owner[:1].isupper() else []), name]
