@@ -17,7 +17,8 @@ as it stands, and has to be proved. Its first line is `-- crate: CRATE`. Twins a
 for has changed; the gate sees that each wrong body has one, and that it can be applied.
 
 An edit of what is no function, as of a constant or a definition, names by lines `only: PATH` the functions that it is
-tried on, as `rt check --only` takes them. It is tried by itself, as it may turn others too.
+tried on, as `rt check --only` takes them. One of a constant is tried with others: as a constant of another name, which
+that function alone has, beside itself. What else it turns may be others too, so it is tried by itself.
 
 Bodies of different functions are tried in one check of a copy of their crate, since a proof sees of another function
 its contract alone. So there the other functions have no bodies, and their proofs are holes, which a check takes by
@@ -35,6 +36,7 @@ tries all twins, or some.
 """
 import argparse
 import functools
+import json
 import os
 import re
 import shutil
@@ -50,13 +52,17 @@ from dataclasses import dataclass
 
 sys.dont_write_bytecode = True
 
-from rooms import TOP, bring, crates_below, crates_listed, link, mark_as_built, processors, room_for, words_of_check
+from rooms import BUILT, READ, TOP, crates_below, crates_listed, link, mark_as_built, processors, room_for, words_of_check
 
 EDITS = f"{TOP}/tests/must-fail"
 TWINS = f"{TOP}/tests/twins"
 WRONG_BODY = "-- wrong body: "
 OF_CRATE = "-- crate: "
 ONLY = "only: "
+
+# Where checks of a crate keep what they have checked, and how a module begins that was checked: by what has checked it.
+KEPT = "out/incremental"
+OF_KERNEL = re.compile(rb"--@ antt-checked \d+\n--@ kernel (\S+)\n")
 
 # How long a check may take, in seconds.
 LONGEST_CHECK = 3600
@@ -78,9 +84,17 @@ NAME_OF_TYPE = r"&?(?:\w+::)*(\w+)(?:<([^{]*?)>)?"
 TYPE = re.compile(r"(?m)^(?:pub(?:\(\w+\))? )?(?:struct|enum) (\w+)")
 OF_TYPE = re.compile(rf"(?:unsafe )?impl(?:<[^{{]*?>)? {NAME_OF_TYPE}(?: for {NAME_OF_TYPE})? \{{")
 
+# What names constants in a definition or a proof, a constant, and where a name stands that is of no path.
+CITED = re.compile(r"(?m)^ *(?:ghost )?use .*\bTheConstants\b.*$")
+CONSTANT = re.compile(r"(?ms)^(?:pub(?:\(\w+\))? )?(?:const|static) (\w+):.*?;$")
+BARE_NAME = re.compile(r"(?<![\w:])[A-Z]\w*\b(?!::)")
+
 # Where a function begins, and one of a cycle of calls, whose attribute stands above it.
 FUNCTION = re.compile(r"(?m)^( *)(?:pub(?:\(\w+\))? )?(?:const )?(?:unsafe )?fn (\w+)")
 IN_A_CYCLE = re.compile(r"(?m)^ *#\[cycle\(\w+\)\]\n(?: *(?://.*|#\[.*)\n)* *(?:pub(?:\(\w+\))? )?(?:unsafe )?fn (\w+)")
+
+# What is said above a function, and asked of its proof: comments and attributes, each in lines of its own.
+ABOVE = re.compile(r"(?m)(?:^ *(?://|#\[).*\n)*\Z")
 
 # What stands in the place of a body that no check looks at.
 NO_BODY = "unreachable!()"
@@ -119,6 +133,12 @@ class Change:
     old: str
     new: str
 
+    def made_in(self, text, of):
+        """A text with this change: one of a file, or of what else is named."""
+        if not self.old or text.count(self.old) != 1:
+            raise BadEdit(f"{of} has {text.count(self.old)} times, and not once: {self.old}")
+        return text.replace(self.old, self.new)
+
 
 @dataclass(frozen=True)
 class Edit:
@@ -134,9 +154,7 @@ class Edit:
         texts = dict(texts)
         for it in self.changes:
             text = texts.get(it.path) or text_of(f"{folder_of(self.crate)}/{it.path}")
-            if not it.old or text.count(it.old) != 1:
-                raise BadEdit(f"{it.path} has {text.count(it.old)} times, and not once: {it.old}")
-            texts[it.path] = text.replace(it.old, it.new)
+            texts[it.path] = it.made_in(text, it.path)
         return texts
 
     def turned(self):
@@ -156,6 +174,10 @@ class Edit:
         """The function that the edit turns and its source, where it turns no other one and nothing else; or None."""
         (path, *others), (turned, *more) = {it.path for it in self.changes}, self.turned()
         return (*turned, path) if turned and not (others or more or self.only) else None
+
+    def is_of_more(self):
+        """Whether the edit turns what is no function."""
+        return None in self.turned()
 
 
 def text_of(path):
@@ -279,11 +301,33 @@ def keep(source, target):
     (link if source.endswith(".oantt") else shutil.copy2)(source, target)
 
 
-def room_with_what_is_kept(crate, room):
-    """A room for a crate, with what earlier checks kept of it."""
+def room_with_what_is_kept(crate, room, like):
+    """A room for a crate, with what earlier checks kept of it, in another room or in its folder, or else with its library's
+    modules as they were checked: `rt ci` keeps nothing else.
+    """
     folder = room_for(crate, room)
-    bring(crate, ("out",), room, keep)
+    kept = [f"{it}/{KEPT}" for it in (like, folder_of(crate)) if it and os.path.isdir(f"{it}/{KEPT}")]
+    if kept:
+        shutil.copytree(kept[0], f"{folder}/{KEPT}", copy_function=keep)
+    else:
+        unpack_checked(f"{folder_of(crate)}/{BUILT}/{crate}.rlib/toolchain/checked", f"{folder}/{KEPT}")
     return folder
+
+
+def unpack_checked(archive, folder):
+    """Lays the checked modules that a library holds where a check looks for what earlier ones kept."""
+    if not os.path.exists(f"{archive}.json"):
+        return
+    with open(f"{archive}.json", encoding="utf-8") as lines, open(f"{archive}.a", "rb") as modules:
+        for name, begin, length in map(json.loads, lines):
+            modules.seek(begin)
+            module = modules.read(length)
+            made_by = OF_KERNEL.match(module)
+            if made_by:
+                at = f"{folder}/{made_by[1].decode().replace('/', '_')}"
+                os.makedirs(at, exist_ok=True)
+                with open(f"{at}/{name}.oantt", "wb") as file:
+                    file.write(module)
 
 
 def write_all(folder, texts):
@@ -293,10 +337,10 @@ def write_all(folder, texts):
             file.write(text)
 
 
-def sources_of(crate):
-    """The sources of a crate, by their paths in it."""
+def sources_of(crate, parts=("src",)):
+    """The sources of a crate, or its files in other folders too, by their paths in it."""
     top = folder_of(crate)
-    found = [os.path.relpath(f"{at}/{name}", top) for at, _, names in os.walk(f"{top}/src") for name in names]
+    found = [os.path.relpath(f"{at}/{name}", top) for it in parts for at, _, names in os.walk(f"{top}/{it}") for name in names]
     return {path: text_of(f"{top}/{path}") for path in found}
 
 
@@ -371,44 +415,118 @@ def span_of(text, owner, name):
             indent = found[0][1]
             begin = start + found[0].start()
             end = text.find(f"\n{indent}}}\n", begin)
-            *_, above = re.split(r"(?m)^ *$|^.*[{}]$", text[:begin])
+            above = ABOVE.search(text, 0, begin)
             is_other = name in IN_A_CYCLE.findall(text) or (of_type and of_type[3]) or end < 0
-            return None if is_other else (begin - len(above.lstrip("\n")), end + len(indent) + 3, indent)
+            return None if is_other else (above.start(), end + len(indent) + 3, indent)
         start += len(item)
     return None
 
 
+@functools.lru_cache(maxsize=None)
+def constants_in(crate):
+    """The source and the text of each constant of a crate, by its name: of those that no clause, no definition and no proof
+    names, and no two have.
+    """
+    found = [(it[1], path, it[0]) for path, text in sources_of(crate).items() for it in CONSTANT.finditer(text)]
+    often = Counter(name for name, *_ in found)
+    lines = [line for text in sources_of(crate, READ).values() for line in CITED.findall(text)]
+    cited = {name for line in lines for name in re.findall(r"\w+", line)}
+    return {name: (path, text) for name, path, text in found if often[name] == 1 and name not in cited}
+
+
+def place_of(crate, path, *others):
+    """The one function of these paths, as `rt check --only` takes them, and its source; or None."""
+    owner, name = named(path.split("::"))
+    has_owner = lambda source: owner[:1].isupper() or owner == "/".join(module_at(source))
+    found = [it for it, text in sources_of(crate).items() if has_owner(it) and span_of(text, owner, name)]
+    return (owner, name, *found) if len(found) == 1 and not others else None
+
+
+class Copies:
+    """Wrong constants, and what is made of them, as constants beside those that they are copies of, under other names."""
+
+    def __init__(self, edit, number):
+        self.crate, self.number, self.texts = edit.crate, number, {}
+        for it in edit.changes:
+            name = self.changed_by(it)
+            self.texts[name] = it.made_in(self.texts.get(name) or constants_in(self.crate)[name][1], name)
+        while more := self.made_of_these():
+            self.texts.update(more)
+
+    def changed_by(self, change):
+        """The constant in which a change lies."""
+        of = [it for it, (path, text) in constants_in(self.crate).items() if path == change.path and change.old in text]
+        if len(of) != 1:
+            raise BadEdit("it is an edit of more than functions and constants")
+        return of[0]
+
+    def made_of_these(self):
+        """The constants that name one of these, and aren't among them, with their texts."""
+        others = {name: text for name, (_, text) in constants_in(self.crate).items() if name not in self.texts}
+        return {name: text for name, text in others.items() if self.named_in(text) != text}
+
+    def named_in(self, text):
+        """A text that names these constants in the place of those that they are copies of."""
+        return BARE_NAME.sub(lambda it: self.path_to(it[0]) if it[0] in self.texts else it[0], text)
+
+    def steps_of(self, proof):
+        """A proof whose steps are named after these constants."""
+        return re.sub(r"(?<![\w.])[A-Z]\w*", lambda it: self.other(it[0]) if it[0] in self.texts else it[0], proof)
+
+    def path_to(self, name):
+        return "::".join(["crate", *module_at(constants_in(self.crate)[name][0]), self.other(name)])
+
+    def other(self, name):
+        return f"{name}_OTHERWISE_{self.number}"
+
+    def add_to(self, texts):
+        """Sources with each of these constants behind the one that it is a copy of."""
+        for name, text in self.texts.items():
+            path, right = constants_in(self.crate)[name]
+            wrong = self.named_in(text.replace(f" {name}:", f" {self.other(name)}:", 1))
+            texts = {**texts, path: texts[path].replace(right, f"{right}\n\n{wrong}", 1)}
+        return texts
+
+
 class Double:
     """A wrong body of a function as another function beside it, under a name of its own, with the same contract. So a check
-    tries several bodies of one function.
+    tries several bodies of one function. Where a constant is wrong, it is the function as it is, but with copies of this
+    constant and of those that are made of it.
     """
 
     def __init__(self, edit, number):
-        self.owner, self.name, self.path = edit.place() or (None, None, None)
+        self.copies = Copies(edit, number) if edit.only else None
+        self.owner, self.name, self.path = place_of(edit.crate, *edit.only) if edit.only else edit.place() or (None, None, None)
         source = self.path and text_of(f"{folder_of(edit.crate)}/{self.path}")
         span = source and span_of(source, self.owner, self.name)
         if not span:
             raise BadEdit("it is no edit of a single function that can have another name")
-        text = source[span[0] : span[1]]
-        for it in edit.changes:
-            if text.count(it.old) != 1:
-                raise BadEdit(f"the function has {text.count(it.old)} times, and not once: {it.old}")
-            text = text.replace(it.old, it.new)
         self.named = f"{self.name}_otherwise_{number}"
         self.module = types_in(edit.crate).get(self.owner) or module_at(self.path)
+        text = self.turned(source[span[0] : span[1]], edit)
         self.text = re.sub(rf"\bfn {self.name}\b", f"fn {self.named}", text, count=1)
 
-    def add_to(self, text):
-        """A source with this function behind the one whose body it has."""
+    def turned(self, text, edit):
+        """The text of the function as the edit has it."""
+        if self.copies and self.copies.named_in(text) == text:
+            raise BadEdit("the function has nothing of what is edited")
+        for it in () if self.copies else edit.changes:
+            text = it.made_in(text, "the function")
+        return self.copies.named_in(text) if self.copies else text
+
+    def add_to(self, texts):
+        """Sources with this function behind the one whose body it has, and what is copied for it."""
+        texts = self.copies.add_to(texts) if self.copies else texts
+        text = texts[self.path]
         _, end, _ = span_of(text, self.owner, self.name)
-        return f"{text[:end]}\n{self.text}{text[end:]}"
+        return {**texts, self.path: f"{text[:end]}\n{self.text}{text[end:]}"}
 
     def proof(self, by_hand):
         """The proof of the one as that of the other."""
         of, to = (".".join(["proofs", *it]) for it in (self.parts(self.name), self.parts(self.named)))
         said, say = (".".join(["contracts", *it]) for it in (self.parts(self.name), self.parts(self.named)))
         turn = lambda text: re.sub(rf"\b{said}\b", say, re.sub(rf"\b{of}\b", to, text))
-        return {path: turn(text) for path, text in by_hand.items()}
+        return {path: self.copies.steps_of(turn(text)) if self.copies else turn(text) for path, text in by_hand.items()}
 
     def parts(self, name):
         return [*self.module, *([self.owner] if self.owner[:1].isupper() else []), name]
@@ -423,7 +541,7 @@ class Room:
     """
 
     def __init__(self, crate, home, like=None):
-        self.crate, self.folder = crate, room_with_what_is_kept(crate, home)
+        self.crate, self.folder = crate, room_with_what_is_kept(crate, home, like and like.folder)
         self.words = ["nice", "-n", "19", *words_of_check(crate, home)]
         self.sources, self.by_hand = sources_of(crate), {}
         for path in like.by_hand if like else functions_in(crate):
@@ -464,13 +582,13 @@ class Room:
         """The edited files with all of these edits, and those that are doubles of their functions."""
         texts, doubles, turned = {}, {}, set()
         for number, edit in enumerate(edits):
-            if turned & edit.functions():
+            if turned & edit.functions() or (edit.is_of_more() and len(edits) > 1):
                 doubles[edit] = Double(edit, number)
             else:
                 texts = edit.texts(texts)
                 turned |= edit.functions()
         for it in doubles.values():
-            texts[it.path] = it.add_to(texts[it.path])
+            texts = it.add_to({**self.sources, **texts})
             folder = f"proofs/{'/'.join(it.parts(it.named))}"
             proof = it.proof(self.proof_of("/".join(it.parts(it.name))))
             texts.update({f"{folder}/{name}": text for name, text in proof.items()})
@@ -484,9 +602,8 @@ class Room:
         """
         texts, doubles = self.apply(edits)
         function = lambda it: {doubles[it].function()} if it in doubles else it.functions()
-        paths = [it.paths() for it in edits if it not in doubles]
+        paths = [{path_of(self.crate, *doubles[it].function())} if it in doubles else it.paths() for it in edits]
         asked = set() if of_crate or not paths or None in paths else set().union(*paths)
-        asked |= {path_of(self.crate, *it.function()) for it in doubles.values() if asked}
         turned = set().union(*map(function, edits))
         filled = [it for it in self.by_hand if not asked or named(it.split("/")) in turned]
         for path in filled:
@@ -551,8 +668,8 @@ def named(parts):
 
 
 def in_lots(edits):
-    """Edits in lots that can each be tried in one check, and at most so many. None that turns more than functions is among
-    others. The lots are of one size, so that they end together.
+    """Edits in lots that can each be tried in one check, and at most so many. None that turns more than functions and
+    constants is among others. The lots are of one size, so that they end together.
     """
     left, lots = edits, []
     while left:
@@ -566,9 +683,11 @@ def chosen(edits, most):
     """Edits that can be tried in one check: of a function one, and doubles of it."""
     texts, taken, functions = {}, [], set()
     doubles = {it: can_be_double(it) for it in edits}
-    for edit in sorted(edits, key=doubles.get):
-        is_apart = taken and None in edit.turned() | taken[0].turned()
-        is_second = bool(functions & edit.functions())
+    of_more = {it for it in edits if it.is_of_more()}
+    by_itself = {it for it in of_more if not doubles[it]}
+    for edit in sorted(edits, key=lambda it: (it not in by_itself, doubles[it])):
+        is_apart = taken and not by_itself.isdisjoint({edit, taken[0]})
+        is_second = edit in of_more - by_itself or bool(functions & edit.functions())
         if is_apart or (is_second and not doubles[edit]) or len(taken) == most:
             continue
         try:
@@ -581,7 +700,7 @@ def chosen(edits, most):
 
 
 def can_be_double(edit):
-    """Whether an edit can stand beside another one of its function."""
+    """Whether an edit can stand beside another one of its function, or of its constant."""
     try:
         return bool(Double(edit, 0))
     except BadEdit:
@@ -682,7 +801,9 @@ class Trial:
         """Tries wrong bodies: each has to be refused."""
         left = self.applicable(bodies)
         for _ in range(AMONG_OTHERS):
-            left = sum(self.at_once(self.not_named, in_lots(left)), [])
+            lots = in_lots(left)
+            left = [edit for lot in lots if len(lot) == 1 for edit in lot]
+            left += sum(self.at_once(self.not_named, [lot for lot in lots if len(lot) > 1]), [])
         self.at_once(self.alone, left)
 
     def not_named(self, lot):

@@ -2,12 +2,13 @@
 
 ghost use Rattle.std.specs.Prelude.{◌≡◌, IfOk, [], map};
 ghost use Rattle.clap.specs.Words.{app_of};
-ghost use Rattle.hsms_options.specs.Described.{shape_described, with_subcommands};
-ghost use Rattle.hsms_options.specs.Options.{command_line};
+ghost use Rattle.hsms_options.specs.Described.{rule_described, shape_described, with_subcommands};
+ghost use Rattle.hsms_options.specs.Excerpt.{explain_rules};
+ghost use Rattle.hsms_options.specs.Options.{command_line, encode_command, show_command};
 
-use crate::describing_capture::{CAPTURE_HELP, CAPTURE_OPTIONS, CAPTURE_USAGE};
+use crate::describing_capture::{CAPTURE_HELP, CAPTURE_USAGE, capture_options};
 use crate::describing_options::{DEPTH, DEVICE, Described, MAX, Takes, with_options};
-use crate::describing_serve::{SERVE_HELP, SERVE_OPTIONS, SERVE_USAGE};
+use crate::describing_serve::{SERVE_HELP, SERVE_USAGE, serve_options};
 use crate::limits::{FIRST_LINE, GREATEST_AROUND, LAST_LINE};
 use clap::Command;
 use std::alloc::{AllocError, Global};
@@ -83,7 +84,7 @@ pub struct Subcommand {
     pub options: &'static [Described],
 }
 
-const SHOW_OPTIONS: [Described; 4] = [
+static SHOW_OPTIONS: [Described; 4] = [
     MAX,
     DEPTH,
     Described {
@@ -100,7 +101,7 @@ const SHOW_OPTIONS: [Described; 4] = [
     },
 ];
 
-const EXPLAIN_OPTIONS: [Described; 6] = [
+static EXPLAIN_OPTIONS: [Described; 6] = [
     Described {
         name: "only",
         takes: Takes::Word("failures"),
@@ -139,7 +140,7 @@ const EXPLAIN_OPTIONS: [Described; 6] = [
     },
 ];
 
-const ENCODE_OPTIONS: [Described; 5] = [
+static ENCODE_OPTIONS: [Described; 5] = [
     DEVICE,
     Described {
         name: "system",
@@ -157,50 +158,72 @@ const ENCODE_OPTIONS: [Described; 5] = [
     },
 ];
 
-const SUBCOMMANDS: [Subcommand; 6] = [
-    Subcommand {
-        name: "show",
-        about: "Shows the HSMS messages of standard input, a line each",
-        usage: None,
-        help: SHOW_HELP,
-        options: &SHOW_OPTIONS,
-    },
-    Subcommand {
-        name: "audit",
-        about: "Audits the session log of standard input",
-        usage: Some(AUDIT_USAGE),
-        help: AUDIT_HELP,
-        options: &[],
-    },
-    Subcommand {
-        name: "explain",
-        about: "Shows a session log, what its lines answer, and each of its failures",
-        usage: Some(EXPLAIN_USAGE),
-        help: EXPLAIN_HELP,
-        options: &EXPLAIN_OPTIONS,
-    },
-    Subcommand {
-        name: "capture",
-        about: "Audits the connections of a packet capture, or writes the log of one end of them",
-        usage: Some(CAPTURE_USAGE),
-        help: CAPTURE_HELP,
-        options: &CAPTURE_OPTIONS,
-    },
-    Subcommand {
-        name: "encode",
-        about: "Encodes the messages of standard input, in notation, as HSMS octets",
-        usage: None,
-        help: ENCODE_HELP,
-        options: &ENCODE_OPTIONS,
-    },
-    Subcommand {
-        name: "serve",
-        about: "Serves one HSMS connection, and writes its log",
-        usage: Some(SERVE_USAGE),
-        help: SERVE_HELP,
-        options: &SERVE_OPTIONS,
-    },
-];
+fn show_options() -> &'static [Described]
+    ensures { map rule_described result.now ≡ show_command.rules }
+{
+    &SHOW_OPTIONS
+}
+
+fn explain_options() -> &'static [Described]
+    ensures { map rule_described result.now ≡ explain_rules }
+{
+    &EXPLAIN_OPTIONS
+}
+
+fn encode_options() -> &'static [Described]
+    ensures { map rule_described result.now ≡ encode_command.rules }
+{
+    &ENCODE_OPTIONS
+}
+
+fn subcommands() -> [Subcommand; 6]
+    ensures { map shape_described result ≡ command_line.subs }
+{
+    [
+        Subcommand {
+            name: "show",
+            about: "Shows the HSMS messages of standard input, a line each",
+            usage: None,
+            help: SHOW_HELP,
+            options: show_options(),
+        },
+        Subcommand {
+            name: "audit",
+            about: "Audits the session log of standard input",
+            usage: Some(AUDIT_USAGE),
+            help: AUDIT_HELP,
+            options: &[],
+        },
+        Subcommand {
+            name: "explain",
+            about: "Shows a session log, what its lines answer, and each of its failures",
+            usage: Some(EXPLAIN_USAGE),
+            help: EXPLAIN_HELP,
+            options: explain_options(),
+        },
+        Subcommand {
+            name: "capture",
+            about: "Audits the connections of a packet capture, or writes the log of one end of them",
+            usage: Some(CAPTURE_USAGE),
+            help: CAPTURE_HELP,
+            options: capture_options(),
+        },
+        Subcommand {
+            name: "encode",
+            about: "Encodes the messages of standard input, in notation, as HSMS octets",
+            usage: None,
+            help: ENCODE_HELP,
+            options: encode_options(),
+        },
+        Subcommand {
+            name: "serve",
+            about: "Serves one HSMS connection, and writes its log",
+            usage: Some(SERVE_USAGE),
+            help: SERVE_HELP,
+            options: serve_options(),
+        },
+    ]
+}
 
 /// The command `hsms`, which wants one of six subcommands.
 pub fn command<'a>(alloc: Global) -> Result<Command<'a>, AllocError>
@@ -211,7 +234,7 @@ pub fn command<'a>(alloc: Global) -> Result<Command<'a>, AllocError>
         .about("Audits HSMS session logs, reads and writes HSMS messages, and serves a connection")
         .version(VERSION)
         .subcommand_required(true);
-    with_subcommands(alloc, hsms, &SUBCOMMANDS)
+    with_subcommands(alloc, hsms, &subcommands())
 }
 
 // A command with these subcommands more.

@@ -1,5 +1,9 @@
 //! The subcommand `hsms capture` as it is described to `clap`.
 
+ghost use Rattle.std.specs.Prelude.{◌≡◌, map};
+ghost use Rattle.hsms_options.specs.Capturing.{capture_rules};
+ghost use Rattle.hsms_options.specs.Described.{rule_described};
+
 use crate::describing_options::{DEPTH, DEVICE, Described, MAX, Takes};
 use crate::describing_serve::{T3, T6, T7, T8};
 use crate::limits::{GREATEST_PORT, LEAST_PORT};
@@ -22,7 +26,7 @@ pub const CAPTURE_HELP: &str =
     stays told.\n\n\
     With -v a fault is told in words too.";
 
-pub const CAPTURE_OPTIONS: [Described; 12] = [
+static CAPTURE_OPTIONS: [Described; 12] = [
     Described {
         name: "port",
         takes: Takes::Number("N", LEAST_PORT as u32, GREATEST_PORT as u32),
@@ -61,3 +65,10 @@ pub const CAPTURE_OPTIONS: [Described; 12] = [
     MAX,
     DEPTH,
 ];
+
+/// The options of `hsms capture`.
+pub fn capture_options() -> &'static [Described]
+    ensures { map rule_described result.now ≡ capture_rules }
+{
+    &CAPTURE_OPTIONS
+}

@@ -1,5 +1,9 @@
 //! The subcommand `hsms serve` as it is described to `clap`.
 
+ghost use Rattle.std.specs.Prelude.{◌≡◌, map};
+ghost use Rattle.hsms_options.specs.Described.{rule_described};
+ghost use Rattle.hsms_options.specs.Service.{serve_rules};
+
 use crate::describing_options::{DEPTH, DEVICE, Described, MAX, Takes};
 use crate::limits::{GREATEST_PORT, LEAST_PORT};
 use hsms_machine::{GREATEST_TIME, LEAST_TIME};
@@ -43,7 +47,7 @@ pub const T8: Described = Described {
     help: "Longest time between octets of a message, in ms: 1 to 3600000 [default: 5000]",
 };
 
-pub const SERVE_OPTIONS: [Described; 23] = [
+static SERVE_OPTIONS: [Described; 23] = [
     Described {
         name: "role",
         takes: Takes::Word("ROLE"),
@@ -148,3 +152,10 @@ pub const SERVE_OPTIONS: [Described; 23] = [
         help: "With --again: wait before it connects again, in ms: 1 to 3600000 [default: 10000]",
     },
 ];
+
+/// The options of `hsms serve`.
+pub fn serve_options() -> &'static [Described]
+    ensures { map rule_described result.now ≡ serve_rules }
+{
+    &SERVE_OPTIONS
+}
