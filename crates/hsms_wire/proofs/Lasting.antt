@@ -106,6 +106,10 @@ lack_lasts ending.Complete lack missing is sure = absurd (sure refl)
 lack_lasts (ending.Lost packet) lack missing is sure = is
 lack_lasts (ending.Differs packet) lack missing is sure = is
 
+never : (b : Bool) → (b && false) ≡ false
+never true = refl
+never false = refl
+
 -- one that is over goes down no more, where anything is told of it
 pub never_closes : (e : Ending) (up replaced : Bool) (lack : Option Shortfall) → lack ≡ lack_behind e None → (e ≡ ending.Complete → ⊥) → (e ≡ ending.Closed → up ≡ false)
     → (up || is_some lack) ≡ true → (replaced && is_none lack) ≡ false
@@ -114,15 +118,7 @@ never_closes ending.Closed up replaced lack is sure down told =
     absurd cc
 never_closes ending.Complete up replaced lack is sure down told = absurd (sure refl)
 never_closes (ending.Lost packet) up replaced lack is sure down told = rw is (never replaced)
-  where
-    never : (b : Bool) → (b && false) ≡ false
-    never true = refl
-    never false = refl
 never_closes (ending.Differs packet) up replaced lack is sure down told = rw is (never replaced)
-  where
-    never : (b : Bool) → (b && false) ≡ false
-    never true = refl
-    never false = refl
 
 -- ---- one that is over, and went down in no entry, tells nothing
 
