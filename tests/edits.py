@@ -36,7 +36,6 @@ tries all twins, or some.
 """
 import argparse
 import functools
-import json
 import os
 import re
 import shutil
@@ -52,17 +51,13 @@ from dataclasses import dataclass
 
 sys.dont_write_bytecode = True
 
-from rooms import BUILT, READ, TOP, crates_below, crates_listed, link, mark_as_built, processors, room_for, words_of_check
+from rooms import READ, TOP, bring, crates_below, crates_listed, link, mark_as_built, processors, room_for, words_of_check
 
 EDITS = f"{TOP}/tests/must-fail"
 TWINS = f"{TOP}/tests/twins"
 WRONG_BODY = "-- wrong body: "
 OF_CRATE = "-- crate: "
 ONLY = "only: "
-
-# Where checks of a crate keep what they have checked, and how a module begins that was checked: by what has checked it.
-KEPT = "out/incremental"
-OF_KERNEL = re.compile(rb"--@ antt-checked \d+\n--@ kernel (\S+)\n")
 
 # How long a check may take, in seconds.
 LONGEST_CHECK = 3600
@@ -301,33 +296,11 @@ def keep(source, target):
     (link if source.endswith(".oantt") else shutil.copy2)(source, target)
 
 
-def room_with_what_is_kept(crate, room, like):
-    """A room for a crate, with what earlier checks kept of it, in another room or in its folder, or else with its library's
-    modules as they were checked: `rt ci` keeps nothing else.
-    """
+def room_with_what_is_kept(crate, room):
+    """A room for a crate, with what earlier checks kept of it."""
     folder = room_for(crate, room)
-    kept = [f"{it}/{KEPT}" for it in (like, folder_of(crate)) if it and os.path.isdir(f"{it}/{KEPT}")]
-    if kept:
-        shutil.copytree(kept[0], f"{folder}/{KEPT}", copy_function=keep)
-    else:
-        unpack_checked(f"{folder_of(crate)}/{BUILT}/{crate}.rlib/toolchain/checked", f"{folder}/{KEPT}")
+    bring(crate, ("out",), room, keep)
     return folder
-
-
-def unpack_checked(archive, folder):
-    """Lays the checked modules that a library holds where a check looks for what earlier ones kept."""
-    if not os.path.exists(f"{archive}.json"):
-        return
-    with open(f"{archive}.json", encoding="utf-8") as lines, open(f"{archive}.a", "rb") as modules:
-        for name, begin, length in map(json.loads, lines):
-            modules.seek(begin)
-            module = modules.read(length)
-            made_by = OF_KERNEL.match(module)
-            if made_by:
-                at = f"{folder}/{made_by[1].decode().replace('/', '_')}"
-                os.makedirs(at, exist_ok=True)
-                with open(f"{at}/{name}.oantt", "wb") as file:
-                    file.write(module)
 
 
 def write_all(folder, texts):
@@ -541,7 +514,7 @@ class Room:
     """
 
     def __init__(self, crate, home, like=None):
-        self.crate, self.folder = crate, room_with_what_is_kept(crate, home, like and like.folder)
+        self.crate, self.folder = crate, room_with_what_is_kept(crate, home)
         self.words = ["nice", "-n", "19", *words_of_check(crate, home)]
         self.sources, self.by_hand = sources_of(crate), {}
         for path in like.by_hand if like else functions_in(crate):
