@@ -8,3 +8,6 @@ mod Concluding
 mod Lasting
 mod Connections
 mod Stages
+mod Forgetting
+mod Beginnings
+mod Dealing

@@ -21,6 +21,7 @@ use Rattle.hsms_wire.specs.declared.report.Report.{Report}
 use Rattle.hsms_wire.specs.declared.shortfall.Shortfall.{Shortfall}
 use Rattle.hsms_wire.specs.Followed.{BeginsWith, EndsOpen, Follows, FollowsThem, seen_waiting}
 use Rattle.hsms_wire.specs.Logged.{ToldForGood, ToldOf}
+use Rattle.hsms_wire.specs.Report.{Tells}
 use Rattle.hsms_wire.specs.Staged.{EndsBy, EndsFlows, EndsStage, OverBy, StageGoes, StageIs, TakesStage, ToldUnanswered, WaitsOn, answered_by, answers, begins_with_syn, if_answered, is_answer, is_number, is_passive, stage_by}
 
 -- ---- the SYN of the passive end
@@ -146,12 +147,6 @@ take_waits (Ok next) pair begins s octets waiting old new answered waits = λ ve
         subst (λ (m : Option ℕ). OverBy m old.active old.passive pair number (seen ++ seen_of s octets ∷ []) old new) (sym none) waits
 take_waits (Err stop) pair begins s octets waiting old new answered waits = tt
 
--- one that began otherwise
-pub take_never : {E : Type 0} (result : Result Stage E) (pair : Pair) (begins : Option ℕ) (s : Seen) (st : Stage) (old new : Report)
-    → ((number : ℕ) (seen : List Seen) → StageIs old.active old.passive number seen st → ⊥) → IfOk result (λ next. TakesStage pair begins s st next old new)
-take_never (Ok next) pair begins s st old new never = λ verdicts number is seen numbered h. absurd (never number seen h)
-take_never (Err stop) pair begins s st old new never = tt
-
 -- ---- no segment follows
 
 pub end_open_stage : {E : Type 0} (result : Result (Unit {0}) E) (pair : Pair) (replaced : Bool) (missing : Option Shortfall) (o : Open) (old new : Report)
@@ -169,28 +164,24 @@ end_opening (Ok done) pair replaced missing waiting old new tells = λ verdicts 
     (subst (λ (ss : List Seen). ToldUnanswered pair ss old new) st.0 (tells verdicts))
 end_opening (Err stop) pair replaced missing waiting old new tells = tt
 
-pub end_never : {E : Type 0} (result : Result (Unit {0}) E) (pair : Pair) (replaced : Bool) (missing : Option Shortfall) (st : Stage) (old new : Report)
-    → ((number : ℕ) (seen : List Seen) → StageIs old.active old.passive number seen st → ⊥) → OnOk result (EndsStage pair replaced missing st old new)
-end_never (Ok done) pair replaced missing st old new never = λ verdicts number seen numbered h. absurd (never number seen h)
-end_never (Err stop) pair replaced missing st old new never = tt
-
 -- of one connection more
 pub flows_more : (missing : Option Shortfall) (flows : List (Pair × Flow)) (pair : Pair) (flow : Flow) (old mid new : Report) → EndsFlows missing flows old mid
-    → EndsStage pair false missing flow.stage mid new → EndsFlows missing (flows ++ (pair, flow) ∷ []) old new
-flows_more missing [] pair flow old mid new before ends = (new, subst (λ (r : Report). EndsStage pair false missing flow.stage r new) before ends, refl)
-flows_more missing ((other, first) ∷ flows) pair flow old mid new before ends =
-    (before.0, before.1, flows_more missing flows pair flow before.0 mid new before.2 ends)
+    → Tells mid new → EndsStage pair false missing flow.stage mid new → EndsFlows missing (flows ++ (pair, flow) ∷ []) old new
+flows_more missing [] pair flow old mid new before told ends =
+    (new, subst (λ (r : Report). Tells r new) before told, subst (λ (r : Report). EndsStage pair false missing flow.stage r new) before ends, refl)
+flows_more missing ((other, first) ∷ flows) pair flow old mid new before told ends =
+    (before.0, before.1, before.2, flows_more missing flows pair flow before.0 mid new before.3 told ends)
 
 -- so far the first ones were told, and the others are left
 abbrev pub AreEnded : Option Shortfall → List (Pair × Flow) → List (Pair × Flow) → Report → Report → Type 0
 AreEnded missing all left old new = (done : List (Pair × Flow)) × (all ≡ done ++ left) × EndsFlows missing done old new
 
 pub flows_turn : (missing : Option Shortfall) (all left rest : List (Pair × Flow)) (pair : Pair) (flow : Flow) (old mid new : Report) → AreEnded missing all left old mid
-    → left ≡ (pair, flow) ∷ rest → EndsStage pair false missing flow.stage mid new → AreEnded missing all rest old new
-flows_turn missing all left rest pair flow old mid new ended takes ends = (
+    → left ≡ (pair, flow) ∷ rest → Tells mid new → EndsStage pair false missing flow.stage mid new → AreEnded missing all rest old new
+flows_turn missing all left rest pair flow old mid new ended takes told ends = (
   ended.0 ++ (pair, flow) ∷ [],
   ended.1 ∙ ap (λ (fs : List (Pair × Flow)). ended.0 ++ fs) takes ∙ sym (append_assoc ended.0 ((pair, flow) ∷ []) rest),
-  flows_more missing ended.0 pair flow old mid new ended.2 ends,
+  flows_more missing ended.0 pair flow old mid new ended.2 told ends,
 )
 
 pub flows_ended : (missing : Option Shortfall) (all left : List (Pair × Flow)) (old new : Report) → AreEnded missing all left old new → left ≡ []

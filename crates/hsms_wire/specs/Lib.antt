@@ -10,3 +10,5 @@ pub mod Followed
 pub mod Staged
 pub mod Segments
 pub mod Tabled
+pub mod Connections
+pub mod Kept

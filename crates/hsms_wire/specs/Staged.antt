@@ -1,6 +1,7 @@
 -- A connection by the number of its SYN: its packets wait until the SYN of the passive end is there, and then it is followed.
-use Rattle.std.specs.Prelude.{◌≡◌, ◌⊎◌, ◌<◌, ◌+◌, ◌%◌, ◌^◌, ◌==◌, ◌&&◌, ◌||◌, ◌++◌, ◌∷◌, ℕ, Bool, true, false, if◌then◌else◌, List, [], length, map, Option, Some, None, is_some}
+use Rattle.std.specs.Prelude.{◌≡◌, ◌⊎◌, ◌<◌, ◌+◌, ◌%◌, ◌^◌, ◌==◌, ◌&&◌, ◌||◌, ◌++◌, ◌∷◌, ℕ, Bool, true, false, if◌then◌else◌, List, [], length, map, Option, Some, None, is_some, Vec}
 use Rattle.std.specs.Option.{option_map}
+use Rattle.std.specs.declared.alloc.Global.{Global}
 use Rattle.hsms_machine.specs.Settings.{Parameters}
 use Rattle.hsms_capture.specs.declared.packet.Segment.{Segment}
 use Rattle.hsms_capture.specs.declared.packet.Side.{Side}
@@ -14,11 +15,13 @@ use Rattle.hsms_wire.specs.declared.flow.Flow.{Flow}
 use Rattle.hsms_wire.specs.declared.flow.Open.{Open}
 use Rattle.hsms_wire.specs.declared.flow.Stage.{Stage}
 use Rattle.hsms_wire.specs.declared.flow.Stage.TheVariants as stage
+use Rattle.hsms_wire.specs.declared.flow.Waiting.{Waiting}
 use Rattle.hsms_wire.specs.declared.report.Manner.TheVariants.{Verdicts}
 use Rattle.hsms_wire.specs.declared.report.Report.{Report}
 use Rattle.hsms_wire.specs.declared.shortfall.Shortfall.{Shortfall}
 use Rattle.hsms_wire.specs.declared.shortfall.Shortfall.TheVariants.{Lost}
 use Rattle.hsms_wire.specs.Logged.{ToldForGood, ToldOf}
+use Rattle.hsms_wire.specs.Report.{Tells}
 use Rattle.hsms_wire.specs.Followed.{GivesUp, IsFollowed, WhenTold, seen_waiting}
 
 -- ---- the SYN of the passive end
@@ -61,6 +64,14 @@ first_shown (s ∷ ss) = if shows_answer s then Some s.packet else first_shown s
 -- it is lost at the first such packet; where there is none, nothing is told: the connection was refused, or is half open
 abbrev pub ToldUnanswered : Pair → List Seen → Report → Report → Type 0
 ToldUnanswered pair ss old new = WhenTold (is_some (first_shown ss)) pair (option_map (λ packet. Lost packet) (first_shown ss)) None old new
+
+-- ---- how it begins
+
+-- a connection that begins with a SYN of this number, or one that was running before the capture, has no packet yet
+abbrev pub IsBegun : Option ℕ → ℕ → Flow → Type 0
+IsBegun (Some number) born flow =
+    (waiting : Vec Waiting Global) × (flow ≡ record { syn = Some number; born = born; stage = stage.Opening waiting }) × (waiting.items ≡ [])
+IsBegun None born flow = flow ≡ record { syn = None; born = born; stage = stage.Joining [] }
 
 -- ---- whether anything is left to be told of it
 
@@ -120,10 +131,18 @@ StageGoes a p pair number all (stage.Within within) old new = ⊥
 StageGoes a p pair number all stage.Over old new = OverBy (answered_by number all) a p pair number all old new
 
 -- one segment more, where verdicts are told
-abbrev pub TakesStage : Pair → Option ℕ → Seen → Stage → Stage → Report → Report → Type 0
-TakesStage pair begins s old_stage new_stage old new =
+abbrev pub GoesFrom : Pair → Option ℕ → Seen → Stage → Stage → Report → Report → Type 0
+GoesFrom pair begins s old_stage new_stage old new =
     old.manner ≡ Verdicts → (number : ℕ) → begins ≡ Some number → (seen : List Seen) → AreNumbered 0 (seen ++ s ∷ [])
     → StageIs old.active old.passive number seen old_stage → StageGoes old.active old.passive pair number (seen ++ s ∷ []) new_stage old new
+
+-- one that is over stays so, and nothing more is told of it
+abbrev pub TakesStage : Pair → Option ℕ → Seen → Stage → Stage → Report → Report → Type 0
+TakesStage pair begins s (stage.Opening waiting) next old new = GoesFrom pair begins s (stage.Opening waiting) next old new
+TakesStage pair begins s (stage.Open o) next old new = GoesFrom pair begins s (stage.Open o) next old new
+TakesStage pair begins s (stage.Joining gathering) next old new = Unit {0}
+TakesStage pair begins s (stage.Within within) next old new = Unit {0}
+TakesStage pair begins s stage.Over next old new = (next ≡ stage.Over) × (new ≡ old)
 
 abbrev pub WaitsOn : Pair → List Seen → Stage → Report → Report → Type 0
 WaitsOn pair all (stage.Opening waiting) old new = (new ≡ old) × (map seen_waiting waiting.items ≡ all)
@@ -142,12 +161,21 @@ abbrev pub EndsBy : Option ℕ → Parameters → Parameters → Pair → ℕ �
 EndsBy None a p pair number all replaced missing old new = ToldUnanswered pair all old new
 EndsBy (Some other) a p pair number all replaced missing old new = ToldOf a p pair (bases number other) all replaced missing old new
 
-abbrev pub EndsStage : Pair → Bool → Option Shortfall → Stage → Report → Report → Type 0
-EndsStage pair replaced missing s old new =
+abbrev pub EndsFrom : Pair → Bool → Option Shortfall → Stage → Report → Report → Type 0
+EndsFrom pair replaced missing s old new =
     old.manner ≡ Verdicts → (number : ℕ) (seen : List Seen) → AreNumbered 0 seen → StageIs old.active old.passive number seen s
     → EndsBy (answered_by number seen) old.active old.passive pair number seen replaced missing old new
+
+-- nothing is left of one that is over
+abbrev pub EndsStage : Pair → Bool → Option Shortfall → Stage → Report → Report → Type 0
+EndsStage pair replaced missing (stage.Opening waiting) old new = EndsFrom pair replaced missing (stage.Opening waiting) old new
+EndsStage pair replaced missing (stage.Open o) old new = EndsFrom pair replaced missing (stage.Open o) old new
+EndsStage pair replaced missing (stage.Joining gathering) old new = Unit {0}
+EndsStage pair replaced missing (stage.Within within) old new = Unit {0}
+EndsStage pair replaced missing stage.Over old new = new ≡ old
 
 -- no packet follows: what is left of each connection is told, in the order in which they began
 abbrev pub EndsFlows : Option Shortfall → List (Pair × Flow) → Report → Report → Type 0
 EndsFlows missing [] old new = new ≡ old
-EndsFlows missing ((pair, flow) ∷ flows) old new = (mid : Report) × EndsStage pair false missing flow.stage old mid × EndsFlows missing flows mid new
+EndsFlows missing ((pair, flow) ∷ flows) old new =
+    (mid : Report) × Tells old mid × EndsStage pair false missing flow.stage old mid × EndsFlows missing flows mid new

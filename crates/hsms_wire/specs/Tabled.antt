@@ -1,18 +1,25 @@
 -- The connection of a pair of ends, and what becomes of it with a packet.
-use Rattle.std.specs.Prelude.{◌≡◌, Bool, true, false, Option, Some, None}
+use Rattle.std.specs.Prelude.{◌≡◌, ◌⊎◌, ◌<◌, ◌+◌, ◌-◌, ◌%◌, ◌^◌, ◌==◌, ◌++◌, ◌∷◌, min, ℕ, Bool, true, false, List, [], Option, Some, None, IfSome}
+use Rattle.std.specs.Map.{remove_entry}
 use Rattle.indexmap.specs.IndexMap.{WritesThrough, get}
 use Rattle.hsms_packets.specs.declared.segment.Segment.{Segment}
+use Rattle.hsms_capture.specs.declared.packet.Side.{Side}
+use Rattle.hsms_capture.specs.Known.{seen_of}
 use Rattle.hsms_capture.specs.Wire.{Seen}
-use Rattle.hsms_accounts.specs.Pair.{has_syn}
+use Rattle.hsms_accounts.specs.Pair.{IsOfPeer, has_syn}
 use Rattle.hsms_accounts.specs.declared.pair.Pair.{Pair}
 use Rattle.hsms_accounts.specs.contracts.pair.PairPartialEq.TheImpl as same_pair
 use Rattle.hsms_wire.specs.declared.flow.Flow.{Flow}
 use Rattle.hsms_wire.specs.declared.flow.Stage.{Stage}
 use Rattle.hsms_wire.specs.declared.flow.Stage.TheVariants as stage
 use Rattle.hsms_wire.specs.declared.report.Report.{Report}
+use Rattle.hsms_wire.specs.declared.shortfall.Shortfall.{Shortfall}
+use Rattle.hsms_wire.specs.declared.shortfall.Shortfall.TheVariants.{Time}
+use Rattle.hsms_wire.specs.declared.table.Capture.{Capture}
 use Rattle.hsms_wire.specs.declared.table.Table.{Table}
-use Rattle.hsms_wire.specs.Segments.{has_rst}
-use Rattle.hsms_wire.specs.Staged.{IsForgotten, TakesStage}
+use Rattle.hsms_wire.specs.Report.{Tells}
+use Rattle.hsms_wire.specs.Segments.{has_rst, pair_at, syn_by, taken_segment}
+use Rattle.hsms_wire.specs.Staged.{EndsStage, IsBegun, IsForgotten, TakesStage}
 
 abbrev pub flow_of : Table → Pair → Option Flow
 flow_of table pair = get (same_pair.ghosts).eq table.flows pair
@@ -44,3 +51,87 @@ FollowsBy (Some flow) pair s old new before after =
 
 abbrev pub FollowsFlow : Pair → Seen → Table → Table → Report → Report → Type 0
 FollowsFlow pair s old new before after = FollowsBy (flow_of old pair) pair s old new before after
+
+-- ---- a connection begins
+
+-- the one before ends, since this one replaces it
+abbrev pub EndsBefore : Option Flow → Pair → Report → Report → Type 0
+EndsBefore None pair before after = after ≡ before
+EndsBefore (Some flow) pair before after = EndsStage pair true None flow.stage before after
+
+-- those that are forgotten are left out, and the others stay, in their order
+abbrev pub LeavesOut : {X : Type 0} → (X → Type 0) → List (Pair × X) → List (Pair × X) → Type 0
+LeavesOut Forgotten [] kept = kept ≡ []
+LeavesOut {X} Forgotten (one ∷ all) kept =
+    (rest : List (Pair × X)) × LeavesOut Forgotten all rest
+    × ((Forgotten one.1 × (kept ≡ rest)) ⊎ ((Forgotten one.1 → ⊥) × (kept ≡ one ∷ rest)))
+
+abbrev pub KeepsIf : {X : Type 0} → Bool → (X → Type 0) → List (Pair × X) → List (Pair × X) → Type 0
+KeepsIf true Forgotten all kept = LeavesOut Forgotten all kept
+KeepsIf false Forgotten all kept = kept ≡ all
+
+-- which is done at each 4,096th that begins
+abbrev pub KeepsOf : {X : Type 0} → (X → ℕ → Type 0) → ℕ → List (Pair × X) → List (Pair × X) → Type 0
+KeepsOf Forgotten begun all kept = KeepsIf (begun % 4096 == 0) (λ one. Forgotten one begun) all kept
+
+-- Of its pair it is the connection, and the last one of all that are known.
+pub record BeginsFlow (pair : Pair) (syn : Option ℕ) (old new : Table) (before after : Report) : Type 0 where
+  pub ended : EndsBefore (flow_of old pair) pair before after
+  pub told : Tells before after
+  pub flow : Flow
+  pub begun : IsBegun syn old.begun flow
+  pub counted : new.begun ≡ min (old.begun + 1) (2 ^ 64 - 1)
+  pub known : KeepsOf IsForgotten new.begun (remove_entry ((same_pair.ghosts).eq pair) old.flows.entries ++ (pair, flow) ∷ []) new.flows.entries
+  pub same : new ≡ record old { flows = new.flows; begun = new.begun }
+
+-- ---- what becomes of them with a segment
+
+-- it begins a connection of its pair: it tells the number of another SYN than the pair's connection has, or it is the first
+-- of a session that was running before
+abbrev pub BeginsWith : Table → Pair → Side → Segment → Option ℕ → Type 0
+BeginsWith table pair from segment (Some number) =
+    (syn_by from segment ≡ Some number) × (HasFlow table pair (λ flow. flow.syn ≡ Some number) → ⊥)
+BeginsWith table pair from segment None = Joins table pair segment
+
+abbrev pub Begins : Table → Pair → Side → Segment → Type 0
+Begins table pair from segment = (syn : Option ℕ) × BeginsWith table pair from segment syn
+
+-- more may be told of the pair's connection
+abbrev pub IsFollowed : Table → Pair → Type 0
+IsFollowed table pair = HasFlow table pair (λ flow. is_live flow.stage ≡ true)
+
+-- a packet has a time where that is known and lies within 2^64 milliseconds
+abbrev pub HasTime : Option ℕ → ℕ → Type 0
+HasTime captured time = (captured ≡ Some time) × (time < 2 ^ 64)
+
+abbrev pub seen_by : Side → Segment → Capture → ℕ → Seen
+seen_by from segment capture time = seen_of (taken_segment from capture.packet time segment) capture.octets.now
+
+-- it begins one and is its first packet, or it is one more of it
+abbrev pub TakesIt : Pair → Side → Segment → Seen → Table → Table → Report → Report → Type 0
+TakesIt pair from segment s old new before after =
+    ((syn : Option ℕ) × (begun : Table) × (ended : Report) × BeginsWith old pair from segment syn
+    × BeginsFlow pair syn old begun before ended × FollowsFlow pair s begun new ended after)
+    ⊎ ((Begins old pair from segment → ⊥) × IsFollowed old pair × FollowsFlow pair s old new before after)
+
+-- Nothing that is looked at hasn't a time: nothing behind it can be told.
+abbrev pub TakesOf : Pair → Side → Segment → Capture → Option Shortfall → Table → Table → Report → Report → Type 0
+TakesOf pair from segment capture missing old new before after =
+    ((missing ≡ None) × (time : ℕ) × HasTime capture.time time
+    × TakesIt pair from segment (seen_by from segment capture time) old new before after)
+    ⊎ ((missing ≡ Some (Time capture.packet)) × (new ≡ old) × (after ≡ before) × ((time : ℕ) → HasTime capture.time time → ⊥)
+    × (Begins old pair from segment ⊎ IsFollowed old pair))
+    ⊎ ((missing ≡ None) × (new ≡ old) × (after ≡ before) × (Begins old pair from segment → ⊥) × (IsFollowed old pair → ⊥))
+
+-- whether a segment is looked at, of which pair and end it is by its ports and by which connections are known
+abbrev pub LooksAt : Table → Segment → Option (Pair × Side) → Type 0
+LooksAt table segment (Some found) = (pair_at table.port table.flows segment ≡ Some found) × IsOfPeer table.peer found.0
+LooksAt table segment None = IfSome (pair_at table.port table.flows segment) (λ found. IsOfPeer table.peer found.0 → ⊥)
+
+abbrev pub TakesBy : Option (Pair × Side) → Segment → Capture → Option Shortfall → Table → Table → Report → Report → Type 0
+TakesBy None segment capture missing old new before after = (missing ≡ None) × (new ≡ old) × (after ≡ before)
+TakesBy (Some found) segment capture missing old new before after = TakesOf found.0 found.1 segment capture missing old new before after
+
+abbrev pub TakesPacket : Segment → Capture → Option Shortfall → Table → Table → Report → Report → Type 0
+TakesPacket segment capture missing old new before after =
+    (found : Option (Pair × Side)) × LooksAt old segment found × TakesBy found segment capture missing old new before after

@@ -91,24 +91,24 @@ enum Followed {
 
 impl Flow {
     ghost use Rattle.std.specs.Prelude.{◌≡◌, ◌↔◌, IsTrue};
-    ghost use Rattle.hsms_wire.specs.Staged.{IsIdle};
+    ghost use Rattle.hsms_wire.specs.Staged.{IsBegun, IsIdle};
     ghost use Rattle.hsms_wire.specs.Tabled.{is_live};
 
-    /// A connection that begins with a SYN of this number.
-    pub fn new(alloc: Global, syn: u32, born: u64) -> Flow {
-        Flow {
-            syn: Some(syn),
-            born,
-            stage: Stage::Opening(Vec::new(alloc)),
-        }
-    }
-
-    /// A session that was running before the capture.
-    pub fn joined(alloc: Global, born: u64) -> Flow {
-        Flow {
-            syn: None,
-            born,
-            stage: Stage::Joining(Gathering::new(alloc)),
+    /// A connection that begins with a SYN of this number, or a session that was running before the capture.
+    pub fn new(alloc: Global, syn: Option<u32>, born: u64) -> Flow
+        ensures { IsBegun syn born result }
+    {
+        match syn {
+            Some(syn) => Flow {
+                syn: Some(syn),
+                born,
+                stage: Stage::Opening(Vec::new(alloc)),
+            },
+            None => Flow {
+                syn: None,
+                born,
+                stage: Stage::Joining(Gathering::new(alloc)),
+            },
         }
     }
 

@@ -1,8 +1,9 @@
 //! The connections of a capture at a port.
 
-ghost use Rattle.std.specs.Prelude.{◌≡◌, ◌↔◌, ◌<◌, IsTrue};
+ghost use Rattle.std.specs.Prelude.{◌≡◌, ◌↔◌, ◌<◌, ℕ, IfNone, IfSome, IsTrue};
 ghost use Rattle.hsms_wire.specs.Segments.{has_flag, taken_segment, syn_by};
 ghost use Rattle.hsms_wire.specs.Staged.{IsForgotten};
+ghost use Rattle.hsms_wire.specs.Tabled.{HasTime};
 
 use crate::flow::{Flow, Stage};
 use crate::report::Report;
@@ -55,13 +56,14 @@ impl Drop for Table {
 }
 
 impl Table {
-    ghost use Rattle.std.specs.Prelude.{◌≡◌, ◌↔◌, true, OnOk, IfNone, IfSome, IsTrue, Some};
+    ghost use Rattle.std.specs.Prelude.{◌≡◌, ◌↔◌, ℕ, true, false, IfOk, OnOk, IfNone, IfSome, IsTrue, Some};
     ghost use Rattle.hsms_capture.specs.Known.{seen_of};
     ghost use Rattle.hsms_accounts.specs.Pair.{IsOfPeer};
+    ghost use Rattle.hsms_wire.specs.Kept.{EndsAsDealt, TakesAsDealt};
     ghost use Rattle.hsms_wire.specs.Report.{Tells};
     ghost use Rattle.hsms_wire.specs.Segments.{pair_at};
-    ghost use Rattle.hsms_wire.specs.Staged.{EndsFlows};
-    ghost use Rattle.hsms_wire.specs.Tabled.{FollowsFlow, HasFlow, Joins, is_live};
+    ghost use Rattle.hsms_wire.specs.Staged.{EndsFlows, IsForgotten};
+    ghost use Rattle.hsms_wire.specs.Tabled.{BeginsFlow, BeginsWith, FollowsFlow, HasFlow, Joins, KeepsOf, TakesOf, TakesPacket, is_live};
 
     /// No connection, at this port of passive ends, with an end of this address, where there is one; those that were
     /// running before the capture are looked at or not.
@@ -85,24 +87,15 @@ impl Table {
         capture: Capture<'_>,
     ) -> Result<Option<Shortfall>, Stop>
         ensures told { OnOk result (Tells report.old report.new) }
+        ensures takes { IfOk result (λ missing. TakesPacket segment.now capture.entry missing self.old self.new
+            report.old report.new) }
+        ensures deals { IfOk result (λ missing. TakesAsDealt segment.now capture.entry missing self.old self.new
+            report.old report.new) }
     {
-        let Some((pair, from)) = self.pair_of(segment) else {
-            return Ok(None);
-        };
-        let syn = syn_of(segment, from).filter(|syn| !self.has(&pair, *syn));
-        let joins = self.joins(&pair, segment);
-        if syn.is_none() && !self.is_live(&pair) && !joins {
-            return Ok(None);
+        match self.pair_of(segment) {
+            Some((pair, from)) => self.take_of(alloc, report, pair, from, segment, capture),
+            None => Ok(None),
         }
-        let Some(time) = capture.time.and_then(|time| u64::try_from(time).ok()) else {
-            return Ok(Some(Shortfall::Time(capture.packet)));
-        };
-        if syn.is_some() || joins {
-            self.begin(alloc, report, pair, syn)?;
-        }
-        let segment = segment_of(segment, from, capture.packet, time);
-        self.follow(alloc, report, &pair, segment, capture.octets)?;
-        Ok(None)
     }
 
     /// Tells what is left of each connection, in the order in which they began.
@@ -115,6 +108,7 @@ impl Table {
     ) -> Result<(), Stop>
         ensures told { OnOk result (Tells report.old report.new) }
         ensures ends { OnOk result (EndsFlows missing self.flows.entries report.old report.new) }
+        ensures deals { OnOk result (EndsAsDealt missing self report.old report.new) }
     {
         let Table {
             port: _,
@@ -127,6 +121,37 @@ impl Table {
             flow.stage.end(alloc, report, &pair, false, missing)?;
         }
         Ok(())
+    }
+
+    // Takes a packet that an end of a pair sent.
+    #[tactic(auto, using(crate::proofs::Tellings::tells_nothing, crate::proofs::Tellings::tells_then, crate::proofs::Tellings::ok_then))]
+    fn take_of(
+        &mut self,
+        alloc: Global,
+        report: &mut Report,
+        pair: Pair,
+        from: Side,
+        segment: &packets::Segment,
+        capture: Capture<'_>,
+    ) -> Result<Option<Shortfall>, Stop>
+        ensures told { OnOk result (Tells report.old report.new) }
+        ensures takes { IfOk result (λ missing. TakesOf pair from segment.now capture.entry missing self.old self.new
+            report.old report.new) }
+    {
+        let syn = self.new_syn(&pair, from, segment);
+        let begins = syn.is_some() || self.joins(&pair, segment);
+        if !begins && !self.is_live(&pair) {
+            return Ok(None);
+        }
+        let Some(time) = time_of(capture.time) else {
+            return Ok(Some(Shortfall::Time(capture.packet)));
+        };
+        let taken = segment_of(segment, from, capture.packet, time);
+        if begins {
+            self.begin(alloc, report, pair, syn)?;
+        }
+        self.follow(alloc, report, &pair, taken, capture.octets)?;
+        Ok(None)
     }
 
     // The pair of a segment, and the end that sent it, if it is one that is looked at.
@@ -170,6 +195,18 @@ impl Table {
         }
     }
 
+    // The number of a SYN with which a segment begins a connection of a pair, if it does so with one.
+    fn new_syn(&self, pair: &Pair, from: Side, segment: &packets::Segment) -> Option<u32>
+        ensures there { IfSome result (λ number. BeginsWith self.now pair.now from segment.now (Some number)) }
+        ensures none { IfNone result ((number : ℕ) → BeginsWith self.now pair.now from segment.now (Some number) → ⊥) }
+    {
+        let syn = syn_of(segment, from)?;
+        if self.has(pair, syn) {
+            return None;
+        }
+        Some(syn)
+    }
+
     // Whether a segment is the first of a session that was running before the capture.
     fn joins(&self, pair: &Pair, segment: &packets::Segment) -> bool
         ensures { IsTrue result ↔ Joins self.now pair.now segment.now }
@@ -210,23 +247,35 @@ impl Table {
         syn: Option<u32>,
     ) -> Result<(), Stop>
         ensures told { OnOk result (Tells report.old report.new) }
+        ensures begins { OnOk result (BeginsFlow pair syn self.old self.new report.old report.new) }
     {
         if let Some(before) = self.flows.shift_remove(&pair) {
             before.stage.end(alloc, report, &pair, true, None)?;
         }
-        let flow = match syn {
-            Some(syn) => Flow::new(alloc, syn, self.begun),
-            None => Flow::joined(alloc, self.begun),
-        };
+        let flow = Flow::new(alloc, syn, self.begun);
         if self.flows.insert(pair, flow).is_err() {
             return Err(Stop::Memory);
         }
         self.begun = self.begun.saturating_add(1);
+        self.forget();
+        Ok(())
+    }
+
+    // Forgets connections of which nothing is left to be told, now and then.
+    fn forget(&mut self)
+        ensures known { KeepsOf IsForgotten self.old.begun self.old.flows.entries self.new.flows.entries }
+        ensures same { self.new ≡ record self.old { flows = self.new.flows } }
+    {
         if self.begun % REMEMBERED == 0 {
             let begun = self.begun;
-            self.flows.retain(|_, flow| !is_forgotten(flow, begun));
+            self.flows.retain(
+                |_pair: &Pair, flow: &mut Flow| -> bool
+                    ensures kept { result ≡ true → IsForgotten flow.old begun → ⊥ }
+                    ensures forgotten { result ≡ false → IsForgotten flow.old begun }
+                    ensures same { flow.new ≡ flow.old }
+                { !is_forgotten(flow, begun) },
+            );
         }
-        Ok(())
     }
 
     // Takes a packet of the connection of a pair.
@@ -257,6 +306,14 @@ fn is_forgotten(flow: &Flow, begun: u64) -> bool
     ensures { IsTrue result ↔ IsForgotten flow.now begun }
 {
     flow.is_idle() && begun.saturating_sub(flow.born) > REMEMBERED
+}
+
+// The time of a packet, where it is known and lies within 2^64 milliseconds.
+fn time_of(captured: Option<u128>) -> Option<u64>
+    ensures there { IfSome result (HasTime captured) }
+    ensures none { IfNone result ((time : ℕ) → HasTime captured time → ⊥) }
+{
+    u64::try_from(captured?).ok()
 }
 
 // The number of the active end's SYN, where a segment tells it: its own SYN, or what the other end's SYN acknowledges.

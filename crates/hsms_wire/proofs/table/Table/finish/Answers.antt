@@ -1,4 +1,5 @@
 use Rattle.std.proofs.Common.{[], refl, sym}
+use Rattle.hsms_wire.proofs.Dealing.{ends_all}
 use Rattle.hsms_wire.proofs.Stages.{flows_ended, flows_turn}
 use Rattle.hsms_wire.proofs.Tellings.{tells_nothing, tells_then}
 use Rattle.hsms_wire.proofs.table.Table.finish.Goals as goal
@@ -16,10 +17,14 @@ loop-pair-preserved c =
     record {
       told = tells_then first c.loop-pair.report c.end.new.report inv.told c.in_ok-end.ensures.told;
       ends = flows_turn c.args.missing c.args.self.flows.entries c.loop-pair.pair-iterator c.next.new.self c.in-Some.pair c.in-Some.flow first
-          c.loop-pair.report c.end.new.report inv.ends c.in-Some.ensures.steps c.in_ok-end.ensures.ends;
+          c.loop-pair.report c.end.new.report inv.ends c.in-Some.ensures.steps c.in_ok-end.ensures.told c.in_ok-end.ensures.ends;
     }
 
 pub returns-clause-ends : goal.returns-clause-ends
 returns-clause-ends c =
     flows_ended c.args.missing c.args.self.flows.entries c.loop-pair.pair-iterator c.args.report.now c.loop-pair.report c.loop-pair.invariant.ends
     c.in-None.ensures.steps.0
+
+pub returns-clause-deals : goal.returns-clause-deals
+returns-clause-deals c = λ port peer a p last all report is.
+    ends_all a p last c.args.missing c.args.self.flows.entries all.known c.args.report.now c.loop-pair.report report is.same (returns-clause-ends c)

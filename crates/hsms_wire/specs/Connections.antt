@@ -1,0 +1,150 @@
+-- The connections of a capture by their packets: which packets are those of each, and what is told of it.
+use Rattle.std.specs.Prelude.{◌≡◌, ◌⊎◌, ◌<◌, ◌+◌, ◌-◌, ◌^◌, ◌++◌, ◌∷◌, min, ℕ, Bool, true, false, List, [], Option, Some, None, is_some}
+use Rattle.std.specs.Map.{lookup, remove_entry, set_value}
+use Rattle.std.specs.Option.{option_map}
+use Rattle.std.specs.declared.net.ip_addr.IpAddr.{IpAddr}
+use Rattle.hsms_machine.specs.Settings.{Parameters}
+use Rattle.hsms_packets.specs.declared.segment.Segment.{Segment}
+use Rattle.hsms_capture.specs.declared.packet.Side.{Side}
+use Rattle.hsms_capture.specs.Known.{seen_of}
+use Rattle.hsms_capture.specs.Wire.{Seen}
+use Rattle.hsms_accounts.specs.Pair.{IsOfPeer, pairs_at}
+use Rattle.hsms_accounts.specs.declared.pair.Pair.{Pair}
+use Rattle.hsms_accounts.specs.contracts.pair.PairPartialEq.TheImpl as same_pair
+use Rattle.hsms_wire.specs.declared.report.Report.{Report}
+use Rattle.hsms_wire.specs.declared.shortfall.Shortfall.{Shortfall}
+use Rattle.hsms_wire.specs.declared.shortfall.Shortfall.TheVariants.{Time}
+use Rattle.hsms_wire.specs.Segments.{pair_among, syn_by, taken_segment}
+use Rattle.hsms_wire.specs.Staged.{EndsBy, OverBy, answered_by, first_shown}
+use Rattle.hsms_wire.specs.Tabled.{HasTime, KeepsOf}
+
+-- A connection: the number of its SYN, how many had begun before it, and its packets so far, unless it was told.
+pub record Connection : Type 0 where
+  pub number : ℕ
+  pub born : ℕ
+  pub packets : Option (List Seen)
+
+-- of each pair the last one, in the order in which they began, and how many have begun
+pub record Connections : Type 0 where
+  pub known : List (Pair × Connection)
+  pub begun : ℕ
+
+-- ---- which are remembered
+
+-- nothing is left to be told of it: it was told, or it waits for the SYN of the passive end, and no packet shows that there
+-- was one
+abbrev pub NothingIsLeft : ℕ → Option (List Seen) → Type 0
+NothingIsLeft number None = Unit {0}
+NothingIsLeft number (Some seen) = (answered_by number seen ≡ None) × (is_some (first_shown seen) ≡ false)
+
+-- it is forgotten where more than 4,096 have begun after it, and nothing is left to be told of it
+abbrev pub IsGone : Connection → ℕ → Type 0
+IsGone one begun = NothingIsLeft one.number one.packets × (one.born + 4096 < begun)
+
+abbrev pub connection_of : Connections → Pair → Option Connection
+connection_of all pair = lookup ((same_pair.ghosts).eq pair) all.known
+
+abbrev pub Has : Connections → Pair → (Connection → Type 0) → Type 0
+Has all pair IsSo = (one : Connection) × (connection_of all pair ≡ Some one) × (IsGone one all.begun → ⊥) × IsSo one
+
+-- ---- one begins
+
+-- with a segment that tells the number of its SYN, where the pair's isn't the one with this number
+abbrev pub Starts : Connections → Pair → Side → Segment → ℕ → Type 0
+Starts all pair from segment number = (syn_by from segment ≡ Some number) × (Has all pair (λ one. one.number ≡ number) → ⊥)
+
+abbrev pub starting : ℕ → ℕ → Connection
+starting number born = record { number = number; born = born; packets = Some [] }
+
+-- no packet of it follows: what is left of it is told
+abbrev pub EndsWith : Parameters → Parameters → Pair → Bool → Option Shortfall → ℕ → Option (List Seen) → Report → Report → Type 0
+EndsWith a p pair replaced missing number None old new = new ≡ old
+EndsWith a p pair replaced missing number (Some seen) old new = EndsBy (answered_by number seen) a p pair number seen replaced missing old new
+
+-- since another one replaces it
+abbrev pub IsReplaced : Parameters → Parameters → Pair → Option Connection → Report → Report → Type 0
+IsReplaced a p pair None old new = new ≡ old
+IsReplaced a p pair (Some one) old new = EndsWith a p pair true None one.number one.packets old new
+
+pub record StartsOne (a p : Parameters) (pair : Pair) (number : ℕ) (old new : Connections) (before after : Report) : Type 0 where
+  pub replaced : IsReplaced a p pair (connection_of old pair) before after
+  pub counted : new.begun ≡ min (old.begun + 1) (2 ^ 64 - 1)
+  pub known : KeepsOf IsGone new.begun (remove_entry ((same_pair.ghosts).eq pair) old.known ++ (pair, starting number old.begun) ∷ []) new.known
+
+-- ---- one packet more
+
+-- it is one of its packets, or the one with which all is told of it
+abbrev pub Goes : Parameters → Parameters → Pair → ℕ → Seen → Option (List Seen) → Option (List Seen) → Report → Report → Type 0
+Goes a p pair number s None next old new = (next ≡ None) × (new ≡ old)
+Goes a p pair number s (Some seen) (Some all) old new = (all ≡ seen ++ s ∷ []) × (new ≡ old)
+Goes a p pair number s (Some seen) None old new = OverBy (answered_by number (seen ++ s ∷ [])) a p pair number (seen ++ s ∷ []) old new
+
+abbrev pub GoesBy : Option Connection → Parameters → Parameters → Pair → Seen → Connections → Connections → Report → Report → Type 0
+GoesBy None a p pair s old new before after = (new ≡ old) × (after ≡ before)
+GoesBy (Some one) a p pair s old new before after =
+    (packets : Option (List Seen))
+    × (new ≡ record old { known = set_value ((same_pair.ghosts).eq pair) old.known (record one { packets = packets }) })
+    × Goes a p pair one.number s one.packets packets before after
+
+abbrev pub GoesOn : Parameters → Parameters → Pair → Seen → Connections → Connections → Report → Report → Type 0
+GoesOn a p pair s old new before after = GoesBy (connection_of old pair) a p pair s old new before after
+
+-- ---- a packet of the capture
+
+-- its number, when it was captured, if the file says so, and the octets of its segment
+pub record Captured : Type 0 where
+  pub packet : ℕ
+  pub time : Option ℕ
+  pub octets : List ℕ
+
+-- what its connection takes, in milliseconds since 1970
+abbrev pub seen_at : Side → Segment → Captured → ℕ → Seen
+seen_at from segment captured time = seen_of (taken_segment from captured.packet time segment) captured.octets
+
+abbrev pub StartsAny : Connections → Pair → Side → Segment → Type 0
+StartsAny all pair from segment = (number : ℕ) × Starts all pair from segment number
+
+abbrev pub IsOpen : Connections → Pair → Type 0
+IsOpen all pair = Has all pair (λ one. is_some one.packets ≡ true)
+
+-- it begins a connection and is its first packet, or it is the next one of one that is open
+abbrev pub Deals : Parameters → Parameters → Pair → Side → Segment → Seen → Connections → Connections → Report → Report → Type 0
+Deals a p pair from segment s old new before after =
+    ((number : ℕ) × (begun : Connections) × (ended : Report) × Starts old pair from segment number
+    × StartsOne a p pair number old begun before ended × GoesOn a p pair s begun new ended after)
+    ⊎ ((StartsAny old pair from segment → ⊥) × IsOpen old pair × GoesOn a p pair s old new before after)
+
+-- It is dealt so where it has a time. Where it would be, and has none, that is missing. Else it is passed over.
+abbrev pub DealsOf : Parameters → Parameters → Pair → Side → Segment → Captured → Option Shortfall → Connections → Connections → Report → Report → Type 0
+DealsOf a p pair from segment captured missing old new before after =
+    ((missing ≡ None) × (time : ℕ) × HasTime captured.time time
+    × Deals a p pair from segment (seen_at from segment captured time) old new before after)
+    ⊎ ((missing ≡ Some (Time captured.packet)) × (new ≡ old) × (after ≡ before) × ((time : ℕ) → HasTime captured.time time → ⊥)
+    × (StartsAny old pair from segment ⊎ IsOpen old pair))
+    ⊎ ((missing ≡ None) × (new ≡ old) × (after ≡ before) × (StartsAny old pair from segment → ⊥) × (IsOpen old pair → ⊥))
+
+-- of which pair it is, and which end sent it: by its ports, and where both are the port, by which pair has a connection
+abbrev pub has_one : Connections → Pair → Bool
+has_one all pair = is_some (connection_of all pair)
+
+abbrev pub pair_in : ℕ → Connections → Segment → Option (Pair × Side)
+pair_in port all segment = option_map (pair_among (has_one all)) (pairs_at port segment)
+
+abbrev pub DealsBy : Option IpAddr → Option (Pair × Side) → Parameters → Parameters → Segment → Captured → Option Shortfall → Connections → Connections → Report → Report → Type 0
+DealsBy peer None a p segment captured missing old new before after = (missing ≡ None) × (new ≡ old) × (after ≡ before)
+DealsBy peer (Some found) a p segment captured missing old new before after =
+    (IsOfPeer peer found.0 × DealsOf a p found.0 found.1 segment captured missing old new before after)
+    ⊎ ((IsOfPeer peer found.0 → ⊥) × (missing ≡ None) × (new ≡ old) × (after ≡ before))
+
+-- a packet, where the passive ends have this port, and one end has this address, where one is asked for
+abbrev pub DealsPacket : ℕ → Option IpAddr → Parameters → Parameters → Segment → Captured → Option Shortfall → Connections → Connections → Report → Report → Type 0
+DealsPacket port peer a p segment captured missing old new before after =
+    DealsBy peer (pair_in port old segment) a p segment captured missing old new before after
+
+-- ---- no packet follows
+
+-- what is left of each is told, in the order in which they began
+abbrev pub EndsAll : Parameters → Parameters → Option Shortfall → List (Pair × Connection) → Report → Report → Type 0
+EndsAll a p missing [] old new = new ≡ old
+EndsAll a p missing ((pair, one) ∷ all) old new =
+    (mid : Report) × EndsWith a p pair false missing one.number one.packets old mid × EndsAll a p missing all mid new

@@ -1,0 +1,68 @@
+-- The connections that are kept, as those of the definition.
+use Rattle.std.specs.Prelude.{◌≡◌, ◌≤◌, ◌<◌, ◌∷◌, ℕ, false, List, [], Option, Some, None}
+use Rattle.std.specs.declared.net.ip_addr.IpAddr.{IpAddr}
+use Rattle.hsms_machine.specs.Settings.{Parameters}
+use Rattle.hsms_packets.specs.declared.segment.Segment.{Segment}
+use Rattle.hsms_capture.specs.Wire.{Seen}
+use Rattle.hsms_accounts.specs.declared.pair.Pair.{Pair}
+use Rattle.hsms_wire.specs.declared.flow.Flow.{Flow}
+use Rattle.hsms_wire.specs.declared.flow.Stage.{Stage}
+use Rattle.hsms_wire.specs.declared.flow.Stage.TheVariants as stage
+use Rattle.hsms_wire.specs.declared.report.Manner.TheVariants.{Verdicts}
+use Rattle.hsms_wire.specs.declared.report.Report.{Report}
+use Rattle.hsms_wire.specs.declared.shortfall.Shortfall.{Shortfall}
+use Rattle.hsms_wire.specs.declared.table.Capture.{Capture}
+use Rattle.hsms_wire.specs.declared.table.Table.{Table}
+use Rattle.hsms_wire.specs.Connections.{Captured, Connection, Connections, DealsPacket, EndsAll}
+use Rattle.hsms_wire.specs.Staged.{StageIs}
+
+-- each is past the one before it, and none past the last one
+abbrev pub UpTo : ℕ → ℕ → List Seen → Type 0
+UpTo first last [] = first ≤ last
+UpTo first last (s ∷ ss) = (first < s.packet) × UpTo s.packet last ss
+
+-- its packets wait, or it is followed; or it was told
+abbrev pub StageStands : Parameters → Parameters → ℕ → ℕ → Option (List Seen) → Stage → Type 0
+StageStands a p last number None st = st ≡ stage.Over
+StageStands a p last number (Some seen) st = StageIs a p number seen st × UpTo 0 last seen
+
+pub record IsOne (a p : Parameters) (last : ℕ) (flow : Flow) (one : Connection) : Type 0 where
+  pub syn : flow.syn ≡ Some one.number
+  pub born : flow.born ≡ one.born
+  pub stands : StageStands a p last one.number one.packets flow.stage
+
+-- one for one
+abbrev pub AreSame : Parameters → Parameters → ℕ → List (Pair × Flow) → List (Pair × Connection) → Type 0
+AreSame a p last [] [] = Unit {0}
+AreSame a p last [] (one ∷ ones) = ⊥
+AreSame a p last (flow ∷ flows) [] = ⊥
+AreSame a p last (flow ∷ flows) (one ∷ ones) = (one.0 ≡ flow.0) × IsOne a p last flow.1 one.1 × AreSame a p last flows ones
+
+-- what it is of: the port, the peer's address, and sessions that begin with a SYN
+pub record IsTable (port : ℕ) (peer : Option IpAddr) (a p : Parameters) (last : ℕ) (table : Table) (all : Connections) : Type 0 where
+  pub port_is : table.port ≡ port
+  pub peer_is : table.peer ≡ peer
+  pub joined : table.is_joined ≡ false
+  pub begun : all.begun ≡ table.begun
+  pub same : AreSame a p last table.flows.entries all.known
+
+pub record IsReport (a p : Parameters) (report : Report) : Type 0 where
+  pub verdicts : report.manner ≡ Verdicts
+  pub active : report.active ≡ a
+  pub passive : report.passive ≡ p
+
+abbrev pub captured_of : Capture → Captured
+captured_of capture = record { packet = capture.packet; time = capture.time; octets = capture.octets.now }
+
+-- A packet is dealt as the definition says, where verdicts are told, of sessions that begin with a SYN.
+abbrev pub TakesAsDealt : Segment → Capture → Option Shortfall → Table → Table → Report → Report → Type 0
+TakesAsDealt segment capture missing old new before after =
+    (port : ℕ) (peer : Option IpAddr) (a p : Parameters) (last : ℕ) (all : Connections) → IsReport a p before → last < capture.packet
+    → IsTable port peer a p last old all
+    → (next : Connections) × DealsPacket port peer a p segment (captured_of capture) missing all next before after × IsTable port peer a p capture.packet new next
+
+-- and what is left is told as it says
+abbrev pub EndsAsDealt : Option Shortfall → Table → Report → Report → Type 0
+EndsAsDealt missing table old new =
+    (port : ℕ) (peer : Option IpAddr) (a p : Parameters) (last : ℕ) (all : Connections) → IsReport a p old → IsTable port peer a p last table all
+    → EndsAll a p missing all.known old new
