@@ -14,6 +14,7 @@ use Rattle.hsms_packets.specs.declared.reader.Opening.{Opening}
 use Rattle.hsms_packets.specs.declared.reader.Opening.TheVariants as opening
 use Rattle.hsms_packets.specs.Number.{number_in}
 use Rattle.hsms_packets.specs.Front.{greatest, pcap_at, pcapng_at, packet_at, timed_at, ticks_at, untimed_at, held_of, interface_at, block_of, size_at, in_block, in_section, order_of, section_at}
+use Rattle.hsms_packets.specs.Blocks.{Reading, ReadsOn}
 use Rattle.hsms_packets.specs.File.{State, Packet, Ending, complete, cut, faulty, Reads, ReadsBehind, ReadsFile, front_at, front_by, size_of, after, packets_in, new_state, opening_at, pcap_opening_at}
 
 -- it lies within so many octets, and isn't empty
@@ -248,3 +249,7 @@ behind_is_read (Err f) octets = ([], faulty 0 f, (refl, refl))
 
 pub each_is_read : (octets : List ℕ) → (packets : List Packet) × (ending : Ending) × ReadsFile octets packets ending
 each_is_read octets = behind_is_read (opening_at octets) octets
+
+pub each_rest : (r : Reading) (rest : List ℕ) → (packets : List Packet) × (ending : Ending) × ReadsOn r rest packets ending
+each_rest r rest =
+    let whole = state_is_read (length (r.ahead ++ rest)) r.state (r.ahead ++ rest) (omega arith) in (whole.1, whole.2, (whole.0, whole.3))

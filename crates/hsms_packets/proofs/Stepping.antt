@@ -15,7 +15,7 @@ use Rattle.hsms_packets.specs.declared.reader.Opening.{Opening}
 use Rattle.hsms_packets.specs.declared.reader.Opening.TheVariants as opening
 use Rattle.hsms_packets.specs.File.{State, Packet, Ending, complete, cut, faulty, EndsAs, Reads, ReadsBehind, ReadsFile, front_at, size_of, after, packets_in, greatest_count, new_state, opening_at}
 use Rattle.hsms_frame.specs.Ahead.{ReadsMore}
-use Rattle.hsms_packets.specs.Blocks.{IsOfDevice, ends_after_find, ends_after_open, Reading, ReadsOn, ReadsAll, ReadsFor, OpensFor, OpensAs, FindsFront, FindsOpening, EndsWith, StepIsWithin, StepsAs, Tells, front_told, is_more, is_unopened, opening_told, packet_of, step_of}
+use Rattle.hsms_packets.specs.Blocks.{CountsOn, IsOfDevice, ends_after_find, ends_after_open, Reading, ReadsOn, ReadsAll, ReadsFor, OpensFor, OpensAs, FindsFront, FindsOpening, EndsWith, StepIsWithin, StepsAs, Tells, front_told, is_more, is_unopened, opening_told, packet_of, step_of}
 use Rattle.hsms_packets.proofs.Behaving.{IsSound, front_is_sound, size_is_within, open_is_short, opening_is_short, opening_is_there}
 use Rattle.hsms_packets.proofs.Staying.{found_stays, fault_stays, packets_stay, opening_keeps, Keeps}
 
@@ -347,3 +347,16 @@ step_is_within s ahead f n size told found size_is told_is =
     by_front (front.Begun o size) is len = tt
     by_front (front.Described i size) is len = tt
     by_front (front.Passed counts size) is len = tt
+
+-- how many packets were passed
+pub counts_on : (s now : State) (f : Front) (n : ℕ) (told : Step) → now ≡ after s f → n ≡ now.packets → told ≡ step_of n f → CountsOn told s.packets now.packets
+counts_on s now f n told now_is n_is told_is =
+    subst (λ (t : Step). CountsOn t s.packets now.packets) (sym told_is) (by_front f (ap (λ (t : State). t.packets) now_is))
+  where
+    by_front : (f : Front) → now.packets ≡ (after s f).packets → CountsOn (step_of n f) s.packets now.packets
+    by_front front.More is = inl is
+    by_front (front.Packet r) is = (n_is ∙ is, sym n_is)
+    by_front (front.Begun o size) is = inl is
+    by_front (front.Described i size) is = inl is
+    by_front (front.Passed true size) is = inr is
+    by_front (front.Passed false size) is = inl is

@@ -1,5 +1,5 @@
 -- A capture file that is read in blocks from a source.
-use Rattle.std.specs.Prelude.{◌≡◌, ◌≤◌, ◌<◌, ◌+◌, ◌-◌, ◌^◌, ◌++◌, ℕ, Bool, true, false, List, [], ◌∷◌, length, take, drop, Option, None, Some, Result, Ok, Err}
+use Rattle.std.specs.Prelude.{◌≡◌, ◌⊎◌, ◌≤◌, ◌<◌, ◌+◌, ◌-◌, ◌^◌, ◌++◌, min, ℕ, Bool, true, false, List, [], ◌∷◌, length, take, drop, Option, None, Some, Result, Ok, Err}
 use Rattle.hsms_frame.specs.declared.fault.AheadFault.{AheadFault}
 use Rattle.hsms_frame.specs.declared.fault.AheadFault.TheVariants as ahead
 use Rattle.hsms_frame.specs.Ahead.{ReadsMore}
@@ -71,6 +71,12 @@ abbrev pub PassesOn : Step → ℕ → ℕ → Type 0
 PassesOn (step.Packet n r) old new = old < 2 ^ 64 - 1 → old < new
 PassesOn step.Passed old new = old < 2 ^ 64 - 1 → old < new
 PassesOn step.End old new = new ≡ old
+
+-- how many packets were passed: the number of a packet is how many there were with it
+abbrev pub CountsOn : Step → ℕ → ℕ → Type 0
+CountsOn (step.Packet n r) old new = (n ≡ min (old + 1) (2 ^ 64 - 1)) × (new ≡ n)
+CountsOn step.Passed old new = (new ≡ old) ⊎ (new ≡ min (old + 1) (2 ^ 64 - 1))
+CountsOn step.End old new = new ≡ old
 
 -- a part of an input was taken
 abbrev pub LeavesRest : List ℕ → Option (List ℕ) → Type 0

@@ -1,5 +1,6 @@
 -- Laws of capture files.
 use Rattle.std.specs.Prelude.{◌≡◌, ◌++◌, ℕ, List}
+use Rattle.hsms_packets.specs.Blocks.{Reading, ReadsOn}
 use Rattle.hsms_packets.specs.File.{Packet, Ending, complete, cut, faulty, ReadsFile}
 
 -- the octets of a file are read in one way
@@ -11,6 +12,10 @@ FileHasOneReading =
 -- each file is read: it has packets, and ends in some way
 abbrev pub EachFileIsRead : Type 0
 EachFileIsRead = (octets : List ℕ) → (packets : List Packet) × (ending : Ending) × ReadsFile octets packets ending
+
+-- the same of what is left in the midst of a file, whatever octets follow
+abbrev pub EachRestIsRead : Type 0
+EachRestIsRead = (r : Reading) (rest : List ℕ) → (packets : List Packet) × (ending : Ending) × ReadsOn r rest packets ending
 
 -- What was told of a front of a file stays told, with these packets and this ending of the longer one: the packets come
 -- first in it, and a fault is its fault, at the same place, behind the same packets.

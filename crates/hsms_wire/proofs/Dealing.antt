@@ -252,7 +252,7 @@ same_kept a p last begun flows kept ones same keeps = by_count (begun % 4096 == 
 
 -- ---- the table
 
-report_then : (a p : Parameters) (old new : Report) → IsReport a p old → Tells old new → IsReport a p new
+pub report_then : (a p : Parameters) (old new : Report) → IsReport a p old → Tells old new → IsReport a p new
 unfolding Tells
 report_then a p old new is tells =
     let told = tells is.verdicts in record { verdicts = told.1.manner; active = told.1.active ∙ is.active; passive = told.1.passive ∙ is.passive }
@@ -481,7 +481,7 @@ deals port peer a p last pair from segment s old new before after all report pas
         )
 
 -- those that are kept with nothing taken
-later : (port : ℕ) (peer : Option IpAddr) (a p : Parameters) (last packet : ℕ) (old new : Table) (all : Connections) → IsTable port peer a p last old all
+pub later : (port : ℕ) (peer : Option IpAddr) (a p : Parameters) (last packet : ℕ) (old new : Table) (all : Connections) → IsTable port peer a p last old all
     → last ≤ packet → new ≡ old → IsTable port peer a p packet new all
 later port peer a p last packet old new all is past same =
     subst (λ (t : Table). IsTable port peer a p packet t all) (sym same)

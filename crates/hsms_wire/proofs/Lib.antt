@@ -11,3 +11,4 @@ mod Stages
 mod Forgetting
 mod Beginnings
 mod Dealing
+mod Whole

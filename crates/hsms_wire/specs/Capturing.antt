@@ -1,5 +1,5 @@
 -- What a call of `hsms capture` answers of its devices.
-use Rattle.std.specs.Prelude.{◌≡◌, ◌⊎◌, ◌++◌, List, ℕ, Bool, Option, Some, codes, Result, Ok, Err}
+use Rattle.std.specs.Prelude.{◌≡◌, ◌⊎◌, ◌+◌, ◌-◌, ◌^◌, ◌++◌, min, List, ℕ, Bool, Option, Some, codes, Result, Ok, Err}
 use Rattle.hsms_frame.specs.Device.{Grows, WhereTold}
 use Rattle.hsms_options.specs.declared.fault.ToolFault.{ToolFault}
 use Rattle.hsms_options.specs.declared.fault.ToolFault.TheVariants as tool
@@ -8,6 +8,7 @@ use Rattle.hsms_packets.specs.declared.fault.FileFault.TheVariants as file
 use Rattle.hsms_machine.specs.declared.settings.Role.{Role}
 use Rattle.hsms_wire.specs.Report.{AnswersWell, Telling, found_behind, found_with, lines_of, nothing_found}
 use Rattle.hsms_wire.specs.declared.shortfall.Shortfall.{Shortfall}
+use Rattle.hsms_wire.specs.declared.shortfall.Shortfall.TheVariants.{File}
 
 -- something was written behind what was there before
 unfoldable pub GrowsBySome : Option (List ℕ) → Option (List ℕ) → Type 0
@@ -28,9 +29,11 @@ IsWriteOrEndless (tool.Device word) = (word.now ≡ codes "Write") ⊎ (word.now
 IsWriteOrEndless (tool.Refused words) = Unit {0}
 IsWriteOrEndless tool.Memory = Unit {0}
 
--- why a file isn't read on is told by the word of its device, as want of memory, or as what is missing
-abbrev pub IsMissingBy : FileFault → Result Shortfall ToolFault → Type 0
-IsMissingBy fault (Ok shortfall) = (fault ≡ file.Read → ⊥) × (fault ≡ file.Memory → ⊥)
-IsMissingBy fault (Err (tool.Device word)) = (fault ≡ file.Read) × (word.now ≡ codes "Read")
-IsMissingBy fault (Err (tool.Refused words)) = ⊥
-IsMissingBy fault (Err tool.Memory) = fault ≡ file.Memory
+-- why a file isn't read on behind so many packets is told by the word of its device, as want of memory, or as what is
+-- missing from the next packet on
+abbrev pub IsMissingBy : FileFault → ℕ → Result Shortfall ToolFault → Type 0
+IsMissingBy fault packets (Ok shortfall) =
+    (fault ≡ file.Read → ⊥) × (fault ≡ file.Memory → ⊥) × (shortfall ≡ File fault (min (packets + 1) (2 ^ 64 - 1)))
+IsMissingBy fault packets (Err (tool.Device word)) = (fault ≡ file.Read) × (word.now ≡ codes "Read")
+IsMissingBy fault packets (Err (tool.Refused words)) = ⊥
+IsMissingBy fault packets (Err tool.Memory) = fault ≡ file.Memory

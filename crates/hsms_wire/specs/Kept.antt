@@ -1,8 +1,14 @@
 -- The connections that are kept, as those of the definition.
-use Rattle.std.specs.Prelude.{◌≡◌, ◌≤◌, ◌<◌, ◌∷◌, ℕ, false, List, [], Option, Some, None}
+use Rattle.std.specs.Prelude.{◌≡◌, ◌≤◌, ◌<◌, ◌++◌, ◌∷◌, ℕ, Bool, false, List, [], Option, Some, None}
 use Rattle.std.specs.declared.net.ip_addr.IpAddr.{IpAddr}
 use Rattle.hsms_machine.specs.Settings.{Parameters}
+use Rattle.hsms_frame.specs.Device.{WhereTold}
+use Rattle.hsms_options.specs.declared.capturing.Capturing.{Capturing}
+use Rattle.hsms_packets.specs.declared.front.Record.{Record}
 use Rattle.hsms_packets.specs.declared.segment.Segment.{Segment}
+use Rattle.hsms_packets.specs.Blocks.{Reading, ReadsOn}
+use Rattle.hsms_packets.specs.File.{Packet, Ending}
+use Rattle.hsms_packets.specs.Segment.{segment_at}
 use Rattle.hsms_capture.specs.Wire.{Seen}
 use Rattle.hsms_accounts.specs.declared.pair.Pair.{Pair}
 use Rattle.hsms_wire.specs.declared.flow.Flow.{Flow}
@@ -14,6 +20,8 @@ use Rattle.hsms_wire.specs.declared.shortfall.Shortfall.{Shortfall}
 use Rattle.hsms_wire.specs.declared.table.Capture.{Capture}
 use Rattle.hsms_wire.specs.declared.table.Table.{Table}
 use Rattle.hsms_wire.specs.Connections.{Captured, Connection, Connections, DealsPacket, EndsAll}
+use Rattle.hsms_wire.specs.Dealt.{Concluded, DealsShown, DealsUpTo, PutsOut, Wanted}
+use Rattle.hsms_wire.specs.Report.{AnswersWell, found_of, missing_after}
 use Rattle.hsms_wire.specs.Staged.{StageIs}
 
 -- each is past the one before it, and none past the last one
@@ -66,3 +74,46 @@ abbrev pub EndsAsDealt : Option Shortfall → Table → Report → Report → Ty
 EndsAsDealt missing table old new =
     (port : ℕ) (peer : Option IpAddr) (a p : Parameters) (last : ℕ) (all : Connections) → IsReport a p old → IsTable port peer a p last table all
     → EndsAll a p missing all.known old new
+
+-- ---- the same of packets of a file
+
+abbrev pub wanted_of : Capturing → Wanted
+wanted_of options = record { port = options.port; peer = options.peer; active = options.active; passive = options.passive }
+
+abbrev pub IsTableOf : Wanted → ℕ → Table → Connections → Type 0
+IsTableOf w last table all = IsTable w.port w.peer w.active w.passive last table all
+
+abbrev pub IsReportOf : Wanted → Report → Type 0
+IsReportOf w report = IsReport w.active w.passive report
+
+abbrev pub ShowsAsDealt : ℕ → Record → List ℕ → Option Shortfall → Table → Table → Report → Report → Type 0
+ShowsAsDealt packet r octets missing old new before after =
+    (w : Wanted) (last : ℕ) (all : Connections) → IsReportOf w before → last < packet → IsTableOf w last old all
+    → (next : Connections) × DealsShown (segment_at r.link octets) w packet r.time octets missing all next before after × IsTableOf w packet new next
+
+-- and it is written what is told with it
+abbrev pub PutsAsDealt : ℕ → Record → List ℕ → Option Shortfall → Table → Table → Report → Report → Option (List ℕ) → Option (List ℕ) → Type 0
+PutsAsDealt packet r octets missing old new before after out now =
+    (w : Wanted) (last : ℕ) (all : Connections) → IsReportOf w before → last < packet → IsTableOf w last old all
+    → (next : Connections) × (told : Report) × DealsShown (segment_at r.link octets) w packet r.time octets missing all next before told
+    × PutsOut told after out now × IsTableOf w packet new next × IsReportOf w after
+
+-- all packets of a file that was opened
+abbrev pub ReadsAsDealt : Reading → Option Shortfall → Option (List ℕ) → Table → Table → Report → Report → Option (List ℕ) → Option (List ℕ) → Type 0
+ReadsAsDealt reading missing left old new before after out now =
+    (w : Wanted) (all : Connections) → reading.state.packets ≡ 0 → IsReportOf w before → IsTableOf w 0 old all
+    → WhereTold left (λ input. (packets : List Packet) × (ending : Ending) × (next : Connections) × (last : ℕ) × ReadsOn reading input packets ending
+    × DealsUpTo w packets ending missing all next before after out now × IsTableOf w last new next × IsReportOf w after)
+
+-- what is left is told, on the page
+abbrev pub ConcludesAsDealt : Option Shortfall → Table → Report → Report → Bool → Type 0
+ConcludesAsDealt missing table before after well =
+    (w : Wanted) (last : ℕ) (all : Connections) → IsReportOf w before → IsTableOf w last table all
+    → (told : Report) × (left_out : List ℕ)
+    × EndsAll w.active w.passive missing all.known (record before { shortfall = missing_after before.shortfall missing }) told
+    × (after.page.octets ≡ told.page.octets ++ left_out) × AnswersWell (found_of told) well
+
+-- and written
+abbrev pub FinishesAsDealt : Option Shortfall → Table → Report → Option (List ℕ) → Option (List ℕ) → Bool → Type 0
+FinishesAsDealt missing table before out now well =
+    (w : Wanted) (last : ℕ) (all : Connections) → IsReportOf w before → IsTableOf w last table all → Concluded w missing all before out now well

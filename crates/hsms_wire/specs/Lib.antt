@@ -12,3 +12,4 @@ pub mod Segments
 pub mod Tabled
 pub mod Connections
 pub mod Kept
+pub mod Dealt

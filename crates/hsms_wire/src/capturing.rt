@@ -1,8 +1,11 @@
 //! `hsms capture`: a capture, read once.
 
-ghost use Rattle.std.specs.Prelude.{◌≡◌, IfErr, IfOk, OnOk, None, codes};
+ghost use Rattle.std.specs.Prelude.{◌≡◌, IfErr, IfOk, OnOk, None, codes, false};
+ghost use Rattle.hsms_frame.specs.Device.{WhereTold};
 ghost use Rattle.hsms_lines.specs.Devices.{CountsFailure, IsReadWriteOrEndless};
 ghost use Rattle.hsms_wire.specs.Capturing.{CapturesTo, GrowsBySome, IsMissingBy, IsWriteOrEndless};
+ghost use Rattle.hsms_wire.specs.Dealt.{CapturesFile};
+ghost use Rattle.hsms_wire.specs.Kept.{ConcludesAsDealt, FinishesAsDealt, PutsAsDealt, ReadsAsDealt, ShowsAsDealt, wanted_of};
 ghost use Rattle.hsms_wire.specs.Report.{Concludes, EndsWith, Tells, Writes};
 ghost use Rattle.hsms_wire.specs.Segments.{body_in};
 
@@ -13,6 +16,7 @@ use crate::table::{Capture, Table};
 use hsms_accounts::Stop;
 use hsms_frame::{Sink, Source};
 use hsms_options::{Capturing, ToolFault};
+use hsms_packets::laws::each_rest_is_read;
 use hsms_packets::{FileFault, Packets, Record, Segment, Shown, Step, octets_of, segment_of};
 use std::alloc::Global;
 
@@ -45,6 +49,8 @@ pub fn capture_to<R: Source, W: Sink>(
     ensures some { GrowsBySome (W.state sink.old).written (W.state sink.new).written }
     ensures lines { IfOk result (λ well. options.log ≡ None → CapturesTo options.active.role options.passive.role
         (W.state sink.old).written (W.state sink.new).written well) }
+    ensures file { IfOk result (λ well. options.log ≡ None → options.joined ≡ false → WhereTold (R.state source.old).left
+        (λ input. CapturesFile (wanted_of options) input (W.state sink.old).written (W.state sink.new).written well)) }
 {
     let mut report = Report::new(alloc, &options);
     let mut table = Table::new(alloc, options.port, options.peer, options.joined);
@@ -75,19 +81,25 @@ fn read_all<R: Source, W: Sink>(
     ensures writes { CountsFailure (codes "Write") result (W.state sink.old).failures (W.state sink.new).failures }
     ensures some { GrowsBySome (W.state sink.old).written (W.state sink.new).written }
     ensures lines { OnOk result (Writes report.old (W.state sink.old).written report.new (W.state sink.new).written) }
+    ensures deals { IfOk result (λ missing. ReadsAsDealt packets missing (R.state source.old).left table.old table.new
+        report.old report.new (W.state sink.old).written (W.state sink.new).written) }
 {
+    each_rest_is_read();
     for _ in 0..u64::MAX {
-        match packets.next(source) {
-            Ok(Step::Packet(number, record)) => {
+        let step = match packets.next(source) {
+            Ok(step) => step,
+            Err(fault) => return Ok(Some(missing_by(fault, packets.reader().packets())?)),
+        };
+        match step {
+            Step::Packet(number, record) => {
                 let octets = octets_of(&record, packets.octets());
                 let missing = take(alloc, sink, table, report, number, &record, octets)?;
                 if missing.is_some() {
                     return Ok(missing);
                 }
             }
-            Ok(Step::Passed) => {}
-            Ok(Step::End) => return Ok(None),
-            Err(fault) => return Ok(Some(missing_by(fault, packets.reader().packets())?)),
+            Step::Passed => {}
+            Step::End => return Ok(None),
         }
     }
     Err(ToolFault::Device("Endless"))
@@ -108,6 +120,8 @@ fn take<W: Sink>(
     ensures writes { CountsFailure (codes "Write") result (W.state sink.old).failures (W.state sink.new).failures }
     ensures some { GrowsBySome (W.state sink.old).written (W.state sink.new).written }
     ensures lines { OnOk result (Writes report.old (W.state sink.old).written report.new (W.state sink.new).written) }
+    ensures deals { IfOk result (λ missing. PutsAsDealt packet «record».now octets.now missing table.old table.new
+        report.old report.new (W.state sink.old).written (W.state sink.new).written) }
 {
     let taken = take_packet(alloc, table, report, packet, record, octets);
     report.put_out(sink)?;
@@ -127,6 +141,8 @@ fn take_packet(
     octets: &[u8],
 ) -> Result<Option<Shortfall>, Stop>
     ensures told { OnOk result (Tells report.old report.new) }
+    ensures deals { IfOk result (λ missing. ShowsAsDealt packet «record».now octets.now missing table.old table.new
+        report.old report.new) }
 {
     match segment_of(record.link, octets) {
         Shown::Segment(segment) => {
@@ -157,7 +173,7 @@ fn body_of<'a>(segment: &Segment, octets: &'a [u8]) -> &'a [u8]
 
 // What a fault of a file behind so many packets leaves out, where it isn't one of the device.
 fn missing_by(fault: FileFault, packets: u64) -> Result<Shortfall, ToolFault>
-    ensures { IsMissingBy fault result }
+    ensures { IsMissingBy fault packets result }
 {
     match fault {
         FileFault::Read => Err(ToolFault::Device("Read")),
@@ -181,6 +197,8 @@ fn finish<W: Sink>(
     ensures writes { CountsFailure (codes "Write") result (W.state sink.old).failures (W.state sink.new).failures }
     ensures some { GrowsBySome (W.state sink.old).written (W.state sink.new).written }
     ensures lines { IfOk result (λ well. EndsWith missing report (W.state sink.old).written (W.state sink.new).written well) }
+    ensures deals { IfOk result (λ well. FinishesAsDealt missing table report (W.state sink.old).written
+        (W.state sink.new).written well) }
 {
     let well = conclude(alloc, table, &mut report, missing);
     report.put_out(sink)?;
@@ -197,7 +215,8 @@ fn conclude(
     report: &mut Report,
     missing: Option<Shortfall>,
 ) -> Result<bool, Stop>
-    ensures { IfOk result (λ well. Concludes missing report.old report.new well) }
+    ensures lines { IfOk result (λ well. Concludes missing report.old report.new well) }
+    ensures deals { IfOk result (λ well. ConcludesAsDealt missing table report.old report.new well) }
 {
     report.note_missing(missing);
     table.finish(alloc, report, missing)?;

@@ -56,7 +56,7 @@ impl Drop for Table {
 }
 
 impl Table {
-    ghost use Rattle.std.specs.Prelude.{◌≡◌, ◌↔◌, ℕ, true, false, IfOk, OnOk, IfNone, IfSome, IsTrue, Some};
+    ghost use Rattle.std.specs.Prelude.{◌≡◌, ◌↔◌, ℕ, [], true, false, IfOk, OnOk, IfNone, IfSome, IsTrue, Some};
     ghost use Rattle.hsms_capture.specs.Known.{seen_of};
     ghost use Rattle.hsms_accounts.specs.Pair.{IsOfPeer};
     ghost use Rattle.hsms_wire.specs.Kept.{EndsAsDealt, TakesAsDealt};
@@ -67,7 +67,10 @@ impl Table {
 
     /// No connection, at this port of passive ends, with an end of this address, where there is one; those that were
     /// running before the capture are looked at or not.
-    pub fn new(alloc: Global, port: u16, peer: Option<IpAddr>, is_joined: bool) -> Table {
+    pub fn new(alloc: Global, port: u16, peer: Option<IpAddr>, is_joined: bool) -> Table
+        ensures of { (result.port ≡ port) × (result.peer ≡ peer) × (result.is_joined ≡ is_joined) }
+        ensures none { (result.flows.entries ≡ []) × (result.begun ≡ 0) }
+    {
         Table {
             port,
             peer,

@@ -1,38 +1,82 @@
-use Rattle.std.proofs.Common.{◌∙◌, refl, rules}
+use Rattle.std.proofs.Common.{ℕ, List, take, drop, ap, subst, sym, ◌∙◌, arith, refl, rules}
+use Rattle.hsms_packets.specs.declared.packets.Step.{Step}
+use Rattle.hsms_packets.specs.Blocks.{CountsOn}
 use Rattle.hsms_wire.proofs.Tellings.{writes_nothing, writes_then}
+use Rattle.hsms_wire.proofs.Whole.{begins_so, counts_packet, counts_passed, ends_complete, ends_faulty, goes_so, passes_so, stops_so}
 use Rattle.hsms_wire.proofs.Written.{none_more, some_more}
 use Rattle.hsms_wire.proofs.capturing.read_all.Goals as goal
-use Rattle.hsms_wire.proofs.capturing.read_all.Goals.{in-Ok-Packet+in_ok-missing-in-Ok-Packet+else-is_some, in-Ok-Passed}
+use Rattle.hsms_wire.proofs.capturing.read_all.Goals.{in-Packet+in_ok-missing-in-Packet+else-is_some, in-Passed}
 
 pub loop-init : goal.loop-init
-loop-init g c = (refl, refl, writes_nothing _ _, none_more _)
+loop-init g c = (refl, refl, writes_nothing _ _, none_more _, omega arith, begins_so _ _ _ _ _)
 
-pub returns-in_err-missing-in-Ok-Packet-clause-some : goal.returns-in_err-missing-in-Ok-Packet-clause-some
-returns-in_err-missing-in-Ok-Packet-clause-some g c = some_more _ _ _ c.loop.invariant.3 c.take.ensures.some
+pub returns-in_err-missing-in-Packet-clause-some : goal.returns-in_err-missing-in-Packet-clause-some
+returns-in_err-missing-in-Packet-clause-some g c = some_more _ _ _ c.loop.invariant.3 c.take.ensures.some
 
 pub returns-then-is_some-clause-some : goal.returns-then-is_some-clause-some
 returns-then-is_some-clause-some g c = some_more _ _ _ c.loop.invariant.3 c.take.ensures.some
 
 pub returns-then-is_some-clause-lines : goal.returns-then-is_some-clause-lines
 returns-then-is_some-clause-lines g c =
-    writes_then _ _ _ _ _ _ c.loop.invariant.2 c.in_ok-missing-in-Ok-Packet.ensures.lines
+    writes_then _ _ _ _ _ _ c.loop.invariant.2 c.in_ok-missing-in-Packet.ensures.lines
 
 pub loop-preserved : goal.loop-preserved
 loop-preserved g c =
     let inv = c.loop.invariant in (
       search rules,
-      elim c.match-next-2.branch [
-        | in-Ok-Packet+in_ok-missing-in-Ok-Packet+else-is_some w ↦
-            rw w.sink-is (w.in_ok-missing-in-Ok-Packet.ensures.writes ∙ inv.1)
-        | in-Ok-Passed w ↦ rw w.sink-is inv.1
+      elim c.match-step.branch [
+        | in-Packet+in_ok-missing-in-Packet+else-is_some w ↦
+            rw w.sink-is (w.in_ok-missing-in-Packet.ensures.writes ∙ inv.1)
+        | in-Passed w ↦ rw w.sink-is inv.1
       ],
-      elim c.match-next-2.branch [
-        | in-Ok-Packet+in_ok-missing-in-Ok-Packet+else-is_some w ↦
-            rw (w.report-is, w.sink-is) (writes_then _ _ _ _ _ _ inv.2 w.in_ok-missing-in-Ok-Packet.ensures.lines)
-        | in-Ok-Passed w ↦ rw (w.report-is, w.sink-is) inv.2
+      elim c.match-step.branch [
+        | in-Packet+in_ok-missing-in-Packet+else-is_some w ↦
+            rw (w.report-is, w.sink-is) (writes_then _ _ _ _ _ _ inv.2 w.in_ok-missing-in-Packet.ensures.lines)
+        | in-Passed w ↦ rw (w.report-is, w.sink-is) inv.2
       ],
-      elim c.match-next-2.branch [
-        | in-Ok-Packet+in_ok-missing-in-Ok-Packet+else-is_some w ↦ rw w.sink-is (some_more _ _ _ inv.3 w.take.ensures.some)
-        | in-Ok-Passed w ↦ rw w.sink-is inv.3
+      elim c.match-step.branch [
+        | in-Packet+in_ok-missing-in-Packet+else-is_some w ↦ rw w.sink-is (some_more _ _ _ inv.3 w.take.ensures.some)
+        | in-Passed w ↦ rw w.sink-is inv.3
+      ],
+      elim c.match-step.branch [
+        | in-Packet+in_ok-missing-in-Packet+else-is_some w ↦
+            counts_packet w.in-Packet.number w.in-Packet.record c.args.packets.state.packets c.loop.packets.state.packets
+            c.next.new.self.state.packets c.loop.counter
+            (subst (λ (st : Step). CountsOn st c.loop.packets.state.packets c.next.new.self.state.packets) w.in-Packet.is c.in-Ok.ensures.counts) inv.4
+        | in-Passed w ↦
+            counts_passed c.args.packets.state.packets c.loop.packets.state.packets c.next.new.self.state.packets c.loop.counter
+            (subst (λ (st : Step). CountsOn st c.loop.packets.state.packets c.next.new.self.state.packets) w.in-Passed.is c.in-Ok.ensures.counts) inv.4
+      ],
+      elim c.match-step.branch [
+        | in-Packet+in_ok-missing-in-Packet+else-is_some w ↦
+            rw (w.report-is, w.sink-is, w.table-is)
+            (goes_so c.args.packets _ c.args.table.now c.args.report.now _ c.loop.packets c.next.new.self _ _ c.loop.table w.take.new.table
+            c.loop.report w.take.new.report _ _ w.in-Packet.number w.in-Packet.record w.octets_of-octets.result.now c.loop.counter c.in-Ok.step
+            w.in_ok-missing-in-Packet.missing inv.5 w.in-Packet.is c.in-Ok.ensures.step c.in-Ok.ensures.counts inv.4 c.loop-test.true
+            (w.octets_of-octets.ensures ∙ ap (λ (l : List ℕ). take w.in-Packet.record.held (drop w.in-Packet.record.body l)) w.octets.ensures)
+            (sym w.is_some.ensures ∙ w.if-is_some.false) w.in_ok-missing-in-Packet.ensures.deals)
+        | in-Passed w ↦
+            rw (w.report-is, w.sink-is, w.table-is)
+            (passes_so c.args.packets _ c.args.table.now c.args.report.now _ c.loop.packets c.next.new.self _ _ c.loop.table c.loop.report _
+            c.loop.counter c.in-Ok.step inv.5 w.in-Passed.is c.in-Ok.ensures.step c.in-Ok.ensures.counts inv.4 c.loop-test.true)
       ],
     )
+
+pub returns-then-is_some-clause-deals : goal.returns-then-is_some-clause-deals
+returns-then-is_some-clause-deals g c =
+    stops_so c.args.packets _ c.args.table.now c.args.report.now _ c.loop.packets c.next.new.self _ _ c.loop.table c.take.new.table c.loop.report
+    c.take.new.report _ _ c.in-Packet.number c.in-Packet.record c.octets_of-octets.result.now c.loop.counter c.in-Ok.step
+    c.in_ok-missing-in-Packet.missing c.each_rest_is_read.ensures c.loop.invariant.5 c.in-Packet.is c.in-Ok.ensures.step c.in-Ok.ensures.counts
+    c.loop.invariant.4 c.loop-test.true
+    (c.octets_of-octets.ensures ∙ ap (λ (l : List ℕ). take c.in-Packet.record.held (drop c.in-Packet.record.body l)) c.octets.ensures)
+    (sym c.is_some.ensures ∙ c.if-is_some.true) c.in_ok-missing-in-Packet.ensures.deals
+
+pub returns-in-End-clause-deals : goal.returns-in-End-clause-deals
+returns-in-End-clause-deals g c =
+    ends_complete c.args.packets _ c.args.table.now c.args.report.now _ c.loop.packets c.next.new.self _ _ c.loop.table c.loop.report _ c.in-Ok.step
+    c.loop.invariant.5 c.in-End.is c.in-Ok.ensures.step
+
+pub returns-in-Err-clause-deals : goal.returns-in-Err-clause-deals
+returns-in-Err-clause-deals g c =
+    ends_faulty c.args.packets _ c.args.table.now c.args.report.now _ c.loop.packets c.next.new.self _ _ c.loop.table c.loop.report _ c.in-Err.fault
+    c.packets-in-Err.result c.in_ok-missing_by-in-Err.field-0 c.loop.invariant.5 c.in-Err.ensures.step c.in_ok-missing_by-in-Err.ensures

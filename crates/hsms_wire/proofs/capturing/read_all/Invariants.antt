@@ -1,12 +1,16 @@
-use Rattle.std.proofs.Common.{◌≡◌}
+use Rattle.std.proofs.Common.{◌≡◌, ◌≤◌, ◌+◌}
 use Rattle.hsms_wire.specs.Capturing.{GrowsBySome}
 use Rattle.hsms_wire.specs.Report.{Writes}
+use Rattle.hsms_wire.proofs.Whole.{IsSoFar}
 use Rattle.hsms_wire.proofs.capturing.read_all.Given as goal
 
--- so far no device has failed, and what was written before stands
+-- so far no device has failed, what was written before stands, and each packet went to its connection
 abbrev pub invariant-loop : goal.invariant-loop
 invariant-loop g l =
     ((g.R.Source.state l.source).failures ≡ (g.R.Source.state l.initial.source).failures)
     × ((g.W.Sink.state l.sink).failures ≡ (g.W.Sink.state l.initial.sink).failures)
     × Writes l.initial.report (g.W.Sink.state l.initial.sink).written l.report (g.W.Sink.state l.sink).written
     × GrowsBySome (g.W.Sink.state l.initial.sink).written (g.W.Sink.state l.sink).written
+    × (l.packets.state.packets ≤ l.fn.packets.state.packets + l.counter)
+    × IsSoFar l.fn.packets (g.R.Source.state l.initial.source).left l.initial.table l.initial.report (g.W.Sink.state l.initial.sink).written
+        l.packets (g.R.Source.state l.source).left l.table l.report (g.W.Sink.state l.sink).written

@@ -1,7 +1,14 @@
 use Rattle.hsms_wire.proofs.Tellings.{writes_told}
+use Rattle.hsms_wire.proofs.Whole.{puts}
 use Rattle.hsms_wire.proofs.capturing.take.Goals as goal
 
 pub returns-in-Ok-clause-lines : goal.returns-in-Ok-clause-lines
 returns-in-Ok-clause-lines g c =
     writes_told c.args.report.now c.take_packet-taken.new.report c.put_out.new.self _ _ c.in-Ok.ensures.told
     c.in_ok-put_out.ensures.ok c.put_out.ensures.same c.in_ok-put_out.ensures.none
+
+pub returns-in-Ok-clause-deals : goal.returns-in-Ok-clause-deals
+returns-in-Ok-clause-deals g c =
+    puts c.args.packet c.args.record.now c.args.octets.now c.in-Ok.missing c.args.table.now c.take_packet-taken.new.table c.args.report.now
+    c.take_packet-taken.new.report c.put_out.new.self _ _ c.in-Ok.ensures.deals c.in-Ok.ensures.told c.in_ok-put_out.ensures.ok c.put_out.ensures.same
+    c.in_ok-put_out.ensures.none

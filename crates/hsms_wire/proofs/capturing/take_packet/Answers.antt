@@ -1,8 +1,23 @@
+use Rattle.std.proofs.Common.{refl, sym, ◌∙◌}
 use Rattle.hsms_wire.proofs.Tellings.{tells_left_out, tells_nothing}
+use Rattle.hsms_wire.proofs.Whole.{left_out_shows, other_shows, segment_shows}
 use Rattle.hsms_wire.proofs.capturing.take_packet.Goals as goal
 
+pub returns-in-Segment-clause-deals : goal.returns-in-Segment-clause-deals
+returns-in-Segment-clause-deals c =
+    segment_shows c.take.result c.args.packet c.args.record.now c.args.octets.now c.in-Segment.segment
+    (record { packet = c.args.packet; time = c.args.record.now.time; octets = c.body_of.result }) c.args.table.now c.take.new.self c.args.report.now
+    c.take.new.report (sym c.segment_of.ensures ∙ c.in-Segment.is) refl refl c.body_of.ensures c.take.ensures.deals
+
 pub returns-in-Other : goal.returns-in-Other
-returns-in-Other c = record { told = tells_nothing _ }
+returns-in-Other c = record {
+  told = tells_nothing _;
+  deals = other_shows c.args.packet c.args.record.now c.args.octets.now c.args.table.now c.args.report.now (sym c.segment_of.ensures ∙ c.in-Other.is);
+}
 
 pub returns-in-LeftOut : goal.returns-in-LeftOut
-returns-in-LeftOut c = record { told = tells_left_out c.args.report.now c.count.new.self }
+returns-in-LeftOut c = record {
+  told = tells_left_out c.args.report.now c.count.new.self;
+  deals = left_out_shows c.args.packet c.args.record.now c.args.octets.now c.in-LeftOut.reason c.args.table.now c.args.report.now _
+      (sym c.segment_of.ensures ∙ c.in-LeftOut.is) refl;
+}

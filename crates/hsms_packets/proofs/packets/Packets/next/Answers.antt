@@ -1,9 +1,9 @@
-use Rattle.std.proofs.Common.{refl, ap, ◌∙◌}
+use Rattle.std.proofs.Common.{ℕ, refl, ap, subst, ◌∙◌}
 use Rattle.std.proofs.lemmas.Result.{err_from_is_err_and}
 use Rattle.hsms_packets.specs.declared.fault.FileFault.TheVariants as stop
-use Rattle.hsms_packets.specs.Blocks.{Reading}
+use Rattle.hsms_packets.specs.Blocks.{CountsOn, Reading}
 use Rattle.hsms_packets.specs.contracts.packets.Packets.{the_view}
-use Rattle.hsms_packets.proofs.Stepping.{end_step, err_step, pass_step, size_fits, step_is_within}
+use Rattle.hsms_packets.proofs.Stepping.{counts_on, end_step, err_step, pass_step, size_fits, step_is_within}
 use Rattle.hsms_packets.proofs.packets.Packets.next.Goals as goal
 
 pub returns-in_err-front-clause-step : goal.returns-in_err-front-clause-step
@@ -51,3 +51,8 @@ pub returns-clause-there : goal.returns-clause-there
 returns-clause-there g c =
     let found = rw c.in-Some.is at c.in_ok-front.ensures.found in
     step_is_within c.self.inside.reader c.next_front.new.ahead c.in-Some.front c.packets.result c.in-Ok.size c.told_step.result found c.in-Ok.ensures.size c.told_step.ensures
+
+pub returns-clause-counts : goal.returns-clause-counts
+returns-clause-counts g c =
+    subst (λ (n : ℕ). CountsOn c.told_step.result n c.pass-2.new.self.packets) (ap (λ (r : Reading). r.state.packets) c.self.view_is)
+    (counts_on c.self.inside.reader c.pass-2.new.self c.in-Some.front c.packets.result c.told_step.result c.in-Ok.ensures.ok c.packets.ensures c.told_step.ensures)

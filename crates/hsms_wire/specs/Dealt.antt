@@ -1,0 +1,102 @@
+-- What is told of a capture file, packet by packet.
+use Rattle.std.specs.Prelude.{◌≡◌, ◌⊎◌, ◌<◌, ◌++◌, ◌∷◌, ℕ, Bool, true, List, [], Option, Some, None, is_some}
+use Rattle.std.specs.declared.net.ip_addr.IpAddr.{IpAddr}
+use Rattle.hsms_frame.specs.Device.{Grows}
+use Rattle.hsms_machine.specs.Settings.{Parameters}
+use Rattle.hsms_packets.specs.declared.fault.FileFault.TheVariants as stop
+use Rattle.hsms_packets.specs.declared.segment.Shown.{Shown}
+use Rattle.hsms_packets.specs.declared.segment.Shown.TheVariants as shown
+use Rattle.hsms_packets.specs.File.{Packet, Ending, ReadsFile, complete, cut, faulty}
+use Rattle.hsms_packets.specs.Segment.{segment_at}
+use Rattle.hsms_wire.specs.declared.report.Manner.TheVariants.{Verdicts}
+use Rattle.hsms_wire.specs.declared.report.Report.{Report}
+use Rattle.hsms_wire.specs.declared.shortfall.Shortfall.{Shortfall}
+use Rattle.hsms_wire.specs.declared.shortfall.Shortfall.TheVariants as lacks
+use Rattle.hsms_wire.specs.Connections.{Connections, DealsPacket, EndsAll}
+use Rattle.hsms_wire.specs.Report.{AnswersWell, found_of, missing_after, nothing_found}
+use Rattle.hsms_wire.specs.Segments.{body_in}
+
+-- What is looked at: connections whose passive ends have this port, and of which one end has this address, where one is
+-- asked for; both ends have these settings.
+pub record Wanted : Type 0 where
+  pub port : ℕ
+  pub peer : Option IpAddr
+  pub active : Parameters
+  pub passive : Parameters
+
+-- ---- a packet
+
+-- what it carries goes to a connection, where that is a segment; what is left out is counted
+abbrev pub DealsShown : Shown → Wanted → ℕ → Option ℕ → List ℕ → Option Shortfall → Connections → Connections → Report → Report → Type 0
+DealsShown (shown.Segment segment) w number time octets missing old new before after =
+    DealsPacket w.port w.peer w.active w.passive segment (record { packet = number; time = time; octets = body_in segment octets }) missing old new before after
+DealsShown shown.Other w number time octets missing old new before after = (missing ≡ None) × (new ≡ old) × (after ≡ before)
+DealsShown (shown.LeftOut reason) w number time octets missing old new before after =
+    (missing ≡ None) × (new ≡ old) × (after ≡ record before { left_out = after.left_out })
+
+abbrev pub DealsOne : Wanted → Packet → Option Shortfall → Connections → Connections → Report → Report → Type 0
+DealsOne w p missing old new before after = DealsShown (segment_at p.link p.octets) w p.number p.time p.octets missing old new before after
+
+-- what is told with it is written with it
+pub record PutsOut (told after : Report) (out now : Option (List ℕ)) : Type 0 where
+  pub written : Grows out now told.page.octets
+  pub same : after ≡ record told { page = after.page }
+  pub none : after.page.octets ≡ []
+
+-- ---- packets, one after another
+
+abbrev pub DealsEach : Wanted → List Packet → Connections → Connections → Report → Report → Option (List ℕ) → Option (List ℕ) → Type 0
+DealsEach w [] old new before after out now = (new ≡ old) × (after ≡ before) × (now ≡ out)
+DealsEach w (p ∷ ps) old new before after out now =
+    (mid : Connections) × (told : Report) × (next : Report) × (put : Option (List ℕ)) × DealsOne w p None old mid before told × PutsOut told next out put
+    × DealsEach w ps mid new next after put now
+
+-- what is missing of a file, by how it ends
+abbrev pub LacksBy : Ending → Option Shortfall → Type 0
+LacksBy complete missing = missing ≡ None
+LacksBy cut missing = (packet : ℕ) × (missing ≡ Some (lacks.File stop.CutOff packet))
+LacksBy (faulty place fault) missing = (packet : ℕ) × (missing ≡ Some (lacks.File (stop.Capture place fault) packet))
+
+-- all of them, and what is missing of the file; or up to one that lacks something, behind which nothing can be told
+abbrev pub DealsUpTo : Wanted → List Packet → Ending → Option Shortfall → Connections → Connections → Report → Report → Option (List ℕ) → Option (List ℕ) → Type 0
+DealsUpTo w ps ending missing old new before after out now =
+    (LacksBy ending missing × DealsEach w ps old new before after out now)
+    ⊎ ((front : List Packet) × (p : Packet) × (rest : List Packet) × (mid : Connections) × (between : Report) × (told : Report) × (put : Option (List ℕ))
+    × (ps ≡ front ++ p ∷ rest) × (is_some missing ≡ true) × DealsEach w front old mid before between out put × DealsOne w p missing mid new between told
+    × PutsOut told after put now)
+
+-- ---- the whole of it
+
+abbrev pub none_yet : Connections
+none_yet = record { known = []; begun = 0 }
+
+-- nothing is told yet
+pub record IsBlank (w : Wanted) (report : Report) : Type 0 where
+  pub verdicts : report.manner ≡ Verdicts
+  pub active : report.active ≡ w.active
+  pub passive : report.passive ≡ w.passive
+  pub found : found_of report ≡ nothing_found
+  pub page : report.page.octets ≡ []
+
+-- what is left of each connection is told, and what was left out; and all is well by what was found
+pub record Concluded (w : Wanted) (missing : Option Shortfall) (all : Connections) (before : Report) (out now : Option (List ℕ)) (well : Bool) : Type 0 where
+  pub told : Report
+  pub left_out : List ℕ
+  pub ends : EndsAll w.active w.passive missing all.known (record before { shortfall = missing_after before.shortfall missing }) told
+  pub written : Grows out now (told.page.octets ++ left_out)
+  pub answers : AnswersWell (found_of told) well
+
+-- What is written of a file, and what is answered: the packets that it has go to connections, one after another; of each
+-- is told what its packets show, with the packet behind which that is known, or at the end.
+pub record CapturesFile (w : Wanted) (input : List ℕ) (out now : Option (List ℕ)) (well : Bool) : Type 0 where
+  pub packets : List Packet
+  pub ending : Ending
+  pub missing : Option Shortfall
+  pub all : Connections
+  pub first : Report
+  pub last : Report
+  pub put : Option (List ℕ)
+  pub reads : ReadsFile input packets ending
+  pub blank : IsBlank w first
+  pub deals : DealsUpTo w packets ending missing none_yet all first last out put
+  pub concluded : Concluded w missing all last put now well
