@@ -1,5 +1,5 @@
 -- Whether a segment begins a connection of its pair.
-use Rattle.std.proofs.Common.{◌≡◌, ℕ, Bool, true, false, Option, Some, None, refl, sym, subst, ◌∙◌}
+use Rattle.std.proofs.Common.{◌≡◌, ℕ, Bool, true, false, Option, Some, None, sym, ◌∙◌}
 use Rattle.std.specs.Prelude.{◌↔◌, IsTrue, IfNone, IfSome, is_some}
 use Rattle.hsms_packets.specs.declared.segment.Segment.{Segment}
 use Rattle.hsms_capture.specs.declared.packet.Side.{Side}

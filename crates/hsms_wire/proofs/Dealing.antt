@@ -25,7 +25,7 @@ use Rattle.hsms_wire.specs.Connections.{Connection, Connections, Deals, DealsBy,
 use Rattle.hsms_wire.specs.Followed.{seen_waiting}
 use Rattle.hsms_wire.specs.Kept.{AreSame, captured_of, IsOne, IsReport, IsTable, StageStands, TakesAsDealt, UpTo}
 use Rattle.hsms_wire.specs.Report.{Tells}
-use Rattle.hsms_wire.specs.Staged.{EndsBy, EndsFlows, EndsStage, IsBegun, IsForgotten, IsIdle, OverBy, StageGoes, StageIs, TakesStage, answered_by, first_shown}
+use Rattle.hsms_wire.specs.Staged.{EndsFlows, EndsStage, IsBegun, IsForgotten, IsIdle, StageGoes, TakesStage, first_shown}
 use Rattle.hsms_wire.specs.Segments.{has_flow as has_flow_of, pair_among, pair_at}
 use Rattle.hsms_wire.specs.Tabled.{Begins, BeginsFlow, BeginsWith, EndsBefore, FollowsBy, FollowsFlow, HasFlow, IsFollowed, KeepsIf, KeepsOf, LeavesOut, LooksAt, TakesBy, TakesIt, TakesOf, TakesPacket, flow_of, is_live, seen_by}
 

@@ -1,5 +1,5 @@
 -- What is left of connections of which some are forgotten.
-use Rattle.std.proofs.Common.{◌≡◌, ◌%◌, ◌==◌, ◌∷◌, ℕ, Bool, true, false, cond, List, [], inl, inr, refl, sym, ap, subst, ◌∙◌}
+use Rattle.std.proofs.Common.{◌≡◌, ◌%◌, ◌==◌, ◌∷◌, ℕ, Bool, true, false, cond, List, [], inl, inr, refl, sym, subst, ◌∙◌}
 use Rattle.std.specs.Map.Calls.{RetainsPairs}
 use Rattle.hsms_accounts.specs.declared.pair.Pair.{Pair}
 use Rattle.hsms_wire.specs.declared.flow.Flow.{Flow}

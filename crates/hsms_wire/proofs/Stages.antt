@@ -22,7 +22,7 @@ use Rattle.hsms_wire.specs.declared.shortfall.Shortfall.{Shortfall}
 use Rattle.hsms_wire.specs.Followed.{BeginsWith, EndsOpen, Follows, FollowsThem, seen_waiting}
 use Rattle.hsms_wire.specs.Logged.{ToldForGood, ToldOf}
 use Rattle.hsms_wire.specs.Report.{Tells}
-use Rattle.hsms_wire.specs.Staged.{EndsBy, EndsFlows, EndsStage, OverBy, StageGoes, StageIs, TakesStage, ToldUnanswered, WaitsOn, answered_by, answers, begins_with_syn, if_answered, is_answer, is_number, is_passive, stage_by}
+use Rattle.hsms_wire.specs.Staged.{EndsBy, EndsFlows, EndsStage, OverBy, StageGoes, TakesStage, ToldUnanswered, WaitsOn, answered_by, answers, begins_with_syn, if_answered, is_answer, is_number, is_passive, stage_by}
 
 -- ---- the SYN of the passive end
 

@@ -9,26 +9,25 @@ use Rattle.hsms_machine.specs.declared.settings.Role.{Role}
 use Rattle.hsms_options.specs.declared.fault.ToolFault.{ToolFault}
 use Rattle.hsms_accounts.specs.declared.ends.Ends.{Ends}
 use Rattle.hsms_accounts.specs.declared.journal.Journal.{Journal}
-use Rattle.hsms_wire.specs.declared.left_out.LeftOut.{LeftOut}
 use Rattle.hsms_accounts.specs.declared.pair.Pair.{Pair}
 use Rattle.hsms_wire.specs.declared.report.Manner.TheVariants.{Verdicts, Log}
 use Rattle.hsms_wire.specs.declared.report.Report.{Report}
 use Rattle.hsms_wire.specs.declared.shortfall.Shortfall.{Shortfall}
 use Rattle.hsms_accounts.specs.declared.stop.Stop.{Stop}
 use Rattle.hsms_wire.specs.Capturing.{CapturesTo}
-use Rattle.hsms_wire.specs.Report.{AnswersWell, Concludes, EndsWith, Finishes, Found, HasTold, IsTold, Telling, Tells, TellsBy, TellsVerdicts, Writes, failed_after, found_after, found_behind, found_of, found_with, lines_of, missing_after, nothing_found, telling_lines}
+use Rattle.hsms_wire.specs.LeftOut.{line_of}
+use Rattle.hsms_wire.specs.Report.{AnswersWell, Concludes, EndsWith, Finishes, Found, HasTold, IsTold, Telling, Tells, TellsBehind, TellsBy, TellsVerdicts, Writes, failed_after, found_after, found_behind, found_of, found_with, lines_of, missing_after, nothing_found, telling_lines}
 
 -- ---- what is told
 
 pub tells_nothing : (old : Report) → Tells old old
 unfolding Tells
 tells_nothing old verdicts =
-    ([], record { page = sym (append-nil old.page.octets); found = refl; active = refl; passive = refl; manner = verdicts })
+    ([], record { page = sym (append-nil old.page.octets); found = refl; active = refl; passive = refl; manner = verdicts; left_out = refl })
 
-pub tells_left_out : (old : Report) (left_out : LeftOut) → Tells old (record old { left_out = left_out })
-unfolding Tells
-tells_left_out old left_out verdicts =
-    ([], record { page = sym (append-nil old.page.octets); found = refl; active = refl; passive = refl; manner = verdicts })
+pub tells_behind : {T E : Type 0} (result : Result T E) (old new : Report) → OnOk result (Tells old new) → OnOk result (TellsBehind old new)
+tells_behind (Ok done) old new tells = (old.left_out, tells)
+tells_behind (Err fault) old new tells = tt
 
 pub same_tells : {T E : Type 0} (result : Result T E) (old new : Report) → new ≡ old → OnOk result (Tells old new)
 same_tells (Ok done) old new is = subst (λ (r : Report). Tells old r) (sym is) (tells_nothing old)
@@ -60,6 +59,7 @@ tells_then a b c first second verdicts =
         active = two.1.active ∙ one.1.active;
         passive = two.1.passive ∙ one.1.passive;
         manner = two.1.manner;
+        left_out = two.1.left_out ∙ one.1.left_out;
       },
     )
 
@@ -107,6 +107,7 @@ has_one telling old mid new noted same verdicts told = record {
   active = ap (λ (r : Report). r.active) same ∙ ap (λ (r : Report). r.active) noted;
   passive = ap (λ (r : Report). r.passive) same ∙ ap (λ (r : Report). r.passive) noted;
   manner = ap (λ (r : Report). r.manner) same ∙ ap (λ (r : Report). r.manner) noted ∙ verdicts;
+  left_out = ap (λ (r : Report). r.left_out) same ∙ ap (λ (r : Report). r.left_out) noted;
 }
 
 one_told : (pair : Pair) (shortfall : Option Shortfall) (ends : Option Ends) (old mid new : Report) → NotedAs shortfall old mid
@@ -165,11 +166,11 @@ writes_then a b c before mid after first second verdicts empty =
     )
 
 -- what is told is put out
-pub writes_told : (old mid new : Report) (before after : Option (List ℕ)) → Tells old mid → Grows before after mid.page.octets
+pub writes_told : (old mid new : Report) (before after : Option (List ℕ)) → TellsBehind old mid → Grows before after mid.page.octets
     → new ≡ record mid { page = new.page } → new.page.octets ≡ [] → Writes old before new after
 unfolding Tells Writes
 writes_told old mid new before after tells grows same none verdicts empty =
-    let told = tells verdicts in
+    let told = tells.1 verdicts in
     let lines = lines_of old.active.role old.passive.role told.0 in (
       told.0,
       record {
@@ -186,17 +187,18 @@ writes_told old mid new before after tells grows same none verdicts empty =
 -- the connections that were left are told, and how all ends
 pub concludes : (missing : Option Shortfall) (old noted mid new : Report) (result : Result Bool Stop)
     → noted ≡ record old { shortfall = missing_after old.shortfall missing } → Tells noted mid → Finishes (found_of mid) result
-    → OnOk result ((line : List ℕ) × (new.page.octets ≡ mid.page.octets ++ line))
+    → OnOk result (new.page.octets ≡ mid.page.octets ++ line_of mid.left_out)
     → IfOk result (λ well. Concludes missing old new well)
 unfolding Tells
 concludes missing old noted mid new (Ok well) is tells answers page = λ verdicts.
     let told = tells (ap (λ (r : Report). r.manner) is ∙ verdicts) in
     let lines = lines_of old.active.role old.passive.role told.0 in
+    let left_out = line_of mid.left_out in
     let there : mid.page.octets ≡ old.page.octets ++ lines =
     subst (λ (r : Report). mid.page.octets ≡ r.page.octets ++ lines_of r.active.role r.passive.role told.0) is told.1.page in (
       told.0,
-      page.0,
-      page.1 ∙ ap (λ p. p ++ page.0) there ∙ append_assoc old.page.octets lines page.0,
+      mid.left_out,
+      page ∙ ap (λ p. p ++ left_out) there ∙ append_assoc old.page.octets lines left_out,
       subst (λ f. AnswersWell f well) (told.1.found ∙ ap (λ f. found_behind f told.0) (ap found_of is)) answers,
     )
 concludes missing old noted mid new (Err stop) is tells answers page = tt
@@ -205,7 +207,7 @@ pub ends_with : (missing : Option Shortfall) (old mid : Report) (before after : 
     → Concludes missing old mid well → Grows before after mid.page.octets → EndsWith missing old before after well
 ends_with missing old mid before after well concludes grows = λ verdicts empty.
     let end = concludes verdicts in
-    let lines = lines_of old.active.role old.passive.role end.0 ++ end.1 in (
+    let lines = lines_of old.active.role old.passive.role end.0 ++ line_of end.1 in (
       end.0,
       end.1,
       (λ octets is. grows octets is ∙ ap (λ l. Some (octets ++ l)) (end.2 ∙ ap (λ p. p ++ lines) empty)),
@@ -225,19 +227,20 @@ captures active passive is_told missing first mid before between after (Ok well)
     let lines = lines_of first.active.role first.passive.role one.0 in
     let more = lines_of mid.active.role mid.passive.role two.0 in
     let all = lines_of first.active.role first.passive.role (one.0 ++ two.0) in
-    let grown : Grows before after (all ++ two.1) = λ octets is.
+    let left_out = line_of two.1 in
+    let grown : Grows before after (all ++ left_out) = λ octets is.
     two.2 (octets ++ lines) (one.1.lines octets is)
-    ∙ ap Some (sym (append_assoc (octets ++ lines) more two.1)
-    ∙ ap (λ x. x ++ two.1) (joined octets (octets ++ lines) ((octets ++ lines) ++ more) first.active.role first.passive.role
+    ∙ ap Some (sym (append_assoc (octets ++ lines) more left_out)
+    ∙ ap (λ x. x ++ left_out) (joined octets (octets ++ lines) ((octets ++ lines) ++ more) first.active.role first.passive.role
     mid.active.role mid.passive.role one.0 two.0 (ap (λ (p : Parameters). p.role) one.1.active)
     (ap (λ (p : Parameters). p.role) one.1.passive) refl refl)
-    ∙ append_assoc octets all two.1) in (
+    ∙ append_assoc octets all left_out) in (
       one.0,
       two.0,
       missing,
       two.1,
-      subst (λ (p : Parameters). Grows before after (lines_of active.role p.role (one.0 ++ two.0) ++ two.1)) is_p
-          (subst (λ (p : Parameters). Grows before after (lines_of p.role first.passive.role (one.0 ++ two.0) ++ two.1)) is_a grown),
+      subst (λ (p : Parameters). Grows before after (lines_of active.role p.role (one.0 ++ two.0) ++ left_out)) is_p
+          (subst (λ (p : Parameters). Grows before after (lines_of p.role first.passive.role (one.0 ++ two.0) ++ left_out)) is_a grown),
       subst (λ f. AnswersWell (found_behind (found_with f missing) two.0) well)
           (one.1.found ∙ ap (λ f. found_behind f one.0) none) two.3,
     )

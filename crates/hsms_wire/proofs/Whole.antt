@@ -1,12 +1,10 @@
 -- A capture file: what is told of it is what the definition says of its packets.
-use Rattle.std.proofs.Common.{◌≡◌, ◌≤◌, ◌<◌, ◌+◌, ◌-◌, ◌^◌, ◌++◌, ◌∷◌, min, ℕ, Bool, true, false, List, [], take, drop, Option, Some, None, inl, inr, refl, sym, ap, subst, ◌∙◌, append_assoc, arith}
+use Rattle.std.proofs.Common.{◌≡◌, ◌≤◌, ◌<◌, ◌+◌, ◌-◌, ◌^◌, ◌++◌, ◌∷◌, ℕ, Bool, true, false, List, [], take, drop, Option, Some, None, inl, inr, refl, sym, ap, subst, ◌∙◌, append_assoc, arith}
 use Rattle.std.proofs.lemmas.List.{append-nil}
-use Rattle.std.specs.Prelude.{◌⊎◌, IfOk, OnOk, Result, Ok, Err, is_some}
+use Rattle.std.specs.Prelude.{IfOk, OnOk, Result, Ok, Err, is_some}
 use Rattle.hsms_frame.specs.Device.{Grows, WhereTold}
-use Rattle.hsms_machine.specs.Settings.{Parameters}
 use Rattle.hsms_options.specs.declared.capturing.Capturing.{Capturing}
 use Rattle.hsms_options.specs.declared.fault.ToolFault.{ToolFault}
-use Rattle.hsms_packets.specs.declared.fault.CaptureFault.{CaptureFault}
 use Rattle.hsms_packets.specs.declared.fault.FileFault.{FileFault}
 use Rattle.hsms_packets.specs.declared.fault.FileFault.TheVariants as file
 use Rattle.hsms_packets.specs.declared.front.Record.{Record}
@@ -25,14 +23,14 @@ use Rattle.hsms_accounts.specs.declared.stop.Stop.{Stop}
 use Rattle.hsms_wire.specs.declared.report.Manner.TheVariants.{Verdicts}
 use Rattle.hsms_wire.specs.declared.report.Report.{Report}
 use Rattle.hsms_wire.specs.declared.shortfall.Shortfall.{Shortfall}
-use Rattle.hsms_wire.specs.declared.shortfall.Shortfall.TheVariants as lacks
 use Rattle.hsms_wire.specs.declared.table.Capture.{Capture}
 use Rattle.hsms_wire.specs.declared.table.Table.{Table}
 use Rattle.hsms_wire.specs.Capturing.{IsMissingBy}
 use Rattle.hsms_wire.specs.Connections.{Captured, Connections, DealsPacket, EndsAll}
-use Rattle.hsms_wire.specs.Dealt.{CapturesFile, Concluded, DealsEach, DealsOne, DealsShown, DealsUpTo, IsBlank, LacksBy, PutsOut, Wanted, none_yet}
-use Rattle.hsms_wire.specs.Kept.{AreSame, ConcludesAsDealt, EndsAsDealt, FinishesAsDealt, IsReport, IsReportOf, IsTable, IsTableOf, PutsAsDealt, ReadsAsDealt, ShowsAsDealt, TakesAsDealt, captured_of, wanted_of}
-use Rattle.hsms_wire.specs.Report.{AnswersWell, Finishes, Tells, found_of, missing_after, nothing_found}
+use Rattle.hsms_wire.specs.Dealt.{CapturesFile, DealsEach, DealsOne, DealsShown, IsBlank, LacksBy, PutsOut, Wanted, none_yet}
+use Rattle.hsms_wire.specs.Kept.{AreSame, ConcludesAsDealt, EndsAsDealt, FinishesAsDealt, IsReportOf, IsTableOf, PutsAsDealt, ReadsAsDealt, ShowsAsDealt, TakesAsDealt, captured_of, wanted_of}
+use Rattle.hsms_wire.specs.LeftOut.{left_out_after, line_of, none_left_out}
+use Rattle.hsms_wire.specs.Report.{Finishes, TellsBehind, found_of, missing_after, nothing_found}
 use Rattle.hsms_wire.specs.Segments.{body_in}
 use Rattle.hsms_wire.proofs.Dealing.{later, report_then}
 
@@ -65,7 +63,7 @@ other_shows packet r octets table report is = λ w last all of_it past kept. (
 
 -- or it is left out
 pub left_out_shows : (packet : ℕ) (r : Record) (octets : List ℕ) (reason : Reason) (table : Table) (before after : Report)
-    → segment_at r.link octets ≡ shown.LeftOut reason → after ≡ record before { left_out = after.left_out } → ShowsAsDealt packet r octets None table table before after
+    → segment_at r.link octets ≡ shown.LeftOut reason → after ≡ record before { left_out = left_out_after before.left_out reason } → ShowsAsDealt packet r octets None table table before after
 left_out_shows packet r octets reason table before after is same = λ w last all of_it past kept. (
   all,
   subst (λ (s : Shown). DealsShown s w packet r.time octets None all all before after) (sym is) (refl, refl, same),
@@ -81,7 +79,7 @@ report_put w told after is same = record {
 }
 
 pub puts : (packet : ℕ) (r : Record) (octets : List ℕ) (missing : Option Shortfall) (old new : Table) (before told after : Report) (out now : Option (List ℕ))
-    → ShowsAsDealt packet r octets missing old new before told → Tells before told → Grows out now told.page.octets → after ≡ record told { page = after.page }
+    → ShowsAsDealt packet r octets missing old new before told → TellsBehind before told → Grows out now told.page.octets → after ≡ record told { page = after.page }
     → after.page.octets ≡ [] → PutsAsDealt packet r octets missing old new before after out now
 puts packet r octets missing old new before told after out now shows tells grows same none = λ w last all report past kept.
     let on = shows w last all report past kept in (
@@ -90,7 +88,8 @@ puts packet r octets missing old new before told after out now shows tells grows
       on.1,
       record { written = grows; same = same; none = none },
       on.2,
-      report_put w told after (report_then w.active w.passive before told report tells) same,
+      report_put w told after (report_then w.active w.passive (record before { left_out = tells.0 }) told
+          (record { verdicts = report.verdicts; active = report.active; passive = report.passive }) tells.1) same,
     )
 
 -- ---- packets, one after another
@@ -98,11 +97,16 @@ puts packet r octets missing old new before told after out now shows tells grows
 each_more : (w : Wanted) (ps : List Packet) (p : Packet) (old mid new : Connections) (before between told after : Report) (out put now : Option (List ℕ))
     → DealsEach w ps old mid before between out put → DealsOne w p None mid new between told → PutsOut told after put now
     → DealsEach w (ps ++ p ∷ []) old new before after out now
-each_more w [] p old mid new before between told after out put now each one puts =
-    (new, told, after, now,
-    subst (λ (c : Connections). DealsOne w p None c new before told) each.0
-    (subst (λ (r : Report). DealsOne w p None mid new r told) each.1 one),
-    subst (λ (o : Option (List ℕ)). PutsOut told after o now) each.2 puts, (refl, refl, refl))
+each_more w [] p old mid new before between told after out put now each one puts = (
+  new,
+  told,
+  after,
+  now,
+  subst (λ (c : Connections). DealsOne w p None c new before told) each.0
+      (subst (λ (r : Report). DealsOne w p None mid new r told) each.1 one),
+  subst (λ (o : Option (List ℕ)). PutsOut told after o now) each.2 puts,
+  (refl, refl, refl),
+)
 each_more w (q ∷ ps) p old mid new before between told after out put now each one puts = (
   each.0,
   each.1,
@@ -266,8 +270,20 @@ stops_so first from old before out was now left new table next between after put
       on.0,
       n,
       tells.2 rest.0 rest.1 rest.2,
-      inr (one.told, p, rest.0, one.mid, between, on.1, put, append_assoc one.told (p ∷ []) rest.0, some, one.each,
-      subst (λ (os : List ℕ). DealsShown (segment_at r.link os) w n r.time os missing one.mid on.0 between on.1) octets_is on.2, on.3),
+      inr (
+        one.told,
+        p,
+        rest.0,
+        one.mid,
+        between,
+        on.1,
+        put,
+        append_assoc one.told (p ∷ []) rest.0,
+        some,
+        one.each,
+        subst (λ (os : List ℕ). DealsShown (segment_at r.link os) w n r.time os missing one.mid on.0 between on.1) octets_is on.2,
+        on.3,
+      ),
       on.4,
       on.5,
     )
@@ -276,7 +292,7 @@ stops_so first from old before out was now left new table next between after put
 
 pub concludes_dealt : (missing : Option Shortfall) (table : Table) (old noted mid new : Report) (result : Result Bool Stop)
     → noted ≡ record old { shortfall = missing_after old.shortfall missing } → EndsAsDealt missing table noted mid → Finishes (found_of mid) result
-    → OnOk result ((line : List ℕ) × (new.page.octets ≡ mid.page.octets ++ line)) → IfOk result (λ well. ConcludesAsDealt missing table old new well)
+    → OnOk result (new.page.octets ≡ mid.page.octets ++ line_of mid.left_out) → IfOk result (λ well. ConcludesAsDealt missing table old new well)
 concludes_dealt missing table old noted mid new (Ok well) is ends answers page = λ w last all report kept.
     let of_noted : IsReportOf w noted = record {
       verdicts = ap (λ (r : Report). r.manner) is ∙ report.verdicts;
@@ -284,9 +300,8 @@ concludes_dealt missing table old noted mid new (Ok well) is ends answers page =
       passive = ap (λ (r : Report). r.passive) is ∙ report.passive;
     } in (
       mid,
-      page.0,
       subst (λ (r : Report). EndsAll w.active w.passive missing all.known r mid) is (ends w.port w.peer w.active w.passive last all of_noted kept),
-      page.1,
+      page,
       answers,
     )
 concludes_dealt missing table old noted mid new (Err stop) is ends answers page = tt
@@ -296,10 +311,9 @@ pub finishes_dealt : (missing : Option Shortfall) (table : Table) (old mid : Rep
 finishes_dealt missing table old mid out now well concludes grows = λ w last all report kept.
     let on = concludes w last all report kept in record {
       told = on.0;
-      left_out = on.1;
-      ends = on.2;
-      written = subst (λ (os : List ℕ). Grows out now os) on.3 grows;
-      answers = on.4;
+      ends = on.1;
+      written = subst (λ (os : List ℕ). Grows out now os) on.2 grows;
+      answers = on.3;
     }
 
 -- ---- the whole of it
@@ -316,8 +330,9 @@ first_table options table n joined of_it none = record {
 }
 
 pub is_blank : (options : Capturing) (report : Report) → report.manner ≡ Verdicts → report.active ≡ options.active → report.passive ≡ options.passive
-    → found_of report ≡ nothing_found → report.page.octets ≡ [] → IsBlank (wanted_of options) report
-is_blank options report verdicts active passive found page = record { verdicts = verdicts; active = active; passive = passive; found = found; page = page }
+    → found_of report ≡ nothing_found → report.left_out ≡ none_left_out → report.page.octets ≡ [] → IsBlank (wanted_of options) report
+is_blank options report verdicts active passive found left_out page =
+    record { verdicts = verdicts; active = active; passive = passive; found = found; left_out = left_out; page = page }
 
 of_blank : (w : Wanted) (report : Report) → IsBlank w report → IsReportOf w report
 of_blank w report is = record { verdicts = is.verdicts; active = is.active; passive = is.passive }

@@ -6,7 +6,9 @@ use Rattle.hsms_options.specs.declared.fault.ToolFault.TheVariants as tool
 use Rattle.hsms_packets.specs.declared.fault.FileFault.{FileFault}
 use Rattle.hsms_packets.specs.declared.fault.FileFault.TheVariants as file
 use Rattle.hsms_machine.specs.declared.settings.Role.{Role}
+use Rattle.hsms_wire.specs.LeftOut.{line_of}
 use Rattle.hsms_wire.specs.Report.{AnswersWell, Telling, found_behind, found_with, lines_of, nothing_found}
+use Rattle.hsms_wire.specs.declared.left_out.LeftOut.{LeftOut}
 use Rattle.hsms_wire.specs.declared.shortfall.Shortfall.{Shortfall}
 use Rattle.hsms_wire.specs.declared.shortfall.Shortfall.TheVariants.{File}
 
@@ -19,8 +21,8 @@ GrowsBySome old new = WhereTold old (λ octets. (told : List ℕ) × (new ≡ So
 -- the file.
 abbrev pub CapturesTo : Role → Role → Option (List ℕ) → Option (List ℕ) → Bool → Type 0
 CapturesTo active passive before after well =
-    (reading ending : List Telling) × (missing : Option Shortfall) × (left_out : List ℕ)
-    × Grows before after (lines_of active passive (reading ++ ending) ++ left_out)
+    (reading ending : List Telling) × (missing : Option Shortfall) × (left_out : LeftOut)
+    × Grows before after (lines_of active passive (reading ++ ending) ++ line_of left_out)
     × AnswersWell (found_behind (found_with (found_behind nothing_found reading) missing) ending) well
 
 -- where a device is named, writing failed, or a log is endless

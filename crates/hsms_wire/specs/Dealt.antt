@@ -1,5 +1,5 @@
 -- What is told of a capture file, packet by packet.
-use Rattle.std.specs.Prelude.{◌≡◌, ◌⊎◌, ◌<◌, ◌++◌, ◌∷◌, ℕ, Bool, true, List, [], Option, Some, None, is_some}
+use Rattle.std.specs.Prelude.{◌≡◌, ◌⊎◌, ◌++◌, ◌∷◌, ℕ, Bool, true, List, [], Option, Some, None, is_some}
 use Rattle.std.specs.declared.net.ip_addr.IpAddr.{IpAddr}
 use Rattle.hsms_frame.specs.Device.{Grows}
 use Rattle.hsms_machine.specs.Settings.{Parameters}
@@ -13,6 +13,7 @@ use Rattle.hsms_wire.specs.declared.report.Report.{Report}
 use Rattle.hsms_wire.specs.declared.shortfall.Shortfall.{Shortfall}
 use Rattle.hsms_wire.specs.declared.shortfall.Shortfall.TheVariants as lacks
 use Rattle.hsms_wire.specs.Connections.{Connections, DealsPacket, EndsAll}
+use Rattle.hsms_wire.specs.LeftOut.{left_out_after, line_of, none_left_out}
 use Rattle.hsms_wire.specs.Report.{AnswersWell, found_of, missing_after, nothing_found}
 use Rattle.hsms_wire.specs.Segments.{body_in}
 
@@ -32,7 +33,7 @@ DealsShown (shown.Segment segment) w number time octets missing old new before a
     DealsPacket w.port w.peer w.active w.passive segment (record { packet = number; time = time; octets = body_in segment octets }) missing old new before after
 DealsShown shown.Other w number time octets missing old new before after = (missing ≡ None) × (new ≡ old) × (after ≡ before)
 DealsShown (shown.LeftOut reason) w number time octets missing old new before after =
-    (missing ≡ None) × (new ≡ old) × (after ≡ record before { left_out = after.left_out })
+    (missing ≡ None) × (new ≡ old) × (after ≡ record before { left_out = left_out_after before.left_out reason })
 
 abbrev pub DealsOne : Wanted → Packet → Option Shortfall → Connections → Connections → Report → Report → Type 0
 DealsOne w p missing old new before after = DealsShown (segment_at p.link p.octets) w p.number p.time p.octets missing old new before after
@@ -76,14 +77,14 @@ pub record IsBlank (w : Wanted) (report : Report) : Type 0 where
   pub active : report.active ≡ w.active
   pub passive : report.passive ≡ w.passive
   pub found : found_of report ≡ nothing_found
+  pub left_out : report.left_out ≡ none_left_out
   pub page : report.page.octets ≡ []
 
--- what is left of each connection is told, and what was left out; and all is well by what was found
+-- what is left of each connection is told, and which packets were left out; and all is well by what was found
 pub record Concluded (w : Wanted) (missing : Option Shortfall) (all : Connections) (before : Report) (out now : Option (List ℕ)) (well : Bool) : Type 0 where
   pub told : Report
-  pub left_out : List ℕ
   pub ends : EndsAll w.active w.passive missing all.known (record before { shortfall = missing_after before.shortfall missing }) told
-  pub written : Grows out now (told.page.octets ++ left_out)
+  pub written : Grows out now (told.page.octets ++ line_of told.left_out)
   pub answers : AnswersWell (found_of told) well
 
 -- What is written of a file, and what is answered: the packets that it has go to connections, one after another; of each

@@ -21,6 +21,7 @@ use Rattle.hsms_wire.specs.declared.table.Capture.{Capture}
 use Rattle.hsms_wire.specs.declared.table.Table.{Table}
 use Rattle.hsms_wire.specs.Connections.{Captured, Connection, Connections, DealsPacket, EndsAll}
 use Rattle.hsms_wire.specs.Dealt.{Concluded, DealsShown, DealsUpTo, PutsOut, Wanted}
+use Rattle.hsms_wire.specs.LeftOut.{line_of}
 use Rattle.hsms_wire.specs.Report.{AnswersWell, found_of, missing_after}
 use Rattle.hsms_wire.specs.Staged.{StageIs}
 
@@ -109,9 +110,9 @@ ReadsAsDealt reading missing left old new before after out now =
 abbrev pub ConcludesAsDealt : Option Shortfall → Table → Report → Report → Bool → Type 0
 ConcludesAsDealt missing table before after well =
     (w : Wanted) (last : ℕ) (all : Connections) → IsReportOf w before → IsTableOf w last table all
-    → (told : Report) × (left_out : List ℕ)
+    → (told : Report)
     × EndsAll w.active w.passive missing all.known (record before { shortfall = missing_after before.shortfall missing }) told
-    × (after.page.octets ≡ told.page.octets ++ left_out) × AnswersWell (found_of told) well
+    × (after.page.octets ≡ told.page.octets ++ line_of told.left_out) × AnswersWell (found_of told) well
 
 -- and written
 abbrev pub FinishesAsDealt : Option Shortfall → Table → Report → Option (List ℕ) → Option (List ℕ) → Bool → Type 0

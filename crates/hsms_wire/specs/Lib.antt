@@ -13,3 +13,4 @@ pub mod Tabled
 pub mod Connections
 pub mod Kept
 pub mod Dealt
+pub mod LeftOut

@@ -8,12 +8,14 @@ use Rattle.hsms_log.specs.declared.verdict.Verdict.{Verdict}
 use Rattle.hsms_log.specs.declared.verdict.Verdict.TheVariants.{Pass, Fail}
 use Rattle.hsms_capture.specs.declared.packet.Side.{Side}
 use Rattle.hsms_capture.specs.declared.packet.Side.TheVariants.{Active, Passive}
+use Rattle.hsms_wire.specs.LeftOut.{line_of}
 use Rattle.hsms_wire.specs.Line.{end_line_of}
 use Rattle.hsms_wire.specs.Stop.{TellsShortfall}
 use Rattle.hsms_accounts.specs.Account.{HasLogged, Note, Standing, log_text}
 use Rattle.hsms_accounts.specs.declared.account.Told.{Told}
 use Rattle.hsms_accounts.specs.declared.ends.Ends.{Ends}
 use Rattle.hsms_accounts.specs.declared.pair.Pair.{Pair}
+use Rattle.hsms_wire.specs.declared.left_out.LeftOut.{LeftOut}
 use Rattle.hsms_wire.specs.declared.report.Manner.{Manner}
 use Rattle.hsms_wire.specs.declared.report.Manner.TheVariants.{Verdicts, Log}
 use Rattle.hsms_wire.specs.declared.report.Report.{Report}
@@ -138,9 +140,14 @@ pub record HasTold (tellings : List Telling) (old new : Report) : Type 0 where
   pub active : new.active ≡ old.active
   pub passive : new.passive ≡ old.passive
   pub manner : new.manner ≡ Verdicts
+  pub left_out : new.left_out ≡ old.left_out
 
 unfoldable pub Tells : Report → Report → Type 0
 Tells old new = old.manner ≡ Verdicts → (tellings : List Telling) × HasTold tellings old new
+
+-- the same behind a packet that may have been left out
+abbrev pub TellsBehind : Report → Report → Type 0
+TellsBehind old new = (counts : LeftOut) × Tells (record old { left_out = counts }) new
 
 -- their lines were written, and none is left on the page
 pub record HasWritten (tellings : List Telling) (old : Report) (before : Option (List ℕ)) (new : Report) (after : Option (List ℕ)) : Type 0 where
@@ -158,13 +165,13 @@ Writes old before new after =
 -- the connections that were left are told, then what was left out, and this says whether all is well
 abbrev pub Concludes : Option Shortfall → Report → Report → Bool → Type 0
 Concludes missing old new well =
-    old.manner ≡ Verdicts → (tellings : List Telling) × (left_out : List ℕ)
-    × (new.page.octets ≡ old.page.octets ++ (lines_of old.active.role old.passive.role tellings ++ left_out))
+    old.manner ≡ Verdicts → (tellings : List Telling) × (left_out : LeftOut)
+    × (new.page.octets ≡ old.page.octets ++ (lines_of old.active.role old.passive.role tellings ++ line_of left_out))
     × AnswersWell (found_behind (found_with (found_of old) missing) tellings) well
 
 -- their lines were written
 abbrev pub EndsWith : Option Shortfall → Report → Option (List ℕ) → Option (List ℕ) → Bool → Type 0
 EndsWith missing old before after well =
-    old.manner ≡ Verdicts → old.page.octets ≡ [] → (tellings : List Telling) × (left_out : List ℕ)
-    × Grows before after (lines_of old.active.role old.passive.role tellings ++ left_out)
+    old.manner ≡ Verdicts → old.page.octets ≡ [] → (tellings : List Telling) × (left_out : LeftOut)
+    × Grows before after (lines_of old.active.role old.passive.role tellings ++ line_of left_out)
     × AnswersWell (found_behind (found_with (found_of old) missing) tellings) well

@@ -6,7 +6,7 @@ ghost use Rattle.hsms_lines.specs.Devices.{CountsFailure, IsReadWriteOrEndless};
 ghost use Rattle.hsms_wire.specs.Capturing.{CapturesTo, GrowsBySome, IsMissingBy, IsWriteOrEndless};
 ghost use Rattle.hsms_wire.specs.Dealt.{CapturesFile};
 ghost use Rattle.hsms_wire.specs.Kept.{ConcludesAsDealt, FinishesAsDealt, PutsAsDealt, ReadsAsDealt, ShowsAsDealt, wanted_of};
-ghost use Rattle.hsms_wire.specs.Report.{Concludes, EndsWith, Tells, Writes};
+ghost use Rattle.hsms_wire.specs.Report.{Concludes, EndsWith, TellsBehind, Writes};
 ghost use Rattle.hsms_wire.specs.Segments.{body_in};
 
 use crate::report::Report;
@@ -140,7 +140,7 @@ fn take_packet(
     record: &Record,
     octets: &[u8],
 ) -> Result<Option<Shortfall>, Stop>
-    ensures told { OnOk result (Tells report.old report.new) }
+    ensures told { OnOk result (TellsBehind report.old report.new) }
     ensures deals { IfOk result (λ missing. ShowsAsDealt packet «record».now octets.now missing table.old table.new
         report.old report.new) }
 {

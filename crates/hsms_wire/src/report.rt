@@ -35,7 +35,7 @@ pub struct Report {
 }
 
 impl Report {
-    ghost use Rattle.std.specs.Prelude.{◌≡◌, ◌≤◌, ◌⊎◌, ◌++◌, [], List, ℕ, None, Some, IfErr, IfOk, OnOk, true};
+    ghost use Rattle.std.specs.Prelude.{◌≡◌, ◌≤◌, ◌⊎◌, ◌++◌, [], None, Some, IfErr, IfOk, OnOk, true};
     ghost use Rattle.hsms_frame.specs.Count.{count_failure};
     ghost use Rattle.hsms_frame.specs.Device.{Grows};
     ghost use Rattle.hsms_lines.specs.Devices.{IsWrite};
@@ -43,6 +43,7 @@ impl Report {
     ghost use Rattle.hsms_wire.specs.declared.report.Manner.TheVariants.{Verdicts};
     ghost use Rattle.hsms_accounts.specs.declared.stop.Stop.TheVariants.{Memory};
     ghost use Rattle.hsms_wire.specs.Followed.{Begins, HearsOn, Replaces, TellsOnce};
+    ghost use Rattle.hsms_wire.specs.LeftOut.{line_of, none_left_out};
     ghost use Rattle.hsms_wire.specs.Line.{end_line_of};
     ghost use Rattle.hsms_wire.specs.Report.{Finishes, IsTold, Tells, TellsBy, TellsVerdicts, failed_after, first_of, found_of, missing_after, nothing_found, role_at};
 
@@ -52,6 +53,7 @@ impl Report {
         ensures active { result.active ≡ options.now.active }
         ensures passive { result.passive ≡ options.now.passive }
         ensures found { found_of result ≡ nothing_found }
+        ensures left_out { result.left_out ≡ none_left_out }
         ensures page { result.page.octets ≡ [] }
     {
         let manner = match options.log {
@@ -391,7 +393,7 @@ impl Report {
     /// no connection; `Memory`.
     pub fn finish(&mut self, alloc: Global) -> Result<bool, Stop>
         ensures answer { Finishes (found_of self.old) result }
-        ensures page { OnOk result ((line : List ℕ) × (self.new.page.octets ≡ self.old.page.octets ++ line)) }
+        ensures page { OnOk result (self.new.page.octets ≡ self.old.page.octets ++ line_of self.old.left_out) }
     {
         self.tell_left_out(alloc)?;
         self.answer(alloc)
@@ -400,7 +402,7 @@ impl Report {
     // Tells the packets that were left out.
     fn tell_left_out(&mut self, alloc: Global) -> Result<(), Stop>
         ensures same { OnOk result (self.new ≡ record self.old { page = self.new.page }) }
-        ensures page { OnOk result ((line : List ℕ) × (self.new.page.octets ≡ self.old.page.octets ++ line)) }
+        ensures page { OnOk result (self.new.page.octets ≡ self.old.page.octets ++ line_of self.old.left_out) }
         ensures memory { IfErr result (λ stop. stop ≡ Memory) }
     {
         let line = self.left_out.line(alloc)?;

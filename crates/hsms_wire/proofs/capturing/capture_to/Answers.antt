@@ -24,12 +24,12 @@ pub returns-in_ok-missing-in-Ok-clause-file : goal.returns-in_ok-missing-in-Ok-c
 returns-in_ok-missing-in-Ok-clause-file g c =
     captures_opened c.args.options c.in-Ok.packets c.in_ok-missing-in-Ok.missing c.new-report.result c.read_all.new.report c.new-table.result c.read_all.new.table _ _ _ _ _ c.finish.result _
     (λ told. is_blank c.args.options c.new-report.result (c.new-report.ensures.manner told) c.new-report.ensures.active c.new-report.ensures.passive
-    c.new-report.ensures.found c.new-report.ensures.page) c.new-table.ensures.of c.new-table.ensures.none c.in-Ok.ensures.opened
+    c.new-report.ensures.found c.new-report.ensures.left_out c.new-report.ensures.page) c.new-table.ensures.of c.new-table.ensures.none c.in-Ok.ensures.opened
     c.in-Ok.ensures.count c.in_ok-missing-in-Ok.ensures.deals c.finish.ensures.deals
 
 pub returns-in_ok-missing-in-Err-clause-file : goal.returns-in_ok-missing-in-Err-clause-file
 returns-in_ok-missing-in-Err-clause-file g c =
     captures_none c.args.options c.in-Err.fault c.in_ok-missing-in-Err.missing c.new-report.result c.new-table.result _ _ _ _ c.finish-in-Err.result _
     (λ told. is_blank c.args.options c.new-report.result (c.new-report.ensures.manner told) c.new-report.ensures.active c.new-report.ensures.passive
-    c.new-report.ensures.found c.new-report.ensures.page) c.new-table.ensures.of c.new-table.ensures.none c.in-Err.ensures.opened
+    c.new-report.ensures.found c.new-report.ensures.left_out c.new-report.ensures.page) c.new-table.ensures.of c.new-table.ensures.none c.in-Err.ensures.opened
     c.in_ok-missing-in-Err.ensures c.finish-in-Err.ensures.deals

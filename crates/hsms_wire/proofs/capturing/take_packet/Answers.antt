@@ -1,5 +1,6 @@
-use Rattle.std.proofs.Common.{refl, sym, ◌∙◌}
-use Rattle.hsms_wire.proofs.Tellings.{tells_left_out, tells_nothing}
+use Rattle.std.proofs.Common.{refl, sym, ap, ◌∙◌}
+use Rattle.hsms_wire.specs.declared.left_out.LeftOut.{LeftOut}
+use Rattle.hsms_wire.proofs.Tellings.{tells_behind, tells_nothing}
 use Rattle.hsms_wire.proofs.Whole.{left_out_shows, other_shows, segment_shows}
 use Rattle.hsms_wire.proofs.capturing.take_packet.Goals as goal
 
@@ -9,15 +10,19 @@ returns-in-Segment-clause-deals c =
     (record { packet = c.args.packet; time = c.args.record.now.time; octets = c.body_of.result }) c.args.table.now c.take.new.self c.args.report.now
     c.take.new.report (sym c.segment_of.ensures ∙ c.in-Segment.is) refl refl c.body_of.ensures c.take.ensures.deals
 
+pub returns-in-Segment-clause-told : goal.returns-in-Segment-clause-told
+returns-in-Segment-clause-told c = tells_behind c.take.result c.args.report.now c.take.new.report c.take.ensures.told
+
 pub returns-in-Other : goal.returns-in-Other
 returns-in-Other c = record {
-  told = tells_nothing _;
+  told = (_, tells_nothing c.args.report.now);
   deals = other_shows c.args.packet c.args.record.now c.args.octets.now c.args.table.now c.args.report.now (sym c.segment_of.ensures ∙ c.in-Other.is);
 }
 
 pub returns-in-LeftOut : goal.returns-in-LeftOut
 returns-in-LeftOut c = record {
-  told = tells_left_out c.args.report.now c.count.new.self;
+  told = (c.count.new.self, tells_nothing (record c.args.report.now { left_out = c.count.new.self }));
   deals = left_out_shows c.args.packet c.args.record.now c.args.octets.now c.in-LeftOut.reason c.args.table.now c.args.report.now _
-      (sym c.segment_of.ensures ∙ c.in-LeftOut.is) refl;
+      (sym c.segment_of.ensures ∙ c.in-LeftOut.is)
+      (ap (λ (counts : LeftOut). record c.args.report.now { left_out = counts }) c.count.ensures);
 }

@@ -1,4 +1,4 @@
-use Rattle.std.proofs.Common.{◌≡◌, ℕ, Option, Some, refl, sym, subst}
+use Rattle.std.proofs.Common.{ℕ, Option, Some, refl, sym, subst}
 use Rattle.hsms_wire.specs.declared.flow.Stage.TheVariants as stage
 use Rattle.hsms_wire.specs.Staged.{IsBegun}
 use Rattle.hsms_wire.proofs.flow.Flow.new.Goals as goal
