@@ -53,8 +53,12 @@ up_numbered first last (x ∷ ss) up = (up.0, up_numbered x.packet last ss up.1)
 stage_goes : (a p : Parameters) (pair : Pair) (number : ℕ) (s : Seen) (seen : List Seen) (next : Stage) (old new : Report)
     → StageGoes a p pair number (seen ++ s ∷ []) next old new → UpTo 0 s.packet (seen ++ s ∷ [])
     → (packets : Option (List Seen)) × Goes a p pair number s (Some seen) packets old new × StageStands a p s.packet number packets next
-stage_goes a p pair number s seen (stage.Opening w) old new goes up = (Some (seen ++ s ∷ []), (refl, goes.0), (goes.1, up))
-stage_goes a p pair number s seen (stage.Open o) old new goes up = (Some (seen ++ s ∷ []), (refl, goes.0), (goes.1, up))
+stage_goes a p pair number s seen (stage.Opening w) old new goes up = (Some (seen ++ s ∷ []), (refl, goes.0, (λ none. goes.1.2)), (goes.1, up))
+stage_goes a p pair number s seen (stage.Open o) old new goes up =
+    (Some (seen ++ s ∷ []), (refl, goes.0, (λ none. absurd (none_some (sym none ∙ goes.1.1)))), (goes.1, up))
+  where
+    none_some : ◌≡◌ {A = Option ℕ} None (Some goes.1.0) → ⊥
+    none_some is = cc
 stage_goes a p pair number s seen (stage.Joining g) old new goes up = absurd goes
 stage_goes a p pair number s seen (stage.Within w) old new goes up = absurd goes
 stage_goes a p pair number s seen stage.Over old new goes up = (None, goes, refl)
@@ -359,7 +363,7 @@ begun_one a p last number born flow begun = record {
   syn = ap (λ (f : Flow). f.syn) begun.1;
   born = ap (λ (f : Flow). f.born) begun.1;
   stands = subst (λ (st : Stage). StageStands a p last number (Some []) st) (sym (ap (λ (f : Flow). f.stage) begun.1))
-      ((ap (λ (ws : List Waiting). map seen_waiting ws) begun.2, refl), omega arith);
+      ((ap (λ (ws : List Waiting). map seen_waiting ws) begun.2, refl, omega arith), omega arith);
 }
 
 abbrev BeginsAs : ℕ → Option IpAddr → ℕ → Pair → ℕ → Table → Table → Report → Report → Connections → Parameters → Parameters → Type 0

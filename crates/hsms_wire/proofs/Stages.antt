@@ -139,7 +139,7 @@ take_waits (Ok next) pair begins s octets waiting old new answered waits = λ ve
     by_stage : (number : ℕ) (seen : List Seen) (next : Stage) → answered_by number (seen ++ seen_of s octets ∷ []) ≡ None
         → WaitsOn pair (seen ++ seen_of s octets ∷ []) next old new
         → StageGoes old.active old.passive pair number (seen ++ seen_of s octets ∷ []) next old new
-    by_stage number seen (stage.Opening w) none waits = (waits.0, (waits.1, none))
+    by_stage number seen (stage.Opening w) none waits = (waits.0, (waits.1, none, waits.2))
     by_stage number seen (stage.Open o) none waits = absurd waits
     by_stage number seen (stage.Joining g) none waits = absurd waits
     by_stage number seen (stage.Within w) none waits = absurd waits

@@ -1,5 +1,5 @@
 -- The connections of a capture by their packets: which packets are those of each, and what is told of it.
-use Rattle.std.specs.Prelude.{◌≡◌, ◌⊎◌, ◌<◌, ◌+◌, ◌-◌, ◌^◌, ◌++◌, ◌∷◌, min, ℕ, Bool, true, false, List, [], Option, Some, None, is_some}
+use Rattle.std.specs.Prelude.{◌≡◌, ◌⊎◌, ◌≤◌, ◌<◌, ◌+◌, ◌-◌, ◌^◌, ◌++◌, ◌∷◌, min, ℕ, Bool, true, false, List, [], length, Option, Some, None, is_some}
 use Rattle.std.specs.Map.{lookup, remove_entry, set_value}
 use Rattle.std.specs.Option.{option_map}
 use Rattle.std.specs.declared.net.ip_addr.IpAddr.{IpAddr}
@@ -37,7 +37,7 @@ abbrev pub NothingIsLeft : ℕ → Option (List Seen) → Type 0
 NothingIsLeft number None = Unit {0}
 NothingIsLeft number (Some seen) = (answered_by number seen ≡ None) × (is_some (first_shown seen) ≡ false)
 
--- it is forgotten where more than 4,096 have begun after it, and nothing is left to be told of it
+-- it is forgotten where 4,096 or more have begun after it, and nothing is left to be told of it
 abbrev pub IsGone : Connection → ℕ → Type 0
 IsGone one begun = NothingIsLeft one.number one.packets × (one.born + 4096 < begun)
 
@@ -73,10 +73,12 @@ pub record StartsOne (a p : Parameters) (pair : Pair) (number : ℕ) (old new : 
 
 -- ---- one packet more
 
--- it is one of its packets, or the one with which all is told of it
+-- It is one of its packets, of which no more than 4,096 wait for the SYN of the passive end; or the one with which it is
+-- told for good.
 abbrev pub Goes : Parameters → Parameters → Pair → ℕ → Seen → Option (List Seen) → Option (List Seen) → Report → Report → Type 0
 Goes a p pair number s None next old new = (next ≡ None) × (new ≡ old)
-Goes a p pair number s (Some seen) (Some all) old new = (all ≡ seen ++ s ∷ []) × (new ≡ old)
+Goes a p pair number s (Some seen) (Some all) old new =
+    (all ≡ seen ++ s ∷ []) × (new ≡ old) × (answered_by number all ≡ None → length all ≤ 4096)
 Goes a p pair number s (Some seen) None old new = OverBy (answered_by number (seen ++ s ∷ [])) a p pair number (seen ++ s ∷ []) old new
 
 abbrev pub GoesBy : Option Connection → Parameters → Parameters → Pair → Seen → Connections → Connections → Report → Report → Type 0

@@ -1,5 +1,5 @@
 -- A connection by the number of its SYN: its packets wait until the SYN of the passive end is there, and then it is followed.
-use Rattle.std.specs.Prelude.{◌≡◌, ◌⊎◌, ◌<◌, ◌+◌, ◌%◌, ◌^◌, ◌==◌, ◌&&◌, ◌||◌, ◌++◌, ◌∷◌, ℕ, Bool, true, false, if◌then◌else◌, List, [], length, map, Option, Some, None, is_some, Vec}
+use Rattle.std.specs.Prelude.{◌≡◌, ◌⊎◌, ◌≤◌, ◌<◌, ◌+◌, ◌%◌, ◌^◌, ◌==◌, ◌&&◌, ◌||◌, ◌++◌, ◌∷◌, ℕ, Bool, true, false, if◌then◌else◌, List, [], length, map, Option, Some, None, is_some, Vec}
 use Rattle.std.specs.Option.{option_map}
 use Rattle.std.specs.declared.alloc.Global.{Global}
 use Rattle.hsms_machine.specs.Settings.{Parameters}
@@ -83,7 +83,7 @@ IsIdle (stage.Joining gathering) = AreSilent gathering
 IsIdle (stage.Within within) = ⊥
 IsIdle stage.Over = Unit {0}
 
--- it is forgotten where more than 4,096 connections have begun after it
+-- it is forgotten where 4,096 or more connections have begun after it: so many had begun before it, and it is one
 abbrev pub IsForgotten : Flow → ℕ → Type 0
 IsForgotten flow begun = IsIdle flow.stage × (flow.born + 4096 < begun)
 
@@ -106,7 +106,7 @@ shows side.Passive acknowledged some = some
 
 -- behind these segments: packets wait, or it is followed
 abbrev pub StageIs : Parameters → Parameters → ℕ → List Seen → Stage → Type 0
-StageIs a p number seen (stage.Opening waiting) = (map seen_waiting waiting.items ≡ seen) × (answered_by number seen ≡ None)
+StageIs a p number seen (stage.Opening waiting) = (map seen_waiting waiting.items ≡ seen) × (answered_by number seen ≡ None) × (length seen ≤ 4096)
 StageIs a p number seen (stage.Open o) = (other : ℕ) × (answered_by number seen ≡ Some other) × IsFollowed a p (bases number other) seen o
 StageIs a p number seen (stage.Joining gathering) = ⊥
 StageIs a p number seen (stage.Within within) = ⊥
@@ -145,7 +145,7 @@ TakesStage pair begins s (stage.Within within) next old new = Unit {0}
 TakesStage pair begins s stage.Over next old new = (next ≡ stage.Over) × (new ≡ old)
 
 abbrev pub WaitsOn : Pair → List Seen → Stage → Report → Report → Type 0
-WaitsOn pair all (stage.Opening waiting) old new = (new ≡ old) × (map seen_waiting waiting.items ≡ all)
+WaitsOn pair all (stage.Opening waiting) old new = (new ≡ old) × (map seen_waiting waiting.items ≡ all) × (length all ≤ 4096)
 WaitsOn pair all (stage.Open o) old new = ⊥
 WaitsOn pair all (stage.Joining gathering) old new = ⊥
 WaitsOn pair all (stage.Within within) old new = ⊥
