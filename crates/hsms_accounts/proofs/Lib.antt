@@ -1,3 +1,5 @@
 mod Hears
 mod Logs
 mod Addresses
+mod Pages
+mod Journals

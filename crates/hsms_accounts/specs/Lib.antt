@@ -2,3 +2,4 @@ pub mod Text
 pub mod Pair
 pub mod Account
 pub mod Ends
+pub mod JournalLog

@@ -1,9 +1,10 @@
 //! The log of one end of a connection, and what the audit says of it.
 
-ghost use Rattle.std.specs.Prelude.{◌≡◌, ◌+◌, ◌++◌, [], ◌∷◌, ℕ, List, IfOk, OnOk, Some, codes, decimal, length};
+ghost use Rattle.std.specs.Prelude.{◌≡◌, ◌+◌, ◌++◌, [], ◌∷◌, ℕ, List, IfOk, OnErr, OnOk, Some, codes, decimal, length};
 ghost use Rattle.hsms_log.specs.Auditor.{HasAtMost, HasHeard, HasRoom};
 ghost use Rattle.hsms_log.specs.Spelling.{entry_line, settings_line};
 ghost use Rattle.hsms_accounts.specs.Account.{note_text, remark_text};
+ghost use Rattle.hsms_accounts.specs.Text.{Leads};
 ghost use Rattle.hsms_accounts.specs.declared.account.Remark.TheVariants.{LeftOut};
 
 use crate::stop::Stop;
@@ -312,17 +313,21 @@ pub struct Told {
 }
 
 /// Lays an entry and the comment above it behind a text.
+#[tactic(auto, using(crate::proofs::Pages::stay, crate::proofs::Pages::follow, crate::proofs::Pages::follow_in))]
 pub fn lay_note(text: &mut Text, remark: Remark, entry: &Entry) -> Result<(), AllocError>
-    ensures { OnOk result
+    ensures laid { OnOk result
         (text.new.octets ≡ text.old.octets ++ note_text (record { remark = remark; entry = Some entry.now })) }
+    ensures kept { OnErr result (Leads text.old.octets text.new.octets) }
 {
     lay_remark(text, remark)?;
     lay_entry(text, entry)
 }
 
 /// Lays a comment behind a text.
+#[tactic(auto, using(crate::proofs::Pages::stay, crate::proofs::Pages::follow, crate::proofs::Pages::follow_in))]
 pub fn lay_remark(text: &mut Text, remark: Remark) -> Result<(), AllocError>
-    ensures { OnOk result (text.new.octets ≡ text.old.octets ++ remark_text remark) }
+    ensures laid { OnOk result (text.new.octets ≡ text.old.octets ++ remark_text remark) }
+    ensures kept { OnErr result (Leads text.old.octets text.new.octets) }
 {
     match remark {
         Remark::Packet(packet) => lay_packet(text, packet),
@@ -333,16 +338,20 @@ pub fn lay_remark(text: &mut Text, remark: Remark) -> Result<(), AllocError>
 }
 
 // Lays the comment that names a packet.
+#[tactic(auto, using(crate::proofs::Pages::stay, crate::proofs::Pages::follow, crate::proofs::Pages::follow_in))]
 fn lay_packet(text: &mut Text, packet: u64) -> Result<(), AllocError>
-    ensures { OnOk result (text.new.octets ≡ text.old.octets ++ (codes "# packet " ++ (decimal packet ++ 10 ∷ []))) }
+    ensures laid { OnOk result (text.new.octets ≡ text.old.octets ++ (codes "# packet " ++ (decimal packet ++ 10 ∷ []))) }
+    ensures kept { OnErr result (Leads text.old.octets text.new.octets) }
 {
     lay_number(text, packet)?;
     text.lay(b"\n")
 }
 
 // Lays the front of a comment that names a packet.
+#[tactic(auto, using(crate::proofs::Pages::stay, crate::proofs::Pages::follow, crate::proofs::Pages::follow_in))]
 fn lay_number(text: &mut Text, packet: u64) -> Result<(), AllocError>
-    ensures { OnOk result (text.new.octets ≡ text.old.octets ++ (codes "# packet " ++ decimal packet)) }
+    ensures laid { OnOk result (text.new.octets ≡ text.old.octets ++ (codes "# packet " ++ decimal packet)) }
+    ensures kept { OnErr result (Leads text.old.octets text.new.octets) }
 {
     let mut buffer = Buffer::new();
     text.lay(b"# packet ")?;
@@ -351,8 +360,10 @@ fn lay_number(text: &mut Text, packet: u64) -> Result<(), AllocError>
 }
 
 // Lays the comment that names a packet of which there is no entry.
+#[tactic(auto, using(crate::proofs::Pages::stay, crate::proofs::Pages::follow, crate::proofs::Pages::follow_in))]
 fn lay_left_out(text: &mut Text, packet: u64) -> Result<(), AllocError>
-    ensures { OnOk result (text.new.octets ≡ text.old.octets ++ remark_text (LeftOut packet)) }
+    ensures laid { OnOk result (text.new.octets ≡ text.old.octets ++ remark_text (LeftOut packet)) }
+    ensures kept { OnErr result (Leads text.old.octets text.new.octets) }
 {
     lay_number(text, packet)?;
     text.lay(b" left out: what it answers isn't in the capture\n")
@@ -360,7 +371,8 @@ fn lay_left_out(text: &mut Text, packet: u64) -> Result<(), AllocError>
 
 // Lays the line of an entry behind a text.
 fn lay_entry(text: &mut Text, entry: &Entry) -> Result<(), AllocError>
-    ensures { OnOk result (text.new.octets ≡ text.old.octets ++ (entry_line entry.now ++ 10 ∷ [])) }
+    ensures laid { OnOk result (text.new.octets ≡ text.old.octets ++ (entry_line entry.now ++ 10 ∷ [])) }
+    ensures kept { OnErr result (Leads text.old.octets text.new.octets) }
 {
     match write_entry(text, entry) {
         Ok(()) => Ok(()),
@@ -370,7 +382,8 @@ fn lay_entry(text: &mut Text, entry: &Entry) -> Result<(), AllocError>
 
 /// Lays the line of the settings behind a text.
 pub fn lay_settings(text: &mut Text, settings: &Settings) -> Result<(), AllocError>
-    ensures { OnOk result (text.new.octets ≡ text.old.octets ++ (settings_line settings.now ++ 10 ∷ [])) }
+    ensures laid { OnOk result (text.new.octets ≡ text.old.octets ++ (settings_line settings.now ++ 10 ∷ [])) }
+    ensures kept { OnErr result (Leads text.old.octets text.new.octets) }
 {
     match write_settings(text, settings) {
         Ok(()) => Ok(()),

@@ -1,5 +1,8 @@
 //! The log of one end, of one connection after another.
 
+ghost use Rattle.std.specs.Prelude.{◌≡◌, ◌++◌, codes, decimal};
+ghost use Rattle.hsms_accounts.specs.JournalLog.{IsRefusalIn};
+
 use crate::account::{Remark, lay_note, lay_remark, lay_settings};
 use crate::ends::{Heard, frame_within};
 use crate::pair::Pair;
@@ -27,9 +30,43 @@ struct Begun {
     is_up: bool,
 }
 
+impl Begun {
+    ghost use Rattle.std.specs.Prelude.{◌≡◌, IfErr, OnOk, Some};
+    ghost use Rattle.hsms_accounts.specs.JournalLog.{MayComeUp, Refuses};
+
+    // Whether another connection may come up behind it.
+    fn may_follow(&self, alloc: Global, pair: &Pair, packet: u64) -> Result<(), Stop>
+        ensures may { OnOk result (MayComeUp (Some self.now) pair.now) }
+        ensures refused { IfErr result (λ stop. Refuses (Some self.now) pair.now packet stop) }
+    {
+        if !self.pair.has_addresses_of(pair) {
+            return Err(other_peer(alloc, packet));
+        }
+        if self.is_up {
+            return Err(overlap(alloc, packet));
+        }
+        Ok(())
+    }
+}
+
 impl Journal {
+    ghost use Rattle.std.specs.Prelude.{◌≡◌, ◌++◌, IfErr, IfOk, None, OnErr, OnOk, Some, max};
+    ghost use Rattle.hsms_machine.specs.declared.entry.Event.TheVariants.{Down, Up};
+    ghost use Rattle.hsms_accounts.specs.declared.account.Remark.TheVariants.{LeftOut, Packet, Replaced, Supposed};
+    ghost use Rattle.hsms_accounts.specs.declared.stop.Stop.TheVariants.{Memory};
+    ghost use Rattle.hsms_accounts.specs.Account.{note_text, remark_text};
+    ghost use Rattle.hsms_accounts.specs.Ends.{event_of, heard_of, note_of};
+    ghost use Rattle.hsms_accounts.specs.JournalLog.{Leaves, MayComeUp, MayHappen, Refuses, Stops, TellsAs};
+    ghost use Rattle.hsms_accounts.specs.JournalLog.{begun_by, came_up, front_of, went_down};
+    ghost use Rattle.hsms_accounts.specs.Text.{Leads};
+
     /// A log of which nothing is told.
-    pub fn new(settings: Settings, side: Side) -> Journal {
+    pub fn new(settings: Settings, side: Side) -> Journal
+        ensures settings { result.settings ≡ settings }
+        ensures side { result.side ≡ side }
+        ensures begun { result.begun ≡ None }
+        ensures time { result.time ≡ 0 }
+    {
         Journal {
             settings,
             side,
@@ -44,19 +81,33 @@ impl Journal {
     ///
     /// `Refused`, in the words `Overlap packet=N` where another connection is up, and `Peer packet=N` where it has other
     /// addresses; `Memory`. The page stays as it was then.
+    #[tactic(auto, using(crate::proofs::Pages::cut))]
     pub fn hear(
         &mut self,
         alloc: Global,
         page: &mut Text,
         pair: &Pair,
         happening: Happening,
-    ) -> Result<Heard, Stop> {
+    ) -> Result<Heard, Stop>
+        ensures told { IfOk result (λ heard. TellsAs self.old.begun self.old.settings self.old.time self.old.side happening
+            heard page.old.octets page.new.octets) }
+        ensures answer { IfOk result (λ heard. heard ≡ heard_of self.old.settings.max happening.event) }
+        ensures may { OnOk result (MayHappen self.old.begun pair.now happening.event) }
+        ensures stops { IfErr result (λ stop. Stops self.old.begun pair.now happening.packet happening.event stop) }
+        ensures kept { OnErr result (page.new.octets ≡ page.old.octets) }
+        ensures begun { OnOk result (self.new.begun ≡ begun_by self.old.begun pair.now happening.event) }
+        ensures refused { IfErr result (λ stop. Leaves stop self.old.begun self.new.begun) }
+        ensures time { self.new.time ≡ max self.old.time happening.time }
+        ensures same { (self.new.settings ≡ self.old.settings) × (self.new.side ≡ self.old.side) }
+    {
         let length = page.octets().len();
-        let heard = self.tell(alloc, page, pair, happening);
-        if heard.is_err() {
-            page.cut(length);
+        match self.tell(alloc, page, pair, happening) {
+            Ok(heard) => Ok(heard),
+            Err(stop) => {
+                page.cut(length);
+                Err(stop)
+            }
         }
-        heard
     }
 
     // The same, where what is told before a fault may stay on the page.
@@ -66,27 +117,39 @@ impl Journal {
         page: &mut Text,
         pair: &Pair,
         happening: Happening,
-    ) -> Result<Heard, Stop> {
+    ) -> Result<Heard, Stop>
+        ensures told { IfOk result (λ heard. TellsAs self.old.begun self.old.settings self.old.time self.old.side happening
+            heard page.old.octets page.new.octets) }
+        ensures answer { IfOk result (λ heard. heard ≡ heard_of self.old.settings.max happening.event) }
+        ensures may { OnOk result (MayHappen self.old.begun pair.now happening.event) }
+        ensures stops { IfErr result (λ stop. Stops self.old.begun pair.now happening.packet happening.event stop) }
+        ensures kept { OnErr result (Leads page.old.octets page.new.octets) }
+        ensures begun { OnOk result (self.new.begun ≡ begun_by self.old.begun pair.now happening.event) }
+        ensures refused { IfErr result (λ stop. Leaves stop self.old.begun self.new.begun) }
+        ensures time { self.new.time ≡ max self.old.time happening.time }
+        ensures same { (self.new.settings ≡ self.old.settings) × (self.new.side ≡ self.old.side) }
+    {
         let remark = Remark::Packet(happening.packet);
         self.time = self.time.max(happening.time);
         match happening.event {
-            Happens::Up => {
-                self.come_up(alloc, page, pair, happening.packet)?;
-                self.write(page, remark, Event::Up, Heard::Goes)
-            }
+            Happens::Up => match self.come_up(alloc, page, pair, happening.packet, remark) {
+                Ok(()) => Ok(Heard::Goes),
+                Err(stop) => Err(stop),
+            },
             Happens::Down => {
                 self.go_down();
-                self.write(page, remark, Event::Down, Heard::Down)
-            }
-            Happens::Message { from, octets } => {
-                match frame_within(self.settings.max(), octets) {
-                    Some(frame) if from == self.side => {
-                        self.write(page, remark, Event::Sent(frame), Heard::Goes)
-                    }
-                    Some(frame) => self.write(page, remark, Event::Taken(frame), Heard::Goes),
-                    None => Ok(Heard::Length),
+                match self.write(page, remark, Event::Down) {
+                    Ok(()) => Ok(Heard::Down),
+                    Err(stop) => Err(stop),
                 }
             }
+            Happens::Message { from, octets } => match frame_within(self.settings.max(), octets) {
+                Some(frame) => match self.write(page, remark, self.event_of(from, frame)) {
+                    Ok(()) => Ok(Heard::Goes),
+                    Err(stop) => Err(stop),
+                },
+                None => Ok(Heard::Length),
+            },
         }
     }
 
@@ -95,11 +158,20 @@ impl Journal {
     /// # Errors
     ///
     /// `Memory`. The page stays as it was then.
-    pub fn replace(&mut self, page: &mut Text) -> Result<(), Stop> {
+    #[tactic(auto, using(crate::proofs::Pages::cut))]
+    pub fn replace(&mut self, page: &mut Text) -> Result<(), Stop>
+        ensures told { OnOk result
+            (page.new.octets ≡ page.old.octets ++ note_text (note_of Replaced self.old.time Down)) }
+        ensures memory { IfErr result (λ stop. stop ≡ Memory) }
+        ensures kept { OnErr result (page.new.octets ≡ page.old.octets) }
+        ensures begun { self.new.begun ≡ went_down self.old.begun }
+        ensures time { self.new.time ≡ self.old.time }
+        ensures same { (self.new.settings ≡ self.old.settings) × (self.new.side ≡ self.old.side) }
+    {
         let length = page.octets().len();
         self.go_down();
-        match self.write(page, Remark::Replaced, Event::Down, Heard::Down) {
-            Ok(_) => Ok(()),
+        match self.write(page, Remark::Replaced, Event::Down) {
+            Ok(()) => Ok(()),
             Err(stop) => {
                 page.cut(length);
                 Err(stop)
@@ -113,6 +185,7 @@ impl Journal {
     /// # Errors
     ///
     /// As what happens. The page stays as it was then.
+    #[tactic(auto, using(crate::proofs::Pages::cut))]
     pub fn suppose_up(
         &mut self,
         alloc: Global,
@@ -120,28 +193,27 @@ impl Journal {
         pair: &Pair,
         packet: u64,
         time: u64,
-    ) -> Result<(), Stop> {
+    ) -> Result<(), Stop>
+        ensures told { OnOk result (page.new.octets
+            ≡ (page.old.octets ++ front_of self.old.begun self.old.settings)
+            ++ note_text (note_of Supposed (max self.old.time time) Up)) }
+        ensures may { OnOk result (MayComeUp self.old.begun pair.now) }
+        ensures stops { IfErr result (λ stop. Refuses self.old.begun pair.now packet stop) }
+        ensures kept { OnErr result (page.new.octets ≡ page.old.octets) }
+        ensures begun { OnOk result (self.new.begun ≡ came_up pair.now) }
+        ensures refused { IfErr result (λ stop. Leaves stop self.old.begun self.new.begun) }
+        ensures time { self.new.time ≡ max self.old.time time }
+        ensures same { (self.new.settings ≡ self.old.settings) × (self.new.side ≡ self.old.side) }
+    {
         let length = page.octets().len();
-        let told = self.tell_supposed_up(alloc, page, pair, packet, time);
-        if told.is_err() {
-            page.cut(length);
-        }
-        told
-    }
-
-    // The same, where what is told before a fault may stay on the page.
-    fn tell_supposed_up(
-        &mut self,
-        alloc: Global,
-        page: &mut Text,
-        pair: &Pair,
-        packet: u64,
-        time: u64,
-    ) -> Result<(), Stop> {
         self.time = self.time.max(time);
-        self.come_up(alloc, page, pair, packet)?;
-        self.write(page, Remark::Supposed, Event::Up, Heard::Goes)?;
-        Ok(())
+        match self.come_up(alloc, page, pair, packet, Remark::Supposed) {
+            Ok(()) => Ok(()),
+            Err(stop) => {
+                page.cut(length);
+                Err(stop)
+            }
+        }
     }
 
     /// Tells on a page a message that an end sent, as it is supposed.
@@ -149,20 +221,17 @@ impl Journal {
     /// # Errors
     ///
     /// `Memory`. The page stays as it was then.
-    pub fn suppose_message(
-        &mut self,
-        page: &mut Text,
-        from: Side,
-        frame: Frame,
-    ) -> Result<(), Stop> {
+    #[tactic(auto, using(crate::proofs::Pages::cut))]
+    pub fn suppose_message(&mut self, page: &mut Text, from: Side, frame: Frame) -> Result<(), Stop>
+        ensures told { OnOk result (page.new.octets
+            ≡ page.old.octets ++ note_text (note_of Supposed self.old.time (event_of self.old.side from frame))) }
+        ensures memory { IfErr result (λ stop. stop ≡ Memory) }
+        ensures kept { OnErr result (page.new.octets ≡ page.old.octets) }
+        ensures same { self.new ≡ self.old }
+    {
         let length = page.octets().len();
-        let event = if from == self.side {
-            Event::Sent(frame)
-        } else {
-            Event::Taken(frame)
-        };
-        match self.write(page, Remark::Supposed, event, Heard::Goes) {
-            Ok(_) => Ok(()),
+        match self.write(page, Remark::Supposed, self.event_of(from, frame)) {
+            Ok(()) => Ok(()),
             Err(stop) => {
                 page.cut(length);
                 Err(stop)
@@ -175,7 +244,12 @@ impl Journal {
     /// # Errors
     ///
     /// `Memory`. The page stays as it was then.
-    pub fn leave_out(&self, page: &mut Text, packet: u64) -> Result<(), Stop> {
+    #[tactic(auto, using(crate::proofs::Pages::cut))]
+    pub fn leave_out(&self, page: &mut Text, packet: u64) -> Result<(), Stop>
+        ensures told { OnOk result (page.new.octets ≡ page.old.octets ++ remark_text (LeftOut packet)) }
+        ensures memory { IfErr result (λ stop. stop ≡ Memory) }
+        ensures kept { OnErr result (page.new.octets ≡ page.old.octets) }
+    {
         let length = page.octets().len();
         match lay_remark(page, Remark::LeftOut(packet)) {
             Ok(()) => Ok(()),
@@ -187,55 +261,116 @@ impl Journal {
     }
 
     // The connection of a pair comes up. The first one that does begins the log.
+    #[tactic(auto, using(crate::proofs::Pages::come_up, crate::proofs::Pages::follow))]
     fn come_up(
         &mut self,
         alloc: Global,
         page: &mut Text,
         pair: &Pair,
         packet: u64,
-    ) -> Result<(), Stop> {
-        match &self.begun {
-            None => lay_settings(page, &self.settings)?,
-            Some(begun) if !begun.pair.has_addresses_of(pair) => {
-                return Err(refused_at(alloc, "Peer", packet));
+        remark: Remark,
+    ) -> Result<(), Stop>
+        ensures told { OnOk result (page.new.octets
+            ≡ (page.old.octets ++ front_of self.old.begun self.old.settings)
+            ++ note_text (note_of remark self.old.time Up)) }
+        ensures may { OnOk result (MayComeUp self.old.begun pair.now) }
+        ensures stops { IfErr result (λ stop. Refuses self.old.begun pair.now packet stop) }
+        ensures kept { OnErr result (Leads page.old.octets page.new.octets) }
+        ensures begun { OnOk result (self.new.begun ≡ came_up pair.now) }
+        ensures refused { IfErr result (λ stop. Leaves stop self.old.begun self.new.begun) }
+        ensures same { (self.new.settings ≡ self.old.settings) × (self.new.side ≡ self.old.side)
+            × (self.new.time ≡ self.old.time) }
+    {
+        match self.begin(alloc, page, pair, packet) {
+            Ok(()) => {
+                self.begun = Some(Begun {
+                    pair: *pair,
+                    is_up: true,
+                });
+                self.write(page, remark, Event::Up)
             }
-            Some(begun) if begun.is_up => return Err(refused_at(alloc, "Overlap", packet)),
-            Some(_) => {}
+            Err(stop) => Err(stop),
         }
-        self.begun = Some(Begun {
-            pair: *pair,
-            is_up: true,
-        });
-        Ok(())
+    }
+
+    // The front of the log, where the connection is the first one; and whether it may come up.
+    #[tactic(auto, using(crate::proofs::Pages::stay, crate::proofs::Pages::same))]
+    fn begin(&self, alloc: Global, page: &mut Text, pair: &Pair, packet: u64) -> Result<(), Stop>
+        ensures told { OnOk result
+            (page.new.octets ≡ page.old.octets ++ front_of self.now.begun self.now.settings) }
+        ensures may { OnOk result (MayComeUp self.now.begun pair.now) }
+        ensures stops { IfErr result (λ stop. Refuses self.now.begun pair.now packet stop) }
+        ensures kept { OnErr result (Leads page.old.octets page.new.octets) }
+    {
+        match &self.begun {
+            None => match lay_settings(page, &self.settings) {
+                Ok(()) => Ok(()),
+                Err(_) => Err(Stop::Memory),
+            },
+            Some(begun) => begun.may_follow(alloc, pair, packet),
+        }
     }
 
     // The connection goes down.
-    fn go_down(&mut self) {
+    fn go_down(&mut self)
+        ensures begun { self.new.begun ≡ went_down self.old.begun }
+        ensures same { (self.new.settings ≡ self.old.settings) × (self.new.side ≡ self.old.side)
+            × (self.new.time ≡ self.old.time) }
+    {
         if let Some(begun) = &mut self.begun {
             begun.is_up = false;
         }
     }
 
+    // What this end logs of a message that an end sent.
+    fn event_of(&self, from: Side, frame: Frame) -> Event
+        ensures { result ≡ event_of self.now.side from frame }
+    {
+        match self.side {
+            Side::Active => match from {
+                Side::Active => Event::Sent(frame),
+                Side::Passive => Event::Taken(frame),
+            },
+            Side::Passive => match from {
+                Side::Active => Event::Taken(frame),
+                Side::Passive => Event::Sent(frame),
+            },
+        }
+    }
+
     // Tells an entry behind its comment.
-    fn write(
-        &mut self,
-        page: &mut Text,
-        remark: Remark,
-        event: Event,
-        heard: Heard,
-    ) -> Result<Heard, Stop> {
+    fn write(&self, page: &mut Text, remark: Remark, event: Event) -> Result<(), Stop>
+        ensures told { OnOk result
+            (page.new.octets ≡ page.old.octets ++ note_text (note_of remark self.now.time event)) }
+        ensures memory { IfErr result (λ stop. stop ≡ Memory) }
+        ensures kept { OnErr result (Leads page.old.octets page.new.octets) }
+    {
         let entry = Entry {
             time: self.time,
             event,
         };
-        lay_note(page, remark, &entry)?;
-        Ok(heard)
+        match lay_note(page, remark, &entry) {
+            Ok(()) => Ok(()),
+            Err(_) => Err(Stop::Memory),
+        }
     }
 }
 
-// The refusal of what comes with a packet.
-fn refused_at(alloc: Global, word: &str, packet: u64) -> Stop {
-    match format!(in alloc; "{word} packet={packet}") {
+// The refusal of a connection with other addresses, which comes up at a packet.
+fn other_peer(alloc: Global, packet: u64) -> Stop
+    ensures { IsRefusalIn (codes "Peer packet=" ++ decimal packet) result }
+{
+    match format!(in alloc; "Peer packet={packet}") {
+        Ok(words) => Stop::Refused(words),
+        Err(_) => Stop::Memory,
+    }
+}
+
+// The refusal of a connection that comes up at a packet while another one is up.
+fn overlap(alloc: Global, packet: u64) -> Stop
+    ensures { IsRefusalIn (codes "Overlap packet=" ++ decimal packet) result }
+{
+    match format!(in alloc; "Overlap packet={packet}") {
         Ok(words) => Stop::Refused(words),
         Err(_) => Stop::Memory,
     }

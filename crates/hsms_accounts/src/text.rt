@@ -24,7 +24,7 @@ impl Model for Text {
 }
 
 impl Text {
-    ghost use Rattle.std.specs.Prelude.{◌≡◌, ◌++◌, [], OnOk, take};
+    ghost use Rattle.std.specs.Prelude.{◌≡◌, ◌++◌, [], OnErr, OnOk, take};
 
     /// No octets.
     pub fn new(alloc: Global) -> Text
@@ -46,7 +46,8 @@ impl Text {
 
     /// Lays octets behind those that are there.
     pub fn lay(&mut self, octets: &[u8]) -> Result<(), AllocError>
-        ensures { OnOk result (self.new.octets ≡ self.old.octets ++ octets.now) }
+        ensures laid { OnOk result (self.new.octets ≡ self.old.octets ++ octets.now) }
+        ensures kept { OnErr result (self.new.octets ≡ self.old.octets) }
     {
         self.octets.extend_from_slice(octets)?;
         Ok(())

@@ -1,0 +1,106 @@
+-- The log of one end of one connection after another, as it is written.
+use Rattle.std.specs.Prelude.{◌≡◌, ◌⊎◌, ℕ, true, false, Option, None, Some, List, [], ◌∷◌, ◌++◌, codes, decimal, string_bytes}
+use Rattle.hsms_machine.specs.Settings.{Parameters}
+use Rattle.hsms_log.specs.Spelling.{settings_line}
+use Rattle.hsms_capture.specs.declared.packet.Side.{Side}
+use Rattle.hsms_capture.specs.declared.telling.Event.{Event as Happens}
+use Rattle.hsms_capture.specs.declared.telling.Event.TheVariants as happens
+use Rattle.hsms_capture.specs.declared.telling.Happening.{Happening}
+use Rattle.hsms_accounts.specs.declared.ends.Heard.{Heard}
+use Rattle.hsms_accounts.specs.declared.ends.Heard.TheVariants as heard
+use Rattle.hsms_accounts.specs.declared.journal.Begun.{Begun}
+use Rattle.hsms_accounts.specs.declared.pair.Pair.{Pair}
+use Rattle.hsms_accounts.specs.declared.stop.Stop.{Stop}
+use Rattle.hsms_accounts.specs.declared.stop.Stop.TheVariants as stop
+use Rattle.hsms_accounts.specs.Account.{Note, note_text}
+use Rattle.hsms_accounts.specs.Ends.{IsNoMessage, Records}
+use Rattle.hsms_accounts.specs.Pair.{HaveSameAddresses}
+
+-- ---- the connection that came up last, if one did
+
+-- it has other addresses
+abbrev pub HasOthers : Option Begun → Pair → Type 0
+HasOthers None pair = ⊥
+HasOthers (Some begun) pair = HaveSameAddresses begun.pair pair → ⊥
+
+-- it has the same, and is up
+abbrev pub IsStillUp : Option Begun → Pair → Type 0
+IsStillUp None pair = ⊥
+IsStillUp (Some begun) pair = HaveSameAddresses begun.pair pair × (begun.is_up ≡ true)
+
+-- there is none, or it has the same and went down
+abbrev pub MayComeUp : Option Begun → Pair → Type 0
+MayComeUp None pair = Unit {0}
+MayComeUp (Some begun) pair = HaveSameAddresses begun.pair pair × (begun.is_up ≡ false)
+
+abbrev pub MayHappen : Option Begun → Pair → Happens → Type 0
+MayHappen begun pair happens.Up = MayComeUp begun pair
+MayHappen begun pair (happens.Message from octets) = Unit {0}
+MayHappen begun pair happens.Down = Unit {0}
+
+abbrev pub came_up : Pair → Option Begun
+came_up pair = Some (record { pair = pair; is_up = true })
+
+abbrev pub went_down : Option Begun → Option Begun
+went_down None = None
+went_down (Some begun) = Some (record { pair = begun.pair; is_up = false })
+
+-- what becomes of it by what happens
+abbrev pub begun_by : Option Begun → Pair → Happens → Option Begun
+begun_by begun pair happens.Up = came_up pair
+begun_by begun pair (happens.Message from octets) = begun
+begun_by begun pair happens.Down = went_down begun
+
+-- ---- what stops a log
+
+-- a refusal in these words, or want of memory
+abbrev pub IsRefusalIn : List ℕ → Stop → Type 0
+IsRefusalIn words (stop.Refused told) = string_bytes told ≡ words
+IsRefusalIn words stop.Endless = ⊥
+IsRefusalIn words stop.Memory = Unit {0}
+
+-- a connection doesn't come up at this packet, where the one before has other addresses or is up; or memory is wanting
+abbrev pub Refuses : Option Begun → Pair → ℕ → Stop → Type 0
+Refuses begun pair packet (stop.Refused told) =
+    (HasOthers begun pair × (string_bytes told ≡ codes "Peer packet=" ++ decimal packet))
+    ⊎ (IsStillUp begun pair × (string_bytes told ≡ codes "Overlap packet=" ++ decimal packet))
+Refuses begun pair packet stop.Endless = ⊥
+Refuses begun pair packet stop.Memory = Unit {0}
+
+-- only what comes up is refused
+abbrev pub Stops : Option Begun → Pair → ℕ → Happens → Stop → Type 0
+Stops begun pair packet happens.Up why = Refuses begun pair packet why
+Stops begun pair packet (happens.Message from octets) why = why ≡ stop.Memory
+Stops begun pair packet happens.Down why = why ≡ stop.Memory
+
+-- what is refused leaves the connection that came up last as it was
+abbrev pub Leaves : Stop → Option Begun → Option Begun → Type 0
+Leaves (stop.Refused told) old new = new ≡ old
+Leaves stop.Endless old new = Unit {0}
+Leaves stop.Memory old new = Unit {0}
+
+-- ---- what is told
+
+-- the first connection that comes up begins the log
+abbrev pub front_of : Option Begun → Parameters → List ℕ
+front_of None settings = settings_line settings ++ 10 ∷ []
+front_of (Some begun) settings = []
+
+abbrev pub front_by : Option Begun → Parameters → Happens → List ℕ
+front_by begun settings happens.Up = front_of begun settings
+front_by begun settings (happens.Message from octets) = []
+front_by begun settings happens.Down = []
+
+-- behind what was there: the front of the log, where it begins here, and what happened
+abbrev pub TellsNote : List ℕ → ℕ → Side → Happening → List ℕ → List ℕ → Type 0
+TellsNote front before side happening old new =
+    (note : Note) × Records before side happening note × (new ≡ (old ++ front) ++ note_text note)
+
+-- the same, or nothing where it is a message that no end takes
+abbrev pub TellsAs : Option Begun → Parameters → ℕ → Side → Happening → Heard → List ℕ → List ℕ → Type 0
+TellsAs begun settings before side happening heard.Goes old new =
+    TellsNote (front_by begun settings happening.event) before side happening old new
+TellsAs begun settings before side happening heard.Down old new =
+    (happening.event ≡ happens.Down) × TellsNote (front_by begun settings happening.event) before side happening old new
+TellsAs begun settings before side happening heard.Length old new =
+    IsNoMessage settings.max happening.event × (new ≡ old)
