@@ -12,15 +12,15 @@ use Rattle.hsms_end.specs.Frame.{linktest_req, separate_req}
 use Rattle.hsms_end.specs.Act.{Act, Acts, logs, asks}
 use Rattle.hsms_end.specs.Turn.{is_up, opening_of, Told, Turn, start, linktest, separate, lost}
 use Rattle.hsms_end.specs.Fault.{Meets, is_before}
-use Rattle.hsms_end.specs.Doing.{Does}
+use Rattle.hsms_end.specs.Performing.{Performs}
 use Rattle.hsms_end.specs.End.{Extends, Accepts}
-use Rattle.hsms_end.specs.Known.{Known, EndOf}
+use Rattle.hsms_end.specs.EndState.{EndState, EndOf}
 use Rattle.hsms_end.specs.Inside.{known_of, known}
 
-pub acts_of : (end end' : State) (acts : List Act) (entries : List Entry) → Does end [] acts end' entries → Acts (known end) acts entries (known end')
+pub acts_of : (end end' : State) (acts : List Act) (entries : List Entry) → Performs end [] acts end' entries → Acts (known end) acts entries (known end')
 acts_of end end' acts entries h = subst (λ es. Acts (known end) acts es (known end')) (sym h.added) h.done
 
-pub run_of : (end end' : State) (acts : List Act) (entries : List Entry) → Does end [] acts end' entries → Extends end.tracker entries end'.tracker
+pub run_of : (end end' : State) (acts : List Act) (entries : List Entry) → Performs end [] acts end' entries → Extends end.tracker entries end'.tracker
 run_of end end' acts entries h = subst (λ es. Extends end.tracker es end'.tracker) (sym h.added) h.run
 
 pub meets_spent : (spent : Bool) (end : State) (input : Told) → spent ≡ true → Meets (known_of end spent) input (Some Spent)
@@ -79,9 +79,9 @@ accepted_at {D} answers desk end end' spent at input entries fresh is meets turn
     (record { meets = subst (λ (b : Bool). Meets (known_of end b) input None) fresh meets; turn = turn; run = run; desk = refl }))
 
 -- an input whose turn is these acts, from this end on
-pub accepted : {D : Type 0} (answers : D → ℕ → Content → Answered) (desk : D) (end from end' : State) (spent : Bool) (at : EndOf D) (input : Told) (acts : List Act) (first entries : List Entry) → spent ≡ false → inside_of desk end spent ≡ at → first ≡ [] → Meets (known_of end spent) input None → from.tracker ≡ end.tracker → ((es : List Entry) (k : Known) → Acts (known from) acts es k → Turn (answers desk) (known end) input es k) → Does from first acts end' entries → Accepts answers at input entries (inside_of desk end' false)
+pub accepted : {D : Type 0} (answers : D → ℕ → Content → Answered) (desk : D) (end from end' : State) (spent : Bool) (at : EndOf D) (input : Told) (acts : List Act) (first entries : List Entry) → spent ≡ false → inside_of desk end spent ≡ at → first ≡ [] → Meets (known_of end spent) input None → from.tracker ≡ end.tracker → ((es : List Entry) (k : EndState) → Acts (known from) acts es k → Turn (answers desk) (known end) input es k) → Performs from first acts end' entries → Accepts answers at input entries (inside_of desk end' false)
 accepted {D} answers desk end from end' spent at input acts first entries fresh is empty meets same turn h =
-    let done : Does from [] acts end' entries = subst (λ es. Does from es acts end' entries) empty h in
+    let done : Performs from [] acts end' entries = subst (λ es. Performs from es acts end' entries) empty h in
     accepted_at answers desk end end' spent at input entries fresh is meets (turn entries (known end') (acts_of from end' acts entries done))
     (subst (λ (v : View). Extends v entries end'.tracker) same (run_of from end' acts entries done))
 
@@ -96,21 +96,21 @@ unfolding Meets
 start_meets spent end now s u =
     inr (not_spent spent s, inr (up_is_up (is_before end.tracker.phase) u, inr ((λ b. b), inr ((λ b. b), inr ((λ b. b), inr ((λ b. let d : false ≡ true = b.0 in cc), inr ((λ b. b), inr ((λ b. b), refl))))))))
 
-pub started : {D : Type 0} (answers : D → ℕ → Content → Answered) (desk : D) (end end' : State) (spent : Bool) (at : EndOf D) (now moment : ℕ) (first entries : List Entry) → moment ≡ max end.moment now → spent ≡ false → inside_of desk end spent ≡ at → first ≡ [] → is_before end.tracker.phase ≡ true → Does (record end { moment = moment }) first (opening_of end.settings.link) end' entries → Accepts answers at (start now) entries (inside_of desk end' false)
+pub started : {D : Type 0} (answers : D → ℕ → Content → Answered) (desk : D) (end end' : State) (spent : Bool) (at : EndOf D) (now moment : ℕ) (first entries : List Entry) → moment ≡ max end.moment now → spent ≡ false → inside_of desk end spent ≡ at → first ≡ [] → is_before end.tracker.phase ≡ true → Performs (record end { moment = moment }) first (opening_of end.settings.link) end' entries → Accepts answers at (start now) entries (inside_of desk end' false)
 started answers desk end end' spent at now moment first entries later fresh is empty before h =
     accepted answers desk end (record end { moment = max end.moment now }) end' spent at (start now) (opening_of end.settings.link) first entries fresh is empty (start_meets spent end now fresh before) refl (λ es k h. h)
-    (subst (λ (m : ℕ). Does (record end { moment = m }) first (opening_of end.settings.link) end' entries) later h)
+    (subst (λ (m : ℕ). Performs (record end { moment = m }) first (opening_of end.settings.link) end' entries) later h)
 
 -- ---- lost, separate and linktest
 
-pub lost_accepted : {D : Type 0} (answers : D → ℕ → Content → Answered) (desk : D) (end end' : State) (spent : Bool) (at : EndOf D) (first entries : List Entry) → spent ≡ false → inside_of desk end spent ≡ at → first ≡ [] → is_up end.tracker.phase ≡ true → Does end first (logs Down ∷ []) end' entries → Accepts answers at lost entries (inside_of desk end' false)
+pub lost_accepted : {D : Type 0} (answers : D → ℕ → Content → Answered) (desk : D) (end end' : State) (spent : Bool) (at : EndOf D) (first entries : List Entry) → spent ≡ false → inside_of desk end spent ≡ at → first ≡ [] → is_up end.tracker.phase ≡ true → Performs end first (logs Down ∷ []) end' entries → Accepts answers at lost entries (inside_of desk end' false)
 lost_accepted answers desk end end' spent at first entries fresh is empty up h =
     accepted answers desk end end end' spent at lost (logs Down ∷ []) first entries fresh is empty (lost_meets spent end fresh up) refl (λ es k d. d) h
 
-pub separate_accepted : {D : Type 0} (answers : D → ℕ → Content → Answered) (desk : D) (end end' : State) (spent : Bool) (at : EndOf D) (first entries : List Entry) → spent ≡ false → inside_of desk end spent ≡ at → first ≡ [] → is_up end.tracker.phase ≡ true → Does end first (asks separate_req ∷ logs Down ∷ []) end' entries → Accepts answers at separate entries (inside_of desk end' false)
+pub separate_accepted : {D : Type 0} (answers : D → ℕ → Content → Answered) (desk : D) (end end' : State) (spent : Bool) (at : EndOf D) (first entries : List Entry) → spent ≡ false → inside_of desk end spent ≡ at → first ≡ [] → is_up end.tracker.phase ≡ true → Performs end first (asks separate_req ∷ logs Down ∷ []) end' entries → Accepts answers at separate entries (inside_of desk end' false)
 separate_accepted answers desk end end' spent at first entries fresh is empty up h =
     accepted answers desk end end end' spent at separate (asks separate_req ∷ logs Down ∷ []) first entries fresh is empty (separate_meets spent end fresh up) refl (λ es k d. d) h
 
-pub linktest_accepted : {D : Type 0} (answers : D → ℕ → Content → Answered) (desk : D) (end end' : State) (spent : Bool) (at : EndOf D) (first entries : List Entry) → spent ≡ false → inside_of desk end spent ≡ at → first ≡ [] → is_up end.tracker.phase ≡ true → own_open_of end.tracker < 64 → Does end first (asks linktest_req ∷ []) end' entries → Accepts answers at linktest entries (inside_of desk end' false)
+pub linktest_accepted : {D : Type 0} (answers : D → ℕ → Content → Answered) (desk : D) (end end' : State) (spent : Bool) (at : EndOf D) (first entries : List Entry) → spent ≡ false → inside_of desk end spent ≡ at → first ≡ [] → is_up end.tracker.phase ≡ true → own_open_of end.tracker < 64 → Performs end first (asks linktest_req ∷ []) end' entries → Accepts answers at linktest entries (inside_of desk end' false)
 linktest_accepted answers desk end end' spent at first entries fresh is empty up room h =
     accepted answers desk end end end' spent at linktest (asks linktest_req ∷ []) first entries fresh is empty (linktest_meets spent end fresh up room) refl (λ es k d. d) h

@@ -23,12 +23,12 @@ use Rattle.hsms_machine.specs.Step.{facts_of, is_selected}
 use Rattle.hsms_end.specs.declared.state.State.{State}
 use Rattle.hsms_end.specs.Inside.{after_event}
 use Rattle.hsms_end.specs.Frame.{select_rsp, linktest_rsp, reject_req}
-use Rattle.hsms_end.specs.Doing.{IsLawful}
-use Rattle.hsms_end.specs.Owing.{IsOwing, IsSame, IsAskedToSelect, IsAskedForLink}
+use Rattle.hsms_end.specs.Performing.{IsLawful}
+use Rattle.hsms_end.specs.AwaitingReply.{PeerAwaits, IsSame, IsAskedToSelect, IsAskedForLink}
 use Rattle.hsms_end.proofs.Lawfuls.{sent_lawful}
 use Rattle.hsms_end.proofs.OwnFrames.{IsFine}
 use Rattle.hsms_end.proofs.Steadiness.{kept_phase}
-use Rattle.hsms_end.proofs.Owed.{IsQuiet, left_by, sent_owing}
+use Rattle.hsms_end.proofs.AwaitingReplies.{IsQuiet, left_by, sent_awaits}
 
 pub same_system : (n : ℕ) → (n == n) ≡ true
 same_system n = grind (arith, nat_tests)
@@ -126,15 +126,15 @@ linktest_quiet : (request : Header) → IsQuiet (linktest_rsp request).header
 unfolding separates is_data_request is_control_request
 linktest_quiet request = record { stays = refl; no_data = refl; no_control = refl }
 
-module _ (end : State) (owing : IsOwing end [] []) (header : Header) (reason : ℕ) where
+module _ (end : State) (awaits : PeerAwaits end [] []) (header : Header) (reason : ℕ) where
   pub reject_lawful : (frame : Frame) → frame ≡ reject_req header reason → IsLawful end (Sent frame)
   reject_lawful frame is =
       subst (λ (f : Frame). IsLawful end (Sent f)) (sym is)
-      (sent_lawful end owing.up owing.calm (reject_req header reason) (reject_fine end.tracker (subst IsWithinLimits owing.settings owing.within) header reason))
+      (sent_lawful end awaits.up awaits.calm (reject_req header reason) (reject_fine end.tracker (subst IsWithinLimits awaits.settings awaits.within) header reason))
 
-  pub reject_owing : (end' : State) (frame : Frame) → frame ≡ reject_req header reason → end' ≡ after_event end (Sent frame) → IsOwing end' [] []
-  reject_owing end' frame is after =
-      subst (λ (s : State). IsOwing s [] []) (sym (after ∙ ap (λ f. after_event end (Sent f)) is)) (sent_owing end (reject_req header reason) [] [] owing (reject_quiet header reason))
+  pub reject_awaits : (end' : State) (frame : Frame) → frame ≡ reject_req header reason → end' ≡ after_event end (Sent frame) → PeerAwaits end' [] []
+  reject_awaits end' frame is after =
+      subst (λ (s : State). PeerAwaits s [] []) (sym (after ∙ ap (λ f. after_event end (Sent f)) is)) (sent_awaits end (reject_req header reason) [] [] awaits (reject_quiet header reason))
 
   pub reject_same : (end' : State) (frame : Frame) → frame ≡ reject_req header reason → end' ≡ after_event end (Sent frame) → IsSame end end'
   reject_same end' frame is after =
@@ -142,40 +142,40 @@ module _ (end : State) (owing : IsOwing end [] []) (header : Header) (reason : �
       (record {
         settings = refl;
         framer = refl;
-        phase = kept_phase end.tracker.phase (separates (reject_req header reason).header) (establishes (reject_req header reason).header) owing.up (reject_quiet header reason).stays (reject_selects header reason);
+        phase = kept_phase end.tracker.phase (separates (reject_req header reason).header) (establishes (reject_req header reason).header) awaits.up (reject_quiet header reason).stays (reject_selects header reason);
       })
 
 module _ (end : State) (header : Header) (selected : Bool) (asked : IsAskedToSelect end header selected) where
   pub select_rsp_lawful : (frame : Frame) → frame ≡ select_rsp header (if selected then 1 else 0) → IsLawful end (Sent frame)
   select_rsp_lawful frame is =
       subst (λ (f : Frame). IsLawful end (Sent f)) (sym is)
-      (sent_lawful end asked.owing.up asked.owing.calm (select_rsp header (if selected then 1 else 0))
-      (select_rsp_fine end.tracker (subst IsWithinLimits asked.owing.settings asked.owing.within) header (if selected then 1 else 0)
-      (ap (λ (s : Parameters). s.link) (sym asked.owing.settings) ∙ asked.passive)
-      (inr (one_open (λ (opened : Transaction). answers opened.header (select_rsp header (if selected then 1 else 0)).header) (record { time = asked.time; header = header }) end.tracker.taken_control asked.owing.taken_control (answers_select header (if selected then 1 else 0) asked.kind)))
+      (sent_lawful end asked.awaits.up asked.awaits.calm (select_rsp header (if selected then 1 else 0))
+      (select_rsp_fine end.tracker (subst IsWithinLimits asked.awaits.settings asked.awaits.within) header (if selected then 1 else 0)
+      (ap (λ (s : Parameters). s.link) (sym asked.awaits.settings) ∙ asked.passive)
+      (inr (one_open (λ (opened : Transaction). answers opened.header (select_rsp header (if selected then 1 else 0)).header) (record { time = asked.time; header = header }) end.tracker.taken_control asked.awaits.taken_control (answers_select header (if selected then 1 else 0) asked.kind)))
       (never_again end.tracker.phase selected asked.before)))
 
-  pub select_rsp_owing : (end' : State) (frame : Frame) → frame ≡ select_rsp header (if selected then 1 else 0) → end' ≡ after_event end (Sent frame) → IsOwing end' [] []
-  select_rsp_owing end' frame is after =
-      let sent : IsOwing (after_event end (Sent (select_rsp header (if selected then 1 else 0)))) [] (left_by (select_rsp header (if selected then 1 else 0)).header (record { time = asked.time; header = header } ∷ [])) =
-      sent_owing end (select_rsp header (if selected then 1 else 0)) [] (record { time = asked.time; header = header } ∷ []) asked.owing (select_quiet header (if selected then 1 else 0)) in
-      subst (λ (s : State). IsOwing s [] []) (sym (after ∙ ap (λ f. after_event end (Sent f)) is))
-      (subst (λ xs. IsOwing (after_event end (Sent (select_rsp header (if selected then 1 else 0)))) [] xs) (left_answered (record { time = asked.time; header = header }) (select_rsp header (if selected then 1 else 0)).header (answers_select header (if selected then 1 else 0) asked.kind)) sent)
+  pub select_rsp_awaits : (end' : State) (frame : Frame) → frame ≡ select_rsp header (if selected then 1 else 0) → end' ≡ after_event end (Sent frame) → PeerAwaits end' [] []
+  select_rsp_awaits end' frame is after =
+      let sent : PeerAwaits (after_event end (Sent (select_rsp header (if selected then 1 else 0)))) [] (left_by (select_rsp header (if selected then 1 else 0)).header (record { time = asked.time; header = header } ∷ [])) =
+      sent_awaits end (select_rsp header (if selected then 1 else 0)) [] (record { time = asked.time; header = header } ∷ []) asked.awaits (select_quiet header (if selected then 1 else 0)) in
+      subst (λ (s : State). PeerAwaits s [] []) (sym (after ∙ ap (λ f. after_event end (Sent f)) is))
+      (subst (λ xs. PeerAwaits (after_event end (Sent (select_rsp header (if selected then 1 else 0)))) [] xs) (left_answered (record { time = asked.time; header = header }) (select_rsp header (if selected then 1 else 0)).header (answers_select header (if selected then 1 else 0) asked.kind)) sent)
 
 module _ (end : State) (header : Header) (asked : IsAskedForLink end header) where
   pub linktest_rsp_lawful : (frame : Frame) → frame ≡ linktest_rsp header → IsLawful end (Sent frame)
   linktest_rsp_lawful frame is =
       subst (λ (f : Frame). IsLawful end (Sent f)) (sym is)
-      (sent_lawful end asked.owing.up asked.owing.calm (linktest_rsp header)
-      (linktest_rsp_fine end.tracker (subst IsWithinLimits asked.owing.settings asked.owing.within) header
-      (inr (one_open (λ (opened : Transaction). answers opened.header (linktest_rsp header).header) (record { time = asked.time; header = header }) end.tracker.taken_control asked.owing.taken_control (answers_linktest header asked.kind)))))
+      (sent_lawful end asked.awaits.up asked.awaits.calm (linktest_rsp header)
+      (linktest_rsp_fine end.tracker (subst IsWithinLimits asked.awaits.settings asked.awaits.within) header
+      (inr (one_open (λ (opened : Transaction). answers opened.header (linktest_rsp header).header) (record { time = asked.time; header = header }) end.tracker.taken_control asked.awaits.taken_control (answers_linktest header asked.kind)))))
 
-  pub linktest_rsp_owing : (end' : State) (frame : Frame) → frame ≡ linktest_rsp header → end' ≡ after_event end (Sent frame) → IsOwing end' [] []
-  linktest_rsp_owing end' frame is after =
-      let sent : IsOwing (after_event end (Sent (linktest_rsp header))) [] (left_by (linktest_rsp header).header (record { time = asked.time; header = header } ∷ [])) =
-      sent_owing end (linktest_rsp header) [] (record { time = asked.time; header = header } ∷ []) asked.owing (linktest_quiet header) in
-      subst (λ (s : State). IsOwing s [] []) (sym (after ∙ ap (λ f. after_event end (Sent f)) is))
-      (subst (λ xs. IsOwing (after_event end (Sent (linktest_rsp header))) [] xs) (left_answered (record { time = asked.time; header = header }) (linktest_rsp header).header (answers_linktest header asked.kind)) sent)
+  pub linktest_rsp_awaits : (end' : State) (frame : Frame) → frame ≡ linktest_rsp header → end' ≡ after_event end (Sent frame) → PeerAwaits end' [] []
+  linktest_rsp_awaits end' frame is after =
+      let sent : PeerAwaits (after_event end (Sent (linktest_rsp header))) [] (left_by (linktest_rsp header).header (record { time = asked.time; header = header } ∷ [])) =
+      sent_awaits end (linktest_rsp header) [] (record { time = asked.time; header = header } ∷ []) asked.awaits (linktest_quiet header) in
+      subst (λ (s : State). PeerAwaits s [] []) (sym (after ∙ ap (λ f. after_event end (Sent f)) is))
+      (subst (λ xs. PeerAwaits (after_event end (Sent (linktest_rsp header))) [] xs) (left_answered (record { time = asked.time; header = header }) (linktest_rsp header).header (answers_linktest header asked.kind)) sent)
 
 pub framer_kept : (end end' : State) (frame : Frame) → end' ≡ after_event end (Sent frame) → end'.framer ≡ end.framer
 framer_kept end end' frame after = ap (λ (s : State). s.framer) after

@@ -10,24 +10,24 @@ use Rattle.hsms_end.specs.declared.input.Input.{Input}
 use Rattle.hsms_end.specs.declared.fault.EndFault.{EndFault}
 use Rattle.hsms_end.specs.declared.fault.EndFault.TheVariants.{Spent, NotUp, NotSelected, NotPrimary, Nine, Full, TooLong, TooDeep, Memory}
 use Rattle.hsms_end.specs.Answer.{Answered}
-use Rattle.hsms_end.specs.Known.{Known, EndOf, untold}
+use Rattle.hsms_end.specs.EndState.{EndState, EndOf, untold}
 use Rattle.hsms_end.specs.Turn.{Told, Turn}
 use Rattle.hsms_end.specs.Fault.{Meets}
 use Rattle.hsms_end.specs.End.{Accepts, Refuses}
 use Rattle.hsms_end.specs.Drive.{told, Responds, is_refused, is_accepted, Drives, octets_received, IsDriven}
 use Rattle.hsms_end.specs.Driving.{HasDriven}
-use Rattle.hsms_end.proofs.Doings.{settings_of}
+use Rattle.hsms_end.proofs.Acts.{settings_of}
 use Rattle.hsms_end.proofs.Kept.{drive_keeps_octets}
 
 -- one input more
-drives_more : (desk : ℕ → Content → Answered) (inputs : List Told) (end middle : Known) (accepted : List Told) (entries : List Entry) (input : Told) (one : List Told) (first : List Entry) (next : Known) → Drives desk end inputs accepted entries middle → Responds desk middle input one first next → Drives desk end (inputs ++ input ∷ []) (accepted ++ one) (entries ++ first) next
+drives_more : (desk : ℕ → Content → Answered) (inputs : List Told) (end middle : EndState) (accepted : List Told) (entries : List Entry) (input : Told) (one : List Told) (first : List Entry) (next : EndState) → Drives desk end inputs accepted entries middle → Responds desk middle input one first next → Drives desk end (inputs ++ input ∷ []) (accepted ++ one) (entries ++ first) next
 drives_more desk [] end middle accepted entries input one first next h response = (
   next,
   one,
   [],
   first,
   [],
-  subst (λ (k : Known). Responds desk k input one first next) h.2 response,
+  subst (λ (k : EndState). Responds desk k input one first next) h.2 response,
   (refl, refl, refl),
   ap (λ xs. xs ++ one) h.0 ∙ sym (append-nil one),
   ap (λ es. es ++ first) h.1 ∙ sym (append-nil first),

@@ -9,7 +9,7 @@ use Rattle.hsms_end.specs.Turn.{is_up, bytes, Receives}
 use Rattle.hsms_end.specs.Inside.{known_of, known, after_octets}
 use Rattle.hsms_end.specs.Fault.{Meets}
 use Rattle.hsms_end.specs.End.{Extends, Accepts}
-use Rattle.hsms_end.specs.Known.{EndOf}
+use Rattle.hsms_end.specs.EndState.{EndOf}
 use Rattle.hsms_end.specs.Sound.{IsSound}
 use Rattle.hsms_end.specs.Receiving.{HasReceivedAll}
 use Rattle.hsms_end.proofs.Calls.{not_spent, up_is_up, inside_of, accepted_at}

@@ -19,7 +19,7 @@ use Rattle.hsms_machine.specs.Message.{is_data}
 use Rattle.hsms_machine.specs.Step.{is_selected}
 use Rattle.hsms_machine.specs.Settings.{Parameters}
 use Rattle.hsms_end.specs.Answer.{Answered, replies, quiet, no_stream, no_function, illegal}
-use Rattle.hsms_end.specs.Known.{Known}
+use Rattle.hsms_end.specs.EndState.{EndState}
 use Rattle.hsms_end.specs.Frame.{warning, abort_of, reply_of, linktest_req, separate_req, message_frame}
 use Rattle.hsms_end.specs.Act.{Act, logs, asks, Acts, with_event, with_number}
 use Rattle.hsms_end.specs.Reaction.{is_equipment, warns, aborts, rejects, is_control_response, answers_primary, answers_taken, answers_discarded, reaction}
@@ -48,8 +48,8 @@ none_if : (b : Bool) (acts : List Act) → receipts acts ≡ [] → receipts (if
 none_if true acts e = e
 none_if false acts e = refl
 
-acts_receive : (acts : List Act) (end : Known) (entries : List Entry) (end' : Known) → Acts end acts entries end' → (octets_received entries ≡ receipts acts) × (end'.pending ≡ end.pending)
-acts_receive [] end entries end' h = (ap octets_received h.0, ap (λ (k : Known). k.pending) h.1)
+acts_receive : (acts : List Act) (end : EndState) (entries : List Entry) (end' : EndState) → Acts end acts entries end' → (octets_received entries ≡ receipts acts) × (end'.pending ≡ end.pending)
+acts_receive [] end entries end' h = (ap octets_received h.0, ap (λ (k : EndState). k.pending) h.1)
 acts_receive (logs event ∷ acts) end entries end' h =
     let rest = acts_receive acts (with_event end event) h.0 end' h.2 in
     (ap octets_received h.1 ∙ ap (λ xs. octets_in event ++ xs) rest.0, rest.1)
@@ -129,12 +129,12 @@ after_none : (settings : Parameters) (xs : List Transaction) (cause : Option Cau
 after_none settings xs (Some cause) = refl
 after_none settings xs None = none_if (is_equipment settings.role) (map (expiry_warning settings) xs) (warnings_none settings xs)
 
-pub expiries_none : (end : Known) → receipts (expiries end) ≡ []
+pub expiries_none : (end : EndState) → receipts (expiries end) ≡ []
 expiries_none end =
     none_append (map expiry (expired_at end.view end.moment)) (after_expiries end.settings (expired_at end.view end.moment) (overdue_cause end))
     (expired_none (expired_at end.view end.moment)) (after_none end.settings (expired_at end.view end.moment) (overdue_cause end))
 
-pub too_long_none : (end : Known) (header : Header) → receipts (warns_too_long end header ++ cut_by Length) ≡ []
+pub too_long_none : (end : EndState) (header : Header) → receipts (warns_too_long end header ++ cut_by Length) ≡ []
 too_long_none end header =
     none_append (warns_too_long end header) (cut_by Length)
     (none_if (is_selected end.view.phase && (header.stype == 0) && (header.ptype == 0) && (header.session == end.settings.device)) (warns end.settings 11 header) (warns_none end.settings 11 header)) refl
@@ -142,14 +142,14 @@ too_long_none end header =
 -- ---- what is received of octets
 
 -- acts that receive nothing leave what is pending
-kept_by : (acts : List Act) (end : Known) (entries : List Entry) (end' : Known) → receipts acts ≡ [] → Acts end acts entries end' → end.pending ≡ octets_received entries ++ end'.pending
+kept_by : (acts : List Act) (end : EndState) (entries : List Entry) (end' : EndState) → receipts acts ≡ [] → Acts end acts entries end' → end.pending ≡ octets_received entries ++ end'.pending
 kept_by acts end entries end' none h =
     let received = acts_receive acts end entries end' h in
     sym received.1 ∙ ap (λ xs. xs ++ end'.pending) (sym (received.0 ∙ none))
 
-rests_keep : (end : Known) (entries : List Entry) (end' : Known) → Rests end entries end' → end.pending ≡ octets_received entries ++ end'.pending
-rests_keep end entries end' (is_down down none same) = ap (λ (k : Known). k.pending) (sym same) ∙ ap (λ es. octets_received es ++ end'.pending) (sym none)
-rests_keep end entries end' (waits up front none same) = ap (λ (k : Known). k.pending) (sym same) ∙ ap (λ es. octets_received es ++ end'.pending) (sym none)
+rests_keep : (end : EndState) (entries : List Entry) (end' : EndState) → Rests end entries end' → end.pending ≡ octets_received entries ++ end'.pending
+rests_keep end entries end' (is_down down none same) = ap (λ (k : EndState). k.pending) (sym same) ∙ ap (λ es. octets_received es ++ end'.pending) (sym none)
+rests_keep end entries end' (waits up front none same) = ap (λ (k : EndState). k.pending) (sym same) ∙ ap (λ es. octets_received es ++ end'.pending) (sym none)
 rests_keep end entries end' (too_short n up front acts) = kept_by (cut_by Length) end entries end' refl acts
 rests_keep end entries end' (too_long n header up front acts) = kept_by (warns_too_long end header ++ cut_by Length) end entries end' (too_long_none end header) acts
 
@@ -158,7 +158,7 @@ received_frame frame None = refl
 received_frame frame (Some broken) = refl
 
 -- a frame that is handled is received, and leaves what is pending
-handled_keeps : (desk : ℕ → Content → Answered) (end : Known) (frame : Frame) (entries : List Entry) (end' : Known) → Handles desk end frame entries end' → (octets_received entries ≡ frame_octets frame) × (end'.pending ≡ end.pending)
+handled_keeps : (desk : ℕ → Content → Answered) (end : EndState) (frame : Frame) (entries : List Entry) (end' : EndState) → Handles desk end frame entries end' → (octets_received entries ≡ frame_octets frame) × (end'.pending ≡ end.pending)
 handled_keeps desk end frame entries end' h =
     let broken : Option Rule = h.0 in
     let received = acts_receive (logs (received_as frame broken) ∷ reaction end.settings (is_selected end.view.phase) frame.header broken h.1) (with_asked end frame broken) entries end' h.4 in (
@@ -174,16 +174,16 @@ received_append (entry ∷ entries) more =
     ap (λ xs. octets_in entry.event ++ xs) (received_append entries more)
     ∙ sym (append_assoc (octets_in entry.event) (octets_received entries) (octets_received more))
 
-receives_keep : (desk : ℕ → Content → Answered) (end : Known) (frames : List Frame) (entries : List Entry) (end' : Known) → Receives desk end frames entries end' → end.pending ≡ octets_received entries ++ end'.pending
+receives_keep : (desk : ℕ → Content → Answered) (end : EndState) (frames : List Frame) (entries : List Entry) (end' : EndState) → Receives desk end frames entries end' → end.pending ≡ octets_received entries ++ end'.pending
 receives_keep desk end [] entries end' h = rests_keep end entries end' h
 receives_keep desk end (frame ∷ frames) entries end' h =
-    let off : Known = h.0 in
-    let next : Known = h.1 in
+    let off : EndState = h.0 in
+    let next : EndState = h.1 in
     let first : List Entry = h.2 in
     let later : List Entry = h.3 in
     let handled = handled_keeps desk off frame first next h.5 in
     let left : h.4.rest ≡ octets_received later ++ end'.pending =
-    ap (λ (k : Known). k.pending) (sym h.4.off) ∙ sym handled.1 ∙ receives_keep desk next frames later end' h.6 in
+    ap (λ (k : EndState). k.pending) (sym h.4.off) ∙ sym handled.1 ∙ receives_keep desk next frames later end' h.6 in
     h.4.front.0
     ∙ ap (λ xs. frame_octets frame ++ xs) left
     ∙ ap (λ xs. xs ++ (octets_received later ++ end'.pending)) (sym handled.0)
@@ -194,14 +194,14 @@ receives_keep desk end (frame ∷ frames) entries end' h =
 -- ---- a turn
 
 -- a turn without octets
-quiet_turn : (acts : List Act) (end from : Known) (entries : List Entry) (end' : Known) → receipts acts ≡ [] → Acts from acts entries end' → from.pending ≡ end.pending → end.pending ++ [] ≡ octets_received entries ++ end'.pending
+quiet_turn : (acts : List Act) (end from : EndState) (entries : List Entry) (end' : EndState) → receipts acts ≡ [] → Acts from acts entries end' → from.pending ≡ end.pending → end.pending ++ [] ≡ octets_received entries ++ end'.pending
 quiet_turn acts end from entries end' none h same = append-nil end.pending ∙ sym same ∙ kept_by acts from entries end' none h
 
-pub turn_keeps_octets : (desk : ℕ → Content → Answered) (end : Known) (input : Told) (entries : List Entry) (end' : Known) → Turn desk end input entries end' → end.pending ++ octets_of input ≡ octets_received entries ++ end'.pending
+pub turn_keeps_octets : (desk : ℕ → Content → Answered) (end : EndState) (input : Told) (entries : List Entry) (end' : EndState) → Turn desk end input entries end' → end.pending ++ octets_of input ≡ octets_received entries ++ end'.pending
 turn_keeps_octets desk end (start now) entries end' h =
     quiet_turn (opening_of end.settings.link) end (record end { moment = max end.moment now }) entries end' (opening_none end.settings.link) h refl
 turn_keeps_octets desk end (tick now) entries end' h =
-    let later : Known = record end { moment = max end.moment now } in
+    let later : EndState = record end { moment = max end.moment now } in
     quiet_turn (expiries later) end later entries end' (expiries_none later) h refl
 turn_keeps_octets desk end (bytes octets) entries end' h = receives_keep desk (with_octets end octets) h.0 entries end' h.1
 turn_keeps_octets desk end (send message) entries end' h = quiet_turn (asks (message_frame end.settings message h.0) ∷ []) end end entries end' refl h.2 refl
@@ -217,19 +217,19 @@ told_append (input ∷ inputs) more =
     ap (λ xs. octets_of input ++ xs) (told_append inputs more)
     ∙ sym (append_assoc (octets_of input) (octets_told inputs) (octets_told more))
 
-response_keeps : (desk : ℕ → Content → Answered) (end : Known) (input : Told) (accepted : List Told) (entries : List Entry) (end' : Known) → Responds desk end input accepted entries end' → end.pending ++ octets_told accepted ≡ octets_received entries ++ end'.pending
+response_keeps : (desk : ℕ → Content → Answered) (end : EndState) (input : Told) (accepted : List Told) (entries : List Entry) (end' : EndState) → Responds desk end input accepted entries end' → end.pending ++ octets_told accepted ≡ octets_received entries ++ end'.pending
 response_keeps desk end input accepted entries end' (is_refused fault meets none empty same) =
-    ap (λ xs. end.pending ++ octets_told xs) none ∙ append-nil end.pending ∙ ap (λ (k : Known). k.pending) (sym same)
+    ap (λ xs. end.pending ++ octets_told xs) none ∙ append-nil end.pending ∙ ap (λ (k : EndState). k.pending) (sym same)
     ∙ ap (λ es. octets_received es ++ end'.pending) (sym empty)
 response_keeps desk end input accepted entries end' (is_accepted meets turn one) =
     ap (λ xs. end.pending ++ octets_told xs) one ∙ ap (λ xs. end.pending ++ xs) (append-nil (octets_of input)) ∙ turn_keeps_octets desk end input entries end' turn
 
-pub drive_keeps_octets : (desk : ℕ → Content → Answered) (end : Known) (inputs accepted : List Told) (entries : List Entry) (end' : Known) → Drives desk end inputs accepted entries end' → end.pending ++ octets_told accepted ≡ octets_received entries ++ end'.pending
+pub drive_keeps_octets : (desk : ℕ → Content → Answered) (end : EndState) (inputs accepted : List Told) (entries : List Entry) (end' : EndState) → Drives desk end inputs accepted entries end' → end.pending ++ octets_told accepted ≡ octets_received entries ++ end'.pending
 drive_keeps_octets desk end [] accepted entries end' h =
-    ap (λ xs. end.pending ++ octets_told xs) h.0 ∙ append-nil end.pending ∙ ap (λ (k : Known). k.pending) (sym h.2)
+    ap (λ xs. end.pending ++ octets_told xs) h.0 ∙ append-nil end.pending ∙ ap (λ (k : EndState). k.pending) (sym h.2)
     ∙ ap (λ es. octets_received es ++ end'.pending) (sym h.1)
 drive_keeps_octets desk end (input ∷ inputs) accepted entries end' h =
-    let next : Known = h.0 in
+    let next : EndState = h.0 in
     let one : List Told = h.1 in
     let more : List Told = h.2 in
     let first : List Entry = h.3 in

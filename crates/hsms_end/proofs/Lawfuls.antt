@@ -14,7 +14,7 @@ use Rattle.hsms_machine.specs.Step.{facts_of, is_connected}
 use Rattle.hsms_end.specs.Inside.{entry_of}
 use Rattle.hsms_end.specs.declared.state.State.{State}
 use Rattle.hsms_end.specs.Turn.{is_up, is_unselected}
-use Rattle.hsms_end.specs.Doing.{IsLawful, IsCalm}
+use Rattle.hsms_end.specs.Performing.{IsLawful, IsCalm}
 
 pub none_of : (Applies : Rule → Type 0) (rules : List Rule) → ((rule : Rule) → Applies rule → ⊥) → IsFirst Applies rules None
 none_of Applies [] never = refl

@@ -1,4 +1,4 @@
-pub mod Doings
+pub mod Acts
 pub mod Ordering
 pub mod Lawfuls
 pub mod OwnFrames
@@ -9,14 +9,14 @@ pub mod Requests
 pub mod Calls
 pub mod Receptions
 pub mod Warnings
-pub mod Expirations
+pub mod ExpiredData
 pub mod Overdue
 pub mod Notices
-pub mod Ticks
-pub mod Ticked
+pub mod Expiries
+pub mod TickCalls
 pub mod Messages
 pub mod Sent
-pub mod Owed
+pub mod AwaitingReplies
 pub mod Warned
 pub mod Controls
 pub mod Primaries
@@ -25,6 +25,6 @@ pub mod Hearing
 pub mod Kept
 pub mod Drives
 pub mod Numbers
-pub mod TickLaws
+pub mod ExpiryOrder
 pub mod Single
 pub mod Outcomes

@@ -22,7 +22,7 @@ use Rattle.hsms_end.specs.Number.{IsFree}
 use Rattle.hsms_end.specs.Frame.{is_within_depth, is_within_max, fitting, text_of, fitting_text, message_frame}
 use Rattle.hsms_end.specs.Inside.{after_event, after_number}
 use Rattle.hsms_end.specs.Turn.{is_up}
-use Rattle.hsms_end.specs.Doing.{IsLawful}
+use Rattle.hsms_end.specs.Performing.{IsLawful}
 use Rattle.hsms_end.specs.Sound.{IsSound}
 use Rattle.hsms_end.specs.Sending.{hindrance_by, hindrance_of, IsSpelt}
 use Rattle.hsms_end.proofs.Lawfuls.{sent_lawful}

@@ -22,7 +22,7 @@ use Rattle.hsms_machine.specs.Rule.{FrameBreaks, IsFirst, format_rules, transact
 use Rattle.hsms_machine.specs.Step.{facts_of, is_selected}
 use Rattle.hsms_end.specs.Answer.{Answered}
 use Rattle.hsms_end.specs.Asked.{name_in, times}
-use Rattle.hsms_end.specs.Known.{Known}
+use Rattle.hsms_end.specs.EndState.{EndState}
 use Rattle.hsms_end.specs.Frame.{linktest_req, separate_req, message_frame, message_of}
 use Rattle.hsms_end.specs.Act.{Act, logs, asks, Acts}
 use Rattle.hsms_end.specs.Reaction.{answers_primary, answers_taken, reaction}
@@ -71,14 +71,14 @@ gives (Ok (Some frame)) = true
 gives (Ok None) = false
 gives (Err fault) = false
 
-abbrev last_acts : Known → Answer → List Act
+abbrev last_acts : EndState → Answer → List Act
 last_acts end (Ok message) = []
 last_acts end (Err (TooShort n)) = cut_by Length
 last_acts end (Err (TooLong n header)) = warns_too_long end header ++ cut_by Length
 last_acts end (Err Memory) = []
 
 -- the connection is up, and what is pending gives no message
-record Stops (end : Known) (entries : List Entry) (end' : Known) : Type 0 where
+record Stops (end : EndState) (entries : List Entry) (end' : EndState) : Type 0 where
   up : is_up end.view.phase ≡ true
   answer : Answer
   no_message : gives answer ≡ false
@@ -86,7 +86,7 @@ record Stops (end : Known) (entries : List Entry) (end' : Known) : Type 0 where
   front : FramesAs end.settings.max end.pending answer end.pending
   acts : Acts end (last_acts end answer) entries end'
 
-rests_as : (end : Known) (entries : List Entry) (end' : Known) → Rests end entries end' → ((is_up end.view.phase ≡ false) × Acts end [] entries end') ⊎ Stops end entries end'
+rests_as : (end : EndState) (entries : List Entry) (end' : EndState) → Rests end entries end' → ((is_up end.view.phase ≡ false) × Acts end [] entries end') ⊎ Stops end entries end'
 rests_as end entries end' (is_down down none same) = inl (down, (none, same))
 rests_as end entries end' (waits up front none same) = inr (record {
   up = up;
@@ -120,13 +120,13 @@ message_decides : (frame : Frame) → ◌≢◌ {A = Answer} (Ok (Some frame)) (
 message_decides frame e = let d : ◌≡◌ {A = Answer} (Ok (Some frame)) (Err Memory) = e in cc
 
 module _ (one_answer : OneAnswerToPending) where
-  stops_one : (end : Known) (one other : List Entry) (end' end'' : Known) → Stops end one end' → Stops end other end'' → (one ≡ other) × (end' ≡ end'')
+  stops_one : (end : EndState) (one other : List Entry) (end' end'' : EndState) → Stops end one end' → Stops end other end'' → (one ≡ other) × (end' ≡ end'')
   stops_one end one other end' end'' h k =
       let same = one_answer end.settings.max end.pending h.answer k.answer end.pending end.pending h.decides k.decides h.front k.front in
       acts_have_one_outcome end (last_acts end h.answer) one other end' end'' h.acts
       (subst (λ (answer : Answer). Acts end (last_acts end answer) other end'') (sym same.0) k.acts)
 
-  rests_one : (end : Known) (one other : List Entry) (end' end'' : Known) → Rests end one end' → Rests end other end'' → (one ≡ other) × (end' ≡ end'')
+  rests_one : (end : EndState) (one other : List Entry) (end' end'' : EndState) → Rests end one end' → Rests end other end'' → (one ≡ other) × (end' ≡ end'')
   rests_one end one other end' end'' h k = elim (rests_as end one end' h) [
     | inl p ↦ elim (rests_as end other end'' k) [
       | inl q ↦ acts_have_one_outcome end [] one other end' end'' p.1 q.1
@@ -139,7 +139,7 @@ module _ (one_answer : OneAnswerToPending) where
   ]
 
   -- where a message is taken off, the front doesn't rest
-  no_rest : (end : Known) (entries : List Entry) (end' : Known) (frame : Frame) (off : Known) → Rests end entries end' → TakesOff end frame off → ⊥
+  no_rest : (end : EndState) (entries : List Entry) (end' : EndState) (frame : Frame) (off : EndState) → Rests end entries end' → TakesOff end frame off → ⊥
   no_rest end entries end' frame off h k = elim (rests_as end entries end' h) [
     | inl p ↦ both (is_up end.view.phase) k.up p.0
     | inr p ↦
@@ -147,7 +147,7 @@ module _ (one_answer : OneAnswerToPending) where
         both (gives p.answer) (ap gives same.0) p.no_message
   ]
 
-  takes_off_one : (end : Known) (one other : Frame) (end' end'' : Known) → TakesOff end one end' → TakesOff end other end'' → (one ≡ other) × (end' ≡ end'')
+  takes_off_one : (end : EndState) (one other : Frame) (end' end'' : EndState) → TakesOff end one end' → TakesOff end other end'' → (one ≡ other) × (end' ≡ end'')
   takes_off_one end one other end' end'' h k =
       let same = one_answer end.settings.max end.pending (Ok (Some one)) (Ok (Some other)) h.rest k.rest (message_decides one) (message_decides other) h.front k.front in
       let frames : ◌≡◌ {A = Answer} (Ok (Some one)) (Ok (Some other)) = same.0 in
@@ -160,10 +160,10 @@ module _ (one_answer : OneAnswerToPending) (one_text : OneText) (desk : ℕ → 
       let q = k none primary in
       p.2 ∙ ap (λ item. desk before (message_of frame.header item)) (one_text depth frame.text p.0 q.0 p.1 q.1) ∙ sym q.2
 
-  abbrev acts_of : Known → Frame → Option Rule → Answered → List Act
+  abbrev acts_of : EndState → Frame → Option Rule → Answered → List Act
   acts_of end frame broken answer = logs (received_as frame broken) ∷ reaction end.settings (is_selected end.view.phase) frame.header broken answer
 
-  handles_one : (end : Known) (frame : Frame) (one other : List Entry) (end' end'' : Known) → Handles desk end frame one end' → Handles desk end frame other end'' → (one ≡ other) × (end' ≡ end'')
+  handles_one : (end : EndState) (frame : Frame) (one other : List Entry) (end' end'' : EndState) → Handles desk end frame one end' → Handles desk end frame other end'' → (one ≡ other) × (end' ≡ end'')
   handles_one end frame one other end' end'' h k =
       let same : k.0 ≡ h.0 = broken_rule_is_one end.view frame k.0 h.0 k.2 h.2 in
       let before = times (name_in frame.header) end.asked in
@@ -173,27 +173,27 @@ module _ (one_answer : OneAnswerToPending) (one_text : OneText) (desk : ℕ → 
       acts_have_one_outcome (with_asked end frame h.0) (acts_of end frame h.0 h.1) one other end' end'' h.4
       (subst (λ later. Acts (with_asked end frame h.0) (logs (received_as frame h.0) ∷ later) other end'') alike acts)
 
-  receives_one : (end : Known) (frames others : List Frame) (one other : List Entry) (end' end'' : Known) → Receives desk end frames one end' → Receives desk end others other end'' → (one ≡ other) × (end' ≡ end'')
+  receives_one : (end : EndState) (frames others : List Frame) (one other : List Entry) (end' end'' : EndState) → Receives desk end frames one end' → Receives desk end others other end'' → (one ≡ other) × (end' ≡ end'')
   receives_one end [] [] one other end' end'' h k = rests_one one_answer end one other end' end'' h k
   receives_one end [] (frame ∷ others) one other end' end'' h k = absurd (no_rest one_answer end one end' frame k.0 h k.4)
   receives_one end (frame ∷ frames) [] one other end' end'' h k = absurd (no_rest one_answer end other end'' frame h.0 k h.4)
   receives_one end (frame ∷ frames) (message ∷ others) one other end' end'' h k =
       let same = takes_off_one one_answer end message frame k.0 h.0 k.4 h.4 in
       let again : Handles desk h.0 frame k.2 k.1 =
-      subst (λ (f : Frame). Handles desk h.0 f k.2 k.1) same.0 (subst (λ (off : Known). Handles desk off message k.2 k.1) same.1 k.5) in
+      subst (λ (f : Frame). Handles desk h.0 f k.2 k.1) same.0 (subst (λ (off : EndState). Handles desk off message k.2 k.1) same.1 k.5) in
       let first = handles_one h.0 frame h.2 k.2 h.1 k.1 h.5 again in
-      let behind : Receives desk h.1 others k.3 end'' = subst (λ (next : Known). Receives desk next others k.3 end'') (sym first.1) k.6 in
+      let behind : Receives desk h.1 others k.3 end'' = subst (λ (next : EndState). Receives desk next others k.3 end'') (sym first.1) k.6 in
       let rest = receives_one h.1 frames others h.3 k.3 end' end'' h.6 behind in
       (h.7 ∙ ap (λ es. es ++ h.3) first.0 ∙ ap (λ es. k.2 ++ es) rest.0 ∙ sym k.7, rest.1)
 
 -- ---- a turn
 
 module _ (one_answer : OneAnswerToPending) (one_text : OneText) where
-  pub turn_has_one_outcome : (desk : ℕ → Content → Answered) (end : Known) (input : Told) (one other : List Entry) (end' end'' : Known) → Turn desk end input one end' → Turn desk end input other end'' → (one ≡ other) × (end' ≡ end'')
+  pub turn_has_one_outcome : (desk : ℕ → Content → Answered) (end : EndState) (input : Told) (one other : List Entry) (end' end'' : EndState) → Turn desk end input one end' → Turn desk end input other end'' → (one ≡ other) × (end' ≡ end'')
   turn_has_one_outcome desk end (start now) one other end' end'' h k =
       acts_have_one_outcome (record end { moment = max end.moment now }) (opening_of end.settings.link) one other end' end'' h k
   turn_has_one_outcome desk end (tick now) one other end' end'' h k =
-      let later : Known = record end { moment = max end.moment now } in
+      let later : EndState = record end { moment = max end.moment now } in
       acts_have_one_outcome later (expiries later) one other end' end'' h k
   turn_has_one_outcome desk end (bytes octets) one other end' end'' h k =
       receives_one one_answer one_text desk (with_octets end octets) h.0 k.0 one other end' end'' h.1 k.1
@@ -208,7 +208,7 @@ module _ (one_answer : OneAnswerToPending) (one_text : OneText) where
 
   -- ---- a list of inputs
 
-  responds_one : (desk : ℕ → Content → Answered) (end : Known) (input : Told) (accepted others : List Told) (one other : List Entry) (end' end'' : Known) → Responds desk end input accepted one end' → Responds desk end input others other end'' → (accepted ≡ others) × (one ≡ other) × (end' ≡ end'')
+  responds_one : (desk : ℕ → Content → Answered) (end : EndState) (input : Told) (accepted others : List Told) (one other : List Entry) (end' end'' : EndState) → Responds desk end input accepted one end' → Responds desk end input others other end'' → (accepted ≡ others) × (one ≡ other) × (end' ≡ end'')
   responds_one desk end input accepted others one other end' end'' (is_refused fault meets none empty same) (is_refused fault' meets' none' empty' same') =
       (none ∙ sym none', empty ∙ sym empty', same ∙ sym same')
   responds_one desk end input accepted others one other end' end'' (is_refused fault meets none empty same) (is_accepted meets' turn' single') =
@@ -219,11 +219,11 @@ module _ (one_answer : OneAnswerToPending) (one_text : OneText) where
       let same = turn_has_one_outcome desk end input one other end' end'' turn turn' in
       (single ∙ sym single', same.0, same.1)
 
-  pub drive_has_one_outcome : (desk : ℕ → Content → Answered) (end : Known) (inputs accepted others : List Told) (one other : List Entry) (end' end'' : Known) → Drives desk end inputs accepted one end' → Drives desk end inputs others other end'' → (accepted ≡ others) × (one ≡ other) × (end' ≡ end'')
+  pub drive_has_one_outcome : (desk : ℕ → Content → Answered) (end : EndState) (inputs accepted others : List Told) (one other : List Entry) (end' end'' : EndState) → Drives desk end inputs accepted one end' → Drives desk end inputs others other end'' → (accepted ≡ others) × (one ≡ other) × (end' ≡ end'')
   drive_has_one_outcome desk end [] accepted others one other end' end'' h k = (h.0 ∙ sym k.0, h.1 ∙ sym k.1, h.2 ∙ sym k.2)
   drive_has_one_outcome desk end (input ∷ inputs) accepted others one other end' end'' h k =
       let same = responds_one desk end input h.1 k.1 h.3 k.3 h.0 k.0 h.5 k.5 in
-      let behind : Drives desk h.0 inputs k.2 k.4 end'' = subst (λ (next : Known). Drives desk next inputs k.2 k.4 end'') (sym same.2) k.6 in
+      let behind : Drives desk h.0 inputs k.2 k.4 end'' = subst (λ (next : EndState). Drives desk next inputs k.2 k.4 end'') (sym same.2) k.6 in
       let rest = drive_has_one_outcome desk h.0 inputs h.2 k.2 h.4 k.4 end' end'' h.6 behind in (
         h.7 ∙ ap (λ xs. xs ++ h.2) same.0 ∙ ap (λ xs. k.1 ++ xs) rest.0 ∙ sym k.7,
         h.8 ∙ ap (λ es. es ++ h.4) same.1 ∙ ap (λ es. k.3 ++ es) rest.1 ∙ sym k.8,

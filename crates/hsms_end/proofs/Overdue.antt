@@ -17,12 +17,12 @@ use Rattle.hsms_machine.specs.Step.{facts_of, phase_after, is_connected}
 use Rattle.hsms_end.specs.declared.state.State.{State}
 use Rattle.hsms_end.specs.Inside.{known, entry_of, after_event}
 use Rattle.hsms_end.specs.Turn.{is_up, is_unselected, is_t6_overdue, is_t7_overdue, is_t8_overdue, overdue_cause}
-use Rattle.hsms_end.specs.Doing.{IsLawful, IsCalm}
+use Rattle.hsms_end.specs.Performing.{IsLawful, IsCalm}
 use Rattle.hsms_end.specs.Sound.{IsSound}
 use Rattle.hsms_end.specs.Expiring.{IsLate, is_data_overdue, overdue_of}
 use Rattle.hsms_end.proofs.Lawfuls.{none_of, first_same, down_lawful, down_over_lawful}
 use Rattle.hsms_end.proofs.Steadiness.{up_is_not_before, up_is_not_over, sound_down}
-use Rattle.hsms_end.proofs.Expirations.{none_overdue, found_overdue}
+use Rattle.hsms_end.proofs.ExpiredData.{none_overdue, found_overdue}
 
 -- ---- T6 is read of the request that was sent first
 

@@ -16,11 +16,11 @@ use Rattle.hsms_machine.specs.Transaction.{answers, answers_kind, opened_by}
 use Rattle.hsms_end.specs.declared.state.State.{State}
 use Rattle.hsms_end.specs.Inside.{after_event}
 use Rattle.hsms_end.specs.Frame.{abort_of}
-use Rattle.hsms_end.specs.Doing.{IsLawful}
-use Rattle.hsms_end.specs.Owing.{IsOwing, IsSame, IsAsked, IsReplyTo}
+use Rattle.hsms_end.specs.Performing.{IsLawful}
+use Rattle.hsms_end.specs.AwaitingReply.{PeerAwaits, IsSame, IsAsked, IsReplyTo}
 use Rattle.hsms_end.proofs.Lawfuls.{sent_lawful}
 use Rattle.hsms_end.proofs.DataFrames.{IsSendable, data_fine}
-use Rattle.hsms_end.proofs.Owed.{IsQuiet, left_by, sent_owing}
+use Rattle.hsms_end.proofs.AwaitingReplies.{IsQuiet, left_by, sent_awaits}
 use Rattle.hsms_end.proofs.Controls.{left_answered, one_open, same_system}
 
 -- ---- the function of a primary is odd
@@ -85,15 +85,15 @@ opened_is time header wait kind is =
     ∙ ap (λ b. option_to_list (if b then Some (opened_at time header) else None)) is
 
 module _ (end : State) (header : Header) (asked : IsAsked end header) where
-  pub not_waiting : wait_of header ≡ false → IsOwing end [] []
-  not_waiting is = subst (λ xs. IsOwing end xs []) (opened_is asked.time header false asked.kind is) asked.owing
+  pub not_waiting : wait_of header ≡ false → PeerAwaits end [] []
+  not_waiting is = subst (λ xs. PeerAwaits end xs []) (opened_is asked.time header false asked.kind is) asked.awaits
 
-  pub waiting : wait_of header ≡ true → IsOwing end (opened_at asked.time header ∷ []) []
-  waiting is = subst (λ xs. IsOwing end xs []) (opened_is asked.time header true asked.kind is) asked.owing
+  pub waiting : wait_of header ≡ true → PeerAwaits end (opened_at asked.time header ∷ []) []
+  waiting is = subst (λ xs. PeerAwaits end xs []) (opened_is asked.time header true asked.kind is) asked.awaits
 
-  pub still_asked : (end' : State) → ((primaries controls : List Transaction) → IsOwing end primaries controls → IsOwing end' primaries controls) → IsSame end end' → IsAsked end' header
+  pub still_asked : (end' : State) → ((primaries controls : List Transaction) → PeerAwaits end primaries controls → PeerAwaits end' primaries controls) → IsSame end end' → IsAsked end' header
   still_asked end' onward same =
-      record { time = asked.time; owing = onward _ _ asked.owing; kind = asked.kind; selected = same.phase ∙ asked.selected }
+      record { time = asked.time; awaits = onward _ _ asked.awaits; kind = asked.kind; selected = same.phase ∙ asked.selected }
 
 -- ---- replies
 
@@ -133,26 +133,26 @@ module _ (end : State) (header : Header) (asked : IsAsked end header) (wait : wa
       record {
         kind_is = ap kind_of reply.header ∙ reply_kind end.settings header odd reply.function reply.either;
         carries = refl;
-        size = subst (λ (s : Parameters). 10 + length frame.text ≤ s.max) asked.owing.settings reply.size;
-        session = ap (λ (s : Parameters). frame.header.session == s.device) (sym asked.owing.settings) ∙ ap (λ (h : Header). h.session == end.settings.device) reply.header ∙ same_system end.settings.device;
+        size = subst (λ (s : Parameters). 10 + length frame.text ≤ s.max) asked.awaits.settings reply.size;
+        session = ap (λ (s : Parameters). frame.header.session == s.device) (sym asked.awaits.settings) ∙ ap (λ (h : Header). h.session == end.settings.device) reply.header ∙ same_system end.settings.device;
         direction = refl;
         wait = ap (λ (h : Header). not (wait_of h)) reply.header ∙ ap not (reply_wait end.settings header odd reply.function reply.either);
         selected = asked.selected;
-        text = subst (λ (s : Parameters). IsText s.depth frame.text) asked.owing.settings reply.text;
+        text = subst (λ (s : Parameters). IsText s.depth frame.text) asked.awaits.settings reply.text;
         free = λ h. absurd (let d : false ≡ true = h in cc);
         answer = λ h. inl (one_open (λ (opened : Transaction). answers opened.header frame.header) (opened_at asked.time header) end.tracker.taken_data (waiting end header asked wait).taken_data answers_it);
       }
 
   pub reply_lawful : IsLawful end (Sent frame)
-  reply_lawful = sent_lawful end asked.owing.up asked.owing.calm frame (data_fine end.tracker frame Reply sendable)
+  reply_lawful = sent_lawful end asked.awaits.up asked.awaits.calm frame (data_fine end.tracker frame Reply sendable)
 
-  pub reply_owing : (end' : State) → end' ≡ after_event end (Sent frame) → IsOwing end' [] []
-  reply_owing end' after =
-      let sent : IsOwing (after_event end (Sent frame)) (left_by frame.header (opened_at asked.time header ∷ [])) [] =
-      sent_owing end frame (opened_at asked.time header ∷ []) [] (waiting end header asked wait)
+  pub reply_awaits : (end' : State) → end' ≡ after_event end (Sent frame) → PeerAwaits end' [] []
+  reply_awaits end' after =
+      let sent : PeerAwaits (after_event end (Sent frame)) (left_by frame.header (opened_at asked.time header ∷ [])) [] =
+      sent_awaits end frame (opened_at asked.time header ∷ []) [] (waiting end header asked wait)
       (subst IsQuiet (sym reply.header) (reply_quiet end.settings header odd reply.function reply.either)) in
-      subst (λ (s : State). IsOwing s [] []) (sym after)
-      (subst (λ xs. IsOwing (after_event end (Sent frame)) xs []) (left_answered (opened_at asked.time header) frame.header answers_it) sent)
+      subst (λ (s : State). PeerAwaits s [] []) (sym after)
+      (subst (λ xs. PeerAwaits (after_event end (Sent frame)) xs []) (left_answered (opened_at asked.time header) frame.header answers_it) sent)
 
 pub abort_reply : (settings : Parameters) (primary : Header) (frame : Frame) → IsWithinLimits settings → frame ≡ abort_of settings primary → IsReplyTo settings primary frame
 abort_reply settings primary frame within is =

@@ -13,12 +13,12 @@ use Rattle.hsms_machine.specs.View.{HasView}
 use Rattle.hsms_end.specs.declared.state.State.{State}
 use Rattle.hsms_end.specs.Answer.{Answered}
 use Rattle.hsms_end.specs.Turn.{is_up, cut_by, warns_too_long, Receives, Rests, is_down, waits, too_short, too_long, TakesOff}
-use Rattle.hsms_end.specs.Doing.{Does}
+use Rattle.hsms_end.specs.Performing.{Performs}
 use Rattle.hsms_end.specs.End.{Extends}
 use Rattle.hsms_end.specs.Sound.{IsSound}
 use Rattle.hsms_end.specs.Inside.{known}
 use Rattle.hsms_end.specs.Receiving.{HasHandled, HasReceived, HasReceivedAll}
-use Rattle.hsms_end.proofs.Doings.{extends_then}
+use Rattle.hsms_end.proofs.Acts.{extends_then}
 
 extends_none : (view : View) → Extends view [] view
 extends_none view = λ log has. subst (λ es. HasView view.settings es view) (sym (append-nil log)) has
@@ -73,10 +73,10 @@ pub waits_for_more : (desk : ℕ → Content → Answered) (start end end' : Sta
 waits_for_more desk start end end' before entries h up front is =
     at_rest desk start end end' before entries entries [] h (waits up front refl (ap (λ (s : State). known s) is)) (sym (append-nil entries)) (subst (λ (s : State). Extends end.tracker [] s.tracker) (sym is) (extends_none end.tracker))
 
-pub is_too_short : (desk : ℕ → Content → Answered) (start end end' : State) (before entries more : List Entry) (n : ℕ) → HasReceived desk start before end entries → is_up end.tracker.phase ≡ true → FramesAs end.settings.max end.framer.pending (Err (TooShort n)) end.framer.pending → Does end entries (cut_by Length) end' more → HasReceivedAll desk start before end' more
+pub is_too_short : (desk : ℕ → Content → Answered) (start end end' : State) (before entries more : List Entry) (n : ℕ) → HasReceived desk start before end entries → is_up end.tracker.phase ≡ true → FramesAs end.settings.max end.framer.pending (Err (TooShort n)) end.framer.pending → Performs end entries (cut_by Length) end' more → HasReceivedAll desk start before end' more
 is_too_short desk start end end' before entries more n h up front cut = at_rest desk start end end' before entries more cut.new h (too_short n up front cut.done) cut.added cut.run
 
-pub is_too_long : (desk : ℕ → Content → Answered) (start end end' : State) (before entries more : List Entry) (n : ℕ) (header : Header) → HasReceived desk start before end entries → is_up end.tracker.phase ≡ true → FramesAs end.settings.max end.framer.pending (Err (TooLong n header)) end.framer.pending → Does end entries (warns_too_long (known end) header ++ cut_by Length) end' more → HasReceivedAll desk start before end' more
+pub is_too_long : (desk : ℕ → Content → Answered) (start end end' : State) (before entries more : List Entry) (n : ℕ) (header : Header) → HasReceived desk start before end entries → is_up end.tracker.phase ≡ true → FramesAs end.settings.max end.framer.pending (Err (TooLong n header)) end.framer.pending → Performs end entries (warns_too_long (known end) header ++ cut_by Length) end' more → HasReceivedAll desk start before end' more
 is_too_long desk start end end' before entries more n header h up front cut = at_rest desk start end end' before entries more cut.new h (too_long n header up front cut.done) cut.added cut.run
 
 -- the framer is as it was

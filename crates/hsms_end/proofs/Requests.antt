@@ -18,7 +18,7 @@ use Rattle.hsms_end.specs.Frame.{select_req, linktest_req, separate_req}
 use Rattle.hsms_end.specs.Inside.{after_event, after_number}
 use Rattle.hsms_end.specs.Turn.{is_up, BreaksAsTaken}
 use Rattle.hsms_end.specs.Fault.{is_before}
-use Rattle.hsms_end.specs.Doing.{IsLawful}
+use Rattle.hsms_end.specs.Performing.{IsLawful}
 use Rattle.hsms_end.specs.Sound.{IsSound}
 use Rattle.hsms_end.proofs.Lawfuls.{sent_lawful, down_lawful, down_over_lawful, cut_lawful, taken_broken, discarded_lawful}
 use Rattle.hsms_end.proofs.OwnFrames.{select_req_fine, linktest_req_fine, separate_req_fine}

@@ -10,7 +10,7 @@ use Rattle.hsms_end.specs.declared.fault.EndFault.TheVariants.{Spent, NotUp, Not
 use Rattle.hsms_end.specs.Frame.{is_within_depth, fitting_text}
 use Rattle.hsms_end.specs.Turn.{is_up, Told, send}
 use Rattle.hsms_end.specs.Fault.{Hinders, IsFirstFault, Meets}
-use Rattle.hsms_end.specs.Known.{EndOf}
+use Rattle.hsms_end.specs.EndState.{EndOf}
 use Rattle.hsms_end.specs.Inside.{known_of}
 use Rattle.hsms_end.specs.End.{Refuses}
 use Rattle.hsms_end.specs.Sending.{hindrance_by, hindrance_of}

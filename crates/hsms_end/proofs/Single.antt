@@ -3,7 +3,7 @@ use Rattle.std.proofs.Common.{◌≡◌, ℕ, refl, List, [], ◌∷◌, Option,
 use Rattle.hsms_machine.specs.declared.entry.Entry.{Entry}
 use Rattle.hsms_machine.specs.declared.entry.Event.TheVariants.{Sent}
 use Rattle.hsms_end.specs.declared.fault.EndFault.{EndFault}
-use Rattle.hsms_end.specs.Known.{Known}
+use Rattle.hsms_end.specs.EndState.{EndState}
 use Rattle.hsms_end.specs.Act.{Act, logs, asks, Acts, entry_now, with_event, with_number}
 use Rattle.hsms_end.specs.Turn.{Told}
 use Rattle.hsms_end.specs.Fault.{Hinders, faults, IsFirstFault, Meets}
@@ -17,11 +17,11 @@ first_fault_is_one Applies (fault ∷ later) one other h k = elim h [
   | inr p ↦ elim k [ inl q ↦ absurd (p.0 q.0) | inr q ↦ first_fault_is_one Applies later one other p.1 q.1 ]
 ]
 
-pub one_fault_is_met : (end : Known) (input : Told) (one other : Option EndFault) → Meets end input one → Meets end input other → one ≡ other
+pub one_fault_is_met : (end : EndState) (input : Told) (one other : Option EndFault) → Meets end input one → Meets end input other → one ≡ other
 unfolding Meets
 one_fault_is_met end input one other h k = first_fault_is_one (Hinders end input) faults one other h k
 
-pub acts_have_one_outcome : (end : Known) (acts : List Act) (one other : List Entry) (end' end'' : Known) → Acts end acts one end' → Acts end acts other end'' → (one ≡ other) × (end' ≡ end'')
+pub acts_have_one_outcome : (end : EndState) (acts : List Act) (one other : List Entry) (end' end'' : EndState) → Acts end acts one end' → Acts end acts other end'' → (one ≡ other) × (end' ≡ end'')
 acts_have_one_outcome end [] one other end' end'' h k = (h.0 ∙ sym k.0, h.1 ∙ sym k.1)
 acts_have_one_outcome end (logs event ∷ acts) one other end' end'' h k =
     let rest = acts_have_one_outcome (with_event end event) acts h.0 k.0 end' end'' h.2 k.2 in

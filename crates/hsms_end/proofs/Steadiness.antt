@@ -19,7 +19,7 @@ use Rattle.hsms_machine.specs.Step.{facts_of, phase_after, is_gone, is_over, is_
 use Rattle.hsms_end.specs.declared.state.State.{State}
 use Rattle.hsms_end.specs.Inside.{entry_of, after_event}
 use Rattle.hsms_end.specs.Turn.{is_up, is_unselected}
-use Rattle.hsms_end.specs.Doing.{IsLawful}
+use Rattle.hsms_end.specs.Performing.{IsLawful}
 use Rattle.hsms_end.specs.Sound.{IsFresh, IsSteady, IsSound}
 use Rattle.hsms_end.proofs.Lawfuls.{none_of}
 

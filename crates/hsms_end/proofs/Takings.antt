@@ -29,14 +29,14 @@ use Rattle.hsms_end.specs.Asked.{name_in, times, once_more}
 use Rattle.hsms_end.specs.Inside.{after_event, after_asking}
 use Rattle.hsms_end.specs.Reaction.{reaction, answers_taken, answers_discarded}
 use Rattle.hsms_end.specs.Turn.{is_up, BreaksAsTaken, received_as, IsAnswerOf, asked_with}
-use Rattle.hsms_end.specs.Doing.{Does, IsLawful}
+use Rattle.hsms_end.specs.Performing.{Performs, IsLawful}
 use Rattle.hsms_end.specs.Sound.{IsSound}
 use Rattle.hsms_end.specs.Receiving.{HasHandled}
-use Rattle.hsms_end.specs.Owing.{IsOwing, IsAsked, IsAskedToSelect, IsAskedForLink, CanTake, CanDiscard, IsAnsweredBy, is_silent}
+use Rattle.hsms_end.specs.AwaitingReply.{PeerAwaits, IsAsked, IsAskedToSelect, IsAskedForLink, CanTake, CanDiscard, IsAnsweredBy, is_silent}
 use Rattle.hsms_end.proofs.Lawfuls.{down_over_lawful, applies}
 use Rattle.hsms_end.proofs.Requests.{frame_taken, frame_discarded}
 use Rattle.hsms_end.proofs.Steadiness.{kept_phase, sound_down}
-use Rattle.hsms_end.proofs.Owed.{taken_owing, discarded_owing, sound_owing}
+use Rattle.hsms_end.proofs.AwaitingReplies.{taken_awaits, discarded_awaits, sound_awaits}
 
 -- ---- rules that a frame doesn't break
 
@@ -97,7 +97,7 @@ module _ (end : State) (frame : Frame) (can : CanTake end frame) where
   primary_is_data kind = ap is_data_kind kind
 
   pub readable : kind_of frame.header ≡ Primary → (IsText end.settings.depth frame.text → ⊥) → ⊥
-  readable kind n = past_text.0 (primary_is_data kind, λ is. n (subst (λ (s : Parameters). IsText s.depth frame.text) (sym can.owing.settings) is))
+  readable kind n = past_text.0 (primary_is_data kind, λ is. n (subst (λ (s : Parameters). IsText s.depth frame.text) (sym can.awaits.settings) is))
 
   from_active : kind_of frame.header ≡ SelectReq → is_from_active end.tracker.settings.link Incoming ≡ true
   unfolding has_direction
@@ -109,7 +109,7 @@ module _ (end : State) (frame : Frame) (can : CanTake end frame) where
   same_phase : (kind : Kind) → kind_of frame.header ≡ kind → is_separate_kind kind ≡ false → is_select_response kind ≡ false → phase_after end.tracker.phase (Taken frame) ≡ end.tracker.phase
   unfolding separates establishes
   same_phase kind is e f =
-      kept_phase end.tracker.phase (is_separate_kind (kind_of frame.header)) (is_select_response (kind_of frame.header) && (frame.header.byte3 == 0)) can.owing.up
+      kept_phase end.tracker.phase (is_separate_kind (kind_of frame.header)) (is_select_response (kind_of frame.header) && (frame.header.byte3 == 0)) can.awaits.up
       (ap is_separate_kind is ∙ e)
       (ap (λ k. is_select_response k && (frame.header.byte3 == 0)) is ∙ ap (λ b. b && (frame.header.byte3 == 0)) f)
 
@@ -134,11 +134,11 @@ module _ (end : State) (frame : Frame) (can : CanTake end frame) where
       subst (λ (s : State). IsAskedToSelect s frame.header (is_selected end.tracker.phase)) (sym is)
       (record {
         time = end.moment;
-        owing = subst (λ xs. IsOwing (after_event end (Taken frame)) [] xs) (one_request SelectReq kind refl)
-            (subst (λ xs. IsOwing (after_event end (Taken frame)) xs (option_to_list (opened_by is_control_request end.moment frame.header))) (no_primary SelectReq kind refl)
-            (taken_owing end frame can.owing (stays_on SelectReq kind refl)));
+        awaits = subst (λ xs. PeerAwaits (after_event end (Taken frame)) [] xs) (one_request SelectReq kind refl)
+            (subst (λ xs. PeerAwaits (after_event end (Taken frame)) xs (option_to_list (opened_by is_control_request end.moment frame.header))) (no_primary SelectReq kind refl)
+            (taken_awaits end frame can.awaits (stays_on SelectReq kind refl)));
         kind = kind;
-        passive = passive_of end.settings.link (ap (λ (s : Parameters). is_from_active s.link Incoming) can.owing.settings ∙ from_active kind);
+        passive = passive_of end.settings.link (ap (λ (s : Parameters). is_from_active s.link Incoming) can.awaits.settings ∙ from_active kind);
         before = ap is_selected (same_phase SelectReq kind refl refl);
       })
 
@@ -147,9 +147,9 @@ module _ (end : State) (frame : Frame) (can : CanTake end frame) where
       subst (λ (s : State). IsAskedForLink s frame.header) (sym is)
       (record {
         time = end.moment;
-        owing = subst (λ xs. IsOwing (after_event end (Taken frame)) [] xs) (one_request LinktestReq kind refl)
-            (subst (λ xs. IsOwing (after_event end (Taken frame)) xs (option_to_list (opened_by is_control_request end.moment frame.header))) (no_primary LinktestReq kind refl)
-            (taken_owing end frame can.owing (stays_on LinktestReq kind refl)));
+        awaits = subst (λ xs. PeerAwaits (after_event end (Taken frame)) [] xs) (one_request LinktestReq kind refl)
+            (subst (λ xs. PeerAwaits (after_event end (Taken frame)) xs (option_to_list (opened_by is_control_request end.moment frame.header))) (no_primary LinktestReq kind refl)
+            (taken_awaits end frame can.awaits (stays_on LinktestReq kind refl)));
         kind = kind;
       })
 
@@ -158,8 +158,8 @@ module _ (end : State) (frame : Frame) (can : CanTake end frame) where
       subst (λ (s : State). IsAsked s frame.header) (sym is)
       (record {
         time = end.moment;
-        owing = subst (λ xs. IsOwing (after_event end (Taken frame)) (option_to_list (opened_by is_data_request end.moment frame.header)) xs) (no_request Primary kind refl)
-            (taken_owing end frame can.owing (stays_on Primary kind refl));
+        awaits = subst (λ xs. PeerAwaits (after_event end (Taken frame)) (option_to_list (opened_by is_data_request end.moment frame.header)) xs) (no_request Primary kind refl)
+            (taken_awaits end frame can.awaits (stays_on Primary kind refl));
         kind = kind;
         selected = same_phase Primary kind refl refl ∙ data_selected (primary_is_data kind);
       })
@@ -176,13 +176,13 @@ module _ (end : State) (frame : Frame) (can : CanTake end frame) where
   silent_opens OtherSType wait s = (refl, refl, refl)
   silent_opens OtherPType wait s = (refl, refl, refl)
 
-  pub owes_nothing : (mid : State) → mid ≡ after_event end (Taken frame) → is_silent (kind_of frame.header) ≡ true → IsOwing mid [] []
+  pub owes_nothing : (mid : State) → mid ≡ after_event end (Taken frame) → is_silent (kind_of frame.header) ≡ true → PeerAwaits mid [] []
   owes_nothing mid is silent =
       let opens = silent_opens (kind_of frame.header) (wait_of frame.header) silent in
-      subst (λ (s : State). IsOwing s [] []) (sym is)
-      (subst (λ xs. IsOwing (after_event end (Taken frame)) [] xs) (no_request (kind_of frame.header) refl opens.2)
-      (subst (λ xs. IsOwing (after_event end (Taken frame)) xs (option_to_list (opened_by is_control_request end.moment frame.header))) (no_primary (kind_of frame.header) refl opens.1)
-      (taken_owing end frame can.owing (stays_on (kind_of frame.header) refl opens.0))))
+      subst (λ (s : State). PeerAwaits s [] []) (sym is)
+      (subst (λ xs. PeerAwaits (after_event end (Taken frame)) [] xs) (no_request (kind_of frame.header) refl opens.2)
+      (subst (λ xs. PeerAwaits (after_event end (Taken frame)) xs (option_to_list (opened_by is_control_request end.moment frame.header))) (no_primary (kind_of frame.header) refl opens.1)
+      (taken_awaits end frame can.awaits (stays_on (kind_of frame.header) refl opens.0))))
 
   over_phase : (p : Phase) (ends selects : Bool) → is_up p ≡ true → ends ≡ true → phase_by (is_gone p || false) (is_over p || ends) (is_selected p || selects) ≡ phase.Over
   over_phase phase.Before ends selects up e = absurd (let d : false ≡ true = up in cc)
@@ -198,11 +198,11 @@ module _ (end : State) (frame : Frame) (can : CanTake end frame) where
   pub separated_down : (mid : State) → mid ≡ after_event end (Taken frame) → kind_of frame.header ≡ Separate → IsLawful mid Down
   separated_down mid is kind =
       subst (λ (s : State). IsLawful s Down) (sym is)
-      (down_over_lawful (after_event end (Taken frame)) (over_phase end.tracker.phase (separates frame.header) (establishes frame.header) can.owing.up (separated kind)) (omega arith))
+      (down_over_lawful (after_event end (Taken frame)) (over_phase end.tracker.phase (separates frame.header) (establishes frame.header) can.awaits.up (separated kind)) (omega arith))
 
   pub separated_sound : (mid end' : State) → mid ≡ after_event end (Taken frame) → end' ≡ after_event mid Down → IsSound end'
   separated_sound mid end' is down =
-      sound_down (after_event end (Taken frame)) end' can.owing.settings can.owing.within can.owing.limit (down ∙ ap (λ (s : State). after_event s Down) is)
+      sound_down (after_event end (Taken frame)) end' can.awaits.settings can.awaits.within can.awaits.limit (down ∙ ap (λ (s : State). after_event s Down) is)
 
 -- ---- what was handled
 
@@ -215,16 +215,16 @@ can_take_asked : (end : State) (frame : Frame) (asked : List (ℕ × ℕ)) → C
 unfolding IsLawful
 can_take_asked end frame asked can =
     record {
-      owing = record {
-        settings = can.owing.settings;
-        within = can.owing.within;
-        limit = can.owing.limit;
-        up = can.owing.up;
-        calm = record { not_past = can.owing.calm.not_past; data_in_time = can.owing.calm.data_in_time; control_in_time = can.owing.calm.control_in_time; selected_in_time = can.owing.calm.selected_in_time };
-        taken_data = can.owing.taken_data;
-        taken_control = can.owing.taken_control;
-        few = can.owing.few;
-        unselected = can.owing.unselected;
+      awaits = record {
+        settings = can.awaits.settings;
+        within = can.awaits.within;
+        limit = can.awaits.limit;
+        up = can.awaits.up;
+        calm = record { not_past = can.awaits.calm.not_past; data_in_time = can.awaits.calm.data_in_time; control_in_time = can.awaits.calm.control_in_time; selected_in_time = can.awaits.calm.selected_in_time };
+        taken_data = can.awaits.taken_data;
+        taken_control = can.awaits.taken_control;
+        few = can.awaits.few;
+        unselected = can.awaits.unselected;
       };
       lawful = can.lawful;
       broken = can.broken;
@@ -234,15 +234,15 @@ pub can_take_later : (end mid : State) (frame : Frame) (header : Header) → mid
 can_take_later end mid frame header is can =
     subst (λ (s : State). CanTake s frame) (sym is) (can_take_asked end frame (once_more (name_in header) end.asked) can)
 
-handled_as : (desk : ℕ → Content → Answered) (end end' : State) (before entries : List Entry) (frame : Frame) (broken : Option Rule) (answer : Answered) → BreaksAsTaken end.tracker frame broken → IsAnswerOf (desk (times (name_in frame.header) end.asked)) end.settings.depth frame broken answer → Does (asked_so end (asked_with (kind_of frame.header) broken (name_in frame.header) end.asked)) before (logs (received_as frame broken) ∷ reaction end.settings (is_selected end.tracker.phase) frame.header broken answer) end' entries → HasHandled desk end before frame end' entries
+handled_as : (desk : ℕ → Content → Answered) (end end' : State) (before entries : List Entry) (frame : Frame) (broken : Option Rule) (answer : Answered) → BreaksAsTaken end.tracker frame broken → IsAnswerOf (desk (times (name_in frame.header) end.asked)) end.settings.depth frame broken answer → Performs (asked_so end (asked_with (kind_of frame.header) broken (name_in frame.header) end.asked)) before (logs (received_as frame broken) ∷ reaction end.settings (is_selected end.tracker.phase) frame.header broken answer) end' entries → HasHandled desk end before frame end' entries
 handled_as desk end end' before entries frame broken answer is answers does =
     record { new = does.new; added = does.added; handled = (broken, answer, is, answers, does.done); run = does.run }
 
 -- a taken frame of this kind
-pub handled_kind : (desk : ℕ → Content → Answered) (end end' : State) (before entries : List Entry) (frame : Frame) (kind : Kind) (answer : Answered) → BreaksAsTaken end.tracker frame None → kind_of frame.header ≡ kind → (kind ≡ Primary → IsAnsweredBy (desk (times (name_in frame.header) end.asked)) end.settings.depth frame answer) → Does (asked_so end (asked_with kind None (name_in frame.header) end.asked)) before (logs (Taken frame) ∷ answers_taken end.settings (is_selected end.tracker.phase) kind frame.header answer) end' entries → HasHandled desk end before frame end' entries
+pub handled_kind : (desk : ℕ → Content → Answered) (end end' : State) (before entries : List Entry) (frame : Frame) (kind : Kind) (answer : Answered) → BreaksAsTaken end.tracker frame None → kind_of frame.header ≡ kind → (kind ≡ Primary → IsAnsweredBy (desk (times (name_in frame.header) end.asked)) end.settings.depth frame answer) → Performs (asked_so end (asked_with kind None (name_in frame.header) end.asked)) before (logs (Taken frame) ∷ answers_taken end.settings (is_selected end.tracker.phase) kind frame.header answer) end' entries → HasHandled desk end before frame end' entries
 handled_kind desk end end' before entries frame kind answer is kind_is answers does =
     handled_as desk end end' before entries frame None answer is (λ e primary. answers (sym kind_is ∙ primary))
-    (subst (λ k. Does (asked_so end (asked_with k None (name_in frame.header) end.asked)) before (logs (Taken frame) ∷ answers_taken end.settings (is_selected end.tracker.phase) k frame.header answer) end' entries) (sym kind_is) does)
+    (subst (λ k. Performs (asked_so end (asked_with k None (name_in frame.header) end.asked)) before (logs (Taken frame) ∷ answers_taken end.settings (is_selected end.tracker.phase) k frame.header answer) end' entries) (sym kind_is) does)
 
 -- about such a message the desk isn't asked
 silent_asks : (kind : Kind) (name : ℕ) (asked : List (ℕ × ℕ)) → is_silent kind ≡ true → asked_with kind None name asked ≡ asked
@@ -284,16 +284,16 @@ silent_kind settings selected OtherPType header s = refl
 silent_answers : (kind : Kind) → is_silent kind ≡ true → kind ≡ Primary → ⊥
 silent_answers kind s e = let d : false ≡ true = ap is_silent (sym e) ∙ s in cc
 
-pub handled_silent : (desk : ℕ → Content → Answered) (end end' : State) (before entries : List Entry) (frame : Frame) → BreaksAsTaken end.tracker frame None → is_silent (kind_of frame.header) ≡ true → Does end before (logs (Taken frame) ∷ []) end' entries → HasHandled desk end before frame end' entries
+pub handled_silent : (desk : ℕ → Content → Answered) (end end' : State) (before entries : List Entry) (frame : Frame) → BreaksAsTaken end.tracker frame None → is_silent (kind_of frame.header) ≡ true → Performs end before (logs (Taken frame) ∷ []) end' entries → HasHandled desk end before frame end' entries
 handled_silent desk end end' before entries frame is silent does =
     handled_kind desk end end' before entries frame (kind_of frame.header) quiet is refl (λ e. absurd (silent_answers (kind_of frame.header) silent e))
-    (subst (λ asked. Does (asked_so end asked) before (logs (Taken frame) ∷ answers_taken end.settings (is_selected end.tracker.phase) (kind_of frame.header) frame.header quiet) end' entries) (sym (silent_asks (kind_of frame.header) (name_in frame.header) end.asked silent))
-    (subst (λ (acts : List Act). Does end before (logs (Taken frame) ∷ acts) end' entries) (sym (silent_kind end.settings (is_selected end.tracker.phase) (kind_of frame.header) frame.header silent)) does))
+    (subst (λ asked. Performs (asked_so end asked) before (logs (Taken frame) ∷ answers_taken end.settings (is_selected end.tracker.phase) (kind_of frame.header) frame.header quiet) end' entries) (sym (silent_asks (kind_of frame.header) (name_in frame.header) end.asked silent))
+    (subst (λ (acts : List Act). Performs end before (logs (Taken frame) ∷ acts) end' entries) (sym (silent_kind end.settings (is_selected end.tracker.phase) (kind_of frame.header) frame.header silent)) does))
 
-pub handled_discarded : (desk : ℕ → Content → Answered) (end end' : State) (before entries : List Entry) (frame : Frame) (rule : Rule) → BreaksAsTaken end.tracker frame (Some rule) → Does end before (logs (Discarded frame) ∷ reaction end.settings (is_selected end.tracker.phase) frame.header (Some rule) quiet) end' entries → HasHandled desk end before frame end' entries
+pub handled_discarded : (desk : ℕ → Content → Answered) (end end' : State) (before entries : List Entry) (frame : Frame) (rule : Rule) → BreaksAsTaken end.tracker frame (Some rule) → Performs end before (logs (Discarded frame) ∷ reaction end.settings (is_selected end.tracker.phase) frame.header (Some rule) quiet) end' entries → HasHandled desk end before frame end' entries
 handled_discarded desk end end' before entries frame rule is does =
     handled_as desk end end' before entries frame (Some rule) quiet is (λ e primary. absurd (let d : ◌≡◌ {A = Option Rule} (Some rule) None = e in cc))
-    (subst (λ asked. Does (asked_so end asked) before (logs (Discarded frame) ∷ reaction end.settings (is_selected end.tracker.phase) frame.header (Some rule) quiet) end' entries) (sym (discarded_asks (kind_of frame.header) rule (name_in frame.header) end.asked)) does)
+    (subst (λ asked. Performs (asked_so end asked) before (logs (Discarded frame) ∷ reaction end.settings (is_selected end.tracker.phase) frame.header (Some rule) quiet) end' entries) (sym (discarded_asks (kind_of frame.header) rule (name_in frame.header) end.asked)) does)
 
 -- ---- a frame that is judged
 
@@ -307,11 +307,11 @@ some_other : (rule other : Rule) → (rule ≡ other → ⊥) → ◌≡◌ {A =
 some_other rule other never e = never (let d : ◌≡◌ {A = Option Rule} (Some rule) (Some other) = e in cc)
 
 module _ (end : State) (frame : Frame) (rule : Rule) (can : CanDiscard end frame rule) where
-  pub discarded_owes : (mid : State) → mid ≡ after_event end (Discarded frame) → IsOwing mid [] []
-  discarded_owes mid is = subst (λ (s : State). IsOwing s [] []) (sym is) (discarded_owing end frame can.owing)
+  pub discarded_owes : (mid : State) → mid ≡ after_event end (Discarded frame) → PeerAwaits mid [] []
+  discarded_owes mid is = subst (λ (s : State). PeerAwaits s [] []) (sym is) (discarded_awaits end frame can.awaits)
 
   discarded_phase : phase_after end.tracker.phase (Discarded frame) ≡ end.tracker.phase
-  discarded_phase = kept_phase end.tracker.phase false false can.owing.up refl refl
+  discarded_phase = kept_phase end.tracker.phase false false can.awaits.up refl refl
 
   pub discarded_selected : (mid : State) → mid ≡ after_event end (Discarded frame) → is_selected mid.tracker.phase ≡ is_selected end.tracker.phase
   discarded_selected mid is = ap (λ (s : State). is_selected s.tracker.phase) is ∙ ap is_selected discarded_phase
@@ -347,8 +347,8 @@ selected_of phase.Gone e = absurd (let d : false ≡ true = e in cc)
 
 pub can_take : (end : State) (frame : Frame) (answer : Option Rule) → IsSound end → is_up end.tracker.phase ≡ true → answer ≡ None → BreaksAsTaken end.tracker frame answer → IsLawful end (received_as frame answer) → CanTake end frame
 can_take end frame answer sound up none broken lawful =
-    record { owing = sound_owing end sound up; lawful = subst (λ (a : Option Rule). IsLawful end (received_as frame a)) none lawful; broken = subst (λ (a : Option Rule). BreaksAsTaken end.tracker frame a) none broken }
+    record { awaits = sound_awaits end sound up; lawful = subst (λ (a : Option Rule). IsLawful end (received_as frame a)) none lawful; broken = subst (λ (a : Option Rule). BreaksAsTaken end.tracker frame a) none broken }
 
 pub can_discard : (end : State) (frame : Frame) (answer : Option Rule) (rule : Rule) → IsSound end → is_up end.tracker.phase ≡ true → answer ≡ Some rule → BreaksAsTaken end.tracker frame answer → IsLawful end (received_as frame answer) → CanDiscard end frame rule
 can_discard end frame answer rule sound up some broken lawful =
-    record { owing = sound_owing end sound up; lawful = subst (λ (a : Option Rule). IsLawful end (received_as frame a)) some lawful; broken = subst (λ (a : Option Rule). BreaksAsTaken end.tracker frame a) some broken }
+    record { awaits = sound_awaits end sound up; lawful = subst (λ (a : Option Rule). IsLawful end (received_as frame a)) some lawful; broken = subst (λ (a : Option Rule). BreaksAsTaken end.tracker frame a) some broken }

@@ -17,12 +17,12 @@ use Rattle.hsms_machine.specs.Transaction.{answers, rejects, answers_kind, concl
 use Rattle.hsms_end.specs.declared.state.State.{State}
 use Rattle.hsms_end.specs.Inside.{after_event, after_number}
 use Rattle.hsms_end.specs.Frame.{warning}
-use Rattle.hsms_end.specs.Doing.{IsLawful}
-use Rattle.hsms_end.specs.Owing.{IsOwing, IsSame}
+use Rattle.hsms_end.specs.Performing.{IsLawful}
+use Rattle.hsms_end.specs.AwaitingReply.{PeerAwaits, IsSame}
 use Rattle.hsms_end.proofs.Lawfuls.{sent_lawful}
 use Rattle.hsms_end.proofs.Warnings.{warning_fine}
 use Rattle.hsms_end.proofs.Steadiness.{kept_phase}
-use Rattle.hsms_end.proofs.Owed.{IsQuiet, left_by, sent_owing, owing_numbered}
+use Rattle.hsms_end.proofs.AwaitingReplies.{IsQuiet, left_by, sent_awaits, awaits_numbered}
 
 pub all_octets : (xs : List ℕ) → ((i : ℕ) → slice_index xs i < 256) → AllByRecursion (λ n. n < 256) xs
 all_octets [] h = tt
@@ -72,22 +72,22 @@ module _ (settings : Parameters) (function : ℕ) (header : Header) (number : �
   unfolding establishes
   warning_selects = ap (λ k. is_select_response k && (function == 0)) warning_kind
 
-module _ (end : State) (primaries controls : List Transaction) (owing : IsOwing end primaries controls) (function : ℕ) (header : Header) (number : ℕ) (odd : (function % 2 == 1) ≡ true) where
+module _ (end : State) (primaries controls : List Transaction) (awaits : PeerAwaits end primaries controls) (function : ℕ) (header : Header) (number : ℕ) (odd : (function % 2 == 1) ≡ true) where
   pub warn_lawful : (frame : Frame) → frame ≡ warning end.settings function header number → end.tracker.phase ≡ Selected → end.settings.role ≡ Equipment → AllByRecursion (λ n. n < 256) (header_octets header) → IsLawful end (Sent frame)
   warn_lawful frame is selected equipment octets =
-      subst (λ (f : Frame). IsLawful end (Sent f)) (ap (λ (s : Parameters). warning s function header number) (sym owing.settings) ∙ sym is)
-      (sent_lawful end owing.up owing.calm (warning end.tracker.settings function header number)
-      (warning_fine end.tracker function header number odd (subst IsWithinLimits owing.settings owing.within) (ap (λ (s : Parameters). s.role) (sym owing.settings) ∙ equipment) selected octets))
+      subst (λ (f : Frame). IsLawful end (Sent f)) (ap (λ (s : Parameters). warning s function header number) (sym awaits.settings) ∙ sym is)
+      (sent_lawful end awaits.up awaits.calm (warning end.tracker.settings function header number)
+      (warning_fine end.tracker function header number odd (subst IsWithinLimits awaits.settings awaits.within) (ap (λ (s : Parameters). s.role) (sym awaits.settings) ∙ equipment) selected octets))
 
-  pub warn_owing : (end' : State) (frame : Frame) → frame ≡ warning end.settings function header number → end' ≡ after_number end frame number → IsOwing end' primaries controls
-  warn_owing end' frame is after =
-      let sent : IsOwing (after_event end (Sent (warning end.settings function header number))) (left_by (warning end.settings function header number).header primaries) (left_by (warning end.settings function header number).header controls) =
-      sent_owing end (warning end.settings function header number) primaries controls owing (warning_quiet end.settings function header number odd) in
-      let left : IsOwing (after_event end (Sent (warning end.settings function header number))) primaries controls =
-      subst (λ xs. IsOwing (after_event end (Sent (warning end.settings function header number))) primaries xs) (left_alone (warning end.settings function header number).header controls (warning_kind end.settings function header number odd))
-      (subst (λ xs. IsOwing (after_event end (Sent (warning end.settings function header number))) xs (left_by (warning end.settings function header number).header controls)) (left_alone (warning end.settings function header number).header primaries (warning_kind end.settings function header number odd)) sent) in
-      subst (λ (s : State). IsOwing s primaries controls) (sym (after ∙ ap (λ f. after_number end f number) is))
-      (owing_numbered (after_event end (Sent (warning end.settings function header number))) ((number + 1) % 2 ^ 32) primaries controls left)
+  pub warn_awaits : (end' : State) (frame : Frame) → frame ≡ warning end.settings function header number → end' ≡ after_number end frame number → PeerAwaits end' primaries controls
+  warn_awaits end' frame is after =
+      let sent : PeerAwaits (after_event end (Sent (warning end.settings function header number))) (left_by (warning end.settings function header number).header primaries) (left_by (warning end.settings function header number).header controls) =
+      sent_awaits end (warning end.settings function header number) primaries controls awaits (warning_quiet end.settings function header number odd) in
+      let left : PeerAwaits (after_event end (Sent (warning end.settings function header number))) primaries controls =
+      subst (λ xs. PeerAwaits (after_event end (Sent (warning end.settings function header number))) primaries xs) (left_alone (warning end.settings function header number).header controls (warning_kind end.settings function header number odd))
+      (subst (λ xs. PeerAwaits (after_event end (Sent (warning end.settings function header number))) xs (left_by (warning end.settings function header number).header controls)) (left_alone (warning end.settings function header number).header primaries (warning_kind end.settings function header number odd)) sent) in
+      subst (λ (s : State). PeerAwaits s primaries controls) (sym (after ∙ ap (λ f. after_number end f number) is))
+      (awaits_numbered (after_event end (Sent (warning end.settings function header number))) ((number + 1) % 2 ^ 32) primaries controls left)
 
   pub warn_same : (end' : State) (frame : Frame) → frame ≡ warning end.settings function header number → end' ≡ after_number end frame number → IsSame end end'
   warn_same end' frame is after =
@@ -95,5 +95,5 @@ module _ (end : State) (primaries controls : List Transaction) (owing : IsOwing 
       (record {
         settings = refl;
         framer = refl;
-        phase = kept_phase end.tracker.phase (separates (warning end.settings function header number).header) (establishes (warning end.settings function header number).header) owing.up (warning_quiet end.settings function header number odd).stays (warning_selects end.settings function header number odd);
+        phase = kept_phase end.tracker.phase (separates (warning end.settings function header number).header) (establishes (warning end.settings function header number).header) awaits.up (warning_quiet end.settings function header number odd).stays (warning_selects end.settings function header number odd);
       })

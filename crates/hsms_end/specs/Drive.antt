@@ -10,7 +10,7 @@ use Rattle.hsms_end.specs.declared.input.Input.{Input}
 use Rattle.hsms_end.specs.declared.input.Input.TheVariants.{Start, Tick, Bytes, Send, Linktest, Separate, Lost}
 use Rattle.hsms_end.specs.declared.fault.EndFault.{EndFault}
 use Rattle.hsms_end.specs.Answer.{Answered}
-use Rattle.hsms_end.specs.Known.{Known}
+use Rattle.hsms_end.specs.EndState.{EndState}
 use Rattle.hsms_end.specs.Turn.{Told, Turn, start, tick, bytes, send, linktest, separate, lost}
 use Rattle.hsms_end.specs.Fault.{Meets}
 
@@ -26,17 +26,17 @@ told Lost = lost
 
 -- What an input leads to. It meets a fault: it isn't accepted, and adds nothing. Or it meets none, and its turn is
 -- taken.
-pub data Responds (desk : ℕ → Content → Answered) (end : Known) (input : Told) (accepted : List Told) (entries : List Entry) (end' : Known) : Type 0 where
+pub data Responds (desk : ℕ → Content → Answered) (end : EndState) (input : Told) (accepted : List Told) (entries : List Entry) (end' : EndState) : Type 0 where
   is_refused : (fault : EndFault) → Meets end input (Some fault)
       → accepted ≡ [] → entries ≡ [] → end' ≡ end → Responds desk end input accepted entries end'
   is_accepted : Meets end input None → Turn desk end input entries end'
       → accepted ≡ input ∷ [] → Responds desk end input accepted entries end'
 
 -- the inputs, one after the other: which of them are accepted, and the new entries of these, in order
-abbrev pub Drives : (ℕ → Content → Answered) → Known → List Told → List Told → List Entry → Known → Type 0
+abbrev pub Drives : (ℕ → Content → Answered) → EndState → List Told → List Told → List Entry → EndState → Type 0
 Drives desk end [] accepted entries end' = (accepted ≡ []) × (entries ≡ []) × (end' ≡ end)
 Drives desk end (input ∷ inputs) accepted entries end' =
-    (next : Known) × (one : List Told) × (more : List Told) × (first : List Entry) × (later : List Entry)
+    (next : EndState) × (one : List Told) × (more : List Told) × (first : List Entry) × (later : List Entry)
     × Responds desk end input one first next × Drives desk next inputs more later end'
     × (accepted ≡ one ++ more) × (entries ≡ first ++ later)
 
@@ -65,9 +65,9 @@ octets_received (entry ∷ entries) = octets_in entry.event ++ octets_received e
 -- ---- what `drive` answers
 
 -- the inputs from the first one on gave these entries, and left these octets pending
-pub record IsDriven (desk : ℕ → Content → Answered) (end : Known) (inputs : List Told) (entries : List Entry) (pending : List ℕ) : Type 0 where
+pub record IsDriven (desk : ℕ → Content → Answered) (end : EndState) (inputs : List Told) (entries : List Entry) (pending : List ℕ) : Type 0 where
   pub accepted : List Told
-  pub last : Known
+  pub last : EndState
   pub drives : Drives desk end inputs accepted entries last
   pub left : pending ≡ last.pending
   pub octets : octets_told accepted ≡ octets_received entries ++ pending

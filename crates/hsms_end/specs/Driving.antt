@@ -5,7 +5,7 @@ use Rattle.hsms_machine.specs.declared.entry.Entry.{Entry}
 use Rattle.hsms_machine.specs.Settings.{Parameters}
 use Rattle.hsms_machine.specs.View.{HasView}
 use Rattle.hsms_end.specs.Answer.{Answered}
-use Rattle.hsms_end.specs.Known.{EndOf, untold}
+use Rattle.hsms_end.specs.EndState.{EndOf, untold}
 use Rattle.hsms_end.specs.Turn.{Told}
 use Rattle.hsms_end.specs.Drive.{Drives}
 

@@ -7,7 +7,7 @@ use Rattle.hsms_machine.specs.View.{ForEachRun, HasView}
 use Rattle.hsms_end.specs.declared.fault.EndFault.{EndFault}
 use Rattle.hsms_end.specs.declared.fault.EndFault.TheVariants.{TooLong, Memory}
 use Rattle.hsms_end.specs.Answer.{Answered}
-use Rattle.hsms_end.specs.Known.{EndOf}
+use Rattle.hsms_end.specs.EndState.{EndOf}
 use Rattle.hsms_end.specs.Turn.{Told, Turn}
 use Rattle.hsms_end.specs.Fault.{Meets}
 

@@ -14,7 +14,7 @@ use Rattle.hsms_end.specs.Act.{Act, asks}
 use Rattle.hsms_end.specs.Reaction.{is_equipment}
 use Rattle.hsms_machine.specs.Ordered.{IsOrdered}
 use Rattle.hsms_end.specs.Turn.{is_up, is_unselected, expired_at, expiry}
-use Rattle.hsms_end.specs.Doing.{Does}
+use Rattle.hsms_end.specs.Performing.{Performs}
 
 -- as a steady end, save that timers may have run out at its moment
 pub record IsLate (end : State) : Type 0 where
@@ -50,7 +50,7 @@ headers_of opened = map (λ (transaction : Transaction). transaction.header) ope
 pub record HasExpired (start : State) (before : List Entry) (end : State) (entries : List Entry) (headers : List Header) : Type 0 where
   pub expired : List Transaction
   pub onward : expired_at start.tracker start.moment ≡ expired ++ expired_at end.tracker end.moment
-  pub does : Does start before (map expiry expired) end entries
+  pub does : Performs start before (map expiry expired) end entries
   pub headers_are : headers ≡ headers_of expired
   pub same : end ≡ with_data start end.tracker.last_time end.tracker.sent_data
   pub late : IsLate end

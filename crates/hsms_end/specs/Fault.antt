@@ -5,7 +5,7 @@ use Rattle.hsms_machine.specs.declared.phase.Phase.{Phase}
 use Rattle.hsms_machine.specs.declared.phase.Phase.TheVariants.{Before}
 use Rattle.hsms_machine.specs.Step.{is_selected}
 use Rattle.hsms_machine.specs.View.{own_open_of}
-use Rattle.hsms_end.specs.Known.{Known}
+use Rattle.hsms_end.specs.EndState.{EndState}
 use Rattle.hsms_end.specs.declared.fault.EndFault.{EndFault}
 use Rattle.hsms_end.specs.declared.fault.EndFault.TheVariants.{Spent, NotUp, NotSelected, NotPrimary, Nine, Full, TooLong, TooDeep, Memory}
 use Rattle.hsms_end.specs.Frame.{is_within_depth, fitting_text}
@@ -16,7 +16,7 @@ is_before Before = true
 is_before _ = false
 
 -- the connection isn't as the input needs it: a start needs that there was none yet, any other input that it is up
-abbrev pub IsNotUp : Known → Told → Type 0
+abbrev pub IsNotUp : EndState → Told → Type 0
 IsNotUp end (start now) = is_before end.view.phase ≡ false
 IsNotUp end _ = is_up end.view.phase ≡ false
 
@@ -27,7 +27,7 @@ opens_own linktest = true
 opens_own _ = false
 
 -- what of a message is asked alone of one that is to be sent
-abbrev pub HindersMessage : Known → Content → EndFault → Type 0
+abbrev pub HindersMessage : EndState → Content → EndFault → Type 0
 HindersMessage end message NotSelected = is_selected end.view.phase ≡ false
 HindersMessage end message NotPrimary = message.function % 2 ≡ 0
 HindersMessage end message Nine = message.stream ≡ 9
@@ -35,12 +35,12 @@ HindersMessage end message TooDeep = is_within_depth end.settings.depth message.
 HindersMessage end message TooLong = fitting_text end.settings message.item ≡ None
 HindersMessage end message _ = ⊥
 
-abbrev pub HindersSend : Known → Told → EndFault → Type 0
+abbrev pub HindersSend : EndState → Told → EndFault → Type 0
 HindersSend end (send message) fault = HindersMessage end message fault
 HindersSend end _ fault = ⊥
 
 -- the fault's condition holds of the end and the input
-abbrev pub Hinders : Known → Told → EndFault → Type 0
+abbrev pub Hinders : EndState → Told → EndFault → Type 0
 Hinders end input Spent = end.spent ≡ true
 Hinders end input NotUp = IsNotUp end input
 Hinders end input Full = IsTrue (opens_own input) × (64 ≤ own_open_of end.view)
@@ -58,5 +58,5 @@ IsFirstFault Applies (fault ∷ later) answer =
     (Applies fault × (answer ≡ Some fault)) ⊎ (¬ Applies fault × IsFirstFault Applies later answer)
 
 -- the fault that the input meets, or none
-unfoldable pub Meets : Known → Told → Option EndFault → Type 0
+unfoldable pub Meets : EndState → Told → Option EndFault → Type 0
 Meets end input answer = IsFirstFault (Hinders end input) faults answer

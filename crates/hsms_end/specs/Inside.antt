@@ -8,11 +8,11 @@ use Rattle.hsms_machine.specs.declared.entry.Event.TheVariants.{Sent}
 use Rattle.hsms_machine.specs.Step.{view_after}
 use Rattle.hsms_end.specs.declared.state.State.{State}
 use Rattle.hsms_end.specs.Asked.{name_in, once_more}
-use Rattle.hsms_end.specs.Known.{Known}
+use Rattle.hsms_end.specs.EndState.{EndState}
 use Rattle.hsms_end.specs.Turn.{heard_at}
 
 -- what it is known by
-abbrev pub known_of : State → Bool → Known
+abbrev pub known_of : State → Bool → EndState
 known_of end spent = record {
   settings = end.settings;
   view = end.tracker;
@@ -24,7 +24,7 @@ known_of end spent = record {
   spent = spent;
 }
 
-abbrev pub known : State → Known
+abbrev pub known : State → EndState
 known end = known_of end false
 
 abbrev pub entry_of : State → Event → Entry

@@ -12,7 +12,7 @@ use Rattle.hsms_machine.specs.Entry.{is_t3}
 use Rattle.hsms_machine.specs.View.{own_open_of}
 use Rattle.hsms_end.specs.declared.fault.EndFault.{EndFault}
 use Rattle.hsms_end.specs.Answer.{Answered}
-use Rattle.hsms_end.specs.Known.{Known}
+use Rattle.hsms_end.specs.EndState.{EndState}
 use Rattle.hsms_end.specs.Number.{number_on, IsFree, IsFirstFree}
 use Rattle.hsms_end.specs.Turn.{Told, Turn, tick, expired_at, overdue_cause}
 use Rattle.hsms_end.specs.Act.{Act, asks, Acts}
@@ -24,14 +24,15 @@ use Rattle.hsms_end.specs.Drive.{Drives, octets_of, octets_told, octets_received
 -- the octets that were pending and those that come are the frames of the new entries, in order, then what is pending
 abbrev pub TurnKeepsOctets : Type 0
 TurnKeepsOctets =
-    (desk : ℕ → Content → Answered) (end : Known) (input : Told) (entries : List Entry) (end' : Known)
+    (desk : ℕ → Content → Answered) (end : EndState) (input : Told) (entries : List Entry) (end' : EndState)
     → Turn desk end input entries end'
     → end.pending ++ octets_of input ≡ octets_received entries ++ end'.pending
 
 -- so it is with the accepted ones of a list of inputs
 abbrev pub DriveKeepsOctets : Type 0
 DriveKeepsOctets =
-    (desk : ℕ → Content → Answered) (end : Known) (inputs accepted : List Told) (entries : List Entry) (end' : Known)
+    (desk : ℕ → Content → Answered) (end : EndState) (inputs accepted : List Told) (entries : List Entry)
+    (end' : EndState)
     → Drives desk end inputs accepted entries end'
     → end.pending ++ octets_told accepted ≡ octets_received entries ++ end'.pending
 
@@ -40,25 +41,25 @@ DriveKeepsOctets =
 -- an input meets at most one fault, or none
 abbrev pub OneFaultIsMet : Type 0
 OneFaultIsMet =
-    (end : Known) (input : Told) (one other : Option EndFault) → Meets end input one → Meets end input other → one ≡ other
+    (end : EndState) (input : Told) (one other : Option EndFault) → Meets end input one → Meets end input other → one ≡ other
 
 -- acts give the same entries and lead to the same end, whenever they are done
 abbrev pub ActsHaveOneOutcome : Type 0
 ActsHaveOneOutcome =
-    (end : Known) (acts : List Act) (one other : List Entry) (end' end'' : Known)
+    (end : EndState) (acts : List Act) (one other : List Entry) (end' end'' : EndState)
     → Acts end acts one end' → Acts end acts other end'' → (one ≡ other) × (end' ≡ end'')
 
 -- a turn gives the same entries and leads to the same end, whenever it is taken
 abbrev pub TurnHasOneOutcome : Type 0
 TurnHasOneOutcome =
-    (desk : ℕ → Content → Answered) (end : Known) (input : Told) (one other : List Entry) (end' end'' : Known)
+    (desk : ℕ → Content → Answered) (end : EndState) (input : Told) (one other : List Entry) (end' end'' : EndState)
     → Turn desk end input one end' → Turn desk end input other end'' → (one ≡ other) × (end' ≡ end'')
 
 -- so it is with a list of inputs, and the same ones are accepted
 abbrev pub DriveHasOneOutcome : Type 0
 DriveHasOneOutcome =
-    (desk : ℕ → Content → Answered) (end : Known) (inputs accepted others : List Told) (one other : List Entry)
-    (end' end'' : Known)
+    (desk : ℕ → Content → Answered) (end : EndState) (inputs accepted others : List Told) (one other : List Entry)
+    (end' end'' : EndState)
     → Drives desk end inputs accepted one end' → Drives desk end inputs others other end''
     → (accepted ≡ others) × (one ≡ other) × (end' ≡ end'')
 
@@ -79,9 +80,9 @@ FirstFreeIsOne =
 -- ffffffff to 0: it follows the number that was taken, also where others were passed over.
 abbrev pub NextNumberFollowsTheTakenOne : Type 0
 NextNumberFollowsTheTakenOne =
-    (end : Known) (frame : ℕ → Frame) (acts : List Act) (entries : List Entry) (end' : Known)
+    (end : EndState) (frame : ℕ → Frame) (acts : List Act) (entries : List Entry) (end' : EndState)
     → Acts end (asks frame ∷ acts) entries end'
-    → (number : ℕ) × (later : List Entry) × (behind : Known)
+    → (number : ℕ) × (later : List Entry) × (behind : EndState)
     × IsFirstFree end.view end.next number
     × (entries ≡ record { time = end.moment; event = Sent (frame number) } ∷ later)
     × (behind.next ≡ (number + 1) % 2 ^ 32)
@@ -93,13 +94,13 @@ abbrev pub expiry_at : ℕ → Transaction → Entry
 expiry_at moment opened = record { time = moment; event = T3 opened.header.system }
 
 -- the entries of the own data that is overdue once time has gone on, in order of opening
-abbrev pub expiries_at : Known → ℕ → List Entry
+abbrev pub expiries_at : EndState → ℕ → List Entry
 expiries_at end moment = map (expiry_at moment) (expired_at end.view moment)
 
 -- a tick logs all expiries first; what is behind them, any S9F9 too, is no expiry
 abbrev pub AllExpiriesAreLoggedBeforeAnyS9F9 : Type 0
 AllExpiriesAreLoggedBeforeAnyS9F9 =
-    (desk : ℕ → Content → Answered) (end : Known) (now : ℕ) (entries : List Entry) (end' : Known)
+    (desk : ℕ → Content → Answered) (end : EndState) (now : ℕ) (entries : List Entry) (end' : EndState)
     → Turn desk end (tick now) entries end'
     → (later : List Entry) × (entries ≡ expiries_at end (max end.moment now) ++ later)
     × (list_any (λ entry. is_t3 entry.event) later ≡ false)
@@ -107,7 +108,7 @@ AllExpiriesAreLoggedBeforeAnyS9F9 =
 -- where a timer of the link is overdue, a tick logs the expiries, a cut, the end of the connection, and nothing else
 abbrev pub OverdueLinkTimerLeavesS9F9Out : Type 0
 OverdueLinkTimerLeavesS9F9Out =
-    (desk : ℕ → Content → Answered) (end : Known) (now : ℕ) (entries : List Entry) (end' : Known) (cause : Cause)
+    (desk : ℕ → Content → Answered) (end : EndState) (now : ℕ) (entries : List Entry) (end' : EndState) (cause : Cause)
     → overdue_cause (record end { moment = max end.moment now }) ≡ Some cause
     → Turn desk end (tick now) entries end'
     → entries

@@ -1,5 +1,5 @@
 pub mod Asked
-pub mod Known
+pub mod EndState
 pub mod Answer
 pub mod Desk
 pub mod Number
@@ -10,12 +10,12 @@ pub mod Turn
 pub mod Fault
 pub mod End
 pub mod Inside
-pub mod Doing
+pub mod Performing
 pub mod Sound
 pub mod Receiving
 pub mod Expiring
 pub mod Sending
-pub mod Owing
+pub mod AwaitingReply
 pub mod Due
 pub mod Drive
 pub mod Driving

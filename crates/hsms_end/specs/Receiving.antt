@@ -4,7 +4,7 @@ use Rattle.secs_text.specs.Content.{Content}
 use Rattle.hsms_frame.specs.Frame.{Frame}
 use Rattle.hsms_machine.specs.declared.entry.Entry.{Entry}
 use Rattle.hsms_end.specs.declared.state.State.{State}
-use Rattle.hsms_end.specs.Known.{Known}
+use Rattle.hsms_end.specs.EndState.{EndState}
 use Rattle.hsms_end.specs.Inside.{known}
 use Rattle.hsms_end.specs.Answer.{Answered}
 use Rattle.hsms_end.specs.Turn.{Handles, Receives}
@@ -21,7 +21,7 @@ pub record HasHandled (desk : ℕ → Content → Answered) (end : State) (befor
 pub record HasReceived (desk : ℕ → Content → Answered) (end : State) (before : List Entry) (end' : State) (entries : List Entry) : Type 0 where
   pub new : List Entry
   pub added : entries ≡ before ++ new
-  pub onward : (frames : List Frame) (later : List Entry) (end'' : Known) → Receives desk (known end') frames later end''
+  pub onward : (frames : List Frame) (later : List Entry) (end'' : EndState) → Receives desk (known end') frames later end''
       → (all : List Frame) × Receives desk (known end) all (new ++ later) end''
   pub run : Extends end.tracker new end'.tracker
 

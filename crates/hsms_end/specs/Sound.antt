@@ -6,7 +6,7 @@ use Rattle.hsms_machine.specs.Settings.{IsWithinLimits}
 use Rattle.hsms_machine.specs.View.{own_open_of}
 use Rattle.hsms_end.specs.declared.state.State.{State}
 use Rattle.hsms_end.specs.Turn.{is_up, is_unselected}
-use Rattle.hsms_end.specs.Doing.{IsCalm}
+use Rattle.hsms_end.specs.Performing.{IsCalm}
 
 -- no entry yet
 pub record IsFresh (view : View) : Type 0 where

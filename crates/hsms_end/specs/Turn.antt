@@ -28,7 +28,7 @@ use Rattle.hsms_machine.specs.declared.view.View.{View}
 use Rattle.hsms_machine.specs.Settings.{Parameters}
 use Rattle.hsms_machine.specs.Rule.{FrameBreaks, IsFirst, format_rules, transaction_rules}
 use Rattle.hsms_machine.specs.Step.{facts_of, is_selected}
-use Rattle.hsms_end.specs.Known.{Known}
+use Rattle.hsms_end.specs.EndState.{EndState}
 use Rattle.hsms_end.specs.Answer.{Answered}
 use Rattle.hsms_end.specs.Asked.{name_in, times, once_more}
 use Rattle.hsms_end.specs.Frame.{select_req, linktest_req, separate_req, message_frame, message_of, warning, fitting_text}
@@ -68,11 +68,11 @@ abbrev pub is_pending : List ℕ → Bool
 is_pending [] = false
 is_pending (octet ∷ octets) = true
 
-abbrev pub is_t8_overdue : Known → Bool
+abbrev pub is_t8_overdue : EndState → Bool
 is_t8_overdue end = is_pending end.pending && nat_lt end.settings.t8 (end.moment - end.heard)
 
 -- why the connection is cut at the end's moment, if it is
-abbrev pub overdue_cause : Known → Option Cause
+abbrev pub overdue_cause : EndState → Option Cause
 overdue_cause end =
     if is_t6_overdue end.view end.moment then Some T6
     else if is_t7_overdue end.view end.moment then Some T7
@@ -96,7 +96,7 @@ after_expiries settings expired None =
     if is_equipment settings.role then map (expiry_warning settings) expired else []
 
 -- what is logged at the end's moment because a timer ran out
-abbrev pub expiries : Known → List Act
+abbrev pub expiries : EndState → List Act
 expiries end =
     let expired = expired_at end.view end.moment in
     map expiry expired ++ after_expiries end.settings expired (overdue_cause end)
@@ -125,12 +125,12 @@ asked_with Primary None name asked = once_more name asked
 asked_with _ _ name asked = asked
 
 -- the end when the desk has been asked about a frame
-abbrev pub with_asked : Known → Frame → Option Rule → Known
+abbrev pub with_asked : EndState → Frame → Option Rule → EndState
 with_asked end frame broken =
     record end { asked = asked_with (kind_of frame.header) broken (name_in frame.header) end.asked }
 
 -- a received frame: its entry, and its reaction at once, with the answer of a desk that was asked so often before
-abbrev pub Handles : (ℕ → Content → Answered) → Known → Frame → List Entry → Known → Type 0
+abbrev pub Handles : (ℕ → Content → Answered) → EndState → Frame → List Entry → EndState → Type 0
 Handles desk end frame entries end' =
     (broken : Option Rule) × (answer : Answered)
     × BreaksAsTaken end.view frame broken
@@ -142,14 +142,14 @@ Handles desk end frame entries end' =
 -- ---- received octets
 
 -- S9F11, of equipment that is selected, where a message that is too long is data for its device
-abbrev pub warns_too_long : Known → Header → List Act
+abbrev pub warns_too_long : EndState → Header → List Act
 warns_too_long end header =
     if is_selected end.view.phase && (header.stype == 0) && (header.ptype == 0) && (header.session == end.settings.device)
     then warns end.settings 11 header else []
 
 -- no further message is at the front of the pending octets: the connection is no longer up, or a message isn't there
 -- whole, or the octets are at fault and the connection is cut
-pub data Rests (end : Known) (entries : List Entry) (end' : Known) : Type 0 where
+pub data Rests (end : EndState) (entries : List Entry) (end' : EndState) : Type 0 where
   is_down : is_up end.view.phase ≡ false → entries ≡ [] → end' ≡ end → Rests end entries end'
   waits : is_up end.view.phase ≡ true → FramesAs end.settings.max end.pending (Ok None) end.pending
       → entries ≡ [] → end' ≡ end → Rests end entries end'
@@ -161,17 +161,17 @@ pub data Rests (end : Known) (entries : List Entry) (end' : Known) : Type 0 wher
       → Acts end (warns_too_long end header ++ cut_by Length) entries end' → Rests end entries end'
 
 -- a message is at the front of the pending octets of a connection that is up, and is taken off it
-pub record TakesOff (end : Known) (frame : Frame) (end' : Known) : Type 0 where
+pub record TakesOff (end : EndState) (frame : Frame) (end' : EndState) : Type 0 where
   pub up : is_up end.view.phase ≡ true
   pub rest : List ℕ
   pub front : FramesAs end.settings.max end.pending (Ok (Some frame)) rest
   pub off : end' ≡ record end { pending = rest }
 
 -- the messages at the front of the pending octets, one after the other, and what each leads to
-abbrev pub Receives : (ℕ → Content → Answered) → Known → List Frame → List Entry → Known → Type 0
+abbrev pub Receives : (ℕ → Content → Answered) → EndState → List Frame → List Entry → EndState → Type 0
 Receives desk end [] entries end' = Rests end entries end'
 Receives desk end (frame ∷ frames) entries end' =
-    (off : Known) × (next : Known) × (first : List Entry) × (later : List Entry)
+    (off : EndState) × (next : EndState) × (first : List Entry) × (later : List Entry)
     × TakesOff end frame off × Handles desk off frame first next × Receives desk next frames later end'
     × (entries ≡ first ++ later)
 
@@ -180,7 +180,7 @@ abbrev pub heard_at : List ℕ → ℕ → ℕ → ℕ
 heard_at octets moment heard = if is_pending octets then moment else heard
 
 -- the end when octets have come: they are added to the pending ones
-abbrev pub with_octets : Known → List ℕ → Known
+abbrev pub with_octets : EndState → List ℕ → EndState
 with_octets end octets =
     record end { pending = end.pending ++ octets; heard = heard_at octets end.moment end.heard }
 
@@ -197,13 +197,13 @@ pub data Told : Type 0 where
   lost : Told
 
 -- the message is sent with the text of its item: a primary gets own system bytes
-abbrev pub Sends : Known → Content → List Entry → Known → Type 0
+abbrev pub Sends : EndState → Content → List Entry → EndState → Type 0
 Sends end message entries end' =
     (text : List ℕ) × (fitting_text end.settings message.item ≡ Some text)
     × Acts end (asks (message_frame end.settings message text) ∷ []) entries end'
 
 -- the input gives these new entries, and leads from one end to the other
-abbrev pub Turn : (ℕ → Content → Answered) → Known → Told → List Entry → Known → Type 0
+abbrev pub Turn : (ℕ → Content → Answered) → EndState → Told → List Entry → EndState → Type 0
 Turn desk end (start now) entries end' =
     Acts (record end { moment = max end.moment now }) (opening_of end.settings.link) entries end'
 Turn desk end (tick now) entries end' =

@@ -2,7 +2,7 @@
 
 ghost use Rattle.std.specs.Prelude.{◌≡◌, map, IfOk, MatchResult};
 ghost use Rattle.hsms_machine.specs.Run.{IsRun};
-ghost use Rattle.hsms_end.specs.Known.{untold};
+ghost use Rattle.hsms_end.specs.EndState.{untold};
 ghost use Rattle.hsms_end.specs.End.{Accepts, Refuses};
 ghost use Rattle.hsms_end.specs.Drive.{told, IsDriven};
 

@@ -38,7 +38,7 @@ impl<D: Drop> Drop for End<D> {
 
 impl<D> Model for End<D> {
     ghost use Rattle.std.specs.Prelude.{◌≡◌, false};
-    ghost use Rattle.hsms_end.specs.Known.{EndOf};
+    ghost use Rattle.hsms_end.specs.EndState.{EndOf};
     ghost use Rattle.hsms_end.specs.Inside.{known_of};
     ghost use Rattle.hsms_end.specs.Sound.{IsSound};
 
@@ -52,7 +52,7 @@ impl<D> Model for End<D> {
 impl<D: TurnDesk> End<D> {
     ghost use Rattle.std.specs.Prelude.{◌≡◌, MatchResult};
     ghost use Rattle.hsms_machine.specs.View.{own_open_of};
-    ghost use Rattle.hsms_end.specs.Known.{untold, untold_since};
+    ghost use Rattle.hsms_end.specs.EndState.{untold, untold_since};
     ghost use Rattle.hsms_end.specs.Due.{next_due, test_due};
     ghost use Rattle.hsms_end.specs.End.{Accepts, Refuses};
     ghost use Rattle.secs_text.specs.View.{content};
@@ -186,7 +186,7 @@ impl<D: TurnDesk> End<D> {
     /// # Errors
     ///
     /// `Spent`, `NotUp`, `Memory`.
-    #[tactic(auto, using(crate::proofs::Ticked::ticked), unfolding(crate::specs::Fault::Meets))]
+    #[tactic(auto, using(crate::proofs::TickCalls::ticked), unfolding(crate::specs::Fault::Meets))]
     pub fn tick(&mut self, now: u64) -> Result<Vec<Entry>, EndFault>
         ensures { MatchResult result
             (λ entries. Accepts D.answers_after self.old (tick now) entries.items self.new)

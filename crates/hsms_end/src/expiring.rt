@@ -13,7 +13,7 @@ impl State {
     ghost use Rattle.hsms_machine.specs.declared.settings.Role.TheVariants.{Equipment};
     ghost use Rattle.hsms_machine.specs.View.{oldest_of};
     ghost use Rattle.hsms_end.specs.Turn.{is_up as is_connection_up, is_t6_overdue, is_t7_overdue, is_t8_overdue, overdue_cause, expiries, cut_by};
-    ghost use Rattle.hsms_end.specs.Doing.{Does};
+    ghost use Rattle.hsms_end.specs.Performing.{Performs};
     ghost use Rattle.hsms_end.specs.Sound.{IsSound};
     ghost use Rattle.hsms_end.specs.Expiring.{IsLate, HasExpired, MayWarn, is_data_overdue, warns_of, warnings_of};
     ghost use Rattle.hsms_end.specs.Inside.{known, at_later};
@@ -103,7 +103,7 @@ impl State {
         requires late { IsLate self.old }
         requires in_time { is_data_overdue self.old ≡ false }
         requires overdue { overdue_cause (known self.old) ≡ Some cause }
-        ensures does { OnOk result (Does self.old entries.old.items (cut_by cause) self.new entries.new.items) }
+        ensures does { OnOk result (Performs self.old entries.old.items (cut_by cause) self.new entries.new.items) }
         ensures sound { OnOk result (IsSound self.new) }
     {
         self.log(entries, Event::Cut(cause))?;
@@ -120,7 +120,7 @@ impl State {
     ) -> Result<(), AllocError>
         requires sound { IsSound self.old }
         requires up { is_connection_up self.old.tracker.phase ≡ true }
-        ensures does { OnOk result (Does (at_later self.old now) entries.old.items (expiries (known (at_later self.old now))) self.new entries.new.items) }
+        ensures does { OnOk result (Performs (at_later self.old now) entries.old.items (expiries (known (at_later self.old now))) self.new entries.new.items) }
         ensures sound { OnOk result (IsSound self.new) }
     {
         self.tracker.keeps_order();
@@ -131,7 +131,7 @@ impl State {
     /// Logs what is overdue: own primaries, then a cut, or where there is none the warnings of equipment.
     fn expire(&mut self, alloc: Global, entries: &mut Vec<Entry>) -> Result<(), AllocError>
         requires { IsLate self.old }
-        ensures does { OnOk result (Does self.old entries.old.items (expiries (known self.old)) self.new entries.new.items) }
+        ensures does { OnOk result (Performs self.old entries.old.items (expiries (known self.old)) self.new entries.new.items) }
         ensures sound { OnOk result (IsSound self.new) }
     {
         let expired = self.expire_data(alloc, entries)?;
@@ -150,7 +150,7 @@ impl State {
     ) -> Result<(), AllocError>
         requires sound { IsSound self.old }
         requires selected { MayWarn self.old.tracker.phase expired.now }
-        ensures does { OnOk result (Does self.old entries.old.items (warnings_of self.old.settings expired.now) self.new entries.new.items) }
+        ensures does { OnOk result (Performs self.old entries.old.items (warnings_of self.old.settings expired.now) self.new entries.new.items) }
         ensures sound { OnOk result (IsSound self.new) }
     {
         match self.settings.role() {
@@ -168,7 +168,7 @@ impl State {
         requires sound { IsSound self.old }
         requires equipment { self.old.settings.role ≡ Equipment }
         requires selected { MayWarn self.old.tracker.phase expired.now }
-        ensures does { OnOk result (Does self.old entries.old.items (map (warns_of self.old.settings) expired.now) self.new entries.new.items) }
+        ensures does { OnOk result (Performs self.old entries.old.items (map (warns_of self.old.settings) expired.now) self.new entries.new.items) }
         ensures sound { OnOk result (IsSound self.new) }
     {
         for header in expired {

@@ -30,13 +30,13 @@ mod due;
 mod end;
 mod expiring;
 mod fault;
-mod hear;
+mod handling;
+mod incoming;
 mod input;
 pub mod laws;
 mod reaction;
 mod receive;
 mod sending;
-mod settle;
 mod state;
 
 pub use answer::{Answer, Desk, TurnDesk};

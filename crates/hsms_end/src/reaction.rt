@@ -22,8 +22,8 @@ impl State {
     ghost use Rattle.hsms_end.specs.Frame.{warning, select_rsp as select_rsp_of, linktest_rsp as linktest_rsp_of};
     ghost use Rattle.hsms_end.specs.Act.{logs};
     ghost use Rattle.hsms_end.specs.Reaction.{warns, rejects};
-    ghost use Rattle.hsms_end.specs.Doing.{Does};
-    ghost use Rattle.hsms_end.specs.Owing.{IsOwing, IsSame, IsAskedToSelect, IsAskedForLink};
+    ghost use Rattle.hsms_end.specs.Performing.{Performs};
+    ghost use Rattle.hsms_end.specs.AwaitingReply.{PeerAwaits, IsSame, IsAskedToSelect, IsAskedForLink};
 
     /// Whether the session is selected.
     pub fn is_selected(&self) -> bool
@@ -72,11 +72,11 @@ impl State {
         function: u8,
         header: Header,
     ) -> Result<(), AllocError>
-        requires owing { IsOwing self.old self.old.tracker.taken_data self.old.tracker.taken_control }
+        requires awaits { PeerAwaits self.old self.old.tracker.taken_data self.old.tracker.taken_control }
         requires odd { (function % 2 == 1) ≡ true }
         requires selected { self.old.tracker.phase ≡ Selected }
-        ensures does { OnOk result (Does self.old entries.old.items (warns self.old.settings function header) self.new entries.new.items) }
-        ensures owing { OnOk result ((primaries controls : List Transaction) → IsOwing self.old primaries controls → IsOwing self.new primaries controls) }
+        ensures does { OnOk result (Performs self.old entries.old.items (warns self.old.settings function header) self.new entries.new.items) }
+        ensures awaits { OnOk result ((primaries controls : List Transaction) → PeerAwaits self.old primaries controls → PeerAwaits self.new primaries controls) }
         ensures same { OnOk result (IsSame self.old self.new) }
     {
         match self.settings.role() {
@@ -98,9 +98,9 @@ impl State {
         header: Header,
         reason: u8,
     ) -> Result<(), AllocError>
-        requires { IsOwing self.old [] [] }
-        ensures does { OnOk result (Does self.old entries.old.items (rejects header reason) self.new entries.new.items) }
-        ensures owing { OnOk result (IsOwing self.new [] []) }
+        requires { PeerAwaits self.old [] [] }
+        ensures does { OnOk result (Performs self.old entries.old.items (rejects header reason) self.new entries.new.items) }
+        ensures awaits { OnOk result (PeerAwaits self.new [] []) }
         ensures same { OnOk result (IsSame self.old self.new) }
     {
         self.log(entries, Event::Sent(bare(alloc, reject_of(header, reason))))?;
@@ -116,8 +116,8 @@ impl State {
         selected: bool,
     ) -> Result<(), AllocError>
         requires { IsAskedToSelect self.old header selected }
-        ensures does { OnOk result (Does self.old entries.old.items (logs (Sent (select_rsp_of header (if selected then 1 else 0))) ∷ []) self.new entries.new.items) }
-        ensures owing { OnOk result (IsOwing self.new [] []) }
+        ensures does { OnOk result (Performs self.old entries.old.items (logs (Sent (select_rsp_of header (if selected then 1 else 0))) ∷ []) self.new entries.new.items) }
+        ensures awaits { OnOk result (PeerAwaits self.new [] []) }
         ensures framer { OnOk result (self.new.framer ≡ self.old.framer) }
     {
         let status = if selected { 1 } else { 0 };
@@ -136,8 +136,8 @@ impl State {
         header: Header,
     ) -> Result<(), AllocError>
         requires { IsAskedForLink self.old header }
-        ensures does { OnOk result (Does self.old entries.old.items (logs (Sent (linktest_rsp_of header)) ∷ []) self.new entries.new.items) }
-        ensures owing { OnOk result (IsOwing self.new [] []) }
+        ensures does { OnOk result (Performs self.old entries.old.items (logs (Sent (linktest_rsp_of header)) ∷ []) self.new entries.new.items) }
+        ensures awaits { OnOk result (PeerAwaits self.new [] []) }
         ensures framer { OnOk result (self.new.framer ≡ self.old.framer) }
     {
         self.log(entries, Event::Sent(bare(alloc, linktest_rsp(header))))?;
@@ -151,8 +151,8 @@ impl State {
     ghost use Rattle.hsms_end.specs.Answer.{answered};
     ghost use Rattle.hsms_end.specs.Frame.{abort_of, reply_of};
     ghost use Rattle.hsms_end.specs.Reaction.{aborts, warns, answers_primary};
-    ghost use Rattle.hsms_end.specs.Doing.{Does};
-    ghost use Rattle.hsms_end.specs.Owing.{IsOwing, IsAsked, IsReplyTo};
+    ghost use Rattle.hsms_end.specs.Performing.{Performs};
+    ghost use Rattle.hsms_end.specs.AwaitingReply.{PeerAwaits, IsAsked, IsReplyTo};
 
     /// SxF0, which aborts a primary.
     fn abort_frame(&self, alloc: Global, header: Header) -> Frame
@@ -207,8 +207,8 @@ impl State {
         header: Header,
     ) -> Result<(), AllocError>
         requires { IsAsked self.old header }
-        ensures does { OnOk result (Does self.old entries.old.items (aborts self.old.settings header) self.new entries.new.items) }
-        ensures owing { OnOk result (IsOwing self.new [] []) }
+        ensures does { OnOk result (Performs self.old entries.old.items (aborts self.old.settings header) self.new entries.new.items) }
+        ensures awaits { OnOk result (PeerAwaits self.new [] []) }
         ensures framer { OnOk result (self.new.framer ≡ self.old.framer) }
     {
         if !header.wait() {
@@ -228,8 +228,8 @@ impl State {
         item: Option<Item>,
     ) -> Result<(), AllocError>
         requires { IsAsked self.old header }
-        ensures does { OnOk result (Does self.old entries.old.items (answers_primary self.old.settings header (answered (Reply item))) self.new entries.new.items) }
-        ensures owing { OnOk result (IsOwing self.new [] []) }
+        ensures does { OnOk result (Performs self.old entries.old.items (answers_primary self.old.settings header (answered (Reply item))) self.new entries.new.items) }
+        ensures awaits { OnOk result (PeerAwaits self.new [] []) }
         ensures framer { OnOk result (self.new.framer ≡ self.old.framer) }
     {
         if !header.wait() {
@@ -250,8 +250,8 @@ impl State {
     ) -> Result<(), AllocError>
         requires asked { IsAsked self.old header }
         requires odd { (function % 2 == 1) ≡ true }
-        ensures does { OnOk result (Does self.old entries.old.items (warns self.old.settings function header ++ aborts self.old.settings header) self.new entries.new.items) }
-        ensures owing { OnOk result (IsOwing self.new [] []) }
+        ensures does { OnOk result (Performs self.old entries.old.items (warns self.old.settings function header ++ aborts self.old.settings header) self.new entries.new.items) }
+        ensures awaits { OnOk result (PeerAwaits self.new [] []) }
         ensures framer { OnOk result (self.new.framer ≡ self.old.framer) }
     {
         self.warn(alloc, entries, function, header)?;
@@ -268,8 +268,8 @@ impl State {
         answer: Answer,
     ) -> Result<(), AllocError>
         requires { IsAsked self.old header }
-        ensures does { OnOk result (Does self.old entries.old.items (answers_primary self.old.settings header (answered answer)) self.new entries.new.items) }
-        ensures owing { OnOk result (IsOwing self.new [] []) }
+        ensures does { OnOk result (Performs self.old entries.old.items (answers_primary self.old.settings header (answered answer)) self.new entries.new.items) }
+        ensures awaits { OnOk result (PeerAwaits self.new [] []) }
         ensures framer { OnOk result (self.new.framer ≡ self.old.framer) }
     {
         match answer {

@@ -18,7 +18,7 @@ impl State {
     ghost use Rattle.hsms_end.specs.Turn.{is_up as is_connection_up, cut_by, warns_too_long, BreaksAsTaken, received_as};
     ghost use Rattle.hsms_machine.specs.declared.entry.Cause.TheVariants.{Length};
     ghost use Rattle.hsms_end.specs.Inside.{known};
-    ghost use Rattle.hsms_end.specs.Doing.{Does, IsLawful};
+    ghost use Rattle.hsms_end.specs.Performing.{Performs, IsLawful};
     ghost use Rattle.hsms_end.specs.Sound.{IsSound};
     ghost use Rattle.hsms_end.specs.Receiving.{HasHandled, HasReceivedAll};
 
@@ -92,7 +92,7 @@ impl State {
     fn cut(&mut self, entries: &mut Vec<Entry>) -> Result<(), EndFault>
         requires sound { IsSound self.old }
         requires up { is_connection_up self.old.tracker.phase ≡ true }
-        ensures does { OnOk result (Does self.old entries.old.items (cut_by Length) self.new entries.new.items) }
+        ensures does { OnOk result (Performs self.old entries.old.items (cut_by Length) self.new entries.new.items) }
         ensures sound { OnOk result (IsSound self.new) }
         ensures memory { IfErr result (λ fault. fault ≡ Memory) }
     {
@@ -110,7 +110,7 @@ impl State {
     ) -> Result<(), EndFault>
         requires sound { IsSound self.old }
         requires up { is_connection_up self.old.tracker.phase ≡ true }
-        ensures does { OnOk result (Does self.old entries.old.items (warns_too_long (known self.old) header ++ cut_by Length) self.new entries.new.items) }
+        ensures does { OnOk result (Performs self.old entries.old.items (warns_too_long (known self.old) header ++ cut_by Length) self.new entries.new.items) }
         ensures sound { OnOk result (IsSound self.new) }
         ensures memory { IfErr result (λ fault. fault ≡ Memory) }
     {

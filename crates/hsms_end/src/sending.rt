@@ -19,7 +19,7 @@ impl State {
     ghost use Rattle.secs_text.specs.View.{content};
     ghost use Rattle.hsms_end.specs.Act.{asks};
     ghost use Rattle.hsms_end.specs.Frame.{is_within_depth as is_item_within_depth, fitting_text as fitting_text_of, message_frame as message_frame_of};
-    ghost use Rattle.hsms_end.specs.Doing.{Does};
+    ghost use Rattle.hsms_end.specs.Performing.{Performs};
     ghost use Rattle.hsms_end.specs.Sound.{IsSound};
     ghost use Rattle.hsms_end.specs.Sending.{hindrance_of};
 
@@ -87,7 +87,7 @@ impl State {
         requires unhindered { hindrance_of self.old (content message.now) ≡ None }
         requires fits { fitting_text_of self.old.settings (content message.now).item ≡ Some text.items }
         requires spelled { IsText self.old.settings.depth text.items }
-        ensures does { OnOk result (Does self.old entries.old.items (asks (message_frame_of self.old.settings (content message.now) text.items) ∷ []) self.new entries.new.items) }
+        ensures does { OnOk result (Performs self.old entries.old.items (asks (message_frame_of self.old.settings (content message.now) text.items) ∷ []) self.new entries.new.items) }
         ensures sound { OnOk result (IsSound self.new) }
     {
         let number = self.free_number();

@@ -39,13 +39,13 @@ impl State {
     ghost use Rattle.hsms_end.specs.Frame.{linktest_req as linktest_req_of, separate_req as separate_req_of};
     ghost use Rattle.hsms_end.specs.Turn.{opening_of, is_up as is_connection_up};
     ghost use Rattle.hsms_end.specs.Sound.{IsSound};
-    ghost use Rattle.hsms_end.specs.Doing.{IsLawful, Does};
+    ghost use Rattle.hsms_end.specs.Performing.{IsLawful, Performs};
     ghost use Rattle.hsms_end.specs.Number.{IsFirstFree};
 
     /// Logs an event at the end's moment.
     pub fn log(&mut self, entries: &mut Vec<Entry>, event: Event) -> Result<(), AllocError>
         requires { IsLawful self.old event }
-        ensures does { OnOk result (Does self.old entries.old.items (logs event ∷ []) self.new entries.new.items) }
+        ensures does { OnOk result (Performs self.old entries.old.items (logs event ∷ []) self.new entries.new.items) }
         ensures after { OnOk result (self.new ≡ after_event self.old event) }
     {
         let entry = Entry {
@@ -67,7 +67,7 @@ impl State {
         requires free { IsFirstFree self.old.tracker self.old.next number }
         requires lawful { IsLawful self.old (Sent frame) }
         ensures does { OnOk result ((asked : ℕ → FrameValue) → asked number ≡ frame
-            → Does self.old entries.old.items (asks asked ∷ []) self.new entries.new.items) }
+            → Performs self.old entries.old.items (asks asked ∷ []) self.new entries.new.items) }
         ensures after { OnOk result (self.new ≡ after_number self.old frame number) }
     {
         self.log(entries, Event::Sent(frame))?;
@@ -104,7 +104,7 @@ impl State {
     ) -> Result<(), AllocError>
         requires sound { IsSound self.old }
         requires before { is_before self.old.tracker.phase ≡ true }
-        ensures does { OnOk result (Does (record self.old { moment = now }) entries.old.items (opening_of self.old.settings.link) self.new entries.new.items) }
+        ensures does { OnOk result (Performs (record self.old { moment = now }) entries.old.items (opening_of self.old.settings.link) self.new entries.new.items) }
         ensures sound { OnOk result (IsSound self.new) }
     {
         self.moment = now;
@@ -124,7 +124,7 @@ impl State {
         requires sound { IsSound self.old }
         requires up { is_connection_up self.old.tracker.phase ≡ true }
         requires room { own_open_of self.old.tracker < 64 }
-        ensures does { OnOk result (Does self.old entries.old.items (asks linktest_req_of ∷ []) self.new entries.new.items) }
+        ensures does { OnOk result (Performs self.old entries.old.items (asks linktest_req_of ∷ []) self.new entries.new.items) }
         ensures sound { OnOk result (IsSound self.new) }
     {
         let number = self.free_number();
@@ -136,7 +136,7 @@ impl State {
     pub fn separate(&mut self, alloc: Global, entries: &mut Vec<Entry>) -> Result<(), AllocError>
         requires sound { IsSound self.old }
         requires up { is_connection_up self.old.tracker.phase ≡ true }
-        ensures does { OnOk result (Does self.old entries.old.items (asks separate_req_of ∷ logs Down ∷ []) self.new entries.new.items) }
+        ensures does { OnOk result (Performs self.old entries.old.items (asks separate_req_of ∷ logs Down ∷ []) self.new entries.new.items) }
         ensures sound { OnOk result (IsSound self.new) }
     {
         let number = self.free_number();
@@ -149,7 +149,7 @@ impl State {
     pub fn lose(&mut self, entries: &mut Vec<Entry>) -> Result<(), AllocError>
         requires sound { IsSound self.old }
         requires up { is_connection_up self.old.tracker.phase ≡ true }
-        ensures does { OnOk result (Does self.old entries.old.items (logs Down ∷ []) self.new entries.new.items) }
+        ensures does { OnOk result (Performs self.old entries.old.items (logs Down ∷ []) self.new entries.new.items) }
         ensures sound { OnOk result (IsSound self.new) }
     {
         self.log(entries, Event::Down)

@@ -9,7 +9,7 @@ use Rattle.hsms_machine.specs.declared.entry.Entry.{Entry}
 use Rattle.hsms_machine.specs.Step.{is_gone}
 use Rattle.hsms_log.specs.Spelling.{IsEntry}
 use Rattle.hsms_end.specs.Answer.{Answered}
-use Rattle.hsms_end.specs.Known.{EndOf, Known}
+use Rattle.hsms_end.specs.EndState.{EndOf, EndState}
 use Rattle.hsms_end.specs.Turn.{lost}
 use Rattle.hsms_end.specs.End.{Accepts}
 use Rattle.hsms_ends.specs.declared.step.Step.{Step}
@@ -98,7 +98,7 @@ pub record Extended {D : Type 0} (answers : D → ℕ → Content → Answered) 
 module _ {D : Type 0} (answers : D → ℕ → Content → Answered) where
   -- a loss that is accepted ends the connection
   pub lost_goes : (end end' : EndOf D) (entries : List Entry) → Accepts answers end lost entries end' → has_gone end' ≡ true
-  lost_goes end end' entries h = ap (λ (k : Known). is_gone k.view.phase) h.turn.2.1 ∙ gone_after end.known.view.phase
+  lost_goes end end' entries h = ap (λ (k : EndState). is_gone k.view.phase) h.turn.2.1 ∙ gone_after end.known.view.phase
 
   pub left_itself : (fault : ServeFault) (end : EndOf D) → IsLeft (Err fault) end end
   left_itself serve.Link end = refl

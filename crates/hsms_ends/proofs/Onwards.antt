@@ -20,7 +20,7 @@ use Rattle.hsms_machine.proofs.Runs.{empty_run}
 use Rattle.hsms_log.specs.Spelling.{IsEntry, settings_line}
 use Rattle.hsms_log.specs.Log.{written_log}
 use Rattle.hsms_end.specs.Answer.{Answered}
-use Rattle.hsms_end.specs.Known.{Known, EndOf}
+use Rattle.hsms_end.specs.EndState.{EndState, EndOf}
 use Rattle.hsms_end.specs.Turn.{opening_of}
 use Rattle.hsms_end.specs.Act.{Acts}
 use Rattle.hsms_ends.specs.declared.again.ServedAgain.{ServedAgain}
@@ -45,7 +45,7 @@ use Rattle.hsms_ends.proofs.Sizes.{IsDiscardSized}
 
 -- ---- the first entry and the last
 
-opening_first : (side : Side) (end : Known) (entries : List Entry) (end' : Known) (rest : List Entry) → Acts end (opening_of side) entries end' → (entry_at (entries ++ rest) 0).time ≡ end.moment
+opening_first : (side : Side) (end : EndState) (entries : List Entry) (end' : EndState) (rest : List Entry) → Acts end (opening_of side) entries end' → (entry_at (entries ++ rest) 0).time ≡ end.moment
 opening_first Active end entries end' rest h = ap (λ l. (entry_at (l ++ rest) 0).time) h.1
 opening_first Passive end entries end' rest h = ap (λ l. (entry_at (l ++ rest) 0).time) h.1
 
@@ -119,7 +119,7 @@ module _ {D : Type 0} (answers : D → ℕ → Content → Answered) (pause : Op
   first_time since script (Unstarted now) last is some = absurd (let l : 0 < 0 = some in omega arith)
   first_time since script (Started now started turns cut loss) last is some =
       let begun : EndOf D = is.0 in
-      let from : Known = record (new_end desk s first_system since).known { moment = max since now } in
+      let from : EndState = record (new_end desk s first_system since).known { moment = max since now } in
       let e : (entry_at (entries_of (Started now started turns cut loss)) 0).time ≡ max since now =
       opening_first s.link from started begun.known (entries_turns turns ++ (entries_cut cut ++ lost_entries loss)) is.4.turn in
       omega (arith, e)

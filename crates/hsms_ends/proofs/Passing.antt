@@ -22,7 +22,7 @@ use Rattle.hsms_log.specs.Spelling.{IsEntry, entry_line, event_text, line_limit,
 use Rattle.hsms_log.specs.Log.{LogText, written_log}
 use Rattle.hsms_log.proofs.WrittenLog.{log_written}
 use Rattle.hsms_end.specs.Answer.{Answered}
-use Rattle.hsms_end.specs.Known.{EndOf, untold, untold_since}
+use Rattle.hsms_end.specs.EndState.{EndOf, untold, untold_since}
 use Rattle.hsms_end.specs.Turn.{Told as Input}
 use Rattle.hsms_end.specs.End.{Accepts}
 use Rattle.hsms_ends.specs.declared.step.Step.{Step}

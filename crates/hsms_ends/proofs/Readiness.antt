@@ -21,7 +21,7 @@ use Rattle.hsms_machine.specs.View.{HasView}
 use Rattle.hsms_machine.proofs.First.{none_head}
 use Rattle.hsms_machine.proofs.Runs.{empty_run}
 use Rattle.hsms_end.specs.Answer.{Answered}
-use Rattle.hsms_end.specs.Known.{EndOf, untold_since}
+use Rattle.hsms_end.specs.EndState.{EndOf, untold_since}
 use Rattle.hsms_end.specs.Turn.{Told as Input}
 use Rattle.hsms_end.specs.End.{Accepts}
 use Rattle.hsms_ends.specs.PutOut.{FitsLengthField, AllFitLengthField}

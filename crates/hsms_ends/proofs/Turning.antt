@@ -9,7 +9,7 @@ use Rattle.hsms_machine.specs.declared.entry.Entry.{Entry}
 use Rattle.hsms_end.specs.declared.fault.EndFault.{EndFault}
 use Rattle.hsms_end.specs.declared.fault.EndFault.TheVariants as fault
 use Rattle.hsms_end.specs.Answer.{Answered}
-use Rattle.hsms_end.specs.Known.{EndOf}
+use Rattle.hsms_end.specs.EndState.{EndOf}
 use Rattle.hsms_end.specs.Turn.{Told as Input, tick, linktest}
 use Rattle.hsms_end.specs.Fault.{Meets}
 use Rattle.hsms_end.specs.End.{Accepts, Refuses}

@@ -7,7 +7,7 @@ use Rattle.hsms_machine.specs.Settings.{IsWithinLimits}
 use Rattle.hsms_machine.specs.View.{HasView}
 use Rattle.hsms_log.specs.Spelling.{IsEntry}
 use Rattle.hsms_end.specs.Answer.{Answered}
-use Rattle.hsms_end.specs.Known.{EndOf}
+use Rattle.hsms_end.specs.EndState.{EndOf}
 use Rattle.hsms_end.specs.Turn.{Told as Input, bytes, lost}
 use Rattle.hsms_end.specs.End.{Accepts}
 use Rattle.hsms_ends.specs.declared.step.Step.{Step}

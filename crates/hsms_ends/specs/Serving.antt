@@ -10,7 +10,7 @@ use Rattle.hsms_machine.specs.Settings.{Parameters}
 use Rattle.hsms_log.specs.Spelling.{settings_line}
 use Rattle.hsms_log.specs.Log.{LogText, written_log}
 use Rattle.hsms_end.specs.Answer.{Answered}
-use Rattle.hsms_end.specs.Known.{EndOf}
+use Rattle.hsms_end.specs.EndState.{EndOf}
 use Rattle.hsms_end.specs.Turn.{start, lost}
 use Rattle.hsms_end.specs.End.{Accepts}
 use Rattle.hsms_ends.specs.declared.step.Step.{Step}

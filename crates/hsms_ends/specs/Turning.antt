@@ -9,7 +9,7 @@ use Rattle.hsms_machine.specs.View.{own_open_of}
 use Rattle.hsms_end.specs.declared.fault.EndFault.{EndFault}
 use Rattle.hsms_end.specs.Answer.{Answered}
 use Rattle.hsms_end.specs.Due.{test_due}
-use Rattle.hsms_end.specs.Known.{EndOf}
+use Rattle.hsms_end.specs.EndState.{EndOf}
 use Rattle.hsms_end.specs.Turn.{Told as Input, tick, bytes, send, linktest, separate, lost}
 use Rattle.hsms_end.specs.Fault.{Meets}
 use Rattle.hsms_end.specs.End.{Accepts}

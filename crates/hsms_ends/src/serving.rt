@@ -1,7 +1,7 @@
 //! A connection, served.
 
 ghost use Rattle.std.specs.Prelude.{◌≡◌, ℕ, drop, length};
-ghost use Rattle.hsms_end.specs.Known.{untold};
+ghost use Rattle.hsms_end.specs.EndState.{untold};
 ghost use Rattle.hsms_end.specs.Turn.{start};
 ghost use Rattle.hsms_ends.specs.Link.{moment_heard};
 ghost use Rattle.hsms_ends.specs.Serving.{Serves, ServesTesting};

@@ -1,3 +1,3 @@
-pub mod Calls
+pub mod Counters
 pub mod Script
 pub mod Serving

@@ -4,7 +4,7 @@ use Rattle.secs_text.specs.declared.message.Message.{Message}
 use Rattle.secs_text.specs.Content.{Content}
 use Rattle.hsms_end.specs.Answer.{Answered}
 use Rattle.hsms_end.specs.Desk.{equipment_answer, host_answer}
-use Rattle.hsms_end.specs.Known.{untold}
+use Rattle.hsms_end.specs.EndState.{untold}
 use Rattle.hsms_frame.specs.Device.{SinkState}
 use Rattle.hsms_machine.specs.declared.settings.Role.TheVariants as role
 use Rattle.hsms_ends.specs.declared.fault.ServeFault.{ServeFault}

@@ -5,7 +5,7 @@
 //! with a clock, and [`Lines`] puts each line of a log out as a whole.
 #![tactic(auto)]
 
-mod calls;
+mod counters;
 mod desks;
 mod lines;
 mod script;
@@ -14,7 +14,7 @@ mod socket;
 mod sockets;
 mod wire;
 
-pub use calls::Calls;
+pub use counters::Counters;
 pub use desks::{OwnDesk, desk_of};
 pub use lines::Lines;
 pub use script::{Script, read_script};

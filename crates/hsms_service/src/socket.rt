@@ -1,8 +1,8 @@
 //! A TCP connection as a link.
 
-ghost use Rattle.hsms_service.specs.Calls.{told_of};
+ghost use Rattle.hsms_service.specs.Counters.{told_of};
 
-use crate::calls::Calls;
+use crate::counters::Counters;
 use crate::wire::{Wire, is_quiet};
 use hsms_ends::{Got, Link, LinkFault, ServeFault};
 use hsms_machine::Side;
@@ -16,7 +16,7 @@ use std::time::{Clock, Duration};
 #[derive(Drop)]
 pub struct SocketLink<'a, C: Clock, S: Read + Write + OpenStream + Drop> {
     pub(crate) wire: Wire<'a, C, S>,
-    pub calls: Calls,
+    pub counters: Counters,
 }
 
 impl<'a, C: Clock, S: Read + Write + OpenStream + Drop> SocketLink<'a, C, S> {
@@ -24,7 +24,7 @@ impl<'a, C: Clock, S: Read + Write + OpenStream + Drop> SocketLink<'a, C, S> {
     pub fn new(clock: &'a C, stream: S) -> SocketLink<'a, C, S> {
         SocketLink {
             wire: Wire::new(clock, stream),
-            calls: Calls::new(),
+            counters: Counters::new(),
         }
     }
 
@@ -35,7 +35,7 @@ impl<'a, C: Clock, S: Read + Write + OpenStream + Drop> SocketLink<'a, C, S> {
 }
 
 impl<'a, C: Clock, S: Read + Write + OpenStream + Drop> Link for SocketLink<'a, C, S> {
-    ghost told = { λ s. told_of s.calls };
+    ghost told = { λ s. told_of s.counters };
 
     fn now(&mut self) -> u64 {
         self.wire.time()
@@ -44,13 +44,13 @@ impl<'a, C: Clock, S: Read + Write + OpenStream + Drop> Link for SocketLink<'a, 
     // A read of nothing is the end of what the peer sends.
     fn wait(&mut self, until: Option<u64>, into: &mut [u8]) -> Result<Got, LinkFault> {
         match self.wire.read_until(until, into) {
-            Ok(0) => self.calls.heard(Got::Closed, into),
-            Ok(count) => self.calls.heard(Got::Octets(count), into),
+            Ok(0) => self.counters.heard(Got::Closed, into),
+            Ok(count) => self.counters.heard(Got::Octets(count), into),
             Err(error) => {
                 if is_quiet(error.kind()) {
-                    self.calls.heard(Got::Quiet, into)
+                    self.counters.heard(Got::Quiet, into)
                 } else {
-                    self.calls.failed_wait(into)
+                    self.counters.failed_wait(into)
                 }
             }
         }
@@ -59,7 +59,7 @@ impl<'a, C: Clock, S: Read + Write + OpenStream + Drop> Link for SocketLink<'a, 
     fn send(&mut self, octets: &[u8]) -> Result<usize, LinkFault> {
         match self.wire.write(octets) {
             Ok(count) if count > 0 || octets.is_empty() => Ok(count),
-            _ => self.calls.failed_send(octets),
+            _ => self.counters.failed_send(octets),
         }
     }
 }

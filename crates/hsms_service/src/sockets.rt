@@ -1,7 +1,7 @@
 //! TCP connections, one after the other, as a link.
 
 ghost use Rattle.std.specs.Prelude.{◌≡◌};
-ghost use Rattle.hsms_service.specs.Calls.{told_of};
+ghost use Rattle.hsms_service.specs.Counters.{told_of};
 
 use crate::socket::{SocketLink, accepted, dialled, listening};
 use hsms_ends::{Again, Got, Link, LinkFault};
@@ -40,9 +40,9 @@ impl<'a, R: Clock + Net> SocketsLink<'a, R> {
 
     // Closes the connection once the peer has closed it too, or T8 is over; at once where the link failed.
     fn hang_up(&mut self)
-        ensures { told_of self.new.link.calls ≡ told_of self.old.link.calls }
+        ensures { told_of self.new.link.counters ≡ told_of self.old.link.counters }
     {
-        if self.link.calls.failures == self.failures {
+        if self.link.counters.failures == self.failures {
             let t8 = u64::from(self.service.settings.t8());
             self.link.wire.hang_up(t8);
         }
@@ -50,7 +50,7 @@ impl<'a, R: Clock + Net> SocketsLink<'a, R> {
 }
 
 impl<'a, R: Clock + Net> Link for SocketsLink<'a, R> {
-    ghost told = { λ s. told_of s.link.calls };
+    ghost told = { λ s. told_of s.link.counters };
 
     fn now(&mut self) -> u64 {
         self.link.now()
@@ -80,7 +80,7 @@ impl<'a, R: Clock + Net> Again for SocketsLink<'a, R> {
         }
         match next_stream(rt, service, &self.listener) {
             Ok(stream) => {
-                self.failures = self.link.calls.failures;
+                self.failures = self.link.counters.failures;
                 self.link.wire.go_over(stream);
                 true
             }

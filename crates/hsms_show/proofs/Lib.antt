@@ -1,7 +1,7 @@
-pub mod Found
 pub mod HexMessages
 pub mod HexRuns
 pub mod HexSpelling
 pub mod HexSteps
 pub mod LineEnds
+pub mod NextFrames
 pub mod Runs

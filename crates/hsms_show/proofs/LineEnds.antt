@@ -15,7 +15,7 @@ use Rattle.hsms_lines.specs.Devices.{HasWord, IsWrite}
 use Rattle.hsms_show.specs.ShowHex.{EndsAt, FindsEnd, FindsEndHolding, IsLine, IsPlaced, IsTooFar, is_open, line_limit}
 use Rattle.hsms_show.specs.declared.hex_lines.LineEnd.{LineEnd}
 use Rattle.hsms_show.specs.declared.hex_lines.LineEnd.TheVariants.{Feed, Open, TooFar}
-use Rattle.hsms_show.proofs.Found.{reads_on}
+use Rattle.hsms_show.proofs.NextFrames.{reads_on}
 use Rattle.hsms_show.proofs.Runs.{holds_none}
 
 -- ---- the first line feed

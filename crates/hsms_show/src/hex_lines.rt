@@ -7,7 +7,7 @@ ghost use Rattle.hsms_log.specs.Lines.{HasNone};
 ghost use Rattle.hsms_lines.specs.Devices.{CountsFailure, HasWord, IsReadOrWrite};
 ghost use Rattle.hsms_show.specs.ShowHex.{EndsAt, FindsEnd, FindsEndHolding, IsPlaced, is_open};
 
-use crate::finding::read_more;
+use crate::next_frame::read_more;
 use hsms_frame::{Ahead, Sink, Source};
 use hsms_lines::put_out;
 use hsms_options::ToolFault;

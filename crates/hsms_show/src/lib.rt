@@ -5,9 +5,9 @@
 //! ```
 #![tactic(auto)]
 
-mod finding;
 mod hex_lines;
 mod hex_octets;
+mod next_frame;
 mod showing;
 mod showing_hex;
 

@@ -8,7 +8,7 @@ ghost use Rattle.hsms_lines.specs.Held.{LaysLine};
 ghost use Rattle.hsms_lines.specs.Devices.{CountsFailure, IsOfInput, IsReadOrWrite, IsReadWriteOrEndless, IsWrite};
 ghost use Rattle.hsms_show.specs.Show.{Shows, ShowsNext, IsEnded};
 
-use crate::finding::{next_message, read_while_held, whole_front};
+use crate::next_frame::{next_message, read_while_held, whole_front};
 use hsms_frame::{Ahead, Header, Sink, Source};
 use hsms_lines::{lay_line, put_out};
 use hsms_options::ToolFault;

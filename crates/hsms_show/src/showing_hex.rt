@@ -8,9 +8,9 @@ ghost use Rattle.hsms_show.specs.Ahead.{left_after};
 ghost use Rattle.hsms_lines.specs.Devices.{CountsFailure, HasWord, IsOfInput, IsReadOrWrite, IsReadWriteOrEndless};
 ghost use Rattle.hsms_show.specs.ShowHex.{IsAllRead, IsNoDevice, IsNoHex, IsNoMessage, IsRefusedLine, IsStoppedBy, LaysShown, ShowsHex, ShowsLine, ShowsNextLine, ShowsOctets, at_line, octets_of_line};
 
-use crate::finding::read_more;
 use crate::hex_lines::{LineEnd, next_end};
 use crate::hex_octets::{message_of, octets_in};
+use crate::next_frame::read_more;
 use hsms_frame::{Ahead, Sink, Source};
 use hsms_lines::{lay_line, put_out};
 use hsms_options::ToolFault;

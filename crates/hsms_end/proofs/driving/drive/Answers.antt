@@ -1,6 +1,6 @@
 use Rattle.std.proofs.Common.{◌≡◌, List, [], ◌∷◌, ◌++◌, map, take, ap, sym, subst, ◌∙◌, arith, false, true, Vec, Global}
 use Rattle.hsms_machine.specs.declared.entry.Entry.{Entry}
-use Rattle.hsms_end.specs.Known.{untold}
+use Rattle.hsms_end.specs.EndState.{untold}
 use Rattle.hsms_end.specs.Turn.{Told}
 use Rattle.hsms_end.specs.Drive.{told, IsDriven}
 use Rattle.hsms_end.specs.Driving.{HasDriven}

@@ -1,4 +1,4 @@
-use Rattle.hsms_end.proofs.TickLaws.{all_expiries_are_logged_before_any_s9f9}
+use Rattle.hsms_end.proofs.ExpiryOrder.{all_expiries_are_logged_before_any_s9f9}
 use Rattle.hsms_end.proofs.laws.all_expiries_are_logged_before_any_s9f9.Goals as goal
 
 pub returns : goal.returns

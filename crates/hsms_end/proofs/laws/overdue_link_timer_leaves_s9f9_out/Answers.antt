@@ -1,4 +1,4 @@
-use Rattle.hsms_end.proofs.TickLaws.{an_overdue_link_timer_leaves_s9f9_out}
+use Rattle.hsms_end.proofs.ExpiryOrder.{an_overdue_link_timer_leaves_s9f9_out}
 use Rattle.hsms_end.proofs.laws.overdue_link_timer_leaves_s9f9_out.Goals as goal
 
 pub returns : goal.returns

@@ -6,7 +6,7 @@ use Rattle.hsms_end.specs.Act.{asks}
 use Rattle.hsms_end.specs.Frame.{fitting_text, message_frame}
 use Rattle.hsms_end.specs.Turn.{send}
 use Rattle.hsms_end.specs.Fault.{Meets}
-use Rattle.hsms_end.specs.Known.{EndOf}
+use Rattle.hsms_end.specs.EndState.{EndOf}
 use Rattle.hsms_end.proofs.Calls.{accepted}
 use Rattle.hsms_end.proofs.Sent.{send_meets, send_too_long, send_memory}
 use Rattle.hsms_end.proofs.end.End.send.Goals as goal

@@ -7,7 +7,7 @@ use Rattle.hsms_frame.specs.Frame.{Frame}
 use Rattle.hsms_end.specs.Answer.{answered}
 use Rattle.hsms_end.specs.Asked.{name_in, times}
 use Rattle.hsms_end.specs.Frame.{message_of}
-use Rattle.hsms_end.specs.Owing.{IsAnsweredBy}
+use Rattle.hsms_end.specs.AwaitingReply.{IsAnsweredBy}
 use Rattle.hsms_end.proofs.state.State.ask.Goals as goal
 
 pub returns-in_ok-answer-in-Ok : goal.returns-in_ok-answer-in-Ok

@@ -2,7 +2,7 @@ use Rattle.std.proofs.Common.{[], ◌∷◌}
 use Rattle.hsms_machine.specs.declared.entry.Event.TheVariants.{Cut, Down}
 use Rattle.hsms_machine.specs.declared.entry.Cause.TheVariants.{Length}
 use Rattle.hsms_end.specs.Act.{logs}
-use Rattle.hsms_end.proofs.Doings.{does_then}
+use Rattle.hsms_end.proofs.Acts.{does_then}
 use Rattle.hsms_end.proofs.Requests.{cut_is_lawful, cut_down_lawful}
 use Rattle.hsms_end.proofs.state.State.cut.Goals as goal
 

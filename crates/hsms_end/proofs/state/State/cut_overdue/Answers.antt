@@ -1,7 +1,7 @@
 use Rattle.std.proofs.Common.{[], ◌∷◌}
 use Rattle.hsms_machine.specs.declared.entry.Event.TheVariants.{Cut, Down}
 use Rattle.hsms_end.specs.Act.{logs}
-use Rattle.hsms_end.proofs.Doings.{does_then}
+use Rattle.hsms_end.proofs.Acts.{does_then}
 use Rattle.hsms_end.proofs.Overdue.{cut_overdue_lawful, overdue_down_lawful}
 use Rattle.hsms_end.proofs.state.State.cut_overdue.Goals as goal
 

@@ -1,10 +1,10 @@
 use Rattle.std.proofs.Common.{List, sym, subst}
 use Rattle.hsms_frame.specs.declared.header.Header.{Header}
-use Rattle.hsms_end.specs.Doing.{Does}
+use Rattle.hsms_end.specs.Performing.{Performs}
 use Rattle.hsms_end.specs.Expiring.{warnings_of, MayWarn}
 use Rattle.std.proofs.lemmas.Result.{on_ok_weaker}
 use Rattle.hsms_end.proofs.Overdue.{nothing_is_overdue_after_tick}
-use Rattle.hsms_end.proofs.Ticks.{expired_may_warn, expired_then_cut, expired_then_warned}
+use Rattle.hsms_end.proofs.Expiries.{expired_may_warn, expired_then_cut, expired_then_warned}
 use Rattle.hsms_end.proofs.state.State.expire.Goals as goal
 
 pub returns-in-Some-clause-does : goal.returns-in-Some-clause-does
@@ -19,7 +19,7 @@ returns-clause-does c =
     on_ok_weaker c.warn_expired.result
     (λ warned. expired_then_warned c.args.self.now c.expire_data.new.self c.args.entries.now.items c.expire_data.new.entries.items c.in_ok-expired.expired.items c.in_ok-expired.ensures.expired c.in_ok-expired.ensures.in_time
     c.warn_expired.new.self c.warn_expired.new.entries.items (sym c.in-None.ensures)
-    (subst (λ (hs : List Header). Does c.expire_data.new.self c.expire_data.new.entries.items (warnings_of c.expire_data.new.self.settings hs) c.warn_expired.new.self c.warn_expired.new.entries.items) c.deref.ensures.value warned))
+    (subst (λ (hs : List Header). Performs c.expire_data.new.self c.expire_data.new.entries.items (warnings_of c.expire_data.new.self.settings hs) c.warn_expired.new.self c.warn_expired.new.entries.items) c.deref.ensures.value warned))
     c.warn_expired.ensures.does
 
 pub warn_expired-requires-clause-sound : goal.warn_expired-requires-clause-sound

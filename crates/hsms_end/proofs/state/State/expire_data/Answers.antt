@@ -1,7 +1,7 @@
 use Rattle.std.proofs.Common.{sym, subst, List}
 use Rattle.hsms_frame.specs.declared.header.Header.{Header}
 use Rattle.hsms_end.specs.Expiring.{HasExpired}
-use Rattle.hsms_end.proofs.Expirations.{begun_to_expire, first_overdue, data_in_time, fewer_left, one_expired, t3_lawful}
+use Rattle.hsms_end.proofs.ExpiredData.{begun_to_expire, first_overdue, data_in_time, fewer_left, one_expired, t3_lawful}
 use Rattle.hsms_end.proofs.state.State.expire_data.Goals as goal
 
 pub oldest-init : goal.oldest-init

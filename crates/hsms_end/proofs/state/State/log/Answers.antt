@@ -1,4 +1,4 @@
-use Rattle.hsms_end.proofs.Doings.{logged, logged_after}
+use Rattle.hsms_end.proofs.Acts.{logged, logged_after}
 use Rattle.hsms_end.proofs.state.State.log.Goals as goal
 
 pub returns-clause-does : goal.returns-clause-does

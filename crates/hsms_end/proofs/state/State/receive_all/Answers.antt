@@ -6,7 +6,7 @@ use Rattle.hsms_frame.specs.Framing.{FramerState, FramesAs}
 use Rattle.hsms_end.specs.declared.state.State.{State}
 use Rattle.hsms_end.specs.Turn.{cut_by, warns_too_long}
 use Rattle.hsms_end.specs.Inside.{known}
-use Rattle.hsms_end.specs.Doing.{Does}
+use Rattle.hsms_end.specs.Performing.{Performs}
 use Rattle.hsms_end.proofs.Receptions.{begun, within_max, one_more_at, went_down, waits_for_more, is_too_short, is_too_long, shorter, reframed, kept}
 use Rattle.hsms_end.proofs.state.State.receive_all.Goals as goal
 
@@ -59,7 +59,7 @@ returns-in-Err-TooShort-clause-received g c =
     within_max c.messages.self (Err (TooShort c.in-Err-TooShort.field-0-0)) c.next_message.new.self.framer.pending c.messages.invariant.sound (rw c.in-Err-TooShort.field-0-is at c.in-Err-TooShort.ensures.front) in
     let same : c.next_message.new.self ≡ c.messages.self = kept c.messages.self c.next_message.new.self c.next_message.new.self.framer.pending c.next_message.ensures.off front.1 in
     on_ok_weaker c.cut.result (λ d. is_too_short (g.D.TurnDesk.answers_after c.args.desk.now) c.args.self.now c.messages.self c.cut.new.self c.args.entries.now.items c.messages.entries.items c.cut.new.entries.items c.in-Err-TooShort.field-0-0 c.messages.invariant.received
-    (sym c.is_up.ensures ∙ c.messages-test.true) (front.0, refl) (subst (λ (s : State). Does s c.messages.entries.items (cut_by Length) c.cut.new.self c.cut.new.entries.items) same d)) c.cut.ensures.does
+    (sym c.is_up.ensures ∙ c.messages-test.true) (front.0, refl) (subst (λ (s : State). Performs s c.messages.entries.items (cut_by Length) c.cut.new.self c.cut.new.entries.items) same d)) c.cut.ensures.does
 
 pub returns-in-Err-TooLong-clause-received : goal.returns-in-Err-TooLong-clause-received
 returns-in-Err-TooLong-clause-received g c =
@@ -67,4 +67,4 @@ returns-in-Err-TooLong-clause-received g c =
     within_max c.messages.self (Err (TooLong c.in-Err-TooLong.field-0-0 c.in-Err-TooLong.header)) c.next_message.new.self.framer.pending c.messages.invariant.sound (rw c.in-Err-TooLong.field-0-is at c.in-Err-TooLong.ensures.front) in
     let same : c.next_message.new.self ≡ c.messages.self = kept c.messages.self c.next_message.new.self c.next_message.new.self.framer.pending c.next_message.ensures.off front.1 in
     on_ok_weaker c.cut_too_long.result (λ d. is_too_long (g.D.TurnDesk.answers_after c.args.desk.now) c.args.self.now c.messages.self c.cut_too_long.new.self c.args.entries.now.items c.messages.entries.items c.cut_too_long.new.entries.items c.in-Err-TooLong.field-0-0 c.in-Err-TooLong.header c.messages.invariant.received
-    (sym c.is_up.ensures ∙ c.messages-test.true) (front.0, refl) (subst (λ (s : State). Does s c.messages.entries.items (warns_too_long (known s) c.in-Err-TooLong.header ++ cut_by Length) c.cut_too_long.new.self c.cut_too_long.new.entries.items) same d)) c.cut_too_long.ensures.does
+    (sym c.is_up.ensures ∙ c.messages-test.true) (front.0, refl) (subst (λ (s : State). Performs s c.messages.entries.items (warns_too_long (known s) c.in-Err-TooLong.header ++ cut_by Length) c.cut_too_long.new.self c.cut_too_long.new.entries.items) same d)) c.cut_too_long.ensures.does

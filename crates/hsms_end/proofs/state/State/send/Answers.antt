@@ -3,7 +3,7 @@ use Rattle.secs_text.specs.View.{content}
 use Rattle.hsms_frame.specs.Frame.{Frame}
 use Rattle.hsms_machine.specs.declared.entry.Event.TheVariants.{Sent}
 use Rattle.hsms_end.specs.Inside.{after_number}
-use Rattle.hsms_end.specs.Doing.{IsLawful}
+use Rattle.hsms_end.specs.Performing.{IsLawful}
 use Rattle.hsms_end.proofs.Messages.{message_lawful, message_sound}
 use Rattle.hsms_end.proofs.state.State.send.Goals as goal
 

@@ -1,6 +1,6 @@
 use Rattle.std.proofs.Common.{refl, ap, ◌+◌, ◌%◌, ◌^◌}
 use Rattle.hsms_end.specs.declared.state.State.{State}
-use Rattle.hsms_end.proofs.Doings.{does_number}
+use Rattle.hsms_end.proofs.Acts.{does_number}
 use Rattle.hsms_end.proofs.state.State.send_numbered.Goals as goal
 
 pub returns-clause-does : goal.returns-clause-does

@@ -4,8 +4,8 @@ use Rattle.hsms_machine.specs.declared.entry.Event.TheVariants.{Sent, Down}
 use Rattle.hsms_end.specs.Frame.{bare, separate_req}
 use Rattle.hsms_end.specs.Act.{logs, asks}
 use Rattle.hsms_end.specs.Inside.{after_number}
-use Rattle.hsms_end.specs.Doing.{IsLawful}
-use Rattle.hsms_end.proofs.Doings.{does_then}
+use Rattle.hsms_end.specs.Performing.{IsLawful}
+use Rattle.hsms_end.proofs.Acts.{does_then}
 use Rattle.hsms_end.proofs.Requests.{separate_lawful, separated_down_lawful, separated_sound}
 use Rattle.hsms_end.proofs.state.State.separate.Goals as goal
 

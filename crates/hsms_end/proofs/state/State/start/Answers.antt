@@ -8,10 +8,10 @@ use Rattle.hsms_end.specs.declared.state.State.{State}
 use Rattle.hsms_end.specs.Frame.{bare, select_req}
 use Rattle.hsms_end.specs.Act.{logs, asks}
 use Rattle.hsms_end.specs.Inside.{after_number}
-use Rattle.hsms_end.specs.Doing.{IsLawful, Does}
+use Rattle.hsms_end.specs.Performing.{IsLawful, Performs}
 use Rattle.hsms_end.specs.Sound.{IsSound}
 use Rattle.hsms_end.specs.Turn.{opening_of}
-use Rattle.hsms_end.proofs.Doings.{does_then}
+use Rattle.hsms_end.proofs.Acts.{does_then}
 use Rattle.hsms_end.proofs.Requests.{start_lawful, started_sound, started_room, started_up, started_settings, is_before_phase, select_lawful, select_sound}
 use Rattle.hsms_end.proofs.state.State.start.Goals as goal
 
@@ -31,7 +31,7 @@ returns-in_ok-send_numbered-in-Active-clause-does c =
     let start : State = record c.args.self.now { moment = c.args.now } in
     let active : c.args.self.now.settings.link ≡ Active =
     ap (λ (p : Parameters). p.link) (sym (started_settings c.args.self.now c.args.now c.requires.sound (is_before_phase c.args.self.now.tracker.phase c.requires.before) c.log.new.self c.in_ok-log.ensures.after)) ∙ sym c.in-Active.ensures in
-    subst (λ (link : Side). Does start c.args.entries.now.items (opening_of link) c.send_numbered.new.self c.send_numbered.new.entries.items) (sym active)
+    subst (λ (link : Side). Performs start c.args.entries.now.items (opening_of link) c.send_numbered.new.self c.send_numbered.new.entries.items) (sym active)
     (does_then start c.log.new.self c.send_numbered.new.self c.args.entries.now.items c.log.new.entries.items c.send_numbered.new.entries.items (logs Up ∷ []) (asks select_req ∷ [])
     c.in_ok-log.ensures.does (c.in_ok-send_numbered-in-Active.ensures.does select_req (sym (c.bare.ensures ∙ ap bare c.select_req.ensures))))
 

@@ -5,9 +5,9 @@ use Rattle.hsms_machine.specs.declared.entry.Event.TheVariants.{Taken, Sent}
 use Rattle.hsms_end.specs.Answer.{quiet}
 use Rattle.hsms_end.specs.Act.{logs}
 use Rattle.hsms_end.specs.Frame.{linktest_rsp}
-use Rattle.hsms_end.specs.Doing.{Does}
-use Rattle.hsms_end.specs.Owing.{IsAskedForLink}
-use Rattle.hsms_end.proofs.Doings.{does_then}
+use Rattle.hsms_end.specs.Performing.{Performs}
+use Rattle.hsms_end.specs.AwaitingReply.{IsAskedForLink}
+use Rattle.hsms_end.proofs.Acts.{does_then}
 use Rattle.hsms_end.proofs.Takings.{handled_kind, asked_for_link}
 use Rattle.hsms_end.proofs.state.State.take_linktest.Goals as goal
 
@@ -21,4 +21,4 @@ returns-clause-handled c =
     λ desk. handled_kind desk c.args.self.now c.answer_linktest.new.self c.args.entries.now.items c.answer_linktest.new.entries.items c.args.frame LinktestReq quiet c.requires.taken.broken c.requires.kind
     (λ e. absurd (let d : LinktestReq ≡ Primary = e in cc))
     (does_then c.args.self.now c.log.new.self c.answer_linktest.new.self c.args.entries.now.items c.log.new.entries.items c.answer_linktest.new.entries.items (logs (Taken c.args.frame) ∷ []) (logs (Sent (linktest_rsp c.args.frame.header)) ∷ []) c.in_ok-log.ensures.does
-    (subst (λ (f : Frame). Does c.log.new.self c.log.new.entries.items (logs (Sent (linktest_rsp f.header)) ∷ []) c.answer_linktest.new.self c.answer_linktest.new.entries.items) c.frame.view_is c.in_ok-answer_linktest.ensures.does))
+    (subst (λ (f : Frame). Performs c.log.new.self c.log.new.entries.items (logs (Sent (linktest_rsp f.header)) ∷ []) c.answer_linktest.new.self c.answer_linktest.new.entries.items) c.frame.view_is c.in_ok-answer_linktest.ensures.does))

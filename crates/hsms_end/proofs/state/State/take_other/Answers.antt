@@ -1,4 +1,4 @@
-use Rattle.hsms_end.proofs.Owed.{peers_transactions_are_none_between_calls}
+use Rattle.hsms_end.proofs.AwaitingReplies.{peers_transactions_are_none_between_calls}
 use Rattle.hsms_end.proofs.Takings.{handled_silent, owes_nothing}
 use Rattle.hsms_end.proofs.state.State.take_other.Goals as goal
 

@@ -8,9 +8,9 @@ use Rattle.hsms_end.specs.Answer.{answered}
 use Rattle.hsms_end.specs.Act.{logs}
 use Rattle.hsms_end.specs.Inside.{after_asking}
 use Rattle.hsms_end.specs.Reaction.{answers_primary}
-use Rattle.hsms_end.specs.Doing.{Does}
-use Rattle.hsms_end.specs.Owing.{CanTake, IsAsked}
-use Rattle.hsms_end.proofs.Doings.{does_then}
+use Rattle.hsms_end.specs.Performing.{Performs}
+use Rattle.hsms_end.specs.AwaitingReply.{CanTake, IsAsked}
+use Rattle.hsms_end.proofs.Acts.{does_then}
 use Rattle.hsms_end.proofs.Takings.{handled_kind, readable, asked_by_primary, can_take_later}
 use Rattle.hsms_end.proofs.state.State.take_primary.Goals as goal
 
@@ -34,7 +34,7 @@ returns-clause-handled g c =
     ap (λ (s : State). s.settings) c.in_ok-log.ensures.after ∙ ap (λ (s : State). s.settings) asked in
     handled_kind (g.D.TurnDesk.answers_after c.args.desk.now) c.args.self.now c.answer_primary.new.self c.args.entries.now.items c.answer_primary.new.entries.items c.args.frame Primary (answered c.in_ok-answer.answer) c.requires.taken.broken c.requires.kind
     (λ e. c.in_ok-answer.ensures)
-    (subst (λ (s : State). Does s c.args.entries.now.items (logs (Taken c.args.frame) ∷ answers_primary c.args.self.now.settings c.args.frame.header (answered c.in_ok-answer.answer)) c.answer_primary.new.self c.answer_primary.new.entries.items) asked
+    (subst (λ (s : State). Performs s c.args.entries.now.items (logs (Taken c.args.frame) ∷ answers_primary c.args.self.now.settings c.args.frame.header (answered c.in_ok-answer.answer)) c.answer_primary.new.self c.answer_primary.new.entries.items) asked
     (does_then c.count.new.self c.log.new.self c.answer_primary.new.self c.args.entries.now.items c.log.new.entries.items c.answer_primary.new.entries.items (logs (Taken c.args.frame) ∷ []) (answers_primary c.args.self.now.settings c.args.frame.header (answered c.in_ok-answer.answer)) c.in_ok-log.ensures.does
-    (subst (λ (s : Parameters). Does c.log.new.self c.log.new.entries.items (answers_primary s c.args.frame.header (answered c.in_ok-answer.answer)) c.answer_primary.new.self c.answer_primary.new.entries.items) settings
-    (subst (λ (f : Frame). Does c.log.new.self c.log.new.entries.items (answers_primary c.log.new.self.settings f.header (answered c.in_ok-answer.answer)) c.answer_primary.new.self c.answer_primary.new.entries.items) c.frame.view_is c.in_ok-answer_primary.ensures.does))))
+    (subst (λ (s : Parameters). Performs c.log.new.self c.log.new.entries.items (answers_primary s c.args.frame.header (answered c.in_ok-answer.answer)) c.answer_primary.new.self c.answer_primary.new.entries.items) settings
+    (subst (λ (f : Frame). Performs c.log.new.self c.log.new.entries.items (answers_primary c.log.new.self.settings f.header (answered c.in_ok-answer.answer)) c.answer_primary.new.self c.answer_primary.new.entries.items) c.frame.view_is c.in_ok-answer_primary.ensures.does))))

@@ -5,9 +5,9 @@ use Rattle.hsms_machine.specs.declared.entry.Event.TheVariants.{Taken, Sent}
 use Rattle.hsms_end.specs.Answer.{quiet}
 use Rattle.hsms_end.specs.Act.{logs}
 use Rattle.hsms_end.specs.Frame.{select_rsp}
-use Rattle.hsms_end.specs.Doing.{Does}
-use Rattle.hsms_end.specs.Owing.{IsAskedToSelect}
-use Rattle.hsms_end.proofs.Doings.{does_then}
+use Rattle.hsms_end.specs.Performing.{Performs}
+use Rattle.hsms_end.specs.AwaitingReply.{IsAskedToSelect}
+use Rattle.hsms_end.proofs.Acts.{does_then}
 use Rattle.hsms_end.proofs.Takings.{handled_kind, asked_to_select}
 use Rattle.hsms_end.proofs.state.State.take_select.Goals as goal
 
@@ -21,6 +21,6 @@ pub returns-clause-handled : goal.returns-clause-handled
 returns-clause-handled c =
     λ desk. handled_kind desk c.args.self.now c.answer_select.new.self c.args.entries.now.items c.answer_select.new.entries.items c.args.frame SelectReq quiet c.requires.taken.broken c.requires.kind
     (λ e. absurd (let d : SelectReq ≡ Primary = e in cc))
-    (subst (λ (b : Bool). Does c.args.self.now c.args.entries.now.items (logs (Taken c.args.frame) ∷ logs (Sent (select_rsp c.args.frame.header (if b then 1 else 0))) ∷ []) c.answer_select.new.self c.answer_select.new.entries.items) c.is_selected-selected.ensures
+    (subst (λ (b : Bool). Performs c.args.self.now c.args.entries.now.items (logs (Taken c.args.frame) ∷ logs (Sent (select_rsp c.args.frame.header (if b then 1 else 0))) ∷ []) c.answer_select.new.self c.answer_select.new.entries.items) c.is_selected-selected.ensures
     (does_then c.args.self.now c.log.new.self c.answer_select.new.self c.args.entries.now.items c.log.new.entries.items c.answer_select.new.entries.items (logs (Taken c.args.frame) ∷ []) (logs (Sent (select_rsp c.args.frame.header (if c.is_selected-selected.result then 1 else 0))) ∷ []) c.in_ok-log.ensures.does
-    (subst (λ (f : Frame). Does c.log.new.self c.log.new.entries.items (logs (Sent (select_rsp f.header (if c.is_selected-selected.result then 1 else 0))) ∷ []) c.answer_select.new.self c.answer_select.new.entries.items) c.frame.view_is c.in_ok-answer_select.ensures.does)))
+    (subst (λ (f : Frame). Performs c.log.new.self c.log.new.entries.items (logs (Sent (select_rsp f.header (if c.is_selected-selected.result then 1 else 0))) ∷ []) c.answer_select.new.self c.answer_select.new.entries.items) c.frame.view_is c.in_ok-answer_select.ensures.does)))

@@ -3,7 +3,7 @@ use Rattle.hsms_frame.specs.declared.kinds.Kind.TheVariants.{Separate, Primary}
 use Rattle.hsms_machine.specs.declared.entry.Event.TheVariants.{Taken, Down}
 use Rattle.hsms_end.specs.Answer.{quiet}
 use Rattle.hsms_end.specs.Act.{logs}
-use Rattle.hsms_end.proofs.Doings.{does_then}
+use Rattle.hsms_end.proofs.Acts.{does_then}
 use Rattle.hsms_end.proofs.Takings.{handled_kind, separated_down, separated_sound}
 use Rattle.hsms_end.proofs.state.State.take_separate.Goals as goal
 

@@ -3,7 +3,7 @@ use Rattle.hsms_frame.specs.Frame.{Frame}
 use Rattle.hsms_machine.specs.declared.entry.Event.TheVariants.{Sent}
 use Rattle.hsms_end.specs.Frame.{bare}
 use Rattle.hsms_end.specs.Inside.{after_number}
-use Rattle.hsms_end.specs.Doing.{IsLawful}
+use Rattle.hsms_end.specs.Performing.{IsLawful}
 use Rattle.hsms_end.specs.Sound.{IsSound}
 use Rattle.hsms_end.proofs.Requests.{linktest_lawful, linktest_sound}
 use Rattle.hsms_end.proofs.state.State.test_link.Goals as goal

@@ -1,6 +1,6 @@
 use Rattle.std.proofs.Common.{sym, subst, ℕ}
 use Rattle.hsms_end.specs.Expiring.{IsLate}
-use Rattle.hsms_end.proofs.Ticks.{late_at}
+use Rattle.hsms_end.proofs.Expiries.{late_at}
 use Rattle.hsms_end.proofs.state.State.tick.Goals as goal
 
 pub expire-requires : goal.expire-requires

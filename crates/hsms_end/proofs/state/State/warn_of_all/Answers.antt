@@ -2,17 +2,17 @@ use Rattle.std.proofs.Common.{[], ap, ◌∙◌}
 use Rattle.hsms_frame.specs.declared.header.Header.{Header}
 use Rattle.hsms_machine.specs.Settings.{Parameters}
 use Rattle.hsms_end.specs.Turn.{is_up}
-use Rattle.hsms_end.proofs.Owed.{sound_owing, peers_transactions_are_none_between_calls, owing_own}
+use Rattle.hsms_end.proofs.AwaitingReplies.{sound_awaits, peers_transactions_are_none_between_calls, awaits_own}
 use Rattle.hsms_end.proofs.Notices.{one_warned, may_warn, still_may_warn}
 use Rattle.hsms_end.proofs.state.State.warn_of_all.Goals as goal
 
 pub warn-requires-clause-selected : goal.warn-requires-clause-selected
 warn-requires-clause-selected c = may_warn c.loop-header.self.tracker.phase c.args.expired.now c.loop-header.header-index c.loop-header-test.true c.loop-header.invariant.selected
 
-pub warn-requires-clause-owing : goal.warn-requires-clause-owing
-warn-requires-clause-owing c =
-    owing_own c.loop-header.self [] []
-    (sound_owing c.loop-header.self c.loop-header.invariant.sound
+pub warn-requires-clause-awaits : goal.warn-requires-clause-awaits
+warn-requires-clause-awaits c =
+    awaits_own c.loop-header.self [] []
+    (sound_awaits c.loop-header.self c.loop-header.invariant.sound
     (ap is_up (may_warn c.loop-header.self.tracker.phase c.args.expired.now c.loop-header.header-index c.loop-header-test.true c.loop-header.invariant.selected)))
 
 pub loop-header-preserved : goal.loop-header-preserved
@@ -23,7 +23,7 @@ loop-header-preserved c =
       does = one_warned c.args.self.now c.loop-header.self c.warn.new.self c.args.entries.now.items c.loop-header.entries.items c.warn.new.entries.items c.args.expired.now c.loop-header.header-index none c.loop-header-test.true
           c.loop-header.invariant.settings c.loop-header.invariant.does
           (ap (λ (p : Parameters). p.role) c.loop-header.invariant.settings ∙ c.requires.equipment) c.in_ok-warn.ensures.does;
-      sound = peers_transactions_are_none_between_calls c.warn.new.self (c.in_ok-warn.ensures.owing [] [] (sound_owing c.loop-header.self c.loop-header.invariant.sound (ap is_up selected)));
+      sound = peers_transactions_are_none_between_calls c.warn.new.self (c.in_ok-warn.ensures.awaits [] [] (sound_awaits c.loop-header.self c.loop-header.invariant.sound (ap is_up selected)));
       settings = c.in_ok-warn.ensures.same.settings ∙ c.loop-header.invariant.settings;
       selected = still_may_warn c.loop-header.self.tracker.phase c.warn.new.self.tracker.phase c.args.expired.now (c.in_ok-warn.ensures.same.phase ∙ selected);
     }

@@ -1,7 +1,7 @@
 use Rattle.std.proofs.Common.{Ok, ap, arith, sym, ◌∙◌}
 use Rattle.std.proofs.lemmas.Result.{err_from_is_err_and}
-use Rattle.hsms_show.proofs.Found.{found_is_told, open_front, open_is_short, stopped}
-use Rattle.hsms_show.proofs.finding.next_message.Goals as goal
+use Rattle.hsms_show.proofs.NextFrames.{found_is_told, open_front, open_is_short, stopped}
+use Rattle.hsms_show.proofs.next_frame.next_message.Goals as goal
 
 pub returns-in_err-read_more-clause-message : goal.returns-in_err-read_more-clause-message
 returns-in_err-read_more-clause-message g c = λ input told.

@@ -27,10 +27,10 @@ use Rattle.hsms_machine.specs.Transaction.{SentData, SentControl, opened_as_at, 
 use Rattle.hsms_machine.specs.View.{own_open_of}
 use Rattle.hsms_end.specs.declared.state.State.{State}
 use Rattle.hsms_end.specs.Turn.{is_up, is_unselected, BreaksAsTaken}
-use Rattle.hsms_end.specs.Doing.{IsCalm, IsLawful}
+use Rattle.hsms_end.specs.Performing.{IsCalm, IsLawful}
 
 -- the connection is up, nothing is overdue, and the peer waits for answers to these requests
-pub record IsOwing (end : State) (primaries controls : List Transaction) : Type 0 where
+pub record PeerAwaits (end : State) (primaries controls : List Transaction) : Type 0 where
   pub settings : end.settings ≡ end.tracker.settings
   pub within : IsWithinLimits end.settings
   pub limit : end.framer.max ≡ end.settings.max
@@ -58,7 +58,7 @@ pub record IsSame (end end' : State) : Type 0 where
 -- the peer waits for an answer to this Select.req, and for nothing else
 pub record IsAskedToSelect (end : State) (header : Header) (selected : Bool) : Type 0 where
   pub time : ℕ
-  pub owing : IsOwing end [] (record { time = time; header = header } ∷ [])
+  pub awaits : PeerAwaits end [] (record { time = time; header = header } ∷ [])
   pub kind : kind_of header ≡ SelectReq
   pub passive : end.settings.link ≡ Passive
   pub before : is_selected end.tracker.phase ≡ selected
@@ -66,13 +66,13 @@ pub record IsAskedToSelect (end : State) (header : Header) (selected : Bool) : T
 -- the peer waits for an answer to this Linktest.req, and for nothing else
 pub record IsAskedForLink (end : State) (header : Header) : Type 0 where
   pub time : ℕ
-  pub owing : IsOwing end [] (record { time = time; header = header } ∷ [])
+  pub awaits : PeerAwaits end [] (record { time = time; header = header } ∷ [])
   pub kind : kind_of header ≡ LinktestReq
 
 -- this primary was taken; the peer waits for an answer to it, if it has the W bit, and to nothing else
 pub record IsAsked (end : State) (header : Header) : Type 0 where
   pub time : ℕ
-  pub owing : IsOwing end (option_to_list (opened_by is_data_request time header)) []
+  pub awaits : PeerAwaits end (option_to_list (opened_by is_data_request time header)) []
   pub kind : kind_of header ≡ Primary
   pub selected : end.tracker.phase ≡ Selected
 
@@ -98,12 +98,12 @@ IsAnsweredBy desk depth frame answer = (item : Option Value) × IsTextOf depth f
 
 -- the frame may be taken next
 pub record CanTake (end : State) (frame : Frame) : Type 0 where
-  pub owing : IsOwing end [] []
+  pub awaits : PeerAwaits end [] []
   pub lawful : IsLawful end (Taken frame)
   pub broken : BreaksAsTaken end.tracker frame None
 
 -- the frame may be discarded next, since it breaks this rule as a taken one
 pub record CanDiscard (end : State) (frame : Frame) (rule : Rule) : Type 0 where
-  pub owing : IsOwing end [] []
+  pub awaits : PeerAwaits end [] []
   pub lawful : IsLawful end (Discarded frame)
   pub broken : BreaksAsTaken end.tracker frame (Some rule)

@@ -2,7 +2,7 @@ use Rattle.std.proofs.Common.{◌≡◌, ◌-◌, length}
 use Rattle.hsms_frame.specs.Ahead.{ReadsMore}
 use Rattle.hsms_frame.specs.Device.{WhereTold}
 use Rattle.hsms_frame.specs.Framing.{FrontAs}
-use Rattle.hsms_show.proofs.finding.next_message.Given as goal
+use Rattle.hsms_show.proofs.next_frame.next_message.Given as goal
 
 -- more was read behind what was read before, the end wasn't found, and no read failed
 abbrev pub invariant-loop-found : goal.invariant-loop-found

@@ -1,5 +1,5 @@
-use Rattle.hsms_tasks.proofs.Doings.{counts_well, encodes_all, printing_reads_none, printing_writes, prints, shows_all, word_of_encoding, word_of_printing, word_of_showing}
-use Rattle.hsms_tasks.proofs.doing.perform.Goals as goal
+use Rattle.hsms_tasks.proofs.Dispatches.{counts_well, encodes_all, printing_reads_none, printing_writes, prints, shows_all, word_of_encoding, word_of_printing, word_of_showing}
+use Rattle.hsms_tasks.proofs.dispatch.perform.Goals as goal
 
 pub returns-in-Help-clause-does : goal.returns-in-Help-clause-does
 returns-in-Help-clause-does g c = rw (c.in-Help.is, c.well.ensures) (prints _ _ c.put.result _ _ c.as_bytes.ensures.value c.put.ensures.ok c.put.ensures.err c.put.ensures.word)

@@ -13,13 +13,13 @@ use Rattle.hsms_end.specs.Frame.{warning}
 use Rattle.hsms_end.specs.Act.{Act, asks}
 use Rattle.hsms_end.specs.Reaction.{is_equipment}
 use Rattle.hsms_end.specs.Turn.{is_up, is_unselected, expired_at, expiry, expiry_warning, overdue_cause, after_expiries, expiries, cut_by}
-use Rattle.hsms_end.specs.Doing.{Does}
+use Rattle.hsms_end.specs.Performing.{Performs}
 use Rattle.hsms_end.specs.Sound.{IsSound}
 use Rattle.hsms_end.specs.Expiring.{IsLate, is_data_overdue, headers_of, HasExpired, MayWarn, warns_of, warnings_of}
 use Rattle.hsms_end.specs.Inside.{known, at_later}
-use Rattle.hsms_end.proofs.Doings.{does_then}
+use Rattle.hsms_end.proofs.Acts.{does_then}
 use Rattle.hsms_end.proofs.Ordering.{ordered_later}
-use Rattle.hsms_end.proofs.Expirations.{all_expired}
+use Rattle.hsms_end.proofs.ExpiredData.{all_expired}
 
 -- a sound end whose time goes on
 pub late_at : (end : State) (now : ℕ) → IsSound end → IsInOrder end.tracker → is_up end.tracker.phase ≡ true → IsLate (at_later end now)
@@ -70,15 +70,15 @@ module _ (start middle : State) (before entries : List Entry) (headers : List He
       subst (λ (p : Phase). MayWarn p headers) (sym (ap (λ (s : State). s.tracker.phase) h.same))
       (subst (λ hs. MayWarn start.tracker.phase hs) (sym h.headers_are) (may_warn_of start late h.expired all))
 
-  pub expired_then_cut : (end' : State) (more : List Entry) (cause : Cause) → overdue_cause (known middle) ≡ Some cause → Does middle entries (cut_by cause) end' more → Does start before (expiries (known start)) end' more
+  pub expired_then_cut : (end' : State) (more : List Entry) (cause : Cause) → overdue_cause (known middle) ≡ Some cause → Performs middle entries (cut_by cause) end' more → Performs start before (expiries (known start)) end' more
   expired_then_cut end' more cause e cut =
       let acts : map expiry h.expired ++ cut_by cause ≡ expiries (known start) =
       ap (λ (xs : List Transaction). map expiry xs ++ cut_by cause) all
       ∙ ap (λ (c : Option Cause). map expiry (expired_at start.tracker start.moment) ++ after_expiries (known start).settings (expired_at start.tracker start.moment) c) (sym e ∙ same_cause) in
-      subst (λ (acts : List Act). Does start before acts end' more) acts
+      subst (λ (acts : List Act). Performs start before acts end' more) acts
       (does_then start middle end' before entries more (map expiry h.expired) (cut_by cause) h.does cut)
 
-  pub expired_then_warned : (end' : State) (more : List Entry) → overdue_cause (known middle) ≡ None → Does middle entries (warnings_of middle.settings headers) end' more → Does start before (expiries (known start)) end' more
+  pub expired_then_warned : (end' : State) (more : List Entry) → overdue_cause (known middle) ≡ None → Performs middle entries (warnings_of middle.settings headers) end' more → Performs start before (expiries (known start)) end' more
   expired_then_warned end' more e warned =
       let xs : List Transaction = expired_at start.tracker start.moment in
       let warnings : warnings_of middle.settings headers ≡ after_expiries (known start).settings xs None =
@@ -89,5 +89,5 @@ module _ (start middle : State) (before entries : List Entry) (headers : List He
       ap (λ (ys : List Transaction). map expiry ys ++ warnings_of middle.settings headers) all
       ∙ ap (λ (acts : List Act). map expiry xs ++ acts) warnings
       ∙ ap (λ (c : Option Cause). map expiry xs ++ after_expiries (known start).settings xs c) (sym e ∙ same_cause) in
-      subst (λ (acts : List Act). Does start before acts end' more) acts
+      subst (λ (acts : List Act). Performs start before acts end' more) acts
       (does_then start middle end' before entries more (map expiry h.expired) (warnings_of middle.settings headers) h.does warned)

@@ -7,7 +7,7 @@ use Rattle.hsms_options.specs.declared.fault.ToolFault.{ToolFault}
 use Rattle.hsms_options.specs.declared.fault.ToolFault.TheVariants.{Refused, Device, Memory}
 use Rattle.hsms_options.specs.declared.options.Form.{Form}
 use Rattle.hsms_options.specs.declared.options.Form.TheVariants as forms
-use Rattle.hsms_tasks.specs.Doing.{IsDone, Prints, ShowsForm, well}
+use Rattle.hsms_tasks.specs.Dispatch.{IsDone, Prints, ShowsForm, well}
 use Rattle.hsms_tasks.specs.Encode.{EncodesAll}
 use Rattle.hsms_lines.specs.Devices.{CountsFailure, IsReadOrWrite, IsReadWriteOrEndless, IsWrite}
 use Rattle.hsms_lines.proofs.Devices.{of_write, wider}

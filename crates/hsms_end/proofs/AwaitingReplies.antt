@@ -18,10 +18,10 @@ use Rattle.hsms_end.specs.declared.state.State.{State}
 use Rattle.hsms_end.specs.Inside.{entry_of, after_event}
 use Rattle.hsms_machine.specs.declared.entry.Entry.{Entry}
 use Rattle.hsms_machine.specs.View.{HasView}
-use Rattle.hsms_end.specs.Doing.{Does}
+use Rattle.hsms_end.specs.Performing.{Performs}
 use Rattle.hsms_end.specs.Turn.{is_up, is_unselected}
 use Rattle.hsms_end.specs.Sound.{IsSound}
-use Rattle.hsms_end.specs.Owing.{IsOwing, IsMild}
+use Rattle.hsms_end.specs.AwaitingReply.{PeerAwaits, IsMild}
 use Rattle.hsms_end.proofs.Steadiness.{or_first, or_second, or_both, up_is_not_before, up_is_not_over}
 
 -- ---- the phase
@@ -69,7 +69,7 @@ fewer stays (x ∷ xs) = pick_fewer (stays x) x (filter stays xs) (length xs) (f
 
 -- ---- one mild event
 
-module _ (end : State) (event : Event) (primaries controls : List Transaction) (owing : IsOwing end primaries controls) (mild : IsMild end.moment event) where
+module _ (end : State) (event : Event) (primaries controls : List Transaction) (awaits : PeerAwaits end primaries controls) (mild : IsMild end.moment event) where
   phase_is : phase_after end.tracker.phase event ≡ phase_by (is_gone end.tracker.phase || false) (is_over end.tracker.phase || false) (is_selected end.tracker.phase || selects event)
   phase_is =
       ap (λ b. if b then phase.NotSelected else phase_by (is_gone end.tracker.phase || is_down event) (is_over end.tracker.phase || ends_session event) (is_selected end.tracker.phase || selects event)) mild.not_up
@@ -77,7 +77,7 @@ module _ (end : State) (event : Event) (primaries controls : List Transaction) (
       ∙ ap (λ b. phase_by (is_gone end.tracker.phase || false) (is_over end.tracker.phase || b) (is_selected end.tracker.phase || selects event)) mild.goes_on
 
   still_unselected : is_unselected (phase_after end.tracker.phase event) ≡ true → is_unselected end.tracker.phase ≡ true
-  still_unselected u = was_unselected end.tracker.phase (selects event) owing.up (sym (ap is_unselected phase_is) ∙ u)
+  still_unselected u = was_unselected end.tracker.phase (selects event) awaits.up (sym (ap is_unselected phase_is) ∙ u)
 
   kept : (left : List Transaction) → (if is_up_event event then [] else left) ≡ left
   kept left = ap (λ b. if b then [] else left) mild.not_up
@@ -92,43 +92,43 @@ module _ (end : State) (event : Event) (primaries controls : List Transaction) (
       kept (filter (λ transaction. not (is_closed_by SentControl event transaction)) end.tracker.sent_control ++ option_to_list (opened_as_at SentControl end.moment event))
       ∙ ap (λ (o : Option Transaction). filter (λ transaction. not (is_closed_by SentControl event transaction)) end.tracker.sent_control ++ option_to_list o) mild.no_control
 
-  pub owing_after : IsOwing (after_event end event) (filter (λ transaction. not (is_closed_by TakenData event transaction)) primaries ++ option_to_list (opened_as_at TakenData end.moment event)) (filter (λ transaction. not (is_closed_by TakenControl event transaction)) controls ++ option_to_list (opened_as_at TakenControl end.moment event))
-  owing_after =
+  pub awaits_after : PeerAwaits (after_event end event) (filter (λ transaction. not (is_closed_by TakenData event transaction)) primaries ++ option_to_list (opened_as_at TakenData end.moment event)) (filter (λ transaction. not (is_closed_by TakenControl event transaction)) controls ++ option_to_list (opened_as_at TakenControl end.moment event))
+  awaits_after =
       record {
-        settings = owing.settings;
-        within = owing.within;
-        limit = owing.limit;
-        up = ap is_up phase_is ∙ stays_up end.tracker.phase (selects event) owing.up;
+        settings = awaits.settings;
+        within = awaits.within;
+        limit = awaits.limit;
+        up = ap is_up phase_is ∙ stays_up end.tracker.phase (selects event) awaits.up;
         calm = record {
           not_past = omega arith;
           data_in_time = ap (λ (xs : List Transaction). list_any (λ (opened : Transaction). nat_lt end.tracker.settings.t3 (end.moment - opened.time)) xs) data_is
-              ∙ stays_in_time (λ (opened : Transaction). nat_lt end.tracker.settings.t3 (end.moment - opened.time)) (λ transaction. not (is_closed_by SentData event transaction)) end.tracker.sent_data owing.calm.data_in_time;
+              ∙ stays_in_time (λ (opened : Transaction). nat_lt end.tracker.settings.t3 (end.moment - opened.time)) (λ transaction. not (is_closed_by SentData event transaction)) end.tracker.sent_data awaits.calm.data_in_time;
           control_in_time = ap (λ (xs : List Transaction). list_any (λ (opened : Transaction). nat_lt end.tracker.settings.t6 (end.moment - opened.time)) xs) control_is
-              ∙ stays_in_time (λ (opened : Transaction). nat_lt end.tracker.settings.t6 (end.moment - opened.time)) (λ transaction. not (is_closed_by SentControl event transaction)) end.tracker.sent_control owing.calm.control_in_time;
+              ∙ stays_in_time (λ (opened : Transaction). nat_lt end.tracker.settings.t6 (end.moment - opened.time)) (λ transaction. not (is_closed_by SentControl event transaction)) end.tracker.sent_control awaits.calm.control_in_time;
           selected_in_time =
               ap (λ (b : Bool). is_unselected (phase_after end.tracker.phase event) && nat_lt end.tracker.settings.t7 (end.moment - (if b then end.moment else end.tracker.up_time))) mild.not_up
-              ∙ and_false (is_unselected (phase_after end.tracker.phase event)) (is_unselected end.tracker.phase) (nat_lt end.tracker.settings.t7 (end.moment - end.tracker.up_time)) still_unselected owing.calm.selected_in_time;
+              ∙ and_false (is_unselected (phase_after end.tracker.phase event)) (is_unselected end.tracker.phase) (nat_lt end.tracker.settings.t7 (end.moment - end.tracker.up_time)) still_unselected awaits.calm.selected_in_time;
         };
         taken_data =
             kept (filter (λ transaction. not (is_closed_by TakenData event transaction)) end.tracker.taken_data ++ option_to_list (opened_as_at TakenData end.moment event))
-            ∙ ap (λ (xs : List Transaction). filter (λ transaction. not (is_closed_by TakenData event transaction)) xs ++ option_to_list (opened_as_at TakenData end.moment event)) owing.taken_data;
+            ∙ ap (λ (xs : List Transaction). filter (λ transaction. not (is_closed_by TakenData event transaction)) xs ++ option_to_list (opened_as_at TakenData end.moment event)) awaits.taken_data;
         taken_control =
             kept (filter (λ transaction. not (is_closed_by TakenControl event transaction)) end.tracker.taken_control ++ option_to_list (opened_as_at TakenControl end.moment event))
-            ∙ ap (λ (xs : List Transaction). filter (λ transaction. not (is_closed_by TakenControl event transaction)) xs ++ option_to_list (opened_as_at TakenControl end.moment event)) owing.taken_control;
+            ∙ ap (λ (xs : List Transaction). filter (λ transaction. not (is_closed_by TakenControl event transaction)) xs ++ option_to_list (opened_as_at TakenControl end.moment event)) awaits.taken_control;
         few =
             (let e1 = ap (λ (xs : List Transaction). length xs) data_is in
             let e2 = ap (λ (xs : List Transaction). length xs) control_is in
             let f1 = fewer (λ transaction. not (is_closed_by SentData event transaction)) end.tracker.sent_data in
             let f2 = fewer (λ transaction. not (is_closed_by SentControl event transaction)) end.tracker.sent_control in
-            let h = owing.few in
+            let h = awaits.few in
             omega arith);
-        unselected = λ u. data_is ∙ ap (λ (xs : List Transaction). filter (λ transaction. not (is_closed_by SentData event transaction)) xs ++ []) (owing.unselected (still_unselected u));
+        unselected = λ u. data_is ∙ ap (λ (xs : List Transaction). filter (λ transaction. not (is_closed_by SentData event transaction)) xs ++ []) (awaits.unselected (still_unselected u));
       }
 
 -- ---- between calls
 
-pub sound_owing : (end : State) → IsSound end → is_up end.tracker.phase ≡ true → IsOwing end [] []
-sound_owing end sound up =
+pub sound_awaits : (end : State) → IsSound end → is_up end.tracker.phase ≡ true → PeerAwaits end [] []
+sound_awaits end sound up =
     let steady = sound.steady up in
     record {
       settings = sound.settings;
@@ -143,30 +143,30 @@ sound_owing end sound up =
     }
 
 -- the peer's transactions are none between calls: an end that owes no answer is as it is between calls
-pub peers_transactions_are_none_between_calls : (end : State) → IsOwing end [] [] → IsSound end
-peers_transactions_are_none_between_calls end owing =
+pub peers_transactions_are_none_between_calls : (end : State) → PeerAwaits end [] [] → IsSound end
+peers_transactions_are_none_between_calls end awaits =
     record {
-      settings = owing.settings;
-      within = owing.within;
-      limit = owing.limit;
-      not_over = up_is_not_over end.tracker.phase owing.up;
-      fresh = λ e. absurd (up_is_not_before end.tracker.phase owing.up e);
-      steady = λ up. record { calm = owing.calm; taken_data = owing.taken_data; taken_control = owing.taken_control; few = owing.few; unselected = owing.unselected };
+      settings = awaits.settings;
+      within = awaits.within;
+      limit = awaits.limit;
+      not_over = up_is_not_over end.tracker.phase awaits.up;
+      fresh = λ e. absurd (up_is_not_before end.tracker.phase awaits.up e);
+      steady = λ up. record { calm = awaits.calm; taken_data = awaits.taken_data; taken_control = awaits.taken_control; few = awaits.few; unselected = awaits.unselected };
     }
 
 -- the next number has no part in it
-pub owing_numbered : (end : State) (number : ℕ) (primaries controls : List Transaction) → IsOwing end primaries controls → IsOwing (record end { next = number }) primaries controls
-owing_numbered end number primaries controls owing =
+pub awaits_numbered : (end : State) (number : ℕ) (primaries controls : List Transaction) → PeerAwaits end primaries controls → PeerAwaits (record end { next = number }) primaries controls
+awaits_numbered end number primaries controls awaits =
     record {
-      settings = owing.settings;
-      within = owing.within;
-      limit = owing.limit;
-      up = owing.up;
-      calm = record { not_past = owing.calm.not_past; data_in_time = owing.calm.data_in_time; control_in_time = owing.calm.control_in_time; selected_in_time = owing.calm.selected_in_time };
-      taken_data = owing.taken_data;
-      taken_control = owing.taken_control;
-      few = owing.few;
-      unselected = owing.unselected;
+      settings = awaits.settings;
+      within = awaits.within;
+      limit = awaits.limit;
+      up = awaits.up;
+      calm = record { not_past = awaits.calm.not_past; data_in_time = awaits.calm.data_in_time; control_in_time = awaits.calm.control_in_time; selected_in_time = awaits.calm.selected_in_time };
+      taken_data = awaits.taken_data;
+      taken_control = awaits.taken_control;
+      few = awaits.few;
+      unselected = awaits.unselected;
     }
 
 -- ---- frames
@@ -197,20 +197,20 @@ sent_mild moment frame quiet =
     }
 
 -- a frame that was taken: the peer waits for an answer to it, if it is a request, and to nothing else
-pub taken_owing : (end : State) (frame : Frame) → IsOwing end [] [] → separates frame.header ≡ false → IsOwing (after_event end (Taken frame)) (option_to_list (opened_by is_data_request end.moment frame.header)) (option_to_list (opened_by is_control_request end.moment frame.header))
-taken_owing end frame owing stays = owing_after end (Taken frame) [] [] owing (taken_mild end.moment frame stays)
+pub taken_awaits : (end : State) (frame : Frame) → PeerAwaits end [] [] → separates frame.header ≡ false → PeerAwaits (after_event end (Taken frame)) (option_to_list (opened_by is_data_request end.moment frame.header)) (option_to_list (opened_by is_control_request end.moment frame.header))
+taken_awaits end frame awaits stays = awaits_after end (Taken frame) [] [] awaits (taken_mild end.moment frame stays)
 
-pub discarded_owing : (end : State) (frame : Frame) → IsOwing end [] [] → IsOwing (after_event end (Discarded frame)) [] []
-discarded_owing end frame owing = owing_after end (Discarded frame) [] [] owing (discarded_mild end.moment frame)
+pub discarded_awaits : (end : State) (frame : Frame) → PeerAwaits end [] [] → PeerAwaits (after_event end (Discarded frame)) [] []
+discarded_awaits end frame awaits = awaits_after end (Discarded frame) [] [] awaits (discarded_mild end.moment frame)
 
 abbrev pub left_by : Header → List Transaction → List Transaction
 left_by header opened = filter (λ (transaction : Transaction). not (concludes transaction.header header)) opened ++ []
 
-pub sent_owing : (end : State) (frame : Frame) (primaries controls : List Transaction) → IsOwing end primaries controls → IsQuiet frame.header → IsOwing (after_event end (Sent frame)) (left_by frame.header primaries) (left_by frame.header controls)
-sent_owing end frame primaries controls owing quiet = owing_after end (Sent frame) primaries controls owing (sent_mild end.moment frame quiet)
+pub sent_awaits : (end : State) (frame : Frame) (primaries controls : List Transaction) → PeerAwaits end primaries controls → IsQuiet frame.header → PeerAwaits (after_event end (Sent frame)) (left_by frame.header primaries) (left_by frame.header controls)
+sent_awaits end frame primaries controls awaits quiet = awaits_after end (Sent frame) primaries controls awaits (sent_mild end.moment frame quiet)
 
 -- nothing is done
-pub does_nothing : (end : State) (before : List Entry) → Does end before [] end before
+pub does_nothing : (end : State) (before : List Entry) → Performs end before [] end before
 does_nothing end before =
     record {
       new = [];
@@ -220,6 +220,6 @@ does_nothing end before =
     }
 
 -- what the end owes, as its tracker says
-pub owing_own : (end : State) (primaries controls : List Transaction) → IsOwing end primaries controls → IsOwing end end.tracker.taken_data end.tracker.taken_control
-owing_own end primaries controls owing =
-    subst (λ xs. IsOwing end end.tracker.taken_data xs) (sym owing.taken_control) (subst (λ xs. IsOwing end xs controls) (sym owing.taken_data) owing)
+pub awaits_own : (end : State) (primaries controls : List Transaction) → PeerAwaits end primaries controls → PeerAwaits end end.tracker.taken_data end.tracker.taken_control
+awaits_own end primaries controls awaits =
+    subst (λ xs. PeerAwaits end end.tracker.taken_data xs) (sym awaits.taken_control) (subst (λ xs. PeerAwaits end xs controls) (sym awaits.taken_data) awaits)

@@ -21,9 +21,9 @@ use Rattle.hsms_end.specs.Act.{Act, logs}
 use Rattle.hsms_end.specs.Inside.{entry_of, after_event}
 use Rattle.hsms_machine.specs.Ordered.{IsOrdered}
 use Rattle.hsms_end.specs.Turn.{is_up, expired_at, expiry}
-use Rattle.hsms_end.specs.Doing.{IsLawful, Does}
+use Rattle.hsms_end.specs.Performing.{IsLawful, Performs}
 use Rattle.hsms_end.specs.Expiring.{IsLate, is_data_overdue, overdue_of, with_data, headers_of, HasExpired}
-use Rattle.hsms_end.proofs.Doings.{does_then}
+use Rattle.hsms_end.proofs.Acts.{does_then}
 use Rattle.hsms_end.proofs.Lawfuls.{none_of}
 use Rattle.hsms_end.proofs.Steadiness.{up_is_not_before, up_is_not_over}
 use Rattle.hsms_end.proofs.Ordering.{as_it_was, first_gone, all_in_time, none_picked, first_picked}
@@ -150,21 +150,21 @@ module _ (end : State) (late : IsLate end) (header : Header) (h : IsOverdueFirst
       ap (λ (xs : List Transaction). filter (λ (opened : Transaction). nat_lt end.tracker.settings.t3 (end.moment - opened.time)) xs) h.opened_are
       ∙ first_picked (λ (opened : Transaction). nat_lt end.tracker.settings.t3 (end.moment - opened.time)) h.first h.later h.overdue
 
-  pub one_expired : (start next : State) (before entries more : List Entry) (headers : List Header) → HasExpired start before end entries headers → Does end entries (logs (T3 header.system) ∷ []) next more → next ≡ after_event end (T3 header.system) → HasExpired start before next more (headers ++ header ∷ [])
+  pub one_expired : (start next : State) (before entries more : List Entry) (headers : List Header) → HasExpired start before end entries headers → Performs end entries (logs (T3 header.system) ∷ []) next more → next ≡ after_event end (T3 header.system) → HasExpired start before next more (headers ++ header ∷ [])
   one_expired start next before entries more headers has done is =
       let after : State = with_data end end.moment h.later in
       let is_after : next ≡ after = is ∙ t3_after in
       let same_act : logs (T3 header.system) ≡ expiry h.first = ap (λ (other : Header). logs (T3 other.system)) h.header_is in
       let acts : map expiry has.expired ++ logs (T3 header.system) ∷ [] ≡ map expiry (has.expired ++ h.first ∷ []) =
       ap (λ (act : Act). map expiry has.expired ++ act ∷ []) same_act ∙ sym (map-append expiry has.expired (h.first ∷ [])) in
-      let both : Does start before (map expiry has.expired ++ logs (T3 header.system) ∷ []) after more =
+      let both : Performs start before (map expiry has.expired ++ logs (T3 header.system) ∷ []) after more =
       does_then start end after before entries more (map expiry has.expired) (logs (T3 header.system) ∷ []) has.does
-      (subst (λ (s : State). Does end entries (logs (T3 header.system) ∷ []) s more) is_after done) in
+      (subst (λ (s : State). Performs end entries (logs (T3 header.system) ∷ []) s more) is_after done) in
       subst (λ (s : State). HasExpired start before s more (headers ++ header ∷ [])) (sym is_after)
       (record {
         expired = has.expired ++ h.first ∷ [];
         onward = has.onward ∙ ap (λ xs. has.expired ++ xs) picked ∙ sym (append_assoc has.expired (h.first ∷ []) (expired_at after.tracker end.moment));
-        does = subst (λ acts. Does start before acts after more) acts both;
+        does = subst (λ acts. Performs start before acts after more) acts both;
         headers_are =
             ap (λ hs. hs ++ header ∷ []) has.headers_are
             ∙ ap (λ (other : Header). headers_of has.expired ++ other ∷ []) h.header_is
@@ -181,7 +181,7 @@ module _ (end : State) (late : IsLate end) (header : Header) (h : IsOverdueFirst
 extends_none : (view : View) (log : List Entry) → HasView view.settings log view → HasView view.settings (log ++ []) view
 extends_none view log has = subst (λ es. HasView view.settings es view) (sym (append-nil log)) has
 
-pub does_none : (end : State) (before : List Entry) → Does end before [] end before
+pub does_none : (end : State) (before : List Entry) → Performs end before [] end before
 does_none end before = record { new = []; added = sym (append-nil before); done = (refl, refl); run = λ log has. extends_none end.tracker log has }
 
 pub begun_to_expire : (start : State) (before : List Entry) → IsLate start → HasExpired start before start before []

@@ -2,26 +2,26 @@
 
 ghost use Rattle.std.specs.Prelude.{◌≡◌, ◌≤◌, ◌<◌, IsErr, length, false};
 ghost use Rattle.hsms_ends.specs.Link.{IsGot, Sends, Waits};
-ghost use Rattle.hsms_service.specs.Calls.{told_of};
+ghost use Rattle.hsms_service.specs.Counters.{told_of};
 
 use hsms_ends::{Got, LinkFault};
 
 /// How many waits were answered, how many of them by `Closed`, and whether the last one so; how often the link failed.
 /// The counts stay at their greatest value.
 #[derive(Clone, Copy, Debug)]
-pub struct Calls {
+pub struct Counters {
     pub waits: u64,
     pub closes: u64,
     pub is_closed: bool,
     pub failures: u64,
 }
 
-impl Calls {
+impl Counters {
     /// None so far.
-    pub fn new() -> Calls
+    pub fn new() -> Counters
         ensures { result ≡ record { waits = 0; closes = 0; is_closed = false; failures = 0 } }
     {
-        Calls {
+        Counters {
             waits: 0,
             closes: 0,
             is_closed: false,

@@ -27,10 +27,10 @@ impl State {
     ghost use Rattle.hsms_end.specs.Inside.{after_asking};
     ghost use Rattle.hsms_end.specs.Act.{logs};
     ghost use Rattle.hsms_end.specs.Reaction.{rejects, warns, answers_discarded};
-    ghost use Rattle.hsms_end.specs.Doing.{Does};
+    ghost use Rattle.hsms_end.specs.Performing.{Performs};
     ghost use Rattle.hsms_end.specs.Sound.{IsSound};
     ghost use Rattle.hsms_end.specs.Receiving.{HasHandled};
-    ghost use Rattle.hsms_end.specs.Owing.{IsOwing, IsSame, CanTake, CanDiscard, IsAnsweredBy, is_silent};
+    ghost use Rattle.hsms_end.specs.AwaitingReply.{PeerAwaits, IsSame, CanTake, CanDiscard, IsAnsweredBy, is_silent};
 
     /// The desk's answer to a primary. Its text is readable, since it was taken.
     fn ask<D: TurnDesk>(&self, alloc: Global, desk: &D, frame: &Frame) -> Result<Answer, AllocError>
@@ -183,9 +183,9 @@ impl State {
         entries: &mut Vec<Entry>,
         header: Header,
     ) -> Result<(), AllocError>
-        requires { IsOwing self.old [] [] }
-        ensures does { OnOk result (Does self.old entries.old.items (if is_control_response_of (kind_of header) then rejects header 3 else []) self.new entries.new.items) }
-        ensures owing { OnOk result (IsOwing self.new [] []) }
+        requires { PeerAwaits self.old [] [] }
+        ensures does { OnOk result (Performs self.old entries.old.items (if is_control_response_of (kind_of header) then rejects header 3 else []) self.new entries.new.items) }
+        ensures awaits { OnOk result (PeerAwaits self.new [] []) }
         ensures same { OnOk result (IsSame self.old self.new) }
     {
         if !is_control_response(header) {
@@ -203,10 +203,10 @@ impl State {
         header: Header,
         selected: bool,
     ) -> Result<(), AllocError>
-        requires owing { IsOwing self.old [] [] }
+        requires awaits { PeerAwaits self.old [] [] }
         requires selected { is_selected_phase self.old.tracker.phase ≡ selected }
-        ensures does { OnOk result (Does self.old entries.old.items (if is_data_of header && selected then warns self.old.settings 1 header else []) self.new entries.new.items) }
-        ensures owing { OnOk result (IsOwing self.new [] []) }
+        ensures does { OnOk result (Performs self.old entries.old.items (if is_data_of header && selected then warns self.old.settings 1 header else []) self.new entries.new.items) }
+        ensures awaits { OnOk result (PeerAwaits self.new [] []) }
         ensures same { OnOk result (IsSame self.old self.new) }
     {
         if !selected {
@@ -226,10 +226,10 @@ impl State {
         entries: &mut Vec<Entry>,
         header: Header,
     ) -> Result<(), AllocError>
-        requires owing { IsOwing self.old [] [] }
+        requires awaits { PeerAwaits self.old [] [] }
         requires selected { self.old.tracker.phase ≡ Selected }
-        ensures does { OnOk result (Does self.old entries.old.items (warns self.old.settings 7 header) self.new entries.new.items) }
-        ensures owing { OnOk result (IsOwing self.new [] []) }
+        ensures does { OnOk result (Performs self.old entries.old.items (warns self.old.settings 7 header) self.new entries.new.items) }
+        ensures awaits { OnOk result (PeerAwaits self.new [] []) }
         ensures same { OnOk result (IsSame self.old self.new) }
     {
         self.warn(alloc, entries, 7, header)?;
@@ -245,11 +245,11 @@ impl State {
         selected: bool,
         rule: Rule,
     ) -> Result<(), AllocError>
-        requires owing { IsOwing self.old [] [] }
+        requires awaits { PeerAwaits self.old [] [] }
         requires selected { is_selected_phase self.old.tracker.phase ≡ selected }
         requires readable { rule ≡ Text → self.old.tracker.phase ≡ Selected }
-        ensures does { OnOk result (Does self.old entries.old.items (answers_discarded self.old.settings selected header rule) self.new entries.new.items) }
-        ensures owing { OnOk result (IsOwing self.new [] []) }
+        ensures does { OnOk result (Performs self.old entries.old.items (answers_discarded self.old.settings selected header rule) self.new entries.new.items) }
+        ensures awaits { OnOk result (PeerAwaits self.new [] []) }
         ensures same { OnOk result (IsSame self.old self.new) }
     {
         match rule {

@@ -7,8 +7,8 @@ use Rattle.hsms_end.specs.declared.fault.EndFault.TheVariants.{NotUp}
 use Rattle.hsms_end.specs.Answer.{Answered}
 use Rattle.hsms_end.specs.Turn.{is_up, expiries, tick}
 use Rattle.hsms_end.specs.Fault.{Meets}
-use Rattle.hsms_end.specs.Doing.{Does}
-use Rattle.hsms_end.specs.Known.{EndOf}
+use Rattle.hsms_end.specs.Performing.{Performs}
+use Rattle.hsms_end.specs.EndState.{EndOf}
 use Rattle.hsms_end.specs.End.{Accepts}
 use Rattle.hsms_end.specs.Inside.{known_of, known, at_later}
 use Rattle.hsms_end.proofs.Calls.{inside_of, accepted}
@@ -28,6 +28,6 @@ unfolding Meets
 tick_meets spent end now s u =
     inr (not_true spent s, inr (not_false (is_up end.tracker.phase) u, inr ((λ b. b), inr ((λ b. b), inr ((λ b. b), inr ((λ b. let d : false ≡ true = b.0 in cc), inr ((λ b. b), inr ((λ b. b), refl))))))))
 
-pub ticked : {D : Type 0} (answers : D → ℕ → Content → Answered) (desk : D) (end end' : State) (spent : Bool) (at : EndOf D) (now : ℕ) (first entries : List Entry) → spent ≡ false → inside_of desk end spent ≡ at → first ≡ [] → is_up end.tracker.phase ≡ true → Does (at_later end now) first (expiries (known (at_later end now))) end' entries → Accepts answers at (tick now) entries (inside_of desk end' false)
+pub ticked : {D : Type 0} (answers : D → ℕ → Content → Answered) (desk : D) (end end' : State) (spent : Bool) (at : EndOf D) (now : ℕ) (first entries : List Entry) → spent ≡ false → inside_of desk end spent ≡ at → first ≡ [] → is_up end.tracker.phase ≡ true → Performs (at_later end now) first (expiries (known (at_later end now))) end' entries → Accepts answers at (tick now) entries (inside_of desk end' false)
 ticked answers desk end end' spent at now first entries fresh is empty up h =
     accepted answers desk end (at_later end now) end' spent at (tick now) (expiries (known (at_later end now))) first entries fresh is empty (tick_meets spent end now fresh up) refl (λ es k h. h) h

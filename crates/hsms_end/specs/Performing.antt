@@ -16,7 +16,7 @@ use Rattle.hsms_end.specs.End.{Extends}
 unfoldable pub IsLawful : State → Event → Type 0
 IsLawful end event = IsFirst (Breaks (facts_of end.tracker) end.tracker.settings (entry_of end event)) all_rules None
 
-pub record Does (end : State) (before : List Entry) (acts : List Act) (end' : State) (entries : List Entry) : Type 0 where
+pub record Performs (end : State) (before : List Entry) (acts : List Act) (end' : State) (entries : List Entry) : Type 0 where
   pub new : List Entry
   pub added : entries ≡ before ++ new
   pub done : Acts (known end) acts new (known end')

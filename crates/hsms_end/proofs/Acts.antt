@@ -10,17 +10,17 @@ use Rattle.hsms_machine.specs.Rule.{Breaks, IsFirst, all_rules}
 use Rattle.hsms_machine.specs.View.{HasView}
 use Rattle.hsms_machine.specs.Step.{facts_of, view_after}
 use Rattle.hsms_end.specs.declared.state.State.{State}
-use Rattle.hsms_end.specs.Known.{Known}
+use Rattle.hsms_end.specs.EndState.{EndState}
 use Rattle.hsms_end.specs.Act.{Act, logs, asks, Acts, with_event, with_number}
 use Rattle.hsms_end.specs.Inside.{known, entry_of, after_event}
 use Rattle.hsms_end.specs.Number.{IsFirstFree}
 use Rattle.hsms_end.specs.End.{Extends}
-use Rattle.hsms_end.specs.Doing.{Does, IsLawful}
+use Rattle.hsms_end.specs.Performing.{Performs, IsLawful}
 use Rattle.hsms_end.proofs.Lawfuls.{first_same}
 
-pub acts_append : (acts more : List Act) (end next end' : Known) (first later : List Entry) → Acts end acts first next → Acts next more later end' → Acts end (acts ++ more) (first ++ later) end'
+pub acts_append : (acts more : List Act) (end next end' : EndState) (first later : List Entry) → Acts end acts first next → Acts next more later end' → Acts end (acts ++ more) (first ++ later) end'
 acts_append [] more end next end' first later h k =
-    subst (λ es. Acts end more (es ++ later) end') (sym h.0) (subst (λ (s : Known). Acts s more later end') h.1 k)
+    subst (λ es. Acts end more (es ++ later) end') (sym h.0) (subst (λ (s : EndState). Acts s more later end') h.1 k)
 acts_append (logs event ∷ acts) more end next end' first later h k =
     (h.0 ++ later, ap (λ es. es ++ later) h.1, acts_append acts more (with_event end event) next end' h.0 later h.2 k)
 acts_append (asks frame ∷ acts) more end next end' first later h k =
@@ -37,7 +37,7 @@ extends_then view middle later first second h k = λ log has.
     k (log ++ first) (subst (λ s. HasView s (log ++ first) middle) same has_first) in
     subst (λ es. HasView view.settings es later) (append_assoc log first second) (subst (λ s. HasView s ((log ++ first) ++ second) later) (sym same) both)
 
-pub does_then : (end next end' : State) (before middle entries : List Entry) (acts more : List Act) → Does end before acts next middle → Does next middle more end' entries → Does end before (acts ++ more) end' entries
+pub does_then : (end next end' : State) (before middle entries : List Entry) (acts more : List Act) → Performs end before acts next middle → Performs next middle more end' entries → Performs end before (acts ++ more) end' entries
 does_then end next end' before middle entries acts more h k =
     record {
       new = h.new ++ k.new;
@@ -47,7 +47,7 @@ does_then end next end' before middle entries acts more h k =
     }
 
 -- one event, logged
-pub does_event : (end end' : State) (before entries : List Entry) (event : Event) → end' ≡ after_event end event → entries ≡ before ++ record { time = end.moment; event = event } ∷ [] → Extends end.tracker (record { time = end.moment; event = event } ∷ []) end'.tracker → Does end before (logs event ∷ []) end' entries
+pub does_event : (end end' : State) (before entries : List Entry) (event : Event) → end' ≡ after_event end event → entries ≡ before ++ record { time = end.moment; event = event } ∷ [] → Extends end.tracker (record { time = end.moment; event = event } ∷ []) end'.tracker → Performs end before (logs event ∷ []) end' entries
 does_event end end' before entries event is added run =
     record {
       new = record { time = end.moment; event = event } ∷ [];
@@ -57,14 +57,14 @@ does_event end end' before entries event is added run =
     }
 
 -- a frame sent with own system bytes: it is logged, and the next number is one more
-pub does_number : (end mid end' : State) (before entries : List Entry) (frame : Frame) (number : ℕ) → Does end before (logs (Sent frame) ∷ []) mid entries → end' ≡ record mid { next = (number + 1) % 2 ^ 32 } → IsFirstFree end.tracker end.next number → (asked : ℕ → Frame) → asked number ≡ frame → Does end before (asks asked ∷ []) end' entries
+pub does_number : (end mid end' : State) (before entries : List Entry) (frame : Frame) (number : ℕ) → Performs end before (logs (Sent frame) ∷ []) mid entries → end' ≡ record mid { next = (number + 1) % 2 ^ 32 } → IsFirstFree end.tracker end.next number → (asked : ℕ → Frame) → asked number ≡ frame → Performs end before (asks asked ∷ []) end' entries
 does_number end mid end' before entries frame number h is free asked same =
     let logged : known mid ≡ with_event (known end) (Sent frame) = h.done.2.1 in
     let new_is : h.new ≡ record { time = end.moment; event = Sent (asked number) } ∷ [] =
     h.done.1 ∙ ap (λ later. entry_of end (Sent frame) ∷ later) h.done.2.0 ∙ ap (λ f. entry_of end (Sent f) ∷ []) (sym same) in
     let is_after : known end' ≡ with_number (known end) (asked number) number =
     ap (λ (s : State). known s) is
-    ∙ ap (λ (k : Known). record k { next = (number + 1) % 2 ^ 32 }) logged
+    ∙ ap (λ (k : EndState). record k { next = (number + 1) % 2 ^ 32 }) logged
     ∙ ap (λ f. with_number (known end) f number) (sym same) in
     record {
       new = h.new;
@@ -74,7 +74,7 @@ does_number end mid end' before entries frame number h is free asked same =
     }
 
 -- a lawful event that the tracker took in
-pub logged : (end : State) (event : Event) (tracker : View) (before entries : List Entry) (answer : Option Rule) → IsLawful end event → IsFirst (Breaks (facts_of end.tracker) end.tracker.settings (record { time = end.moment; event = event })) all_rules answer → (answer ≡ None → tracker ≡ view_after end.tracker (record { time = end.moment; event = event })) → (answer ≡ None → Extends end.tracker (record { time = end.moment; event = event } ∷ []) tracker) → entries ≡ before ++ record { time = end.moment; event = event } ∷ [] → Does end before (logs event ∷ []) (record end { tracker = tracker }) entries
+pub logged : (end : State) (event : Event) (tracker : View) (before entries : List Entry) (answer : Option Rule) → IsLawful end event → IsFirst (Breaks (facts_of end.tracker) end.tracker.settings (record { time = end.moment; event = event })) all_rules answer → (answer ≡ None → tracker ≡ view_after end.tracker (record { time = end.moment; event = event })) → (answer ≡ None → Extends end.tracker (record { time = end.moment; event = event } ∷ []) tracker) → entries ≡ before ++ record { time = end.moment; event = event } ∷ [] → Performs end before (logs event ∷ []) (record end { tracker = tracker }) entries
 unfolding IsLawful
 logged end event tracker before entries answer lawful told next run added =
     let none : answer ≡ None = first_same (Breaks (facts_of end.tracker) end.tracker.settings (record { time = end.moment; event = event })) all_rules answer None told lawful in

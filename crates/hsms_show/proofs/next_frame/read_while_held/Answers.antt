@@ -1,5 +1,5 @@
 use Rattle.hsms_show.proofs.Runs.{finds_with}
-use Rattle.hsms_show.proofs.finding.read_while_held.Goals as goal
+use Rattle.hsms_show.proofs.next_frame.read_while_held.Goals as goal
 
 pub returns-in-Ok-clause-message : goal.returns-in-Ok-clause-message
 returns-in-Ok-clause-message g c = λ rest told.
