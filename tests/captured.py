@@ -243,11 +243,11 @@ def hosted(capture: Capture, hosts, second: int, ends=False) -> Talk:
     return talk
 
 
-def one_after_another(hosts, ports=(40000, 40000)) -> bytes:
+def one_after_another(hosts, ports=(40000, 40000), ends=True) -> bytes:
     capture = Capture()
-    for second, (ends, port) in enumerate(zip(hosts, ports)):
+    for second, (pair, port) in enumerate(zip(hosts, ports)):
         capture.ports = (port, 5000)
-        hosted(capture, ends, second, ends=True)
+        hosted(capture, pair, second, ends=ends)
     return capture.octets
 
 
@@ -417,6 +417,7 @@ def wide_cases(log: List[str]) -> Iterator[Case]:
     equals = selected(Capture(ports=(5000, 5000))).capture.octets
     short = lines_of("pass entries=3 sent=1 taken=1")
     yield "both ends at the port", equals, Options(), [line.replace(":40000", ":5000") for line in short], None, 0
+    yield from either_way_cases()
     yield "addresses of IPv6", selected(Capture("pcapng>", is_ipv6=True)).capture.octets, Options(), [
         line.replace("10.0.0.1", "[fe80::1]").replace("10.0.0.2", "[fe80::2]") for line in short], None, 0
     yield "with an address of IPv6", selected(Capture("pcapng>", is_ipv6=True)).capture.octets, Options(
@@ -433,6 +434,21 @@ def wide_cases(log: List[str]) -> Iterator[Case]:
     yield "replaced, in a log", replaced, Options(log="host"), lines, None, 0
     yield "more than is held", far_ahead(), Options(), lines_of(
         "incomplete packet=6 pass entries=3 sent=1 taken=1"), "Full packet=6", 2
+
+
+def either_way_cases() -> Iterator[Case]:
+    """Both ends have the port, and each connects to the other."""
+    ways, own = [(1, 2), (2, 1), (1, 2)], [5000] * 3
+    lines = lines_of("pass entries=4 sent=1 taken=1")
+    first = [line.replace(":40000", ":5000") for line in lines]
+    second = [line.replace("10.0.0.1:40000 10.0.0.2:5000", "10.0.0.2:5000 10.0.0.1:5000") for line in lines]
+    yield "either way", one_after_another(ways, own), Options(), first + second + first, None, 0
+    open_first = [line.replace("entries=4", "entries=3") for line in first]
+    to_itself = Capture(ports=own[:2])
+    hosted(to_itself, (1, 1), 0, ends=True)
+    yield "an end to itself", to_itself.octets, Options(), [], "NoConnection", 2
+    yield "either way, the one before replaced", one_after_another(ways, own, ends=False), Options(), (
+        first + second + open_first), None, 0
 
 
 def differing(case: Case, program: Optional[str]) -> Optional[str]:

@@ -56,7 +56,8 @@ class Session:
 
     @property
     def pair(self):
-        return self.hosts, self.ports
+        """Its two ends, whichever of them connected."""
+        return frozenset(zip(self.hosts, self.ports))
 
     @property
     def begins(self) -> bool:
@@ -164,7 +165,7 @@ class Speaker:
 def random_session(rng, hosts, ports, has_pauses) -> Session:
     session = Session(hosts, ports)
     firsts = [rng.choice([0, 1000, NUMBERS - 300, rng.getrandbits(32)]) for _ in range(2)]
-    if ports[0] == 40000:
+    if ports[0] in (40000, 5000):
         firsts[ACTIVE] = rng.getrandbits(32)  # a port that is used again has another number
     speaker = Speaker(rng, session, firsts)
     kind = rng.random()
@@ -257,11 +258,15 @@ def random_options(rng) -> Options:
 
 
 def random_sessions(rng, has_pauses) -> List[Session]:
-    """One to three connections, mostly between the same addresses; their ports may be used again."""
-    sessions = []
+    """One to three connections, mostly between the same addresses; their ports may be used again. Of some captures both
+    ends have the port, and either connects.
+    """
+    sessions, is_either_way = [], rng.random() < 0.1
     for number in range(rng.choice([1, 1, 2, 3])):
         hosts = (1, 2) if rng.random() < 0.9 else (3 + number, 2)
         ports = (40000 if rng.random() < 0.6 else 40001 + number, 5000)
+        if is_either_way:
+            hosts, ports = rng.choice([hosts, hosts[::-1]]), (5000, 5000)
         sessions.append(random_session(rng, hosts, ports, has_pauses))
     return sessions
 

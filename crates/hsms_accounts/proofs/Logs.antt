@@ -1,15 +1,29 @@
 -- The text of a log that goes on.
-use Rattle.std.proofs.Common.{◌≡◌, ◌≤◌, ◌<◌, ◌^◌, ◌++◌, ℕ, List, [], ◌∷◌, Option, Some, true, refl, sym, ◌∙◌, ap, subst, take, drop, length, arith, append_assoc, length-append, take-append-drop}
-use Rattle.std.specs.Prelude.{Result, Ok, Err, OnOk, IfSome, codes, decimal, flat_map}
+use Rattle.std.proofs.Common.{◌≡◌, ◌≤◌, ◌<◌, ◌^◌, ◌++◌, ℕ, Bool, List, [], ◌∷◌, Option, None, Some, true, false, refl, sym, ◌∙◌, ap, subst, take, drop, length, arith, append_assoc, length-append, take-append-drop}
+use Rattle.std.specs.Prelude.{Result, Ok, Err, OnOk, IfSome, MatchOption, codes, decimal, flat_map, is_some}
 use Rattle.std.proofs.lemmas.Fmt.{length-decimal-le}
 use Rattle.std.proofs.lemmas.List.{append-nil, drop-drop}
+use Rattle.std.proofs.lemmas.List.Elements.{All-nil}
 use Rattle.std.proofs.lemmas.Grind.{flat_map-append}
-use Rattle.hsms_machine.specs.Settings.{Parameters}
-use Rattle.hsms_log.specs.Spelling.{IsComment, settings_line}
+use Rattle.hsms_machine.specs.Laws.{EmptyLogIsRun, NextOfRunIsLawful, NoEntryHasTwoAnswers}
+use Rattle.hsms_machine.specs.Settings.{IsWithinLimits, Parameters}
+use Rattle.hsms_log.specs.Auditing.{HoldsNoFailure}
+use Rattle.hsms_log.specs.Auditor.{HasHeard}
+use Rattle.hsms_log.specs.Laws.{NoTextHasTwoVerdicts, WrittenLogIsItsText}
+use Rattle.hsms_log.specs.LineReader.{FailsAs, Stands}
+use Rattle.hsms_log.specs.Spelling.{IsComment, IsEntry, entry_line, line_limit, settings_line}
+use Rattle.hsms_log.specs.Verdict.{FailsOnward, Judges, summary_of}
+use Rattle.hsms_log.specs.declared.auditor.Auditor.{Auditor}
+use Rattle.hsms_log.specs.declared.verdict.Verdict.{Verdict}
+use Rattle.hsms_log.specs.declared.verdict.Verdict.TheVariants.{Fail, Pass}
+use Rattle.hsms_log.specs.declared.verdict.Why.{Why}
+use Rattle.hsms_log.proofs.Audits.{stands_hold}
+use Rattle.hsms_log.proofs.Standing.{onward_more}
 use Rattle.hsms_log.proofs.WrittenLog.{comment_from, decimal_on_line, joined, on_line}
 use Rattle.hsms_accounts.specs.declared.account.Remark.{Remark}
 use Rattle.hsms_accounts.specs.declared.account.Remark.TheVariants as remark
-use Rattle.hsms_accounts.specs.Account.{HasAudited, HasLogged, Hears, Note, Standing, entry_text, log_text, note_text, remark_text}
+use Rattle.hsms_accounts.specs.declared.account.Told.{Told}
+use Rattle.hsms_accounts.specs.Account.{FailsAt, FailsSo, GoesBehind, HasAudited, HasAuditedBy, HasLogged, Hears, Note, SaysOf, Standing, entry_text, failed_by, has_failed, log_text, note_text, packet_behind, packet_named, remark_text}
 use Rattle.hsms_accounts.specs.Ends.{Adds, remark_alone}
 
 pub log_text_more : (settings : Parameters) (notes : List Note) (note : Note)
@@ -20,29 +34,147 @@ log_text_more settings notes note =
     (ap (λ rest. flat_map note_text notes ++ rest) (sym (append-nil (note_text note)))
     ∙ sym (flat_map-append note_text notes (note ∷ [])))
 
-pub adds : (old new : Standing) (note : Note) → Hears (note_text note) old new → Adds note old new
-adds old new note hears settings notes logged =
-    subst (λ t. HasAudited t new) (log_text_more settings notes note) (hears (log_text settings notes) logged)
+-- ---- the packet of the line that fails
+
+packet_more : (before : ℕ) (notes : List Note) (note : Note) → packet_behind before (notes ++ note ∷ []) ≡ packet_named (packet_behind before notes) note.remark
+packet_more before [] note = refl
+packet_more before (first ∷ notes) note = packet_more (packet_named before first.remark) notes note
+
+-- what the audit knows of a text that it has heard
+heard_by : (auditor : Option Auditor) (text : List ℕ) → HasAuditedBy auditor text → (has_failed auditor ≡ false → GoesBehind text)
+    × (has_failed auditor ≡ true → (line : ℕ) × (why : Why) × FailsOnward text line why)
+heard_by None text heard = absurd heard
+heard_by (Some auditor) text heard = by_found auditor.found refl heard
+  where
+    by_found : (found : Option Verdict) → auditor.found ≡ found → MatchOption found (Stands auditor.reader text) (λ verdict. FailsAs text verdict)
+        → (is_some found ≡ false → GoesBehind text) × (is_some found ≡ true → (line : ℕ) × (why : Why) × FailsOnward text line why)
+    by_found None is stands = ((λ none. (auditor, is, heard)), λ some. absurd cc)
+    by_found (Some (Pass summary)) is fails = absurd fails
+    by_found (Some (Fail line why)) is fails = ((λ none. absurd cc), λ some. (line, why, fails))
+
+-- one note more, of which a comment and then an entry is heard
+fails_more : (settings : Parameters) (notes : List Note) (note : Note) (old : Option ℕ) (first second : Bool) (packet : ℕ)
+    → packet ≡ packet_behind 0 (notes ++ note ∷ []) → FailsSo settings notes old
+    → (first ≡ true → (line : ℕ) × (why : Why) × FailsOnward (log_text settings (notes ++ note ∷ [])) line why)
+    → (second ≡ true → (line : ℕ) × (why : Why) × FailsOnward (log_text settings (notes ++ note ∷ [])) line why)
+    → (second ≡ false → GoesBehind (log_text settings (notes ++ note ∷ [])))
+    → FailsSo settings (notes ++ note ∷ []) (failed_by (failed_by old first packet) second packet)
+fails_more settings notes note (Some failed) first second packet is (front, other, rest, line, why, parts, goes, fails, last) early late on =
+    (front, other, rest ++ note ∷ [], line, why, ap (λ (ns : List Note). ns ++ note ∷ []) parts ∙ append_assoc front (other ∷ rest) (note ∷ []), goes, fails, last)
+fails_more settings notes note None true second packet is goes early late on =
+    let fails = early refl in (notes, note, [], fails.0, fails.1, refl, goes, fails.2, is)
+fails_more settings notes note None false true packet is goes early late on =
+    let fails = late refl in (notes, note, [], fails.0, fails.1, refl, goes, fails.2, is)
+fails_more settings notes note None false false packet is goes early late on = on refl
+
+pub adds : (old start mid new : Standing) (note : Note) → start ≡ record old { packet = packet_named old.packet note.remark }
+    → Hears (remark_text note.remark) start mid → Hears (entry_text note.entry) mid new → Adds note old new
+adds old start mid new note start_is first second settings notes logged =
+    let text = log_text settings notes in
+    let begun = first.audited text (subst (λ (s : Standing). HasAudited text s) (sym start_is) logged.audited) in
+    let whole : (text ++ remark_text note.remark) ++ entry_text note.entry ≡ log_text settings (notes ++ note ∷ []) =
+    append_assoc text (remark_text note.remark) (entry_text note.entry) ∙ log_text_more settings notes note in
+    let ended = subst (λ t. HasAudited t new) whole (second.audited (text ++ remark_text note.remark) begun) in
+    let packet : mid.packet ≡ packet_behind 0 (notes ++ note ∷ []) =
+    first.packet ∙ ap (λ (s : Standing). s.packet) start_is ∙ ap (λ n. packet_named n note.remark) logged.packet ∙ sym (packet_more 0 notes note) in
+    let before : start.failed ≡ old.failed = ap (λ (s : Standing). s.failed) start_is in
+    let at_first : mid.failed ≡ failed_by old.failed (has_failed mid.auditor) mid.packet =
+    first.failed ∙ ap (λ (f : Option ℕ). failed_by f (has_failed mid.auditor) start.packet) before ∙ ap (λ n. failed_by old.failed (has_failed mid.auditor) n) (sym first.packet) in
+    let at_last : new.failed ≡ failed_by (failed_by old.failed (has_failed mid.auditor) mid.packet) (has_failed new.auditor) mid.packet =
+    second.failed ∙ ap (λ (f : Option ℕ). failed_by f (has_failed new.auditor) mid.packet) at_first in
+    let early = heard_by mid.auditor (text ++ remark_text note.remark) begun in
+    let late = heard_by new.auditor (log_text settings (notes ++ note ∷ [])) ended in record {
+      audited = ended;
+      packet = second.packet ∙ packet;
+      failed = subst (λ (f : Option ℕ). FailsSo settings (notes ++ note ∷ []) f) (sym at_last)
+          (fails_more settings notes note old.failed (has_failed mid.auditor) (has_failed new.auditor) mid.packet packet logged.failed
+          (λ fails. let it = early.1 fails in
+          (it.0, it.1, subst (λ t. FailsOnward t it.0 it.1) whole (onward_more (text ++ remark_text note.remark) (entry_text note.entry) it.0 it.1 it.2)))
+          late.1 late.0);
+    }
 
 -- a comment, and then an entry
-pub noted : {E : Type 0} (result : Result (Unit {0}) E) (old mid new : Standing) (note : Note) → Hears (remark_text note.remark) old mid
+pub noted : {E : Type 0} (result : Result (Unit {0}) E) (old start mid new : Standing) (note : Note)
+    → start ≡ record old { packet = packet_named old.packet note.remark } → Hears (remark_text note.remark) start mid
     → OnOk result (Hears (entry_text note.entry) mid new) → OnOk result (Adds note old new)
-noted (Ok done) old mid new note first second =
-    adds old new note
-    (λ text heard. subst (λ t. HasAudited t new) (append_assoc text (remark_text note.remark) (entry_text note.entry))
-    (second (text ++ remark_text note.remark) (first text heard)))
-noted (Err fault) old mid new note first second = second
+noted (Ok done) old start mid new note start_is first second = adds old start mid new note start_is first second
+noted (Err fault) old start mid new note start_is first second = second
 
-pub remarked : {E : Type 0} (result : Result (Unit {0}) E) (old new : Standing) (remark : Remark)
-    → OnOk result (Hears (remark_text remark) old new) → OnOk result (Adds (remark_alone remark) old new)
-remarked (Ok done) old new remark hears =
-    adds old new (remark_alone remark) (subst (λ t. Hears t old new) (sym (append-nil (remark_text remark))) hears)
-remarked (Err fault) old new remark hears = hears
+-- nothing more is heard
+nothing : (at : Standing) → at.failed ≡ failed_by at.failed (has_failed at.auditor) at.packet → Hears [] at at
+nothing at same = record {
+  audited = λ text heard. subst (λ t. HasAudited t at) (sym (append-nil text)) heard;
+  packet = refl;
+  failed = same;
+}
 
-pub begins : (mid new : Standing) (settings : Parameters) (octets : List ℕ) → HasAudited [] mid → octets ≡ settings_line settings ++ 10 ∷ []
-    → Hears octets mid new → HasLogged settings [] new
-begins mid new settings octets empty is hears =
-    subst (λ t. HasAudited t new) (is ∙ sym (append-nil (settings_line settings ++ 10 ∷ []))) (hears [] empty)
+failed_twice : (failed : Option ℕ) (fails : Bool) (packet : ℕ) → failed_by failed fails packet ≡ failed_by (failed_by failed fails packet) fails packet
+failed_twice (Some first) fails packet = refl
+failed_twice None true packet = refl
+failed_twice None false packet = refl
+
+pub remarked : {E : Type 0} (result : Result (Unit {0}) E) (old start new : Standing) (remark : Remark)
+    → start ≡ record old { packet = packet_named old.packet remark } → OnOk result (Hears (remark_text remark) start new)
+    → OnOk result (Adds (remark_alone remark) old new)
+remarked (Ok done) old start new remark start_is hears =
+    adds old start new new (remark_alone remark) start_is hears
+    (nothing new (hears.failed ∙ failed_twice start.failed (has_failed new.auditor) start.packet
+    ∙ subst (λ (f : Option ℕ). failed_by (failed_by start.failed (has_failed new.auditor) start.packet) (has_failed new.auditor) start.packet
+    ≡ failed_by f (has_failed new.auditor) new.packet) (sym hears.failed)
+    (ap (λ n. failed_by (failed_by start.failed (has_failed new.auditor) start.packet) (has_failed new.auditor) n) (sym hears.packet))))
+remarked (Err fault) old start new remark start_is hears = hears
+
+-- ---- the settings
+
+-- their line doesn't fail
+pub settings_go : (settings : Parameters) → NoTextHasTwoVerdicts → EmptyLogIsRun → WrittenLogIsItsText → IsWithinLimits settings → (line : ℕ) (why : Why)
+    → FailsOnward (settings_line settings ++ 10 ∷ []) line why → ⊥
+settings_go settings one empty written within line why fails =
+    let text = settings_line settings ++ 10 ∷ [] in
+    let passes : Judges text (Pass (summary_of [])) = (settings, [], record { spelled = written settings [] within (All-nil (λ entry. IsEntry entry × (length (entry_line entry) ≤ line_limit settings.max))); run = empty settings }, refl) in
+    let falls : Judges text (Fail line why) = subst (λ t. Judges t (Fail line why)) (append-nil text) (fails []) in
+    differ (one text (Pass (summary_of [])) (Fail line why) passes falls)
+  where
+    differ : Pass (summary_of []) ≡ Fail line why → ⊥
+    differ is = cc
+
+pub begins : (mid new : Standing) (settings : Parameters) (octets : List ℕ) → NoTextHasTwoVerdicts → EmptyLogIsRun → WrittenLogIsItsText → IsWithinLimits settings
+    → HasAudited [] mid → mid.packet ≡ 0 → mid.failed ≡ None → octets ≡ settings_line settings ++ 10 ∷ [] → Hears octets mid new → HasLogged settings [] new
+begins mid new settings octets one empty written within blank at_none none is hears =
+    let whole : octets ≡ log_text settings [] = is ∙ sym (append-nil (settings_line settings ++ 10 ∷ [])) in
+    let heard = hears.audited [] blank in
+    let knows = heard_by new.auditor octets heard in record {
+      audited = subst (λ t. HasAudited t new) whole heard;
+      packet = hears.packet ∙ at_none;
+      failed = subst (λ (f : Option ℕ). FailsSo settings [] f) (sym hears.failed)
+          (subst (λ (f : Option ℕ). FailsSo settings [] (failed_by f (has_failed new.auditor) mid.packet)) (sym none)
+          (by_bool (has_failed new.auditor) (λ goes. subst GoesBehind whole (knows.0 goes)) (λ fails. let it = knows.1 fails in
+          settings_go settings one empty written within it.0 it.1 (subst (λ t. FailsOnward t it.0 it.1) is it.2))));
+    }
+  where
+    by_bool : (b : Bool) → (b ≡ false → GoesBehind (log_text settings [])) → (b ≡ true → ⊥) → FailsSo settings [] (failed_by None b mid.packet)
+    by_bool true goes fails = absurd (fails refl)
+    by_bool false goes fails = goes refl
+
+-- ---- what is said of a log
+
+holds_by : (auditor : Auditor) (text : List ℕ) → NextOfRunIsLawful → NoEntryHasTwoAnswers → auditor.found ≡ None → HasHeard auditor text → HoldsNoFailure text
+holds_by auditor text next one none heard =
+    stands_hold (record { next = next; one = one }) auditor.reader text
+    (subst (λ (f : Option Verdict). MatchOption f (Stands auditor.reader text) (λ verdict. FailsAs text verdict)) none heard)
+
+fails_at : (settings : Parameters) (notes : List Note) (failed : Option ℕ) → NextOfRunIsLawful → NoEntryHasTwoAnswers → FailsSo settings notes failed → FailsAt settings notes failed
+fails_at settings notes None next one goes = holds_by goes.0 (log_text settings notes) next one goes.1 goes.2
+fails_at settings notes (Some packet) next one (front, note, rest, line, why, parts, goes, fails, last) =
+    (front, note, rest, parts, record { line = line; why = why; before = holds_by goes.0 (log_text settings front) next one goes.1 goes.2; fails = fails }, last)
+
+pub says : (account : Standing) (auditor : Auditor) (told : Told) → NextOfRunIsLawful → NoEntryHasTwoAnswers → account.auditor ≡ Some auditor → told.packet ≡ account.failed
+    → ((text : List ℕ) → HasHeard auditor text → Judges text told.verdict)
+    → (settings : Parameters) (notes : List Note) → HasLogged settings notes account → SaysOf settings notes told
+says account auditor told next one there packet judges settings notes logged = (
+  judges (log_text settings notes) (subst (λ (a : Option Auditor). HasAuditedBy a (log_text settings notes)) there logged.audited),
+  subst (λ (f : Option ℕ). FailsAt settings notes f) (sym packet) (fails_at settings notes account.failed next one logged.failed),
+)
 
 pub spelled : (octets header text : List ℕ) → header ≡ take 10 (drop 4 octets) → text ≡ drop 14 octets
     → drop 4 octets ≡ header ++ text

@@ -1,11 +1,15 @@
 -- The log of one end of a connection, as it is told of a capture: the settings, and then each entry behind a comment that
 -- names its packet.
-use Rattle.std.specs.Prelude.{ℕ, Option, None, Some, List, [], ◌∷◌, ◌++◌, flat_map, codes, decimal}
+use Rattle.std.specs.Prelude.{◌≡◌, ℕ, Bool, true, false, Option, None, Some, is_some, List, [], ◌∷◌, ◌++◌, flat_map, codes, decimal}
 use Rattle.hsms_machine.specs.Settings.{Parameters}
 use Rattle.hsms_machine.specs.declared.entry.Entry.{Entry}
 use Rattle.hsms_log.specs.Spelling.{entry_line, settings_line}
+use Rattle.hsms_log.specs.Auditing.{HoldsNoFailure}
 use Rattle.hsms_log.specs.Auditor.{HasHeard}
+use Rattle.hsms_log.specs.Verdict.{FailsOnward, Judges}
 use Rattle.hsms_log.specs.declared.auditor.Auditor.{Auditor}
+use Rattle.hsms_log.specs.declared.verdict.Why.{Why}
+use Rattle.hsms_accounts.specs.declared.account.Told.{Told}
 use Rattle.hsms_accounts.specs.declared.account.Remark.{Remark}
 use Rattle.hsms_accounts.specs.declared.account.Remark.TheVariants as remark
 
@@ -32,11 +36,47 @@ note_text note = remark_text note.remark ++ entry_text note.entry
 abbrev pub log_text : Parameters → List Note → List ℕ
 log_text settings notes = (settings_line settings ++ 10 ∷ []) ++ flat_map note_text notes
 
--- what contracts see of the log of an end: its audit, which is gone where memory was refused, and how many lines it has
--- at most
+-- ---- the packet of the line that fails
+
+-- the packet that a comment names as that of its entry, or the one before
+abbrev pub packet_named : ℕ → Remark → ℕ
+packet_named before (remark.Packet packet) = packet
+packet_named before remark.Replaced = before
+packet_named before remark.Supposed = before
+packet_named before (remark.LeftOut packet) = before
+
+-- the last one of a log, or 0 where it names none
+abbrev pub packet_behind : ℕ → List Note → ℕ
+packet_behind before [] = before
+packet_behind before (note ∷ notes) = packet_behind (packet_named before note.remark) notes
+
+-- the first line that fails is one of a note: up to it none fails, and with it each log that goes on does
+pub record FailsWith (settings : Parameters) (front : List Note) (note : Note) : Type 0 where
+  pub line : ℕ
+  pub why : Why
+  pub before : HoldsNoFailure (log_text settings front)
+  pub fails : FailsOnward (log_text settings (front ++ note ∷ [])) line why
+
+-- the last packet that is named up to the note with which a log fails; none where it doesn't fail
+abbrev pub FailsAt : Parameters → List Note → Option ℕ → Type 0
+FailsAt settings notes None = HoldsNoFailure (log_text settings notes)
+FailsAt settings notes (Some packet) =
+    (front : List Note) × (note : Note) × (rest : List Note) × (notes ≡ front ++ note ∷ rest) × FailsWith settings front note
+    × (packet ≡ packet_behind 0 (front ++ note ∷ []))
+
+-- what the audit says of a log
+abbrev pub SaysOf : Parameters → List Note → Told → Type 0
+SaysOf settings notes told = Judges (log_text settings notes) told.verdict × FailsAt settings notes told.packet
+
+-- ---- what is known of a log
+
+-- what contracts see of the log of an end: its audit, which is gone where memory was refused, how many lines it has at
+-- most, the packet that was named last, and that of the line that fails
 pub record Standing : Type 0 where
   pub auditor : Option Auditor
   pub lines : ℕ
+  pub packet : ℕ
+  pub failed : Option ℕ
 
 -- the audit goes on, and has heard this text
 abbrev pub HasAuditedBy : Option Auditor → List ℕ → Type 0
@@ -46,10 +86,36 @@ HasAuditedBy (Some auditor) text = HasHeard auditor text
 abbrev pub HasAudited : List ℕ → Standing → Type 0
 HasAudited text account = HasAuditedBy account.auditor text
 
--- the audit has heard the log of these settings and entries
-abbrev pub HasLogged : Parameters → List Note → Standing → Type 0
-HasLogged settings notes account = HasAudited (log_text settings notes) account
+-- an audit that has heard this text goes on
+abbrev pub GoesBehind : List ℕ → Type 0
+GoesBehind text = (auditor : Auditor) × (auditor.found ≡ None) × HasHeard auditor text
 
--- the audit hears these octets too
-abbrev pub Hears : List ℕ → Standing → Standing → Type 0
-Hears octets old new = (text : List ℕ) → HasAudited text old → HasAudited (text ++ octets) new
+-- the same of an audit as `FailsAt` says of all
+abbrev pub FailsSo : Parameters → List Note → Option ℕ → Type 0
+FailsSo settings notes None = GoesBehind (log_text settings notes)
+FailsSo settings notes (Some packet) =
+    (front : List Note) × (note : Note) × (rest : List Note) × (line : ℕ) × (why : Why) × (notes ≡ front ++ note ∷ rest)
+    × GoesBehind (log_text settings front) × FailsOnward (log_text settings (front ++ note ∷ [])) line why
+    × (packet ≡ packet_behind 0 (front ++ note ∷ []))
+
+-- the audit has heard the log of these settings and entries
+pub record HasLogged (settings : Parameters) (notes : List Note) (account : Standing) : Type 0 where
+  pub audited : HasAudited (log_text settings notes) account
+  pub packet : account.packet ≡ packet_behind 0 notes
+  pub failed : FailsSo settings notes account.failed
+
+-- a line of what the audit has heard fails
+abbrev pub has_failed : Option Auditor → Bool
+has_failed None = false
+has_failed (Some auditor) = is_some auditor.found
+
+abbrev pub failed_by : Option ℕ → Bool → ℕ → Option ℕ
+failed_by (Some first) fails packet = Some first
+failed_by None true packet = Some packet
+failed_by None false packet = None
+
+-- the audit hears these octets too; where a line of them is the first that fails, it is of the packet that was named last
+pub record Hears (octets : List ℕ) (old new : Standing) : Type 0 where
+  pub audited : (text : List ℕ) → HasAudited text old → HasAudited (text ++ octets) new
+  pub packet : new.packet ≡ old.packet
+  pub failed : new.failed ≡ failed_by old.failed (has_failed new.auditor) old.packet

@@ -1,5 +1,5 @@
 -- The connections that are looked at: the pair of ends that a segment belongs to, and the end that sent it.
-use Rattle.std.specs.Prelude.{◌≡◌, ◌⊎◌, ◌==◌, ◌&&◌, not, if◌then◌else◌, ℕ, Bool, Option, Some, None, is_some, is_none, ⊤}
+use Rattle.std.specs.Prelude.{◌≡◌, ◌⊎◌, ◌==◌, ◌&&◌, ◌||◌, not, if◌then◌else◌, ℕ, Bool, Option, Some, None, is_some, is_none, ⊤}
 use Rattle.std.specs.Int.{bit_at, w32, w128, to_be_bytes}
 use Rattle.std.specs.Net.Addr.{segments_of}
 use Rattle.std.specs.Net.Socket.{socket_ip}
@@ -9,6 +9,7 @@ use Rattle.std.specs.declared.net.socket_addr.SocketAddr.{SocketAddr}
 use Rattle.std.specs.declared.net.socket_addr.SocketAddr.TheVariants as socket
 use Rattle.hsms_packets.specs.declared.segment.Address.{Address}
 use Rattle.hsms_packets.specs.declared.segment.Address.TheVariants.{V4, V6}
+use Rattle.hsms_packets.specs.contracts.segment.AddressPartialEq.TheImpl as same_address
 use Rattle.hsms_packets.specs.declared.segment.Segment.{Segment}
 use Rattle.hsms_capture.specs.declared.packet.Side.{Side}
 use Rattle.hsms_capture.specs.declared.packet.Side.TheVariants.{Active, Passive}
@@ -18,6 +19,10 @@ use Rattle.hsms_accounts.specs.declared.pair.Pair.{Pair}
 abbrev pub IsOfPeer : Option IpAddr → Pair → Type 0
 IsOfPeer None _ = ⊤
 IsOfPeer (Some address) pair = (socket_ip pair.active ≡ address) ⊎ (socket_ip pair.passive ≡ address)
+
+-- the same two ends, where the other one connected
+abbrev pub turned : Pair → Pair
+turned pair = record { active = pair.passive; passive = pair.active }
 
 -- the ends have the same addresses, those that connected and those that were connected to
 abbrev pub HaveSameAddresses : Pair → Pair → Type 0
@@ -58,11 +63,15 @@ is_first_syn segment = has_syn segment && is_none segment.acknowledged
 abbrev pub is_syn_with_ack : Segment → Bool
 is_syn_with_ack segment = has_syn segment && is_some segment.acknowledged
 
+-- it goes from an address to itself
+abbrev pub is_own : Segment → Bool
+is_own segment = (same_address.ghosts).eq segment.source segment.target
+
 -- What goes to the port may come from the active end, and what comes from the port from the passive one. Where both ends
--- have the port, the active one sends no SYN with ACK, and the passive one none without.
+-- have the port, the active one sends no SYN with ACK, and the passive one none without, and they have two addresses.
 abbrev pub may_send : Side → ℕ → Segment → Bool
-may_send Active port segment = (segment.target_port == port) && not ((segment.source_port == port) && is_syn_with_ack segment)
-may_send Passive port segment = (segment.source_port == port) && not ((segment.target_port == port) && is_first_syn segment)
+may_send Active port segment = (segment.target_port == port) && not ((segment.source_port == port) && (is_own segment || is_syn_with_ack segment))
+may_send Passive port segment = (segment.source_port == port) && not ((segment.target_port == port) && (is_own segment || is_first_syn segment))
 
 -- the pair where the active end sent a segment, or else the one where the passive end did; and where either may have, the
 -- second one too

@@ -1,15 +1,17 @@
 //! The log of one end of a connection, and what the audit says of it.
 
-ghost use Rattle.std.specs.Prelude.{◌≡◌, ◌+◌, ◌++◌, [], ◌∷◌, ℕ, List, IfOk, OnErr, OnOk, Some, codes, decimal, length};
+ghost use Rattle.std.specs.Prelude.{◌≡◌, ◌+◌, ◌++◌, [], ◌∷◌, ℕ, List, IfOk, OnErr, OnOk, Some, codes, decimal, is_some, length};
 ghost use Rattle.hsms_log.specs.Auditor.{HasAtMost, HasHeard, HasRoom};
 ghost use Rattle.hsms_log.specs.Spelling.{entry_line, settings_line};
-ghost use Rattle.hsms_accounts.specs.Account.{note_text, remark_text};
+ghost use Rattle.hsms_accounts.specs.Account.{failed_by, note_text, packet_named, remark_text};
 ghost use Rattle.hsms_accounts.specs.Text.{Leads};
 ghost use Rattle.hsms_accounts.specs.declared.account.Remark.TheVariants.{LeftOut};
 
 use crate::stop::Stop;
 use crate::text::Text;
+use hsms_log::laws::{each_text_has_one_verdict, settings_are_in_range, written_log_is_its_text};
 use hsms_log::{Auditor, Verdict, write_entry, write_settings};
+use hsms_machine::laws::{each_entry_has_one_answer, empty_log_is_run, front_of_run_is_run};
 use hsms_machine::{Entry, Settings};
 use itoa::Buffer;
 use std::alloc::{AllocError, Global};
@@ -37,6 +39,7 @@ pub struct Account {
     auditor: Option<Auditor>,
     // How many lines the log has at most.
     lines: u64,
+    // The packet that a comment named last, and that of the line that fails.
     packet: u64,
     failed: Option<u64>,
 }
@@ -61,7 +64,7 @@ impl Model for Account {
 
     ghost Value = { Standing };
 
-    ghost view = { λ a. record { auditor = a.auditor; lines = a.lines } };
+    ghost view = { λ a. record { auditor = a.auditor; lines = a.lines; packet = a.packet; failed = a.failed } };
 
     ghost invariant = { λ a. IfSome a.auditor (HasAtMost a.lines) × (a.lines ≤ 2 ^ 62) };
 }
@@ -70,9 +73,8 @@ impl Account {
     ghost use Rattle.std.specs.Prelude.{◌≡◌, ◌≤◌, ◌++◌, [], ◌∷◌, List, ℕ, IfOk, IfSome, IsTrue, OnOk, OnErr, IsSome, None, Some};
     ghost use Rattle.hsms_log.specs.Auditor.{CanHear, IsBetween};
     ghost use Rattle.hsms_log.specs.Spelling.{IsComment, entry_line};
-    ghost use Rattle.hsms_log.specs.Verdict.{Judges};
     ghost use Rattle.hsms_machine.specs.Settings.{Parameters};
-    ghost use Rattle.hsms_accounts.specs.Account.{HasLogged, Hears, Note, log_text, remark_text};
+    ghost use Rattle.hsms_accounts.specs.Account.{HasLogged, Hears, Note, SaysOf, remark_text};
     ghost use Rattle.hsms_accounts.specs.Ends.{Adds, remark_alone};
 
     /// The log of an end with these settings, without an entry.
@@ -84,6 +86,10 @@ impl Account {
     pub fn new(alloc: Global, settings: &Settings) -> Result<Account, Stop>
         ensures { IfOk result (HasLogged settings.now []) }
     {
+        each_text_has_one_verdict();
+        empty_log_is_run();
+        written_log_is_its_text();
+        settings_are_in_range(settings);
         let mut account = Account {
             auditor: Some(Auditor::new(alloc)),
             lines: 0,
@@ -123,6 +129,7 @@ impl Account {
         ensures there { OnOk result (IsSome self.old.auditor) }
         ensures gone { OnErr result (self.new.auditor ≡ None) }
     {
+        self.packet = packet_of(remark, self.packet);
         self.comment(alloc, remark)
     }
 
@@ -131,11 +138,14 @@ impl Account {
     /// # Errors
     ///
     /// Where memory is refused, or was refused to the log.
+    #[tactic(auto, using(crate::proofs::Logs::says))]
     pub fn verdict(self, alloc: Global) -> Result<Told, AllocError>
         ensures judges { IfOk result (λ told. (settings : Parameters) (notes : List Note)
-            → HasLogged settings notes self → Judges (log_text settings notes) told.verdict) }
+            → HasLogged settings notes self → SaysOf settings notes told) }
         ensures there { OnOk result (IsSome self.auditor) }
     {
+        front_of_run_is_run();
+        each_entry_has_one_answer();
         let Account {
             auditor,
             lines: _,
@@ -218,6 +228,7 @@ impl Account {
             return Err(Stop::Memory);
         };
         auditor.take_comment();
+        self.failed = failed_by(self.failed, auditor, self.packet);
         self.lines += 1;
         Ok(())
     }
@@ -290,7 +301,9 @@ fn hear(alloc: Global, auditor: Auditor, octets: &[u8]) -> Result<Auditor, Alloc
 }
 
 // The packet of the line that fails: the last one, where none has failed before.
-fn failed_by(failed: Option<u64>, auditor: &Auditor, packet: u64) -> Option<u64> {
+fn failed_by(failed: Option<u64>, auditor: &Auditor, packet: u64) -> Option<u64>
+    ensures { result ≡ failed_by failed (is_some auditor.now.found) packet }
+{
     match (failed, auditor.failure()) {
         (None, Some(_)) => Some(packet),
         (None, None) | (Some(_), _) => failed,
@@ -298,7 +311,9 @@ fn failed_by(failed: Option<u64>, auditor: &Auditor, packet: u64) -> Option<u64>
 }
 
 // The packet that a comment names, or the one before.
-fn packet_of(remark: Remark, before: u64) -> u64 {
+fn packet_of(remark: Remark, before: u64) -> u64
+    ensures { result ≡ packet_named before remark }
+{
     match remark {
         Remark::Packet(packet) => packet,
         Remark::Replaced | Remark::Supposed | Remark::LeftOut(_) => before,

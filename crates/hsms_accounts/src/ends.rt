@@ -52,9 +52,8 @@ pub enum Heard {
 impl Ends {
     ghost use Rattle.std.specs.Prelude.{◌≡◌, ◌++◌, [], ◌∷◌, List, IfOk, OnOk, max};
     ghost use Rattle.hsms_capture.specs.declared.packet.Side.TheVariants.{Active, Passive};
-    ghost use Rattle.hsms_log.specs.Verdict.{Judges};
     ghost use Rattle.hsms_machine.specs.Settings.{Parameters};
-    ghost use Rattle.hsms_accounts.specs.Account.{HasLogged, Note, log_text};
+    ghost use Rattle.hsms_accounts.specs.Account.{HasLogged, Note, SaysOf};
     ghost use Rattle.hsms_machine.specs.declared.entry.Event.TheVariants.{Down, Up};
     ghost use Rattle.hsms_accounts.specs.declared.account.Remark.TheVariants.{LeftOut, Replaced, Supposed};
     ghost use Rattle.hsms_accounts.specs.Ends.{Adds, HearsAs, event_of, heard_of, note_of, remark_alone};
@@ -107,9 +106,9 @@ impl Ends {
     /// The verdicts on both logs, which end here: of the active end's, and of the passive end's.
     pub fn verdicts(self, alloc: Global) -> Result<(Told, Told), AllocError>
         ensures active { IfOk result (λ both. (settings : Parameters) (notes : List Note)
-            → HasLogged settings notes self.active → Judges (log_text settings notes) both.0.verdict) }
+            → HasLogged settings notes self.active → SaysOf settings notes both.0) }
         ensures passive { IfOk result (λ both. (settings : Parameters) (notes : List Note)
-            → HasLogged settings notes self.passive → Judges (log_text settings notes) both.1.verdict) }
+            → HasLogged settings notes self.passive → SaysOf settings notes both.1) }
     {
         let Ends {
             active,

@@ -1,7 +1,7 @@
 //! The two ends of a connection, by their addresses.
 
-ghost use Rattle.std.specs.Prelude.{◌≡◌, Some, true, false};
-ghost use Rattle.hsms_accounts.specs.Pair.{HaveSameAddresses, IsOfPeer, has_syn, ip_of, pair_by, pairs_at, socket_at};
+ghost use Rattle.std.specs.Prelude.{◌≡◌, true, false};
+ghost use Rattle.hsms_accounts.specs.Pair.{HaveSameAddresses, IsOfPeer, has_syn, ip_of, pair_by, pairs_at, socket_at, turned};
 
 use hsms_capture::Side;
 use hsms_packets::{Address, Segment};
@@ -30,6 +30,16 @@ impl Pair {
                 active: target,
                 passive: source,
             },
+        }
+    }
+
+    /// The pair of the same two ends, where the other one connected.
+    pub fn turned(&self) -> Pair
+        ensures { result ≡ turned self.now }
+    {
+        Pair {
+            active: self.passive,
+            passive: self.active,
         }
     }
 
@@ -72,7 +82,8 @@ fn address_of(address: Address) -> IpAddr
 }
 
 /// The pairs that a segment may belong to, with the end that sent it, where the passive end has this port. It belongs to
-/// the second one only where the first isn't known: where both ends have the port, and it doesn't begin a connection.
+/// the second one only where the first isn't known: where both ends have the port, and it doesn't begin a connection. One
+/// from an address to itself, where both ends have the port, has none.
 pub fn pairs_of(segment: &Segment, port: u16) -> Option<(Pair, Side, Option<Pair>)>
     ensures { result ≡ pairs_at port segment.now }
 {
@@ -80,23 +91,26 @@ pub fn pairs_of(segment: &Segment, port: u16) -> Option<(Pair, Side, Option<Pair
         (false, false) => None,
         (false, true) => Some((Pair::of(segment, Side::Active), Side::Active, None)),
         (true, false) => Some((Pair::of(segment, Side::Passive), Side::Passive, None)),
-        (true, true) => Some(pairs_of_equals(segment)),
+        (true, true) => pairs_of_equals(segment),
     }
 }
 
 // The same where both ends have the port.
-fn pairs_of_equals(segment: &Segment) -> (Pair, Side, Option<Pair>)
+fn pairs_of_equals(segment: &Segment) -> Option<(Pair, Side, Option<Pair>)>
     requires { segment.now.target_port ≡ segment.now.source_port }
-    ensures { Some result ≡ pairs_at segment.now.source_port segment.now }
+    ensures { result ≡ pairs_at segment.now.source_port segment.now }
 {
+    if segment.source == segment.target {
+        return None;
+    }
     let as_active = Pair::of(segment, Side::Active);
     let as_passive = Pair::of(segment, Side::Passive);
     if !is_syn(segment) {
-        return (as_active, Side::Active, Some(as_passive));
+        return Some((as_active, Side::Active, Some(as_passive)));
     }
     match segment.acknowledged {
-        None => (as_active, Side::Active, None),
-        Some(_) => (as_passive, Side::Passive, None),
+        None => Some((as_active, Side::Active, None)),
+        Some(_) => Some((as_passive, Side::Passive, None)),
     }
 }
 

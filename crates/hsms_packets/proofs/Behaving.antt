@@ -207,7 +207,7 @@ IsRead s octets = (fs : List Front) × (packets : List Packet) × (ending : Endi
 open_read : (s : State) (octets : List ℕ) → front_at s octets ≡ Ok front.More → IsRead s octets
 unfolding Reads
 open_read s [] e = ([], [], complete, (refl, refl))
-open_read s (octet ∷ octets) e = ([], [], cut, (refl, (omega arith, e)))
+open_read s (octet ∷ octets) e = ([], [], cut s.packets, (refl, (omega arith, e, refl)))
 
 goes_on : (s : State) (octets : List ℕ) (f : Front) → front_at s octets ≡ Ok f → 0 < size_of f → IsRead (after s f) (drop (size_of f) octets) → IsRead s octets
 unfolding Reads
@@ -216,7 +216,7 @@ goes_on s octets f e some (fs, packets, ending, reads) =
 
 fault_read : (s : State) (octets : List ℕ) (f : CaptureFault) → front_at s octets ≡ Err f → IsRead s octets
 unfolding Reads
-fault_read s octets f e = ([], [], faulty s.place f, (refl, (e, refl)))
+fault_read s octets f e = ([], [], faulty s.packets s.place f, (refl, (e, refl, refl)))
 
 by_front : (s : State) (octets : List ℕ) (r : Result Front CaptureFault) → front_at s octets ≡ r
     → ((f : Front) → front_at s octets ≡ Ok f → 0 < size_of f → IsRead s octets) → IsRead s octets
@@ -241,11 +241,11 @@ state_is_read (suc n) s octets few =
     goes_on s octets f e some (state_is_read n (after s f) (drop (size_of f) octets) (fewer s octets f n few some)))
 
 behind_is_read : (r : Result Opening CaptureFault) (octets : List ℕ) → (packets : List Packet) × (ending : Ending) × ReadsBehind r octets packets ending
-behind_is_read (Ok opening.More) octets = ([], cut, (refl, refl))
+behind_is_read (Ok opening.More) octets = ([], cut 0, (refl, refl))
 behind_is_read (Ok (opening.Opened f size)) octets =
     let read = state_is_read (length (drop size octets)) (new_state f size) (drop size octets) (omega arith) in
     (read.1, read.2, (read.0, read.3))
-behind_is_read (Err f) octets = ([], faulty 0 f, (refl, refl))
+behind_is_read (Err f) octets = ([], faulty 0 0 f, (refl, refl))
 
 pub each_is_read : (octets : List ℕ) → (packets : List Packet) × (ending : Ending) × ReadsFile octets packets ending
 each_is_read octets = behind_is_read (opening_at octets) octets

@@ -29,19 +29,20 @@ goes_no_further r f is_more is_front p = has_no_size f (let e : front.More ≡ f
 
 pub ends_or_goes_on : (s : State) (octets : List ℕ) (e : Ending) (f : Front) → EndsAs s octets e → front_at s octets ≡ Ok f → 0 < size_of f → ⊥
 ends_or_goes_on s octets complete f h is_front p = goes_no_further (front_at s octets) f (nothing_there s octets h) is_front p
-ends_or_goes_on s octets cut f h is_front p = goes_no_further (front_at s octets) f h.1 is_front p
-ends_or_goes_on s octets (faulty place g) f h is_front p = let is_fault = h.0 in absurd cc
+ends_or_goes_on s octets (cut count) f h is_front p = goes_no_further (front_at s octets) f h.1 is_front p
+ends_or_goes_on s octets (faulty count place g) f h is_front p = let is_fault = h.0 in absurd cc
 
 pub ends_once : (s : State) (octets : List ℕ) (e other : Ending) → EndsAs s octets e → EndsAs s octets other → e ≡ other
 ends_once s octets complete complete h k = refl
-ends_once s octets complete cut h k = let p = k.0 in let q : 0 < 0 = subst (λ (l : List ℕ). 0 < length l) h p in absurd (omega (arith, q))
-ends_once s octets complete (faulty place g) h k = let a = nothing_there s octets h in let b = k.0 in absurd cc
-ends_once s octets cut complete h k = let p = h.0 in let q : 0 < 0 = subst (λ (l : List ℕ). 0 < length l) k p in absurd (omega (arith, q))
-ends_once s octets cut cut h k = refl
-ends_once s octets cut (faulty place g) h k = let a = h.1 in let b = k.0 in absurd cc
-ends_once s octets (faulty place g) complete h k = let a = nothing_there s octets k in let b = h.0 in absurd cc
-ends_once s octets (faulty place g) cut h k = let a = k.1 in let b = h.0 in absurd cc
-ends_once s octets (faulty place g) (faulty there f) h k = let a = h.0 in let b = k.0 in let c = h.1 in let d = k.1 in cc
+ends_once s octets complete (cut count) h k = let p = k.0 in let q : 0 < 0 = subst (λ (l : List ℕ). 0 < length l) h p in absurd (omega (arith, q))
+ends_once s octets complete (faulty count place g) h k = let a = nothing_there s octets h in let b = k.0 in absurd cc
+ends_once s octets (cut count) complete h k = let p = h.0 in let q : 0 < 0 = subst (λ (l : List ℕ). 0 < length l) k p in absurd (omega (arith, q))
+ends_once s octets (cut count) (cut counted) h k = ap cut (h.2 ∙ sym k.2)
+ends_once s octets (cut count) (faulty counted place g) h k = let a = h.1 in let b = k.0 in absurd cc
+ends_once s octets (faulty count place g) complete h k = let a = nothing_there s octets k in let b = h.0 in absurd cc
+ends_once s octets (faulty count place g) (cut counted) h k = let a = k.1 in let b = h.0 in absurd cc
+ends_once s octets (faulty count place g) (faulty counted there f) h k =
+    let a = h.0 in let b = k.0 in let c = h.1 in let d = k.1 in let n = h.2 in let m = k.2 in cc
 
 pub same_front : (r : Result Front CaptureFault) (f g : Front) → r ≡ Ok f → r ≡ Ok g → f ≡ g
 same_front r f g a b = cc

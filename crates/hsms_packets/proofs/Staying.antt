@@ -259,19 +259,19 @@ packets_stay s xs ys (front.Passed counts size) sound = refl
 
 stays_behind : (first packets others : List Packet) (e other : Ending) → StaysTold packets e others other → StaysTold (first ++ packets) e (first ++ others) other
 stays_behind first packets others complete other (rest, is) = (rest, ap (λ (l : List Packet). first ++ l) is ∙ sym (append_assoc first packets rest))
-stays_behind first packets others cut other (rest, is) = (rest, ap (λ (l : List Packet). first ++ l) is ∙ sym (append_assoc first packets rest))
-stays_behind first packets others (faulty place f) other (is, same) = (ap (λ (l : List Packet). first ++ l) is, same)
+stays_behind first packets others (cut count) other (rest, is) = (rest, ap (λ (l : List Packet). first ++ l) is ∙ sym (append_assoc first packets rest))
+stays_behind first packets others (faulty count place f) other (is, same) = (ap (λ (l : List Packet). first ++ l) is, same)
 
 -- nothing was told yet
 ends_stays : (gs : List Front) (s : State) (xs ys : List ℕ) (others : List Packet) (e other : Ending) → EndsAs s xs e → Reads gs s (xs ++ ys) others other
     → StaysTold [] e others other
 unfolding Reads
 ends_stays gs s xs ys others complete other h k = (others, refl)
-ends_stays gs s xs ys others cut other h k = (others, refl)
-ends_stays [] s xs ys others (faulty place f) other h k =
-    (k.0, sym (ends_once s (xs ++ ys) (faulty place f) other (fault_stays s xs ys f h.0, h.1) k.1))
-ends_stays (g ∷ gs) s xs ys others (faulty place f) other h k =
-    absurd (ends_or_goes_on s (xs ++ ys) (faulty place f) g (fault_stays s xs ys f h.0, h.1) k.1 k.0)
+ends_stays gs s xs ys others (cut count) other h k = (others, refl)
+ends_stays [] s xs ys others (faulty count place f) other h k =
+    (k.0, sym (ends_once s (xs ++ ys) (faulty count place f) other (fault_stays s xs ys f h.0, h.1, h.2) k.1))
+ends_stays (g ∷ gs) s xs ys others (faulty count place f) other h k =
+    absurd (ends_or_goes_on s (xs ++ ys) (faulty count place f) g (fault_stays s xs ys f h.0, h.1, h.2) k.1 k.0)
 
 reads_stays : (fs gs : List Front) (s : State) (xs ys : List ℕ) (packets others : List Packet) (e other : Ending) → Reads fs s xs packets e
     → Reads gs s (xs ++ ys) others other → StaysTold packets e others other

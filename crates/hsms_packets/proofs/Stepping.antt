@@ -204,9 +204,9 @@ ended_on was input ahead e parts ends =
 
 -- a fault is there, whatever follows
 pub fault_on : (was : Reading) (input ahead rest : List ℕ) (f : CaptureFault) (place : ℕ) → was.ahead ++ input ≡ ahead ++ rest
-    → front_at was.state ahead ≡ Err f → place ≡ was.state.place → ReadsOn was input [] (faulty place f)
+    → front_at was.state ahead ≡ Err f → place ≡ was.state.place → ReadsOn was input [] (faulty was.state.packets place f)
 fault_on was input ahead rest f place parts is place_is =
-    ended_on was input (ahead ++ rest) (faulty place f) parts (fault_stays was.state ahead rest f is, place_is)
+    ended_on was input (ahead ++ rest) (faulty was.state.packets place f) parts (fault_stays was.state ahead rest f is, place_is, refl)
 
 -- a step that passes nothing
 pub stopped_steps : (was now : Reading) (input ahead : List ℕ) (f : FileFault) (left : Option (List ℕ))
@@ -214,10 +214,14 @@ pub stopped_steps : (was now : Reading) (input ahead : List ℕ) (f : FileFault)
     → StepsAs was input (Err f) now left
 stopped_steps was now input ahead (stop.Capture place f) left read found state_is ahead_is =
     let parts : was.ahead ++ input ≡ now.ahead ++ read.0 = read.2 ∙ ap (λ (l : List ℕ). l ++ read.0) (sym ahead_is) in
-    (nothing_tells was now input read.0 left parts read.1 state_is, fault_on was input ahead read.0 f place read.2 found.0 found.1)
+    let counted = ap (λ (s : State). s.packets) (sym state_is) in (
+      nothing_tells was now input read.0 left parts read.1 state_is,
+      subst (λ (n : ℕ). ReadsOn was input [] (faulty n place f)) counted (fault_on was input ahead read.0 f place read.2 found.0 found.1),
+    )
 stopped_steps was now input ahead stop.CutOff left read found state_is ahead_is =
     let parts : was.ahead ++ input ≡ now.ahead ++ [] = read.1 ∙ sym ahead_is ∙ sym (append-nil now.ahead) in
-    (nothing_tells was now input [] left parts read.0 state_is, ended_on was input ahead cut read.1 found, read.0)
+    let counted = ap (λ (s : State). s.packets) state_is in
+    (nothing_tells was now input [] left parts read.0 state_is, ended_on was input ahead (cut now.state.packets) read.1 (found.0, found.1, counted), read.0)
 stopped_steps was now input ahead stop.Read left read found state_is ahead_is =
     nothing_tells was now input read.0 left (read.2 ∙ ap (λ (l : List ℕ). l ++ read.0) (sym ahead_is)) read.1 state_is
 stopped_steps was now input ahead stop.Memory left read found state_is ahead_is =
@@ -301,12 +305,12 @@ opened now input ahead f size left (rest, left_is, parts) is state_is ahead_is =
 pub not_opened : (input ahead : List ℕ) (f : FileFault) (left : Option (List ℕ)) → OpensFor {T = Format × ℕ} (Err f) [] input ahead left
     → FindsOpening ahead (Err f) → OpensAs input (Err f) left
 not_opened input ahead (stop.Capture place f) left (rest, left_is, parts) found =
-    let reads : ReadsFile (ahead ++ rest) [] (faulty place f) =
-    subst (λ r. ReadsBehind r (ahead ++ rest) [] (faulty place f)) (sym (refusal_stays ahead rest f found.0)) (refl, ap (λ (n : ℕ). faulty n f) found.1) in
-    (subst (λ (l : List ℕ). ReadsFile l [] (faulty place f)) (sym parts) reads, (ahead, rest, parts, left_is))
+    let reads : ReadsFile (ahead ++ rest) [] (faulty 0 place f) =
+    subst (λ r. ReadsBehind r (ahead ++ rest) [] (faulty 0 place f)) (sym (refusal_stays ahead rest f found.0)) (refl, ap (λ (n : ℕ). faulty 0 n f) found.1) in
+    (subst (λ (l : List ℕ). ReadsFile l [] (faulty 0 place f)) (sym parts) reads, (ahead, rest, parts, left_is))
 not_opened input ahead stop.CutOff left read found =
-    let reads : ReadsFile ahead [] cut = subst (λ r. ReadsBehind r ahead [] cut) (sym found) (refl, refl) in
-    (subst (λ (l : List ℕ). ReadsFile l [] cut) (sym read.1) reads, read.0)
+    let reads : ReadsFile ahead [] (cut 0) = subst (λ r. ReadsBehind r ahead [] (cut 0)) (sym found) (refl, refl) in
+    (subst (λ (l : List ℕ). ReadsFile l [] (cut 0)) (sym read.1) reads, read.0)
 not_opened input ahead stop.Read left (rest, left_is, parts) found = (ahead, rest, parts, left_is)
 not_opened input ahead stop.Memory left (rest, left_is, parts) found = (ahead, rest, parts, left_is)
 

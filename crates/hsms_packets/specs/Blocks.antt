@@ -61,8 +61,8 @@ abbrev pub StepsAs : Reading → List ℕ → Result Step FileFault → Reading 
 StepsAs was input (Ok (step.Packet n r)) now left = Tells (ReadsOn was input) (packet_of n r now.last ∷ []) now left
 StepsAs was input (Ok step.Passed) now left = Tells (ReadsOn was input) [] now left
 StepsAs was input (Ok step.End) now left = Tells (ReadsOn was input) [] now left × ReadsOn was input [] complete × (left ≡ Some [])
-StepsAs was input (Err stop.CutOff) now left = Tells (ReadsOn was input) [] now left × ReadsOn was input [] cut × (left ≡ Some [])
-StepsAs was input (Err (stop.Capture place f)) now left = Tells (ReadsOn was input) [] now left × ReadsOn was input [] (faulty place f)
+StepsAs was input (Err stop.CutOff) now left = Tells (ReadsOn was input) [] now left × ReadsOn was input [] (cut now.state.packets) × (left ≡ Some [])
+StepsAs was input (Err (stop.Capture place f)) now left = Tells (ReadsOn was input) [] now left × ReadsOn was input [] (faulty now.state.packets place f)
 StepsAs was input (Err stop.Read) now left = Tells (ReadsOn was input) [] now left
 StepsAs was input (Err stop.Memory) now left = Tells (ReadsOn was input) [] now left
 
@@ -85,8 +85,8 @@ LeavesRest input left = (taken rest : List ℕ) × (input ≡ taken ++ rest) × 
 -- what is answered where a file is opened, of which this is the input
 abbrev pub OpensAs : List ℕ → Result Reading FileFault → Option (List ℕ) → Type 0
 OpensAs input (Ok now) left = Tells (ReadsFile input) [] now left
-OpensAs input (Err stop.CutOff) left = ReadsFile input [] cut × (left ≡ Some [])
-OpensAs input (Err (stop.Capture place f)) left = ReadsFile input [] (faulty place f) × LeavesRest input left
+OpensAs input (Err stop.CutOff) left = ReadsFile input [] (cut 0) × (left ≡ Some [])
+OpensAs input (Err (stop.Capture place f)) left = ReadsFile input [] (faulty 0 place f) × LeavesRest input left
 OpensAs input (Err stop.Read) left = LeavesRest input left
 OpensAs input (Err stop.Memory) left = LeavesRest input left
 

@@ -91,16 +91,17 @@ packets_in s octets (front.Begun o size) = []
 packets_in s octets (front.Described i size) = []
 packets_in s octets (front.Passed counts size) = []
 
--- how a file ends: with a whole record or block, within one, or where one has a fault, at this place
+-- how a file ends: with a whole record or block; within one, behind so many packets; or where one has a fault, behind so
+-- many packets, at this place
 pub data Ending : Type 0 where
   complete : Ending
-  cut : Ending
-  faulty : ℕ → CaptureFault → Ending
+  cut : ℕ → Ending
+  faulty : ℕ → ℕ → CaptureFault → Ending
 
 abbrev pub EndsAs : State → List ℕ → Ending → Type 0
 EndsAs s octets complete = octets ≡ []
-EndsAs s octets cut = (0 < length octets) × (front_at s octets ≡ Ok front.More)
-EndsAs s octets (faulty place f) = (front_at s octets ≡ Err f) × (place ≡ s.place)
+EndsAs s octets (cut count) = (0 < length octets) × (front_at s octets ≡ Ok front.More) × (count ≡ s.packets)
+EndsAs s octets (faulty count place f) = (front_at s octets ≡ Err f) × (place ≡ s.place) × (count ≡ s.packets)
 
 -- octets are these records or blocks, in order, and then end; they have these packets
 unfoldable pub Reads : List Front → State → List ℕ → List Packet → Ending → Type 0
@@ -111,10 +112,10 @@ Reads (f ∷ fs) s octets packets ending =
 
 -- a file that begins so has these packets, and ends so
 abbrev pub ReadsBehind : Result Opening CaptureFault → List ℕ → List Packet → Ending → Type 0
-ReadsBehind (Ok opening.More) octets packets ending = (packets ≡ []) × (ending ≡ cut)
+ReadsBehind (Ok opening.More) octets packets ending = (packets ≡ []) × (ending ≡ cut 0)
 ReadsBehind (Ok (opening.Opened f size)) octets packets ending =
     (fs : List Front) × Reads fs (new_state f size) (drop size octets) packets ending
-ReadsBehind (Err f) octets packets ending = (packets ≡ []) × (ending ≡ faulty 0 f)
+ReadsBehind (Err f) octets packets ending = (packets ≡ []) × (ending ≡ faulty 0 0 f)
 
 -- the packets of a file, and how it ends
 abbrev pub ReadsFile : List ℕ → List Packet → Ending → Type 0

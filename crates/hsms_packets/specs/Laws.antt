@@ -21,8 +21,8 @@ EachRestIsRead = (r : Reading) (rest : List ℕ) → (packets : List Packet) × 
 -- first in it, and a fault is its fault, at the same place, behind the same packets.
 abbrev pub StaysTold : List Packet → Ending → List Packet → Ending → Type 0
 StaysTold packets complete others other = (rest : List Packet) × (others ≡ packets ++ rest)
-StaysTold packets cut others other = (rest : List Packet) × (others ≡ packets ++ rest)
-StaysTold packets (faulty place f) others other = (others ≡ packets) × (other ≡ faulty place f)
+StaysTold packets (cut count) others other = (rest : List Packet) × (others ≡ packets ++ rest)
+StaysTold packets (faulty count place f) others other = (others ≡ packets) × (other ≡ faulty count place f)
 
 -- more octets behind a file change nothing of what was told
 abbrev pub WhatWasToldStays : Type 0

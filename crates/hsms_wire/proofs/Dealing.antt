@@ -9,7 +9,7 @@ use Rattle.hsms_packets.specs.declared.segment.Segment.{Segment}
 use Rattle.hsms_capture.specs.declared.packet.Side.{Side}
 use Rattle.hsms_capture.specs.Laws.{AreNumbered}
 use Rattle.hsms_capture.specs.Wire.{Seen}
-use Rattle.hsms_accounts.specs.Pair.{IsOfPeer, pairs_at}
+use Rattle.hsms_accounts.specs.Pair.{IsOfPeer, pairs_at, turned}
 use Rattle.hsms_accounts.specs.declared.pair.Pair.{Pair}
 use Rattle.hsms_accounts.specs.contracts.pair.PairPartialEq.TheImpl as same_pair
 use Rattle.hsms_wire.specs.declared.flow.Flow.{Flow}
@@ -21,13 +21,13 @@ use Rattle.hsms_wire.specs.declared.report.Report.{Report}
 use Rattle.hsms_wire.specs.declared.shortfall.Shortfall.{Shortfall}
 use Rattle.hsms_wire.specs.declared.table.Capture.{Capture}
 use Rattle.hsms_wire.specs.declared.table.Table.{Table}
-use Rattle.hsms_wire.specs.Connections.{Connection, Connections, Deals, DealsBy, DealsOf, DealsPacket, EndsAll, EndsWith, Goes, GoesBy, GoesOn, Has, IsGone, IsOpen, IsReplaced, NothingIsLeft, Starts, StartsAny, StartsOne, connection_of, has_one, pair_in, starting}
+use Rattle.hsms_wire.specs.Connections.{Connection, Connections, Deals, DealsBy, DealsOf, DealsPacket, EndsAll, EndsWith, Goes, GoesBy, GoesOn, Has, IsGone, IsOpen, IsReplaced, NothingIsLeft, Starts, StartsAny, StartsOne, connection_of, has_one, pair_in, starting, without}
 use Rattle.hsms_wire.specs.Followed.{seen_waiting}
 use Rattle.hsms_wire.specs.Kept.{AreSame, captured_of, IsOne, IsReport, IsTable, StageStands, TakesAsDealt, UpTo}
 use Rattle.hsms_wire.specs.Report.{Tells}
 use Rattle.hsms_wire.specs.Staged.{EndsFlows, EndsStage, IsBegun, IsForgotten, IsIdle, StageGoes, TakesStage, first_shown}
 use Rattle.hsms_wire.specs.Segments.{has_flow as has_flow_of, pair_among, pair_at}
-use Rattle.hsms_wire.specs.Tabled.{Begins, BeginsFlow, BeginsWith, EndsBefore, FollowsBy, FollowsFlow, HasFlow, IsFollowed, KeepsIf, KeepsOf, LeavesOut, LooksAt, TakesBy, TakesIt, TakesOf, TakesPacket, flow_of, is_live, seen_by}
+use Rattle.hsms_wire.specs.Tabled.{Begins, BeginsFlow, BeginsWith, EndsBefore, FollowsBy, FollowsFlow, HasFlow, IsFollowed, KeepsIf, KeepsOf, LeavesOut, LooksAt, ReplacesFlow, TakesBy, TakesIt, TakesOf, TakesPacket, flow_of, is_live, seen_by}
 
 -- ---- numbers of packets
 
@@ -366,41 +366,54 @@ begun_one a p last number born flow begun = record {
       ((ap (λ (ws : List Waiting). map seen_waiting ws) begun.2, refl, omega arith), omega arith);
 }
 
-abbrev BeginsAs : ℕ → Option IpAddr → ℕ → Pair → ℕ → Table → Table → Report → Report → Connections → Parameters → Parameters → Type 0
-BeginsAs port peer last pair number old new before after all a p =
+abbrev ReplacesAs : ℕ → Option IpAddr → ℕ → Pair → Table → Table → Report → Report → Connections → Parameters → Parameters → Type 0
+ReplacesAs port peer last pair old new before after all a p =
     IsTable port peer a p last old all
-    → (next : Connections) × StartsOne a p pair number all next before after × IsTable port peer a p last new next
+    → IsReplaced a p pair (connection_of all pair) before after × IsTable port peer a p last new (without pair all)
+
+replaces : (port : ℕ) (peer : Option IpAddr) (a p : Parameters) (last : ℕ) (pair : Pair) (old new : Table) (before after : Report) (all : Connections)
+    → IsReport a p before → ReplacesFlow pair old new before after → ReplacesAs port peer last pair old new before after all a p
+replaces port peer a p last pair old new before after all report goes =
+    subst (λ (x : Parameters). ReplacesAs port peer last pair old new before after all a x) report.passive
+    (subst (λ (x : Parameters). ReplacesAs port peer last pair old new before after all x before.passive) report.active at_report)
+  where
+    at_report : ReplacesAs port peer last pair old new before after all before.active before.passive
+    at_report is = (
+      ends_before last pair before after (flow_of old pair) (connection_of all pair) report.verdicts
+          (both_of port peer before.active before.passive last old all pair is) goes.ended,
+      moved port peer before.active before.passive last last old new all (without pair all) is goes.same refl
+          (subst (λ (fs : List (Pair × Flow)). AreSame before.active before.passive last fs (without pair all).known) (sym goes.known)
+          (same_removed before.active before.passive last ((same_pair.ghosts).eq pair) old.flows.entries all.known is.same)),
+    )
 
 begins : (port : ℕ) (peer : Option IpAddr) (a p : Parameters) (last : ℕ) (pair : Pair) (number : ℕ) (old new : Table) (before after : Report) (all : Connections)
-    → IsReport a p before → BeginsFlow pair (Some number) old new before after → BeginsAs port peer last pair number old new before after all a p
-begins port peer a p last pair number old new before after all report goes =
-    subst (λ (x : Parameters). BeginsAs port peer last pair number old new before after all a x) report.passive
-    (subst (λ (x : Parameters). BeginsAs port peer last pair number old new before after all x before.passive) report.active at_report)
-  where
-    at_report : BeginsAs port peer last pair number old new before after all before.active before.passive
-    at_report is =
-        let test = (same_pair.ghosts).eq pair in
-        let same = same_last before.active before.passive last pair (remove_entry test old.flows.entries) (remove_entry test all.known) goes.flow
-        (starting number all.begun) (same_removed before.active before.passive last test old.flows.entries all.known is.same)
-        (subst (λ (n : ℕ). IsOne before.active before.passive last goes.flow (starting number n)) (sym is.begun)
-        (begun_one before.active before.passive last number old.begun goes.flow goes.begun)) in
-        let kept = same_kept before.active before.passive last new.begun (remove_entry test old.flows.entries ++ (pair, goes.flow) ∷ []) new.flows.entries
-        (remove_entry test all.known ++ (pair, starting number all.begun) ∷ []) same goes.known in (
-          record { known = kept.0; begun = new.begun },
-          record {
-            replaced = ends_before last pair before after (flow_of old pair) (connection_of all pair) report.verdicts
-                (both_of port peer before.active before.passive last old all pair is) goes.ended;
-            counted = goes.counted ∙ ap (λ (n : ℕ). min (n + 1) (2 ^ 64 - 1)) (sym is.begun);
-            known = kept.1;
-          },
-          record {
-            port_is = ap (λ (t : Table). t.port) goes.same ∙ is.port_is;
-            peer_is = ap (λ (t : Table). t.peer) goes.same ∙ is.peer_is;
-            joined = ap (λ (t : Table). t.is_joined) goes.same ∙ is.joined;
-            begun = refl;
-            same = kept.2;
-          },
-        )
+    → IsReport a p before → BeginsFlow pair (Some number) old new before after → IsTable port peer a p last old all
+    → (next : Connections) × StartsOne a p pair number all next before after × IsTable port peer a p last new next
+begins port peer a p last pair number old new before after all report goes is =
+    let first = replaces port peer a p last (turned pair) old goes.between before goes.mid all report goes.of_other is in
+    let second = replaces port peer a p last pair goes.between goes.free goes.mid after (without (turned pair) all)
+    (report_then a p before goes.mid report goes.of_other.told) goes.of_pair first.1 in
+    let left = without pair (without (turned pair) all) in
+    let same = same_last a p last pair goes.free.flows.entries left.known goes.flow (starting number all.begun) second.1.same
+    (subst (λ (n : ℕ). IsOne a p last goes.flow (starting number n)) (sym is.begun) (begun_one a p last number old.begun goes.flow goes.begun)) in
+    let kept = same_kept a p last new.begun (goes.free.flows.entries ++ (pair, goes.flow) ∷ []) new.flows.entries
+    (left.known ++ (pair, starting number all.begun) ∷ []) same goes.known in (
+      record { known = kept.0; begun = new.begun },
+      record {
+        mid = goes.mid;
+        of_other = first.0;
+        of_pair = second.0;
+        counted = goes.counted ∙ ap (λ (n : ℕ). min (n + 1) (2 ^ 64 - 1)) (sym is.begun);
+        known = kept.1;
+      },
+      record {
+        port_is = ap (λ (t : Table). t.port) goes.same ∙ is.port_is;
+        peer_is = ap (λ (t : Table). t.peer) goes.same ∙ is.peer_is;
+        joined = ap (λ (t : Table). t.is_joined) goes.same ∙ is.joined;
+        begun = refl;
+        same = kept.2;
+      },
+    )
 
 -- ---- a packet of the capture
 
@@ -478,7 +491,7 @@ deals port peer a p last pair from segment s old new before after all report pas
     by_syn None begun ended joins begins_it goes = absurd (never_joins old is.joined joins.0)
     by_syn (Some number) begun ended with_it begins_it goes =
         let one = begins port peer a p last pair number old begun before ended all report begins_it is in
-        let on = follows port peer a p last pair s begun new ended after one.0 (report_then a p before ended report begins_it.told) past goes one.2 in (
+        let on = follows port peer a p last pair s begun new ended after one.0 (report_then a p begins_it.mid ended (report_then a p before begins_it.mid report begins_it.of_other.told) begins_it.of_pair.told) past goes one.2 in (
           on.0,
           inl (number, one.0, ended, starts port peer a p last pair from segment number old all is with_it, one.1, on.1),
           on.2,

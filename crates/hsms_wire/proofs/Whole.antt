@@ -237,15 +237,16 @@ ends_complete first from old before out was now left new table after put st so s
     ends_with first from old before out was left table after put None complete so refl (λ input told. (steps input told).1)
 
 pub ends_faulty : (first : Reading) (from : Option (List ℕ)) (old : Table) (before : Report) (out : Option (List ℕ)) (was now : Reading) (left new : Option (List ℕ))
-    (table : Table) (after : Report) (put : Option (List ℕ)) (fault : FileFault) (packets : ℕ) (shortfall : Shortfall)
+    (table : Table) (after : Report) (put : Option (List ℕ)) (fault : FileFault) (shortfall : Shortfall)
     → IsSoFar first from old before out was left table after put → WhereTold left (λ input. StepsAs was input (Err fault) now new)
-    → IsMissingBy fault packets (Ok shortfall) → ReadsAsDealt first (Some shortfall) from old table before after out put
-ends_faulty first from old before out was now left new table after put file.CutOff packets shortfall so steps missing =
-    ends_with first from old before out was left table after put (Some shortfall) cut so (_, ap Some missing.2) (λ input told. (steps input told).1)
-ends_faulty first from old before out was now left new table after put (file.Capture place f) packets shortfall so steps missing =
-    ends_with first from old before out was left table after put (Some shortfall) (faulty place f) so (_, ap Some missing.2) (λ input told. (steps input told).1)
-ends_faulty first from old before out was now left new table after put file.Read packets shortfall so steps missing = absurd (missing.0 refl)
-ends_faulty first from old before out was now left new table after put file.Memory packets shortfall so steps missing = absurd (missing.1 refl)
+    → IsMissingBy fault now.state.packets (Ok shortfall) → ReadsAsDealt first (Some shortfall) from old table before after out put
+ends_faulty first from old before out was now left new table after put file.CutOff shortfall so steps missing =
+    ends_with first from old before out was left table after put (Some shortfall) (cut now.state.packets) so (ap Some missing.2) (λ input told. (steps input told).1)
+ends_faulty first from old before out was now left new table after put (file.Capture place f) shortfall so steps missing =
+    ends_with first from old before out was left table after put (Some shortfall) (faulty now.state.packets place f) so (ap Some missing.2)
+    (λ input told. (steps input told).1)
+ends_faulty first from old before out was now left new table after put file.Read shortfall so steps missing = absurd (missing.0 refl)
+ends_faulty first from old before out was now left new table after put file.Memory shortfall so steps missing = absurd (missing.1 refl)
 
 -- at a packet that lacks something
 pub stops_so : (first : Reading) (from : Option (List ℕ)) (old : Table) (before : Report) (out : Option (List ℕ)) (was now : Reading) (left new : Option (List ℕ))
@@ -389,8 +390,8 @@ captures_none options fault shortfall first table from left out now (Ok well) Is
   where
     by_fault : (input : List ℕ) (f : FileFault) → OpensAs input (Err f) left → IsMissingBy f 0 (Ok shortfall)
         → (ending : Ending) × ReadsFile input [] ending × LacksBy ending (Some shortfall)
-    by_fault input file.CutOff opens missing = (cut, opens.0, (_, ap Some missing.2))
-    by_fault input (file.Capture place f) opens missing = (faulty place f, opens.0, (_, ap Some missing.2))
+    by_fault input file.CutOff opens missing = (cut 0, opens.0, ap Some missing.2)
+    by_fault input (file.Capture place f) opens missing = (faulty 0 place f, opens.0, ap Some missing.2)
     by_fault input file.Read opens missing = absurd (missing.0 refl)
     by_fault input file.Memory opens missing = absurd (missing.1 refl)
 captures_none options fault shortfall first table from left out now (Err stop) IsTold blank of_it none opens missing finishes = tt

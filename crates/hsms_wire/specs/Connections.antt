@@ -8,7 +8,7 @@ use Rattle.hsms_packets.specs.declared.segment.Segment.{Segment}
 use Rattle.hsms_capture.specs.declared.packet.Side.{Side}
 use Rattle.hsms_capture.specs.Known.{seen_of}
 use Rattle.hsms_capture.specs.Wire.{Seen}
-use Rattle.hsms_accounts.specs.Pair.{IsOfPeer, pairs_at}
+use Rattle.hsms_accounts.specs.Pair.{IsOfPeer, pairs_at, turned}
 use Rattle.hsms_accounts.specs.declared.pair.Pair.{Pair}
 use Rattle.hsms_accounts.specs.contracts.pair.PairPartialEq.TheImpl as same_pair
 use Rattle.hsms_wire.specs.declared.report.Report.{Report}
@@ -24,7 +24,7 @@ pub record Connection : Type 0 where
   pub born : ℕ
   pub packets : Option (List Seen)
 
--- of each pair the last one, in the order in which they began, and how many have begun
+-- of each two ends the last one, whichever of them connected, in the order in which they began, and how many have begun
 pub record Connections : Type 0 where
   pub known : List (Pair × Connection)
   pub begun : ℕ
@@ -66,10 +66,16 @@ abbrev pub IsReplaced : Parameters → Parameters → Pair → Option Connection
 IsReplaced a p pair None old new = new ≡ old
 IsReplaced a p pair (Some one) old new = EndsWith a p pair true None one.number one.packets old new
 
+abbrev pub without : Pair → Connections → Connections
+without pair all = record all { known = remove_entry ((same_pair.ghosts).eq pair) all.known }
+
+-- of its two ends it is the connection, whichever of them connected before
 pub record StartsOne (a p : Parameters) (pair : Pair) (number : ℕ) (old new : Connections) (before after : Report) : Type 0 where
-  pub replaced : IsReplaced a p pair (connection_of old pair) before after
+  pub mid : Report
+  pub of_other : IsReplaced a p (turned pair) (connection_of old (turned pair)) before mid
+  pub of_pair : IsReplaced a p pair (connection_of (without (turned pair) old) pair) mid after
   pub counted : new.begun ≡ min (old.begun + 1) (2 ^ 64 - 1)
-  pub known : KeepsOf IsGone new.begun (remove_entry ((same_pair.ghosts).eq pair) old.known ++ (pair, starting number old.begun) ∷ []) new.known
+  pub known : KeepsOf IsGone new.begun ((without pair (without (turned pair) old)).known ++ (pair, starting number old.begun) ∷ []) new.known
 
 -- ---- one packet more
 

@@ -1,5 +1,5 @@
 -- What is told of a capture file, packet by packet.
-use Rattle.std.specs.Prelude.{◌≡◌, ◌⊎◌, ◌++◌, ◌∷◌, ℕ, Bool, true, List, [], Option, Some, None, is_some}
+use Rattle.std.specs.Prelude.{◌≡◌, ◌⊎◌, ◌+◌, ◌-◌, ◌^◌, ◌++◌, ◌∷◌, min, ℕ, Bool, true, List, [], Option, Some, None, is_some}
 use Rattle.std.specs.declared.net.ip_addr.IpAddr.{IpAddr}
 use Rattle.hsms_frame.specs.Device.{Grows}
 use Rattle.hsms_machine.specs.Settings.{Parameters}
@@ -52,11 +52,15 @@ DealsEach w (p ∷ ps) old new before after out now =
     (mid : Connections) × (told : Report) × (next : Report) × (put : Option (List ℕ)) × DealsOne w p None old mid before told × PutsOut told next out put
     × DealsEach w ps mid new next after put now
 
--- what is missing of a file, by how it ends
+-- what is missing of a file, by how it ends, from the packet behind those that were passed on; counts stay at their greatest
+-- value
+abbrev pub next_packet : ℕ → ℕ
+next_packet count = min (count + 1) (2 ^ 64 - 1)
+
 abbrev pub LacksBy : Ending → Option Shortfall → Type 0
 LacksBy complete missing = missing ≡ None
-LacksBy cut missing = (packet : ℕ) × (missing ≡ Some (lacks.File stop.CutOff packet))
-LacksBy (faulty place fault) missing = (packet : ℕ) × (missing ≡ Some (lacks.File (stop.Capture place fault) packet))
+LacksBy (cut count) missing = missing ≡ Some (lacks.File stop.CutOff (next_packet count))
+LacksBy (faulty count place fault) missing = missing ≡ Some (lacks.File (stop.Capture place fault) (next_packet count))
 
 -- all of them, and what is missing of the file; or up to one that lacks something, behind which nothing can be told
 abbrev pub DealsUpTo : Wanted → List Packet → Ending → Option Shortfall → Connections → Connections → Report → Report → Option (List ℕ) → Option (List ℕ) → Type 0

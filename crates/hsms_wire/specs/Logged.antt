@@ -7,7 +7,6 @@ use Rattle.hsms_machine.specs.declared.entry.Entry.{Entry as LogEntry}
 use Rattle.hsms_machine.specs.declared.entry.Event.{Event as LogEvent}
 use Rattle.hsms_machine.specs.declared.entry.Event.TheVariants as logs_event
 use Rattle.hsms_log.specs.Spelling.{message_octets}
-use Rattle.hsms_log.specs.Verdict.{Judges}
 use Rattle.hsms_capture.specs.declared.ending.Ending.{Ending}
 use Rattle.hsms_capture.specs.declared.packet.Side.{Side}
 use Rattle.hsms_capture.specs.declared.packet.Side.TheVariants as side
@@ -17,7 +16,7 @@ use Rattle.hsms_capture.specs.Losses.{side_of}
 use Rattle.hsms_capture.specs.Finished.{ended}
 use Rattle.hsms_capture.specs.Time.{time_at}
 use Rattle.hsms_capture.specs.Told.{Told, up, message, down, Entry, tells}
-use Rattle.hsms_accounts.specs.Account.{Note, log_text}
+use Rattle.hsms_accounts.specs.Account.{Note, SaysOf}
 use Rattle.hsms_accounts.specs.Ends.{event_of, is_no_message, note_of}
 use Rattle.hsms_accounts.specs.declared.account.Remark.TheVariants as remark
 use Rattle.hsms_accounts.specs.declared.account.Told.{Told as Judged}
@@ -123,12 +122,13 @@ abbrev pub replaced_at : Bool → ℕ → List Note
 replaced_at true time = note_of remark.Replaced time logs_event.Down ∷ []
 replaced_at false time = []
 
--- what is said of the log of an end: the verdict of the audit, where something is told of the connection
+-- what is said of the log of an end: the verdict of the audit, with the packet of the line that fails, where something is
+-- told of the connection
 abbrev pub JudgedIf : Bool → Parameters → (ℕ → Entry → ℕ) → Side → List Entry → Bool → Option Judged → Type 0
 JudgedIf false settings clock side es replaced judged = judged ≡ None
 JudgedIf true settings clock side es replaced judged =
     (says : Judged) × (notes : List Note) × (last : ℕ) × (judged ≡ Some says) × AreEntries clock side 0 es notes last
-    × Judges (log_text settings (notes ++ replaced_at replaced last)) says.verdict
+    × SaysOf settings (notes ++ replaced_at replaced last) says
 
 -- ---- what is told of a connection
 

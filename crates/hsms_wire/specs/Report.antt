@@ -3,7 +3,6 @@ use Rattle.std.specs.Prelude.{◌≡◌, ◌⊎◌, ◌++◌, ℕ, [], ◌∷◌
 use Rattle.hsms_frame.specs.Device.{Grows}
 use Rattle.hsms_machine.specs.Settings.{Parameters}
 use Rattle.hsms_machine.specs.declared.settings.Role.{Role}
-use Rattle.hsms_log.specs.Verdict.{Judges}
 use Rattle.hsms_log.specs.declared.verdict.Verdict.{Verdict}
 use Rattle.hsms_log.specs.declared.verdict.Verdict.TheVariants.{Pass, Fail}
 use Rattle.hsms_capture.specs.declared.packet.Side.{Side}
@@ -11,7 +10,7 @@ use Rattle.hsms_capture.specs.declared.packet.Side.TheVariants.{Active, Passive}
 use Rattle.hsms_wire.specs.LeftOut.{line_of}
 use Rattle.hsms_wire.specs.Line.{end_line_of}
 use Rattle.hsms_wire.specs.Stop.{TellsShortfall}
-use Rattle.hsms_accounts.specs.Account.{HasLogged, Note, Standing, log_text}
+use Rattle.hsms_accounts.specs.Account.{HasLogged, Note, SaysOf, Standing}
 use Rattle.hsms_accounts.specs.declared.account.Told.{Told}
 use Rattle.hsms_accounts.specs.declared.ends.Ends.{Ends}
 use Rattle.hsms_accounts.specs.declared.pair.Pair.{Pair}
@@ -41,10 +40,10 @@ abbrev pub failed_after : Bool → Option Told → Bool
 failed_after failed None = failed
 failed_after failed (Some told) = failed_after_verdict failed told.verdict
 
--- the verdict is that of the audit on the log of an end
+-- the verdict is that of the audit on the log of an end, with the packet of the line that fails
 abbrev pub IsVerdictOn : Standing → Told → Type 0
 IsVerdictOn account told =
-    (settings : Parameters) (notes : List Note) → HasLogged settings notes account → Judges (log_text settings notes) told.verdict
+    (settings : Parameters) (notes : List Note) → HasLogged settings notes account → SaysOf settings notes told
 
 -- what is told of a connection: its addresses, what it lacks, and what the audit says of the logs of both ends, where it
 -- came up

@@ -6,7 +6,7 @@ use Rattle.hsms_packets.specs.declared.segment.Segment.{Segment}
 use Rattle.hsms_capture.specs.declared.packet.Side.{Side}
 use Rattle.hsms_capture.specs.Known.{seen_of}
 use Rattle.hsms_capture.specs.Wire.{Seen}
-use Rattle.hsms_accounts.specs.Pair.{IsOfPeer, has_syn}
+use Rattle.hsms_accounts.specs.Pair.{IsOfPeer, has_syn, turned}
 use Rattle.hsms_accounts.specs.declared.pair.Pair.{Pair}
 use Rattle.hsms_accounts.specs.contracts.pair.PairPartialEq.TheImpl as same_pair
 use Rattle.hsms_wire.specs.declared.flow.Flow.{Flow}
@@ -74,14 +74,25 @@ KeepsIf false Forgotten all kept = kept ≡ all
 abbrev pub KeepsOf : {X : Type 0} → (X → ℕ → Type 0) → ℕ → List (Pair × X) → List (Pair × X) → Type 0
 KeepsOf Forgotten begun all kept = KeepsIf (begun % 4096 == 0) (λ one. Forgotten one begun) all kept
 
--- Of its pair it is the connection, and the last one of all that are known.
-pub record BeginsFlow (pair : Pair) (syn : Option ℕ) (old new : Table) (before after : Report) : Type 0 where
+-- and isn't known any more
+pub record ReplacesFlow (pair : Pair) (old new : Table) (before after : Report) : Type 0 where
   pub ended : EndsBefore (flow_of old pair) pair before after
   pub told : Tells before after
+  pub gone : flow_of new pair ≡ None
+  pub known : new.flows.entries ≡ remove_entry ((same_pair.ghosts).eq pair) old.flows.entries
+  pub same : new ≡ record old { flows = new.flows }
+
+-- Of its two ends it is the connection, whichever of them connected before, and the last one of all that are known.
+pub record BeginsFlow (pair : Pair) (syn : Option ℕ) (old new : Table) (before after : Report) : Type 0 where
+  pub between : Table
+  pub mid : Report
+  pub free : Table
+  pub of_other : ReplacesFlow (turned pair) old between before mid
+  pub of_pair : ReplacesFlow pair between free mid after
   pub flow : Flow
   pub begun : IsBegun syn old.begun flow
   pub counted : new.begun ≡ min (old.begun + 1) (2 ^ 64 - 1)
-  pub known : KeepsOf IsForgotten new.begun (remove_entry ((same_pair.ghosts).eq pair) old.flows.entries ++ (pair, flow) ∷ []) new.flows.entries
+  pub known : KeepsOf IsForgotten new.begun (free.flows.entries ++ (pair, flow) ∷ []) new.flows.entries
   pub same : new ≡ record old { flows = new.flows; begun = new.begun }
 
 -- ---- what becomes of them with a segment

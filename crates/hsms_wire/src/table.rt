@@ -30,7 +30,7 @@ pub struct Capture<'a> {
     pub octets: &'a [u8],
 }
 
-/// The connections at a port, by the addresses of their ends: of each pair the last one.
+/// The connections at a port, by the addresses of their ends: of each two ends the last one.
 pub struct Table {
     port: u16,
     // the address that one end of each has, if it is known
@@ -63,7 +63,7 @@ impl Table {
     ghost use Rattle.hsms_wire.specs.Report.{Tells};
     ghost use Rattle.hsms_wire.specs.Segments.{pair_at};
     ghost use Rattle.hsms_wire.specs.Staged.{EndsFlows, IsForgotten};
-    ghost use Rattle.hsms_wire.specs.Tabled.{BeginsFlow, BeginsWith, FollowsFlow, HasFlow, Joins, KeepsOf, TakesOf, TakesPacket, is_live};
+    ghost use Rattle.hsms_wire.specs.Tabled.{BeginsFlow, BeginsWith, FollowsFlow, HasFlow, Joins, KeepsOf, ReplacesFlow, TakesOf, TakesPacket, is_live};
 
     /// No connection, at this port of passive ends, with an end of this address, where there is one; those that were
     /// running before the capture are looked at or not.
@@ -240,7 +240,20 @@ impl Table {
         Some(flow)
     }
 
-    // Begins a connection of a pair, with a SYN of this number if there is one, and ends the one before.
+    // Ends the connection of a pair, since another one replaces it.
+    #[tactic(auto, using(crate::proofs::Tellings::tells_nothing, crate::proofs::Tellings::tells_then, crate::proofs::Tellings::ok_then))]
+    fn replace(&mut self, alloc: Global, report: &mut Report, pair: &Pair) -> Result<(), Stop>
+        ensures told { OnOk result (Tells report.old report.new) }
+        ensures replaces { OnOk result (ReplacesFlow pair.now self.old self.new report.old report.new) }
+    {
+        if let Some(before) = self.flows.shift_remove(pair) {
+            before.stage.end(alloc, report, pair, true, None)?;
+        }
+        Ok(())
+    }
+
+    // Begins a connection of a pair, with a SYN of this number if there is one, and ends the one before, whichever of its
+    // ends connected.
     #[tactic(auto, using(crate::proofs::Tellings::tells_nothing, crate::proofs::Tellings::tells_then, crate::proofs::Tellings::ok_then))]
     fn begin(
         &mut self,
@@ -252,9 +265,8 @@ impl Table {
         ensures told { OnOk result (Tells report.old report.new) }
         ensures begins { OnOk result (BeginsFlow pair syn self.old self.new report.old report.new) }
     {
-        if let Some(before) = self.flows.shift_remove(&pair) {
-            before.stage.end(alloc, report, &pair, true, None)?;
-        }
+        self.replace(alloc, report, &pair.turned())?;
+        self.replace(alloc, report, &pair)?;
         let flow = Flow::new(alloc, syn, self.begun);
         if self.flows.insert(pair, flow).is_err() {
             return Err(Stop::Memory);

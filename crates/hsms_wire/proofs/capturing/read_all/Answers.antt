@@ -1,6 +1,8 @@
-use Rattle.std.proofs.Common.{ℕ, List, take, drop, ap, subst, sym, ◌∙◌, arith, refl, rules}
+use Rattle.std.proofs.Common.{ℕ, List, take, drop, Ok, ap, subst, sym, ◌∙◌, arith, refl, rules}
 use Rattle.hsms_packets.specs.declared.packets.Step.{Step}
 use Rattle.hsms_packets.specs.Blocks.{CountsOn}
+use Rattle.hsms_packets.specs.File.{State}
+use Rattle.hsms_wire.specs.Capturing.{IsMissingBy}
 use Rattle.hsms_wire.proofs.Tellings.{writes_nothing, writes_then}
 use Rattle.hsms_wire.proofs.Whole.{begins_so, counts_packet, counts_passed, ends_complete, ends_faulty, goes_so, passes_so, stops_so}
 use Rattle.hsms_wire.proofs.Written.{none_more, some_more}
@@ -79,4 +81,6 @@ returns-in-End-clause-deals g c =
 pub returns-in-Err-clause-deals : goal.returns-in-Err-clause-deals
 returns-in-Err-clause-deals g c =
     ends_faulty c.args.packets _ c.args.table.now c.args.report.now _ c.loop.packets c.next.new.self _ _ c.loop.table c.loop.report _ c.in-Err.fault
-    c.packets-in-Err.result c.in_ok-missing_by-in-Err.field-0 c.loop.invariant.5 c.in-Err.ensures.step c.in_ok-missing_by-in-Err.ensures
+    c.in_ok-missing_by-in-Err.field-0 c.loop.invariant.5 c.in-Err.ensures.step
+    (subst (λ (n : ℕ). IsMissingBy c.in-Err.fault n (Ok c.in_ok-missing_by-in-Err.field-0))
+    (c.packets-in-Err.ensures ∙ ap (λ (s : State). s.packets) c.reader.ensures) c.in_ok-missing_by-in-Err.ensures)

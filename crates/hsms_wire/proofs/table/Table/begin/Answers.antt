@@ -1,19 +1,14 @@
-use Rattle.std.proofs.Common.{◌≡◌, ◌++◌, ◌∷◌, ℕ, false, List, [], Option, sym, ap, subst, ◌∙◌}
+use Rattle.std.proofs.Common.{◌≡◌, ◌+◌, ◌-◌, ◌^◌, ◌++◌, ◌∷◌, ℕ, min, false, List, [], sym, ap, subst, ◌∙◌}
 use Rattle.std.specs.Prelude.{Result, Ok, Err, OnOk}
 use Rattle.std.specs.Result.{is_err}
-use Rattle.std.specs.Map.{remove_entry}
 use Rattle.indexmap.proofs.CallerLemmas.{insert_entry-new}
 use Rattle.hsms_accounts.specs.declared.pair.Pair.{Pair}
 use Rattle.hsms_accounts.specs.contracts.pair.PairPartialEq.TheImpl as same_pair
 use Rattle.hsms_wire.specs.declared.flow.Flow.{Flow}
-use Rattle.hsms_wire.specs.declared.report.Report.{Report}
 use Rattle.hsms_wire.specs.declared.table.Table.{Table}
-use Rattle.hsms_wire.specs.Report.{Tells}
-use Rattle.hsms_wire.specs.Staged.{IsForgotten}
-use Rattle.hsms_wire.specs.Tabled.{EndsBefore, KeepsOf, flow_of}
-use Rattle.hsms_wire.proofs.Tellings.{tells_nothing}
+use Rattle.hsms_wire.specs.Staged.{IsBegun, IsForgotten}
+use Rattle.hsms_wire.specs.Tabled.{KeepsOf, ReplacesFlow}
 use Rattle.hsms_wire.proofs.table.Table.begin.Goals as goal
-use Rattle.hsms_wire.proofs.table.Table.begin.Goals.{in-Some+in_ok-end, in_default}
 
 ok_given : {T E : Type 0} (P : Type 0) (r : Result T E) → is_err r ≡ false → OnOk r P → P
 ok_given P (Ok x) is ok = ok
@@ -23,31 +18,27 @@ pub returns-clause-begins : goal.returns-clause-begins
 returns-clause-begins c =
     let old = c.args.self.now in
     let pair = c.args.pair in
-    let test = (same_pair.ghosts).eq pair in
-    let removed = c.shift_remove.new.self in
-    let kept : c.insert.new.self.entries ≡ remove_entry test old.flows.entries ++ (pair, c.new-flow.result) ∷ [] =
+    let flow = c.new-flow.result in
+    let of_other = c.in_ok-replace.ensures.replaces in
+    let of_pair = c.in_ok-replace-2.ensures.replaces in
+    let free = c.replace-2.new.self in
+    let kept : c.insert.new.self.entries ≡ free.flows.entries ++ (pair, flow) ∷ [] =
     ok_given _ c.insert.result (sym c.is_err.ensures.value ∙ c.if-is_err.false) c.insert.ensures.entries
-    ∙ insert_entry-new (same_pair.ghosts).eq removed pair c.new-flow.result c.shift_remove.ensures.updates.1
-    ∙ ap (λ (es : List (Pair × Flow)). es ++ (pair, c.new-flow.result) ∷ []) c.shift_remove.ensures.entries in
+    ∙ insert_entry-new (same_pair.ghosts).eq free.flows pair flow of_pair.gone in
+    let begun : free.begun ≡ old.begun = ap (λ (t : Table). t.begun) of_pair.same ∙ ap (λ (t : Table). t.begun) of_other.same in
     let counted = ap (λ (t : Table). t.begun) c.forget.ensures.same in record {
-      ended = elim c.match-shift_remove.branch [
-        | in-Some+in_ok-end w ↦
-            subst (λ (r : Report). EndsBefore (flow_of old pair) pair c.args.report.now r) (sym w.report-is)
-            (subst (λ (f : Option Flow). EndsBefore f pair c.args.report.now w.end.new.report) (sym w.in-Some.is ∙ c.shift_remove.ensures.value)
-            w.in_ok-end.ensures.ends)
-        | in_default w ↦
-            subst (λ (f : Option Flow). EndsBefore f pair c.args.report.now c.match-shift_remove.report)
-            (sym w.in_default.is ∙ c.shift_remove.ensures.value) w.report-is
-      ];
-      told = elim c.match-shift_remove.branch [
-        | in-Some+in_ok-end w ↦ subst (λ (r : Report). Tells c.args.report.now r) (sym w.report-is) w.in_ok-end.ensures.told
-        | in_default w ↦ subst (λ (r : Report). Tells c.args.report.now r) (sym w.report-is) (tells_nothing c.args.report.now)
-      ];
-      flow = c.new-flow.result;
-      begun = c.new-flow.ensures;
-      counted = counted ∙ c.saturating_add-self.ensures;
-      known = subst (λ (n : ℕ). KeepsOf IsForgotten n (remove_entry test old.flows.entries ++ (pair, c.new-flow.result) ∷ []) c.forget.new.self.flows.entries)
-          (sym counted)
+      between = c.replace.new.self;
+      mid = c.replace.new.report;
+      free = free;
+      of_other = subst (λ (p : Pair). ReplacesFlow p old c.replace.new.self c.args.report.now c.replace.new.report) c.turned.ensures of_other;
+      of_pair = of_pair;
+      flow = flow;
+      begun = subst (λ (n : ℕ). IsBegun c.args.syn n flow) begun c.new-flow.ensures;
+      counted = counted ∙ c.saturating_add-self.ensures ∙ ap (λ (n : ℕ). min (n + 1) (2 ^ 64 - 1)) begun;
+      known = subst (λ (n : ℕ). KeepsOf IsForgotten n (free.flows.entries ++ (pair, flow) ∷ []) c.forget.new.self.flows.entries) (sym counted)
           (subst (λ (es : List (Pair × Flow)). KeepsOf IsForgotten c.saturating_add-self.result es c.forget.new.self.flows.entries) kept c.forget.ensures.known);
-      same = c.forget.ensures.same ∙ ap (λ (n : ℕ). record old { flows = c.forget.new.self.flows; begun = n }) (sym counted);
+      same = c.forget.ensures.same
+          ∙ ap (λ (t : Table). record t { flows = c.forget.new.self.flows; begun = c.saturating_add-self.result }) of_pair.same
+          ∙ ap (λ (t : Table). record t { flows = c.forget.new.self.flows; begun = c.saturating_add-self.result }) of_other.same
+          ∙ ap (λ (n : ℕ). record old { flows = c.forget.new.self.flows; begun = n }) (sym counted);
     }

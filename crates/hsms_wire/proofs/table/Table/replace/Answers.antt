@@ -1,0 +1,32 @@
+use Rattle.std.proofs.Common.{◌≡◌, Option, refl, sym, subst, ◌∙◌}
+use Rattle.hsms_accounts.specs.declared.pair.Pair.{Pair}
+use Rattle.hsms_wire.specs.declared.flow.Flow.{Flow}
+use Rattle.hsms_wire.specs.declared.report.Report.{Report}
+use Rattle.hsms_wire.specs.declared.table.Table.{Table}
+use Rattle.hsms_wire.specs.Report.{Tells}
+use Rattle.hsms_wire.specs.Tabled.{EndsBefore, flow_of}
+use Rattle.hsms_wire.proofs.Tellings.{tells_nothing}
+use Rattle.hsms_wire.proofs.table.Table.replace.Goals as goal
+use Rattle.hsms_wire.proofs.table.Table.replace.Goals.{in-Some+in_ok-end, in_default}
+
+pub returns-clause-replaces : goal.returns-clause-replaces
+returns-clause-replaces c =
+    let old = c.args.self.now in
+    let pair = c.args.pair.now in record {
+      ended = elim c.match-shift_remove.branch [
+        | in-Some+in_ok-end w ↦
+            subst (λ (r : Report). EndsBefore (flow_of old pair) pair c.args.report.now r) (sym w.report-is)
+            (subst (λ (f : Option Flow). EndsBefore f pair c.args.report.now w.end.new.report) (sym w.in-Some.is ∙ c.shift_remove.ensures.value)
+            w.in_ok-end.ensures.ends)
+        | in_default w ↦
+            subst (λ (f : Option Flow). EndsBefore f pair c.args.report.now c.match-shift_remove.report)
+            (sym w.in_default.is ∙ c.shift_remove.ensures.value) w.report-is
+      ];
+      told = elim c.match-shift_remove.branch [
+        | in-Some+in_ok-end w ↦ subst (λ (r : Report). Tells c.args.report.now r) (sym w.report-is) w.in_ok-end.ensures.told
+        | in_default w ↦ subst (λ (r : Report). Tells c.args.report.now r) (sym w.report-is) (tells_nothing c.args.report.now)
+      ];
+      gone = c.shift_remove.ensures.updates.1;
+      known = c.shift_remove.ensures.entries;
+      same = refl;
+    }
