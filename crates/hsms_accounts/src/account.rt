@@ -67,13 +67,14 @@ impl Model for Account {
 }
 
 impl Account {
-    ghost use Rattle.std.specs.Prelude.{◌≡◌, ◌≤◌, ◌++◌, [], ◌∷◌, List, ℕ, IfOk, IfSome, IsTrue, OnOk, OnErr, IsSome, None, Some};
+    ghost use Rattle.std.specs.Prelude.{◌≡◌, ◌≤◌, ◌++◌, [], ◌∷◌, List, ℕ, IfErr, IfOk, IfSome, IsTrue, OnOk, OnErr, IsSome, None, Some};
     ghost use Rattle.hsms_log.specs.Auditor.{CanHear, IsBetween};
     ghost use Rattle.hsms_log.specs.Spelling.{IsComment, entry_line};
     ghost use Rattle.hsms_log.specs.Verdict.{Judges};
     ghost use Rattle.hsms_machine.specs.Settings.{Parameters};
     ghost use Rattle.hsms_accounts.specs.Account.{HasLogged, Hears, Note, log_text, remark_text};
     ghost use Rattle.hsms_accounts.specs.Ends.{Adds, remark_alone};
+    ghost use Rattle.hsms_accounts.specs.Stop.{IsNoRefusal};
 
     /// The log of an end with these settings, without an entry.
     ///
@@ -82,7 +83,8 @@ impl Account {
     /// `Memory`.
     #[tactic(auto, using(crate::proofs::Logs::begins))]
     pub fn new(alloc: Global, settings: &Settings) -> Result<Account, Stop>
-        ensures { IfOk result (HasLogged settings.now []) }
+        ensures begins { IfOk result (HasLogged settings.now []) }
+        ensures unrefused { IfErr result IsNoRefusal }
     {
         let mut account = Account {
             auditor: Some(Auditor::new(alloc)),
@@ -106,6 +108,7 @@ impl Account {
         ensures added { OnOk result (Adds (record { remark = remark; entry = Some entry.now }) self.old self.new) }
         ensures there { OnOk result (IsSome self.old.auditor) }
         ensures gone { OnErr result (self.new.auditor ≡ None) }
+        ensures unrefused { IfErr result IsNoRefusal }
     {
         self.packet = packet_of(remark, self.packet);
         self.comment(alloc, remark)?;
@@ -122,6 +125,7 @@ impl Account {
         ensures added { OnOk result (Adds (remark_alone remark) self.old self.new) }
         ensures there { OnOk result (IsSome self.old.auditor) }
         ensures gone { OnErr result (self.new.auditor ≡ None) }
+        ensures unrefused { IfErr result IsNoRefusal }
     {
         self.comment(alloc, remark)
     }
@@ -157,6 +161,7 @@ impl Account {
         ensures heard { OnOk result (Hears (remark_text remark) self.old self.new) }
         ensures there { OnOk result (IsSome self.old.auditor) }
         ensures gone { OnErr result (self.new.auditor ≡ None) }
+        ensures unrefused { IfErr result IsNoRefusal }
     {
         if self.is_between() {
             return self.pass_comment();
@@ -173,6 +178,7 @@ impl Account {
         ensures heard { OnOk result (Hears (entry_line entry.now ++ 10 ∷ []) self.old self.new) }
         ensures there { OnOk result (IsSome self.old.auditor) }
         ensures gone { OnErr result (self.new.auditor ≡ None) }
+        ensures unrefused { IfErr result IsNoRefusal }
     {
         if self.can_hear(entry) {
             return self.tell(entry);
@@ -210,6 +216,7 @@ impl Account {
         ensures heard { OnOk result ((comment : List ℕ) → IsComment comment → Hears (comment ++ 10 ∷ []) self.old self.new) }
         ensures there { OnOk result (IsSome self.old.auditor) }
         ensures gone { OnErr result (self.new.auditor ≡ None) }
+        ensures unrefused { IfErr result IsNoRefusal }
     {
         if self.lines >= GREATEST {
             return Err(self.give_up(Stop::Endless));
@@ -228,6 +235,7 @@ impl Account {
         ensures heard { OnOk result (Hears (entry_line entry.now ++ 10 ∷ []) self.old self.new) }
         ensures there { OnOk result (IsSome self.old.auditor) }
         ensures gone { OnErr result (self.new.auditor ≡ None) }
+        ensures unrefused { IfErr result IsNoRefusal }
     {
         if self.lines >= GREATEST {
             return Err(self.give_up(Stop::Endless));
@@ -253,6 +261,7 @@ impl Account {
         ensures heard { OnOk result (Hears octets.now self.old self.new) }
         ensures there { OnOk result (IsSome self.old.auditor) }
         ensures gone { OnErr result (self.new.auditor ≡ None) }
+        ensures unrefused { IfErr result IsNoRefusal }
     {
         let Some(auditor) = self.auditor.take() else {
             return Err(Stop::Memory);
