@@ -3,3 +3,4 @@ pub mod Pair
 pub mod Account
 pub mod Ends
 pub mod JournalLog
+pub mod Stop

@@ -70,12 +70,13 @@ impl Model for Account {
 }
 
 impl Account {
-    ghost use Rattle.std.specs.Prelude.{◌≡◌, ◌≤◌, ◌++◌, [], ◌∷◌, List, ℕ, IfOk, IfSome, IsTrue, OnOk, OnErr, IsSome, None, Some};
+    ghost use Rattle.std.specs.Prelude.{◌≡◌, ◌≤◌, ◌++◌, [], ◌∷◌, List, ℕ, IfErr, IfOk, IfSome, IsTrue, OnOk, OnErr, IsSome, None, Some};
     ghost use Rattle.hsms_log.specs.Auditor.{CanHear, IsBetween};
     ghost use Rattle.hsms_log.specs.Spelling.{IsComment, entry_line};
     ghost use Rattle.hsms_machine.specs.Settings.{Parameters};
     ghost use Rattle.hsms_accounts.specs.Account.{HasLogged, Hears, Note, SaysOf, remark_text};
     ghost use Rattle.hsms_accounts.specs.Ends.{Adds, remark_alone};
+    ghost use Rattle.hsms_accounts.specs.Stop.{IsNoRefusal};
 
     /// The log of an end with these settings, without an entry.
     ///
@@ -84,7 +85,8 @@ impl Account {
     /// `Memory`.
     #[tactic(auto, using(crate::proofs::Logs::begins))]
     pub fn new(alloc: Global, settings: &Settings) -> Result<Account, Stop>
-        ensures { IfOk result (HasLogged settings.now []) }
+        ensures begins { IfOk result (HasLogged settings.now []) }
+        ensures unrefused { IfErr result IsNoRefusal }
     {
         each_text_has_one_verdict();
         empty_log_is_run();
@@ -112,6 +114,7 @@ impl Account {
         ensures added { OnOk result (Adds (record { remark = remark; entry = Some entry.now }) self.old self.new) }
         ensures there { OnOk result (IsSome self.old.auditor) }
         ensures gone { OnErr result (self.new.auditor ≡ None) }
+        ensures unrefused { IfErr result IsNoRefusal }
     {
         self.packet = packet_of(remark, self.packet);
         self.comment(alloc, remark)?;
@@ -128,6 +131,7 @@ impl Account {
         ensures added { OnOk result (Adds (remark_alone remark) self.old self.new) }
         ensures there { OnOk result (IsSome self.old.auditor) }
         ensures gone { OnErr result (self.new.auditor ≡ None) }
+        ensures unrefused { IfErr result IsNoRefusal }
     {
         self.packet = packet_of(remark, self.packet);
         self.comment(alloc, remark)
@@ -167,6 +171,7 @@ impl Account {
         ensures heard { OnOk result (Hears (remark_text remark) self.old self.new) }
         ensures there { OnOk result (IsSome self.old.auditor) }
         ensures gone { OnErr result (self.new.auditor ≡ None) }
+        ensures unrefused { IfErr result IsNoRefusal }
     {
         if self.is_between() {
             return self.pass_comment();
@@ -183,6 +188,7 @@ impl Account {
         ensures heard { OnOk result (Hears (entry_line entry.now ++ 10 ∷ []) self.old self.new) }
         ensures there { OnOk result (IsSome self.old.auditor) }
         ensures gone { OnErr result (self.new.auditor ≡ None) }
+        ensures unrefused { IfErr result IsNoRefusal }
     {
         if self.can_hear(entry) {
             return self.tell(entry);
@@ -220,6 +226,7 @@ impl Account {
         ensures heard { OnOk result ((comment : List ℕ) → IsComment comment → Hears (comment ++ 10 ∷ []) self.old self.new) }
         ensures there { OnOk result (IsSome self.old.auditor) }
         ensures gone { OnErr result (self.new.auditor ≡ None) }
+        ensures unrefused { IfErr result IsNoRefusal }
     {
         if self.lines >= GREATEST {
             return Err(self.give_up(Stop::Endless));
@@ -239,6 +246,7 @@ impl Account {
         ensures heard { OnOk result (Hears (entry_line entry.now ++ 10 ∷ []) self.old self.new) }
         ensures there { OnOk result (IsSome self.old.auditor) }
         ensures gone { OnErr result (self.new.auditor ≡ None) }
+        ensures unrefused { IfErr result IsNoRefusal }
     {
         if self.lines >= GREATEST {
             return Err(self.give_up(Stop::Endless));
@@ -264,6 +272,7 @@ impl Account {
         ensures heard { OnOk result (Hears octets.now self.old self.new) }
         ensures there { OnOk result (IsSome self.old.auditor) }
         ensures gone { OnErr result (self.new.auditor ≡ None) }
+        ensures unrefused { IfErr result IsNoRefusal }
     {
         let Some(auditor) = self.auditor.take() else {
             return Err(Stop::Memory);

@@ -1,10 +1,11 @@
 //! The logs of both ends of a connection.
 
-ghost use Rattle.std.specs.Prelude.{◌≡◌, ◌<◌, ◌≤◌, ◌+◌, ◌⊎◌, IfOk, IfSome, OnOk, None, Some, length, drop};
+ghost use Rattle.std.specs.Prelude.{◌≡◌, ◌<◌, ◌≤◌, ◌+◌, ◌⊎◌, IfErr, IfOk, IfSome, OnOk, None, Some, length, drop};
 ghost use Rattle.std.specs.Option.{option_map};
 ghost use Rattle.hsms_frame.specs.Frame.{Frame as Message};
 ghost use Rattle.hsms_machine.specs.declared.entry.Event.TheVariants.{Sent, Taken};
 ghost use Rattle.hsms_accounts.specs.Ends.{Adds, note_of};
+ghost use Rattle.hsms_accounts.specs.Stop.{IsNoRefusal};
 ghost use Rattle.hsms_log.specs.Spelling.{message_octets};
 
 use crate::account::{Account, Remark, Told};
@@ -50,12 +51,13 @@ pub enum Heard {
 }
 
 impl Ends {
-    ghost use Rattle.std.specs.Prelude.{◌≡◌, ◌++◌, [], ◌∷◌, List, IfOk, OnOk, max};
+    ghost use Rattle.std.specs.Prelude.{◌≡◌, ◌++◌, [], ◌∷◌, List, IfErr, IfOk, OnOk, max};
     ghost use Rattle.hsms_capture.specs.declared.packet.Side.TheVariants.{Active, Passive};
     ghost use Rattle.hsms_machine.specs.Settings.{Parameters};
     ghost use Rattle.hsms_accounts.specs.Account.{HasLogged, Note, SaysOf};
     ghost use Rattle.hsms_machine.specs.declared.entry.Event.TheVariants.{Down, Up};
     ghost use Rattle.hsms_accounts.specs.declared.account.Remark.TheVariants.{LeftOut, Replaced, Supposed};
+    ghost use Rattle.hsms_accounts.specs.Stop.{IsNoRefusal};
     ghost use Rattle.hsms_accounts.specs.Ends.{Adds, HearsAs, event_of, heard_of, note_of, remark_alone};
 
     /// The logs of ends with these settings, without an entry.
@@ -64,6 +66,7 @@ impl Ends {
         ensures passive { IfOk result (λ ends. HasLogged passive.now [] ends.passive) }
         ensures max { IfOk result (λ ends. ends.max ≡ active.now.max) }
         ensures time { IfOk result (λ ends. ends.time ≡ 0) }
+        ensures unrefused { IfErr result IsNoRefusal }
     {
         Ok(Ends {
             active: Account::new(alloc, active)?,
@@ -81,6 +84,7 @@ impl Ends {
         ensures answer { IfOk result (λ heard. heard ≡ heard_of self.old.max happening.event) }
         ensures time { OnOk result (self.new.time ≡ max self.old.time happening.time) }
         ensures max { OnOk result (self.new.max ≡ self.old.max) }
+        ensures unrefused { IfErr result IsNoRefusal }
     {
         let remark = Remark::Packet(happening.packet);
         self.time = self.time.max(happening.time);
@@ -123,6 +127,7 @@ impl Ends {
     pub fn replace(&mut self, alloc: Global) -> Result<(), Stop>
         ensures active { OnOk result (Adds (note_of Replaced self.old.time Down) self.old.active self.new.active) }
         ensures passive { OnOk result (Adds (note_of Replaced self.old.time Down) self.old.passive self.new.passive) }
+        ensures unrefused { IfErr result IsNoRefusal }
     {
         self.both(alloc, Remark::Replaced, Event::Down)
     }
@@ -133,6 +138,7 @@ impl Ends {
         ensures passive { OnOk result (Adds (note_of Supposed (max self.old.time time) Up) self.old.passive self.new.passive) }
         ensures time { OnOk result (self.new.time ≡ max self.old.time time) }
         ensures max { OnOk result (self.new.max ≡ self.old.max) }
+        ensures unrefused { IfErr result IsNoRefusal }
     {
         self.time = self.time.max(time);
         self.both(alloc, Remark::Supposed, Event::Up)
@@ -145,6 +151,7 @@ impl Ends {
         ensures passive { OnOk result
             (Adds (note_of Supposed self.old.time (event_of Passive from frame)) self.old.passive self.new.passive) }
         ensures same { OnOk result ((self.new.time ≡ self.old.time) × (self.new.max ≡ self.old.max)) }
+        ensures unrefused { IfErr result IsNoRefusal }
     {
         self.message(alloc, Remark::Supposed, from, frame)
     }
@@ -154,6 +161,7 @@ impl Ends {
         ensures active { OnOk result (Adds (remark_alone (LeftOut packet)) self.old.active self.new.active) }
         ensures passive { OnOk result (Adds (remark_alone (LeftOut packet)) self.old.passive self.new.passive) }
         ensures same { OnOk result ((self.new.time ≡ self.old.time) × (self.new.max ≡ self.old.max)) }
+        ensures unrefused { IfErr result IsNoRefusal }
     {
         self.active.remark(alloc, Remark::LeftOut(packet))?;
         self.passive.remark(alloc, Remark::LeftOut(packet))
@@ -164,6 +172,7 @@ impl Ends {
         ensures active { OnOk result (Adds (note_of remark self.old.time event) self.old.active self.new.active) }
         ensures passive { OnOk result (Adds (note_of remark self.old.time event) self.old.passive self.new.passive) }
         ensures same { OnOk result ((self.new.time ≡ self.old.time) × (self.new.max ≡ self.old.max)) }
+        ensures unrefused { IfErr result IsNoRefusal }
     {
         let entry = Entry {
             time: self.time,
@@ -186,6 +195,7 @@ impl Ends {
         ensures passive { OnOk result
             (Adds (note_of remark self.old.time (event_of Passive from frame)) self.old.passive self.new.passive) }
         ensures same { OnOk result ((self.new.time ≡ self.old.time) × (self.new.max ≡ self.old.max)) }
+        ensures unrefused { IfErr result IsNoRefusal }
     {
         let (time, active, passive) = (self.time, &mut self.active, &mut self.passive);
         match from {
@@ -206,6 +216,7 @@ fn pass(
 ) -> Result<(), Stop>
     ensures sender { OnOk result (Adds (note_of remark time (Sent frame)) sender.old sender.new) }
     ensures taker { OnOk result (Adds (note_of remark time (Taken frame)) taker.old taker.new) }
+    ensures unrefused { IfErr result IsNoRefusal }
 {
     let sent = Entry {
         time,

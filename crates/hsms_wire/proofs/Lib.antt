@@ -1,5 +1,6 @@
 mod Counted
 mod Tellings
+mod Unrefused
 mod Written
 mod Quiet
 mod Logging
@@ -12,3 +13,4 @@ mod Forgetting
 mod Beginnings
 mod Dealing
 mod Whole
+mod Refusing

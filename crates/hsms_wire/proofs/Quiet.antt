@@ -4,6 +4,7 @@ use Rattle.std.specs.Prelude.{Result, Ok, Err, OnOk}
 use Rattle.hsms_wire.specs.declared.report.Report.{Report}
 use Rattle.hsms_wire.specs.Joined.{IsQuiet}
 use Rattle.hsms_wire.proofs.Tellings.{ok_then, tells_nothing, tells_then}
+use Rattle.hsms_wire.proofs.Unrefused.{err_memory, err_then, is_memory_stops, memory_stops, stops_then}
 
 pub quiet_nothing : (up : Bool) (r : Report) → IsQuiet up up r r
 unfolding IsQuiet
@@ -46,4 +47,4 @@ pub up_by : {T E : Type 0} (result : Result T E) (a c : Bool) (P : Type 0) → P
 up_by (Ok done) a c P holds = λ up. inr holds
 up_by (Err fault) a c P holds = tt
 
-pub ruleset quiet_steps = (tells_nothing, tells_then, ok_then, quiet_nothing, quiet_kept, ok_quiet_then, ok_kept_then, ok_up, up_kept, up_by)
+pub ruleset quiet_steps = (tells_nothing, tells_then, ok_then, quiet_nothing, quiet_kept, ok_quiet_then, ok_kept_then, ok_up, up_kept, up_by, memory_stops, is_memory_stops, stops_then, err_memory, err_then)

@@ -293,7 +293,7 @@ stops_so first from old before out was now left new table next between after put
 
 pub concludes_dealt : (missing : Option Shortfall) (table : Table) (old noted mid new : Report) (result : Result Bool Stop)
     → noted ≡ record old { shortfall = missing_after old.shortfall missing } → EndsAsDealt missing table noted mid → Finishes (found_of mid) result
-    → OnOk result (new.page.octets ≡ mid.page.octets ++ line_of mid.left_out) → IfOk result (λ well. ConcludesAsDealt missing table old new well)
+    → OnOk result (new.page.octets ≡ mid.page.octets ++ line_of mid.left_out) → IfOk result (λ well. ConcludesAsDealt missing table old new (Ok well))
 concludes_dealt missing table old noted mid new (Ok well) is ends answers page = λ w last all report kept.
     let of_noted : IsReportOf w noted = record {
       verdicts = ap (λ (r : Report). r.manner) is ∙ report.verdicts;
@@ -308,7 +308,7 @@ concludes_dealt missing table old noted mid new (Ok well) is ends answers page =
 concludes_dealt missing table old noted mid new (Err stop) is ends answers page = tt
 
 pub finishes_dealt : (missing : Option Shortfall) (table : Table) (old mid : Report) (out now : Option (List ℕ)) (well : Bool)
-    → ConcludesAsDealt missing table old mid well → Grows out now mid.page.octets → FinishesAsDealt missing table old out now well
+    → ConcludesAsDealt missing table old mid (Ok well) → Grows out now mid.page.octets → FinishesAsDealt missing table old out now (Ok well)
 finishes_dealt missing table old mid out now well concludes grows = λ w last all report kept.
     let on = concludes w last all report kept in record {
       told = on.0;
@@ -343,9 +343,9 @@ pub captures_opened : (options : Capturing) (reading : Reading) (missing : Optio
     (out put now : Option (List ℕ)) (result : Result Bool ToolFault) (IsTold : Type 0) → (IsTold → IsBlank (wanted_of options) first)
     → (table.port ≡ options.port) × (table.peer ≡ options.peer) × (table.is_joined ≡ options.joined) → (table.flows.entries ≡ []) × (table.begun ≡ 0)
     → WhereTold from (λ input. OpensAs input (Ok reading) left) → reading.state.packets ≡ 0 → ReadsAsDealt reading missing left table end first last out put
-    → IfOk result (λ well. FinishesAsDealt missing end last put now well)
-    → IfOk result (λ well. IsTold → options.joined ≡ false → WhereTold from (λ input. CapturesFile (wanted_of options) input out now well))
-captures_opened options reading missing first last table end from left out put now (Ok well) IsTold blank of_it none opens zero reads finishes = λ told joined input at.
+    → FinishesAsDealt missing end last put now result
+    → IsTold → options.joined ≡ false → WhereTold from (λ input. CapturesFile (wanted_of options) input out now result)
+captures_opened options reading missing first last table end from left out put now result IsTold blank of_it none opens zero reads finishes = λ told joined input at.
     let opened = opens input at in
     let is = blank told in
     let on = reads (wanted_of options) none_yet zero (of_blank (wanted_of options) first is) (first_table options table 0 joined of_it none) opened.0 opened.1 in
@@ -362,16 +362,15 @@ captures_opened options reading missing first last table end from left out put n
       deals = on.5;
       concluded = finishes (wanted_of options) on.3 on.2 on.7 on.6;
     }
-captures_opened options reading missing first last table end from left out put now (Err fault) IsTold blank of_it none opens zero reads finishes = tt
 
 -- or it has no packet
 pub captures_none : (options : Capturing) (fault : FileFault) (shortfall : Shortfall) (first : Report) (table : Table) (from left : Option (List ℕ)) (out now : Option (List ℕ))
     (result : Result Bool ToolFault) (IsTold : Type 0) → (IsTold → IsBlank (wanted_of options) first)
     → (table.port ≡ options.port) × (table.peer ≡ options.peer) × (table.is_joined ≡ options.joined) → (table.flows.entries ≡ []) × (table.begun ≡ 0)
     → WhereTold from (λ input. OpensAs input (Err fault) left) → IsMissingBy fault 0 (Ok shortfall)
-    → IfOk result (λ well. FinishesAsDealt (Some shortfall) table first out now well)
-    → IfOk result (λ well. IsTold → options.joined ≡ false → WhereTold from (λ input. CapturesFile (wanted_of options) input out now well))
-captures_none options fault shortfall first table from left out now (Ok well) IsTold blank of_it none opens missing finishes = λ told joined input at.
+    → FinishesAsDealt (Some shortfall) table first out now result
+    → IsTold → options.joined ≡ false → WhereTold from (λ input. CapturesFile (wanted_of options) input out now result)
+captures_none options fault shortfall first table from left out now result IsTold blank of_it none opens missing finishes = λ told joined input at.
     let is = blank told in
     let ended = by_fault input fault (opens input at) missing in
     record {
@@ -394,4 +393,3 @@ captures_none options fault shortfall first table from left out now (Ok well) Is
     by_fault input (file.Capture place f) opens missing = (faulty 0 place f, opens.0, ap Some missing.2)
     by_fault input file.Read opens missing = absurd (missing.0 refl)
     by_fault input file.Memory opens missing = absurd (missing.1 refl)
-captures_none options fault shortfall first table from left out now (Err stop) IsTold blank of_it none opens missing finishes = tt

@@ -1,8 +1,9 @@
 -- What is told of a capture file, packet by packet.
-use Rattle.std.specs.Prelude.{◌≡◌, ◌⊎◌, ◌+◌, ◌-◌, ◌^◌, ◌++◌, ◌∷◌, min, ℕ, Bool, true, List, [], Option, Some, None, is_some}
+use Rattle.std.specs.Prelude.{◌≡◌, ◌⊎◌, ◌+◌, ◌-◌, ◌^◌, ◌++◌, ◌∷◌, min, ℕ, Bool, true, List, [], Option, Some, None, Result, is_some}
 use Rattle.std.specs.declared.net.ip_addr.IpAddr.{IpAddr}
 use Rattle.hsms_frame.specs.Device.{Grows}
 use Rattle.hsms_machine.specs.Settings.{Parameters}
+use Rattle.hsms_options.specs.declared.fault.ToolFault.{ToolFault}
 use Rattle.hsms_packets.specs.declared.fault.FileFault.TheVariants as stop
 use Rattle.hsms_packets.specs.declared.segment.Shown.{Shown}
 use Rattle.hsms_packets.specs.declared.segment.Shown.TheVariants as shown
@@ -14,7 +15,7 @@ use Rattle.hsms_wire.specs.declared.shortfall.Shortfall.{Shortfall}
 use Rattle.hsms_wire.specs.declared.shortfall.Shortfall.TheVariants as lacks
 use Rattle.hsms_wire.specs.Connections.{Connections, DealsPacket, EndsAll}
 use Rattle.hsms_wire.specs.LeftOut.{left_out_after, line_of, none_left_out}
-use Rattle.hsms_wire.specs.Report.{AnswersWell, found_of, missing_after, nothing_found}
+use Rattle.hsms_wire.specs.Report.{Answers, found_of, missing_after, nothing_found}
 use Rattle.hsms_wire.specs.Segments.{body_in}
 
 -- What is looked at: connections whose passive ends have this port, and of which one end has this address, where one is
@@ -84,16 +85,16 @@ pub record IsBlank (w : Wanted) (report : Report) : Type 0 where
   pub left_out : report.left_out ≡ none_left_out
   pub page : report.page.octets ≡ []
 
--- what is left of each connection is told, and which packets were left out; and all is well by what was found
-pub record Concluded (w : Wanted) (missing : Option Shortfall) (all : Connections) (before : Report) (out now : Option (List ℕ)) (well : Bool) : Type 0 where
+-- what is left of each connection is told, and which packets were left out; and what is answered is so by what was found
+pub record Concluded (w : Wanted) (missing : Option Shortfall) (all : Connections) (before : Report) (out now : Option (List ℕ)) (result : Result Bool ToolFault) : Type 0 where
   pub told : Report
   pub ends : EndsAll w.active w.passive missing all.known (record before { shortfall = missing_after before.shortfall missing }) told
   pub written : Grows out now (told.page.octets ++ line_of told.left_out)
-  pub answers : AnswersWell (found_of told) well
+  pub answers : Answers (found_of told) result
 
 -- What is written of a file, and what is answered: the packets that it has go to connections, one after another; of each
 -- is told what its packets show, with the packet behind which that is known, or at the end.
-pub record CapturesFile (w : Wanted) (input : List ℕ) (out now : Option (List ℕ)) (well : Bool) : Type 0 where
+pub record CapturesFile (w : Wanted) (input : List ℕ) (out now : Option (List ℕ)) (result : Result Bool ToolFault) : Type 0 where
   pub packets : List Packet
   pub ending : Ending
   pub missing : Option Shortfall
@@ -104,4 +105,4 @@ pub record CapturesFile (w : Wanted) (input : List ℕ) (out now : Option (List 
   pub reads : ReadsFile input packets ending
   pub blank : IsBlank w first
   pub deals : DealsUpTo w packets ending missing none_yet all first last out put
-  pub concluded : Concluded w missing all last put now well
+  pub concluded : Concluded w missing all last put now result

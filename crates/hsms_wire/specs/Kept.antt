@@ -1,9 +1,10 @@
 -- The connections that are kept, as those of the definition.
-use Rattle.std.specs.Prelude.{◌≡◌, ◌≤◌, ◌<◌, ◌++◌, ◌∷◌, ℕ, Bool, false, List, [], Option, Some, None}
+use Rattle.std.specs.Prelude.{◌≡◌, ◌≤◌, ◌<◌, ◌++◌, ◌∷◌, ℕ, Bool, false, List, [], Option, Some, None, Result}
 use Rattle.std.specs.declared.net.ip_addr.IpAddr.{IpAddr}
 use Rattle.hsms_machine.specs.Settings.{Parameters}
 use Rattle.hsms_frame.specs.Device.{WhereTold}
 use Rattle.hsms_options.specs.declared.capturing.Capturing.{Capturing}
+use Rattle.hsms_options.specs.declared.fault.ToolFault.{ToolFault}
 use Rattle.hsms_packets.specs.declared.front.Record.{Record}
 use Rattle.hsms_packets.specs.declared.segment.Segment.{Segment}
 use Rattle.hsms_packets.specs.Blocks.{Reading, ReadsOn}
@@ -11,6 +12,7 @@ use Rattle.hsms_packets.specs.File.{Packet, Ending}
 use Rattle.hsms_packets.specs.Segment.{segment_at}
 use Rattle.hsms_capture.specs.Wire.{Seen}
 use Rattle.hsms_accounts.specs.declared.pair.Pair.{Pair}
+use Rattle.hsms_accounts.specs.declared.stop.Stop.{Stop}
 use Rattle.hsms_wire.specs.declared.flow.Flow.{Flow}
 use Rattle.hsms_wire.specs.declared.flow.Stage.{Stage}
 use Rattle.hsms_wire.specs.declared.flow.Stage.TheVariants as stage
@@ -22,7 +24,7 @@ use Rattle.hsms_wire.specs.declared.table.Table.{Table}
 use Rattle.hsms_wire.specs.Connections.{Captured, Connection, Connections, DealsPacket, EndsAll}
 use Rattle.hsms_wire.specs.Dealt.{Concluded, DealsShown, DealsUpTo, PutsOut, Wanted}
 use Rattle.hsms_wire.specs.LeftOut.{line_of}
-use Rattle.hsms_wire.specs.Report.{AnswersWell, found_of, missing_after}
+use Rattle.hsms_wire.specs.Report.{Finishes, found_of, missing_after}
 use Rattle.hsms_wire.specs.Staged.{StageIs}
 
 -- each is past the one before it, and none past the last one
@@ -107,14 +109,14 @@ ReadsAsDealt reading missing left old new before after out now =
     × DealsUpTo w packets ending missing all next before after out now × IsTableOf w last new next × IsReportOf w after)
 
 -- what is left is told, on the page
-abbrev pub ConcludesAsDealt : Option Shortfall → Table → Report → Report → Bool → Type 0
-ConcludesAsDealt missing table before after well =
+abbrev pub ConcludesAsDealt : Option Shortfall → Table → Report → Report → Result Bool Stop → Type 0
+ConcludesAsDealt missing table before after result =
     (w : Wanted) (last : ℕ) (all : Connections) → IsReportOf w before → IsTableOf w last table all
     → (told : Report)
     × EndsAll w.active w.passive missing all.known (record before { shortfall = missing_after before.shortfall missing }) told
-    × (after.page.octets ≡ told.page.octets ++ line_of told.left_out) × AnswersWell (found_of told) well
+    × (after.page.octets ≡ told.page.octets ++ line_of told.left_out) × Finishes (found_of told) result
 
 -- and written
-abbrev pub FinishesAsDealt : Option Shortfall → Table → Report → Option (List ℕ) → Option (List ℕ) → Bool → Type 0
-FinishesAsDealt missing table before out now well =
-    (w : Wanted) (last : ℕ) (all : Connections) → IsReportOf w before → IsTableOf w last table all → Concluded w missing all before out now well
+abbrev pub FinishesAsDealt : Option Shortfall → Table → Report → Option (List ℕ) → Option (List ℕ) → Result Bool ToolFault → Type 0
+FinishesAsDealt missing table before out now result =
+    (w : Wanted) (last : ℕ) (all : Connections) → IsReportOf w before → IsTableOf w last table all → Concluded w missing all before out now result

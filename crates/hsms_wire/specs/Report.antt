@@ -9,7 +9,10 @@ use Rattle.hsms_capture.specs.declared.packet.Side.{Side}
 use Rattle.hsms_capture.specs.declared.packet.Side.TheVariants.{Active, Passive}
 use Rattle.hsms_wire.specs.LeftOut.{line_of}
 use Rattle.hsms_wire.specs.Line.{end_line_of}
-use Rattle.hsms_wire.specs.Stop.{TellsShortfall}
+use Rattle.hsms_wire.specs.Stop.{IsRefusal, TellsShortfall}
+use Rattle.hsms_accounts.specs.Stop.{IsNoRefusal}
+use Rattle.hsms_options.specs.declared.fault.ToolFault.{ToolFault}
+use Rattle.hsms_options.specs.declared.fault.ToolFault.TheVariants as tool
 use Rattle.hsms_accounts.specs.Account.{HasLogged, Note, SaysOf, Standing}
 use Rattle.hsms_accounts.specs.declared.account.Told.{Told}
 use Rattle.hsms_accounts.specs.declared.ends.Ends.{Ends}
@@ -127,6 +130,21 @@ Finishes found (Ok well) = AnswersWell found well
 Finishes found (Err (stop.Refused words)) = (found.failed ≡ false) × RefusesWith found (string_bytes words)
 Finishes found (Err stop.Endless) = ⊥
 Finishes found (Err stop.Memory) = Unit {0}
+
+-- the same, as the command answers it
+abbrev pub Answers : Found → Result Bool ToolFault → Type 0
+Answers found (Ok well) = AnswersWell found well
+Answers found (Err (tool.Refused words)) = (found.failed ≡ false) × RefusesWith found (string_bytes words)
+Answers found (Err (tool.Device word)) = ⊥
+Answers found (Err tool.Memory) = ⊥
+
+-- where verdicts are told, nothing is refused before the end
+unfoldable pub StopsUnrefused : Report → Stop → Type 0
+StopsUnrefused report stop = report.manner ≡ Verdicts → IsNoRefusal stop
+
+-- as the command tells it
+unfoldable pub FailsUnrefused : Report → ToolFault → Type 0
+FailsUnrefused report fault = report.manner ≡ Verdicts → IsRefusal fault → ⊥
 
 -- the lines of connections, one after another
 abbrev pub lines_of : Role → Role → List Telling → List ℕ

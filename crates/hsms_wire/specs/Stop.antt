@@ -25,3 +25,15 @@ abbrev pub IsRefusalOf : Shortfall → Stop → Type 0
 IsRefusalOf shortfall (stop.Refused words) = TellsShortfall shortfall (string_bytes words)
 IsRefusalOf shortfall stop.Endless = ⊥
 IsRefusalOf shortfall stop.Memory = Unit {0}
+
+-- what comes is refused
+abbrev pub IsRefused : Stop → Type 0
+IsRefused (stop.Refused words) = Unit {0}
+IsRefused stop.Endless = ⊥
+IsRefused stop.Memory = ⊥
+
+-- as the command tells it
+abbrev pub IsRefusal : ToolFault → Type 0
+IsRefusal (tool.Refused words) = Unit {0}
+IsRefusal (tool.Device word) = ⊥
+IsRefusal tool.Memory = ⊥

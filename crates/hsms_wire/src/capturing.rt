@@ -1,13 +1,14 @@
 //! `hsms capture`: a capture, read once.
 
-ghost use Rattle.std.specs.Prelude.{◌≡◌, IfErr, IfOk, OnOk, None, codes, false};
+ghost use Rattle.std.specs.Prelude.{◌≡◌, [], IfErr, IfOk, OnOk, Ok, Err, None, codes, false};
 ghost use Rattle.hsms_frame.specs.Device.{WhereTold};
 ghost use Rattle.hsms_lines.specs.Devices.{CountsFailure, IsReadWriteOrEndless};
 ghost use Rattle.hsms_wire.specs.Capturing.{CapturesTo, GrowsBySome, IsMissingBy, IsWriteOrEndless};
 ghost use Rattle.hsms_wire.specs.Dealt.{CapturesFile};
 ghost use Rattle.hsms_wire.specs.Kept.{ConcludesAsDealt, FinishesAsDealt, PutsAsDealt, ReadsAsDealt, ShowsAsDealt, wanted_of};
-ghost use Rattle.hsms_wire.specs.Report.{Concludes, EndsWith, TellsBehind, Writes};
+ghost use Rattle.hsms_wire.specs.Report.{Concludes, EndsWith, FailsUnrefused, StopsUnrefused, TellsBehind, Writes};
 ghost use Rattle.hsms_wire.specs.Segments.{body_in};
+ghost use Rattle.hsms_wire.specs.Stop.{IsRefusal, IsRefused};
 
 use crate::report::Report;
 use crate::shortfall::Shortfall;
@@ -50,7 +51,11 @@ pub fn capture_to<R: Source, W: Sink>(
     ensures lines { IfOk result (λ well. options.log ≡ None → CapturesTo options.active.role options.passive.role
         (W.state sink.old).written (W.state sink.new).written well) }
     ensures file { IfOk result (λ well. options.log ≡ None → options.joined ≡ false → WhereTold (R.state source.old).left
-        (λ input. CapturesFile (wanted_of options) input (W.state sink.old).written (W.state sink.new).written well)) }
+        (λ input. CapturesFile (wanted_of options) input (W.state sink.old).written (W.state sink.new).written
+        (Ok well))) }
+    ensures refused { IfErr result (λ fault. IsRefusal fault → options.log ≡ None → options.joined ≡ false
+        → WhereTold (R.state source.old).left (λ input. CapturesFile (wanted_of options) input (W.state sink.old).written
+        (W.state sink.new).written (Err fault))) }
 {
     let mut report = Report::new(alloc, &options);
     let mut table = Table::new(alloc, options.port, options.peer, options.joined);
@@ -67,7 +72,7 @@ pub fn capture_to<R: Source, W: Sink>(
 }
 
 // Reads a capture up to its end, or to what nothing behind can be told of.
-#[tactic(auto, using(crate::proofs::Written::none_more, crate::proofs::Written::some_more))]
+#[tactic(auto, using(crate::proofs::Written::none_more, crate::proofs::Written::some_more, crate::proofs::Refusing::missing_fails, crate::proofs::Refusing::fails_behind))]
 fn read_all<R: Source, W: Sink>(
     alloc: Global,
     mut packets: Packets,
@@ -83,6 +88,7 @@ fn read_all<R: Source, W: Sink>(
     ensures lines { OnOk result (Writes report.old (W.state sink.old).written report.new (W.state sink.new).written) }
     ensures deals { IfOk result (λ missing. ReadsAsDealt packets missing (R.state source.old).left table.old table.new
         report.old report.new (W.state sink.old).written (W.state sink.new).written) }
+    ensures unrefused { IfErr result (λ fault. report.old.page.octets ≡ [] → FailsUnrefused report.old fault) }
 {
     each_rest_is_read();
     for _ in 0..u64::MAX {
@@ -106,7 +112,7 @@ fn read_all<R: Source, W: Sink>(
 }
 
 // Takes a packet, and writes what is told with it.
-#[tactic(auto, using(crate::proofs::Written::none_more, crate::proofs::Written::some_more))]
+#[tactic(auto, using(crate::proofs::Written::none_more, crate::proofs::Written::some_more, crate::proofs::Refusing::fails_write, crate::proofs::Refusing::fails_told))]
 fn take<W: Sink>(
     alloc: Global,
     sink: &mut W,
@@ -122,6 +128,7 @@ fn take<W: Sink>(
     ensures lines { OnOk result (Writes report.old (W.state sink.old).written report.new (W.state sink.new).written) }
     ensures deals { IfOk result (λ missing. PutsAsDealt packet «record».now octets.now missing table.old table.new
         report.old report.new (W.state sink.old).written (W.state sink.new).written) }
+    ensures unrefused { IfErr result (FailsUnrefused report.old) }
 {
     let taken = take_packet(alloc, table, report, packet, record, octets);
     report.put_out(sink)?;
@@ -143,6 +150,7 @@ fn take_packet(
     ensures told { OnOk result (TellsBehind report.old report.new) }
     ensures deals { IfOk result (λ missing. ShowsAsDealt packet «record».now octets.now missing table.old table.new
         report.old report.new) }
+    ensures unrefused { IfErr result (StopsUnrefused report.old) }
 {
     match segment_of(record.link, octets) {
         Shown::Segment(segment) => {
@@ -185,7 +193,7 @@ fn missing_by(fault: FileFault, packets: u64) -> Result<Shortfall, ToolFault>
 }
 
 // Tells what is left of each connection, and whether each log passes.
-#[tactic(auto, using(crate::proofs::Written::none_more, crate::proofs::Written::some_more))]
+#[tactic(auto, using(crate::proofs::Written::none_more, crate::proofs::Written::some_more, crate::proofs::Refusing::write_holds, crate::proofs::Refusing::finishes_refused))]
 fn finish<W: Sink>(
     alloc: Global,
     sink: &mut W,
@@ -198,7 +206,9 @@ fn finish<W: Sink>(
     ensures some { GrowsBySome (W.state sink.old).written (W.state sink.new).written }
     ensures lines { IfOk result (λ well. EndsWith missing report (W.state sink.old).written (W.state sink.new).written well) }
     ensures deals { IfOk result (λ well. FinishesAsDealt missing table report (W.state sink.old).written
-        (W.state sink.new).written well) }
+        (W.state sink.new).written (Ok well)) }
+    ensures refuses { IfErr result (λ fault. IsRefusal fault → FinishesAsDealt missing table report (W.state sink.old).written
+        (W.state sink.new).written (Err fault)) }
 {
     let well = conclude(alloc, table, &mut report, missing);
     report.put_out(sink)?;
@@ -216,7 +226,8 @@ fn conclude(
     missing: Option<Shortfall>,
 ) -> Result<bool, Stop>
     ensures lines { IfOk result (λ well. Concludes missing report.old report.new well) }
-    ensures deals { IfOk result (λ well. ConcludesAsDealt missing table report.old report.new well) }
+    ensures deals { IfOk result (λ well. ConcludesAsDealt missing table report.old report.new (Ok well)) }
+    ensures refuses { IfErr result (λ stop. IsRefused stop → ConcludesAsDealt missing table report.old report.new (Err stop)) }
 {
     report.note_missing(missing);
     table.finish(alloc, report, missing)?;

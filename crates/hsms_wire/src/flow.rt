@@ -1,11 +1,12 @@
 //! A connection of a capture, from its first SYN on, or from the first packet of a session that was running before.
 
-ghost use Rattle.std.specs.Prelude.{◌≡◌, ◌&&◌, ◌||◌, ◌++◌, [], ◌∷◌, IfOk, OnOk, is_some, map};
+ghost use Rattle.std.specs.Prelude.{◌≡◌, ◌&&◌, ◌||◌, ◌++◌, [], ◌∷◌, IfErr, IfOk, OnOk, is_some, map};
+ghost use Rattle.hsms_accounts.specs.declared.stop.Stop.TheVariants.{Memory};
 ghost use Rattle.hsms_capture.specs.Known.{seen_of};
 ghost use Rattle.hsms_wire.specs.declared.report.Manner.TheVariants.{Verdicts};
 ghost use Rattle.hsms_wire.specs.Followed.{BeginsWith, DownBy, EndsOpen, Follows, FollowsAll, GoesOn, HearsThem, TakesSegment, seen_waiting};
 ghost use Rattle.hsms_wire.specs.Logged.{is_there};
-ghost use Rattle.hsms_wire.specs.Report.{Tells};
+ghost use Rattle.hsms_wire.specs.Report.{StopsUnrefused, Tells};
 ghost use Rattle.hsms_wire.specs.Staged.{ToldUnanswered, WaitsOn, answers, first_shown, if_answered, shows, stage_by};
 
 use crate::course::Course;
@@ -149,13 +150,13 @@ impl Drop for Stage {
 }
 
 impl Stage {
-    ghost use Rattle.std.specs.Prelude.{IfOk, OnOk};
+    ghost use Rattle.std.specs.Prelude.{IfErr, IfOk, OnOk};
     ghost use Rattle.hsms_capture.specs.Known.{seen_of};
-    ghost use Rattle.hsms_wire.specs.Report.{Tells};
+    ghost use Rattle.hsms_wire.specs.Report.{StopsUnrefused, Tells};
     ghost use Rattle.hsms_wire.specs.Staged.{EndsStage, TakesStage};
 
     /// Takes a packet of a connection that begins with a SYN of this number, if it does with one.
-    #[tactic(auto, using(crate::proofs::Tellings::tells_nothing, crate::proofs::Tellings::tells_then, crate::proofs::Tellings::ok_then))]
+    #[tactic(auto, using(crate::proofs::Unrefused::telling_steps))]
     pub fn take(
         self,
         alloc: Global,
@@ -168,6 +169,7 @@ impl Stage {
         ensures told { OnOk result (Tells report.old report.new) }
         ensures takes { IfOk result (λ stage.
             TakesStage pair.now syn (seen_of segment octets.now) self stage report.old report.new) }
+        ensures unrefused { IfErr result (StopsUnrefused report.old) }
     {
         match self {
             Stage::Over => Ok(Stage::Over),
@@ -189,7 +191,7 @@ impl Stage {
 
     /// Tells what is left of a connection of which no packet follows: since a later one replaces it, or at the end of what
     /// is read, where something may be missing.
-    #[tactic(auto, using(crate::proofs::Tellings::tells_nothing, crate::proofs::Tellings::tells_then, crate::proofs::Tellings::ok_then))]
+    #[tactic(auto, using(crate::proofs::Unrefused::telling_steps))]
     pub fn end(
         self,
         alloc: Global,
@@ -200,6 +202,7 @@ impl Stage {
     ) -> Result<(), Stop>
         ensures told { OnOk result (Tells report.old report.new) }
         ensures ends { OnOk result (EndsStage pair.now is_replaced missing self report.old report.new) }
+        ensures unrefused { IfErr result (StopsUnrefused report.old) }
     {
         match self {
             Stage::Over => Ok(()),
@@ -215,10 +218,10 @@ impl Stage {
 }
 
 impl Logs {
-    ghost use Rattle.std.specs.Prelude.{◌≡◌, ◌||◌, [], false, OnOk, None, is_some};
+    ghost use Rattle.std.specs.Prelude.{◌≡◌, ◌||◌, [], false, IfErr, OnOk, None, is_some};
     ghost use Rattle.hsms_wire.specs.declared.report.Manner.TheVariants.{Verdicts};
     ghost use Rattle.hsms_wire.specs.Followed.{WhenTold, is_up_event, timed_by, unboxed_ends};
-    ghost use Rattle.hsms_wire.specs.Report.{Tells};
+    ghost use Rattle.hsms_wire.specs.Report.{StopsUnrefused, Tells};
 
     fn new(alloc: Global) -> Logs
         ensures ends { result.ends ≡ None }
@@ -243,7 +246,7 @@ impl Logs {
     }
 
     // The connection is over. One that never came up and lacks nothing isn't told.
-    #[tactic(auto, using(crate::proofs::Tellings::tells_nothing, crate::proofs::Tellings::tells_then, crate::proofs::Tellings::ok_then))]
+    #[tactic(auto, using(crate::proofs::Unrefused::telling_steps))]
     fn conclude(
         self,
         alloc: Global,
@@ -254,6 +257,7 @@ impl Logs {
         ensures told { OnOk result (Tells report.old report.new) }
         ensures once { OnOk result (report.old.manner ≡ Verdicts
             → WhenTold (self.is_up || is_some shortfall) pair.now shortfall (unboxed_ends self.ends) report.old report.new) }
+        ensures unrefused { IfErr result (StopsUnrefused report.old) }
     {
         let Logs {
             ends,
@@ -278,7 +282,7 @@ fn stage_of(left: Option<Open>) -> Stage
 }
 
 // Takes the passive end's SYN, and before it the packets that waited. None is left of a connection that is over.
-#[tactic(auto, using(crate::proofs::Tellings::tells_nothing, crate::proofs::Tellings::tells_then, crate::proofs::Tellings::ok_then))]
+#[tactic(auto, using(crate::proofs::Unrefused::telling_steps))]
 fn begin_with(
     alloc: Global,
     report: &mut Report,
@@ -291,6 +295,7 @@ fn begin_with(
     ensures told { OnOk result (Tells report.old report.new) }
     ensures begins { IfOk result (λ left. BeginsWith pair.now syn segment.number
         (map seen_waiting waiting.items ++ seen_of segment octets.now ∷ []) left report.old report.new) }
+    ensures unrefused { IfErr result (StopsUnrefused report.old) }
 {
     let open = Open {
         connection: Connection::new(alloc, syn, segment.number),
@@ -303,7 +308,7 @@ fn begin_with(
 }
 
 // Keeps a packet of a session that was running before.
-#[tactic(auto, using(crate::proofs::Tellings::tells_nothing, crate::proofs::Tellings::tells_then, crate::proofs::Tellings::ok_then))]
+#[tactic(auto, using(crate::proofs::Unrefused::telling_steps))]
 fn join(
     alloc: Global,
     report: &mut Report,
@@ -313,6 +318,7 @@ fn join(
     octets: &[u8],
 ) -> Result<Stage, Stop>
     ensures told { OnOk result (Tells report.old report.new) }
+    ensures unrefused { IfErr result (StopsUnrefused report.old) }
 {
     match gather(alloc, report, pair, gathering, segment, octets)? {
         Joining::Gathers(gathering) => Ok(Stage::Joining(gathering)),
@@ -322,7 +328,7 @@ fn join(
 }
 
 // Takes a packet of such a session.
-#[tactic(auto, using(crate::proofs::Tellings::tells_nothing, crate::proofs::Tellings::tells_then, crate::proofs::Tellings::ok_then))]
+#[tactic(auto, using(crate::proofs::Unrefused::telling_steps))]
 fn go_within(
     alloc: Global,
     report: &mut Report,
@@ -332,6 +338,7 @@ fn go_within(
     octets: &[u8],
 ) -> Result<Stage, Stop>
     ensures told { OnOk result (Tells report.old report.new) }
+    ensures unrefused { IfErr result (StopsUnrefused report.old) }
 {
     match within.take(alloc, report, pair, segment, octets)? {
         Some(within) => Ok(Stage::Within(within)),
@@ -340,7 +347,7 @@ fn go_within(
 }
 
 // Tells what is left of a connection that is followed.
-#[tactic(auto, using(crate::proofs::Tellings::tells_nothing, crate::proofs::Tellings::tells_then, crate::proofs::Tellings::ok_then))]
+#[tactic(auto, using(crate::proofs::Unrefused::telling_steps))]
 fn end_open(
     alloc: Global,
     report: &mut Report,
@@ -351,6 +358,7 @@ fn end_open(
 ) -> Result<(), Stop>
     ensures told { OnOk result (Tells report.old report.new) }
     ensures ends { OnOk result (EndsOpen pair.now is_replaced missing «open» report.old report.new) }
+    ensures unrefused { IfErr result (StopsUnrefused report.old) }
 {
     let Open {
         connection,
@@ -372,7 +380,7 @@ fn end_open(
 }
 
 // A connection that is up goes down, where a later one replaces it.
-#[tactic(auto, using(crate::proofs::Tellings::tells_nothing, crate::proofs::Tellings::tells_then, crate::proofs::Tellings::ok_then))]
+#[tactic(auto, using(crate::proofs::Unrefused::telling_steps))]
 fn go_down(
     alloc: Global,
     report: &mut Report,
@@ -382,6 +390,7 @@ fn go_down(
     ensures told { OnOk result (Tells report.old report.new) }
     ensures down { OnOk result (report.old.manner ≡ Verdicts → DownBy (is_replaced && logs.old.is_up) logs.old logs.new) }
     ensures same { OnOk result (report.old.manner ≡ Verdicts → report.new ≡ report.old) }
+    ensures unrefused { IfErr result (StopsUnrefused report.old) }
 {
     if is_replaced && logs.is_up {
         return report.replace(alloc, &mut logs.ends);
@@ -412,7 +421,7 @@ fn is_answer(segment: &Segment, syn: u32) -> bool
 }
 
 // A packet waits, or too many do.
-#[tactic(auto, using(crate::proofs::Tellings::tells_nothing, crate::proofs::Tellings::tells_then, crate::proofs::Tellings::ok_then))]
+#[tactic(auto, using(crate::proofs::Unrefused::telling_steps))]
 fn wait(
     alloc: Global,
     report: &mut Report,
@@ -424,6 +433,7 @@ fn wait(
     ensures told { OnOk result (Tells report.old report.new) }
     ensures waits { IfOk result (λ stage. report.old.manner ≡ Verdicts → WaitsOn pair.now
         (map seen_waiting waiting.items ++ seen_of segment octets.now ∷ []) stage report.old report.new) }
+    ensures unrefused { IfErr result (StopsUnrefused report.old) }
 {
     let mut held = Vec::new(alloc);
     held.extend_from_slice(octets)?;
@@ -442,11 +452,12 @@ fn wait(
 }
 
 // Tells what a connection lacks of which the passive end's SYN isn't there: nothing where it was refused, or half open.
-#[tactic(auto, using(crate::proofs::Tellings::tells_nothing, crate::proofs::Tellings::tells_then, crate::proofs::Tellings::ok_then))]
+#[tactic(auto, using(crate::proofs::Unrefused::telling_steps))]
 fn give_up(alloc: Global, report: &mut Report, pair: &Pair, waiting: &[Waiting]) -> Result<(), Stop>
     ensures told { OnOk result (Tells report.old report.new) }
     ensures unanswered { OnOk result (report.old.manner ≡ Verdicts
         → ToldUnanswered pair.now (map seen_waiting waiting.now) report.old report.new) }
+    ensures unrefused { IfErr result (StopsUnrefused report.old) }
 {
     match lost_at(waiting) {
         Some(packet) => report.conclude(alloc, pair, None, Some(Shortfall::Lost(packet))),
@@ -478,7 +489,7 @@ fn shows_loss(packet: &Waiting) -> bool
 }
 
 // Takes the packets that waited. None is left of a connection that is over.
-#[tactic(auto, using(crate::proofs::Tellings::tells_nothing, crate::proofs::Tellings::tells_then, crate::proofs::Tellings::ok_then))]
+#[tactic(auto, using(crate::proofs::Unrefused::telling_steps))]
 fn follow_all(
     alloc: Global,
     report: &mut Report,
@@ -489,6 +500,7 @@ fn follow_all(
     ensures told { OnOk result (Tells report.old report.new) }
     ensures follows { IfOk result (λ left.
         FollowsAll pair.now (map seen_waiting waiting.items) «open» left report.old report.new) }
+    ensures unrefused { IfErr result (StopsUnrefused report.old) }
 {
     let mut left = Some(open);
     for packet in waiting {
@@ -501,7 +513,7 @@ fn follow_all(
 }
 
 // Takes a packet of a connection that is followed. None is left of one that is over.
-#[tactic(auto, using(crate::proofs::Tellings::tells_nothing, crate::proofs::Tellings::tells_then, crate::proofs::Tellings::ok_then))]
+#[tactic(auto, using(crate::proofs::Unrefused::telling_steps))]
 fn follow(
     alloc: Global,
     report: &mut Report,
@@ -513,6 +525,7 @@ fn follow(
     ensures told { OnOk result (Tells report.old report.new) }
     ensures follows { IfOk result (λ left.
         Follows pair.now (seen_of segment octets.now) «open» left report.old report.new) }
+    ensures unrefused { IfErr result (StopsUnrefused report.old) }
 {
     let Open {
         connection,
@@ -533,8 +546,9 @@ fn take_segment(
     octets: &[u8],
     told: &mut Vec<Happening>,
 ) -> Result<Followed, Stop>
-    ensures { IfOk result (λ followed.
+    ensures takes { IfOk result (λ followed.
         TakesSegment connection (seen_of segment octets.now) told.old.items told.new.items followed) }
+    ensures memory { IfErr result (λ stop. stop ≡ Memory) }
 {
     match connection.take(alloc, segment, octets, told) {
         Ok(connection) => match connection.ending() {
@@ -549,7 +563,7 @@ fn take_segment(
 }
 
 // A connection goes on, or it is over, by what was heard of it or by what it lacks.
-#[tactic(auto, using(crate::proofs::Tellings::tells_nothing, crate::proofs::Tellings::tells_then, crate::proofs::Tellings::ok_then))]
+#[tactic(auto, using(crate::proofs::Unrefused::telling_steps))]
 fn go_on(
     alloc: Global,
     report: &mut Report,
@@ -561,6 +575,7 @@ fn go_on(
     ensures told { OnOk result (Tells report.old report.new) }
     ensures goes { IfOk result (λ left. report.old.manner ≡ Verdicts
         → GoesOn pair.now logs course followed left report.old report.new) }
+    ensures unrefused { IfErr result (StopsUnrefused report.old) }
 {
     let shortfall = match course {
         Course::Over(shortfall) => shortfall,
@@ -574,7 +589,7 @@ fn go_on(
 }
 
 // Hears what happens, up to a `down`, or a message that no end takes.
-#[tactic(auto, using(crate::proofs::Tellings::tells_nothing, crate::proofs::Tellings::tells_then, crate::proofs::Tellings::ok_then))]
+#[tactic(auto, using(crate::proofs::Unrefused::telling_steps))]
 fn hear_all(
     alloc: Global,
     report: &mut Report,
@@ -586,6 +601,7 @@ fn hear_all(
     ensures heard { IfOk result (λ course. report.old.manner ≡ Verdicts
         → HearsThem report.old.active report.old.passive logs.old told.items course logs.new) }
     ensures same { OnOk result (report.old.manner ≡ Verdicts → report.new ≡ report.old) }
+    ensures unrefused { IfErr result (StopsUnrefused report.old) }
 {
     for happening in told {
         let packet = happening.packet;

@@ -1,8 +1,8 @@
 //! What is told of a session that was running before the capture.
 
-ghost use Rattle.std.specs.Prelude.{OnOk};
+ghost use Rattle.std.specs.Prelude.{IfErr, OnOk};
 ghost use Rattle.hsms_wire.specs.Joined.{IsQuiet};
-ghost use Rattle.hsms_wire.specs.Report.{Tells};
+ghost use Rattle.hsms_wire.specs.Report.{StopsUnrefused, Tells};
 
 use crate::course::Course;
 use crate::report::Report;
@@ -75,10 +75,11 @@ enum Part {
 }
 
 impl Joined {
-    ghost use Rattle.std.specs.Prelude.{◌≡◌, ◌≢◌, ◌⊎◌, None, OnOk, false, true};
+    ghost use Rattle.std.specs.Prelude.{◌≡◌, ◌≢◌, ◌⊎◌, IfErr, None, OnOk, false, true};
+    ghost use Rattle.hsms_accounts.specs.declared.stop.Stop.TheVariants.{Memory};
     ghost use Rattle.hsms_wire.specs.declared.joined.Part.TheVariants.{Message};
     ghost use Rattle.hsms_wire.specs.Joined.{IsQuiet};
-    ghost use Rattle.hsms_wire.specs.Report.{Tells, TellsBy};
+    ghost use Rattle.hsms_wire.specs.Report.{StopsUnrefused, Tells, TellsBy};
 
     /// A session of which nothing is told.
     pub fn new(alloc: Global, start: Start) -> Joined {
@@ -106,6 +107,7 @@ impl Joined {
     ) -> Result<Course, Stop>
         ensures told { OnOk result (Tells report.old report.new) }
         ensures quiet { OnOk result (IsQuiet self.old.is_up self.new.is_up report.old report.new) }
+        ensures unrefused { IfErr result (StopsUnrefused report.old) }
     {
         let is_early = happening.packet < self.start.packet;
         match &happening.event {
@@ -134,6 +136,7 @@ impl Joined {
     ) -> Result<Course, Stop>
         ensures told { OnOk result (Tells report.old report.new) }
         ensures quiet { OnOk result (IsQuiet self.old.is_up self.new.is_up report.old report.new) }
+        ensures unrefused { IfErr result (StopsUnrefused report.old) }
     {
         if self.is_decided {
             return self.tell(alloc, report, pair, happening);
@@ -172,6 +175,7 @@ impl Joined {
     ) -> Result<Course, Stop>
         ensures told { OnOk result (Tells report.old report.new) }
         ensures quiet { OnOk result (IsQuiet self.old.is_up self.new.is_up report.old report.new) }
+        ensures unrefused { IfErr result (StopsUnrefused report.old) }
     {
         self.note(from, message)?;
         if self.waiting.push(happening).is_err() {
@@ -186,6 +190,7 @@ impl Joined {
     // An end sent a message.
     fn note(&mut self, from: Side, message: Header) -> Result<(), Stop>
         ensures same { self.new.is_up ≡ self.old.is_up }
+        ensures memory { IfErr result (λ stop. stop ≡ Memory) }
     {
         match &mut self.said {
             Some(said) => Ok(said.note(from, message)?),
@@ -204,6 +209,7 @@ impl Joined {
     ) -> Result<Course, Stop>
         ensures told { OnOk result (Tells report.old report.new) }
         ensures quiet { OnOk result (IsQuiet self.old.is_up self.new.is_up report.old report.new) }
+        ensures unrefused { IfErr result (StopsUnrefused report.old) }
     {
         match self.settle(alloc, report, pair)? {
             Course::Goes => self.tell(alloc, report, pair, happening),
@@ -221,6 +227,7 @@ impl Joined {
     ) -> Result<Course, Stop>
         ensures told { OnOk result (Tells report.old report.new) }
         ensures quiet { OnOk result (IsQuiet self.old.is_up self.new.is_up report.old report.new) }
+        ensures unrefused { IfErr result (StopsUnrefused report.old) }
     {
         if self.waiting.is_empty() {
             return Ok(Course::Goes);
@@ -232,6 +239,7 @@ impl Joined {
     // What stood before is decided. An end may have asked.
     fn decide(&mut self, alloc: Global, supposed: Supposed, asker: Side) -> Result<(), Stop>
         ensures same { self.new.is_up ≡ self.old.is_up }
+        ensures memory { IfErr result (λ stop. stop ≡ Memory) }
     {
         self.is_decided = true;
         self.supposed = supposed;
@@ -244,10 +252,11 @@ impl Joined {
     }
 
     // It comes up with the first message that is told: what is supposed is told, and what was left out.
-    #[tactic(auto, using(crate::proofs::Tellings::tells_nothing, crate::proofs::Tellings::tells_then, crate::proofs::Tellings::ok_then))]
+    #[tactic(auto, using(crate::proofs::Unrefused::telling_steps))]
     fn come_up(&mut self, alloc: Global, report: &mut Report, pair: &Pair) -> Result<(), Stop>
         ensures told { OnOk result (Tells report.old report.new) }
         ensures up { OnOk result (self.new.is_up ≡ true) }
+        ensures unrefused { IfErr result (StopsUnrefused report.old) }
     {
         if self.is_up {
             return Ok(());
@@ -261,9 +270,10 @@ impl Joined {
     }
 
     // What is supposed is told, besides that the connection came up.
-    #[tactic(auto, using(crate::proofs::Tellings::tells_nothing, crate::proofs::Tellings::tells_then, crate::proofs::Tellings::ok_then))]
+    #[tactic(auto, using(crate::proofs::Unrefused::telling_steps))]
     fn suppose_before(&mut self, alloc: Global, report: &mut Report) -> Result<(), Stop>
         ensures told { OnOk result (Tells report.old report.new) }
+        ensures unrefused { IfErr result (StopsUnrefused report.old) }
     {
         let asker = self.asker;
         match self.supposed {
@@ -274,9 +284,10 @@ impl Joined {
     }
 
     // A Select is supposed, and its answer.
-    #[tactic(auto, using(crate::proofs::Tellings::tells_nothing, crate::proofs::Tellings::tells_then, crate::proofs::Tellings::ok_then))]
+    #[tactic(auto, using(crate::proofs::Unrefused::telling_steps))]
     fn suppose_select(&mut self, alloc: Global, report: &mut Report) -> Result<(), Stop>
         ensures told { OnOk result (Tells report.old report.new) }
+        ensures unrefused { IfErr result (StopsUnrefused report.old) }
     {
         let request = select_req(SUPPOSED_SYSTEM);
         self.suppose(alloc, report, Side::Active, request)?;
@@ -284,7 +295,7 @@ impl Joined {
     }
 
     // A control message is supposed.
-    #[tactic(auto, using(crate::proofs::Tellings::tells_nothing, crate::proofs::Tellings::tells_then, crate::proofs::Tellings::ok_then))]
+    #[tactic(auto, using(crate::proofs::Unrefused::telling_steps))]
     fn suppose(
         &mut self,
         alloc: Global,
@@ -293,6 +304,7 @@ impl Joined {
         header: Header,
     ) -> Result<(), Stop>
         ensures told { OnOk result (Tells report.old report.new) }
+        ensures unrefused { IfErr result (StopsUnrefused report.old) }
     {
         let frame = Frame {
             header,
@@ -302,9 +314,10 @@ impl Joined {
     }
 
     // The messages are told that were left out so far.
-    #[tactic(auto, using(crate::proofs::Tellings::tells_nothing, crate::proofs::Tellings::tells_then, crate::proofs::Tellings::ok_then))]
+    #[tactic(auto, using(crate::proofs::Unrefused::telling_steps))]
     fn tell_left_out(&mut self, alloc: Global, report: &mut Report) -> Result<(), Stop>
         ensures told { OnOk result (Tells report.old report.new) }
+        ensures unrefused { IfErr result (StopsUnrefused report.old) }
     {
         let left_out = mem::replace(&mut self.left_out, Vec::new(alloc));
         for packet in left_out {
@@ -323,6 +336,7 @@ impl Joined {
     ) -> Result<Course, Stop>
         ensures told { OnOk result (Tells report.old report.new) }
         ensures quiet { OnOk result (IsQuiet self.old.is_up self.new.is_up report.old report.new) }
+        ensures unrefused { IfErr result (StopsUnrefused report.old) }
     {
         let waiting = mem::replace(&mut self.waiting, Vec::new(alloc));
         for happening in waiting {
@@ -345,6 +359,7 @@ impl Joined {
     ) -> Result<Course, Stop>
         ensures told { OnOk result (Tells report.old report.new) }
         ensures quiet { OnOk result (IsQuiet self.old.is_up self.new.is_up report.old report.new) }
+        ensures unrefused { IfErr result (StopsUnrefused report.old) }
     {
         let part = self.part_of(&happening, report)?;
         self.tell_as(alloc, report, pair, part, happening)
@@ -363,6 +378,7 @@ impl Joined {
         ensures told { OnOk result (Tells report.old report.new) }
         ensures quiet { OnOk result (IsQuiet self.old.is_up self.new.is_up report.old report.new) }
         ensures up { OnOk result (self.new.is_up ≡ true → (self.old.is_up ≡ true) ⊎ (part ≡ Message)) }
+        ensures unrefused { IfErr result (StopsUnrefused report.old) }
     {
         match part {
             Part::Message => {
@@ -377,6 +393,7 @@ impl Joined {
     // What becomes of what happens. A message is noted.
     fn part_of(&mut self, happening: &Happening, report: &Report) -> Result<Part, Stop>
         ensures same { self.new.is_up ≡ self.old.is_up }
+        ensures memory { IfErr result (λ stop. stop ≡ Memory) }
     {
         let begun = self.start.time;
         let t3 = report.t3();
@@ -402,6 +419,7 @@ impl Joined {
         ensures told { OnOk result (Tells report.old report.new) }
         ensures quiet { OnOk result (IsQuiet self.old.is_up self.new.is_up report.old report.new) }
         ensures same { self.new.is_up ≡ self.old.is_up }
+        ensures unrefused { IfErr result (StopsUnrefused report.old) }
     {
         if self.is_up {
             report.leave_out(alloc, &mut self.ends, packet)?;
@@ -425,6 +443,7 @@ impl Joined {
         ensures told { OnOk result (Tells report.old report.new) }
         ensures quiet { OnOk result (IsQuiet self.old.is_up self.new.is_up report.old report.new) }
         ensures same { self.new.is_up ≡ self.old.is_up }
+        ensures unrefused { IfErr result (StopsUnrefused report.old) }
     {
         if self.is_up {
             return self.tell_up(alloc, report, pair, happening);
@@ -437,7 +456,7 @@ impl Joined {
     }
 
     // What happens is told of a session that came up.
-    #[tactic(auto, using(crate::proofs::Tellings::tells_nothing, crate::proofs::Tellings::tells_then, crate::proofs::Tellings::ok_then))]
+    #[tactic(auto, using(crate::proofs::Unrefused::telling_steps))]
     fn tell_up(
         &mut self,
         alloc: Global,
@@ -447,6 +466,7 @@ impl Joined {
     ) -> Result<Course, Stop>
         ensures told { OnOk result (Tells report.old report.new) }
         ensures same { self.new.is_up ≡ self.old.is_up }
+        ensures unrefused { IfErr result (StopsUnrefused report.old) }
     {
         let packet = happening.packet;
         let heard = report.hear(alloc, pair, &mut self.ends, happening)?;
@@ -455,7 +475,7 @@ impl Joined {
 
     /// The session is over. Where it never came up nothing is told, unless something is missing: then that it has no
     /// verdict.
-    #[tactic(auto, using(crate::proofs::Tellings::tells_nothing, crate::proofs::Tellings::tells_then, crate::proofs::Tellings::ok_then))]
+    #[tactic(auto, using(crate::proofs::Unrefused::telling_steps))]
     pub fn conclude(
         self,
         alloc: Global,
@@ -467,6 +487,7 @@ impl Joined {
         ensures quiet { self.is_up ≡ false → shortfall ≡ None → OnOk result (report.new ≡ report.old) }
         ensures missing { self.is_up ≡ false → shortfall ≢ None
             → OnOk result (TellsBy report.old.manner pair.now shortfall None report.old report.new) }
+        ensures unrefused { IfErr result (StopsUnrefused report.old) }
     {
         let Joined {
             start: _,
@@ -489,10 +510,11 @@ impl Joined {
     }
 
     /// A later connection of the same ends replaces it.
-    #[tactic(auto, using(crate::proofs::Tellings::tells_nothing, crate::proofs::Tellings::tells_then, crate::proofs::Tellings::ok_then))]
+    #[tactic(auto, using(crate::proofs::Unrefused::telling_steps))]
     pub fn replace(&mut self, alloc: Global, report: &mut Report) -> Result<(), Stop>
         ensures told { OnOk result (Tells report.old report.new) }
         ensures quiet { self.old.is_up ≡ false → OnOk result (report.new ≡ report.old) }
+        ensures unrefused { IfErr result (StopsUnrefused report.old) }
     {
         if !self.is_up {
             return Ok(());

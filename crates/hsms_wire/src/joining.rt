@@ -1,7 +1,7 @@
 //! A session that was running before the capture, until both of its directions have begun.
 
-ghost use Rattle.std.specs.Prelude.{OnOk};
-ghost use Rattle.hsms_wire.specs.Report.{Tells};
+ghost use Rattle.std.specs.Prelude.{IfErr, OnOk};
+ghost use Rattle.hsms_wire.specs.Report.{StopsUnrefused, Tells};
 
 use crate::report::Report;
 use crate::within::{Within, take_all};
@@ -19,7 +19,7 @@ pub enum Joining {
 }
 
 /// One packet more is kept, and taken with those before it once both directions have begun.
-#[tactic(auto, using(crate::proofs::Tellings::tells_nothing, crate::proofs::Tellings::tells_then, crate::proofs::Tellings::ok_then))]
+#[tactic(auto, using(crate::proofs::Unrefused::telling_steps))]
 pub fn gather(
     alloc: Global,
     report: &mut Report,
@@ -29,6 +29,7 @@ pub fn gather(
     octets: &[u8],
 ) -> Result<Joining, Stop>
     ensures told { OnOk result (Tells report.old report.new) }
+    ensures unrefused { IfErr result (StopsUnrefused report.old) }
 {
     let mut gathering = gathering;
     gathering.take(alloc, segment, octets)?;
@@ -40,7 +41,7 @@ pub fn gather(
 }
 
 /// The packets that are kept are taken, where both directions surely begin or no more are kept.
-#[tactic(auto, using(crate::proofs::Tellings::tells_nothing, crate::proofs::Tellings::tells_then, crate::proofs::Tellings::ok_then))]
+#[tactic(auto, using(crate::proofs::Unrefused::telling_steps))]
 pub fn begin(
     alloc: Global,
     report: &mut Report,
@@ -49,6 +50,7 @@ pub fn begin(
     is_last: bool,
 ) -> Result<Joining, Stop>
     ensures told { OnOk result (Tells report.old report.new) }
+    ensures unrefused { IfErr result (StopsUnrefused report.old) }
 {
     let Some(beginnings) = gathering.beginnings(alloc, report.session(), is_last)? else {
         return Ok(Joining::Gathers(gathering));
@@ -60,7 +62,7 @@ pub fn begin(
 }
 
 // The packets that are kept are taken as those of a session whose directions begin so.
-#[tactic(auto, using(crate::proofs::Tellings::tells_nothing, crate::proofs::Tellings::tells_then, crate::proofs::Tellings::ok_then))]
+#[tactic(auto, using(crate::proofs::Unrefused::telling_steps))]
 fn take_from(
     alloc: Global,
     report: &mut Report,
@@ -69,6 +71,7 @@ fn take_from(
     beginnings: Beginnings,
 ) -> Result<Option<Within>, Stop>
     ensures told { OnOk result (Tells report.old report.new) }
+    ensures unrefused { IfErr result (StopsUnrefused report.old) }
 {
     let packets = gathering.packets();
     let active = beginnings.active.number;

@@ -41,11 +41,13 @@ impl Report {
     ghost use Rattle.hsms_lines.specs.Devices.{IsWrite};
     ghost use Rattle.hsms_wire.specs.Capturing.{GrowsBySome};
     ghost use Rattle.hsms_wire.specs.declared.report.Manner.TheVariants.{Verdicts};
+    ghost use Rattle.hsms_accounts.specs.Stop.{IsNoRefusal};
     ghost use Rattle.hsms_accounts.specs.declared.stop.Stop.TheVariants.{Memory};
     ghost use Rattle.hsms_wire.specs.Followed.{Begins, HearsOn, Replaces, TellsOnce};
     ghost use Rattle.hsms_wire.specs.LeftOut.{line_of, none_left_out};
     ghost use Rattle.hsms_wire.specs.Line.{end_line_of};
-    ghost use Rattle.hsms_wire.specs.Report.{Finishes, IsTold, Tells, TellsBy, TellsVerdicts, failed_after, first_of, found_of, missing_after, nothing_found, role_at};
+    ghost use Rattle.hsms_wire.specs.Stop.{IsRefused};
+    ghost use Rattle.hsms_wire.specs.Report.{Finishes, IsTold, StopsUnrefused, Tells, TellsBy, TellsVerdicts, failed_after, first_of, found_of, missing_after, nothing_found, role_at};
 
     /// Nothing is told yet.
     pub fn new(alloc: Global, options: &Capturing) -> Report
@@ -93,7 +95,7 @@ impl Report {
     }
 
     /// Something happens on the connection of a pair.
-    #[tactic(auto, using(crate::proofs::Tellings::tells_nothing, crate::proofs::Tellings::log_tells))]
+    #[tactic(auto, using(crate::proofs::Unrefused::telling_steps))]
     pub fn hear(
         &mut self,
         alloc: Global,
@@ -105,6 +107,7 @@ impl Report {
         ensures heard { IfOk result (λ heard. self.old.manner ≡ Verdicts
             → HearsOn self.old.active self.old.passive happening heard ends.old ends.new) }
         ensures same { OnOk result (self.old.manner ≡ Verdicts → self.new ≡ self.old) }
+        ensures unrefused { IfErr result (StopsUnrefused self.old) }
     {
         self.begin(alloc, ends)?;
         match (&mut self.manner, ends) {
@@ -116,8 +119,9 @@ impl Report {
 
     // Begins the logs of the ends of a connection, where they are audited.
     fn begin(&self, alloc: Global, ends: &mut Option<Box<Ends>>) -> Result<(), Stop>
-        ensures { OnOk result (self.now.manner ≡ Verdicts
+        ensures begins { OnOk result (self.now.manner ≡ Verdicts
             → Begins self.now.active self.now.passive ends.old ends.new) }
+        ensures unrefused { IfErr result IsNoRefusal }
     {
         match &self.manner {
             Manner::Verdicts if ends.is_none() => {
@@ -133,11 +137,12 @@ impl Report {
     }
 
     /// The connection is replaced by a later one of the same pair, and was up.
-    #[tactic(auto, using(crate::proofs::Tellings::tells_nothing, crate::proofs::Tellings::log_tells))]
+    #[tactic(auto, using(crate::proofs::Unrefused::telling_steps))]
     pub fn replace(&mut self, alloc: Global, ends: &mut Option<Box<Ends>>) -> Result<(), Stop>
         ensures told { OnOk result (Tells self.old self.new) }
         ensures replaced { OnOk result (self.old.manner ≡ Verdicts → Replaces ends.old ends.new) }
         ensures same { OnOk result (self.old.manner ≡ Verdicts → self.new ≡ self.old) }
+        ensures unrefused { IfErr result (StopsUnrefused self.old) }
     {
         match (&mut self.manner, ends) {
             (Manner::Log(journal), _) => journal.replace(&mut self.page),
@@ -148,7 +153,7 @@ impl Report {
 
     /// The connection of a pair came up at a time, as it is supposed: the packet with this number is the first that
     /// counts.
-    #[tactic(auto, using(crate::proofs::Tellings::tells_nothing, crate::proofs::Tellings::log_tells))]
+    #[tactic(auto, using(crate::proofs::Unrefused::telling_steps))]
     pub fn suppose_up(
         &mut self,
         alloc: Global,
@@ -158,6 +163,7 @@ impl Report {
         time: u64,
     ) -> Result<(), Stop>
         ensures told { OnOk result (Tells self.old self.new) }
+        ensures unrefused { IfErr result (StopsUnrefused self.old) }
     {
         self.begin(alloc, ends)?;
         match (&mut self.manner, ends) {
@@ -170,7 +176,7 @@ impl Report {
     }
 
     /// An end sent a message, as it is supposed.
-    #[tactic(auto, using(crate::proofs::Tellings::tells_nothing, crate::proofs::Tellings::log_tells))]
+    #[tactic(auto, using(crate::proofs::Unrefused::telling_steps))]
     pub fn suppose_message(
         &mut self,
         alloc: Global,
@@ -179,6 +185,7 @@ impl Report {
         frame: Frame,
     ) -> Result<(), Stop>
         ensures told { OnOk result (Tells self.old self.new) }
+        ensures unrefused { IfErr result (StopsUnrefused self.old) }
     {
         match (&mut self.manner, ends) {
             (Manner::Log(journal), _) => journal.suppose_message(&mut self.page, from, frame),
@@ -188,7 +195,7 @@ impl Report {
     }
 
     /// There is no entry of a packet: what it answers may stand before the capture.
-    #[tactic(auto, using(crate::proofs::Tellings::tells_nothing, crate::proofs::Tellings::log_tells))]
+    #[tactic(auto, using(crate::proofs::Unrefused::telling_steps))]
     pub fn leave_out(
         &mut self,
         alloc: Global,
@@ -196,6 +203,7 @@ impl Report {
         packet: u64,
     ) -> Result<(), Stop>
         ensures told { OnOk result (Tells self.old self.new) }
+        ensures unrefused { IfErr result (StopsUnrefused self.old) }
     {
         match (&mut self.manner, ends) {
             (Manner::Log(journal), _) => journal.leave_out(&mut self.page, packet),
@@ -231,7 +239,7 @@ impl Report {
     /// # Errors
     ///
     /// `Refused` where something is missing of a log; `Memory`.
-    #[tactic(auto, using(crate::proofs::Tellings::concluded))]
+    #[tactic(auto, using(crate::proofs::Tellings::concluded, crate::proofs::Unrefused::unrefused_steps))]
     pub fn conclude(
         &mut self,
         alloc: Global,
@@ -246,6 +254,7 @@ impl Report {
         ensures lines { OnOk result (TellsBy self.old.manner pair.now shortfall ends self.old self.new) }
         ensures same { OnOk result (self.new.manner ≡ self.old.manner) }
         ensures goes { OnOk result ((shortfall ≡ None) ⊎ (self.old.manner ≡ Verdicts)) }
+        ensures unrefused { IfErr result (StopsUnrefused self.old) }
     {
         self.conclude_with(alloc, shortfall)?;
         self.tell(alloc, pair, ends, shortfall)?;
@@ -253,12 +262,14 @@ impl Report {
     }
 
     // Notes that a connection is told, and what it lacks. Behind that no log of an end goes on.
+    #[tactic(auto, using(crate::proofs::Unrefused::unrefused_steps))]
     fn conclude_with(&mut self, alloc: Global, shortfall: Option<Shortfall>) -> Result<(), Stop>
         ensures noted { OnOk result (self.new ≡ record self.old {
           has_told = true;
           shortfall = missing_after self.old.shortfall shortfall;
         }) }
         ensures goes { OnOk result ((shortfall ≡ None) ⊎ (self.old.manner ≡ Verdicts)) }
+        ensures unrefused { IfErr result (StopsUnrefused self.old) }
     {
         self.has_told = true;
         let Some(shortfall) = shortfall else {
@@ -281,6 +292,7 @@ impl Report {
     ) -> Result<(), Stop>
         ensures lines { OnOk result (TellsBy self.old.manner pair.now shortfall ends self.old self.new) }
         ensures same { OnOk result (self.new ≡ record self.old { has_failed = self.new.has_failed; page = self.new.page }) }
+        ensures memory { IfErr result (λ stop. stop ≡ Memory) }
     {
         match (&self.manner, ends) {
             (Manner::Verdicts, Some(ends)) => self.tell_verdicts(alloc, pair, ends, shortfall),
@@ -318,6 +330,7 @@ impl Report {
     ) -> Result<(), Stop>
         ensures lines { OnOk result (TellsVerdicts pair.now shortfall (Some ends) self.old self.new) }
         ensures same { OnOk result (self.new ≡ record self.old { has_failed = self.new.has_failed; page = self.new.page }) }
+        ensures memory { IfErr result (λ stop. stop ≡ Memory) }
     {
         let (active, passive) = ends.verdicts(alloc)?;
         self.tell_ends(alloc, pair, shortfall, Some(active), Some(passive))
@@ -332,6 +345,7 @@ impl Report {
     ) -> Result<(), Stop>
         ensures lines { OnOk result (TellsVerdicts pair.now shortfall None self.old self.new) }
         ensures same { OnOk result (self.new ≡ record self.old { has_failed = self.new.has_failed; page = self.new.page }) }
+        ensures memory { IfErr result (λ stop. stop ≡ Memory) }
     {
         self.tell_ends(alloc, pair, shortfall, None, None)
     }
@@ -348,6 +362,7 @@ impl Report {
         ensures told { OnOk result (IsTold
             (record { pair = pair.now; shortfall = shortfall; active = active; passive = passive }) self.old self.new) }
         ensures same { OnOk result (self.new ≡ record self.old { has_failed = self.new.has_failed; page = self.new.page }) }
+        ensures memory { IfErr result (λ stop. stop ≡ Memory) }
     {
         self.tell_end(alloc, pair, Side::Active, shortfall, active)?;
         self.tell_end(alloc, pair, Side::Passive, shortfall, passive)?;
@@ -367,6 +382,7 @@ impl Report {
             ≡ self.old.page.octets ++ end_line_of pair.now (role_at self.old side) side shortfall told) }
         ensures failed { OnOk result
             (self.new ≡ record self.old { has_failed = failed_after self.old.has_failed told; page = self.new.page }) }
+        ensures memory { IfErr result (λ stop. stop ≡ Memory) }
     {
         let line = end_line(alloc, pair, self.role_of(side), side, shortfall, told)?;
         self.page.lay(line.as_bytes())?;
@@ -391,9 +407,12 @@ impl Report {
     ///
     /// `Refused` where something is missing and no log fails, in the words of what was missing first, and where there was
     /// no connection; `Memory`.
+    #[tactic(auto, using(crate::proofs::Refusing::memory_refuses, crate::proofs::Refusing::err_holds))]
     pub fn finish(&mut self, alloc: Global) -> Result<bool, Stop>
         ensures answer { Finishes (found_of self.old) result }
         ensures page { OnOk result (self.new.page.octets ≡ self.old.page.octets ++ line_of self.old.left_out) }
+        ensures refused { IfErr result (λ stop. IsRefused stop
+            → self.new.page.octets ≡ self.old.page.octets ++ line_of self.old.left_out) }
     {
         self.tell_left_out(alloc)?;
         self.answer(alloc)

@@ -56,11 +56,11 @@ impl Drop for Table {
 }
 
 impl Table {
-    ghost use Rattle.std.specs.Prelude.{◌≡◌, ◌↔◌, ℕ, [], true, false, IfOk, OnOk, IfNone, IfSome, IsTrue, Some};
+    ghost use Rattle.std.specs.Prelude.{◌≡◌, ◌↔◌, ℕ, [], true, false, IfErr, IfOk, OnOk, IfNone, IfSome, IsTrue, Some};
     ghost use Rattle.hsms_capture.specs.Known.{seen_of};
     ghost use Rattle.hsms_accounts.specs.Pair.{IsOfPeer};
     ghost use Rattle.hsms_wire.specs.Kept.{EndsAsDealt, TakesAsDealt};
-    ghost use Rattle.hsms_wire.specs.Report.{Tells};
+    ghost use Rattle.hsms_wire.specs.Report.{StopsUnrefused, Tells};
     ghost use Rattle.hsms_wire.specs.Segments.{pair_at};
     ghost use Rattle.hsms_wire.specs.Staged.{EndsFlows, IsForgotten};
     ghost use Rattle.hsms_wire.specs.Tabled.{BeginsFlow, BeginsWith, FollowsFlow, HasFlow, Joins, KeepsOf, ReplacesFlow, TakesOf, TakesPacket, is_live};
@@ -81,7 +81,7 @@ impl Table {
     }
 
     /// Takes a packet. What is answered is why nothing behind it can be told.
-    #[tactic(auto, using(crate::proofs::Tellings::tells_nothing, crate::proofs::Tellings::tells_then, crate::proofs::Tellings::ok_then))]
+    #[tactic(auto, using(crate::proofs::Unrefused::telling_steps))]
     pub fn take(
         &mut self,
         alloc: Global,
@@ -94,6 +94,7 @@ impl Table {
             report.old report.new) }
         ensures deals { IfOk result (λ missing. TakesAsDealt segment.now capture.entry missing self.old self.new
             report.old report.new) }
+        ensures unrefused { IfErr result (StopsUnrefused report.old) }
     {
         match self.pair_of(segment) {
             Some((pair, from)) => self.take_of(alloc, report, pair, from, segment, capture),
@@ -102,7 +103,7 @@ impl Table {
     }
 
     /// Tells what is left of each connection, in the order in which they began.
-    #[tactic(auto, using(crate::proofs::Tellings::tells_nothing, crate::proofs::Tellings::tells_then, crate::proofs::Tellings::ok_then))]
+    #[tactic(auto, using(crate::proofs::Unrefused::telling_steps))]
     pub fn finish(
         self,
         alloc: Global,
@@ -112,6 +113,7 @@ impl Table {
         ensures told { OnOk result (Tells report.old report.new) }
         ensures ends { OnOk result (EndsFlows missing self.flows.entries report.old report.new) }
         ensures deals { OnOk result (EndsAsDealt missing self report.old report.new) }
+        ensures unrefused { IfErr result (StopsUnrefused report.old) }
     {
         let Table {
             port: _,
@@ -127,7 +129,7 @@ impl Table {
     }
 
     // Takes a packet that an end of a pair sent.
-    #[tactic(auto, using(crate::proofs::Tellings::tells_nothing, crate::proofs::Tellings::tells_then, crate::proofs::Tellings::ok_then))]
+    #[tactic(auto, using(crate::proofs::Unrefused::telling_steps))]
     fn take_of(
         &mut self,
         alloc: Global,
@@ -140,6 +142,7 @@ impl Table {
         ensures told { OnOk result (Tells report.old report.new) }
         ensures takes { IfOk result (λ missing. TakesOf pair from segment.now capture.entry missing self.old self.new
             report.old report.new) }
+        ensures unrefused { IfErr result (StopsUnrefused report.old) }
     {
         let syn = self.new_syn(&pair, from, segment);
         let begins = syn.is_some() || self.joins(&pair, segment);
@@ -241,9 +244,10 @@ impl Table {
     }
 
     // Ends the connection of a pair, since another one replaces it.
-    #[tactic(auto, using(crate::proofs::Tellings::tells_nothing, crate::proofs::Tellings::tells_then, crate::proofs::Tellings::ok_then))]
+    #[tactic(auto, using(crate::proofs::Unrefused::telling_steps))]
     fn replace(&mut self, alloc: Global, report: &mut Report, pair: &Pair) -> Result<(), Stop>
         ensures told { OnOk result (Tells report.old report.new) }
+        ensures unrefused { IfErr result (StopsUnrefused report.old) }
         ensures replaces { OnOk result (ReplacesFlow pair.now self.old self.new report.old report.new) }
     {
         if let Some(before) = self.flows.shift_remove(pair) {
@@ -254,7 +258,7 @@ impl Table {
 
     // Begins a connection of a pair, with a SYN of this number if there is one, and ends the one before, whichever of its
     // ends connected.
-    #[tactic(auto, using(crate::proofs::Tellings::tells_nothing, crate::proofs::Tellings::tells_then, crate::proofs::Tellings::ok_then))]
+    #[tactic(auto, using(crate::proofs::Unrefused::telling_steps))]
     fn begin(
         &mut self,
         alloc: Global,
@@ -263,6 +267,7 @@ impl Table {
         syn: Option<u32>,
     ) -> Result<(), Stop>
         ensures told { OnOk result (Tells report.old report.new) }
+        ensures unrefused { IfErr result (StopsUnrefused report.old) }
         ensures begins { OnOk result (BeginsFlow pair syn self.old self.new report.old report.new) }
     {
         self.replace(alloc, report, &pair.turned())?;
@@ -294,7 +299,7 @@ impl Table {
     }
 
     // Takes a packet of the connection of a pair.
-    #[tactic(auto, using(crate::proofs::Tellings::tells_nothing, crate::proofs::Tellings::tells_then, crate::proofs::Tellings::ok_then))]
+    #[tactic(auto, using(crate::proofs::Unrefused::telling_steps))]
     fn follow(
         &mut self,
         alloc: Global,
@@ -306,6 +311,7 @@ impl Table {
         ensures told { OnOk result (Tells report.old report.new) }
         ensures follows { OnOk result (FollowsFlow pair.now (seen_of segment octets.now) self.old self.new
             report.old report.new) }
+        ensures unrefused { IfErr result (StopsUnrefused report.old) }
     {
         let Some(flow) = self.flows.get_mut(pair) else {
             return Ok(());

@@ -1,7 +1,8 @@
 //! A connection of a session that was running before the capture, once both of its directions have begun.
 
-ghost use Rattle.std.specs.Prelude.{OnOk};
-ghost use Rattle.hsms_wire.specs.Report.{Tells};
+ghost use Rattle.std.specs.Prelude.{◌≡◌, IfErr, OnOk};
+ghost use Rattle.hsms_accounts.specs.declared.stop.Stop.TheVariants.{Memory};
+ghost use Rattle.hsms_wire.specs.Report.{StopsUnrefused, Tells};
 
 use crate::course::Course;
 use crate::joined::Joined;
@@ -56,7 +57,9 @@ impl Within {
     /// # Errors
     ///
     /// `Memory`.
-    pub fn new(alloc: Global, beginnings: Beginnings, start: Start) -> Result<Within, Stop> {
+    pub fn new(alloc: Global, beginnings: Beginnings, start: Start) -> Result<Within, Stop>
+        ensures memory { IfErr result (λ stop. stop ≡ Memory) }
+    {
         let active = beginnings.active.number;
         let passive = beginnings.passive.number;
         let connection = Connection::new(alloc, active.wrapping_sub(1), passive.wrapping_sub(1));
@@ -73,7 +76,7 @@ impl Within {
     }
 
     /// It takes a packet; none is left where nothing more is told of it.
-    #[tactic(auto, using(crate::proofs::Tellings::tells_nothing, crate::proofs::Tellings::tells_then, crate::proofs::Tellings::ok_then))]
+    #[tactic(auto, using(crate::proofs::Unrefused::telling_steps))]
     pub fn take(
         self,
         alloc: Global,
@@ -83,6 +86,7 @@ impl Within {
         octets: &[u8],
     ) -> Result<Option<Within>, Stop>
         ensures told { OnOk result (Tells report.old report.new) }
+        ensures unrefused { IfErr result (StopsUnrefused report.old) }
     {
         let begin = self.begin_of(segment.from);
         let Within {
@@ -113,7 +117,7 @@ impl Within {
 
     /// Tells what is left of it, where no packet follows: since a later connection replaces it, or at the end of what is
     /// read, where something may be missing.
-    #[tactic(auto, using(crate::proofs::Tellings::tells_nothing, crate::proofs::Tellings::tells_then, crate::proofs::Tellings::ok_then))]
+    #[tactic(auto, using(crate::proofs::Unrefused::telling_steps))]
     pub fn end(
         self,
         alloc: Global,
@@ -123,6 +127,7 @@ impl Within {
         missing: Option<Shortfall>,
     ) -> Result<(), Stop>
         ensures told { OnOk result (Tells report.old report.new) }
+        ensures unrefused { IfErr result (StopsUnrefused report.old) }
     {
         let Within {
             connection,
@@ -157,7 +162,7 @@ impl Within {
 }
 
 /// Takes the packets that were kept until both directions had begun.
-#[tactic(auto, using(crate::proofs::Tellings::tells_nothing, crate::proofs::Tellings::tells_then, crate::proofs::Tellings::ok_then))]
+#[tactic(auto, using(crate::proofs::Unrefused::telling_steps))]
 pub fn take_all(
     alloc: Global,
     report: &mut Report,
@@ -166,6 +171,7 @@ pub fn take_all(
     packets: &[Gathered],
 ) -> Result<Option<Within>, Stop>
     ensures told { OnOk result (Tells report.old report.new) }
+    ensures unrefused { IfErr result (StopsUnrefused report.old) }
 {
     let mut left = Some(within);
     for packet in packets.iter() {
@@ -178,7 +184,9 @@ pub fn take_all(
 }
 
 // A connection takes one of the packets by which it came up.
-fn opened(alloc: Global, connection: Connection, segment: Segment) -> Result<Connection, Stop> {
+fn opened(alloc: Global, connection: Connection, segment: Segment) -> Result<Connection, Stop>
+    ensures memory { IfErr result (λ stop. stop ≡ Memory) }
+{
     let mut told = Vec::new(alloc);
     match connection.take(alloc, segment, &[], &mut told) {
         Ok(connection) => Ok(connection),
@@ -194,7 +202,9 @@ fn take_segment(
     segment: Segment,
     octets: &[u8],
     told: &mut Vec<Happening>,
-) -> Result<Followed, Stop> {
+) -> Result<Followed, Stop>
+    ensures memory { IfErr result (λ stop. stop ≡ Memory) }
+{
     let (_, kept) = octets.split_at(octets_before(begin, segment.number, octets.len()));
     let cut = segment_from(begin, segment, octets.len());
     let counted = Segment {
@@ -235,7 +245,7 @@ fn over_by(course: Course, followed: Followed) -> Followed {
 }
 
 // Hears what happens.
-#[tactic(auto, using(crate::proofs::Tellings::tells_nothing, crate::proofs::Tellings::tells_then, crate::proofs::Tellings::ok_then))]
+#[tactic(auto, using(crate::proofs::Unrefused::telling_steps))]
 fn hear_all(
     alloc: Global,
     report: &mut Report,
@@ -245,6 +255,7 @@ fn hear_all(
     told: Vec<Happening>,
 ) -> Result<Course, Stop>
     ensures told { OnOk result (Tells report.old report.new) }
+    ensures unrefused { IfErr result (StopsUnrefused report.old) }
 {
     for happening in told {
         let happening = timed(bare_resets, happening);
@@ -268,7 +279,7 @@ fn timed(bare_resets: &[u64], happening: Happening) -> Happening {
 }
 
 // It is over, and what waits is told before.
-#[tactic(auto, using(crate::proofs::Tellings::tells_nothing, crate::proofs::Tellings::tells_then, crate::proofs::Tellings::ok_then))]
+#[tactic(auto, using(crate::proofs::Unrefused::telling_steps))]
 fn finish(
     alloc: Global,
     report: &mut Report,
@@ -277,6 +288,7 @@ fn finish(
     shortfall: Option<Shortfall>,
 ) -> Result<(), Stop>
     ensures told { OnOk result (Tells report.old report.new) }
+    ensures unrefused { IfErr result (StopsUnrefused report.old) }
 {
     let mut joined = joined;
     match joined.settle(alloc, report, pair)? {
@@ -286,9 +298,10 @@ fn finish(
 }
 
 // It is over since a later one replaces it, and lacks nothing. What waits is told before.
-#[tactic(auto, using(crate::proofs::Tellings::tells_nothing, crate::proofs::Tellings::tells_then, crate::proofs::Tellings::ok_then))]
+#[tactic(auto, using(crate::proofs::Unrefused::telling_steps))]
 fn replace(alloc: Global, report: &mut Report, pair: &Pair, joined: Joined) -> Result<(), Stop>
     ensures told { OnOk result (Tells report.old report.new) }
+    ensures unrefused { IfErr result (StopsUnrefused report.old) }
 {
     let mut joined = joined;
     match joined.settle(alloc, report, pair)? {

@@ -1,3 +1,5 @@
+use Rattle.std.proofs.lemmas.Result.{err_from_is_err_and}
+use Rattle.hsms_wire.proofs.Refusing.{concludes_refused, left_refuses}
 use Rattle.hsms_wire.proofs.Tellings.{concludes}
 use Rattle.hsms_wire.proofs.Whole.{concludes_dealt}
 use Rattle.hsms_wire.proofs.capturing.conclude.Goals as goal
@@ -8,4 +10,13 @@ returns c = record {
       c.note_missing.ensures c.in_ok-finish.ensures.told c.finish-2.ensures.answer c.finish-2.ensures.page;
   deals = concludes_dealt c.args.missing c.args.table c.args.report.now c.note_missing.new.self c.finish.new.report c.finish-2.new.self c.finish-2.result
       c.note_missing.ensures c.in_ok-finish.ensures.deals c.finish-2.ensures.answer c.finish-2.ensures.page;
+  refuses = concludes_refused c.args.missing c.args.table c.args.report.now c.note_missing.new.self c.finish.new.report c.finish-2.new.self c.finish-2.result
+      c.note_missing.ensures c.in_ok-finish.ensures.deals c.finish-2.ensures.answer c.finish-2.ensures.refused;
 }
+
+pub returns-in_err-finish-clause-refuses : goal.returns-in_err-finish-clause-refuses
+returns-in_err-finish-clause-refuses c =
+    let p = err_from_is_err_and c.from_residual.result c.from_residual.ensures.1 in
+    rw (p.1, p.2)
+    (left_refuses c.args.missing c.args.table c.args.report.now c.note_missing.new.self c.finish.new.report _ c.note_missing.ensures
+    c.in_err-finish.ensures.unrefused)

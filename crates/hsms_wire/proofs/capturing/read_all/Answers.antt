@@ -3,6 +3,8 @@ use Rattle.hsms_packets.specs.declared.packets.Step.{Step}
 use Rattle.hsms_packets.specs.Blocks.{CountsOn}
 use Rattle.hsms_packets.specs.File.{State}
 use Rattle.hsms_wire.specs.Capturing.{IsMissingBy}
+use Rattle.std.proofs.lemmas.Result.{err_from_is_err_and}
+use Rattle.hsms_wire.proofs.Refusing.{fails_device, missing_fails}
 use Rattle.hsms_wire.proofs.Tellings.{writes_nothing, writes_then}
 use Rattle.hsms_wire.proofs.Whole.{begins_so, counts_packet, counts_passed, ends_complete, ends_faulty, goes_so, passes_so, stops_so}
 use Rattle.hsms_wire.proofs.Written.{none_more, some_more}
@@ -84,3 +86,11 @@ returns-in-Err-clause-deals g c =
     c.in_ok-missing_by-in-Err.field-0 c.loop.invariant.5 c.in-Err.ensures.step
     (subst (λ (n : ℕ). IsMissingBy c.in-Err.fault n (Ok c.in_ok-missing_by-in-Err.field-0))
     (c.packets-in-Err.ensures ∙ ap (λ (s : State). s.packets) c.reader.ensures) c.in_ok-missing_by-in-Err.ensures)
+
+pub returns-in_err-missing_by-in-Err-clause-unrefused : goal.returns-in_err-missing_by-in-Err-clause-unrefused
+returns-in_err-missing_by-in-Err-clause-unrefused g c =
+    let p = err_from_is_err_and c.from_residual.result c.from_residual.ensures.1 in
+    rw (p.1, p.2) (λ empty. missing_fails c.in-Err.fault c.packets-in-Err.result c.args.report.now _ c.in_err-missing_by-in-Err.ensures)
+
+pub returns-clause-unrefused : goal.returns-clause-unrefused
+returns-clause-unrefused g c = λ empty. fails_device c.args.report.now _ (λ refusal. refusal)

@@ -17,6 +17,7 @@ pub returns-in-Other : goal.returns-in-Other
 returns-in-Other c = record {
   told = (_, tells_nothing c.args.report.now);
   deals = other_shows c.args.packet c.args.record.now c.args.octets.now c.args.table.now c.args.report.now (sym c.segment_of.ensures ∙ c.in-Other.is);
+  unrefused = tt;
 }
 
 pub returns-in-LeftOut : goal.returns-in-LeftOut
@@ -25,4 +26,5 @@ returns-in-LeftOut c = record {
   deals = left_out_shows c.args.packet c.args.record.now c.args.octets.now c.in-LeftOut.reason c.args.table.now c.args.report.now _
       (sym c.segment_of.ensures ∙ c.in-LeftOut.is)
       (ap (λ (counts : LeftOut). record c.args.report.now { left_out = counts }) c.count.ensures);
+  unrefused = tt;
 }

@@ -3,8 +3,8 @@ use Rattle.hsms_log.specs.Spelling.{settings_line}
 use Rattle.hsms_accounts.proofs.Logs.{begins}
 use Rattle.hsms_accounts.proofs.account.Account.new.Goals as goal
 
-pub returns : goal.returns
-returns c =
+pub returns-clause-begins : goal.returns-clause-begins
+returns-clause-begins c =
     begins _ c.hear.new.self c.args.settings.now c.octets.result.now c.each_text_has_one_verdict.ensures.one c.empty_log_is_run.ensures
     c.written_log_is_its_text.ensures c.settings_are_in_range.ensures c.new.ensures.heard refl refl
     (c.octets.ensures ∙ c.in_ok-lay_settings.ensures.laid ∙ ap (λ (l : List ℕ). l ++ (settings_line c.args.settings.now ++ 10 ∷ [])) c.new-text.ensures)

@@ -21,13 +21,13 @@ returns-clause-heard c =
           never_ok c.match-self.result verdicts _ (λ (v : c.args.self.now.manner ≡ Verdicts). let no : ⊥ = (let log = w.in-Log-default.is-0 in cc) in no)
       | in-Verdicts-Some w ↦
           rw (w.result-is, w.ends-is) (heard_ok w.hear-in-Verdicts-Some.result verdicts c.args.self.now.active c.args.self.now.passive c.args.happening c.args.ends.now
-          c.begin.new.ends w.in-Verdicts-Some.ends _ w.deref_mut.result.now c.in_ok-begin.ensures w.in-Verdicts-Some.is-1 w.deref_mut.ensures.value
+          c.begin.new.ends w.in-Verdicts-Some.ends _ w.deref_mut.result.now c.in_ok-begin.ensures.begins w.in-Verdicts-Some.is-1 w.deref_mut.ensures.value
           w.hear-in-Verdicts-Some.ensures.active w.hear-in-Verdicts-Some.ensures.passive w.hear-in-Verdicts-Some.ensures.answer
           w.hear-in-Verdicts-Some.ensures.time w.hear-in-Verdicts-Some.ensures.max)
       | in-Verdicts-None+in-Message-1 w ↦
           none_ok c.match-self.result verdicts c.args.self.now.active c.args.self.now.passive c.args.happening c.args.ends.now c.begin.new.ends c.match-self.ends
-          c.in_ok-begin.ensures w.in-Verdicts-None.is-1
+          c.in_ok-begin.ensures.begins w.in-Verdicts-None.is-1
       | in-Verdicts-None+in-Up-1 w ↦
           none_ok c.match-self.result verdicts c.args.self.now.active c.args.self.now.passive c.args.happening c.args.ends.now c.begin.new.ends c.match-self.ends
-          c.in_ok-begin.ensures w.in-Verdicts-None.is-1
+          c.in_ok-begin.ensures.begins w.in-Verdicts-None.is-1
     ]

@@ -1,0 +1,56 @@
+-- Where verdicts are told, nothing is refused before the end.
+use Rattle.std.proofs.Common.{◌≡◌, refl, sym, subst, ◌∙◌}
+use Rattle.std.specs.Prelude.{Result, Ok, Err, IfErr, OnOk}
+use Rattle.hsms_accounts.specs.declared.journal.Journal.{Journal}
+use Rattle.hsms_accounts.specs.declared.stop.Stop.{Stop}
+use Rattle.hsms_accounts.specs.declared.stop.Stop.TheVariants as stop
+use Rattle.hsms_accounts.specs.Stop.{IsNoRefusal}
+use Rattle.hsms_wire.specs.declared.report.Manner.TheVariants.{Verdicts, Log}
+use Rattle.hsms_wire.specs.declared.report.Report.{Report}
+use Rattle.hsms_wire.specs.Report.{StopsUnrefused, Tells}
+use Rattle.hsms_wire.proofs.Tellings.{log_tells, ok_then, tells_nothing, tells_then}
+
+-- ---- what stops isn't a refusal
+
+pub memory_stops : (r : Report) → StopsUnrefused r stop.Memory
+unfolding StopsUnrefused
+memory_stops r = λ verdicts. tt
+
+pub is_memory_stops : (r : Report) (st : Stop) → st ≡ stop.Memory → StopsUnrefused r st
+unfolding StopsUnrefused
+is_memory_stops r st is = λ verdicts. subst IsNoRefusal (sym is) tt
+
+pub quiet_stops : (r : Report) (st : Stop) → IsNoRefusal st → StopsUnrefused r st
+unfolding StopsUnrefused
+quiet_stops r st none = λ verdicts. none
+
+pub log_stops : (r : Report) (st : Stop) (journal : Journal) → r.manner ≡ Log journal → StopsUnrefused r st
+unfolding StopsUnrefused
+log_stops r st journal is verdicts = let none : ⊥ = cc in absurd none
+
+-- behind what is told
+pub stops_then : (a b : Report) (st : Stop) → Tells a b → StopsUnrefused b st → StopsUnrefused a st
+unfolding Tells StopsUnrefused
+stops_then a b st first second = λ verdicts. second (first verdicts).1.manner
+
+-- ---- the same of what is answered
+
+pub err_memory : {T : Type 0} (result : Result T Stop) (r : Report) → IfErr result (λ st. st ≡ stop.Memory) → IfErr result (StopsUnrefused r)
+err_memory (Ok done) r is = tt
+err_memory (Err st) r is = is_memory_stops r st is
+
+pub err_quiet : {T : Type 0} (result : Result T Stop) (r : Report) → IfErr result IsNoRefusal → IfErr result (StopsUnrefused r)
+err_quiet (Ok done) r none = tt
+err_quiet (Err st) r none = quiet_stops r st none
+
+pub err_log : {T : Type 0} (result : Result T Stop) (r : Report) (journal : Journal) → r.manner ≡ Log journal → IfErr result (StopsUnrefused r)
+err_log (Ok done) r journal is = tt
+err_log (Err st) r journal is = log_stops r st journal is
+
+pub err_then : {T : Type 0} (result : Result T Stop) (a b : Report) → Tells a b → IfErr result (StopsUnrefused b) → IfErr result (StopsUnrefused a)
+err_then (Ok done) a b first second = tt
+err_then (Err st) a b first second = stops_then a b st first second
+
+pub ruleset unrefused_steps = (memory_stops, is_memory_stops, quiet_stops, stops_then, err_memory, err_quiet, err_then)
+
+pub ruleset telling_steps = (tells_nothing, tells_then, ok_then, log_tells, memory_stops, is_memory_stops, quiet_stops, stops_then, err_memory, err_quiet, err_then, err_log)

@@ -1,0 +1,9 @@
+use Rattle.std.proofs.Common.{sym, ap, ◌∙◌}
+use Rattle.hsms_wire.specs.declared.report.Report.{Report}
+use Rattle.hsms_wire.proofs.Unrefused.{log_stops}
+use Rattle.hsms_wire.proofs.report.Report.conclude_with.Goals as goal
+
+-- where the log of an end is told
+pub returns-in-Log-clause-unrefused : goal.returns-in-Log-clause-unrefused
+returns-in-Log-clause-unrefused c =
+    log_stops c.args.self.now _ _ (ap (λ (r : Report). r.manner) (sym c.note-first.ensures.noted) ∙ c.in-Log.is)
