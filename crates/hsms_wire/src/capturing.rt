@@ -51,11 +51,11 @@ pub fn capture_to<R: Source, W: Sink>(
     ensures lines { IfOk result (λ well. options.log ≡ None → CapturesTo options.active.role options.passive.role
         (W.state sink.old).written (W.state sink.new).written well) }
     ensures file { IfOk result (λ well. options.log ≡ None → options.joined ≡ false → WhereTold (R.state source.old).left
-        (λ input. CapturesFile (wanted_of options) input (W.state sink.old).written (W.state sink.new).written
-        (Ok well))) }
+        (λ input. CapturesFile (wanted_of options) input
+        (W.state sink.old).written (W.state sink.new).written (Ok well))) }
     ensures refused { IfErr result (λ fault. IsRefusal fault → options.log ≡ None → options.joined ≡ false
-        → WhereTold (R.state source.old).left (λ input. CapturesFile (wanted_of options) input (W.state sink.old).written
-        (W.state sink.new).written (Err fault))) }
+        → WhereTold (R.state source.old).left (λ input. CapturesFile (wanted_of options) input
+        (W.state sink.old).written (W.state sink.new).written (Err fault))) }
 {
     let mut report = Report::new(alloc, &options);
     let mut table = Table::new(alloc, options.port, options.peer, options.joined);
@@ -72,7 +72,7 @@ pub fn capture_to<R: Source, W: Sink>(
 }
 
 // Reads a capture up to its end, or to what nothing behind can be told of.
-#[tactic(auto, using(crate::proofs::Written::none_more, crate::proofs::Written::some_more, crate::proofs::Refusing::missing_fails, crate::proofs::Refusing::fails_behind))]
+#[tactic(auto, using(crate::proofs::Written::none_more, crate::proofs::Written::some_more, crate::proofs::Refusing::fails_behind))]
 fn read_all<R: Source, W: Sink>(
     alloc: Global,
     mut packets: Packets,
@@ -193,7 +193,7 @@ fn missing_by(fault: FileFault, packets: u64) -> Result<Shortfall, ToolFault>
 }
 
 // Tells what is left of each connection, and whether each log passes.
-#[tactic(auto, using(crate::proofs::Written::none_more, crate::proofs::Written::some_more, crate::proofs::Refusing::write_holds, crate::proofs::Refusing::finishes_refused))]
+#[tactic(auto, using(crate::proofs::Written::none_more, crate::proofs::Written::some_more, crate::proofs::Refusing::write_holds))]
 fn finish<W: Sink>(
     alloc: Global,
     sink: &mut W,
