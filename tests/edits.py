@@ -30,7 +30,8 @@ is `N passed, M failed`.
 Use: tests/edits.py [CRATE..] tries all edits of these crates, or of each that has a folder in tests/must-fail/. What
 they stand on is built first, by ./build, where neither that nor `rt ci` has built it.
 tests/edits.py --beside FOLDER does so while `rt ci` runs: the edits of a crate once it is proved, by a log `proofs` in
-the folder, to which a file `ended` comes with the status of `rt ci`. All checks give way to its proofs.
+the folder, to which a file `ended` comes with the status of `rt ci`, and a file `alone` once nothing else is tried any
+more. All checks give way to the others, and leave them a processor until then.
 tests/edits.py --one CRATE NAME [BODY] tries one edit and writes what the check says, and tests/edits.py --twins [NAME..]
 tries all twins, or some.
 """
@@ -921,8 +922,9 @@ class Proofs:
         return {crate, *crates_below(crate, crates_listed())} <= told
 
     def lanes(self):
-        """How many checks may run at once."""
-        return processors() if self.ended() is not None else max(1, processors() - 1)
+        """How many checks may run at once: one less than there are processors while others work that wait for one."""
+        is_alone = not self.folder or os.path.exists(f"{self.folder}/alone")
+        return processors() if is_alone else max(1, processors() - 1)
 
     def mark(self):
         """The crates that are proved, whose libraries are marked so."""
