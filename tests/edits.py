@@ -30,7 +30,8 @@ is `N passed, M failed`.
 Use: tests/edits.py [CRATE..] tries all edits of these crates, or of each that has a folder in tests/must-fail/. What
 they stand on is built first, by ./build, where neither that nor `rt ci` has built it.
 tests/edits.py --beside FOLDER does so while `rt ci` runs: the edits of a crate once it is proved, by a log `proofs` in
-the folder, to which a file `ended` comes with the status of `rt ci`. All checks give way to its proofs.
+the folder, to which a file `ended` comes with the status of `rt ci`, and a file `alone` once nothing else is tried any
+more. All checks give way to the others, and leave them a processor until then.
 tests/edits.py --one CRATE NAME [BODY] tries one edit and writes what the check says, and tests/edits.py --twins [NAME..]
 tries all twins, or some.
 """
@@ -66,7 +67,7 @@ LONGEST_CHECK = 3600
 NO_SUCH_FUNCTION = 2
 
 # How many bodies are tried together, and how many such checks a body may have before it is tried alone.
-TOGETHER = 90
+TOGETHER = 115
 AMONG_OTHERS = 2
 
 # How many seconds pass between two looks at what `rt ci` has proved, and what it says of a crate then.
@@ -151,6 +152,15 @@ class Edit:
             text = texts.get(it.path) or text_of(f"{folder_of(self.crate)}/{it.path}")
             texts[it.path] = it.made_in(text, it.path)
         return texts
+
+    def texts_or_none(self, texts):
+        """The same, or None where other edits in these texts leave no place to it, as where they have its old text twice."""
+        try:
+            return self.texts(texts)
+        except BadEdit:
+            if not texts:
+                raise
+            return None
 
     def turned(self):
         """The functions that the edit turns, each by its module or type and its name, and None for what is no function."""
@@ -296,10 +306,13 @@ def keep(source, target):
     (link if source.endswith(".oantt") else shutil.copy2)(source, target)
 
 
-def room_with_what_is_kept(crate, room):
-    """A room for a crate, with what earlier checks kept of it."""
+def room_with_what_is_kept(crate, room, like=None):
+    """A room for a crate, with what earlier checks kept of it, in another room too."""
     folder = room_for(crate, room)
     bring(crate, ("out",), room, keep)
+    kept = "out/incremental"
+    if like and os.path.isdir(f"{like}/{kept}"):
+        shutil.copytree(f"{like}/{kept}", f"{folder}/{kept}", copy_function=keep, dirs_exist_ok=True)
     return folder
 
 
@@ -514,7 +527,7 @@ class Room:
     """
 
     def __init__(self, crate, home, like=None):
-        self.crate, self.folder = crate, room_with_what_is_kept(crate, home)
+        self.crate, self.folder = crate, room_with_what_is_kept(crate, home, like.folder if like else None)
         self.words = ["nice", "-n", "19", *words_of_check(crate, home)]
         self.sources, self.by_hand = sources_of(crate), {}
         for path in like.by_hand if like else functions_in(crate):
@@ -555,10 +568,12 @@ class Room:
         """The edited files with all of these edits, and those that are doubles of their functions."""
         texts, doubles, turned = {}, {}, set()
         for number, edit in enumerate(edits):
-            if turned & edit.functions() or (edit.is_of_more() and len(edits) > 1):
+            is_other = bool(turned & edit.functions()) or (edit.is_of_more() and len(edits) > 1)
+            in_place = None if is_other else edit.texts_or_none(texts)
+            if in_place is None:
                 doubles[edit] = Double(edit, number)
             else:
-                texts = edit.texts(texts)
+                texts = in_place
                 turned |= edit.functions()
         for it in doubles.values():
             texts = it.add_to({**self.sources, **texts})
@@ -642,9 +657,10 @@ def named(parts):
 
 def in_lots(edits):
     """Edits in lots that can each be tried in one check, and at most so many. None that turns more than functions and
-    constants is among others. The lots are of one size, so that they end together.
+    constants is among others. The lots are of one size, so that they end together. Those of one source stand in one, so
+    that fewer checks look at what they call.
     """
-    left, lots = edits, []
+    left, lots = sorted(edits, key=lambda it: ([change.path for change in it.changes], sorted(map(str, it.functions())))), []
     while left:
         lot = chosen(left, -(-len(left) // -(-len(left) // TOGETHER)))
         left = [it for it in left if it not in lot]
@@ -661,12 +677,10 @@ def chosen(edits, most):
     for edit in sorted(edits, key=lambda it: (it not in by_itself, doubles[it])):
         is_apart = taken and not by_itself.isdisjoint({edit, taken[0]})
         is_second = edit in of_more - by_itself or bool(functions & edit.functions())
-        if is_apart or (is_second and not doubles[edit]) or len(taken) == most:
+        in_place = None if is_second else edit.texts_or_none(texts)
+        if is_apart or (in_place is None and not doubles[edit]) or len(taken) == most:
             continue
-        try:
-            texts = texts if is_second else edit.texts(texts)
-        except BadEdit:
-            continue
+        texts = texts if in_place is None else in_place
         taken.append(edit)
         functions |= edit.functions()
     return taken
@@ -921,8 +935,9 @@ class Proofs:
         return {crate, *crates_below(crate, crates_listed())} <= told
 
     def lanes(self):
-        """How many checks may run at once."""
-        return processors() if self.ended() is not None else max(1, processors() - 1)
+        """How many checks may run at once: one less than there are processors while others work that wait for one."""
+        is_alone = not self.folder or os.path.exists(f"{self.folder}/alone")
+        return processors() if is_alone else max(1, processors() - 1)
 
     def mark(self):
         """The crates that are proved, whose libraries are marked so."""

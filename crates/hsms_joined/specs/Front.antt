@@ -58,3 +58,10 @@ FrontAs s octets (Whole size) =
 FrontAs s octets Other =
     (14 ≤ length octets)
     × ((has_header s octets ≡ false) ⊎ ((4 + length_field octets ≤ length octets) × (IsText s.depth (text_at octets) → ⊥)))
+
+-- what a text of so many octets is, by what stands behind its header
+abbrev pub TextAs : ℕ → List ℕ → ℕ → Found → Type 0
+TextAs depth behind size Missing = ⊥
+TextAs depth behind size Begun = length behind < size
+TextAs depth behind size (Whole count) = (count ≡ 14 + size) × (size ≤ length behind) × IsText depth (take size behind)
+TextAs depth behind size Other = (size ≤ length behind) × (IsText depth (take size behind) → ⊥)

@@ -1,8 +1,8 @@
 //! What stands at the front of octets of a session.
 
-ghost use Rattle.std.specs.Prelude.{◌≡◌, ◌≤◌, ◌↔◌, IsTrue};
+ghost use Rattle.std.specs.Prelude.{◌≡◌, ◌≤◌, ◌<◌, ◌^◌, ◌↔◌, IsTrue};
 ghost use Rattle.secs_item.specs.Spelling.{IsText};
-ghost use Rattle.hsms_joined.specs.Front.{FrontAs, header_of};
+ghost use Rattle.hsms_joined.specs.Front.{FrontAs, TextAs, header_of};
 
 use crate::session::{Session, is_of};
 use hsms_frame::{HEADER_LENGTH, Header};
@@ -36,11 +36,19 @@ pub(crate) fn front_of(session: Session, octets: &[u8]) -> Found
     if !is_of(session, header_in(*header), length) {
         return Found::Other;
     }
-    let size = length as usize - HEADER_LENGTH;
-    if text.len() < size {
+    text_in(text, length as usize - HEADER_LENGTH, session.depth)
+}
+
+// What a text of so many octets is, by what stands behind its header.
+fn text_in(behind: &[u8], size: usize, depth: u8) -> Found
+    requires depth { depth ≤ 100 }
+    requires size { size < 2 ^ 32 }
+    ensures { TextAs depth behind.now size result }
+{
+    if behind.len() < size {
         return Found::Begun;
     }
-    if is_readable(&text[..size], session.depth) {
+    if is_readable(&behind[..size], depth) {
         return Found::Whole(14 + size);
     }
     Found::Other
