@@ -141,7 +141,7 @@ never_replaced (course.Over other) lack = refl
 
 pub follow_full : (a p : Parameters) (pair : Pair) (base : End → ℕ) (before : List Seen) (s : Seen) (o : Open) (first logs : Logs) (now : List Happening)
     → (lack : Option Shortfall) (old new : Report) → AreNumbered 0 (before ++ s ∷ []) → IsFollowed a p base before o → lack ≡ Some (lacks.Full s.packet) → now ≡ []
-    → ((base : End → ℕ) (before : List Seen) (away : List Happening) → Stands o.connection (away ++ []) base before → IsTooMuch o.connection base before s) → with_bare o.logs first s → HearsThem a p first now course.Goes logs → WhenTold (logs.is_up || is_some lack) pair lack (unboxed_ends logs.ends) old new
+    → ((base : End → ℕ) (before : List Seen) (away : List Happening) → Stands o.connection (away ++ []) base before → IsTooMuch base before s) → with_bare o.logs first s → HearsThem a p first now course.Goes logs → WhenTold (logs.is_up || is_some lack) pair lack (unboxed_ends logs.ends) old new
     → GivesUp a p pair base before s old new
 follow_full a p pair base before s o first logs now lack old new numbered f lack_is none much notes hears when =
     let earlier = numbered_front 0 before (s ∷ []) numbered in
@@ -167,7 +167,7 @@ follow_full a p pair base before s o first logs now lack old new numbered f lack
     )
 
 pub too_much : (fault : ConnectionFault) (c : Connection) (told : List Happening) (s : Seen) → (fault ≡ stop.Memory → ⊥) → StopsBy c told s fault
-    → (base : End → ℕ) (before : List Seen) (away : List Happening) → Stands c (away ++ told) base before → IsTooMuch c base before s
+    → (base : End → ℕ) (before : List Seen) (away : List Happening) → Stands c (away ++ told) base before → IsTooMuch base before s
 too_much stop.Far c told s other stops base before away stands = inl (stops.1 base before away stands)
 too_much stop.Full c told s other stops base before away stands = inr (stops.1 base before away stands)
 too_much stop.Memory c told s other stops base before away stands = absurd (other refl)
