@@ -183,6 +183,7 @@ GoesOn pair logs (course.Over lack) t left old new = (left ≡ None) × WhenTold
 -- a connection that goes on, behind these segments
 pub record IsFollowed (a p : Parameters) (base : End → ℕ) (seen : List Seen) (o : Open) : Type 0 where
   pub told : List Happening
+  pub unended : o.connection.ending ≡ None
   pub stands : Stands o.connection told base seen
   pub timed : IsInTime o.connection told base seen
   pub goes : course_by_events a.max told ≡ course.Goes
@@ -190,10 +191,10 @@ pub record IsFollowed (a p : Parameters) (base : End → ℕ) (seen : List Seen)
   pub bare : o.logs.bare_resets.items ≡ bare_resets seen
   pub ends : EndsHave a p told o.logs.ends
 
--- it is given up with a segment, with which too much would wait: both logs end with what was told of those before it
+-- it hasn't ended, and is given up with a segment, with which too much would wait: both logs end with what was told of those before it
 abbrev pub GivesUp : Parameters → Parameters → Pair → (End → ℕ) → List Seen → Seen → Report → Report → Type 0
 GivesUp a p pair base before s old new =
-    (c : Connection) × (told : List Happening) × Stands c told base before × IsTooMuch base before s
+    (c : Connection) × (told : List Happening) × (c.ending ≡ None) × Stands c told base before × IsTooMuch base before s
     × TellsOf a p pair (clock_of base before) (map entry_as told) false (Some (lacks.Full s.packet)) old new
 
 abbrev pub FollowsOn : Parameters → Parameters → Pair → (End → ℕ) → List Seen → Seen → Option Open → Report → Report → Type 0
