@@ -17,7 +17,7 @@ use Rattle.hsms_capture.specs.Known.{packet_of}
 use Rattle.hsms_capture.specs.Losses.{side_of}
 use Rattle.hsms_capture.specs.Telling.{entry_as}
 use Rattle.hsms_capture.specs.Turning.{and_log, due_of, tell_on}
-use Rattle.hsms_capture.specs.Connected.{AreRising, IsStreamOf, Waits, lefts, log_of, told_dues}
+use Rattle.hsms_capture.specs.Connected.{AreRising, HasPassed, IsStreamOf, Waits, lefts, log_of, told_dues}
 use Rattle.hsms_capture.specs.Arrived.{Arrives, Brings, BringsCells, BringsTo, arrival_cells, due_as, own_packet, or_differs}
 use Rattle.hsms_capture.proofs.Laid.{puts_none}
 use Rattle.hsms_capture.proofs.Lists.{Each}
@@ -201,11 +201,20 @@ waits_on old new queue next ps p told telling opened a b more w =
           ∙ ap (λ (z : List Turn). and_log (map entry_as told) (tell_on old.telling old.opened (lefts old.streams (ps ++ p ∷ later)) (told_dues (ps ++ p ∷ later) z))) rest
           ∙ ap (λ (z : List Placed). and_log (map entry_as told) (tell_on old.telling old.opened (lefts old.streams z) (told_dues z ((w.1 ++ ts) ++ turns (ps ++ p ∷ []) later)))) (sym whole)
           ∙ same_log all ((w.1 ++ ts) ++ turns (ps ++ p ∷ []) later),
+      λ later h.
+          let whole : (ps ++ p ∷ []) ++ later ≡ ps ++ p ∷ later = append_assoc ps (p ∷ []) later in
+          subst (HasPassed new w.0) (sym whole) (same_passed (ps ++ p ∷ later) (w.5 (p ∷ later) (subst (AreRising 0) whole h))),
     )
   where
     same_log : (all : List Placed) (us : List Turn) → and_log (map entry_as told) (tell_on old.telling old.opened (lefts old.streams all) (told_dues all us))
         ≡ and_log (map entry_as told) (tell_on new.telling new.opened (lefts new.streams all) (told_dues all us))
     same_log all us = rw (telling, opened, a, b) refl
+
+    same_lefts : (all : List Placed) → lefts old.streams all ≡ lefts new.streams all
+    same_lefts all = rw (a, b) refl
+
+    same_passed : (all : List Placed) → HasPassed old w.0 all → HasPassed new w.0 all
+    same_passed all has = (has.0, has.1 ∙ same_lefts all)
 
 pub arrived : (a : Arrival) (octets : List ℕ) (freed : List Packet) (old new : Reading) (differs : Bool) → BringsTo old.teller.streams a octets new.teller.streams differs
     → new.teller.telling ≡ old.teller.telling → new.teller.opened ≡ old.teller.opened → new.losses ≡ old.losses → new.differs ≡ or_differs old.differs differs a.packet.packet

@@ -1,6 +1,6 @@
 -- What is told, and what is still to be told, whatever follows.
 use Rattle.std.proofs.Common.{◌≡◌, ◌≤◌, ◌++◌, ◌∷◌, ◌||◌, ℕ, Bool, true, false, cond, List, [], length, drop, map, Option, Some, None, refl, sym, ap, subst, ◌∙◌, arith, length-drop}
-use Rattle.std.proofs.lemmas.List.{append-nil, append_assoc, drop-append-le}
+use Rattle.std.proofs.lemmas.List.{append-nil, append_assoc, drop-append-le, map-append}
 use Rattle.hsms_capture.specs.declared.packet.Side.{Side}
 use Rattle.hsms_capture.specs.declared.packet.Side.TheVariants as side
 use Rattle.hsms_capture.specs.declared.streams.Due.{Due}
@@ -10,18 +10,18 @@ use Rattle.hsms_capture.specs.declared.teller.Teller.{Teller}
 use Rattle.hsms_capture.specs.declared.telling.Happening.{Happening}
 use Rattle.hsms_capture.specs.declared.telling.Telling.{Telling}
 use Rattle.hsms_capture.specs.declared.telling.Telling.TheVariants as telling
-use Rattle.hsms_capture.specs.Wire.{End, active, passive, Cell, Placed, Turn, Left, Both, stream_of, end_of, received, turns, breaks_off, is_before, deliveries}
+use Rattle.hsms_capture.specs.Wire.{End, active, passive, Cell, Placed, Turn, Left, Both, both_streams, stream_of, end_of, received, turns, breaks_off, is_before, deliveries}
 use Rattle.hsms_capture.specs.Told.{Told, up, message, down, Entry, entry}
 use Rattle.hsms_capture.specs.Held.{Store, IsStoreOf, piece_from}
 use Rattle.hsms_capture.specs.Known.{end_at}
 use Rattle.hsms_capture.specs.Telling.{Heard, and_heard, hear, hears, entry_as, IsLeft}
-use Rattle.hsms_capture.specs.Turning.{AreLeft, Log, and_log, due_of, is_over, resets, opens, entries_at, delivers, tell_on}
+use Rattle.hsms_capture.specs.Turning.{AreLeft, Log, and_log, due_of, is_over, left_behind, resets, opens, entries_at, delivers, tell_on}
 use Rattle.hsms_capture.specs.Drained.{AreTails, Drains, EachDue, Fits, IsHeldBack, Spans, SpansTo, is_sure, log_by}
-use Rattle.hsms_capture.specs.Connected.{AreRising, AreStreamsOf, IsLimit, IsStreamOf, MayFollow, TellsBefore, Waits, left_at, lefts, log_of, told_dues}
+use Rattle.hsms_capture.specs.Connected.{AreRising, AreStreamsOf, HasPassed, IsLimit, IsStreamOf, MayFollow, TellsBefore, Waits, left_at, lefts, log_of, told_dues}
 use Rattle.hsms_capture.proofs.Lists.{Each, weaken}
 use Rattle.hsms_capture.proofs.Longer.{stream_length, stream_more}
 use Rattle.hsms_capture.proofs.Numbered.{before_later}
-use Rattle.hsms_capture.proofs.Onward.{drains_behind}
+use Rattle.hsms_capture.proofs.Onward.{drains_behind, left_append}
 use Rattle.hsms_capture.proofs.Turned.{Within, each_within, turns_each}
 use Rattle.hsms_capture.proofs.Whole.{piece_is}
 
@@ -63,9 +63,13 @@ each_due : (P : Due → Type 0) (ts : List Turn) → Each (λ (t : Turn). P (due
 each_due P [] h = tt
 each_due P (t ∷ ts) h = (h.0, each_due P ts h.1)
 
-due_each : (P : Due → Type 0) (ts : List Turn) → EachDue P (map due_of ts) → Each (λ (t : Turn). P (due_of t)) ts
+pub due_each : (P : Due → Type 0) (ts : List Turn) → EachDue P (map due_of ts) → Each (λ (t : Turn). P (due_of t)) ts
 due_each P [] h = tt
 due_each P (t ∷ ts) h = (h.0, due_each P ts h.1)
+
+due_append : (P : Due → Type 0) (xs ys : List Due) → EachDue P xs → EachDue P ys → EachDue P (xs ++ ys)
+due_append P [] ys f g = g
+due_append P (x ∷ xs) ys f g = (f.0, due_append P xs ys f.1 g)
 
 both_each : (P Q R : Turn → Type 0) (ts : List Turn) → ((t : Turn) → P t → Q t → R t) → Each P ts → Each Q ts → Each R ts
 both_each P Q R [] f g h = tt
@@ -163,7 +167,8 @@ Comes more new left ps later closed =
     AreStreamsOf new.streams ps
     × ((gone : List Turn) × (rest : List Turn) × (turns [] ps ≡ gone ++ rest) × (left ≡ map due_of rest)
     × ((lt : List Placed) → MayFollow more ps lt
-    → log_of (ps ++ lt) ≡ log_by closed later (tell_on new.telling new.opened (lefts new.streams (ps ++ lt)) (told_dues (ps ++ lt) (rest ++ turns ps lt)))))
+    → log_of (ps ++ lt) ≡ log_by closed later (tell_on new.telling new.opened (lefts new.streams (ps ++ lt)) (told_dues (ps ++ lt) (rest ++ turns ps lt))))
+    × ((lt : List Placed) → MayFollow more ps lt → HasPassed new gone (ps ++ lt)))
 
 comes : (limit : Option ℕ) (queue left : List Due) (old new : Teller) (told later : List Happening) (closed : Bool) → Drains limit queue old told left new later closed
     → (more : Bool) (ps : List Placed) → AreRising 0 ps → MayFollow more ps [] → AreStreamsOf old.streams ps → IsLimit more limit ps → Waits more old queue ps told
@@ -180,7 +185,19 @@ comes limit queue left old new told later closed drains more ps rises none strea
     let spans = drained.3 in
     let stores = drained.4 in
     let has = drained.5 in
-    let sure : Each (λ (t : Turn). is_sure limit t.at.packet ≡ true) a = due_each (λ t. is_sure limit t.at ≡ true) a (subst (EachDue (λ t. is_sure limit t.at ≡ true)) (sym parts.3) drained.2) in (
+    let sure : Each (λ (t : Turn). is_sure limit t.at.packet ≡ true) a = due_each (λ t. is_sure limit t.at ≡ true) a (subst (EachDue (λ t. is_sure limit t.at ≡ true)) (sym parts.3) drained.2) in
+    let kept : (lt : List Placed) → MayFollow more ps lt → Each (λ (t : Turn). is_sure (breaks_off (ps ++ lt)) t.at.packet ≡ true) a =
+    λ lt h.
+    let rise : Each (λ (t : Turn). AreRising t.at.packet lt) a =
+    each_front (λ (t : Turn). AreRising t.at.packet lt) a b (subst (Each (λ (t : Turn). AreRising t.at.packet lt)) parts.2
+    (each_back (λ (t : Turn). AreRising t.at.packet lt) gone rest (subst (Each (λ (t : Turn). AreRising t.at.packet lt)) waits.2 (follows_turns more ps lt h)))) in
+    both_each (λ (t : Turn). AreRising t.at.packet lt) (λ (t : Turn). is_sure limit t.at.packet ≡ true) (λ (t : Turn). is_sure (breaks_off (ps ++ lt)) t.at.packet ≡ true) a
+    (λ t r s. sound lt h t.at.packet r s) rise sure in
+    let left_there : (lt : List Placed) → (has (lefts old.streams (ps ++ lt)) (lefts_are old.streams ps lt streams)).0 ≡ lefts new.streams (ps ++ lt) =
+    λ lt.
+    let all = ps ++ lt in
+    let hold = has (lefts old.streams all) (lefts_are old.streams ps lt streams) in
+    tails_are new.streams all hold.0 hold.1 (hold.2 (stream_of all active) (stream_of all passive) (refl, refl)) in (
       (moved_stream old.streams.active new.streams.active ps active streams.0 stores.0 (spans side.Active), moved_stream old.streams.passive new.streams.passive ps passive streams.1 stores.1 (spans side.Passive)),
       (
         gone ++ a,
@@ -189,22 +206,26 @@ comes limit queue left old new told later closed drains more ps rises none strea
         sym parts.4,
         λ lt h.
             let all = ps ++ lt in
-            let rise : Each (λ (t : Turn). AreRising t.at.packet lt) a =
-            each_front (λ (t : Turn). AreRising t.at.packet lt) a b (subst (Each (λ (t : Turn). AreRising t.at.packet lt)) parts.2
-            (each_back (λ (t : Turn). AreRising t.at.packet lt) gone rest (subst (Each (λ (t : Turn). AreRising t.at.packet lt)) waits.2 (follows_turns more ps lt h)))) in
-            let kept = both_each (λ (t : Turn). AreRising t.at.packet lt) (λ (t : Turn). is_sure limit t.at.packet ≡ true) (λ (t : Turn). is_sure (breaks_off all) t.at.packet ≡ true) a
-            (λ t r s. sound lt h t.at.packet r s) rise sure in
             let others = told_dues all (b ++ turns ps lt) in
             let dues : told_dues all (rest ++ turns ps lt) ≡ taken ++ others =
-            ap (λ (ts : List Turn). told_dues all (ts ++ turns ps lt)) parts.2 ∙ ap (told_dues all) (append_assoc a b (turns ps lt)) ∙ sure_kept all a (b ++ turns ps lt) kept
+            ap (λ (ts : List Turn). told_dues all (ts ++ turns ps lt)) parts.2 ∙ ap (told_dues all) (append_assoc a b (turns ps lt)) ∙ sure_kept all a (b ++ turns ps lt) (kept lt h)
             ∙ ap (λ (ds : List Due). ds ++ others) parts.3 in
             let hold = has (lefts old.streams all) (lefts_are old.streams ps lt streams) in
-            let c = hold.0 in
-            let same : c ≡ lefts new.streams all = tails_are new.streams all c hold.1 (hold.2 (stream_of all active) (stream_of all passive) (refl, refl)) in
             waits.4 lt h
             ∙ ap (λ (ds : List Due). and_log (map entry_as told) (tell_on old.telling old.opened (lefts old.streams all) ds)) dues
             ∙ hold.3 others
-            ∙ ap (λ (z : Both). log_by closed later (tell_on new.telling new.opened z others)) same,
+            ∙ ap (λ (z : Both). log_by closed later (tell_on new.telling new.opened z others)) (left_there lt),
+        λ lt h.
+            let all = ps ++ lt in
+            let before = waits.5 lt h in
+            let hold = has (lefts old.streams all) (lefts_are old.streams ps lt streams) in
+            let whole : map due_of (gone ++ a) ≡ map due_of gone ++ taken = map-append due_of gone a ∙ ap (λ (ds : List Due). map due_of gone ++ ds) parts.3 in (
+              subst (EachDue (λ (d : Due). is_sure (breaks_off all) d.at ≡ true)) (sym (map-append due_of gone a))
+                  (due_append (λ (d : Due). is_sure (breaks_off all) d.at ≡ true) (map due_of gone) (map due_of a) before.0
+                  (each_due (λ (d : Due). is_sure (breaks_off all) d.at ≡ true) a (kept lt h))),
+              ap (left_behind (both_streams all)) whole ∙ left_append (map due_of gone) taken (both_streams all)
+                  ∙ ap (λ (z : Both). left_behind z taken) before.1 ∙ sym hold.4 ∙ left_there lt,
+            ),
       ),
     )
 

@@ -21,11 +21,11 @@ use Rattle.hsms_capture.specs.Laws.{AreNumbered}
 use Rattle.hsms_capture.specs.Losses.{TellsLoss, Watches, first_of, side_of}
 use Rattle.hsms_capture.specs.Told.{Entry, tells}
 use Rattle.hsms_capture.specs.Telling.{entry_as}
-use Rattle.hsms_capture.specs.Turning.{Log, and_log, due_of, tell_on}
+use Rattle.hsms_capture.specs.Turning.{Log, and_log, due_of, left_behind, tell_on}
 use Rattle.hsms_capture.specs.Drained.{IsHeldBack}
 use Rattle.hsms_capture.specs.Connected.{AreRising, AreStreamsOf, Waits, lefts, log_of, told_dues}
 use Rattle.hsms_capture.specs.Finished.{BreaksAt, Finishes, IsEnded, broken, ended}
-use Rattle.hsms_capture.specs.Arrived.{BringsCells, IsArrival, IsReading, Outcome, Reacts, own_packet}
+use Rattle.hsms_capture.specs.Arrived.{BringsCells, HoldsFrom, IsArrival, IsReading, Outcome, Reacts, own_packet}
 use Rattle.hsms_capture.specs.Standing.{EndsAs, Followed, StandsAs, TakesOn, ToldAtOnce, ToldIsSure, of_side}
 use Rattle.hsms_capture.proofs.Fronts.{places_begin, places_more, places_rise}
 use Rattle.hsms_capture.proofs.Stepped.{one_more}
@@ -162,7 +162,9 @@ breaks_here first d ps e f later h =
     rw (at, by, h) (refl, refl, tt)
 
 waits_end : (t : Teller) (queue : List Due) (ps : List Placed) (told : List Happening) → AreRising 0 ps → Waits true t queue ps told → Waits false t queue ps told
-waits_end t queue ps told rises w = (w.0, w.1, w.2, w.3, λ later h. w.4 later (subst (λ (z : List Placed). AreRising 0 (ps ++ z)) (sym h) (nothing_follows ps rises)))
+waits_end t queue ps told rises w =
+    let none : (later : List Placed) → later ≡ [] → AreRising 0 (ps ++ later) = λ later h. subst (λ (z : List Placed). AreRising 0 (ps ++ z)) (sym h) (nothing_follows ps rises) in
+    (w.0, w.1, w.2, w.3, λ later h. w.4 later (none later h), λ later h. w.5 later (none later h))
 
 pub ends_now : (c : Connection) (first : Option ℕ) (told later : List Happening) (e : Ending) → c.ending ≡ None → TellsLoss c.reading.losses first
     → Finishes first c.reading.differs c.reading.teller c.reading.due.items told later e → EndsAs c told later e
@@ -181,7 +183,7 @@ pub begins : (turns : Known) (r : Reading) (a p : Store) (base : End → ℕ) �
     → p.place ≡ 0 → ((d : End) → IsStoreOf p [] d) → r.due.items ≡ [] → r.differs ≡ None
     → r.teller ≡ record { streams = record { active = record { held = a; place = 0 }; passive = record { held = p; place = 0 } }; telling = telling.Waiting None; opened = false }
     → StandsAs None turns r [] base []
-unfolding places difference turns
+unfolding places difference turns left_behind
 begins turns r a p base e w az ah pz ph none differs is = (
   e,
   (
@@ -190,9 +192,10 @@ begins turns r a p base e w az ah pz ph none differs is = (
       sym differs,
       subst (λ (t : Teller). AreStreamsOf t.streams []) (sym is)
           ((ah active, omega (arith, az), omega arith, omega (arith, az)), (ph passive, omega (arith, pz), omega arith, omega (arith, pz))),
-      subst (λ (t : Teller). Waits true t r.due.items [] []) (sym is) ([], [], refl, none, λ later h. refl),
+      subst (λ (t : Teller). Waits true t r.due.items [] []) (sym is) ([], [], refl, none, λ later h. refl, λ later h. (tt, refl)),
     ),
     subst (IsHeldBack (earlier (first_of r.losses) r.differs)) (sym none) tt,
+    subst (λ (t : Teller). HoldsFrom t.streams []) (sym is) (omega (arith, az), omega (arith, pz)),
   ),
 )
 

@@ -23,7 +23,7 @@ not_before : (o : Option ℕ) (t : Turn) → is_sure o t.at.packet ≡ false →
 not_before None t e = absurd cc
 not_before (Some k) t e = e
 
-none_kept : (all : List Placed) (ts : List Turn) → EachBehind (breaks_off all) ts → told_dues all ts ≡ []
+pub none_kept : (all : List Placed) (ts : List Turn) → EachBehind (breaks_off all) ts → told_dues all ts ≡ []
 none_kept all [] h = refl
 none_kept all (t ∷ ts) h = rw (not_before (breaks_off all) t h.0) (none_kept all ts h.1)
 
@@ -39,11 +39,11 @@ pub behind_each : (o : Option ℕ) (m : ℕ) (ts : List Turn) → is_sure o m �
 behind_each o m [] e h = tt
 behind_each o m (t ∷ ts) e h = (not_sure_later o m t.at.packet h.0 e, behind_each o m ts e h.1)
 
-held_back : (o : Option ℕ) (ts : List Turn) → Ordered ts → IsHeldBack o (map due_of ts) → EachBehind o ts
+pub held_back : (o : Option ℕ) (ts : List Turn) → Ordered ts → IsHeldBack o (map due_of ts) → EachBehind o ts
 held_back o [] h back = tt
 held_back o (t ∷ ts) h back = (back, behind_each o t.at.packet ts back h.0)
 
-ordered_back : (xs ys : List Turn) → Ordered (xs ++ ys) → Ordered ys
+pub ordered_back : (xs ys : List Turn) → Ordered (xs ++ ys) → Ordered ys
 ordered_back [] ys h = h
 ordered_back (x ∷ xs) ys h = ordered_back xs ys h.1
 

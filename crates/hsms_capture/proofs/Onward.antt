@@ -15,7 +15,7 @@ use Rattle.hsms_capture.specs.Message.{message_size}
 use Rattle.hsms_capture.specs.Held.{Store, piece_from}
 use Rattle.hsms_capture.specs.Told.{Entry}
 use Rattle.hsms_capture.specs.Telling.{Heard, hears, entry_as}
-use Rattle.hsms_capture.specs.Turning.{Log, MovesTo, TakesTurn, ReachesAll, and_log, by_ack, delivers, entries_at, given, opens, other_side, resets, stream_at, tell_on}
+use Rattle.hsms_capture.specs.Turning.{Log, MovesTo, TakesTurn, ReachesAll, and_log, by_ack, delivers, entries_at, given, left_behind, opens, other_side, resets, stream_at, tell_on}
 use Rattle.hsms_capture.specs.Drained.{AreTails, Drains, EachDue, Fits, HasTold, SameStores, Spans, SpansTo, is_sure, log_by}
 use Rattle.hsms_capture.proofs.Slicing.{piece_behind}
 
@@ -124,6 +124,7 @@ then_by false a es l later e = and_twice a es l ∙ ap (λ (z : List Entry). and
 pub one_told : (t : Due) (old new : Teller) (told later : List Happening) (ends : Side → ℕ) (closed : Bool)
     → TakesTurn old.opened t old.streams told old.telling new.streams later new.telling → new.opened ≡ (old.opened || opens t) → closed ≡ resets old.opened t
     → Spans old.streams ends → Fits ends t → Spans new.streams ends × SameStores old.streams new.streams × HasTold (t ∷ []) old told new later closed
+unfolding left_behind
 one_told t old new told later ends closed turn opened reset span fits =
     let took = turn (reaches_all old.streams ends t span fits) in
     let own = took.2 in
@@ -145,6 +146,7 @@ one_told t old new told later ends closed turn opened reset span fits =
                 ∙ ap (λ (r : Bool). log_by r later (tell_on h.state (old.opened || opens t) c rest)) (sym reset)
                 ∙ ap (λ (s : Telling). log_by closed later (tell_on s (old.opened || opens t) c rest)) (sym gave.0.0)
                 ∙ ap (λ (o : Bool). log_by closed later (tell_on new.telling o c rest)) (sym opened),
+            refl,
           ),
     )
 
@@ -159,7 +161,13 @@ each_more P [] t h p = (p, tt)
 each_more P (x ∷ xs) t h p = (h.0, each_more P xs t h.1 p)
 
 has_told_none : (old : Teller) (told : List Happening) → HasTold [] old told old told false
-has_told_none old told b left = (b, left, λ x y h. h, λ rest. refl)
+unfolding left_behind
+has_told_none old told b left = (b, left, λ x y h. h, λ rest. refl, refl)
+
+pub left_append : (xs ys : List Due) (b : Both) → left_behind b (xs ++ ys) ≡ left_behind (left_behind b xs) ys
+unfolding left_behind
+left_append [] ys b = refl
+left_append (x ∷ xs) ys b = left_append xs ys (delivers x b).both
 
 has_told_both : (xs ys : List Due) (a b c : Teller) (u v w : List Happening) (closed : Bool) → HasTold xs a u b v false → HasTold ys b v c w closed
     → HasTold (xs ++ ys) a u c w closed
@@ -172,6 +180,7 @@ has_told_both xs ys a b c u v w closed f g both left =
       λ rest.
           ap (λ (ts : List Due). and_log (map entry_as u) (tell_on a.telling a.opened both ts)) (append_assoc xs ys rest)
           ∙ first.3 (ys ++ rest) ∙ second.3 rest,
+      second.4 ∙ ap (λ (c : Both). left_behind c ys) first.4 ∙ sym (left_append xs ys both),
     )
 
 -- ---- what was told before, and taken away, stands before it
@@ -195,6 +204,7 @@ has_told_behind away taken old new told later closed h b left =
           told_behind away told (tell_on old.telling old.opened b (taken ++ rest))
           ∙ ap (and_log (map entry_as away)) (r.3 rest)
           ∙ log_behind closed away later (tell_on new.telling new.opened r.0 rest),
+      r.4,
     )
 
 pub drains_behind : (away : List Happening) (limit : Option ℕ) (queue left : List Due) (old new : Teller) (told later : List Happening) (closed : Bool)

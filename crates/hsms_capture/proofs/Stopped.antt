@@ -10,13 +10,15 @@ use Rattle.hsms_capture.specs.declared.packet.Packet.{Packet}
 use Rattle.hsms_capture.specs.declared.packet.Segment.{Segment}
 use Rattle.hsms_capture.specs.declared.packet.Side.{Side}
 use Rattle.hsms_capture.specs.declared.reading.Reading.{Reading}
+use Rattle.hsms_capture.specs.declared.streams.Streams.{Streams}
 use Rattle.hsms_capture.specs.declared.telling.Happening.{Happening}
 use Rattle.hsms_capture.specs.Wire.{End, active, passive, Cell, Placed, Seen, ack_place, end_of, other, place_of, places, received, timed}
 use Rattle.hsms_capture.specs.Held.{EndsFar}
 use Rattle.hsms_capture.specs.Known.{GoesOn, Known, known, packet_of, placed_behind, seen_of}
 use Rattle.hsms_capture.specs.Losses.{side_of}
 use Rattle.hsms_capture.specs.Turning.{stream_at}
-use Rattle.hsms_capture.specs.Arrived.{BringsCells}
+use Rattle.hsms_capture.specs.Connected.{first_kept}
+use Rattle.hsms_capture.specs.Arrived.{BringsCells, HoldsFrom}
 use Rattle.hsms_capture.specs.Standing.{StandsAs}
 use Rattle.hsms_capture.specs.Stopping.{FullIf, GoesAt, GoesBy, IsFar, IsFull, IsNear, StopsAt, StopsBy, of_held}
 use Rattle.hsms_capture.proofs.Connecting.{not_ended, placed_one, side_back}
@@ -45,6 +47,11 @@ some_cells p packet e other =
       | inr ge ↦ absurd (other (omega (arith, from, to, ge)))
     ]
 
+-- what is held begins there
+kept_at : (s : Streams) (ps : List Placed) (d : End) → HoldsFrom s ps → (stream_at s (side_of d)).held.place ≡ first_kept ps d
+kept_at s ps active h = h.0
+kept_at s ps passive h = h.1
+
 own_side : (p : Placed) (s : Side) (d : End) → s ≡ side_of d → p.from ≡ d → s ≡ side_of p.from
 own_side p s d e f = e ∙ ap side_of (sym f)
 
@@ -66,7 +73,11 @@ stops_full held.Full old new r segment octets told freed packet goes full base b
     subst (EndsFar (stream_at r.teller.streams segment.from).held.place p.place) (sym (brings_all p s.cells one.4 some)) far in (
       p,
       one.1,
-      (some, subst (λ (d : Side). EndsFar (stream_at r.teller.streams d).held.place p.place p.cells) (own_side p segment.from s.from (side_back segment.from) one.3) cells),
+      (
+        some,
+        subst (λ (n : ℕ). EndsFar n p.place p.cells) (kept_at r.teller.streams ps p.from stands.1.2)
+            (subst (λ (d : Side). EndsFar (stream_at r.teller.streams d).held.place p.place p.cells) (own_side p segment.from s.from (side_back segment.from) one.3) cells),
+      ),
     )
 
 pub goes_none : (old new : Known) (r : Reading) (segment : Segment) (octets : List ℕ) (told : List Happening) (freed : List Packet)
@@ -96,12 +107,13 @@ goes_some old new r segment octets told freed packet lt goes near base before aw
       near_far old base ps stands.0 lt,
       λ past.
           let same : past.0 ≡ p = first_same past.0 p (sym past.1 ∙ one.1) in
-          let h = subst (λ (q : Placed). (0 < length q.cells) × EndsFar (stream_at r.teller.streams (side_of q.from)).held.place q.place q.cells) same past.2 in
+          let h = subst (λ (q : Placed). (0 < length q.cells) × EndsFar (first_kept ps q.from) q.place q.cells) same past.2 in
           let some = h.0 in
           let cells = brings_all p s.cells one.4 some in
           let long : length p.cells ≡ length s.cells = ap length cells in
           let far : EndsFar (stream_at r.teller.streams segment.from).held.place p.place p.cells =
-          subst (λ (d : Side). EndsFar (stream_at r.teller.streams d).held.place p.place p.cells) (sym (own_side p segment.from s.from (side_back segment.from) one.3)) h.1 in
+          subst (λ (d : Side). EndsFar (stream_at r.teller.streams d).held.place p.place p.cells) (sym (own_side p segment.from s.from (side_back segment.from) one.3))
+          (subst (λ (n : ℕ). EndsFar n p.place p.cells) (sym (kept_at r.teller.streams ps p.from stands.1.2)) h.1) in
           let none : length s.cells ≡ 0 =
           near (λ e. omega (arith, e, from, to, some))
           (subst (λ (n : ℕ). EndsFar (stream_at r.teller.streams segment.from).held.place n s.cells) (sym from)

@@ -14,18 +14,20 @@ use Rattle.hsms_capture.specs.declared.streams.Due.{Due}
 use Rattle.hsms_capture.specs.declared.streams.Stream.{Stream}
 use Rattle.hsms_capture.specs.declared.teller.Teller.{Teller}
 use Rattle.hsms_capture.specs.declared.telling.Happening.{Happening}
-use Rattle.hsms_capture.specs.Wire.{End, active, passive, Placed, Turn, received, turns, loss, difference, earlier, breaks_off, contradicts, is_behind}
+use Rattle.hsms_capture.specs.Wire.{End, active, passive, Placed, Turn, Both, both_streams, received, turns, loss, difference, earlier, breaks_off, contradicts, is_behind}
 use Rattle.hsms_capture.specs.Losses.{FindsLoss, IsNext, Watches, WatchesOn, first_of, need_at}
 use Rattle.hsms_capture.specs.Telling.{entry_as}
-use Rattle.hsms_capture.specs.Turning.{Log, and_log, tell_on}
+use Rattle.hsms_capture.specs.Turning.{Log, and_log, due_of, left_behind, tell_on}
 use Rattle.hsms_capture.specs.Drained.{IsHeldBack, is_sure}
-use Rattle.hsms_capture.specs.Connected.{AreRising, AreStreamsOf, IsClosed, IsLimit, IsStreamOf, TellsBefore, Waits, lefts, told_dues}
+use Rattle.hsms_capture.specs.Connected.{AreRising, AreStreamsOf, HasPassed, IsClosed, IsLimit, IsStreamOf, TellsBefore, Waits, lefts, told_dues, untold}
 use Rattle.hsms_capture.specs.Finished.{BreaksAt, Finishes, IsEnded, broken, ended_by, EachBehind}
 use Rattle.hsms_capture.specs.Arrived.{Arrives, GoesOn, MayLose, PassesBoth, PassesTo, Reacts, TellsSure, breaks_sure, is_first}
 use Rattle.hsms_capture.proofs.Lists.{Each, weaken}
 use Rattle.hsms_capture.proofs.Numbered.{before_later, difference_more, later_packets, loss_past, passes, passes_both, passes_earlier, rising_behind, rising_lower}
-use Rattle.hsms_capture.proofs.Turned.{turns_each}
-use Rattle.hsms_capture.proofs.Finishing.{behind_each}
+use Rattle.hsms_capture.proofs.Turned.{Ordered, turns_each, turns_ordered}
+use Rattle.hsms_capture.proofs.Awaited.{due_each, sure_kept}
+use Rattle.hsms_capture.proofs.Finishing.{behind_each, held_back, none_kept, ordered_back}
+use Rattle.hsms_capture.proofs.Watched.{tells_loss}
 
 -- ---- what stands before the first packet that lacks something
 
@@ -68,19 +70,43 @@ passed s r acked ps d e h p =
 waits_same : (more : Bool) (t u : Teller) (queue : List Due) (ps : List Placed) (told : List Happening) → u.telling ≡ t.telling → u.opened ≡ t.opened
     → u.streams.active.place ≡ t.streams.active.place → u.streams.passive.place ≡ t.streams.passive.place → Waits more t queue ps told → Waits more u queue ps told
 waits_same more t u queue ps told telling opened a b w =
-    (w.0, w.1, w.2, w.3, λ later h. w.4 later h ∙ same_log (ps ++ later) (w.1 ++ turns ps later))
+    (w.0, w.1, w.2, w.3, λ later h. w.4 later h ∙ same_log (ps ++ later) (w.1 ++ turns ps later), λ later h. let has = w.5 later h in (has.0, has.1 ∙ same_lefts (ps ++ later)))
   where
+    same_lefts : (all : List Placed) → lefts t.streams all ≡ lefts u.streams all
+    same_lefts all = rw (a, b) refl
+
     same_log : (all : List Placed) (us : List Turn) → and_log (map entry_as told) (tell_on t.telling t.opened (lefts t.streams all) (told_dues all us))
         ≡ and_log (map entry_as told) (tell_on u.telling u.opened (lefts u.streams all) (told_dues all us))
     same_log all us = rw (telling, opened, a, b) refl
+
+pub nothing_follows : (ps : List Placed) → AreRising 0 ps → AreRising 0 (ps ++ [])
+nothing_follows ps h = subst (AreRising 0) (sym (append-nil ps)) h
+
+-- so far each direction is told
+told_places : (limit : Option ℕ) (t : Teller) (queue : List Due) (ps : List Placed) (told : List Happening) → AreRising 0 ps → limit ≡ breaks_off ps → Waits true t queue ps told
+    → IsHeldBack limit queue → lefts t.streams ps ≡ left_behind (both_streams ps) (told_dues ps (turns [] ps))
+told_places limit t queue ps told rises is w back =
+    let has = subst (HasPassed t w.0) (append-nil ps) (w.5 [] (nothing_follows ps rises)) in
+    let held : IsHeldBack (breaks_off ps) (map due_of w.1) = subst (λ (o : Option ℕ). IsHeldBack o (map due_of w.1)) is (subst (IsHeldBack limit) w.3 back) in
+    let dues : told_dues ps (turns [] ps) ≡ map due_of w.0 =
+    ap (told_dues ps) w.2 ∙ sure_kept ps w.0 w.1 (due_each (λ (d : Due). is_sure (breaks_off ps) d.at ≡ true) w.0 has.0)
+    ∙ ap (λ (ds : List Due). map due_of w.0 ++ ds) (none_kept ps w.1 (held_back (breaks_off ps) w.1 (ordered_back w.0 w.1 (subst Ordered w.2 (turns_ordered 0 [] ps rises))) held))
+    ∙ append-nil (map due_of w.0) in
+    sym has.1 ∙ ap (left_behind (both_streams ps)) (sym dues)
+
+-- it is held from there on
+kept_from : (s r : Stream) (acked told : ℕ) (ps : List Placed) (d : End) → acked ≡ received ps d → IsStreamOf s ps d → PassesTo s acked r → s.place ≡ told
+    → r.held.place ≡ min (received ps d) told
+kept_from s r acked told ps d e h p is =
+    let place = p.1 in
+    let low = h.1 in
+    let known = h.3 in
+    omega (arith, place, low, known, e, is)
 
 closed_all : (ps : List Placed) (told : List Happening) → IsClosed true ps told → IsEnded true ps told ending.Closed
 closed_all ps told closed lt h =
     let log = closed lt h in
     (sym (ap (λ (l : Log). l.told) log), sym (ap (λ (l : Log). ended_by l.closed (ps ++ lt)) log))
-
-pub nothing_follows : (ps : List Placed) → AreRising 0 ps → AreRising 0 (ps ++ [])
-nothing_follows ps h = subst (AreRising 0) (sym (append-nil ps)) h
 
 pub sure_closed : (acked : BothEnds) (old new : Reading) (next : Teller) (left : List Due) (told later : List Happening) (first limit : Option ℕ) → first ≡ first_of old.losses
     → limit ≡ earlier first old.differs → TellsBefore limit old.teller old.due.items told next left later true → TellsSure acked old told new later (Some ending.Closed)
@@ -96,7 +122,9 @@ pub sure_open : (acked : BothEnds) (old new : Reading) (next : Teller) (left : L
 sure_open acked old new next left told later first limit e f tells pass losses differs queue telling opened away ps rises acks r =
     let is : limit ≡ earlier (first_of old.losses) old.differs = f ∙ ap (λ (o : Option ℕ). earlier o old.differs) e in
     let sound = subst (λ (o : Option ℕ). IsLimit true o ps) (sym is) (sure_limit old.losses ps old.differs r.0 r.1) in
-    let h = tells away true ps rises (nothing_follows ps rises) r.2 sound r.3 in (
+    let h = tells away true ps rises (nothing_follows ps rises) r.2 sound r.3 in
+    let limit_is : limit ≡ breaks_off ps = is ∙ ap (λ (o : Option ℕ). earlier o old.differs) (tells_loss old.losses ps r.0) ∙ ap (earlier (loss [] ps)) (sym r.1) in
+    let told_to = told_places limit next left ps (away ++ later) rises limit_is h.1.0 h.1.1 in (
       (
         subst (λ (ns : List Need). Watches ns ps) (sym losses) r.0,
         r.1 ∙ sym differs,
@@ -108,6 +136,12 @@ sure_open acked old new next left told later first limit e f tells pass losses d
       ),
       subst (λ (q : List Due). IsHeldBack (earlier (first_of new.losses) new.differs) q) (sym queue)
           (subst (λ (o : Option ℕ). IsHeldBack o left) (is ∙ ap (λ (ns : List Need). earlier (first_of ns) old.differs) (sym losses) ∙ ap (earlier (first_of new.losses)) (sym differs)) h.1.1),
+      (
+        kept_from next.streams.active new.teller.streams.active acked.active (untold ps active) ps active (ap (λ (b : BothEnds). b.active) acks) h.0.0 pass.0
+            (ap (λ (b : Both). b.active.place) told_to),
+        kept_from next.streams.passive new.teller.streams.passive acked.passive (untold ps passive) ps passive (ap (λ (b : BothEnds). b.passive) acks) h.0.1 pass.1
+            (ap (λ (b : Both). b.passive.place) told_to),
+      ),
     )
 
 -- ---- where one is lost

@@ -16,7 +16,7 @@ use Rattle.hsms_capture.specs.Held.{Store, IsStoreOf}
 use Rattle.hsms_capture.specs.Known.{packet_of}
 use Rattle.hsms_capture.specs.Losses.{Watches, ends_of, first_of, side_of}
 use Rattle.hsms_capture.specs.Message.{cells_of}
-use Rattle.hsms_capture.specs.Connected.{AreRising, AreStreamsOf, Waits}
+use Rattle.hsms_capture.specs.Connected.{AreRising, AreStreamsOf, Waits, first_kept}
 use Rattle.hsms_capture.specs.Drained.{IsHeldBack}
 use Rattle.hsms_capture.specs.Finished.{IsEnded}
 
@@ -85,8 +85,12 @@ IsKnown r ps told = Watches r.losses ps × (difference [] ps ≡ r.differs) × A
 abbrev pub IsPrompt : Reading → Type 0
 IsPrompt r = IsHeldBack (earlier (first_of r.losses) r.differs) r.due.items
 
+-- what is told and acknowledged isn't held
+abbrev pub HoldsFrom : Streams → List Placed → Type 0
+HoldsFrom s ps = (s.active.held.place ≡ first_kept ps active) × (s.passive.held.place ≡ first_kept ps passive)
+
 abbrev pub IsReading : Reading → List Placed → List Happening → Type 0
-IsReading r ps told = IsKnown r ps told × IsPrompt r
+IsReading r ps told = IsKnown r ps told × IsPrompt r × HoldsFrom r.teller.streams ps
 
 -- it goes on, or it ended
 abbrev pub Outcome : Reading → List Placed → List Happening → Option Ending → Type 0

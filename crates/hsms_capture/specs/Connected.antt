@@ -1,17 +1,17 @@
 -- What a reader of a connection knows in the midst of a capture, what it has told, and what is still to be told.
-use Rattle.std.specs.Prelude.{◌≡◌, ◌<◌, ◌≤◌, ◌++◌, ◌∷◌, Bool, true, false, ℕ, List, [], drop, map, filter, Option, None}
+use Rattle.std.specs.Prelude.{◌≡◌, ◌<◌, ◌≤◌, ◌++◌, ◌∷◌, Bool, true, false, ℕ, min, List, [], drop, map, filter, Option, None}
 use Rattle.hsms_capture.specs.declared.streams.Due.{Due}
 use Rattle.hsms_capture.specs.declared.streams.Stream.{Stream}
 use Rattle.hsms_capture.specs.declared.streams.Streams.{Streams}
 use Rattle.hsms_capture.specs.declared.teller.Teller.{Teller}
 use Rattle.hsms_capture.specs.declared.telling.Happening.{Happening}
 use Rattle.hsms_capture.specs.declared.telling.Telling.TheVariants as telling
-use Rattle.hsms_capture.specs.Wire.{End, active, passive, Cell, Placed, Turn, Left, Both, both_streams, stream_of, end_of, received, turns, breaks_off, is_before}
+use Rattle.hsms_capture.specs.Wire.{End, active, passive, Cell, Placed, Turn, Left, Both, both_streams, left_of, stream_of, end_of, received, turns, breaks_off, is_before}
 use Rattle.hsms_capture.specs.Told.{tells}
 use Rattle.hsms_capture.specs.Held.{IsStoreOf}
 use Rattle.hsms_capture.specs.Telling.{entry_as}
-use Rattle.hsms_capture.specs.Turning.{Log, and_log, due_of, is_over, tell_on}
-use Rattle.hsms_capture.specs.Drained.{IsHeldBack, is_sure}
+use Rattle.hsms_capture.specs.Turning.{Log, and_log, due_of, is_over, left_behind, tell_on}
+use Rattle.hsms_capture.specs.Drained.{EachDue, IsHeldBack, is_sure}
 
 -- ---- what all packets tell, turn by turn
 
@@ -20,6 +20,14 @@ told_dues all ts = map due_of (filter (is_before (breaks_off all)) ts)
 
 abbrev pub log_of : List Placed → Log
 log_of all = tell_on (telling.Waiting None) false (both_streams all) (told_dues all (turns [] all))
+
+-- the place of the first cell of a direction that isn't told yet
+abbrev pub untold : List Placed → End → ℕ
+untold ps d = (left_of (left_behind (both_streams ps) (told_dues ps (turns [] ps))) d).place
+
+-- that of the first one that isn't told or isn't acknowledged
+abbrev pub first_kept : List Placed → End → ℕ
+first_kept ps d = min (received ps d) (untold ps d)
 
 -- ---- in the midst of it
 
@@ -52,10 +60,16 @@ Continues t rest ps told later =
     log_of (ps ++ later)
     ≡ and_log (map entry_as told) (tell_on t.telling t.opened (lefts t.streams (ps ++ later)) (told_dues (ps ++ later) (rest ++ turns ps later)))
 
+-- these turns were told: they stand before the end of the log, and what they leave of the streams is left
+abbrev pub HasPassed : Teller → List Turn → List Placed → Type 0
+HasPassed t gone all =
+    EachDue (λ (d : Due). is_sure (breaks_off all) d.at ≡ true) (map due_of gone) × (left_behind (both_streams all) (map due_of gone) ≡ lefts t.streams all)
+
 abbrev pub Waits : Bool → Teller → List Due → List Placed → List Happening → Type 0
 Waits more t queue ps told =
     (gone : List Turn) × (rest : List Turn) × (turns [] ps ≡ gone ++ rest) × (queue ≡ map due_of rest)
     × ((later : List Placed) → MayFollow more ps later → Continues t rest ps told later)
+    × ((later : List Placed) → MayFollow more ps later → HasPassed t gone (ps ++ later))
 
 -- whatever follows, what stands before a limit stands before the end of the log
 abbrev pub IsLimit : Bool → Option ℕ → List Placed → Type 0

@@ -9,7 +9,7 @@ use Rattle.hsms_capture.specs.declared.streams.Streams.{Streams}
 use Rattle.hsms_capture.specs.declared.telling.Happening.{Happening}
 use Rattle.hsms_capture.specs.Wire.{Cell, Both}
 use Rattle.hsms_capture.specs.Telling.{entry_as}
-use Rattle.hsms_capture.specs.Turning.{AreLeft, Log, and_log, other_side, reach, stream_at, tell_on}
+use Rattle.hsms_capture.specs.Turning.{AreLeft, Log, and_log, left_behind, other_side, reach, stream_at, tell_on}
 
 -- a packet stands before a limit
 abbrev pub is_sure : Option ℕ → ℕ → Bool
@@ -52,6 +52,7 @@ HasTold taken old told new later closed =
     → (c : Both) × AreLeft new.streams c × ((x y : List Cell) → AreTails x y b → AreTails x y c)
     × ((rest : List Due)
     → and_log (map entry_as told) (tell_on old.telling old.opened b (taken ++ rest)) ≡ log_by closed later (tell_on new.telling new.opened c rest))
+    × (c ≡ left_behind b taken)
 
 abbrev pub SameStores : Streams → Streams → Type 0
 SameStores old new = (new.active.held ≡ old.active.held) × (new.passive.held ≡ old.passive.held)

@@ -17,8 +17,8 @@ use Rattle.hsms_capture.specs.Wire.{End, active, passive, Cell, Placed, Seen, en
 use Rattle.hsms_capture.specs.Held.{EndsFar, Store}
 use Rattle.hsms_capture.specs.Near.{StaysNear}
 use Rattle.hsms_capture.specs.Known.{Known, placed_behind, seen_of}
-use Rattle.hsms_capture.specs.Losses.{side_of}
 use Rattle.hsms_capture.specs.Turning.{stream_at}
+use Rattle.hsms_capture.specs.Connected.{first_kept}
 use Rattle.hsms_capture.specs.Arrived.{arrival_cells}
 use Rattle.hsms_capture.specs.Standing.{Stands, StandsAs}
 
@@ -26,33 +26,32 @@ use Rattle.hsms_capture.specs.Standing.{Stands, StandsAs}
 abbrev pub IsFar : List Placed → Type 0
 IsFar ps = 2 ^ 62 ≤ max (end_of ps active) (end_of ps passive)
 
--- a packet brings cells, and ends past 2^26 places behind the first of its direction that is held still: what is told and
--- acknowledged isn't held
-abbrev pub IsPast : Reading → Placed → Type 0
-IsPast r p = (0 < length p.cells) × EndsFar (stream_at r.teller.streams (side_of p.from)).held.place p.place p.cells
+-- a packet brings cells, and ends past 2^26 places behind the first of its direction that isn't told or isn't acknowledged
+abbrev pub IsPast : List Placed → Placed → Type 0
+IsPast ps p = (0 < length p.cells) × EndsFar (first_kept ps p.from) p.place p.cells
 
 -- so is the packet of a segment that isn't too far away
-abbrev pub EndsPast : Reading → (End → ℕ) → List Placed → Seen → Type 0
-EndsPast r base ps s = (p : Placed) × (placed_behind base ps s ≡ p ∷ []) × IsPast r p
+abbrev pub EndsPast : (End → ℕ) → List Placed → Seen → Type 0
+EndsPast base ps s = (p : Placed) × (placed_behind base ps s ≡ p ∷ []) × IsPast ps p
 
-abbrev pub StopsFor : ConnectionFault → Reading → (End → ℕ) → List Placed → Seen → Type 0
-StopsFor stop.Far r base ps s = IsFar ps
-StopsFor stop.Full r base ps s = EndsPast r base ps s
-StopsFor stop.Memory r base ps s = Unit {0}
+abbrev pub StopsFor : ConnectionFault → (End → ℕ) → List Placed → Seen → Type 0
+StopsFor stop.Far base ps s = IsFar ps
+StopsFor stop.Full base ps s = EndsPast base ps s
+StopsFor stop.Memory base ps s = Unit {0}
 
 -- a connection that hasn't ended is given up for this, also where what was told was taken away
 abbrev pub StopsBy : Connection → List Happening → Seen → ConnectionFault → Type 0
 StopsBy c told s fault =
     (c.ending ≡ None)
     × ((base : End → ℕ) (before : List Seen) (away : List Happening) → Stands c (away ++ told) base before
-    → StopsFor fault c.reading base (places base [] before) s)
+    → StopsFor fault base (places base [] before) s)
 
 -- and it is given up wherever there is such a reason
 abbrev pub GoesBy : Connection → List Happening → Seen → Type 0
 GoesBy c told s =
     c.ending ≡ None
     → (base : End → ℕ) (before : List Seen) (away : List Happening) → Stands c (away ++ told) base before
-    → (IsFar (places base [] before) → ⊥) × (EndsPast c.reading base (places base [] before) s → ⊥)
+    → (IsFar (places base [] before) → ⊥) × (EndsPast base (places base [] before) s → ⊥)
 
 -- ---- what code does
 
@@ -85,9 +84,9 @@ IsNearAt s a octets = IsNear (stream_at s a.from).held a.packet (arrival_cells a
 abbrev pub StopsAt : Known → Reading → Segment → List ℕ → List Happening → ConnectionFault → Type 0
 StopsAt turns r segment octets told fault =
     (base : End → ℕ) (before : List Seen) (away : List Happening) → StandsAs None turns r (away ++ told) base before
-    → StopsFor fault r base (places base [] before) (seen_of segment octets)
+    → StopsFor fault base (places base [] before) (seen_of segment octets)
 
 abbrev pub GoesAt : Known → Reading → Segment → List ℕ → List Happening → Type 0
 GoesAt turns r segment octets told =
     (base : End → ℕ) (before : List Seen) (away : List Happening) → StandsAs None turns r (away ++ told) base before
-    → (IsFar (places base [] before) → ⊥) × (EndsPast r base (places base [] before) (seen_of segment octets) → ⊥)
+    → (IsFar (places base [] before) → ⊥) × (EndsPast base (places base [] before) (seen_of segment octets) → ⊥)

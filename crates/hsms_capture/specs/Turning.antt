@@ -105,6 +105,11 @@ tell_on s opened b (t ∷ ts) =
     (let h = hears s (entries_at opened t b) in
     if resets opened t then (record { told = h.told; closed = true }) else (and_log h.told (tell_on h.state (opened || opens t) (delivers t b).both ts)))
 
+-- what is left of both streams behind these turns
+unfoldable pub left_behind : Both → List Due → Both
+left_behind b [] = b
+left_behind b (t ∷ ts) = left_behind (delivers t b).both ts
+
 -- ---- what code does
 
 abbrev pub stream_at : Streams → Side → Stream

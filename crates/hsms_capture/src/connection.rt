@@ -101,6 +101,7 @@ impl Connection {
     pub fn new(alloc: Global, active: u32, passive: u32) -> Connection
         ensures told { Stands result [] (bases active passive) [] }
         ensures times { IsInTime result [] (bases active passive) [] }
+        ensures open { result.ending ≡ None }
     {
         let teller = Teller {
             streams: Streams {

@@ -118,14 +118,15 @@ follow_ended a p pair base before s o next ending first logs now lack old new nu
     (have_closed a p all logs.ends (all_heard a p (bare_resets seen) all logs h))) when
 
 pub follow_goes : (a p : Parameters) (base : End → ℕ) (before : List Seen) (s : Seen) (o : Open) (next : Connection) (first logs : Logs) (now : List Happening)
-    → AreNumbered 0 (before ++ s ∷ []) → IsFollowed a p base before o → TakesOn o.connection s [] next now → TakesInTime o.connection s [] next now
-    → with_bare o.logs first s → HearsThem a p first now course.Goes logs → IsFollowed a p base (before ++ s ∷ []) (record { connection = next; logs = logs })
-follow_goes a p base before s o next first logs now numbered f takes times notes hears =
+    → AreNumbered 0 (before ++ s ∷ []) → IsFollowed a p base before o → next.ending ≡ None → TakesOn o.connection s [] next now
+    → TakesInTime o.connection s [] next now → with_bare o.logs first s → HearsThem a p first now course.Goes logs → IsFollowed a p base (before ++ s ∷ []) (record { connection = next; logs = logs })
+follow_goes a p base before s o next first logs now numbered f open_still takes times notes hears =
     let seen = before ++ s ∷ [] in
     let all = f.told ++ now in
     let h = heard_next a p base before s o first logs now course.Goes f notes hears in
     record {
       told = all;
+      unended = open_still;
       stands = stands_next o.connection next s base before f.told now takes numbered f.stands;
       timed = in_time_next o.connection next s base before f.told now times f.stands f.timed;
       goes = h.course_is;
@@ -141,7 +142,7 @@ never_replaced (course.Over other) lack = refl
 
 pub follow_full : (a p : Parameters) (pair : Pair) (base : End → ℕ) (before : List Seen) (s : Seen) (o : Open) (first logs : Logs) (now : List Happening)
     → (lack : Option Shortfall) (old new : Report) → AreNumbered 0 (before ++ s ∷ []) → IsFollowed a p base before o → lack ≡ Some (lacks.Full s.packet) → now ≡ []
-    → ((base : End → ℕ) (before : List Seen) (away : List Happening) → Stands o.connection (away ++ []) base before → IsTooMuch o.connection base before s) → with_bare o.logs first s → HearsThem a p first now course.Goes logs → WhenTold (logs.is_up || is_some lack) pair lack (unboxed_ends logs.ends) old new
+    → ((base : End → ℕ) (before : List Seen) (away : List Happening) → Stands o.connection (away ++ []) base before → IsTooMuch base before s) → with_bare o.logs first s → HearsThem a p first now course.Goes logs → WhenTold (logs.is_up || is_some lack) pair lack (unboxed_ends logs.ends) old new
     → GivesUp a p pair base before s old new
 follow_full a p pair base before s o first logs now lack old new numbered f lack_is none much notes hears when =
     let earlier = numbered_front 0 before (s ∷ []) numbered in
@@ -160,6 +161,7 @@ follow_full a p pair base before s o first logs now lack old new numbered f lack
     (subst (λ (l : Option Shortfall). WhenTold (logs.is_up || is_some l) pair l (unboxed_ends logs.ends) old new) lack_is when) in (
       o.connection,
       told,
+      f.unended,
       f.stands,
       much base before told (subst (λ (hs : List Happening). Stands o.connection hs base before) (sym (append-nil told)) f.stands),
       subst (λ (b : Bool). TellsIf (came_up (entries_logged a.max es) || is_some full) (Shown a p pair (clock_of base before) es b full) old new)
@@ -167,7 +169,7 @@ follow_full a p pair base before s o first logs now lack old new numbered f lack
     )
 
 pub too_much : (fault : ConnectionFault) (c : Connection) (told : List Happening) (s : Seen) → (fault ≡ stop.Memory → ⊥) → StopsBy c told s fault
-    → (base : End → ℕ) (before : List Seen) (away : List Happening) → Stands c (away ++ told) base before → IsTooMuch c base before s
+    → (base : End → ℕ) (before : List Seen) (away : List Happening) → Stands c (away ++ told) base before → IsTooMuch base before s
 too_much stop.Far c told s other stops base before away stands = inl (stops.1 base before away stands)
 too_much stop.Full c told s other stops base before away stands = inr (stops.1 base before away stands)
 too_much stop.Memory c told s other stops base before away stands = absurd (other refl)
@@ -177,7 +179,7 @@ pub follows : (c : Course) (t : Taken) (a p : Parameters) (pair : Pair) (s : See
     → (base : End → ℕ) (before : List Seen) → AreNumbered 0 (before ++ s ∷ []) → IsFollowed a p base before o → FollowsOn a p pair base before s left old new
 follows course.Goes (taken.Goes next) a p pair s o first logs now left old new takes notes hears goes base before numbered f =
     subst (λ (l : Option Open). FollowsOn a p pair base before s l old new) (sym goes.0)
-    (goes.1, follow_goes a p base before s o next first logs now numbered f takes.1 takes.2 notes hears)
+    (goes.1, follow_goes a p base before s o next first logs now numbered f takes.0 takes.1 takes.2 notes hears)
 follows course.Goes (taken.Ends lack) a p pair s o first logs now left old new takes notes hears goes base before numbered f =
     subst (λ (l : Option Open). FollowsOn a p pair base before s l old new) (sym goes.0)
     (elim takes [
@@ -332,10 +334,11 @@ pub none_more : (a p : Parameters) (pair : Pair) (base : End → ℕ) (before ss
 none_more a p pair base before ss s old new them =
     (them.0, them.1, them.2 ++ s ∷ [], ap (λ (z : List Seen). z ++ s ∷ []) them.3 ∙ append_assoc them.0 (them.1 ∷ them.2) (s ∷ []), them.4)
 
-pub begun_open : (a p : Parameters) (x y : ℕ) (c : Connection) (logs : Logs) → Stands c [] (bases x y) [] → IsInTime c [] (bases x y) [] → logs.ends ≡ None
+pub begun_open : (a p : Parameters) (x y : ℕ) (c : Connection) (logs : Logs) → c.ending ≡ None → Stands c [] (bases x y) [] → IsInTime c [] (bases x y) [] → logs.ends ≡ None
     → logs.is_up ≡ false → logs.bare_resets.items ≡ [] → IsFollowed a p (bases x y) [] (record { connection = c; logs = logs })
-begun_open a p x y c logs stands timed none down bare = record {
+begun_open a p x y c logs open_still stands timed none down bare = record {
   told = [];
+  unended = open_still;
   stands = stands;
   timed = timed;
   goes = refl;

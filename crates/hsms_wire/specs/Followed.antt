@@ -163,8 +163,8 @@ DownBy true old new = (new.is_up ≡ old.is_up) × Replaces old.ends new.ends
 -- ---- a segment is taken
 
 -- a stream has come too far, or too much would wait
-abbrev pub IsTooMuch : Connection → (End → ℕ) → List Seen → Seen → Type 0
-IsTooMuch c base before s = IsFar (places base [] before) ⊎ EndsPast c.reading base (places base [] before) s
+abbrev pub IsTooMuch : (End → ℕ) → List Seen → Seen → Type 0
+IsTooMuch base before s = IsFar (places base [] before) ⊎ EndsPast base (places base [] before) s
 
 abbrev pub TakesSegment : Connection → Seen → List Happening → List Happening → Taken → Type 0
 TakesSegment c s told later (taken.Goes next) = (next.ending ≡ None) × TakesOn c s told next later × TakesInTime c s told next later
@@ -172,7 +172,7 @@ TakesSegment c s told later (taken.Ends lack) =
     ((next : Connection) × (ending : Ending) × (next.ending ≡ Some ending) × (lack ≡ lack_behind ending None)
     × TakesOn c s told next later × TakesInTime c s told next later)
     ⊎ ((lack ≡ Some (lacks.Full s.packet)) × (later ≡ told)
-    × ((base : End → ℕ) (before : List Seen) (away : List Happening) → Stands c (away ++ told) base before → IsTooMuch c base before s))
+    × ((base : End → ℕ) (before : List Seen) (away : List Happening) → Stands c (away ++ told) base before → IsTooMuch base before s))
 
 -- it goes on, or it is over, by what was heard of it or by what it lacks
 abbrev pub GoesOn : Pair → Logs → Course → Taken → Option Open → Report → Report → Type 0
@@ -183,6 +183,7 @@ GoesOn pair logs (course.Over lack) t left old new = (left ≡ None) × WhenTold
 -- a connection that goes on, behind these segments
 pub record IsFollowed (a p : Parameters) (base : End → ℕ) (seen : List Seen) (o : Open) : Type 0 where
   pub told : List Happening
+  pub unended : o.connection.ending ≡ None
   pub stands : Stands o.connection told base seen
   pub timed : IsInTime o.connection told base seen
   pub goes : course_by_events a.max told ≡ course.Goes
@@ -190,10 +191,10 @@ pub record IsFollowed (a p : Parameters) (base : End → ℕ) (seen : List Seen)
   pub bare : o.logs.bare_resets.items ≡ bare_resets seen
   pub ends : EndsHave a p told o.logs.ends
 
--- it is given up with a segment, with which too much would wait: both logs end with what was told of those before it
+-- it hasn't ended, and is given up with a segment, with which too much would wait: both logs end with what was told of those before it
 abbrev pub GivesUp : Parameters → Parameters → Pair → (End → ℕ) → List Seen → Seen → Report → Report → Type 0
 GivesUp a p pair base before s old new =
-    (c : Connection) × (told : List Happening) × Stands c told base before × IsTooMuch c base before s
+    (c : Connection) × (told : List Happening) × (c.ending ≡ None) × Stands c told base before × IsTooMuch base before s
     × TellsOf a p pair (clock_of base before) (map entry_as told) false (Some (lacks.Full s.packet)) old new
 
 abbrev pub FollowsOn : Parameters → Parameters → Pair → (End → ℕ) → List Seen → Seen → Option Open → Report → Report → Type 0

@@ -11,7 +11,7 @@ returns-in-Some-clause-begins c =
     let first : Open = record { connection = c.new.result; logs = c.new-2.result } in
     begins_some c.follow.result c.args.pair.now c.args.syn c.args.segment.number (map seen_waiting c.args.waiting.items)
     (seen_of c.args.segment c.args.octets.now) first c.in-Some.«open» c.in_ok-open.field-0 c.args.report.now c.follow_all.new.report c.follow.new.report
-    (λ (a p : Parameters). begun_open a p c.args.syn c.args.segment.number c.new.result c.new-2.result c.new.ensures.told c.new.ensures.times
+    (λ (a p : Parameters). begun_open a p c.args.syn c.args.segment.number c.new.result c.new-2.result c.new.ensures.«open» c.new.ensures.told c.new.ensures.times
     c.new-2.ensures.ends c.new-2.ensures.up c.new-2.ensures.bare)
     c.in_ok-open.ensures.follows c.in-Some.is c.follow.ensures.follows
 
@@ -20,6 +20,6 @@ returns-in-None-clause-begins c =
     let first : Open = record { connection = c.new.result; logs = c.new-2.result } in
     begins_none c.args.pair.now c.args.syn c.args.segment.number (map seen_waiting c.args.waiting.items) (seen_of c.args.segment c.args.octets.now) first
     c.in_ok-open.field-0 c.args.report.now c.follow_all.new.report
-    (λ (a p : Parameters). begun_open a p c.args.syn c.args.segment.number c.new.result c.new-2.result c.new.ensures.told c.new.ensures.times
+    (λ (a p : Parameters). begun_open a p c.args.syn c.args.segment.number c.new.result c.new-2.result c.new.ensures.«open» c.new.ensures.told c.new.ensures.times
     c.new-2.ensures.ends c.new-2.ensures.up c.new-2.ensures.bare)
     c.in_ok-open.ensures.follows c.in-None.is
