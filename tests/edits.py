@@ -29,9 +29,9 @@ is `N passed, M failed`.
 
 Use: tests/edits.py [CRATE..] tries all edits of these crates, or of each that has a folder in tests/must-fail/. What
 they stand on is built first, by ./build, where neither that nor `rt ci` has built it.
-tests/edits.py --beside FOLDER does so while `rt ci` runs: the edits of a crate once it is proved, by a log `proofs` in
-the folder, to which a file `ended` comes with the status of `rt ci`, and a file `alone` once nothing else is tried any
-more. All checks give way to the others, and leave them a processor until then.
+tests/edits.py --beside FOLDER does so while `rt ci` proves all crates: the edits of a crate once those are proved that it
+stands on, by a log `proofs` in the folder, to which a file `ended` comes with the status of `rt ci`, and a file `alone`
+once nothing else is tried any more. All checks give way to the others, and leave them a processor until then.
 tests/edits.py --one CRATE NAME [BODY] tries one edit and writes what the check says, and tests/edits.py --twins [NAME..]
 tries all twins, or some.
 """
@@ -52,7 +52,7 @@ from dataclasses import dataclass
 
 sys.dont_write_bytecode = True
 
-from rooms import READ, TOP, bring, crates_below, crates_listed, link, mark_as_built, processors, room_for, words_of_check
+from rooms import READ, TOP, crates_below, crates_listed, link, mark_as_built, processors, room_for, words_of_check
 
 EDITS = f"{TOP}/tests/must-fail"
 TWINS = f"{TOP}/tests/twins"
@@ -62,6 +62,9 @@ ONLY = "only: "
 
 # How long a check may take, in seconds.
 LONGEST_CHECK = 3600
+
+# Where checks of a crate keep what they proved of it.
+KEPT = "out/incremental"
 
 # The status of a check that is to be of a function which isn't there.
 NO_SUCH_FUNCTION = 2
@@ -306,13 +309,12 @@ def keep(source, target):
     (link if source.endswith(".oantt") else shutil.copy2)(source, target)
 
 
-def room_with_what_is_kept(crate, room, like=None):
-    """A room for a crate, with what earlier checks kept of it, in another room too."""
+def room_with_what_is_kept(crate, room, where):
+    """A room for a crate, with what checks in another folder kept of it."""
     folder = room_for(crate, room)
-    bring(crate, ("out",), room, keep)
-    kept = "out/incremental"
-    if like and os.path.isdir(f"{like}/{kept}"):
-        shutil.copytree(f"{like}/{kept}", f"{folder}/{kept}", copy_function=keep, dirs_exist_ok=True)
+    os.makedirs(f"{folder}/out", exist_ok=True)
+    if os.path.isdir(f"{where}/{KEPT}"):
+        shutil.copytree(f"{where}/{KEPT}", f"{folder}/{KEPT}", copy_function=keep)
     return folder
 
 
@@ -526,8 +528,10 @@ class Room:
     hole.
     """
 
-    def __init__(self, crate, home, like=None):
-        self.crate, self.folder = crate, room_with_what_is_kept(crate, home, like.folder if like else None)
+    def __init__(self, crate, home, like=None, is_beside=False):
+        # while `rt ci` runs, it moves what was kept in the crate's own folder
+        where = like.folder if like else folder_of(crate) if not is_beside else ""
+        self.crate, self.folder = crate, room_with_what_is_kept(crate, home, where)
         self.words = ["nice", "-n", "19", *words_of_check(crate, home)]
         self.sources, self.by_hand = sources_of(crate), {}
         for path in like.by_hand if like else functions_in(crate):
@@ -720,9 +724,9 @@ class Lanes:
 class Rooms:
     """Rooms of a crate, one for each check that runs at once."""
 
-    def __init__(self, crate, home):
+    def __init__(self, crate, home, is_beside=False):
         self.crate, self.home, self.taking = crate, home, threading.Lock()
-        self.first = Room(crate, f"{home}/0")
+        self.first = Room(crate, f"{home}/0", is_beside=is_beside)
         self.free, self.made = [self.first], 1
 
     def make(self, most):
@@ -742,10 +746,10 @@ class Rooms:
 class Trial:
     """The trials of a crate's edits and twins."""
 
-    def __init__(self, crate, home, lanes):
+    def __init__(self, crate, home, lanes, is_beside=False):
         self.crate, self.lanes = crate, lanes
         with lanes.one(len(bodies_of(crate))):
-            self.rooms = Rooms(crate, home)
+            self.rooms = Rooms(crate, home, is_beside)
         self.passed, self.failed, self.checks, self.counting = 0, [], 0, threading.Lock()
 
     def fail(self, edit, why):
@@ -850,19 +854,20 @@ def first_error(output):
     return next((line for line in lines if tells.search(line)), lines[-1])[:300]
 
 
-def tried(crate, bodies, twins, is_proved, lanes):
-    """Tries the wrong bodies of a crate, which is proved already or not, or else its twins, and tells what came of them.
+def tried(crate, bodies, twins, is_proved, lanes, is_beside=False):
+    """Tries the wrong bodies of a crate, which is proved already or not, or is beside, or else its twins, and tells what came
+    of them.
 
     Beside wrong bodies twins are only seen to be edits that can be applied.
     """
     began = time.monotonic()
     with tempfile.TemporaryDirectory(prefix="edits-") as home:
-        trial = Trial(crate, home, lanes)
+        trial = Trial(crate, home, lanes, is_beside)
         try:
             output = ""
-            if not is_proved:
+            if not (is_proved or is_beside):
                 is_proved, output = trial.is_proved()
-            if is_proved and bodies:
+            if (is_proved or is_beside) and bodies:
                 trial.refuse(bodies)
                 trial.applicable(twins)
             elif is_proved:
@@ -927,12 +932,12 @@ class Proofs:
         return int(told) if told else None
 
     def are_there(self, crate):
-        """Whether the edits of a crate may be tried."""
+        """Whether the edits of a crate may be tried: where what it stands on is proved. `rt ci` shows that it is too."""
         if self.ended() is not None:
             return True
         log = f"{self.folder}/proofs"
         told = set(IS_PROVED.findall(text_of(log))) if os.path.exists(log) else set()
-        return {crate, *crates_below(crate, crates_listed())} <= told
+        return crates_below(crate, crates_listed()) <= told
 
     def lanes(self):
         """How many checks may run at once: one less than there are processors while others work that wait for one."""
@@ -986,7 +991,8 @@ def main():
     crates.sort(key=size_of, reverse=True)
     twins_of = lambda crate: [it for it in twins if it.crate == crate]
     lanes = Lanes(proofs.lanes)
-    of_crate = lambda crate: tried(crate, bodies.get(crate, []), twins_of(crate), crate in proofs.mark(), lanes)
+    is_proved = lambda crate: crate in proofs.mark()
+    of_crate = lambda crate: tried(crate, bodies.get(crate, []), twins_of(crate), is_proved(crate), lanes, bool(asked.beside))
     results = each_in_its_turn(proofs, crates, of_crate)
     if results is None:
         return 1
