@@ -1,6 +1,6 @@
 -- A refusal at the end: what was told and written before it, and why it is one.
-use Rattle.std.proofs.Common.{◌≡◌, ◌++◌, List, ℕ, Bool, false, [], Option, refl, sym, ap, subst, ◌∙◌}
-use Rattle.std.specs.Prelude.{Result, Ok, Err, IfErr, IfOk, OnOk, codes}
+use Rattle.std.proofs.Common.{◌≡◌, ◌++◌, List, ℕ, Bool, false, [], Option, sym, ap, subst, ◌∙◌}
+use Rattle.std.specs.Prelude.{Result, Ok, Err, IfErr, IfOk}
 use Rattle.hsms_frame.specs.Device.{Grows, WhereTold}
 use Rattle.hsms_lines.specs.Devices.{IsWrite}
 use Rattle.hsms_options.specs.declared.capturing.Capturing.{Capturing}

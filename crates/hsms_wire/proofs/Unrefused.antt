@@ -1,11 +1,11 @@
 -- Where verdicts are told, nothing is refused before the end.
-use Rattle.std.proofs.Common.{◌≡◌, refl, sym, subst, ◌∙◌}
-use Rattle.std.specs.Prelude.{Result, Ok, Err, IfErr, OnOk}
+use Rattle.std.proofs.Common.{◌≡◌, sym, subst}
+use Rattle.std.specs.Prelude.{Result, Ok, Err, IfErr}
 use Rattle.hsms_accounts.specs.declared.journal.Journal.{Journal}
 use Rattle.hsms_accounts.specs.declared.stop.Stop.{Stop}
 use Rattle.hsms_accounts.specs.declared.stop.Stop.TheVariants as stop
 use Rattle.hsms_accounts.specs.Stop.{IsNoRefusal}
-use Rattle.hsms_wire.specs.declared.report.Manner.TheVariants.{Verdicts, Log}
+use Rattle.hsms_wire.specs.declared.report.Manner.TheVariants.{Log}
 use Rattle.hsms_wire.specs.declared.report.Report.{Report}
 use Rattle.hsms_wire.specs.Report.{StopsUnrefused, Tells}
 use Rattle.hsms_wire.proofs.Tellings.{log_tells, ok_then, tells_nothing, tells_then}

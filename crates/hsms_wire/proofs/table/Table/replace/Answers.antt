@@ -1,8 +1,6 @@
-use Rattle.std.proofs.Common.{◌≡◌, Option, refl, sym, subst, ◌∙◌}
-use Rattle.hsms_accounts.specs.declared.pair.Pair.{Pair}
+use Rattle.std.proofs.Common.{Option, refl, sym, subst, ◌∙◌}
 use Rattle.hsms_wire.specs.declared.flow.Flow.{Flow}
 use Rattle.hsms_wire.specs.declared.report.Report.{Report}
-use Rattle.hsms_wire.specs.declared.table.Table.{Table}
 use Rattle.hsms_wire.specs.Report.{Tells}
 use Rattle.hsms_wire.specs.Tabled.{EndsBefore, flow_of}
 use Rattle.hsms_wire.proofs.Tellings.{tells_nothing}
