@@ -191,7 +191,8 @@ pub record IsFollowed (a p : Parameters) (base : End → ℕ) (seen : List Seen)
   pub bare : o.logs.bare_resets.items ≡ bare_resets seen
   pub ends : EndsHave a p told o.logs.ends
 
--- it hasn't ended, and is given up with a segment, with which too much would wait: both logs end with what was told of those before it
+-- it hasn't ended, and is given up with a segment, with which too much would wait: both logs end with what was told of those
+-- before it
 abbrev pub GivesUp : Parameters → Parameters → Pair → (End → ℕ) → List Seen → Seen → Report → Report → Type 0
 GivesUp a p pair base before s old new =
     (c : Connection) × (told : List Happening) × (c.ending ≡ None) × Stands c told base before × IsTooMuch base before s
