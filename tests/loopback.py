@@ -18,6 +18,7 @@ import time
 # The modules below leave no compiled files in the repository.
 sys.dont_write_bytecode = True
 
+from held import is_held
 from second_reading import talks
 from second_reading.ends import End, equipment_desk, log_of, scripted_desk
 from second_reading.inputs import Chance, random_item
@@ -251,6 +252,14 @@ class Listening:
 def same(told, wanted):
     if told != wanted:
         raise AssertionError(f"wanted {wanted!r}, told {told!r}")
+
+
+def in_time(passed, least, most):
+    """That so many milliseconds passed, at least and less than."""
+    if passed < least:
+        raise AssertionError(f"{passed} ms passed, {least} had to")
+    if passed >= most:
+        raise AssertionError(f"{passed} ms passed, {most} were too many")
 
 
 def events(log):
@@ -537,8 +546,8 @@ def link_is_tested_again_and_again():
     same(peer.rest(), b"")
     log += ["< ffff0000000500000009", "> ffff0000000600000009", "> ffff0000000500000005", "< ffff0000000600000005"]
     at = times(served(serving, log + ["< ffff000000090000000a", "down"]))
-    pauses = [at[place] - at[place - 1] for place in (3, 5, 7, 11)]
-    same((pauses, [200 <= pause < 400 for pause in pauses]), (pauses, 4 * [True]))
+    for place in (3, 5, 7, 11):
+        in_time(at[place] - at[place - 1], 200, 400)
 
 
 def linktest_is_not_answered():
@@ -550,7 +559,9 @@ def linktest_is_not_answered():
         serving, ["up", "< ffff0000000100000001", "> ffff0000000200000001", "> ffff0000000500000001", "cut t6", "down"]
     )
     at = times(log)
-    same((150 <= at[3] - at[2], 200 < at[4] - at[3] < 400), (True, True))
+    if at[3] - at[2] < 150:
+        raise AssertionError(at)
+    in_time(at[4] - at[3], 201, 400)
 
 
 def link_is_tested_while_a_reply_is_awaited():
@@ -1278,8 +1289,9 @@ def timers_go_on():
         same(peer.rest(), b"")
     log = served_again(serving, 2)
     same(events(log), ["up", "cut t7", "down"] * 2)
-    first, second = times(log)[1] - times(log)[0], times(log)[4] - times(log)[3]
-    same((300 < first < 600, 300 < second < 600), (True, True))
+    at = times(log)
+    in_time(at[1] - at[0], 301, 600)
+    in_time(at[4] - at[3], 301, 600)
 
 
 def port_is_in_use_again():
@@ -1350,15 +1362,9 @@ TESTS = [
 
 
 def main():
-    failed = 0
-    for test in TESTS:
-        try:
-            test()
-        except (AssertionError, OSError, subprocess.TimeoutExpired) as error:
-            failed += 1
-            print(f"{test.__name__}: {error!r}")
-    print(f"{len(TESTS) - failed} passed, {failed} failed")
-    return 1 if failed else 0
+    passed = [is_held(test.__name__, test, after=Serving.stop_all) for test in TESTS]
+    print(f"{passed.count(True)} passed, {passed.count(False)} failed")
+    return 0 if all(passed) else 1
 
 
 if __name__ == "__main__":

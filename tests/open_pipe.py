@@ -14,6 +14,7 @@ import time
 # The module below leaves no compiled file in the repository.
 sys.dont_write_bytecode = True
 
+from held import is_held
 from made_captures import ACTIVE, SELECT, Capture, Talk
 
 TOP = os.path.dirname(os.path.dirname(os.path.abspath(__file__)))
@@ -144,15 +145,18 @@ def shown_in_pieces(pieces, *options):
         return show.communicate(None, SOON)[0]
 
 
-def shown_while_open(octets, length, *options, command="show"):
-    """What is shown of these octets, so many octets of it, while the pipe is open."""
-    with started(command, *options) as show:
-        given(show, octets)
-        shown = b""
-        while len(shown) < length and select.select([show.stdout], [], [], SOON)[0]:
-            shown += os.read(show.stdout.fileno(), length)
-        show.kill()
-        return shown
+def told_of(command, wanted, octets, *options):
+    """What a command tells of these octets while the pipe is open, as much as is wanted of it."""
+    with started(command, *options) as telling:
+        given(telling, octets)
+        told = b""
+        while len(told) < len(wanted) and select.select([telling.stdout], [], [], SOON)[0]:
+            octets = os.read(telling.stdout.fileno(), len(wanted))
+            if not octets:
+                break
+            told += octets
+        telling.kill()
+        return told
 
 
 def started(*words):
@@ -187,28 +191,32 @@ def told_at_the_end(front, rest):
             return audit.communicate(rest, SOON)[0]
 
 
-def main():
-    answers = [(told_while_open(octets), wanted) for octets, wanted in FAILING]
-    answers += [(told_at_the_end(front, rest), wanted) for front, rest, wanted in PASSING]
-    answers += [(shown_in_pieces(pieces), wanted) for pieces, wanted in SHOWN]
-    answers += [(shown_in_pieces(pieces, "--hex"), wanted) for pieces, wanted in HEX_SHOWN]
-    answers += [(shown_while_open(HEX + rest, len(LINES), "--hex"), LINES) for rest in (b"", HEX[:28])]
-    answers += [(shown_while_open(MESSAGES + rest, len(LINES)), LINES) for rest in (b"", MESSAGES[:17])]
-    told_late = [shown_while_open(LATE + rest, len(LATE_TOLD), command="explain") for rest in (b"", b"46001 up")]
-    answers += [(told, LATE_TOLD) for told in told_late]
-    for rest in (b"", b"46001 up"):
-        told = shown_while_open(LATE + rest, len(LATE_OBJECTS), "--form", "json", command="explain")
-        answers.append((told, LATE_OBJECTS))
+def tries():
+    """What is tried: who tells, of what, and what is to be told."""
+    yield from ((told_while_open, [octets], wanted) for octets, wanted in FAILING)
+    yield from ((told_at_the_end, [front, rest], wanted) for front, rest, wanted in PASSING)
+    yield from ((shown_in_pieces, [pieces], wanted) for pieces, wanted in SHOWN)
+    yield from ((shown_in_pieces, [pieces, "--hex"], wanted) for pieces, wanted in HEX_SHOWN)
+    yield from ((told_of, ["show", LINES, HEX + rest, "--hex"], LINES) for rest in (b"", HEX[:28]))
+    yield from ((told_of, ["show", LINES, MESSAGES + rest], LINES) for rest in (b"", MESSAGES[:17]))
+    for told, *form in ((LATE_TOLD,), (LATE_OBJECTS, "--form", "json")):
+        yield from ((told_of, ["explain", told, LATE + rest, *form], told) for rest in (b"", b"46001 up"))
     for form in ("pcap<", "pcapng>"):
         capture, packet = capture_of(form)
-        for rest in (b"", packet[:10], packet[:-1]):
-            answers.append((shown_while_open(capture + rest, len(OVER), command="capture"), OVER))
-            answers.append((shown_while_open(capture + rest, len(LOGGED), "--log", "host", command="capture"), LOGGED))
-    differing = [(told, wanted) for told, wanted in answers if told != wanted]
-    for told, wanted in differing:
-        print(f"wanted {wanted!r}, told {told!r}")
-    print(f"{len(answers) - len(differing)} passed, {len(differing)} failed")
-    return 1 if differing else 0
+        for told, *log in ((OVER,), (LOGGED, "--log", "host")):
+            yield from ((told_of, ["capture", told, capture + rest, *log], told) for rest in (b"", packet[:10], packet[:-1]))
+
+
+def tell(told_by, words, wanted):
+    told = told_by(*words)
+    if told != wanted:
+        raise AssertionError(f"wanted {wanted!r}, told {told!r}")
+
+
+def main():
+    passed = [is_held(told_by.__name__, tell, told_by, words, wanted) for told_by, words, wanted in tries()]
+    print(f"{passed.count(True)} passed, {passed.count(False)} failed")
+    return 0 if all(passed) else 1
 
 
 if __name__ == "__main__":

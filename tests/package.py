@@ -4,13 +4,16 @@
 Both are made twice, and have to be the same octets; their checksums have to be right. The archive is unpacked into an
 empty folder, and the Debian package into another one. There each command of the README, and of the examples' page, has
 to write what stands below it, with the packaged program and a few words of the shell on the path, and no file of this
-repository. The program may need the C library alone. It packs what `rt ci` has built. The last line is
-`N passed, M failed`.
+repository. Each link of a packed page has to lead to a packed file. A folder that was there stays as it was where the
+archive is unpacked as docs/BUILDING.md says. The program may need the C library alone. It packs what `rt ci` has built.
+The last line is `N passed, M failed`.
 """
 import filecmp
+import glob
 import os
 import re
 import shutil
+import stat
 import subprocess
 import sys
 import tempfile
@@ -18,12 +21,16 @@ import tempfile
 sys.dont_write_bytecode = True
 
 from command import PROGRAM, TOP
+from links import LINK
 from transcripts import commands
 
 # What the commands of the pages call besides.
 SHELL = "sh cat head tail sed sleep cut tr sort uniq grep wc awk printf seq env od".split()
 
 PAGES = ["README.md", "examples/README.md"]
+
+# How a folder is open that is there before the archive is unpacked.
+MODE = 0o711
 
 
 def made(folder):
@@ -37,8 +44,10 @@ def unpacked(room, folder, names):
     archive = next(name for name in names if name.endswith(".tar.gz"))
     package = next(name for name in names if name.endswith(".deb"))
     of_archive, of_package = f"{room}/archive", f"{room}/package"
-    os.mkdir(of_archive)
-    subprocess.run(["tar", "-xzf", f"{folder}/{archive}", "-C", of_archive, "--strip-components=1"], check=True)
+    os.makedirs(f"{of_archive}/usr")
+    os.chmod(f"{of_archive}/usr", MODE)
+    unpacking = ["tar", "-xzf", f"{folder}/{archive}", "-C", of_archive, "--strip-components=1", "--no-overwrite-dir"]
+    subprocess.run(unpacking, check=True)
     subprocess.run(["dpkg-deb", "-x", f"{folder}/{package}", of_package], check=True)
     return of_archive, of_package
 
@@ -69,6 +78,19 @@ def libraries(program):
     return set(re.findall(r"NEEDED\s+(\S+)", told))
 
 
+def links(folder):
+    """Yields each link of the packed pages to a file, and whether that is packed."""
+    for page in sorted(glob.glob(f"{folder}/**/*.md", recursive=True)):
+        with open(page, encoding="utf-8") as file:
+            found = LINK.findall(file.read())
+        for link in found:
+            path = link.partition("#")[0]
+            if path and not link.startswith(("http:", "https:")):
+                target = os.path.realpath(f"{os.path.dirname(page)}/{path}")
+                is_packed = os.path.exists(target) and target.startswith(f"{os.path.realpath(folder)}/")
+                yield f"{page}: ({link})", is_packed
+
+
 def checks(room):
     """Yields what was tried, and whether it is well."""
     one, other = f"{room}/one", f"{room}/other"
@@ -79,11 +101,14 @@ def checks(room):
     summed = subprocess.run(["sha256sum", "-c", "--quiet", "SHA256SUMS"], cwd=one, check=False)
     yield "checksums", summed.returncode == 0
     words = path_of_words(room)
-    for root in unpacked(room, one, names):
+    roots = unpacked(room, one, names)
+    yield "a folder that was there", stat.S_IMODE(os.stat(f"{roots[0]}/usr").st_mode) == MODE
+    for root in roots:
         program = f"{root}/usr/bin/hsms"
         yield f"{root}: the C library alone", libraries(program) <= {"libc.so.6", "libm.so.6", "ld-linux-x86-64.so.2"}
         yield f"{root}: the program as it was built", filecmp.cmp(program, PROGRAM, shallow=False)
         yield f"{root}: what proved it", open(f"{root}/usr/share/doc/hsms/PROVED-BY").read().startswith("rattle-kit")
+        yield from links(f"{root}/usr/share/doc/hsms")
         for page in PAGES:
             with open(f"{root}/usr/share/doc/hsms/{page}") as file:
                 shown = list(commands(file.read()))

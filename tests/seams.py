@@ -23,6 +23,7 @@ import time
 sys.dont_write_bytecode = True
 
 from command import TOP, Answer, answer_of, refuser
+from held import is_held
 from loopback import (
     EQUIPMENT_LOG, HERE, PROGRAM, SELECT, SELECTED, SOON, Listening, Peer, Serving, control, data, equipment, events,
     free_port, passes, same, served, times,
@@ -927,22 +928,11 @@ TESTS_WITH_LIBRARY = [
 ]
 
 
-def is_passed(test, *words):
-    try:
-        test(*words)
-        return True
-    except (AssertionError, OSError, subprocess.TimeoutExpired) as error:
-        print(f"{test.__name__}: {error!r}"[:2000])
-        return False
-    finally:
-        Serving.stop_all()
-
-
 def main():
     with tempfile.TemporaryDirectory(prefix="hsms-seams-") as room:
         library = refuser(room)
-        passed = [is_passed(test) for test in TESTS]
-        passed += [is_passed(test, library) for test in TESTS_WITH_LIBRARY]
+        tests = [(test,) for test in TESTS] + [(test, library) for test in TESTS_WITH_LIBRARY]
+        passed = [is_held(test[0].__name__, *test, after=Serving.stop_all) for test in tests]
     print(f"{passed.count(True)} passed, {passed.count(False)} failed")
     return 0 if all(passed) else 1
 

@@ -35,6 +35,7 @@ sys.argv = [sys.argv[0], PROGRAM]
 sys.path.insert(0, os.path.dirname(os.path.abspath(__file__)))
 sys.dont_write_bytecode = True
 
+from held import is_held
 from loopback import Listening, Peer, SELECT, SELECTED, Serving, control, data, equipment, events, free_port, passes, same
 
 S1F1 = data(1, 1, 3, wait=True)
@@ -272,12 +273,7 @@ def rounds():
 
 def tried(round):
     test, *words = round
-    try:
-        test(*words)
-        return True
-    except (AssertionError, OSError, subprocess.TimeoutExpired, ValueError) as error:
-        print(f"{test.__name__} {words}: {error!r}", flush=True)
-        return False
+    return is_held(f"{test.__name__} {words}", test, *words)
 
 
 def main():

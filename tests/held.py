@@ -1,0 +1,29 @@
+"""Holds tests that look at a clock, or at what other processes do meanwhile.
+
+A machine that stands still for a moment makes such a test fail, wherever in it the moment falls. So one that fails is
+held again, three times at most, and each time is told: what is wrong by itself is wrong each time. `HELD=1` in the
+environment has each test held once alone.
+"""
+import os
+import subprocess
+
+from second_reading.serving import Amiss
+
+HELD_AT_MOST = int(os.environ.get("HELD", "3"))
+FAULTS = AssertionError, Amiss, OSError, subprocess.TimeoutExpired, ValueError
+
+# How much is told of a fault, in characters.
+LONGEST_TOLD = 2000
+
+
+def is_held(name, test, *words, after=lambda: None):
+    """Whether a test passes, one of these times; what is to be done after each is done."""
+    for time in range(1, HELD_AT_MOST + 1):
+        try:
+            test(*words)
+            return True
+        except FAULTS as error:
+            print(f"{name}, time {time} of {HELD_AT_MOST}: {error!r}"[:LONGEST_TOLD], flush=True)
+        finally:
+            after()
+    return False
