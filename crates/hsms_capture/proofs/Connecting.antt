@@ -14,24 +14,23 @@ use Rattle.hsms_capture.specs.declared.streams.Due.{Due}
 use Rattle.hsms_capture.specs.declared.teller.Teller.{Teller}
 use Rattle.hsms_capture.specs.declared.telling.Happening.{Happening}
 use Rattle.hsms_capture.specs.declared.telling.Telling.TheVariants as telling
-use Rattle.hsms_capture.specs.Wire.{End, active, passive, other, Seen, Placed, Turn, places, place_of, ack_place, placed_at, timed, asks_only, end_of, received, turns, loss, difference, earlier}
+use Rattle.hsms_capture.specs.Wire.{End, active, passive, other, Seen, Placed, places, place_of, ack_place, placed_at, timed, asks_only, end_of, received, turns, loss, difference, earlier}
 use Rattle.hsms_capture.specs.Held.{Store, IsStoreOf}
 use Rattle.hsms_capture.specs.Known.{GoesOn, Known, end_at, known, packet_of, placed_as, placed_behind, seen_of}
 use Rattle.hsms_capture.specs.Laws.{AreNumbered}
 use Rattle.hsms_capture.specs.Losses.{TellsLoss, Watches, first_of, side_of}
 use Rattle.hsms_capture.specs.Told.{Entry, tells}
 use Rattle.hsms_capture.specs.Telling.{entry_as}
-use Rattle.hsms_capture.specs.Turning.{Log, and_log, due_of, left_behind, tell_on}
+use Rattle.hsms_capture.specs.Turning.{Log, is_over, left_behind, tell_on}
 use Rattle.hsms_capture.specs.Drained.{IsHeldBack}
 use Rattle.hsms_capture.specs.Connected.{AreRising, AreStreamsOf, Waits, lefts, log_of, told_dues}
-use Rattle.hsms_capture.specs.Finished.{BreaksAt, Finishes, IsEnded, broken, ended}
-use Rattle.hsms_capture.specs.Arrived.{BringsCells, HoldsFrom, IsArrival, IsReading, Outcome, Reacts, own_packet}
+use Rattle.hsms_capture.specs.Finished.{BreaksAt, Finishes, IsEnded, broken, ended, is_known}
+use Rattle.hsms_capture.specs.Arrived.{BringsCells, HoldsFrom, IsArrival, IsReading, Outcome, Reacts, breaks_sure, own_packet}
 use Rattle.hsms_capture.specs.Standing.{EndsAs, Followed, StandsAs, TakesOn, ToldAtOnce, ToldIsSure, of_side}
 use Rattle.hsms_capture.proofs.Fronts.{places_begin, places_more, places_rise}
 use Rattle.hsms_capture.proofs.Stepped.{one_more}
-use Rattle.hsms_capture.proofs.Sure.{nothing_follows}
+use Rattle.hsms_capture.proofs.Sure.{known_more, log_now, nothing_follows, unknown_yet}
 use Rattle.hsms_capture.proofs.Tells.{tells_all}
-use Rattle.hsms_capture.proofs.Watched.{tells_loss}
 
 -- ---- a segment by its place
 
@@ -121,14 +120,17 @@ ended_more ps qs told e h later rises =
     (r.0 ∙ ap (λ (z : List Placed). (log_of z).told) (sym whole), r.1 ∙ ap ended (sym whole))
 
 stays_by : (end : Option Ending) (turns : Known) (r : Reading) (told : List Happening) (base : End → ℕ) (before : List Seen) (s : Seen) → is_some end ≡ true
-    → StandsAs end turns r told base before → StandsAs end turns r told base (before ++ s ∷ [])
-stays_by None turns r told base before s e h = absurd cc
-stays_by (Some x) turns r told base before s e h =
+    → AreNumbered 0 (before ++ s ∷ []) → StandsAs end turns r told base before → StandsAs end turns r told base (before ++ s ∷ [])
+stays_by None turns r told base before s e numbered h = absurd cc
+stays_by (Some x) turns r told base before s e numbered h =
     let ps = places base [] before in
-    subst (λ (z : List Placed). IsEnded true z told x) (sym (one_more base before s)) (ended_more ps (placed_behind base ps s) told x h)
+    let qs = placed_behind base ps s in
+    let rises = subst (AreRising 0) (one_more base before s) (all_rise base (before ++ s ∷ []) numbered) in
+    subst (λ (z : List Placed). IsEnded true z told x × (is_known z ≡ true)) (sym (one_more base before s))
+    (ended_more ps qs told x h.0, known_more ps qs told x rises h.0 h.1)
 
 pub stays : (c : Connection) (s : Seen) (told : List Happening) → is_some c.ending ≡ true → TakesOn c s told c told
-stays c s told e base before away numbered stands = stays_by c.ending c.turns c.reading (away ++ told) base before s e stands
+stays c s told e base before away numbered stands = stays_by c.ending c.turns c.reading (away ++ told) base before s e numbered stands
 
 pub not_ended : (o : Option Ending) → is_some o ≡ false → o ≡ None
 not_ended None e = refl
@@ -150,7 +152,7 @@ at_end ps told e rises h =
 pub ends_before : (c : Connection) (told : List Happening) (e : Ending) → c.ending ≡ Some e → EndsAs c told told e
 ends_before c told e is base seen away numbered stands =
     let ps = places base [] seen in
-    let h : IsEnded true ps (away ++ told) e = subst (λ (o : Option Ending). StandsAs o c.turns c.reading (away ++ told) base seen) is stands in
+    let h : IsEnded true ps (away ++ told) e = (subst (λ (o : Option Ending). StandsAs o c.turns c.reading (away ++ told) base seen) is stands).0 in
     at_end ps (away ++ told) e (all_rise base seen numbered) (h [] (nothing_follows ps (all_rise base seen numbered)))
 
 breaks_here : (first d : Option ℕ) (ps : List Placed) → first ≡ loss [] ps → difference [] ps ≡ d → BreaksAt false (earlier first d) (broken first d) ps
@@ -196,6 +198,7 @@ begins turns r a p base e w az ah pz ph none differs is = (
     ),
     subst (IsHeldBack (earlier (first_of r.losses) r.differs)) (sym none) tt,
     subst (λ (t : Teller). HoldsFrom t.streams []) (sym is) (omega (arith, az), omega (arith, pz)),
+    (ap (λ (t : Teller). is_over t.telling) is, ap (breaks_sure (first_of r.losses)) differs),
   ),
 )
 
@@ -214,7 +217,7 @@ front_by None known_turns r told base seen more h rises =
     (rest.told, sym (tells_all all rises) ∙ ap (λ (l : Log). l.told) (w.4 more rises))
 front_by (Some e) known_turns r told base seen more h rises =
     let all = places base [] seen ++ more in
-    ([], sym (tells_all all rises) ∙ sym (h more rises).0 ∙ sym (append-nil (map entry_as told)))
+    ([], sym (tells_all all rises) ∙ sym (h.0 more rises).0 ∙ sym (append-nil (map entry_as told)))
 
 pub told_sure : ToldIsSure
 told_sure c told base seen later stands numbered =
@@ -224,41 +227,19 @@ told_sure c told base seen later stands numbered =
     let rises = subst (AreRising 0) whole (all_rise base (seen ++ later) numbered) in
     subst (Front told) (sym whole) (front_by c.ending c.turns c.reading told base seen split.0 stands rises)
 
--- ---- nothing is held back where nothing is lacking
-
-no_queue : (o : Option ℕ) (queue : List Due) → o ≡ None → IsHeldBack o queue → queue ≡ []
-no_queue None [] e h = refl
-no_queue None (t ∷ ts) e h = absurd cc
-no_queue (Some k) queue e h = absurd cc
-
-no_turns : (ts : List Turn) → map due_of ts ≡ [] → ts ≡ []
-no_turns [] e = refl
-no_turns (t ∷ ts) e = absurd cc
-
-open_told : (turns_known : Known) (r : Reading) (told : List Happening) (base : End → ℕ) (seen : List Seen) → StandsAs None turns_known r told base seen
-    → AreRising 0 (places base [] seen) → loss [] (places base [] seen) ≡ None → difference [] (places base [] seen) ≡ None → map entry_as told ≡ (log_of (places base [] seen)).told
-unfolding turns tell_on
-open_told turns_known r told base seen h rises lost differs =
-    let ps = places base [] seen in
-    let knows = h.1.0 in
-    let w = knows.3 in
-    let first : first_of r.losses ≡ None = tells_loss r.losses ps knows.0 ∙ lost in
-    let limit : earlier (first_of r.losses) r.differs ≡ None = ap (λ (o : Option ℕ). earlier o r.differs) first ∙ sym knows.1 ∙ differs in
-    let rest : w.1 ≡ [] = no_turns w.1 (sym w.3 ∙ no_queue (earlier (first_of r.losses) r.differs) r.due.items limit h.1.1) in
-    let log = w.4 [] (nothing_follows ps rises) in
-    let all = ps ++ [] in
-    sym (ap (λ (z : List Placed). (log_of z).told) (sym (append-nil ps))
-    ∙ ap (λ (l : Log). l.told) (log ∙ ap (λ (ts : List Turn). and_log (map entry_as told) (tell_on r.teller.telling r.teller.opened (lefts r.teller.streams all) (told_dues all (ts ++ [])))) rest)
-    ∙ append-nil (map entry_as told))
+-- ---- nothing is held back
 
 told_by_now : (end : Option Ending) (turns_known : Known) (r : Reading) (told : List Happening) (base : End → ℕ) (seen : List Seen) → StandsAs end turns_known r told base seen
-    → AreRising 0 (places base [] seen) → loss [] (places base [] seen) ≡ None → difference [] (places base [] seen) ≡ None → map entry_as told ≡ (log_of (places base [] seen)).told
-told_by_now None turns_known r told base seen h rises lost differs = open_told turns_known r told base seen h rises lost differs
-told_by_now (Some e) turns_known r told base seen h rises lost differs =
+    → AreRising 0 (places base [] seen) → (map entry_as told ≡ (log_of (places base [] seen)).told) × (is_some end ≡ is_known (places base [] seen))
+told_by_now None turns_known r told base seen h rises =
     let ps = places base [] seen in
-    (h [] (nothing_follows ps rises)).0 ∙ ap (λ (z : List Placed). (log_of z).told) (append-nil ps)
+    (sym (ap (λ (l : Log). l.told) (log_now r ps told rises h.1)), sym (unknown_yet r ps told rises h.1))
+told_by_now (Some e) turns_known r told base seen h rises =
+    let ps = places base [] seen in
+    ((h.0 [] (nothing_follows ps rises)).0 ∙ ap (λ (z : List Placed). (log_of z).told) (append-nil ps), sym h.1)
 
 pub told_at_once : ToldAtOnce
-told_at_once c told base seen stands numbered lost differs =
+told_at_once c told base seen stands numbered =
     let rises = all_rise base seen numbered in
-    told_by_now c.ending c.turns c.reading told base seen stands rises lost differs ∙ tells_all (places base [] seen) rises
+    let now = told_by_now c.ending c.turns c.reading told base seen stands rises in
+    (now.0 ∙ tells_all (places base [] seen) rises, now.1)

@@ -1,25 +1,25 @@
 -- What was told of a connection that is over is all of it, whatever follows, and each entry is told at a packet of it.
-use Rattle.std.proofs.Common.{◌≡◌, ◌<◌, ◌≤◌, ◌+◌, ◌++◌, ◌∷◌, ◌&&◌, ◌||◌, inl, inr, ℕ, Bool, true, false, cond, max, min, nat_eq, nat_le, nat_lt, List, [], filter, take, Option, Some, None, is_some, refl, sym, ap, subst, ◌∙◌, arith}
-use Rattle.std.proofs.lemmas.Bool.{cases_lt, eq-eqb, lt-ltb}
-use Rattle.std.proofs.lemmas.List.{append_assoc}
+use Rattle.std.proofs.Common.{◌≡◌, ◌++◌, ◌∷◌, ◌&&◌, ◌||◌, inl, inr, ℕ, Bool, true, false, cond, min, nat_eq, nat_le, List, [], filter, Option, Some, None, refl, sym, ap, subst, ◌∙◌, arith}
+use Rattle.std.proofs.lemmas.Bool.{cases_lt, eq-eqb}
+use Rattle.std.proofs.lemmas.List.{append-nil}
 use Rattle.std.specs.List.{list_any}
 use Rattle.hsms_capture.specs.declared.ending.Ending.{Ending}
 use Rattle.hsms_capture.specs.declared.ending.Ending.TheVariants as ending
 use Rattle.hsms_capture.specs.declared.telling.Happening.{Happening}
-use Rattle.hsms_capture.specs.Wire.{End, active, passive, other, Placed, Seen, Shown, Turn, ack_place, acknowledges, breaks_off, difference, earlier, end_of, is_before, is_behind, is_open, is_past, loss, place_of, placed_at, places, received, shows_of, timed, told_turns, turns}
+use Rattle.hsms_capture.specs.Wire.{End, passive, other, Placed, Seen, Shown, Turn, ack_place, acknowledges, breaks_off, earlier, end_of, is_before, is_open, place_of, placed_at, places, received, shows_of, timed, told_turns, turns}
 use Rattle.hsms_capture.specs.Message.{message_size}
 use Rattle.hsms_capture.specs.Told.{Told, up, message, down, Entry, entry, entry_of, and_later, answered_at, behind_up, first_message, is_left_out, is_message, is_separate, reset_entries, separated_by, shown_entries, tells, up_to_down}
 use Rattle.hsms_capture.specs.Laws.{AreNumbered, EachEntry, EachShown, ToldAtPackets}
 use Rattle.hsms_capture.specs.Connected.{AreRising, log_of}
-use Rattle.hsms_capture.specs.Finished.{IsEnded, broken, ended, ended_by}
+use Rattle.hsms_capture.specs.Finished.{IsEnded, ended, ends_for_good, is_known}
 use Rattle.hsms_capture.specs.Standing.{EndingIsSure, StandsAs}
 use Rattle.hsms_capture.proofs.Lists.{Each, each_append, each_filter, weaken}
 use Rattle.hsms_capture.proofs.Fronts.{places_begin, places_more}
 use Rattle.hsms_capture.proofs.Kept.{shows_each}
-use Rattle.hsms_capture.proofs.Queue.{takes}
 use Rattle.hsms_capture.proofs.Tells.{at_cells, from, tells_all}
 use Rattle.hsms_capture.proofs.Turned.{reset_each, turns_each}
 use Rattle.hsms_capture.proofs.Connecting.{all_rise}
+use Rattle.hsms_capture.proofs.Sure.{nothing_follows}
 
 -- ---- at which packets
 
@@ -152,52 +152,11 @@ told_at_packets base seen =
 
 -- ---- one that ended stays so
 
--- one packet more, behind a gap that nothing fills
-greatest : List Placed → ℕ
-greatest [] = 0
-greatest (p ∷ ps) = max p.packet (greatest ps)
-
-rising_last : (m n : ℕ) (ps : List Placed) (p : Placed) → AreRising m ps → m ≤ n → greatest ps ≤ n → n < p.packet → AreRising m (ps ++ p ∷ [])
-unfolding greatest
-rising_last m n [] p h le most lt = (omega (arith, le, lt), tt)
-rising_last m n (q ∷ ps) p h le most lt = (h.0, rising_last q.packet n ps p h.1 (omega (arith, most)) (omega (arith, most)) lt)
-
-lost_last : (before xs : List Placed) (p : Placed) → is_behind (before ++ (xs ++ p ∷ [])) p ≡ true → is_some (loss before (xs ++ p ∷ [])) ≡ true
-unfolding loss
-lost_last before [] p e = rw e refl
-lost_last before (x ∷ xs) p e =
-    by_test (is_behind (before ++ (x ∷ take 4096 (xs ++ p ∷ []))) x)
-    (lost_last (before ++ x ∷ []) xs p (subst (λ (z : List Placed). is_behind z p ≡ true) (sym (append_assoc before (x ∷ []) (xs ++ p ∷ []))) e))
-  where
-    by_test : (b : Bool) → is_some (loss (before ++ x ∷ []) (xs ++ p ∷ [])) ≡ true → is_some (cond b (Some x.packet) (loss (before ++ x ∷ []) (xs ++ p ∷ []))) ≡ true
-    by_test true later = refl
-    by_test false later = later
-
-broken_breaks : (l d : Option ℕ) → is_some l ≡ true → broken l d ≡ ending.Complete → ⊥
-broken_breaks None d e f = absurd cc
-broken_breaks (Some j) None e f = absurd cc
-broken_breaks (Some j) (Some k) e f = by_test (nat_lt j k) f
-  where
-    by_test : (b : Bool) → cond b (ending.Lost j) (ending.Differs k) ≡ ending.Complete → ⊥
-    by_test true f = absurd cc
-    by_test false f = absurd cc
-
-ended_breaks : (closed : Bool) (ps : List Placed) → is_some (loss [] ps) ≡ true → ended_by closed ps ≡ ending.Complete → ⊥
-ended_breaks true ps e f = absurd cc
-ended_breaks false ps e f = broken_breaks (loss [] ps) (difference [] ps) e f
-
-past_end : (before : List Placed) (p : Placed) → end_of before p.from < p.place → is_behind (before ++ p ∷ []) p ≡ true
-past_end before p lt =
-    let known = before ++ p ∷ [] in
-    let same = (takes before p lt).1 in
-    or_true (is_past known p) (nat_lt (end_of known p.from) p.place) (lt-ltb (end_of known p.from) p.place (omega (arith, same, lt)))
-
-never_complete : (ps : List Placed) (told : List Happening) (e : Ending) → AreRising 0 ps → IsEnded true ps told e → e ≡ ending.Complete → ⊥
-never_complete ps told e rises ends is =
-    let n = greatest ps in
-    let p : Placed = record { from = active; packet = n + 1; time = 0; place = end_of ps active + 1; cells = []; acknowledged = None; reset = false } in
-    let h = ends (p ∷ []) (rising_last 0 n ps p rises (omega arith) (omega arith) (omega arith)) in
-    ended_breaks (log_of (ps ++ p ∷ [])).closed (ps ++ p ∷ []) (lost_last [] ps p (past_end ps p (omega arith))) (sym h.1 ∙ is)
+never_complete : (ps : List Placed) (told : List Happening) (e : Ending) → AreRising 0 ps → IsEnded true ps told e → is_known ps ≡ true → e ≡ ending.Complete → ⊥
+never_complete ps told e rises ends known is =
+    let now : ending.Complete ≡ ended ps = sym is ∙ (ends [] (nothing_follows ps rises)).1 ∙ ap ended (append-nil ps) in
+    let no : false ≡ true = ap (λ (x : Ending). ends_for_good x ps) now ∙ known in
+    cc
 
 pub numbered_front : (last : ℕ) (xs ys : List Seen) → AreNumbered last (xs ++ ys) → AreNumbered last xs
 numbered_front last [] ys h = tt
@@ -209,9 +168,9 @@ ending_sure c told e base seen later is stands numbered =
     let split = places_begin base ps later in
     let whole : places base [] (seen ++ later) ≡ ps ++ split.0 = places_more base [] seen later ∙ split.1 in
     let all_rise_here = all_rise base (seen ++ later) numbered in
-    let h : IsEnded true ps told e = subst (λ (o : Option Ending). StandsAs o c.turns c.reading told base seen) is stands in
-    let r = h split.0 (subst (AreRising 0) whole all_rise_here) in (
+    let h : IsEnded true ps told e × (is_known ps ≡ true) = subst (λ (o : Option Ending). StandsAs o c.turns c.reading told base seen) is stands in
+    let r = h.0 split.0 (subst (AreRising 0) whole all_rise_here) in (
       r.0 ∙ ap (λ (z : List Placed). (log_of z).told) (sym whole) ∙ tells_all (places base [] (seen ++ later)) all_rise_here,
       r.1 ∙ ap ended (sym whole),
-      never_complete ps told e (all_rise base seen (numbered_front 0 seen later numbered)) h,
+      never_complete ps told e (all_rise base seen (numbered_front 0 seen later numbered)) h.0 h.1,
     )

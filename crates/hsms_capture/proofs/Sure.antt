@@ -1,6 +1,6 @@
 -- What is sure behind a packet, and told.
-use Rattle.std.proofs.Common.{◌≡◌, ◌<◌, ◌≤◌, ◌++◌, ◌∷◌, ℕ, Bool, true, false, cond, nat_lt, List, [], map, min, take, Option, Some, None, Result, Ok, refl, sym, ap, subst, ◌∙◌, arith, inl, inr}
-use Rattle.std.proofs.lemmas.Bool.{ltb-true, lt-ltb, le-ltb, leb-true, cases_lt}
+use Rattle.std.proofs.Common.{◌≡◌, ◌<◌, ◌≤◌, ◌++◌, ◌∷◌, ℕ, suc, Bool, true, false, cond, nat_lt, List, [], length, filter, map, min, take, Option, Some, None, Result, Ok, refl, sym, ap, subst, ◌∙◌, arith, inl, inr}
+use Rattle.std.proofs.lemmas.Bool.{ltb-true, lt-ltb, le-ltb, leb-true, leb-false, le-leb, lt-leb, cases_lt}
 use Rattle.std.proofs.lemmas.List.{append-nil, append_assoc}
 use Rattle.hsms_capture.specs.declared.ending.Ending.{Ending}
 use Rattle.hsms_capture.specs.declared.ending.Ending.TheVariants as ending
@@ -15,15 +15,16 @@ use Rattle.hsms_capture.specs.declared.streams.Stream.{Stream}
 use Rattle.hsms_capture.specs.declared.teller.Teller.{Teller}
 use Rattle.hsms_capture.specs.declared.telling.Happening.{Happening}
 use Rattle.hsms_capture.specs.Wire.{End, active, passive, Placed, Turn, Both, both_streams, received, turns, loss, difference, earlier, breaks_off, contradicts, is_behind}
-use Rattle.hsms_capture.specs.Losses.{FindsLoss, IsNext, Watches, WatchesOn, first_of, need_at}
+use Rattle.hsms_capture.specs.Losses.{FindsLoss, IsLoss, IsNext, Watches, WatchesOn, first_of, need_at}
+use Rattle.hsms_capture.specs.Told.{Entry}
 use Rattle.hsms_capture.specs.Telling.{entry_as}
-use Rattle.hsms_capture.specs.Turning.{Log, and_log, due_of, left_behind, tell_on}
+use Rattle.hsms_capture.specs.Turning.{Log, and_log, due_of, is_over, left_behind, tell_on}
 use Rattle.hsms_capture.specs.Drained.{IsHeldBack, is_sure}
-use Rattle.hsms_capture.specs.Connected.{AreRising, AreStreamsOf, HasPassed, IsClosed, IsLimit, IsStreamOf, TellsBefore, Waits, lefts, told_dues, untold}
-use Rattle.hsms_capture.specs.Finished.{BreaksAt, Finishes, IsEnded, broken, ended_by, EachBehind}
-use Rattle.hsms_capture.specs.Arrived.{Arrives, GoesOn, MayLose, PassesBoth, PassesTo, Reacts, TellsSure, breaks_sure, is_first}
+use Rattle.hsms_capture.specs.Connected.{AreRising, AreStreamsOf, HasPassed, IsClosed, IsLimit, IsStreamOf, TellsBefore, Waits, lefts, log_of, told_dues, untold}
+use Rattle.hsms_capture.specs.Finished.{BreaksAt, Finishes, IsEnded, broken, ended, ended_by, ends_for_good, is_known, packets_behind, EachBehind}
+use Rattle.hsms_capture.specs.Arrived.{Arrives, GoesOn, IsReading, MayLose, PassesBoth, PassesTo, Reacts, TellsIfSure, TellsSure, breaks_sure, is_first}
 use Rattle.hsms_capture.proofs.Lists.{Each, weaken}
-use Rattle.hsms_capture.proofs.Numbered.{before_later, difference_more, later_packets, loss_past, passes, passes_both, passes_earlier, rising_behind, rising_lower}
+use Rattle.hsms_capture.proofs.Numbered.{before_later, difference_more, later_packets, loss_past, passes, passes_both, passes_earlier, rising_behind, rising_front, rising_lower}
 use Rattle.hsms_capture.proofs.Turned.{Ordered, turns_each, turns_ordered}
 use Rattle.hsms_capture.proofs.Awaited.{due_each, sure_kept}
 use Rattle.hsms_capture.proofs.Finishing.{behind_each, held_back, none_kept, ordered_back}
@@ -82,16 +83,21 @@ waits_same more t u queue ps told telling opened a b w =
 pub nothing_follows : (ps : List Placed) → AreRising 0 ps → AreRising 0 (ps ++ [])
 nothing_follows ps h = subst (AreRising 0) (sym (append-nil ps)) h
 
+-- what is held back isn't told of these packets alone
+pub none_waits : (limit : Option ℕ) (queue : List Due) (gone rest : List Turn) (ps : List Placed) → AreRising 0 ps → limit ≡ breaks_off ps → turns [] ps ≡ gone ++ rest
+    → queue ≡ map due_of rest → IsHeldBack limit queue → told_dues ps rest ≡ []
+none_waits limit queue gone rest ps rises is whole waits back =
+    let held : IsHeldBack (breaks_off ps) (map due_of rest) = subst (λ (o : Option ℕ). IsHeldBack o (map due_of rest)) is (subst (IsHeldBack limit) waits back) in
+    none_kept ps rest (held_back (breaks_off ps) rest (ordered_back gone rest (subst Ordered whole (turns_ordered 0 [] ps rises))) held)
+
 -- so far each direction is told
 told_places : (limit : Option ℕ) (t : Teller) (queue : List Due) (ps : List Placed) (told : List Happening) → AreRising 0 ps → limit ≡ breaks_off ps → Waits true t queue ps told
     → IsHeldBack limit queue → lefts t.streams ps ≡ left_behind (both_streams ps) (told_dues ps (turns [] ps))
 told_places limit t queue ps told rises is w back =
     let has = subst (HasPassed t w.0) (append-nil ps) (w.5 [] (nothing_follows ps rises)) in
-    let held : IsHeldBack (breaks_off ps) (map due_of w.1) = subst (λ (o : Option ℕ). IsHeldBack o (map due_of w.1)) is (subst (IsHeldBack limit) w.3 back) in
     let dues : told_dues ps (turns [] ps) ≡ map due_of w.0 =
     ap (told_dues ps) w.2 ∙ sure_kept ps w.0 w.1 (due_each (λ (d : Due). is_sure (breaks_off ps) d.at ≡ true) w.0 has.0)
-    ∙ ap (λ (ds : List Due). map due_of w.0 ++ ds) (none_kept ps w.1 (held_back (breaks_off ps) w.1 (ordered_back w.0 w.1 (subst Ordered w.2 (turns_ordered 0 [] ps rises))) held))
-    ∙ append-nil (map due_of w.0) in
+    ∙ ap (λ (ds : List Due). map due_of w.0 ++ ds) (none_waits limit queue w.0 w.1 ps rises is w.2 w.3 back) ∙ append-nil (map due_of w.0) in
     sym has.1 ∙ ap (left_behind (both_streams ps)) (sym dues)
 
 -- it is held from there on
@@ -108,18 +114,24 @@ closed_all ps told closed lt h =
     let log = closed lt h in
     (sym (ap (λ (l : Log). l.told) log), sym (ap (λ (l : Log). ended_by l.closed (ps ++ lt)) log))
 
+closed_known : (ps : List Placed) (told : List Happening) → AreRising 0 ps → IsClosed true ps told → is_known ps ≡ true
+closed_known ps told rises closed =
+    let log = ap log_of (sym (append-nil ps)) ∙ closed [] (nothing_follows ps rises) in
+    ap (λ (l : Log). ends_for_good (ended_by l.closed ps) ps) log
+
 pub sure_closed : (acked : BothEnds) (old new : Reading) (next : Teller) (left : List Due) (told later : List Happening) (first limit : Option ℕ) → first ≡ first_of old.losses
-    → limit ≡ earlier first old.differs → TellsBefore limit old.teller old.due.items told next left later true → TellsSure acked old told new later (Some ending.Closed)
-sure_closed acked old new next left told later first limit e f tells away ps rises acks r =
+    → limit ≡ earlier first old.differs → TellsBefore limit old.teller old.due.items told next left later true → TellsIfSure acked old told new later (Some ending.Closed)
+sure_closed acked old new next left told later first limit e f tells unbroken away ps rises acks r =
     let is : limit ≡ earlier (first_of old.losses) old.differs = f ∙ ap (λ (o : Option ℕ). earlier o old.differs) e in
     let sound = subst (λ (o : Option ℕ). IsLimit true o ps) (sym is) (sure_limit old.losses ps old.differs r.0 r.1) in
-    closed_all ps (away ++ later) (tells away true ps rises (nothing_follows ps rises) r.2 sound r.3).1
+    let closed = (tells away true ps rises (nothing_follows ps rises) r.2 sound r.3).1 in
+    (closed_all ps (away ++ later) closed, closed_known ps (away ++ later) rises closed)
 
 pub sure_open : (acked : BothEnds) (old new : Reading) (next : Teller) (left : List Due) (told later : List Happening) (first limit : Option ℕ) → first ≡ first_of old.losses
     → limit ≡ earlier first old.differs → TellsBefore limit old.teller old.due.items told next left later false → PassesBoth next.streams acked new.teller.streams
     → new.losses ≡ old.losses → new.differs ≡ old.differs → new.due.items ≡ left → new.teller.telling ≡ next.telling → new.teller.opened ≡ next.opened
-    → TellsSure acked old told new later None
-sure_open acked old new next left told later first limit e f tells pass losses differs queue telling opened away ps rises acks r =
+    → TellsIfSure acked old told new later None
+sure_open acked old new next left told later first limit e f tells pass losses differs queue telling opened unbroken away ps rises acks r =
     let is : limit ≡ earlier (first_of old.losses) old.differs = f ∙ ap (λ (o : Option ℕ). earlier o old.differs) e in
     let sound = subst (λ (o : Option ℕ). IsLimit true o ps) (sym is) (sure_limit old.losses ps old.differs r.0 r.1) in
     let h = tells away true ps rises (nothing_follows ps rises) r.2 sound r.3 in
@@ -142,7 +154,114 @@ sure_open acked old new next left told later first limit e f tells pass losses d
         kept_from next.streams.passive new.teller.streams.passive acked.passive (untold ps passive) ps passive (ap (λ (b : BothEnds). b.passive) acks) h.0.1 pass.1
             (ap (λ (b : Both). b.passive.place) told_to),
       ),
+      (
+        ap is_over telling ∙ h.1.2,
+        ap (λ (ns : List Need). breaks_sure (first_of ns) new.differs) losses ∙ ap (breaks_sure (first_of old.losses)) differs ∙ unbroken,
+      ),
     )
+
+-- ---- how many packets stand behind one
+
+behind_all : (k m : ℕ) (ps : List Placed) → k ≤ m → AreRising m ps → packets_behind k ps ≡ length ps
+behind_all k m [] le h = refl
+behind_all k m (p ∷ ps) le h = rw (lt-ltb k p.packet (omega (arith, le, h.0))) (ap (λ (n : ℕ). suc n) (behind_all k p.packet ps (omega (arith, le, h.0)) h.1))
+
+behind_one : (n : ℕ) (settled : List Placed) (q : Placed) (next : List Placed) → AreRising n (settled ++ q ∷ next) → packets_behind q.packet (settled ++ q ∷ next) ≡ length next
+behind_one n [] q next h = rw (le-ltb q.packet q.packet (omega arith)) (behind_all q.packet q.packet next (omega arith) h.1)
+behind_one n (s ∷ ss) q next h =
+    let later = (rising_behind s.packet ss (q ∷ next) h.1).0 in
+    rw (le-ltb q.packet s.packet (omega (arith, later))) (behind_one s.packet ss q next h.1)
+
+behind_loss : (k : ℕ) (ps : List Placed) → IsLoss k ps → AreRising 0 ps → packets_behind k ps ≡ 4096
+behind_loss k ps lost rises =
+    let n = behind_one 0 lost.0 lost.1 lost.2 (subst (AreRising 0) lost.3 rises) in
+    ap (packets_behind k) lost.3 ∙ ap (λ (m : ℕ). packets_behind m (lost.0 ++ lost.1 ∷ lost.2)) (sym lost.4) ∙ n ∙ lost.5
+
+-- fewer than that stand behind one that may be lost
+behind_watched : (needs : List Need) (ps : List Placed) (k : ℕ) → Watches needs ps → AreRising 0 ps → first_of needs ≡ Some k → packets_behind k ps < 4096
+behind_watched needs ps k w rises first = by_rest w.1 w.2 w.3 w.6
+  where
+    by_rest : (rest : List Placed) → ps ≡ w.0 ++ rest → needs ≡ map need_at rest → length rest ≤ 4096 → packets_behind k ps < 4096
+    by_rest [] whole same most = absurd (let no : None ≡ Some k = sym (ap first_of same) ∙ first in cc)
+    by_rest (q ∷ next) whole same most =
+        let found : Some q.packet ≡ Some k = sym (ap first_of same) ∙ first in
+        let is : q.packet ≡ k = cc in
+        let n : packets_behind k ps ≡ length next =
+        ap (packets_behind k) whole ∙ ap (λ (m : ℕ). packets_behind m (w.0 ++ q ∷ next)) (sym is) ∙ behind_one 0 w.0 q next (subst (AreRising 0) whole rises) in
+        omega (arith, n, most)
+
+behind_more : (k : ℕ) (ps qs : List Placed) → packets_behind k ps ≤ packets_behind k (ps ++ qs)
+behind_more k [] qs = omega arith
+behind_more k (p ∷ ps) qs = by_test (nat_lt k p.packet) (behind_more k ps qs)
+  where
+    kept : List Placed → List Placed
+    kept rs = filter (λ (q : Placed). nat_lt k q.packet) rs
+
+    by_test : (b : Bool) → packets_behind k ps ≤ packets_behind k (ps ++ qs)
+        → length (cond b (p ∷ kept ps) (kept ps)) ≤ length (cond b (p ∷ kept (ps ++ qs)) (kept (ps ++ qs)))
+    by_test true le = omega (arith, le)
+    by_test false le = le
+
+-- ---- whether it is known how it ends
+
+known_by : (closed : Bool) (ps : List Placed) → ends_for_good (broken (loss [] ps) (difference [] ps)) ps ≡ true → ends_for_good (ended_by closed ps) ps ≡ true
+known_by true ps h = refl
+known_by false ps h = h
+
+lost_known : (k : ℕ) (d : Option ℕ) (ps : List Placed) → packets_behind k ps ≡ 4096 → ends_for_good (broken (Some k) d) ps ≡ true
+lost_known k None ps e = le-leb 4096 (packets_behind k ps) (omega (arith, e))
+lost_known k (Some j) ps e = by_test (nat_lt k j)
+  where
+    by_test : (b : Bool) → ends_for_good (cond b (ending.Lost k) (ending.Differs j)) ps ≡ true
+    by_test true = le-leb 4096 (packets_behind k ps) (omega (arith, e))
+    by_test false = refl
+
+unknown_by : (first d : Option ℕ) (ps : List Placed) → breaks_sure first d ≡ false → ((k : ℕ) → first ≡ Some k → packets_behind k ps < 4096)
+    → ends_for_good (broken first d) ps ≡ false
+unknown_by None None ps e few = refl
+unknown_by (Some j) None ps e few = lt-leb 4096 (packets_behind j ps) (few j refl)
+unknown_by None (Some k) ps e few = absurd cc
+unknown_by (Some j) (Some k) ps e few =
+    let lt = leb-false k j e in
+    rw (lt-ltb j k (omega (arith, lt))) (lt-leb 4096 (packets_behind j ps) (few j refl))
+
+good_more : (e : Ending) (ps qs : List Placed) → ends_for_good e ps ≡ true → ends_for_good e (ps ++ qs) ≡ true
+good_more ending.Closed ps qs h = refl
+good_more ending.Complete ps qs h = absurd cc
+good_more (ending.Lost k) ps qs h =
+    let many = leb-true 4096 (packets_behind k ps) h in
+    le-leb 4096 (packets_behind k (ps ++ qs)) (omega (arith, many, behind_more k ps qs))
+good_more (ending.Differs k) ps qs h = refl
+
+-- where it ended it stays known
+pub known_more : (ps qs : List Placed) (told : List Happening) (e : Ending) → AreRising 0 (ps ++ qs) → IsEnded true ps told e → is_known ps ≡ true → is_known (ps ++ qs) ≡ true
+known_more ps qs told e rises h known =
+    let here : e ≡ ended ps = (h [] (nothing_follows ps (rising_front 0 ps qs rises))).1 ∙ ap ended (append-nil ps) in
+    subst (λ (x : Ending). ends_for_good x (ps ++ qs) ≡ true) (h qs rises).1 (good_more e ps qs (subst (λ (x : Ending). ends_for_good x ps ≡ true) (sym here) known))
+
+-- what was told is all that these packets tell, and nothing has ended it
+pub log_now : (r : Reading) (ps : List Placed) (told : List Happening) → AreRising 0 ps → IsReading r ps told
+    → log_of ps ≡ record { told = map entry_as told; closed = is_over r.teller.telling }
+unfolding turns tell_on
+log_now r ps told rises h =
+    let w = h.0.3 in
+    let t = r.teller in
+    let limit : earlier (first_of r.losses) r.differs ≡ breaks_off ps =
+    ap (λ (o : Option ℕ). earlier o r.differs) (tells_loss r.losses ps h.0.0) ∙ ap (earlier (loss [] ps)) (sym h.0.1) in
+    let none = none_waits (earlier (first_of r.losses) r.differs) r.due.items w.0 w.1 ps rises limit w.2 w.3 h.1 in
+    let at = ps ++ [] in
+    ap log_of (sym (append-nil ps)) ∙ w.4 [] (nothing_follows ps rises)
+    ∙ ap (λ (ts : List Turn). and_log (map entry_as told) (tell_on t.telling t.opened (lefts t.streams at) (told_dues at ts))) (append-nil w.1)
+    ∙ ap (λ (z : List Placed). and_log (map entry_as told) (tell_on t.telling t.opened (lefts t.streams at) (told_dues z w.1))) (append-nil ps)
+    ∙ ap (λ (ds : List Due). and_log (map entry_as told) (tell_on t.telling t.opened (lefts t.streams at) ds)) none
+    ∙ ap (λ (es : List Entry). record { told = es; closed = is_over t.telling }) (append-nil (map entry_as told))
+
+pub unknown_yet : (r : Reading) (ps : List Placed) (told : List Happening) → AreRising 0 ps → IsReading r ps told → is_known ps ≡ false
+unknown_yet r ps told rises h =
+    ap (λ (l : Log). ends_for_good (ended_by l.closed ps) ps) (log_now r ps told rises h) ∙ ap (λ (b : Bool). ends_for_good (ended_by b ps) ps) h.3.0
+    ∙ ap (λ (o : Option ℕ). ends_for_good (broken o (difference [] ps)) ps) (sym (tells_loss r.losses ps h.0.0))
+    ∙ ap (λ (o : Option ℕ). ends_for_good (broken (first_of r.losses) o) ps) h.0.1
+    ∙ unknown_by (first_of r.losses) r.differs ps h.3.1 (λ k first. behind_watched r.losses ps k h.0.0 rises first)
 
 -- ---- where one is lost
 
@@ -197,8 +316,13 @@ lost_breaks k d ps lost differs later h =
 pub lost_ends : (k : ℕ) (lost : Option ℕ) (acked : BothEnds) (old new : Reading) (told later : List Happening) (e : Ending) → lost ≡ Some k
     → Finishes (Some k) old.differs old.teller old.due.items told later e → GoesOn lost acked old told new later (Some e)
 lost_ends k lost acked old new told later e is finishes away ps rises acks may differs streams waits =
-    let sure = subst (λ (o : Option ℕ). MayLose o old.losses ps) is may in
-    finishes away true ps rises (nothing_follows ps rises) streams (lost_breaks k old.differs ps sure differs) waits
+    let sure : IsLoss k ps = subst (λ (o : Option ℕ). MayLose o old.losses ps) is may in
+    let here : loss [] ps ≡ Some k = ap (loss []) (sym (append-nil ps)) ∙ sure.6 [] in (
+      finishes away true ps rises (nothing_follows ps rises) streams (lost_breaks k old.differs ps sure.6 differs) waits,
+      known_by (log_of ps).closed ps
+          (ap (λ (o : Option ℕ). ends_for_good (broken o (difference [] ps)) ps) here ∙ ap (λ (o : Option ℕ). ends_for_good (broken (Some k) o) ps) differs
+          ∙ lost_known k old.differs ps (behind_loss k ps sure rises)),
+    )
 
 pub none_lost : (lost : Option ℕ) (acked : BothEnds) (old new : Reading) (told later : List Happening) (r : Option Ending) → lost ≡ None
     → TellsSure acked old told new later r → GoesOn lost acked old told new later r
@@ -262,13 +386,19 @@ pub differs_ends : (first : Option ℕ) (acked : BothEnds) (old new : Reading) (
     → breaks_sure first old.differs ≡ true → Finishes first old.differs old.teller old.due.items told later e → TellsSure acked old told new later (Some e)
 differs_ends first acked old new told later e is sure finishes away ps rises acks r = by_differs old.differs refl sure
   where
-    by_differs : (o : Option ℕ) → old.differs ≡ o → breaks_sure first o ≡ true → IsEnded true ps (away ++ later) e
+    by_differs : (o : Option ℕ) → old.differs ≡ o → breaks_sure first o ≡ true → IsEnded true ps (away ++ later) e × (is_known ps ≡ true)
     by_differs None f g = absurd cc
     by_differs (Some k) f g =
-        let breaks = differs_breaks old.losses k ps r.0 (r.1 ∙ f) (subst (λ (o : Option ℕ). is_first o k ≡ true) is g) in
-        finishes away true ps rises (nothing_follows ps rises) r.2
-        (subst (λ (o : Option ℕ). BreaksAt true (earlier o old.differs) (broken o old.differs) ps) (sym is)
-        (subst (λ (o : Option ℕ). BreaksAt true (earlier (first_of old.losses) o) (broken (first_of old.losses) o) ps) (sym f) breaks)) r.3
+        let before = subst (λ (o : Option ℕ). is_first o k ≡ true) is g in
+        let breaks = differs_breaks old.losses k ps r.0 (r.1 ∙ f) before in (
+          finishes away true ps rises (nothing_follows ps rises) r.2
+              (subst (λ (o : Option ℕ). BreaksAt true (earlier o old.differs) (broken o old.differs) ps) (sym is)
+              (subst (λ (o : Option ℕ). BreaksAt true (earlier (first_of old.losses) o) (broken (first_of old.losses) o) ps) (sym f) breaks)) r.3,
+          known_by (log_of ps).closed ps
+              (ap (λ (o : Option ℕ). ends_for_good (broken o (difference [] ps)) ps) (sym (tells_loss old.losses ps r.0))
+              ∙ ap (λ (o : Option ℕ). ends_for_good (broken (first_of old.losses) o) ps) (r.1 ∙ f)
+              ∙ ap (λ (x : Ending). ends_for_good x ps) (first_least (first_of old.losses) k before).1),
+        )
 
 -- ---- a packet comes
 

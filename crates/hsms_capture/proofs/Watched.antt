@@ -8,7 +8,7 @@ use Rattle.hsms_capture.specs.declared.losses.Need.{Need}
 use Rattle.hsms_capture.specs.declared.packet.Packet.{Packet}
 use Rattle.hsms_capture.specs.declared.packet.Side.{Side}
 use Rattle.hsms_capture.specs.Wire.{End, active, passive, Placed, end_of, is_behind, loss}
-use Rattle.hsms_capture.specs.Losses.{ends_of, side_of, is_lacking, needs_of, unsettled, IsUnsettled, need_at, HeadLacks, IsWatched, Watches, IsNext, WatchesOn, FindsLoss, TellsLoss, first_of}
+use Rattle.hsms_capture.specs.Losses.{ends_of, side_of, is_lacking, needs_of, unsettled, IsUnsettled, need_at, HeadLacks, IsWatched, Watches, IsNext, WatchesOn, IsLoss, FindsLoss, TellsLoss, first_of}
 use Rattle.hsms_capture.proofs.Numbered.{loss_sure, settled_sure, where_true}
 
 -- ---- the front of what is needed
@@ -90,20 +90,21 @@ watches_on old s packet ends new e le before p w n =
     let l : length new ≡ length found.1 = ap length found.3 ∙ length_map found.1 in
     (found.0, found.1, found.2, found.3, found.4, found.5, omega (arith, l, le))
 
-is_loss : (settled rest all : List Placed) (new : List Need) → all ≡ settled ++ rest → new ≡ map need_at rest → HeadLacks all rest → length rest ≤ 4097 → 4096 < length new
-    → (later : List Placed) → loss settled (rest ++ later) ≡ first_of new
-is_loss settled [] all new whole same lacks most lt later = let l = ap length same in absurd (omega (arith, l, lt))
-is_loss settled (q ∷ next) all new whole same lacks most lt later =
+is_loss : (settled rest all : List Placed) (new : List Need) (k : ℕ) → all ≡ settled ++ rest → new ≡ map need_at rest → HeadLacks all rest → length rest ≤ 4097
+    → 4096 < length new → first_of new ≡ Some k → ((later : List Placed) → loss [] (all ++ later) ≡ loss settled (rest ++ later)) → IsLoss k all
+is_loss settled [] all new k whole same lacks most lt first f = let l = ap length same in absurd (omega (arith, l, lt))
+is_loss settled (q ∷ next) all new k whole same lacks most lt first f =
     let l : length new ≡ length (q ∷ next) = ap length same ∙ length_map (q ∷ next) in
     let many : length next ≡ 4096 = omega (arith, l, lt, most) in
     let behind : is_behind (settled ++ (q ∷ next)) q ≡ true = subst (λ (z : List Placed). is_behind z q ≡ true) whole lacks in
-    loss_sure settled q next later many behind ∙ sym (ap first_of same)
+    let found : Some q.packet ≡ Some k = sym (ap first_of same) ∙ first in
+    (settled, q, next, whole, cc, many, λ later. f later ∙ loss_sure settled q next later many behind ∙ found)
 
 finds_loss : (old : List Need) (s : Side) (packet : Packet) (ends : BothEnds) (new : List Need) (k : ℕ) → new ≡ unsettled ends (old ++ needs_of s packet ∷ []) → 4096 < length new
     → first_of new ≡ Some k → FindsLoss old s packet ends k
-finds_loss old s packet ends new k e lt first before p w n later =
+finds_loss old s packet ends new k e lt first before p w n =
     let found = watched old s packet ends new e before p w n in
-    found.4 later ∙ is_loss found.0 found.1 (before ++ (p ∷ [])) new found.2 found.3 found.5 found.6 lt later ∙ first
+    is_loss found.0 found.1 (before ++ (p ∷ [])) new k found.2 found.3 found.5 found.6 lt first found.4
 
 tells_by : (settled rest all : List Placed) (new : List Need) → all ≡ settled ++ rest → new ≡ map need_at rest → HeadLacks all rest → length rest ≤ 4096
     → first_of new ≡ loss settled rest

@@ -11,14 +11,15 @@ use Rattle.hsms_capture.specs.declared.streams.Due.{Due}
 use Rattle.hsms_capture.specs.declared.streams.Stream.{Stream}
 use Rattle.hsms_capture.specs.declared.streams.Streams.{Streams}
 use Rattle.hsms_capture.specs.declared.telling.Happening.{Happening}
-use Rattle.hsms_capture.specs.Wire.{End, active, passive, Cell, Placed, Turn, received, turns, contradicts, loss, difference, earlier}
+use Rattle.hsms_capture.specs.Wire.{End, active, passive, Cell, Placed, Turn, received, turns, contradicts, difference, earlier}
 use Rattle.hsms_capture.specs.Held.{Store, IsStoreOf}
 use Rattle.hsms_capture.specs.Known.{packet_of}
-use Rattle.hsms_capture.specs.Losses.{Watches, ends_of, first_of, side_of}
+use Rattle.hsms_capture.specs.Losses.{IsLoss, Watches, ends_of, first_of, side_of}
 use Rattle.hsms_capture.specs.Message.{cells_of}
+use Rattle.hsms_capture.specs.Turning.{is_over}
 use Rattle.hsms_capture.specs.Connected.{AreRising, AreStreamsOf, Waits, first_kept}
 use Rattle.hsms_capture.specs.Drained.{IsHeldBack}
-use Rattle.hsms_capture.specs.Finished.{IsEnded}
+use Rattle.hsms_capture.specs.Finished.{IsEnded, is_known}
 
 -- ---- what is brought
 
@@ -89,18 +90,35 @@ IsPrompt r = IsHeldBack (earlier (first_of r.losses) r.differs) r.due.items
 abbrev pub HoldsFrom : Streams → List Placed → Type 0
 HoldsFrom s ps = (s.active.held.place ≡ first_kept ps active) × (s.passive.held.place ≡ first_kept ps passive)
 
-abbrev pub IsReading : Reading → List Placed → List Happening → Type 0
-IsReading r ps told = IsKnown r ps told × IsPrompt r × HoldsFrom r.teller.streams ps
+-- a copy differs, and no packet before it lacks anything
+abbrev pub is_first : Option ℕ → ℕ → Bool
+is_first None k = true
+is_first (Some j) k = nat_le k j
 
--- it goes on, or it ended
+abbrev pub breaks_sure : Option ℕ → Option ℕ → Bool
+breaks_sure first None = false
+breaks_sure first (Some k) = is_first first k
+
+-- nothing has ended it
+abbrev pub IsUnended : Reading → Type 0
+IsUnended r = (is_over r.teller.telling ≡ false) × (breaks_sure (first_of r.losses) r.differs ≡ false)
+
+abbrev pub IsReading : Reading → List Placed → List Happening → Type 0
+IsReading r ps told = IsKnown r ps told × IsPrompt r × HoldsFrom r.teller.streams ps × IsUnended r
+
+-- it goes on, or it ended, since that is known
 abbrev pub Outcome : Reading → List Placed → List Happening → Option Ending → Type 0
 Outcome r ps told None = IsReading r ps told
-Outcome r ps told (Some e) = IsEnded true ps told e
+Outcome r ps told (Some e) = IsEnded true ps told e × (is_known ps ≡ true)
 
 -- what is sure is told, behind what was taken away
 abbrev pub TellsSure : BothEnds → Reading → List Happening → Reading → List Happening → Option Ending → Type 0
 TellsSure acked old told new later r =
     (away : List Happening) (ps : List Placed) → AreRising 0 ps → acked ≡ received_of ps → IsKnown old ps (away ++ told) → Outcome new ps (away ++ later) r
+
+-- where no copy differs before which no packet lacks anything
+abbrev pub TellsIfSure : BothEnds → Reading → List Happening → Reading → List Happening → Option Ending → Type 0
+TellsIfSure acked old told new later r = breaks_sure (first_of old.losses) old.differs ≡ false → TellsSure acked old told new later r
 
 abbrev pub Reacts : Arrival → List ℕ → List Packet → Reading → List Happening → Reading → List Happening → Option Ending → Type 0
 Reacts a octets freed old told new later r =
@@ -113,18 +131,9 @@ PassesBoth old acked new = PassesTo old.active acked.active new.active × Passes
 -- what is known where a packet may be lost
 abbrev pub MayLose : Option ℕ → List Need → List Placed → Type 0
 MayLose None needs ps = Watches needs ps
-MayLose (Some k) needs ps = (later : List Placed) → loss [] (ps ++ later) ≡ Some k
+MayLose (Some k) needs ps = IsLoss k ps
 
 abbrev pub GoesOn : Option ℕ → BothEnds → Reading → List Happening → Reading → List Happening → Option Ending → Type 0
 GoesOn lost acked old told new later r =
     (away : List Happening) (ps : List Placed) → AreRising 0 ps → acked ≡ received_of ps → MayLose lost old.losses ps → difference [] ps ≡ old.differs
     → AreStreamsOf old.teller.streams ps → Waits true old.teller old.due.items ps (away ++ told) → Outcome new ps (away ++ later) r
-
--- a copy differs, and no packet before it lacks anything
-abbrev pub is_first : Option ℕ → ℕ → Bool
-is_first None k = true
-is_first (Some j) k = nat_le k j
-
-abbrev pub breaks_sure : Option ℕ → Option ℕ → Bool
-breaks_sure first None = false
-breaks_sure first (Some k) = is_first first k

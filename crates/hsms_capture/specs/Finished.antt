@@ -1,5 +1,5 @@
 -- How what is told of a connection ends.
-use Rattle.std.specs.Prelude.{◌≡◌, ◌++◌, ◌∷◌, Bool, true, false, nat_lt, if◌then◌else◌, ℕ, List, [], map, Option, Some, None}
+use Rattle.std.specs.Prelude.{◌≡◌, ◌++◌, ◌∷◌, Bool, true, false, nat_lt, nat_le, if◌then◌else◌, ℕ, List, [], length, map, filter, Option, Some, None}
 use Rattle.hsms_capture.specs.declared.ending.Ending.{Ending}
 use Rattle.hsms_capture.specs.declared.ending.Ending.TheVariants as ending
 use Rattle.hsms_capture.specs.declared.streams.Due.{Due}
@@ -24,6 +24,22 @@ ended_by false ps = broken (loss [] ps) (difference [] ps)
 
 abbrev pub ended : List Placed → Ending
 ended ps = ended_by (log_of ps).closed ps
+
+-- ---- whether that is known, whatever follows
+
+-- so many packets stand behind one
+abbrev pub packets_behind : ℕ → List Placed → ℕ
+packets_behind k ps = length (filter (λ p. nat_lt k p.packet) ps)
+
+-- It is over, or a copy differs, or the next 4,096 packets behind the one that lacks something are there.
+abbrev pub ends_for_good : Ending → List Placed → Bool
+ends_for_good ending.Closed ps = true
+ends_for_good ending.Complete ps = false
+ends_for_good (ending.Lost packet) ps = nat_le 4096 (packets_behind packet ps)
+ends_for_good (ending.Differs packet) ps = true
+
+abbrev pub is_known : List Placed → Bool
+is_known ps = ends_for_good (ended ps) ps
 
 -- ---- what code does
 

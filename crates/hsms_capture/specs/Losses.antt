@@ -72,11 +72,14 @@ IsNext s packet ends before p = (s ≡ side_of p.from) × (packet ≡ packet_of 
 abbrev pub WatchesOn : List Need → Side → Packet → BothEnds → List Need → Type 0
 WatchesOn old s packet ends new = (before : List Placed) (p : Placed) → Watches old before → IsNext s packet ends before p → Watches new (before ++ p ∷ [])
 
--- it is the loss, whatever follows
+-- this packet is the loss, whatever follows, and the next 4,096 are there
+abbrev pub IsLoss : ℕ → List Placed → Type 0
+IsLoss k all =
+    (before : List Placed) × (p : Placed) × (rest : List Placed) × (all ≡ before ++ p ∷ rest) × (p.packet ≡ k) × (length rest ≡ 4096)
+    × ((later : List Placed) → loss [] (all ++ later) ≡ Some k)
+
 abbrev pub FindsLoss : List Need → Side → Packet → BothEnds → ℕ → Type 0
-FindsLoss old s packet ends k =
-    (before : List Placed) (p : Placed) → Watches old before → IsNext s packet ends before p
-    → (later : List Placed) → loss [] ((before ++ p ∷ []) ++ later) ≡ Some k
+FindsLoss old s packet ends k = (before : List Placed) (p : Placed) → Watches old before → IsNext s packet ends before p → IsLoss k (before ++ p ∷ [])
 
 -- it is the loss, if nothing follows
 abbrev pub TellsLoss : List Need → Option ℕ → Type 0

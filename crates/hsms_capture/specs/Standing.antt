@@ -1,6 +1,6 @@
 -- A connection in the midst of a capture: what it has told is the front of what the definition tells, and what is left
 -- follows from what it knows.
-use Rattle.std.specs.Prelude.{◌≡◌, ◌⊎◌, ◌++◌, ◌∷◌, true, ℕ, List, [], map, Option, Some, None}
+use Rattle.std.specs.Prelude.{◌≡◌, ◌⊎◌, ◌++◌, ◌∷◌, true, ℕ, List, [], map, Option, Some, None, is_some}
 use Rattle.hsms_capture.specs.declared.connection.Connection.{Connection}
 use Rattle.hsms_capture.specs.declared.ending.Ending.{Ending}
 use Rattle.hsms_capture.specs.declared.ending.Ending.TheVariants as ending
@@ -10,23 +10,23 @@ use Rattle.hsms_capture.specs.declared.packet.Side.{Side}
 use Rattle.hsms_capture.specs.declared.packet.Side.TheVariants as side
 use Rattle.hsms_capture.specs.declared.reading.Reading.{Reading}
 use Rattle.hsms_capture.specs.declared.telling.Happening.{Happening}
-use Rattle.hsms_capture.specs.Wire.{End, Placed, Seen, places, loss, difference}
+use Rattle.hsms_capture.specs.Wire.{End, Placed, Seen, places}
 use Rattle.hsms_capture.specs.Known.{Known, known, seen_of}
 use Rattle.hsms_capture.specs.Laws.{AreNumbered}
 use Rattle.hsms_capture.specs.Telling.{entry_as}
 use Rattle.hsms_capture.specs.Told.{Entry, ends_down, tells}
 use Rattle.hsms_capture.specs.Connected.{AreRising, log_of}
-use Rattle.hsms_capture.specs.Finished.{IsEnded, ended}
+use Rattle.hsms_capture.specs.Finished.{IsEnded, ended, is_known}
 use Rattle.hsms_capture.specs.Arrived.{IsReading}
 
 abbrev pub of_side : BothEnds → Side → ℕ
 of_side b side.Active = b.active
 of_side b side.Passive = b.passive
 
--- behind these segments: it is known what follows from them, or how it ended
+-- behind these segments: it is known what follows from them, or how it ended, since that is known whatever follows
 abbrev pub StandsAs : Option Ending → Known → Reading → List Happening → (End → ℕ) → List Seen → Type 0
 StandsAs None turns reading told base seen = (turns ≡ known base (places base [] seen)) × IsReading reading (places base [] seen) told
-StandsAs (Some e) turns reading told base seen = IsEnded true (places base [] seen) told e
+StandsAs (Some e) turns reading told base seen = IsEnded true (places base [] seen) told e × (is_known (places base [] seen) ≡ true)
 
 abbrev pub Stands : Connection → List Happening → (End → ℕ) → List Seen → Type 0
 Stands c told base seen = StandsAs c.ending c.turns c.reading told base seen
@@ -63,11 +63,12 @@ EndingIsSure =
     → AreNumbered 0 (seen ++ later)
     → (map entry_as told ≡ tells (places base [] (seen ++ later))) × (e ≡ ended (places base [] (seen ++ later))) × (e ≡ ending.Complete → ⊥)
 
--- Where these segments have no loss and no copy that differs, all that is told of them was told at the last of them.
+-- All that is told of these segments was told at the last of them, and it is over with the one behind which it is known
+-- how it ends, whatever follows.
 abbrev pub ToldAtOnce : Type 0
 ToldAtOnce =
     (c : Connection) (told : List Happening) (base : End → ℕ) (seen : List Seen) → Stands c told base seen → AreNumbered 0 seen
-    → loss [] (places base [] seen) ≡ None → difference [] (places base [] seen) ≡ None → map entry_as told ≡ tells (places base [] seen)
+    → (map entry_as told ≡ tells (places base [] seen)) × (is_some c.ending ≡ is_known (places base [] seen))
 
 -- Turn by turn, where anything is told, a connection is over exactly where it is told that it went down. Where nothing is
 -- told it may be over as well: a reset ends one that is open, also before it is told that it came up.

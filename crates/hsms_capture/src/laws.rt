@@ -70,8 +70,8 @@ pub fn a_known_ending_is_sure()
     ensures { EndingIsSure }
 {}
 
-/// Nothing is held back where nothing is lacking: where the segments so far have no loss and no copy that differs, all
-/// that is told of them was told at the last of them.
+/// Nothing is held back: all that the definition tells of the segments so far was told at the last of them, and a
+/// [`Connection`](crate::Connection) is over with the one behind which it is known how that ends, whatever follows.
 #[tactic(auto, using(crate::proofs::Connecting::told_at_once))]
 pub fn what_is_sure_is_told()
     ensures { ToldAtOnce }

@@ -1,7 +1,7 @@
 //! What is known of a connection in the midst of a capture, and what is told as a packet comes.
 
 ghost use Rattle.std.specs.Prelude.{◌≡◌, ◌++◌, IfErr, IfOk, OnOk, map};
-ghost use Rattle.hsms_capture.specs.Arrived.{Arrives, Brings, BringsTo, GoesOn, PassesBoth, PassesTo, Reacts, TellsSure, breaks_sure, due_as, or_differs};
+ghost use Rattle.hsms_capture.specs.Arrived.{Arrives, Brings, BringsTo, GoesOn, PassesBoth, PassesTo, Reacts, TellsIfSure, TellsSure, breaks_sure, due_as, or_differs};
 ghost use Rattle.hsms_capture.specs.declared.held.HeldFault.TheVariants.{Memory};
 ghost use Rattle.hsms_capture.specs.Message.{cells_of};
 ghost use Rattle.hsms_capture.specs.Stopping.{FullIf, IsFull, IsFullAt, IsNear, IsNearAt};
@@ -168,7 +168,7 @@ fn tell_sure(
     received: BothEnds,
     told: &mut Vec<Happening>,
 ) -> Result<Option<Ending>, AllocError>
-    ensures told { IfOk result (λ r. TellsSure received reading.old told.old.items reading.new told.new.items r) }
+    ensures told { IfOk result (λ r. TellsIfSure received reading.old told.old.items reading.new told.new.items r) }
     ensures times { OnOk result (TellsInTime reading.old.due.items told.old.items reading.new.due.items told.new.items) }
 {
     let limit = least(reading.losses.first(), reading.differs);

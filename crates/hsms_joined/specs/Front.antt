@@ -1,5 +1,5 @@
 -- What stands at the front of octets: a message of the session, a part of one, or something else.
-use Rattle.std.specs.Prelude.{◌≡◌, ◌≤◌, ◌<◌, ◌+◌, ◌-◌, ◌==◌, ◌&&◌, ◌⊎◌, ℕ, Bool, true, false, nat_le, List, length, take, drop, get_or}
+use Rattle.std.specs.Prelude.{◌≡◌, ◌≤◌, ◌<◌, ◌+◌, ◌-◌, ◌==◌, ◌&&◌, ◌||◌, ◌⊎◌, if◌then◌else◌, ℕ, Bool, true, false, nat_le, nat_lt, List, length, take, drop, get_or, Option, Some, None}
 use Rattle.std.specs.Int.{w16, w32, from_be_bytes}
 use Rattle.secs_item.specs.Spelling.{IsText}
 use Rattle.hsms_frame.specs.declared.header.Header.{Header}
@@ -38,6 +38,12 @@ header_of octets = record {
   stype = get_or octets 5 0;
   system = from_be_bytes w32 (drop 6 octets);
 }
+
+-- the header of a message, behind the four octets of its length; none where header and text have fewer than ten octets, or
+-- more than this
+abbrev pub header_within : ℕ → List ℕ → Option Header
+header_within most octets =
+    if nat_lt (length octets) 14 || nat_lt (most + 4) (length octets) then None else Some (header_of (take 10 (drop 4 octets)))
 
 -- the header behind the four octets of the length is one of the session
 abbrev pub has_header : Session → List ℕ → Bool

@@ -2,7 +2,7 @@
 
 ghost use Rattle.std.specs.Prelude.{◌≡◌, ◌≤◌, ◌<◌, ◌^◌, ◌↔◌, IsTrue};
 ghost use Rattle.secs_item.specs.Spelling.{IsText};
-ghost use Rattle.hsms_joined.specs.Front.{FrontAs, TextAs, header_of};
+ghost use Rattle.hsms_joined.specs.Front.{FrontAs, TextAs, header_of, header_within};
 
 use crate::session::{Session, is_of};
 use hsms_frame::{HEADER_LENGTH, Header};
@@ -19,6 +19,19 @@ pub(crate) enum Found {
     Whole(usize),
     /// No message of the session.
     Other,
+}
+
+/// The header of the message of these octets, those of its length first; none where header and text have fewer than ten
+/// octets, or more than this.
+pub fn header_at(octets: &[u8], max: u32) -> Option<Header>
+    ensures { result ≡ header_within max octets.now }
+{
+    if octets.len() as u64 > u64::from(max) + 4 {
+        return None;
+    }
+    let (_, behind) = octets.split_first_chunk::<4>()?;
+    let (header, _) = behind.split_first_chunk::<HEADER_LENGTH>()?;
+    Some(header_in(*header))
 }
 
 /// What stands at the front of octets, as far as they go. Takes no memory.

@@ -24,6 +24,7 @@ mod start;
 mod supposed;
 
 pub use beginning::{Beginning, begins, begins_at_end};
+pub use front::header_at;
 pub use gathered::{Begun, Gathered};
 pub use gathering::{Beginnings, Gathering};
 pub use joining::{opening, segment_from, start_of};

@@ -18,9 +18,9 @@ use Rattle.hsms_capture.specs.Standing.{EndsAs, Stands, TakesOn}
 use Rattle.hsms_capture.specs.Stopping.{StopsBy}
 use Rattle.hsms_capture.specs.Telling.{entry_as}
 use Rattle.hsms_capture.specs.Time.{AreTimed, EndsInTime, IsInTime, TakesInTime, time_at}
-use Rattle.hsms_capture.specs.Told.{tells}
+use Rattle.hsms_capture.specs.Told.{Entry, tells}
 use Rattle.hsms_capture.proofs.Clocked.{timed_later}
-use Rattle.hsms_capture.proofs.Connecting.{all_rise, told_sure}
+use Rattle.hsms_capture.proofs.Connecting.{all_rise, told_at_once, told_sure}
 use Rattle.hsms_capture.proofs.Lasting.{ending_sure, numbered_front}
 use Rattle.hsms_accounts.specs.declared.ends.Ends.{Ends}
 use Rattle.hsms_accounts.specs.declared.pair.Pair.{Pair}
@@ -36,10 +36,10 @@ use Rattle.hsms_wire.specs.declared.report.Report.{Report}
 use Rattle.hsms_wire.specs.declared.shortfall.Shortfall.{Shortfall}
 use Rattle.hsms_wire.specs.declared.shortfall.Shortfall.TheVariants as lacks
 use Rattle.hsms_wire.specs.Courses.{lack_behind}
-use Rattle.hsms_wire.specs.Logged.{Shown, TellsIf, ToldForGood, ToldOf, bare_of, bare_resets, came_up, clock_of, course_by, entries_logged, is_replaced_by, is_there}
-use Rattle.hsms_wire.specs.Followed.{BeginsWith, DownBy, EndsHave, EndsOpen, Follows, FollowsAll, FollowsOn, FollowsThem, GivesUp, GoesOn, HearsThem, IsFollowed, IsTooMuch, Replaces, TakesSegment, WhenTold, came_up_by, course_by_events, hears_event, logged_by, seen_waiting, timed_by, unboxed_ends}
+use Rattle.hsms_wire.specs.Logged.{Shown, TellsIf, TellsOf, ToldForGood, ToldOf, bare_of, bare_resets, came_up, clock_of, course_by, entries_logged, is_replaced_by, is_there}
+use Rattle.hsms_wire.specs.Followed.{BeginsWith, DownBy, MayTellMore, EndsHave, EndsOpen, Follows, FollowsAll, FollowsOn, FollowsThem, GivesUp, GoesOn, HearsThem, IsFollowed, IsTooMuch, Replaces, TakesSegment, WhenTold, came_up_by, course_by_events, hears_event, logged_by, seen_waiting, timed_by, unboxed_ends}
 use Rattle.hsms_wire.proofs.Lasting.{closed_never_up, lack_lasts, never_closes, times_last}
-use Rattle.hsms_wire.proofs.Logging.{all_logged, times_stay}
+use Rattle.hsms_wire.proofs.Logging.{all_logged, course_of_entries, times_stay}
 use Rattle.hsms_wire.proofs.Concluding.{ClosedBy, HeardAfter, all_heard, closed_by_next, ended_told, have_closed, heard_after, nothing_there, over_told, tells_if, there_same}
 
 -- ---- segments are numbered
@@ -49,27 +49,27 @@ numbered_all xs h = subst (AreNumbered 0) (sym (append-nil xs)) h
 
 -- ---- one segment more
 
-abbrev with_bare : Logs → Logs → Seen → Type 0
+abbrev pub with_bare : Logs → Logs → Seen → Type 0
 with_bare old first s =
     (first.bare_resets.items ≡ old.bare_resets.items ++ bare_of s) × (first.ends ≡ old.ends) × (first.is_up ≡ old.is_up)
 
-stands_next : (c next : Connection) (s : Seen) (base : End → ℕ) (before : List Seen) (told now : List Happening) → TakesOn c s [] next now
+pub stands_next : (c next : Connection) (s : Seen) (base : End → ℕ) (before : List Seen) (told now : List Happening) → TakesOn c s [] next now
     → AreNumbered 0 (before ++ s ∷ []) → Stands c told base before → Stands next (told ++ now) base (before ++ s ∷ [])
 stands_next c next s base before told now takes numbered stands =
     takes base before told numbered (subst (λ (hs : List Happening). Stands c hs base before) (sym (append-nil told)) stands)
 
-in_time_next : (c next : Connection) (s : Seen) (base : End → ℕ) (before : List Seen) (told now : List Happening) → TakesInTime c s [] next now
+pub in_time_next : (c next : Connection) (s : Seen) (base : End → ℕ) (before : List Seen) (told now : List Happening) → TakesInTime c s [] next now
     → Stands c told base before → IsInTime c told base before → IsInTime next (told ++ now) base (before ++ s ∷ [])
 in_time_next c next s base before told now takes stands timed =
     takes base before told (subst (λ (hs : List Happening). Stands c hs base before) (sym (append-nil told)) stands)
     (subst (λ (hs : List Happening). IsInTime c hs base before) (sym (append-nil told)) timed)
 
-timed_now : (c : Connection) (told : List Happening) (base : End → ℕ) (seen : List Seen) → AreNumbered 0 seen → IsInTime c told base seen
+pub timed_now : (c : Connection) (told : List Happening) (base : End → ℕ) (seen : List Seen) → AreNumbered 0 seen → IsInTime c told base seen
     → AreTimed (time_at (places base [] seen)) told
 timed_now c told base seen numbered timed =
     subst (λ (z : List Seen). AreTimed (time_at (places base [] z)) told) (append-nil seen) (timed_later c told base seen [] (numbered_all seen numbered) timed)
 
-bares : (before : List Seen) (s : Seen) (old new : List ℕ) → new ≡ old ++ bare_of s → old ≡ bare_resets before → new ≡ bare_resets (before ++ s ∷ [])
+pub bares : (before : List Seen) (s : Seen) (old new : List ℕ) → new ≡ old ++ bare_of s → old ≡ bare_resets before → new ≡ bare_resets (before ++ s ∷ [])
 bares before s old new is was =
     is ∙ ap (λ (ns : List ℕ). ns ++ bare_of s) was ∙ ap (λ (ns : List ℕ). bare_resets before ++ ns) (sym (append-nil (bare_of s)))
     ∙ sym (flat_map-append bare_of before (s ∷ []))
@@ -135,6 +135,18 @@ follow_goes a p base before s o next first logs now numbered f open_still takes 
       ends = all_heard a p (bare_resets seen) all logs h;
     }
 
+-- behind these segments all is told that is known of it, and more may follow
+pub told_now : (a p : Parameters) (base : End → ℕ) (seen : List Seen) (o : Open) → AreNumbered 0 seen → (f : IsFollowed a p base seen o)
+    → map entry_as f.told ≡ tells (places base [] seen)
+told_now a p base seen o numbered f = (told_at_once o.connection f.told base seen f.stands numbered).0
+
+pub tells_more : (a p : Parameters) (base : End → ℕ) (seen : List Seen) (o : Open) → AreNumbered 0 seen → IsFollowed a p base seen o → MayTellMore a base seen
+unfolding MayTellMore
+tells_more a p base seen o numbered f = (
+  ap (course_by a.max) (sym (told_now a p base seen o numbered f)) ∙ sym (course_of_entries a.max f.told) ∙ f.goes,
+  sym (told_at_once o.connection f.told base seen f.stands numbered).1 ∙ ap is_some f.unended,
+)
+
 -- a segment is taken with which it is given up: nothing is told with it
 never_replaced : (c : Course) (lack : Option Shortfall) → is_replaced_by false c lack ≡ false
 never_replaced course.Goes lack = refl
@@ -159,13 +171,10 @@ follow_full a p pair base before s o first logs now lack old new numbered f lack
     let says = tells_if a p pair (time_at (places base [] before)) (bare_resets before) told es false full logs.is_up (unboxed_ends logs.ends) old new
     (timed_now o.connection told base before earlier f.timed) refl h.up (λ _. has)
     (subst (λ (l : Option Shortfall). WhenTold (logs.is_up || is_some l) pair l (unboxed_ends logs.ends) old new) lack_is when) in (
-      o.connection,
-      told,
-      f.unended,
-      f.stands,
+      tells_more a p base before o earlier f,
       much base before told (subst (λ (hs : List Happening). Stands o.connection hs base before) (sym (append-nil told)) f.stands),
-      subst (λ (b : Bool). TellsIf (came_up (entries_logged a.max es) || is_some full) (Shown a p pair (clock_of base before) es b full) old new)
-          (sym (never_replaced (course_by a.max es) full)) says,
+      subst (λ (xs : List Entry). TellsOf a p pair (clock_of base before) xs false full old new) (told_now a p base before o earlier f) (subst (λ (b : Bool). TellsIf (came_up (entries_logged a.max es) || is_some full) (Shown a p pair (clock_of base before) es b full) old new)
+          (sym (never_replaced (course_by a.max es) full)) says),
     )
 
 pub too_much : (fault : ConnectionFault) (c : Connection) (told : List Happening) (s : Seen) → (fault ≡ stop.Memory → ⊥) → StopsBy c told s fault
@@ -391,7 +400,7 @@ taken_apart {A} all yielded x front less is =
     sym (take-append-drop n all) ∙ ap (λ (ys : List A). ys ++ drop n all) (sym front ∙ map-id yielded)
     ∙ ap (λ (ys : List A). yielded ++ ys) (drop_more all n x less ∙ ap (λ (y : A). y ∷ drop (n + 1) all) (sym is))
 
-numbered_next : (before : List Seen) (all yielded rest : List Waiting) (x : Waiting) → AreNumbered 0 (before ++ map seen_waiting all) → all ≡ yielded ++ x ∷ rest
+pub numbered_next : (before : List Seen) (all yielded rest : List Waiting) (x : Waiting) → AreNumbered 0 (before ++ map seen_waiting all) → all ≡ yielded ++ x ∷ rest
     → AreNumbered 0 ((before ++ map seen_waiting yielded) ++ seen_waiting x ∷ [])
 numbered_next before all yielded rest x numbered is =
     let front = before ++ map seen_waiting yielded in

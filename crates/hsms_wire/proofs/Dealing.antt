@@ -7,31 +7,40 @@ use Rattle.std.specs.Map.{lookup, remove_entry, set_value}
 use Rattle.hsms_machine.specs.Settings.{Parameters}
 use Rattle.hsms_packets.specs.declared.segment.Segment.{Segment}
 use Rattle.hsms_capture.specs.declared.packet.Side.{Side}
+use Rattle.hsms_capture.specs.Known.{bases}
 use Rattle.hsms_capture.specs.Laws.{AreNumbered}
 use Rattle.hsms_capture.specs.Wire.{Seen}
 use Rattle.hsms_accounts.specs.Pair.{IsOfPeer, pairs_at, turned}
+use Rattle.hsms_accounts.specs.declared.journal.Journal.{Journal}
 use Rattle.hsms_accounts.specs.declared.pair.Pair.{Pair}
 use Rattle.hsms_accounts.specs.contracts.pair.PairPartialEq.TheImpl as same_pair
 use Rattle.hsms_wire.specs.declared.flow.Flow.{Flow}
 use Rattle.hsms_wire.specs.declared.flow.Stage.{Stage}
 use Rattle.hsms_wire.specs.declared.flow.Stage.TheVariants as stage
 use Rattle.hsms_wire.specs.declared.flow.Waiting.{Waiting}
-use Rattle.hsms_wire.specs.declared.report.Manner.TheVariants.{Verdicts}
+use Rattle.hsms_wire.specs.declared.report.Manner.{Manner}
+use Rattle.hsms_wire.specs.declared.report.Manner.TheVariants.{Log, Verdicts}
 use Rattle.hsms_wire.specs.declared.report.Report.{Report}
 use Rattle.hsms_wire.specs.declared.shortfall.Shortfall.{Shortfall}
 use Rattle.hsms_wire.specs.declared.table.Capture.{Capture}
 use Rattle.hsms_wire.specs.declared.table.Table.{Table}
-use Rattle.hsms_wire.specs.Connections.{Connection, Connections, Deals, DealsBy, DealsOf, DealsPacket, EndsAll, EndsWith, Goes, GoesBy, GoesOn, Has, IsGone, IsOpen, IsReplaced, NothingIsLeft, Starts, StartsAny, StartsOne, connection_of, has_one, pair_in, starting, without}
+use Rattle.hsms_wire.specs.Connections.{Connection, Connections, Deals, DealsBy, DealsOf, DealsPacket, EndsAll, EndsAs, EndsWith, Goes, GoesAs, GoesToLog, GoesToVerdicts, GoesBy, GoesOn, Has, IsGone, IsOpen, IsOpenStill, IsReplaced, NothingIsLeft, Starts, StartsAny, StartsOne, connection_of, has_one, pair_in, starting, without}
 use Rattle.hsms_wire.specs.Followed.{seen_waiting}
-use Rattle.hsms_wire.specs.Kept.{AreSame, captured_of, IsOne, IsReport, IsTable, StageStands, TakesAsDealt, UpTo}
+use Rattle.hsms_wire.specs.Kept.{AreSame, captured_of, IsOne, IsReport, IsTable, StageStands, TakesAsDealt, TellsTo, UpTo}
+use Rattle.hsms_wire.specs.Dealt.{Way, to_log, to_verdicts}
+use Rattle.hsms_wire.specs.Paged.{EndsStageOnPage, LogsTo, Page, StageOnPage, TakesOnPage, TellsWith}
 use Rattle.hsms_wire.specs.Report.{Tells}
-use Rattle.hsms_wire.specs.Staged.{EndsFlows, EndsStage, IsBegun, IsForgotten, IsIdle, StageGoes, TakesStage, first_shown}
+use Rattle.hsms_wire.specs.Staged.{EndsBy, EndsStage, IsBegun, IsForgotten, IsIdle, StageGoes, TakesStage, answered_by, first_shown}
 use Rattle.hsms_wire.specs.Segments.{has_flow as has_flow_of, pair_among, pair_at}
-use Rattle.hsms_wire.specs.Tabled.{Begins, BeginsFlow, BeginsWith, EndsBefore, FollowsBy, FollowsFlow, HasFlow, IsFollowed, KeepsIf, KeepsOf, LeavesOut, LooksAt, ReplacesFlow, TakesBy, TakesIt, TakesOf, TakesPacket, flow_of, is_live, seen_by}
+use Rattle.hsms_wire.proofs.Connections.{tells_more}
+use Rattle.hsms_wire.proofs.Paging.{page_more}
+use Rattle.hsms_wire.proofs.Staging.{to_nothing}
+use Rattle.hsms_wire.proofs.Stages.{answered_kept}
+use Rattle.hsms_wire.specs.Tabled.{Begins, BeginsFlow, BeginsWith, EndsBefore, EndsFlows, FollowsBy, FollowsFlow, HasFlow, IsFollowed, KeepsIf, KeepsOf, LeavesOut, LooksAt, ReplacesFlow, TakesBy, TakesIt, TakesOf, TakesPacket, flow_of, is_live, seen_by}
 
 -- ---- numbers of packets
 
-up_more : (first last : ℕ) (ss : List Seen) (s : Seen) → UpTo first last ss → last < s.packet → AreNumbered first (ss ++ s ∷ [])
+pub up_more : (first last : ℕ) (ss : List Seen) (s : Seen) → UpTo first last ss → last < s.packet → AreNumbered first (ss ++ s ∷ [])
 up_more first last [] s up past = (omega arith, tt)
 up_more first last (x ∷ ss) s up past = (up.0, up_more x.packet last ss s up.1 past)
 
@@ -43,228 +52,306 @@ up_later : (first last later : ℕ) (ss : List Seen) → UpTo first last ss → 
 up_later first last later [] up past = omega arith
 up_later first last later (x ∷ ss) up past = (up.0, up_later x.packet last later ss up.1 past)
 
-up_numbered : (first last : ℕ) (ss : List Seen) → UpTo first last ss → AreNumbered first ss
+pub up_numbered : (first last : ℕ) (ss : List Seen) → UpTo first last ss → AreNumbered first ss
 up_numbered first last [] up = tt
 up_numbered first last (x ∷ ss) up = (up.0, up_numbered x.packet last ss up.1)
 
 -- ---- one that is kept
 
--- one packet more
+-- no SYN of the passive end was there before where none is with one packet more
+unanswered : (number : ℕ) (seen : List Seen) (s : Seen) → answered_by number (seen ++ s ∷ []) ≡ None → answered_by number seen ≡ None
+unanswered number seen s none = by_answer (answered_by number seen) refl
+  where
+    by_answer : (o : Option ℕ) → answered_by number seen ≡ o → o ≡ None
+    by_answer None is = refl
+    by_answer (Some other) is = absurd (let no : Some other ≡ None = sym (answered_kept number seen s other is) ∙ none in cc)
+
+-- one packet more, where verdicts are told
 stage_goes : (a p : Parameters) (pair : Pair) (number : ℕ) (s : Seen) (seen : List Seen) (next : Stage) (old new : Report)
     → StageGoes a p pair number (seen ++ s ∷ []) next old new → UpTo 0 s.packet (seen ++ s ∷ [])
-    → (packets : Option (List Seen)) × Goes a p pair number s (Some seen) packets old new × StageStands a p s.packet number packets next
-stage_goes a p pair number s seen (stage.Opening w) old new goes up = (Some (seen ++ s ∷ []), (refl, goes.0, (λ none. goes.1.2)), (goes.1, up))
+    → (packets : Option (List Seen)) × GoesToVerdicts a p pair number seen s packets old new × StageStands to_verdicts a p s.packet number packets next
+stage_goes a p pair number s seen (stage.Opening w) old new goes up =
+    let all = seen ++ s ∷ [] in
+    (Some all, (refl, goes.0, subst (λ (m : Option ℕ). IsOpenStill m a number all) (sym goes.1.1) goes.1.2), (goes.1, up))
 stage_goes a p pair number s seen (stage.Open o) old new goes up =
-    (Some (seen ++ s ∷ []), (refl, goes.0, (λ none. absurd (none_some (sym none ∙ goes.1.1)))), (goes.1, up))
-  where
-    none_some : ◌≡◌ {A = Option ℕ} None (Some goes.1.0) → ⊥
-    none_some is = cc
+    let all = seen ++ s ∷ [] in
+    let more = tells_more a p (bases number goes.1.0) all o (up_numbered 0 s.packet all up) goes.1.2 in
+    (Some all, (refl, goes.0, subst (λ (m : Option ℕ). IsOpenStill m a number all) (sym goes.1.1) more), (goes.1, up))
 stage_goes a p pair number s seen (stage.Joining g) old new goes up = absurd goes
 stage_goes a p pair number s seen (stage.Within w) old new goes up = absurd goes
 stage_goes a p pair number s seen stage.Over old new goes up = (None, goes, refl)
 
-stage_takes : (pair : Pair) (number last : ℕ) (s : Seen) (packets : Option (List Seen)) (st next : Stage) (begins : Option ℕ) (old new : Report)
-    → old.manner ≡ Verdicts → begins ≡ Some number → last < s.packet → StageStands old.active old.passive last number packets st
+-- or the log of an end
+abbrev LogOf : Journal → Way
+LogOf j = to_log j.settings j.side
+
+page_goes : (j : Journal) (a p : Parameters) (pair : Pair) (number : ℕ) (s : Seen) (seen : List Seen) (next : Stage) (old new : Report) → old.manner ≡ Log j
+    → StageOnPage j pair number seen s next old new → UpTo 0 s.packet (seen ++ s ∷ [])
+    → (packets : Option (List Seen)) × GoesToLog j pair number seen s packets old new × StageStands (LogOf j) a p s.packet number packets next
+page_goes j a p pair number s seen (stage.Opening w) old new log goes up =
+    let all = seen ++ s ∷ [] in
+    let none_before : answered_by number seen ≡ None = unanswered number seen s goes.1.1 in
+    let same : LogsTo (TellsWith (answered_by number seen) (answered_by number all) j.settings j.side pair number seen s) j old new =
+    subst (λ (m : Option ℕ). LogsTo (TellsWith m (answered_by number all) j.settings j.side pair number seen s) j old new) (sym none_before)
+    (subst (λ (m : Option ℕ). LogsTo (TellsWith None m j.settings j.side pair number seen s) j old new) (sym goes.1.1)
+    (subst (λ (r : Report). LogsTo (λ (x y : Page). y ≡ x) j old r) (sym goes.0) (to_nothing j old log))) in
+    (Some all, (refl, same, subst (λ (m : Option ℕ). IsOpenStill m j.settings number all) (sym goes.1.1) goes.1.2), (goes.1, up))
+page_goes j a p pair number s seen (stage.Open o) old new log goes up =
+    let all = seen ++ s ∷ [] in
+    let more = page_more j.settings (bases number goes.1.0) all o (up_numbered 0 s.packet all up) goes.1.2 in
+    (Some all, (refl, goes.0, subst (λ (m : Option ℕ). IsOpenStill m j.settings number all) (sym goes.1.1) more), (goes.1, up))
+page_goes j a p pair number s seen (stage.Joining g) old new log goes up = absurd goes
+page_goes j a p pair number s seen (stage.Within w) old new log goes up = absurd goes
+page_goes j a p pair number s seen stage.Over old new log goes up = (None, goes, refl)
+
+verdicts_take : (pair : Pair) (number last : ℕ) (s : Seen) (seen : List Seen) (st next : Stage) (begins : Option ℕ) (old new : Report)
+    → old.manner ≡ Verdicts → begins ≡ Some number → last < s.packet → StageStands to_verdicts old.active old.passive last number (Some seen) st
     → TakesStage pair begins s st next old new
-    → (all : Option (List Seen)) × Goes old.active old.passive pair number s packets all old new × StageStands old.active old.passive s.packet number all next
-stage_takes pair number last s None st next begins old new verdicts is past stands takes =
-    let goes = subst (λ (x : Stage). TakesStage pair begins s x next old new) stands takes in
+    → (all : Option (List Seen)) × GoesToVerdicts old.active old.passive pair number seen s all old new
+    × StageStands to_verdicts old.active old.passive s.packet number all next
+verdicts_take pair number last s seen (stage.Opening w) next begins old new verdicts is past stands takes =
+    stage_goes old.active old.passive pair number s seen next old new
+    (takes verdicts number is seen (up_more 0 last seen s stands.1 past) stands.0) (up_to 0 last seen s stands.1 past)
+verdicts_take pair number last s seen (stage.Open o) next begins old new verdicts is past stands takes =
+    stage_goes old.active old.passive pair number s seen next old new
+    (takes verdicts number is seen (up_more 0 last seen s stands.1 past) stands.0) (up_to 0 last seen s stands.1 past)
+verdicts_take pair number last s seen (stage.Joining g) next begins old new verdicts is past stands takes = absurd stands.0
+verdicts_take pair number last s seen (stage.Within w) next begins old new verdicts is past stands takes = absurd stands.0
+verdicts_take pair number last s seen stage.Over next begins old new verdicts is past stands takes = absurd stands.0
+
+page_take : (j : Journal) (pair : Pair) (number last : ℕ) (s : Seen) (seen : List Seen) (st next : Stage) (begins : Option ℕ) (old new : Report)
+    → old.manner ≡ Log j → begins ≡ Some number → last < s.packet → StageStands (LogOf j) old.active old.passive last number (Some seen) st
+    → TakesOnPage pair begins s st next old new
+    → (all : Option (List Seen)) × GoesToLog j pair number seen s all old new × StageStands (LogOf j) old.active old.passive s.packet number all next
+page_take j pair number last s seen st next begins old new log is past stands takes =
+    page_goes j old.active old.passive pair number s seen next old new log
+    (takes j log number is seen (up_more 0 last seen s stands.1 past) stands.0) (up_to 0 last seen s stands.1 past)
+
+stage_takes : (how : Way) (pair : Pair) (number last : ℕ) (s : Seen) (packets : Option (List Seen)) (st next : Stage) (begins : Option ℕ) (old new : Report)
+    → TellsTo how old.manner → begins ≡ Some number → last < s.packet → StageStands how old.active old.passive last number packets st
+    → TakesStage pair begins s st next old new × TakesOnPage pair begins s st next old new
+    → (all : Option (List Seen)) × Goes old.active old.passive pair number s packets all old new × StageStands how old.active old.passive s.packet number all next
+stage_takes how pair number last s None st next begins old new manner is past stands takes =
+    let goes = subst (λ (x : Stage). TakesStage pair begins s x next old new) stands takes.0 in
     (None, (refl, goes.1), goes.0)
-stage_takes pair number last s (Some seen) (stage.Opening w) next begins old new verdicts is past stands takes =
-    stage_goes old.active old.passive pair number s seen next old new
-    (takes verdicts number is seen (up_more 0 last seen s stands.1 past) stands.0) (up_to 0 last seen s stands.1 past)
-stage_takes pair number last s (Some seen) (stage.Open o) next begins old new verdicts is past stands takes =
-    stage_goes old.active old.passive pair number s seen next old new
-    (takes verdicts number is seen (up_more 0 last seen s stands.1 past) stands.0) (up_to 0 last seen s stands.1 past)
-stage_takes pair number last s (Some seen) (stage.Joining g) next begins old new verdicts is past stands takes = absurd stands.0
-stage_takes pair number last s (Some seen) (stage.Within w) next begins old new verdicts is past stands takes = absurd stands.0
-stage_takes pair number last s (Some seen) stage.Over next begins old new verdicts is past stands takes = absurd stands.0
+stage_takes to_verdicts pair number last s (Some seen) st next begins old new manner is past stands takes =
+    let on = verdicts_take pair number last s seen st next begins old new manner is past stands takes.0 in
+    (on.0, subst (λ (m : Manner). GoesAs m old.active old.passive pair number seen s on.0 old new) (sym manner) on.1, on.2)
+stage_takes (to_log settings side) pair number last s (Some seen) st next begins old new manner is past stands takes =
+    let j = manner.0 in
+    let way : LogOf j ≡ to_log settings side = ap (λ (x : Parameters). to_log x j.side) manner.2 ∙ ap (to_log settings) manner.3 in
+    let on = page_take j pair number last s seen st next begins old new manner.1 is past
+    (subst (λ (w : Way). StageStands w old.active old.passive last number (Some seen) st) (sym way) stands) takes.1 in (
+      on.0,
+      subst (λ (m : Manner). GoesAs m old.active old.passive pair number seen s on.0 old new) (sym manner.1) on.1,
+      subst (λ (w : Way). StageStands w old.active old.passive s.packet number on.0 next) way on.2,
+    )
 
 -- no packet follows
-stage_ends : (pair : Pair) (number last : ℕ) (replaced : Bool) (missing : Option Shortfall) (packets : Option (List Seen)) (st : Stage) (old new : Report)
-    → old.manner ≡ Verdicts → StageStands old.active old.passive last number packets st → EndsStage pair replaced missing st old new
+verdicts_end : (pair : Pair) (number last : ℕ) (replaced : Bool) (missing : Option Shortfall) (seen : List Seen) (st : Stage) (old new : Report)
+    → old.manner ≡ Verdicts → StageStands to_verdicts old.active old.passive last number (Some seen) st → EndsStage pair replaced missing st old new
+    → EndsBy (answered_by number seen) old.active old.passive pair number seen replaced missing old new
+verdicts_end pair number last replaced missing seen (stage.Opening w) old new verdicts stands ends =
+    ends verdicts number seen (up_numbered 0 last seen stands.1) stands.0
+verdicts_end pair number last replaced missing seen (stage.Open o) old new verdicts stands ends =
+    ends verdicts number seen (up_numbered 0 last seen stands.1) stands.0
+verdicts_end pair number last replaced missing seen (stage.Joining g) old new verdicts stands ends = absurd stands.0
+verdicts_end pair number last replaced missing seen (stage.Within w) old new verdicts stands ends = absurd stands.0
+verdicts_end pair number last replaced missing seen stage.Over old new verdicts stands ends = absurd stands.0
+
+stage_ends : (how : Way) (pair : Pair) (number last : ℕ) (replaced : Bool) (missing : Option Shortfall) (packets : Option (List Seen)) (st : Stage) (old new : Report)
+    → TellsTo how old.manner → StageStands how old.active old.passive last number packets st
+    → EndsStage pair replaced missing st old new × EndsStageOnPage replaced missing st old new
     → EndsWith old.active old.passive pair replaced missing number packets old new
-stage_ends pair number last replaced missing None st old new verdicts stands ends =
-    subst (λ (x : Stage). EndsStage pair replaced missing x old new) stands ends
-stage_ends pair number last replaced missing (Some seen) (stage.Opening w) old new verdicts stands ends =
-    ends verdicts number seen (up_numbered 0 last seen stands.1) stands.0
-stage_ends pair number last replaced missing (Some seen) (stage.Open o) old new verdicts stands ends =
-    ends verdicts number seen (up_numbered 0 last seen stands.1) stands.0
-stage_ends pair number last replaced missing (Some seen) (stage.Joining g) old new verdicts stands ends = absurd stands.0
-stage_ends pair number last replaced missing (Some seen) (stage.Within w) old new verdicts stands ends = absurd stands.0
-stage_ends pair number last replaced missing (Some seen) stage.Over old new verdicts stands ends = absurd stands.0
+stage_ends how pair number last replaced missing None st old new manner stands ends =
+    subst (λ (x : Stage). EndsStage pair replaced missing x old new) stands ends.0
+stage_ends to_verdicts pair number last replaced missing (Some seen) st old new manner stands ends =
+    subst (λ (m : Manner). EndsAs m old.active old.passive pair replaced missing number seen old new) (sym manner)
+    (verdicts_end pair number last replaced missing seen st old new manner stands ends.0)
+stage_ends (to_log settings side) pair number last replaced missing (Some seen) st old new manner stands ends =
+    let j = manner.0 in
+    let way : LogOf j ≡ to_log settings side = ap (λ (x : Parameters). to_log x j.side) manner.2 ∙ ap (to_log settings) manner.3 in
+    let here = subst (λ (w : Way). StageStands w old.active old.passive last number (Some seen) st) (sym way) stands in
+    subst (λ (m : Manner). EndsAs m old.active old.passive pair replaced missing number seen old new) (sym manner.1)
+    (ends.1 j manner.1 number seen (up_numbered 0 last seen here.1) here.0)
 
 -- nothing is left to be told of it
-idle_left : (a p : Parameters) (last number : ℕ) (packets : Option (List Seen)) (st : Stage) → StageStands a p last number packets st → IsIdle st
+idle_left : (how : Way) (a p : Parameters) (last number : ℕ) (packets : Option (List Seen)) (st : Stage) → StageStands how a p last number packets st → IsIdle st
     → NothingIsLeft number packets
-idle_left a p last number None st stands idle = tt
-idle_left a p last number (Some seen) (stage.Opening w) stands idle =
+idle_left how a p last number None st stands idle = tt
+idle_left how a p last number (Some seen) (stage.Opening w) stands idle =
     (stands.0.1, subst (λ (ss : List Seen). is_some (first_shown ss) ≡ false) stands.0.0 idle)
-idle_left a p last number (Some seen) (stage.Open o) stands idle = absurd idle
-idle_left a p last number (Some seen) (stage.Joining g) stands idle = absurd stands.0
-idle_left a p last number (Some seen) (stage.Within w) stands idle = absurd idle
-idle_left a p last number (Some seen) stage.Over stands idle = absurd stands.0
+idle_left how a p last number (Some seen) (stage.Open o) stands idle = absurd idle
+idle_left how a p last number (Some seen) (stage.Joining g) stands idle = absurd stands.0
+idle_left how a p last number (Some seen) (stage.Within w) stands idle = absurd idle
+idle_left how a p last number (Some seen) stage.Over stands idle = absurd stands.0
 
-left_idle : (a p : Parameters) (last number : ℕ) (packets : Option (List Seen)) (st : Stage) → StageStands a p last number packets st
+left_idle : (how : Way) (a p : Parameters) (last number : ℕ) (packets : Option (List Seen)) (st : Stage) → StageStands how a p last number packets st
     → NothingIsLeft number packets → IsIdle st
-left_idle a p last number None st stands left = subst IsIdle (sym stands) tt
-left_idle a p last number (Some seen) (stage.Opening w) stands left =
+left_idle how a p last number None st stands left = subst IsIdle (sym stands) tt
+left_idle how a p last number (Some seen) (stage.Opening w) stands left =
     subst (λ (ss : List Seen). is_some (first_shown ss) ≡ false) (sym stands.0.0) left.1
-left_idle a p last number (Some seen) (stage.Open o) stands left = absurd (none_some (sym left.0 ∙ stands.0.1))
+left_idle how a p last number (Some seen) (stage.Open o) stands left = absurd (none_some (sym left.0 ∙ stands.0.1))
   where
     none_some : ◌≡◌ {A = Option ℕ} None (Some stands.0.0) → ⊥
     none_some is = cc
-left_idle a p last number (Some seen) (stage.Joining g) stands left = absurd stands.0
-left_idle a p last number (Some seen) (stage.Within w) stands left = absurd stands.0
-left_idle a p last number (Some seen) stage.Over stands left = absurd stands.0
+left_idle how a p last number (Some seen) (stage.Joining g) stands left = absurd stands.0
+left_idle how a p last number (Some seen) (stage.Within w) stands left = absurd stands.0
+left_idle how a p last number (Some seen) stage.Over stands left = absurd stands.0
 
 -- more may be told of it
-live_some : (a p : Parameters) (last number : ℕ) (packets : Option (List Seen)) (st : Stage) → StageStands a p last number packets st → is_live st ≡ true
+live_some : (how : Way) (a p : Parameters) (last number : ℕ) (packets : Option (List Seen)) (st : Stage) → StageStands how a p last number packets st → is_live st ≡ true
     → is_some packets ≡ true
-live_some a p last number None st stands live = absurd (never (sym (ap is_live stands) ∙ live))
+live_some how a p last number None st stands live = absurd (never (sym (ap is_live stands) ∙ live))
   where
     never : false ≡ true → ⊥
     never is = cc
-live_some a p last number (Some seen) st stands live = refl
+live_some how a p last number (Some seen) st stands live = refl
 
-some_live : (a p : Parameters) (last number : ℕ) (packets : Option (List Seen)) (st : Stage) → StageStands a p last number packets st
+some_live : (how : Way) (a p : Parameters) (last number : ℕ) (packets : Option (List Seen)) (st : Stage) → StageStands how a p last number packets st
     → is_some packets ≡ true → is_live st ≡ true
-some_live a p last number None st stands some = absurd cc
-some_live a p last number (Some seen) (stage.Opening w) stands some = refl
-some_live a p last number (Some seen) (stage.Open o) stands some = refl
-some_live a p last number (Some seen) (stage.Joining g) stands some = refl
-some_live a p last number (Some seen) (stage.Within w) stands some = refl
-some_live a p last number (Some seen) stage.Over stands some = absurd stands.0
+some_live how a p last number None st stands some = absurd cc
+some_live how a p last number (Some seen) (stage.Opening w) stands some = refl
+some_live how a p last number (Some seen) (stage.Open o) stands some = refl
+some_live how a p last number (Some seen) (stage.Joining g) stands some = refl
+some_live how a p last number (Some seen) (stage.Within w) stands some = refl
+some_live how a p last number (Some seen) stage.Over stands some = absurd stands.0
 
-forgotten_gone : (a p : Parameters) (last begun : ℕ) (flow : Flow) (one : Connection) → IsOne a p last flow one → IsForgotten flow begun → IsGone one begun
-forgotten_gone a p last begun flow one is forgotten =
-    (idle_left a p last one.number one.packets flow.stage is.stands forgotten.0, subst (λ (n : ℕ). n + 4096 < begun) is.born forgotten.1)
+forgotten_gone : (how : Way) (a p : Parameters) (last begun : ℕ) (flow : Flow) (one : Connection) → IsOne how a p last flow one → IsForgotten flow begun → IsGone one begun
+forgotten_gone how a p last begun flow one is forgotten =
+    (idle_left how a p last one.number one.packets flow.stage is.stands forgotten.0, subst (λ (n : ℕ). n + 4096 < begun) is.born forgotten.1)
 
-gone_forgotten : (a p : Parameters) (last begun : ℕ) (flow : Flow) (one : Connection) → IsOne a p last flow one → IsGone one begun → IsForgotten flow begun
-gone_forgotten a p last begun flow one is gone =
-    (left_idle a p last one.number one.packets flow.stage is.stands gone.0, subst (λ (n : ℕ). n + 4096 < begun) (sym is.born) gone.1)
+gone_forgotten : (how : Way) (a p : Parameters) (last begun : ℕ) (flow : Flow) (one : Connection) → IsOne how a p last flow one → IsGone one begun → IsForgotten flow begun
+gone_forgotten how a p last begun flow one is gone =
+    (left_idle how a p last one.number one.packets flow.stage is.stands gone.0, subst (λ (n : ℕ). n + 4096 < begun) (sym is.born) gone.1)
 
 -- ---- all that are kept
 
-stands_later : (a p : Parameters) (last later number : ℕ) (packets : Option (List Seen)) (st : Stage) → last ≤ later
-    → StageStands a p last number packets st → StageStands a p later number packets st
-stands_later a p last later number None st past stands = stands
-stands_later a p last later number (Some seen) st past stands = (stands.0, up_later 0 last later seen stands.1 past)
+stands_later : (how : Way) (a p : Parameters) (last later number : ℕ) (packets : Option (List Seen)) (st : Stage) → last ≤ later
+    → StageStands how a p last number packets st → StageStands how a p later number packets st
+stands_later how a p last later number None st past stands = stands
+stands_later how a p last later number (Some seen) st past stands = (stands.0, up_later 0 last later seen stands.1 past)
 
-is_later : (a p : Parameters) (last later : ℕ) (flow : Flow) (one : Connection) → last ≤ later → IsOne a p last flow one → IsOne a p later flow one
-is_later a p last later flow one past is = record {
+is_later : (how : Way) (a p : Parameters) (last later : ℕ) (flow : Flow) (one : Connection) → last ≤ later → IsOne how a p last flow one → IsOne how a p later flow one
+is_later how a p last later flow one past is = record {
   syn = is.syn;
   born = is.born;
-  stands = stands_later a p last later one.number one.packets flow.stage past is.stands;
+  stands = stands_later how a p last later one.number one.packets flow.stage past is.stands;
 }
 
-same_later : (a p : Parameters) (last later : ℕ) (flows : List (Pair × Flow)) (ones : List (Pair × Connection)) → last ≤ later
-    → AreSame a p last flows ones → AreSame a p later flows ones
-same_later a p last later [] [] past same = tt
-same_later a p last later [] (one ∷ ones) past same = absurd same
-same_later a p last later (flow ∷ flows) [] past same = absurd same
-same_later a p last later (flow ∷ flows) (one ∷ ones) past same =
-    (same.0, is_later a p last later flow.1 one.1 past same.1, same_later a p last later flows ones past same.2)
+same_later : (how : Way) (a p : Parameters) (last later : ℕ) (flows : List (Pair × Flow)) (ones : List (Pair × Connection)) → last ≤ later
+    → AreSame how a p last flows ones → AreSame how a p later flows ones
+same_later how a p last later [] [] past same = tt
+same_later how a p last later [] (one ∷ ones) past same = absurd same
+same_later how a p last later (flow ∷ flows) [] past same = absurd same
+same_later how a p last later (flow ∷ flows) (one ∷ ones) past same =
+    (same.0, is_later how a p last later flow.1 one.1 past same.1, same_later how a p last later flows ones past same.2)
 
 -- the one of a pair, or none
-abbrev pub AreBoth : Parameters → Parameters → ℕ → Option Flow → Option Connection → Type 0
-AreBoth a p last None None = Unit {0}
-AreBoth a p last None (Some one) = ⊥
-AreBoth a p last (Some flow) None = ⊥
-AreBoth a p last (Some flow) (Some one) = IsOne a p last flow one
+abbrev pub AreBoth : Way → Parameters → Parameters → ℕ → Option Flow → Option Connection → Type 0
+AreBoth how a p last None None = Unit {0}
+AreBoth how a p last None (Some one) = ⊥
+AreBoth how a p last (Some flow) None = ⊥
+AreBoth how a p last (Some flow) (Some one) = IsOne how a p last flow one
 
-same_lookup : (a p : Parameters) (last : ℕ) (test : Pair → Bool) (flows : List (Pair × Flow)) (ones : List (Pair × Connection))
-    → AreSame a p last flows ones → AreBoth a p last (lookup test flows) (lookup test ones)
-same_lookup a p last test [] [] same = tt
-same_lookup a p last test [] (one ∷ ones) same = absurd same
-same_lookup a p last test (flow ∷ flows) [] same = absurd same
-same_lookup a p last test (flow ∷ flows) (one ∷ ones) same =
-    subst (λ (q : Pair). AreBoth a p last (cond (test flow.0) (Some flow.1) (lookup test flows)) (cond (test q) (Some one.1) (lookup test ones)))
-    (sym same.0) (by_test (test flow.0) (same_lookup a p last test flows ones same.2))
+same_lookup : (how : Way) (a p : Parameters) (last : ℕ) (test : Pair → Bool) (flows : List (Pair × Flow)) (ones : List (Pair × Connection))
+    → AreSame how a p last flows ones → AreBoth how a p last (lookup test flows) (lookup test ones)
+same_lookup how a p last test [] [] same = tt
+same_lookup how a p last test [] (one ∷ ones) same = absurd same
+same_lookup how a p last test (flow ∷ flows) [] same = absurd same
+same_lookup how a p last test (flow ∷ flows) (one ∷ ones) same =
+    subst (λ (q : Pair). AreBoth how a p last (cond (test flow.0) (Some flow.1) (lookup test flows)) (cond (test q) (Some one.1) (lookup test ones)))
+    (sym same.0) (by_test (test flow.0) (same_lookup how a p last test flows ones same.2))
   where
-    by_test : (b : Bool) → AreBoth a p last (lookup test flows) (lookup test ones)
-        → AreBoth a p last (cond b (Some flow.1) (lookup test flows)) (cond b (Some one.1) (lookup test ones))
+    by_test : (b : Bool) → AreBoth how a p last (lookup test flows) (lookup test ones)
+        → AreBoth how a p last (cond b (Some flow.1) (lookup test flows)) (cond b (Some one.1) (lookup test ones))
     by_test true rest = same.1
     by_test false rest = rest
 
-same_set : (a p : Parameters) (last : ℕ) (test : Pair → Bool) (flows : List (Pair × Flow)) (ones : List (Pair × Connection)) (flow : Flow) (one : Connection)
-    → AreSame a p last flows ones → IsOne a p last flow one → AreSame a p last (set_value test flows flow) (set_value test ones one)
-same_set a p last test [] [] new now same is = tt
-same_set a p last test [] (one ∷ ones) new now same is = absurd same
-same_set a p last test (flow ∷ flows) [] new now same is = absurd same
-same_set a p last test (flow ∷ flows) (one ∷ ones) new now same is =
-    subst (λ (q : Pair). AreSame a p last (cond (test flow.0) ((flow.0, new) ∷ flows) (flow ∷ set_value test flows new))
+same_set : (how : Way) (a p : Parameters) (last : ℕ) (test : Pair → Bool) (flows : List (Pair × Flow)) (ones : List (Pair × Connection)) (flow : Flow) (one : Connection)
+    → AreSame how a p last flows ones → IsOne how a p last flow one → AreSame how a p last (set_value test flows flow) (set_value test ones one)
+same_set how a p last test [] [] new now same is = tt
+same_set how a p last test [] (one ∷ ones) new now same is = absurd same
+same_set how a p last test (flow ∷ flows) [] new now same is = absurd same
+same_set how a p last test (flow ∷ flows) (one ∷ ones) new now same is =
+    subst (λ (q : Pair). AreSame how a p last (cond (test flow.0) ((flow.0, new) ∷ flows) (flow ∷ set_value test flows new))
     (cond (test q) ((one.0, now) ∷ ones) (one ∷ set_value test ones now)))
-    (sym same.0) (by_test (test flow.0) (same_set a p last test flows ones new now same.2 is))
+    (sym same.0) (by_test (test flow.0) (same_set how a p last test flows ones new now same.2 is))
   where
-    by_test : (b : Bool) → AreSame a p last (set_value test flows new) (set_value test ones now)
-        → AreSame a p last (cond b ((flow.0, new) ∷ flows) (flow ∷ set_value test flows new)) (cond b ((one.0, now) ∷ ones) (one ∷ set_value test ones now))
+    by_test : (b : Bool) → AreSame how a p last (set_value test flows new) (set_value test ones now)
+        → AreSame how a p last (cond b ((flow.0, new) ∷ flows) (flow ∷ set_value test flows new)) (cond b ((one.0, now) ∷ ones) (one ∷ set_value test ones now))
     by_test true rest = (same.0, is, same.2)
     by_test false rest = (same.0, same.1, rest)
 
-same_removed : (a p : Parameters) (last : ℕ) (test : Pair → Bool) (flows : List (Pair × Flow)) (ones : List (Pair × Connection))
-    → AreSame a p last flows ones → AreSame a p last (remove_entry test flows) (remove_entry test ones)
-same_removed a p last test [] [] same = tt
-same_removed a p last test [] (one ∷ ones) same = absurd same
-same_removed a p last test (flow ∷ flows) [] same = absurd same
-same_removed a p last test (flow ∷ flows) (one ∷ ones) same =
-    subst (λ (q : Pair). AreSame a p last (cond (test flow.0) flows (flow ∷ remove_entry test flows)) (cond (test q) ones (one ∷ remove_entry test ones)))
-    (sym same.0) (by_test (test flow.0) (same_removed a p last test flows ones same.2))
+same_removed : (how : Way) (a p : Parameters) (last : ℕ) (test : Pair → Bool) (flows : List (Pair × Flow)) (ones : List (Pair × Connection))
+    → AreSame how a p last flows ones → AreSame how a p last (remove_entry test flows) (remove_entry test ones)
+same_removed how a p last test [] [] same = tt
+same_removed how a p last test [] (one ∷ ones) same = absurd same
+same_removed how a p last test (flow ∷ flows) [] same = absurd same
+same_removed how a p last test (flow ∷ flows) (one ∷ ones) same =
+    subst (λ (q : Pair). AreSame how a p last (cond (test flow.0) flows (flow ∷ remove_entry test flows)) (cond (test q) ones (one ∷ remove_entry test ones)))
+    (sym same.0) (by_test (test flow.0) (same_removed how a p last test flows ones same.2))
   where
-    by_test : (b : Bool) → AreSame a p last (remove_entry test flows) (remove_entry test ones)
-        → AreSame a p last (cond b flows (flow ∷ remove_entry test flows)) (cond b ones (one ∷ remove_entry test ones))
+    by_test : (b : Bool) → AreSame how a p last (remove_entry test flows) (remove_entry test ones)
+        → AreSame how a p last (cond b flows (flow ∷ remove_entry test flows)) (cond b ones (one ∷ remove_entry test ones))
     by_test true rest = same.2
     by_test false rest = (same.0, same.1, rest)
 
-same_last : (a p : Parameters) (last : ℕ) (pair : Pair) (flows : List (Pair × Flow)) (ones : List (Pair × Connection)) (flow : Flow) (one : Connection)
-    → AreSame a p last flows ones → IsOne a p last flow one → AreSame a p last (flows ++ (pair, flow) ∷ []) (ones ++ (pair, one) ∷ [])
-same_last a p last pair [] [] new now same is = (refl, is, tt)
-same_last a p last pair [] (one ∷ ones) new now same is = absurd same
-same_last a p last pair (flow ∷ flows) [] new now same is = absurd same
-same_last a p last pair (flow ∷ flows) (one ∷ ones) new now same is = (same.0, same.1, same_last a p last pair flows ones new now same.2 is)
+same_last : (how : Way) (a p : Parameters) (last : ℕ) (pair : Pair) (flows : List (Pair × Flow)) (ones : List (Pair × Connection)) (flow : Flow) (one : Connection)
+    → AreSame how a p last flows ones → IsOne how a p last flow one → AreSame how a p last (flows ++ (pair, flow) ∷ []) (ones ++ (pair, one) ∷ [])
+same_last how a p last pair [] [] new now same is = (refl, is, tt)
+same_last how a p last pair [] (one ∷ ones) new now same is = absurd same
+same_last how a p last pair (flow ∷ flows) [] new now same is = absurd same
+same_last how a p last pair (flow ∷ flows) (one ∷ ones) new now same is = (same.0, same.1, same_last how a p last pair flows ones new now same.2 is)
 
-same_left : (a p : Parameters) (last begun : ℕ) (flows kept : List (Pair × Flow)) (ones : List (Pair × Connection))
-    → AreSame a p last flows ones → LeavesOut (λ (flow : Flow). IsForgotten flow begun) flows kept
-    → (rest : List (Pair × Connection)) × LeavesOut (λ (one : Connection). IsGone one begun) ones rest × AreSame a p last kept rest
-same_left a p last begun [] kept [] same left = ([], refl, subst (λ (fs : List (Pair × Flow)). AreSame a p last fs []) (sym left) tt)
-same_left a p last begun [] kept (one ∷ ones) same left = absurd same
-same_left a p last begun (flow ∷ flows) kept [] same left = absurd same
-same_left a p last begun (flow ∷ flows) kept (one ∷ ones) same left =
-    let more = same_left a p last begun flows left.0 ones same.2 left.1 in
+same_left : (how : Way) (a p : Parameters) (last begun : ℕ) (flows kept : List (Pair × Flow)) (ones : List (Pair × Connection))
+    → AreSame how a p last flows ones → LeavesOut (λ (flow : Flow). IsForgotten flow begun) flows kept
+    → (rest : List (Pair × Connection)) × LeavesOut (λ (one : Connection). IsGone one begun) ones rest × AreSame how a p last kept rest
+same_left how a p last begun [] kept [] same left = ([], refl, subst (λ (fs : List (Pair × Flow)). AreSame how a p last fs []) (sym left) tt)
+same_left how a p last begun [] kept (one ∷ ones) same left = absurd same
+same_left how a p last begun (flow ∷ flows) kept [] same left = absurd same
+same_left how a p last begun (flow ∷ flows) kept (one ∷ ones) same left =
+    let more = same_left how a p last begun flows left.0 ones same.2 left.1 in
     elim left.2 [
       | inl gone ↦ (
         more.0,
-        (more.0, more.1, inl (forgotten_gone a p last begun flow.1 one.1 same.1 gone.0, refl)),
-        subst (λ (fs : List (Pair × Flow)). AreSame a p last fs more.0) (sym gone.1) more.2,
+        (more.0, more.1, inl (forgotten_gone how a p last begun flow.1 one.1 same.1 gone.0, refl)),
+        subst (λ (fs : List (Pair × Flow)). AreSame how a p last fs more.0) (sym gone.1) more.2,
       )
       | inr stays ↦ (
         one ∷ more.0,
-        (more.0, more.1, inr ((λ gone. stays.0 (gone_forgotten a p last begun flow.1 one.1 same.1 gone)), refl)),
-        subst (λ (fs : List (Pair × Flow)). AreSame a p last fs (one ∷ more.0)) (sym stays.1) (same.0, same.1, more.2),
+        (more.0, more.1, inr ((λ gone. stays.0 (gone_forgotten how a p last begun flow.1 one.1 same.1 gone)), refl)),
+        subst (λ (fs : List (Pair × Flow)). AreSame how a p last fs (one ∷ more.0)) (sym stays.1) (same.0, same.1, more.2),
       )
     ]
 
-same_kept : (a p : Parameters) (last begun : ℕ) (flows kept : List (Pair × Flow)) (ones : List (Pair × Connection))
-    → AreSame a p last flows ones → KeepsOf IsForgotten begun flows kept
-    → (rest : List (Pair × Connection)) × KeepsOf IsGone begun ones rest × AreSame a p last kept rest
-same_kept a p last begun flows kept ones same keeps = by_count (begun % 4096 == 0) keeps
+same_kept : (how : Way) (a p : Parameters) (last begun : ℕ) (flows kept : List (Pair × Flow)) (ones : List (Pair × Connection))
+    → AreSame how a p last flows ones → KeepsOf IsForgotten begun flows kept
+    → (rest : List (Pair × Connection)) × KeepsOf IsGone begun ones rest × AreSame how a p last kept rest
+same_kept how a p last begun flows kept ones same keeps = by_count (begun % 4096 == 0) keeps
   where
     by_count : (b : Bool) → KeepsIf b (λ (flow : Flow). IsForgotten flow begun) flows kept
-        → (rest : List (Pair × Connection)) × KeepsIf b (λ (one : Connection). IsGone one begun) ones rest × AreSame a p last kept rest
-    by_count true left = same_left a p last begun flows kept ones same left
-    by_count false all = (ones, refl, subst (λ (fs : List (Pair × Flow)). AreSame a p last fs ones) (sym all) same)
+        → (rest : List (Pair × Connection)) × KeepsIf b (λ (one : Connection). IsGone one begun) ones rest × AreSame how a p last kept rest
+    by_count true left = same_left how a p last begun flows kept ones same left
+    by_count false all = (ones, refl, subst (λ (fs : List (Pair × Flow)). AreSame how a p last fs ones) (sym all) same)
 
 -- ---- the table
 
-pub report_then : (a p : Parameters) (old new : Report) → IsReport a p old → Tells old new → IsReport a p new
+pub report_then : (how : Way) (a p : Parameters) (old new : Report) → IsReport how a p old → Tells old new → IsReport how a p new
 unfolding Tells
-report_then a p old new is tells =
-    let told = tells is.verdicts in record { verdicts = told.1.manner; active = told.1.active ∙ is.active; passive = told.1.passive ∙ is.passive }
+report_then to_verdicts a p old new is tells =
+    let told = tells.0 is.manner_is in record { manner_is = told.1.manner; active = told.1.active ∙ is.active; passive = told.1.passive ∙ is.passive }
+report_then (to_log settings side) a p old new is tells =
+    let kept = tells.1 is.manner_is.0 is.manner_is.1 in record {
+      manner_is = (kept.0, kept.1, kept.2 ∙ is.manner_is.2, kept.3 ∙ is.manner_is.3);
+      active = kept.4 ∙ is.active;
+      passive = kept.5 ∙ is.passive;
+    }
 
 -- only the connections change
-moved : (port : ℕ) (peer : Option IpAddr) (a p : Parameters) (last later : ℕ) (old new : Table) (all next : Connections) → IsTable port peer a p last old all
-    → new ≡ record old { flows = new.flows } → next.begun ≡ all.begun → AreSame a p later new.flows.entries next.known → IsTable port peer a p later new next
-moved port peer a p last later old new all next is only count same = record {
+moved : (port : ℕ) (peer : Option IpAddr) (how : Way) (a p : Parameters) (last later : ℕ) (old new : Table) (all next : Connections) → IsTable port peer how a p last old all
+    → new ≡ record old { flows = new.flows } → next.begun ≡ all.begun → AreSame how a p later new.flows.entries next.known → IsTable port peer how a p later new next
+moved port peer how a p last later old new all next is only count same = record {
   port_is = ap (λ (t : Table). t.port) only ∙ is.port_is;
   peer_is = ap (λ (t : Table). t.peer) only ∙ is.peer_is;
   joined = ap (λ (t : Table). t.is_joined) only ∙ is.joined;
@@ -272,131 +359,131 @@ moved port peer a p last later old new all next is only count same = record {
   same = same;
 }
 
-both_of : (port : ℕ) (peer : Option IpAddr) (a p : Parameters) (last : ℕ) (table : Table) (all : Connections) (pair : Pair) → IsTable port peer a p last table all
-    → AreBoth a p last (flow_of table pair) (connection_of all pair)
-both_of port peer a p last table all pair is = same_lookup a p last ((same_pair.ghosts).eq pair) table.flows.entries all.known is.same
+pub both_of : (port : ℕ) (peer : Option IpAddr) (how : Way) (a p : Parameters) (last : ℕ) (table : Table) (all : Connections) (pair : Pair) → IsTable port peer how a p last table all
+    → AreBoth how a p last (flow_of table pair) (connection_of all pair)
+both_of port peer how a p last table all pair is = same_lookup how a p last ((same_pair.ghosts).eq pair) table.flows.entries all.known is.same
 
-has_flow : (port : ℕ) (peer : Option IpAddr) (a p : Parameters) (last : ℕ) (table : Table) (all : Connections) (pair : Pair) (IsSo : Connection → Type 0) (Is : Flow → Type 0)
-    → IsTable port peer a p last table all → ((flow : Flow) (one : Connection) → IsOne a p last flow one → IsSo one → Is flow) → Has all pair IsSo → HasFlow table pair Is
-has_flow port peer a p last table all pair IsSo Is is so has =
+has_flow : (port : ℕ) (peer : Option IpAddr) (how : Way) (a p : Parameters) (last : ℕ) (table : Table) (all : Connections) (pair : Pair) (IsSo : Connection → Type 0) (Is : Flow → Type 0)
+    → IsTable port peer how a p last table all → ((flow : Flow) (one : Connection) → IsOne how a p last flow one → IsSo one → Is flow) → Has all pair IsSo → HasFlow table pair Is
+has_flow port peer how a p last table all pair IsSo Is is so has =
     by_flow (flow_of table pair) refl
-    (subst (λ (c : Option Connection). AreBoth a p last (flow_of table pair) c) has.1 (both_of port peer a p last table all pair is))
+    (subst (λ (c : Option Connection). AreBoth how a p last (flow_of table pair) c) has.1 (both_of port peer how a p last table all pair is))
   where
-    by_flow : (f : Option Flow) → flow_of table pair ≡ f → AreBoth a p last f (Some has.0) → HasFlow table pair Is
+    by_flow : (f : Option Flow) → flow_of table pair ≡ f → AreBoth how a p last f (Some has.0) → HasFlow table pair Is
     by_flow None at both = absurd both
     by_flow (Some flow) at both = (
       flow,
       at,
-      (λ gone. has.2 (subst (λ (n : ℕ). IsGone has.0 n) (sym is.begun) (forgotten_gone a p last table.begun flow has.0 both gone))),
+      (λ gone. has.2 (subst (λ (n : ℕ). IsGone has.0 n) (sym is.begun) (forgotten_gone how a p last table.begun flow has.0 both gone))),
       so flow has.0 both has.3,
     )
 
-flow_has : (port : ℕ) (peer : Option IpAddr) (a p : Parameters) (last : ℕ) (table : Table) (all : Connections) (pair : Pair) (IsSo : Connection → Type 0) (Is : Flow → Type 0)
-    → IsTable port peer a p last table all → ((flow : Flow) (one : Connection) → IsOne a p last flow one → Is flow → IsSo one) → HasFlow table pair Is → Has all pair IsSo
-flow_has port peer a p last table all pair IsSo Is is so has =
+flow_has : (port : ℕ) (peer : Option IpAddr) (how : Way) (a p : Parameters) (last : ℕ) (table : Table) (all : Connections) (pair : Pair) (IsSo : Connection → Type 0) (Is : Flow → Type 0)
+    → IsTable port peer how a p last table all → ((flow : Flow) (one : Connection) → IsOne how a p last flow one → Is flow → IsSo one) → HasFlow table pair Is → Has all pair IsSo
+flow_has port peer how a p last table all pair IsSo Is is so has =
     by_one (connection_of all pair) refl
-    (subst (λ (f : Option Flow). AreBoth a p last f (connection_of all pair)) has.1 (both_of port peer a p last table all pair is))
+    (subst (λ (f : Option Flow). AreBoth how a p last f (connection_of all pair)) has.1 (both_of port peer how a p last table all pair is))
   where
-    by_one : (c : Option Connection) → connection_of all pair ≡ c → AreBoth a p last (Some has.0) c → Has all pair IsSo
+    by_one : (c : Option Connection) → connection_of all pair ≡ c → AreBoth how a p last (Some has.0) c → Has all pair IsSo
     by_one None at both = absurd both
     by_one (Some one) at both = (
       one,
       at,
-      (λ gone. has.2 (gone_forgotten a p last table.begun has.0 one both (subst (λ (n : ℕ). IsGone one n) is.begun gone))),
+      (λ gone. has.2 (gone_forgotten how a p last table.begun has.0 one both (subst (λ (n : ℕ). IsGone one n) is.begun gone))),
       so has.0 one both has.3,
     )
 
 -- ---- a packet of a pair
 
-follows_by : (port : ℕ) (peer : Option IpAddr) (last : ℕ) (pair : Pair) (s : Seen) (old new : Table) (before after : Report) (all : Connections) (f : Option Flow) (c : Option Connection)
-    → before.manner ≡ Verdicts → IsTable port peer before.active before.passive last old all → last < s.packet → AreBoth before.active before.passive last f c
+follows_by : (port : ℕ) (peer : Option IpAddr) (how : Way) (last : ℕ) (pair : Pair) (s : Seen) (old new : Table) (before after : Report) (all : Connections) (f : Option Flow) (c : Option Connection)
+    → TellsTo how before.manner → IsTable port peer how before.active before.passive last old all → last < s.packet → AreBoth how before.active before.passive last f c
     → FollowsBy f pair s old new before after
-    → (next : Connections) × GoesBy c before.active before.passive pair s all next before after × IsTable port peer before.active before.passive s.packet new next
-follows_by port peer last pair s old new before after all None None verdicts is past both follows = (
+    → (next : Connections) × GoesBy c before.active before.passive pair s all next before after × IsTable port peer how before.active before.passive s.packet new next
+follows_by port peer how last pair s old new before after all None None manner is past both follows = (
   all,
   (refl, follows.1),
-  subst (λ (t : Table). IsTable port peer before.active before.passive s.packet t all) (sym follows.0)
-      (moved port peer before.active before.passive last s.packet old old all all is refl refl
-      (same_later before.active before.passive last s.packet old.flows.entries all.known (omega arith) is.same)),
+  subst (λ (t : Table). IsTable port peer how before.active before.passive s.packet t all) (sym follows.0)
+      (moved port peer how before.active before.passive last s.packet old old all all is refl refl
+      (same_later how before.active before.passive last s.packet old.flows.entries all.known (omega arith) is.same)),
 )
-follows_by port peer last pair s old new before after all None (Some one) verdicts is past both follows = absurd both
-follows_by port peer last pair s old new before after all (Some flow) None verdicts is past both follows = absurd both
-follows_by port peer last pair s old new before after all (Some flow) (Some one) verdicts is past both follows =
-    let goes = stage_takes pair one.number last s one.packets flow.stage follows.0 flow.syn before after verdicts both.syn past both.stands follows.3 in
-    let then : IsOne before.active before.passive s.packet (record flow { stage = follows.0 }) (record one { packets = goes.0 }) =
+follows_by port peer how last pair s old new before after all None (Some one) manner is past both follows = absurd both
+follows_by port peer how last pair s old new before after all (Some flow) None manner is past both follows = absurd both
+follows_by port peer how last pair s old new before after all (Some flow) (Some one) manner is past both follows =
+    let goes = stage_takes how pair one.number last s one.packets flow.stage follows.0 flow.syn before after manner both.syn past both.stands (follows.3, follows.4) in
+    let then : IsOne how before.active before.passive s.packet (record flow { stage = follows.0 }) (record one { packets = goes.0 }) =
     record { syn = both.syn; born = both.born; stands = goes.2 } in
     let known = set_value ((same_pair.ghosts).eq pair) all.known (record one { packets = goes.0 }) in (
       record all { known = known },
       (goes.0, refl, goes.1),
-      moved port peer before.active before.passive last s.packet old new all (record all { known = known }) is follows.1 refl
-          (subst (λ (fs : List (Pair × Flow)). AreSame before.active before.passive s.packet fs known) (sym follows.2.0)
-          (same_set before.active before.passive s.packet ((same_pair.ghosts).eq pair) old.flows.entries all.known (record flow { stage = follows.0 })
+      moved port peer how before.active before.passive last s.packet old new all (record all { known = known }) is follows.1 refl
+          (subst (λ (fs : List (Pair × Flow)). AreSame how before.active before.passive s.packet fs known) (sym follows.2.0)
+          (same_set how before.active before.passive s.packet ((same_pair.ghosts).eq pair) old.flows.entries all.known (record flow { stage = follows.0 })
           (record one { packets = goes.0 })
-          (same_later before.active before.passive last s.packet old.flows.entries all.known (omega arith) is.same) then)),
+          (same_later how before.active before.passive last s.packet old.flows.entries all.known (omega arith) is.same) then)),
     )
 
-abbrev FollowsAs : ℕ → Option IpAddr → ℕ → Pair → Seen → Table → Table → Report → Report → Connections → Parameters → Parameters → Type 0
-FollowsAs port peer last pair s old new before after all a p =
-    IsTable port peer a p last old all
-    → (next : Connections) × GoesOn a p pair s all next before after × IsTable port peer a p s.packet new next
+abbrev FollowsAs : ℕ → Option IpAddr → Way → ℕ → Pair → Seen → Table → Table → Report → Report → Connections → Parameters → Parameters → Type 0
+FollowsAs port peer how last pair s old new before after all a p =
+    IsTable port peer how a p last old all
+    → (next : Connections) × GoesOn a p pair s all next before after × IsTable port peer how a p s.packet new next
 
-follows : (port : ℕ) (peer : Option IpAddr) (a p : Parameters) (last : ℕ) (pair : Pair) (s : Seen) (old new : Table) (before after : Report) (all : Connections)
-    → IsReport a p before → last < s.packet → FollowsFlow pair s old new before after → FollowsAs port peer last pair s old new before after all a p
-follows port peer a p last pair s old new before after all report past goes =
-    subst (λ (x : Parameters). FollowsAs port peer last pair s old new before after all a x) report.passive
-    (subst (λ (x : Parameters). FollowsAs port peer last pair s old new before after all x before.passive) report.active
-    (λ is. follows_by port peer last pair s old new before after all (flow_of old pair) (connection_of all pair) report.verdicts is past
-    (both_of port peer before.active before.passive last old all pair is) goes))
+follows : (port : ℕ) (peer : Option IpAddr) (how : Way) (a p : Parameters) (last : ℕ) (pair : Pair) (s : Seen) (old new : Table) (before after : Report) (all : Connections)
+    → IsReport how a p before → last < s.packet → FollowsFlow pair s old new before after → FollowsAs port peer how last pair s old new before after all a p
+follows port peer how a p last pair s old new before after all report past goes =
+    subst (λ (x : Parameters). FollowsAs port peer how last pair s old new before after all a x) report.passive
+    (subst (λ (x : Parameters). FollowsAs port peer how last pair s old new before after all x before.passive) report.active
+    (λ is. follows_by port peer how last pair s old new before after all (flow_of old pair) (connection_of all pair) report.manner_is is past
+    (both_of port peer how before.active before.passive last old all pair is) goes))
 
 -- ---- one begins
 
-ends_before : (last : ℕ) (pair : Pair) (before after : Report) (f : Option Flow) (c : Option Connection) → before.manner ≡ Verdicts
-    → AreBoth before.active before.passive last f c → EndsBefore f pair before after → IsReplaced before.active before.passive pair c before after
-ends_before last pair before after None None verdicts both ends = ends
-ends_before last pair before after None (Some one) verdicts both ends = absurd both
-ends_before last pair before after (Some flow) None verdicts both ends = absurd both
-ends_before last pair before after (Some flow) (Some one) verdicts both ends =
-    stage_ends pair one.number last true None one.packets flow.stage before after verdicts both.stands ends
+ends_before : (how : Way) (last : ℕ) (pair : Pair) (before after : Report) (f : Option Flow) (c : Option Connection) → TellsTo how before.manner
+    → AreBoth how before.active before.passive last f c → EndsBefore f pair before after → IsReplaced before.active before.passive pair c before after
+ends_before how last pair before after None None manner both ends = ends
+ends_before how last pair before after None (Some one) manner both ends = absurd both
+ends_before how last pair before after (Some flow) None manner both ends = absurd both
+ends_before how last pair before after (Some flow) (Some one) manner both ends =
+    stage_ends how pair one.number last true None one.packets flow.stage before after manner both.stands ends
 
-begun_one : (a p : Parameters) (last number born : ℕ) (flow : Flow) → IsBegun (Some number) born flow → IsOne a p last flow (starting number born)
-begun_one a p last number born flow begun = record {
+begun_one : (how : Way) (a p : Parameters) (last number born : ℕ) (flow : Flow) → IsBegun (Some number) born flow → IsOne how a p last flow (starting number born)
+begun_one how a p last number born flow begun = record {
   syn = ap (λ (f : Flow). f.syn) begun.1;
   born = ap (λ (f : Flow). f.born) begun.1;
-  stands = subst (λ (st : Stage). StageStands a p last number (Some []) st) (sym (ap (λ (f : Flow). f.stage) begun.1))
+  stands = subst (λ (st : Stage). StageStands how a p last number (Some []) st) (sym (ap (λ (f : Flow). f.stage) begun.1))
       ((ap (λ (ws : List Waiting). map seen_waiting ws) begun.2, refl, omega arith), omega arith);
 }
 
-abbrev ReplacesAs : ℕ → Option IpAddr → ℕ → Pair → Table → Table → Report → Report → Connections → Parameters → Parameters → Type 0
-ReplacesAs port peer last pair old new before after all a p =
-    IsTable port peer a p last old all
-    → IsReplaced a p pair (connection_of all pair) before after × IsTable port peer a p last new (without pair all)
+abbrev ReplacesAs : ℕ → Option IpAddr → Way → ℕ → Pair → Table → Table → Report → Report → Connections → Parameters → Parameters → Type 0
+ReplacesAs port peer how last pair old new before after all a p =
+    IsTable port peer how a p last old all
+    → IsReplaced a p pair (connection_of all pair) before after × IsTable port peer how a p last new (without pair all)
 
-replaces : (port : ℕ) (peer : Option IpAddr) (a p : Parameters) (last : ℕ) (pair : Pair) (old new : Table) (before after : Report) (all : Connections)
-    → IsReport a p before → ReplacesFlow pair old new before after → ReplacesAs port peer last pair old new before after all a p
-replaces port peer a p last pair old new before after all report goes =
-    subst (λ (x : Parameters). ReplacesAs port peer last pair old new before after all a x) report.passive
-    (subst (λ (x : Parameters). ReplacesAs port peer last pair old new before after all x before.passive) report.active at_report)
+pub replaces : (port : ℕ) (peer : Option IpAddr) (how : Way) (a p : Parameters) (last : ℕ) (pair : Pair) (old new : Table) (before after : Report) (all : Connections)
+    → IsReport how a p before → ReplacesFlow pair old new before after → ReplacesAs port peer how last pair old new before after all a p
+replaces port peer how a p last pair old new before after all report goes =
+    subst (λ (x : Parameters). ReplacesAs port peer how last pair old new before after all a x) report.passive
+    (subst (λ (x : Parameters). ReplacesAs port peer how last pair old new before after all x before.passive) report.active at_report)
   where
-    at_report : ReplacesAs port peer last pair old new before after all before.active before.passive
+    at_report : ReplacesAs port peer how last pair old new before after all before.active before.passive
     at_report is = (
-      ends_before last pair before after (flow_of old pair) (connection_of all pair) report.verdicts
-          (both_of port peer before.active before.passive last old all pair is) goes.ended,
-      moved port peer before.active before.passive last last old new all (without pair all) is goes.same refl
-          (subst (λ (fs : List (Pair × Flow)). AreSame before.active before.passive last fs (without pair all).known) (sym goes.known)
-          (same_removed before.active before.passive last ((same_pair.ghosts).eq pair) old.flows.entries all.known is.same)),
+      ends_before how last pair before after (flow_of old pair) (connection_of all pair) report.manner_is
+          (both_of port peer how before.active before.passive last old all pair is) goes.ended,
+      moved port peer how before.active before.passive last last old new all (without pair all) is goes.same refl
+          (subst (λ (fs : List (Pair × Flow)). AreSame how before.active before.passive last fs (without pair all).known) (sym goes.known)
+          (same_removed how before.active before.passive last ((same_pair.ghosts).eq pair) old.flows.entries all.known is.same)),
     )
 
-begins : (port : ℕ) (peer : Option IpAddr) (a p : Parameters) (last : ℕ) (pair : Pair) (number : ℕ) (old new : Table) (before after : Report) (all : Connections)
-    → IsReport a p before → BeginsFlow pair (Some number) old new before after → IsTable port peer a p last old all
-    → (next : Connections) × StartsOne a p pair number all next before after × IsTable port peer a p last new next
-begins port peer a p last pair number old new before after all report goes is =
-    let first = replaces port peer a p last (turned pair) old goes.between before goes.mid all report goes.of_other is in
-    let second = replaces port peer a p last pair goes.between goes.free goes.mid after (without (turned pair) all)
-    (report_then a p before goes.mid report goes.of_other.told) goes.of_pair first.1 in
+pub begins : (port : ℕ) (peer : Option IpAddr) (how : Way) (a p : Parameters) (last : ℕ) (pair : Pair) (number : ℕ) (old new : Table) (before after : Report) (all : Connections)
+    → IsReport how a p before → BeginsFlow pair (Some number) old new before after → IsTable port peer how a p last old all
+    → (next : Connections) × StartsOne a p pair number all next before after × IsTable port peer how a p last new next
+begins port peer how a p last pair number old new before after all report goes is =
+    let first = replaces port peer how a p last (turned pair) old goes.between before goes.mid all report goes.of_other is in
+    let second = replaces port peer how a p last pair goes.between goes.free goes.mid after (without (turned pair) all)
+    (report_then how a p before goes.mid report goes.of_other.told) goes.of_pair first.1 in
     let left = without pair (without (turned pair) all) in
-    let same = same_last a p last pair goes.free.flows.entries left.known goes.flow (starting number all.begun) second.1.same
-    (subst (λ (n : ℕ). IsOne a p last goes.flow (starting number n)) (sym is.begun) (begun_one a p last number old.begun goes.flow goes.begun)) in
-    let kept = same_kept a p last new.begun (goes.free.flows.entries ++ (pair, goes.flow) ∷ []) new.flows.entries
+    let same = same_last how a p last pair goes.free.flows.entries left.known goes.flow (starting number all.begun) second.1.same
+    (subst (λ (n : ℕ). IsOne how a p last goes.flow (starting number n)) (sym is.begun) (begun_one how a p last number old.begun goes.flow goes.begun)) in
+    let kept = same_kept how a p last new.begun (goes.free.flows.entries ++ (pair, goes.flow) ∷ []) new.flows.entries
     (left.known ++ (pair, starting number all.begun) ∷ []) same goes.known in (
       record { known = kept.0; begun = new.begun },
       record {
@@ -417,107 +504,107 @@ begins port peer a p last pair number old new before after all report goes is =
 
 -- ---- a packet of the capture
 
-one_number : (a p : Parameters) (last number : ℕ) (flow : Flow) (one : Connection) → IsOne a p last flow one → flow.syn ≡ Some number → one.number ≡ number
-one_number a p last number flow one is syn = some_same (sym is.syn ∙ syn)
+one_number : (how : Way) (a p : Parameters) (last number : ℕ) (flow : Flow) (one : Connection) → IsOne how a p last flow one → flow.syn ≡ Some number → one.number ≡ number
+one_number how a p last number flow one is syn = some_same (sym is.syn ∙ syn)
   where
     some_same : Some one.number ≡ Some number → one.number ≡ number
     some_same is = cc
 
-starts : (port : ℕ) (peer : Option IpAddr) (a p : Parameters) (last : ℕ) (pair : Pair) (from : Side) (segment : Segment) (number : ℕ) (table : Table) (all : Connections)
-    → IsTable port peer a p last table all → BeginsWith table pair from segment (Some number) → Starts all pair from segment number
-starts port peer a p last pair from segment number table all is begins = (
+pub starts : (port : ℕ) (peer : Option IpAddr) (how : Way) (a p : Parameters) (last : ℕ) (pair : Pair) (from : Side) (segment : Segment) (number : ℕ) (table : Table) (all : Connections)
+    → IsTable port peer how a p last table all → BeginsWith table pair from segment (Some number) → Starts all pair from segment number
+starts port peer how a p last pair from segment number table all is begins = (
   begins.0,
-  λ has. begins.1 (has_flow port peer a p last table all pair (λ one. one.number ≡ number) (λ flow. flow.syn ≡ Some number) is
+  λ has. begins.1 (has_flow port peer how a p last table all pair (λ one. one.number ≡ number) (λ flow. flow.syn ≡ Some number) is
       (λ flow one both same. both.syn ∙ ap Some same) has),
 )
 
-begins_with : (port : ℕ) (peer : Option IpAddr) (a p : Parameters) (last : ℕ) (pair : Pair) (from : Side) (segment : Segment) (number : ℕ) (table : Table) (all : Connections)
-    → IsTable port peer a p last table all → Starts all pair from segment number → BeginsWith table pair from segment (Some number)
-begins_with port peer a p last pair from segment number table all is starts = (
+begins_with : (port : ℕ) (peer : Option IpAddr) (how : Way) (a p : Parameters) (last : ℕ) (pair : Pair) (from : Side) (segment : Segment) (number : ℕ) (table : Table) (all : Connections)
+    → IsTable port peer how a p last table all → Starts all pair from segment number → BeginsWith table pair from segment (Some number)
+begins_with port peer how a p last pair from segment number table all is starts = (
   starts.0,
-  λ has. starts.1 (flow_has port peer a p last table all pair (λ one. one.number ≡ number) (λ flow. flow.syn ≡ Some number) is
-      (λ flow one both same. one_number a p last number flow one both same) has),
+  λ has. starts.1 (flow_has port peer how a p last table all pair (λ one. one.number ≡ number) (λ flow. flow.syn ≡ Some number) is
+      (λ flow one both same. one_number how a p last number flow one both same) has),
 )
 
-never_joins : (table : Table) → table.is_joined ≡ false → table.is_joined ≡ true → ⊥
+pub never_joins : (table : Table) → table.is_joined ≡ false → table.is_joined ≡ true → ⊥
 never_joins table no_is yes_is = absurd_bool (sym no_is ∙ yes_is)
   where
     absurd_bool : false ≡ true → ⊥
     absurd_bool is = cc
 
 -- it begins one where the definition says so
-any_begins : (port : ℕ) (peer : Option IpAddr) (a p : Parameters) (last : ℕ) (pair : Pair) (from : Side) (segment : Segment) (table : Table) (all : Connections)
-    → IsTable port peer a p last table all → Begins table pair from segment → StartsAny all pair from segment
-any_begins port peer a p last pair from segment table all is begins = by_syn begins.0 begins.1
+any_begins : (port : ℕ) (peer : Option IpAddr) (how : Way) (a p : Parameters) (last : ℕ) (pair : Pair) (from : Side) (segment : Segment) (table : Table) (all : Connections)
+    → IsTable port peer how a p last table all → Begins table pair from segment → StartsAny all pair from segment
+any_begins port peer how a p last pair from segment table all is begins = by_syn begins.0 begins.1
   where
     by_syn : (syn : Option ℕ) → BeginsWith table pair from segment syn → StartsAny all pair from segment
     by_syn None joins = absurd (never_joins table is.joined joins.0)
-    by_syn (Some number) with_it = (number, starts port peer a p last pair from segment number table all is with_it)
+    by_syn (Some number) with_it = (number, starts port peer how a p last pair from segment number table all is with_it)
 
-none_starts : (port : ℕ) (peer : Option IpAddr) (a p : Parameters) (last : ℕ) (pair : Pair) (from : Side) (segment : Segment) (table : Table) (all : Connections)
-    → IsTable port peer a p last table all → (Begins table pair from segment → ⊥) → StartsAny all pair from segment → ⊥
-none_starts port peer a p last pair from segment table all is none any =
-    none (Some any.0, begins_with port peer a p last pair from segment any.0 table all is any.1)
+pub none_starts : (port : ℕ) (peer : Option IpAddr) (how : Way) (a p : Parameters) (last : ℕ) (pair : Pair) (from : Side) (segment : Segment) (table : Table) (all : Connections)
+    → IsTable port peer how a p last table all → (Begins table pair from segment → ⊥) → StartsAny all pair from segment → ⊥
+none_starts port peer how a p last pair from segment table all is none any =
+    none (Some any.0, begins_with port peer how a p last pair from segment any.0 table all is any.1)
 
-is_open : (port : ℕ) (peer : Option IpAddr) (a p : Parameters) (last : ℕ) (pair : Pair) (table : Table) (all : Connections)
-    → IsTable port peer a p last table all → IsFollowed table pair → IsOpen all pair
-is_open port peer a p last pair table all is followed =
-    flow_has port peer a p last table all pair (λ one. is_some one.packets ≡ true) (λ flow. is_live flow.stage ≡ true) is
-    (λ flow one both live. live_some a p last one.number one.packets flow.stage both.stands live) followed
+pub is_open : (port : ℕ) (peer : Option IpAddr) (how : Way) (a p : Parameters) (last : ℕ) (pair : Pair) (table : Table) (all : Connections)
+    → IsTable port peer how a p last table all → IsFollowed table pair → IsOpen all pair
+is_open port peer how a p last pair table all is followed =
+    flow_has port peer how a p last table all pair (λ one. is_some one.packets ≡ true) (λ flow. is_live flow.stage ≡ true) is
+    (λ flow one both live. live_some how a p last one.number one.packets flow.stage both.stands live) followed
 
-is_followed : (port : ℕ) (peer : Option IpAddr) (a p : Parameters) (last : ℕ) (pair : Pair) (table : Table) (all : Connections)
-    → IsTable port peer a p last table all → IsOpen all pair → IsFollowed table pair
-is_followed port peer a p last pair table all is opened =
-    has_flow port peer a p last table all pair (λ one. is_some one.packets ≡ true) (λ flow. is_live flow.stage ≡ true) is
-    (λ flow one both some. some_live a p last one.number one.packets flow.stage both.stands some) opened
+is_followed : (port : ℕ) (peer : Option IpAddr) (how : Way) (a p : Parameters) (last : ℕ) (pair : Pair) (table : Table) (all : Connections)
+    → IsTable port peer how a p last table all → IsOpen all pair → IsFollowed table pair
+is_followed port peer how a p last pair table all is opened =
+    has_flow port peer how a p last table all pair (λ one. is_some one.packets ≡ true) (λ flow. is_live flow.stage ≡ true) is
+    (λ flow one both some. some_live how a p last one.number one.packets flow.stage both.stands some) opened
 
-deals : (port : ℕ) (peer : Option IpAddr) (a p : Parameters) (last : ℕ) (pair : Pair) (from : Side) (segment : Segment) (s : Seen) (old new : Table) (before after : Report)
-    (all : Connections) → IsReport a p before → last < s.packet → IsTable port peer a p last old all → TakesIt pair from segment s old new before after
-    → (next : Connections) × Deals a p pair from segment s all next before after × IsTable port peer a p s.packet new next
-deals port peer a p last pair from segment s old new before after all report past is takes =
+deals : (port : ℕ) (peer : Option IpAddr) (how : Way) (a p : Parameters) (last : ℕ) (pair : Pair) (from : Side) (segment : Segment) (s : Seen) (old new : Table) (before after : Report)
+    (all : Connections) → IsReport how a p before → last < s.packet → IsTable port peer how a p last old all → TakesIt pair from segment s old new before after
+    → (next : Connections) × Deals a p pair from segment s all next before after × IsTable port peer how a p s.packet new next
+deals port peer how a p last pair from segment s old new before after all report past is takes =
     elim takes [
       | inl begun ↦ by_syn begun.0 begun.1 begun.2 begun.3 begun.4 begun.5
       | inr goes ↦
-          let on = follows port peer a p last pair s old new before after all report past goes.2 is in (
+          let on = follows port peer how a p last pair s old new before after all report past goes.2 is in (
             on.0,
-            inr (none_starts port peer a p last pair from segment old all is goes.0, is_open port peer a p last pair old all is goes.1, on.1),
+            inr (none_starts port peer how a p last pair from segment old all is goes.0, is_open port peer how a p last pair old all is goes.1, on.1),
             on.2,
           )
     ]
   where
     by_syn : (syn : Option ℕ) (begun : Table) (ended : Report) → BeginsWith old pair from segment syn → BeginsFlow pair syn old begun before ended
         → FollowsFlow pair s begun new ended after
-        → (next : Connections) × Deals a p pair from segment s all next before after × IsTable port peer a p s.packet new next
+        → (next : Connections) × Deals a p pair from segment s all next before after × IsTable port peer how a p s.packet new next
     by_syn None begun ended joins begins_it goes = absurd (never_joins old is.joined joins.0)
     by_syn (Some number) begun ended with_it begins_it goes =
-        let one = begins port peer a p last pair number old begun before ended all report begins_it is in
-        let on = follows port peer a p last pair s begun new ended after one.0 (report_then a p begins_it.mid ended (report_then a p before begins_it.mid report begins_it.of_other.told) begins_it.of_pair.told) past goes one.2 in (
+        let one = begins port peer how a p last pair number old begun before ended all report begins_it is in
+        let on = follows port peer how a p last pair s begun new ended after one.0 (report_then how a p begins_it.mid ended (report_then how a p before begins_it.mid report begins_it.of_other.told) begins_it.of_pair.told) past goes one.2 in (
           on.0,
-          inl (number, one.0, ended, starts port peer a p last pair from segment number old all is with_it, one.1, on.1),
+          inl (number, one.0, ended, starts port peer how a p last pair from segment number old all is with_it, one.1, on.1),
           on.2,
         )
 
 -- those that are kept with nothing taken
-pub later : (port : ℕ) (peer : Option IpAddr) (a p : Parameters) (last packet : ℕ) (old new : Table) (all : Connections) → IsTable port peer a p last old all
-    → last ≤ packet → new ≡ old → IsTable port peer a p packet new all
-later port peer a p last packet old new all is past same =
-    subst (λ (t : Table). IsTable port peer a p packet t all) (sym same)
-    (moved port peer a p last packet old old all all is refl refl (same_later a p last packet old.flows.entries all.known past is.same))
+pub later : (port : ℕ) (peer : Option IpAddr) (how : Way) (a p : Parameters) (last packet : ℕ) (old new : Table) (all : Connections) → IsTable port peer how a p last old all
+    → last ≤ packet → new ≡ old → IsTable port peer how a p packet new all
+later port peer how a p last packet old new all is past same =
+    subst (λ (t : Table). IsTable port peer how a p packet t all) (sym same)
+    (moved port peer how a p last packet old old all all is refl refl (same_later how a p last packet old.flows.entries all.known past is.same))
 
-deals_of : (port : ℕ) (peer : Option IpAddr) (a p : Parameters) (last : ℕ) (pair : Pair) (from : Side) (segment : Segment) (capture : Capture) (missing : Option Shortfall)
-    (old new : Table) (before after : Report) (all : Connections) → IsReport a p before → last < capture.packet → IsTable port peer a p last old all
+deals_of : (port : ℕ) (peer : Option IpAddr) (how : Way) (a p : Parameters) (last : ℕ) (pair : Pair) (from : Side) (segment : Segment) (capture : Capture) (missing : Option Shortfall)
+    (old new : Table) (before after : Report) (all : Connections) → IsReport how a p before → last < capture.packet → IsTable port peer how a p last old all
     → TakesOf pair from segment capture missing old new before after
-    → (next : Connections) × DealsOf a p pair from segment (captured_of capture) missing all next before after × IsTable port peer a p capture.packet new next
-deals_of port peer a p last pair from segment capture missing old new before after all report past is takes =
+    → (next : Connections) × DealsOf a p pair from segment (captured_of capture) missing all next before after × IsTable port peer how a p capture.packet new next
+deals_of port peer how a p last pair from segment capture missing old new before after all report past is takes =
     elim takes [
       | inl dealt ↦
-          let on = deals port peer a p last pair from segment (seen_by from segment capture dealt.1) old new before after all report past is dealt.3 in
+          let on = deals port peer how a p last pair from segment (seen_by from segment capture dealt.1) old new before after all report past is dealt.3 in
           (on.0, inl (dealt.0, dealt.1, dealt.2, on.1), on.2)
       | inr rest ↦ elim rest [
         | inl untimed ↦ (
           all,
           inr (inl (untimed.0, refl, untimed.2, untimed.3, would untimed.4)),
-          later port peer a p last capture.packet old new all is (omega arith) untimed.1,
+          later port peer how a p last capture.packet old new all is (omega arith) untimed.1,
         )
         | inr passed ↦ (
           all,
@@ -525,40 +612,40 @@ deals_of port peer a p last pair from segment capture missing old new before aft
             passed.0,
             refl,
             passed.2,
-            none_starts port peer a p last pair from segment old all is passed.3,
-            (λ opened. passed.4 (is_followed port peer a p last pair old all is opened)),
+            none_starts port peer how a p last pair from segment old all is passed.3,
+            (λ opened. passed.4 (is_followed port peer how a p last pair old all is opened)),
           )),
-          later port peer a p last capture.packet old new all is (omega arith) passed.1,
+          later port peer how a p last capture.packet old new all is (omega arith) passed.1,
         )
       ]
     ]
   where
     would : Begins old pair from segment ⊎ IsFollowed old pair → StartsAny all pair from segment ⊎ IsOpen all pair
     would either = elim either [
-      | inl one ↦ inl (any_begins port peer a p last pair from segment old all is one)
-      | inr followed ↦ inr (is_open port peer a p last pair old all is followed)
+      | inl one ↦ inl (any_begins port peer how a p last pair from segment old all is one)
+      | inr followed ↦ inr (is_open port peer how a p last pair old all is followed)
     ]
 
 -- which pair has one
-both_some : (a p : Parameters) (last : ℕ) (f : Option Flow) (c : Option Connection) → AreBoth a p last f c → is_some f ≡ is_some c
-both_some a p last None None both = refl
-both_some a p last None (Some one) both = absurd both
-both_some a p last (Some flow) None both = absurd both
-both_some a p last (Some flow) (Some one) both = refl
+both_some : (how : Way) (a p : Parameters) (last : ℕ) (f : Option Flow) (c : Option Connection) → AreBoth how a p last f c → is_some f ≡ is_some c
+both_some how a p last None None both = refl
+both_some how a p last None (Some one) both = absurd both
+both_some how a p last (Some flow) None both = absurd both
+both_some how a p last (Some flow) (Some one) both = refl
 
-pair_same : (port : ℕ) (peer : Option IpAddr) (a p : Parameters) (last : ℕ) (table : Table) (all : Connections) (segment : Segment) → IsTable port peer a p last table all
+pub pair_same : (port : ℕ) (peer : Option IpAddr) (how : Way) (a p : Parameters) (last : ℕ) (table : Table) (all : Connections) (segment : Segment) → IsTable port peer how a p last table all
     → pair_at table.port table.flows segment ≡ pair_in port all segment
-pair_same port peer a p last table all segment is =
+pair_same port peer how a p last table all segment is =
     ap (λ (n : ℕ). pair_at n table.flows segment) is.port_is ∙ (λ i. option_map (pair_among (λ q. has q i)) (pairs_at port segment))
   where
     has : (q : Pair) → has_flow_of table.flows q ≡ has_one all q
-    has q = both_some a p last (flow_of table q) (connection_of all q) (both_of port peer a p last table all q is)
+    has q = both_some how a p last (flow_of table q) (connection_of all q) (both_of port peer how a p last table all q is)
 
-pub deals_packet : (port : ℕ) (peer : Option IpAddr) (a p : Parameters) (last : ℕ) (segment : Segment) (capture : Capture) (missing : Option Shortfall)
-    (old new : Table) (before after : Report) (all : Connections) → IsReport a p before → last < capture.packet → IsTable port peer a p last old all
+pub deals_packet : (port : ℕ) (peer : Option IpAddr) (how : Way) (a p : Parameters) (last : ℕ) (segment : Segment) (capture : Capture) (missing : Option Shortfall)
+    (old new : Table) (before after : Report) (all : Connections) → IsReport how a p before → last < capture.packet → IsTable port peer how a p last old all
     → TakesPacket segment capture missing old new before after
-    → (next : Connections) × DealsPacket port peer a p segment (captured_of capture) missing all next before after × IsTable port peer a p capture.packet new next
-deals_packet port peer a p last segment capture missing old new before after all report past is takes = by_found takes.0 takes.1 takes.2
+    → (next : Connections) × DealsPacket port peer a p segment (captured_of capture) missing all next before after × IsTable port peer how a p capture.packet new next
+deals_packet port peer how a p last segment capture missing old new before after all report past is takes = by_found takes.0 takes.1 takes.2
   where
     not_looked : (r : Option (Pair × Side)) → IfSome r (λ found. IsOfPeer peer found.0 → ⊥) → missing ≡ None → after ≡ before
         → DealsBy peer r a p segment (captured_of capture) missing all all before after
@@ -566,20 +653,20 @@ deals_packet port peer a p last segment capture missing old new before after all
     not_looked (Some found) none missing_is same = inr (none, missing_is, refl, same)
 
     by_found : (found : Option (Pair × Side)) → LooksAt old segment found → TakesBy found segment capture missing old new before after
-        → (next : Connections) × DealsPacket port peer a p segment (captured_of capture) missing all next before after × IsTable port peer a p capture.packet new next
+        → (next : Connections) × DealsPacket port peer a p segment (captured_of capture) missing all next before after × IsTable port peer how a p capture.packet new next
     by_found None none passed = (
       all,
       not_looked (pair_in port all segment)
           (subst (λ (x : Option IpAddr). IfSome (pair_in port all segment) (λ found. IsOfPeer x found.0 → ⊥)) is.peer_is
-          (subst (λ (r : Option (Pair × Side)). IfSome r (λ found. IsOfPeer old.peer found.0 → ⊥)) (pair_same port peer a p last old all segment is) none))
+          (subst (λ (r : Option (Pair × Side)). IfSome r (λ found. IsOfPeer old.peer found.0 → ⊥)) (pair_same port peer how a p last old all segment is) none))
           passed.0 passed.2,
-      later port peer a p last capture.packet old new all is (omega arith) passed.1,
+      later port peer how a p last capture.packet old new all is (omega arith) passed.1,
     )
     by_found (Some found) looks dealt =
-        let on = deals_of port peer a p last found.0 found.1 segment capture missing old new before after all report past is dealt in (
+        let on = deals_of port peer how a p last found.0 found.1 segment capture missing old new before after all report past is dealt in (
           on.0,
           subst (λ (r : Option (Pair × Side)). DealsBy peer r a p segment (captured_of capture) missing all on.0 before after)
-              (sym looks.0 ∙ pair_same port peer a p last old all segment is)
+              (sym looks.0 ∙ pair_same port peer how a p last old all segment is)
               (inl (subst (λ (x : Option IpAddr). IsOfPeer x found.0) is.peer_is looks.1, on.1)),
           on.2,
         )
@@ -588,26 +675,26 @@ deals_packet port peer a p last segment capture missing old new before after all
 pub found_deals : {E : Type 0} (result : Result (Option Shortfall) E) (pair : Pair) (from : Side) (segment : Segment) (capture : Capture) (old new : Table) (before after : Report)
     → LooksAt old segment (Some (pair, from)) → IfOk result (λ missing. TakesOf pair from segment capture missing old new before after)
     → IfOk result (λ missing. TakesAsDealt segment capture missing old new before after)
-found_deals (Ok missing) pair from segment capture old new before after looks takes = λ port peer a p last all report past is.
-    deals_packet port peer a p last segment capture missing old new before after all report past is (Some (pair, from), looks, takes)
+found_deals (Ok missing) pair from segment capture old new before after looks takes = λ port peer how a p last all report past is.
+    deals_packet port peer how a p last segment capture missing old new before after all report past is (Some (pair, from), looks, takes)
 found_deals (Err stop) pair from segment capture old new before after looks takes = tt
 
 -- ---- no packet follows
 
-pub ends_all : (a p : Parameters) (last : ℕ) (missing : Option Shortfall) (flows : List (Pair × Flow)) (ones : List (Pair × Connection)) (old new : Report)
-    → IsReport a p old → AreSame a p last flows ones → EndsFlows missing flows old new → EndsAll a p missing ones old new
-ends_all a p last missing [] [] old new report same ends = ends
-ends_all a p last missing [] (one ∷ ones) old new report same ends = absurd same
-ends_all a p last missing (flow ∷ flows) [] old new report same ends = absurd same
-ends_all a p last missing ((pair, flow) ∷ flows) ((other, one) ∷ ones) old new report same ends = (
+pub ends_all : (how : Way) (a p : Parameters) (last : ℕ) (missing : Option Shortfall) (flows : List (Pair × Flow)) (ones : List (Pair × Connection)) (old new : Report)
+    → IsReport how a p old → AreSame how a p last flows ones → EndsFlows missing flows old new → EndsAll a p missing ones old new
+ends_all how a p last missing [] [] old new report same ends = ends
+ends_all how a p last missing [] (one ∷ ones) old new report same ends = absurd same
+ends_all how a p last missing (flow ∷ flows) [] old new report same ends = absurd same
+ends_all how a p last missing ((pair, flow) ∷ flows) ((other, one) ∷ ones) old new report same ends = (
   ends.0,
   subst (λ (q : Pair). EndsWith a p q false missing one.number one.packets old ends.0) (sym same.0) by_report,
-  ends_all a p last missing flows ones ends.0 new (report_then a p old ends.0 report ends.1) same.2 ends.3,
+  ends_all how a p last missing flows ones ends.0 new (report_then how a p old ends.0 report ends.1) same.2 ends.4,
 )
   where
     by_report : EndsWith a p pair false missing one.number one.packets old ends.0
     by_report =
-        subst (λ (x : Parameters). StageStands a x last one.number one.packets flow.stage → EndsWith a x pair false missing one.number one.packets old ends.0) report.passive
-        (subst (λ (x : Parameters). StageStands x old.passive last one.number one.packets flow.stage
+        subst (λ (x : Parameters). StageStands how a x last one.number one.packets flow.stage → EndsWith a x pair false missing one.number one.packets old ends.0) report.passive
+        (subst (λ (x : Parameters). StageStands how x old.passive last one.number one.packets flow.stage
         → EndsWith x old.passive pair false missing one.number one.packets old ends.0) report.active
-        (λ stands. stage_ends pair one.number last false missing one.packets flow.stage old ends.0 report.verdicts stands ends.2)) same.1.stands
+        (λ stands. stage_ends how pair one.number last false missing one.packets flow.stage old ends.0 report.manner_is stands (ends.2, ends.3))) same.1.stands

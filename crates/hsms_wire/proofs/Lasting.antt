@@ -28,11 +28,11 @@ use Rattle.hsms_wire.proofs.Logging.{entries_of}
 
 -- ---- entries at some packets
 
-each_front : (P : ℕ → Type 0) (xs ys : List Entry) → EachEntry P (xs ++ ys) → EachEntry P xs
+pub each_front : (P : ℕ → Type 0) (xs ys : List Entry) → EachEntry P (xs ++ ys) → EachEntry P xs
 each_front P [] ys h = tt
 each_front P (x ∷ xs) ys h = (h.0, each_front P xs ys h.1)
 
-weaken : (P Q : ℕ → Type 0) (es : List Entry) → ((n : ℕ) → P n → Q n) → EachEntry P es → EachEntry Q es
+pub weaken : (P Q : ℕ → Type 0) (es : List Entry) → ((n : ℕ) → P n → Q n) → EachEntry P es → EachEntry Q es
 weaken P Q [] f h = tt
 weaken P Q (e ∷ es) f h = (f e.packet h.0, weaken P Q es f h.1)
 
@@ -47,15 +47,15 @@ each_logged P hears (e ∷ es) h = by_heard (hears e) (each_logged P hears es h.
 
 -- ---- packets behind them
 
-numbered_lower : (m n : ℕ) (ss : List Seen) → m < n → AreNumbered n ss → AreNumbered m ss
+pub numbered_lower : (m n : ℕ) (ss : List Seen) → m < n → AreNumbered n ss → AreNumbered m ss
 numbered_lower m n [] lt h = tt
 numbered_lower m n (s ∷ ss) lt h = (omega (arith, lt, h.0), h.1)
 
-numbered_behind : (last : ℕ) (xs ys : List Seen) → AreNumbered last (xs ++ ys) → AreNumbered last ys
+pub numbered_behind : (last : ℕ) (xs ys : List Seen) → AreNumbered last (xs ++ ys) → AreNumbered last ys
 numbered_behind last [] ys h = h
 numbered_behind last (x ∷ xs) ys h = numbered_lower last x.packet ys h.0 (numbered_behind x.packet xs ys h.1)
 
-numbered_at : (last n : ℕ) (seen later : List Seen) → AreNumbered last (seen ++ later) → list_any (λ s. nat_eq s.packet n) seen ≡ true → AreNumbered n later
+pub numbered_at : (last n : ℕ) (seen later : List Seen) → AreNumbered last (seen ++ later) → list_any (λ s. nat_eq s.packet n) seen ≡ true → AreNumbered n later
 numbered_at last n [] later h e = absurd cc
 numbered_at last n (s ∷ ss) later h e = by_test (nat_eq s.packet n) refl e (numbered_at s.packet n ss later h.1)
   where

@@ -150,7 +150,7 @@ event_same side happens.Up logs is = is
 event_same side (happens.Message from octets) logs is = (is.0, is.1, is.2 ∙ ap (λ (s : Side). event_of side s is.0) (side_back from))
 event_same side happens.Down logs is = is
 
-record_same : (time : ℕ → ℕ) (bare : List ℕ) (side : Side) (before : ℕ) (h : Happening) (note : Note) → h.time ≡ time h.packet
+pub record_same : (time : ℕ → ℕ) (bare : List ℕ) (side : Side) (before : ℕ) (h : Happening) (note : Note) → h.time ≡ time h.packet
     → Records before side (timed_by bare h) note → EntryIs (clock_by time bare before (entry_as h)) side (entry_as h) note
 record_same time bare side before h note is r = record {
   logs = r.entry;
@@ -160,7 +160,7 @@ record_same time bare side before h note is r = record {
   event_is = event_same side h.event r.entry.event r.event;
 }
 
-clock_same : (time : ℕ → ℕ) (bare : List ℕ) (before : ℕ) (h : Happening) → h.time ≡ time h.packet
+pub clock_same : (time : ℕ → ℕ) (bare : List ℕ) (before : ℕ) (h : Happening) → h.time ≡ time h.packet
     → max before (timed_by bare h).time ≡ clock_by time bare before (entry_as h)
 clock_same time bare before h is =
     ap (λ (t : ℕ). max before t) (ap (λ (t : ℕ). time_by h.event (is_among bare h.packet) t) is ∙ moment_same h.event (is_among bare h.packet) (time h.packet))

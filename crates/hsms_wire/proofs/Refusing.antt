@@ -17,14 +17,15 @@ use Rattle.hsms_wire.specs.declared.table.Table.{Table}
 use Rattle.hsms_wire.specs.Capturing.{IsMissingBy}
 use Rattle.hsms_wire.specs.Connections.{EndsAll}
 use Rattle.hsms_wire.specs.Dealt.{CapturesFile}
-use Rattle.hsms_wire.specs.Kept.{ConcludesAsDealt, EndsAsDealt, FinishesAsDealt, IsReportOf, wanted_of}
+use Rattle.hsms_wire.specs.Kept.{ConcludesAsDealt, EndsAsDealt, FinishesAsDealt, IsReportOf, TellsTo, wanted_of}
 use Rattle.hsms_wire.specs.LeftOut.{line_of}
-use Rattle.hsms_wire.specs.Report.{Answers, FailsUnrefused, Finishes, Found, StopsUnrefused, Writes, found_of, missing_after}
+use Rattle.hsms_wire.specs.Report.{Answers, Concludes, EndsWith, FailsUnrefused, Finishes, Found, StopsUnrefused, Writes, found_of, missing_after}
 use Rattle.hsms_wire.specs.Stop.{IsRefusal, IsRefused, TellsStop}
+use Rattle.hsms_wire.proofs.Tellings.{ends_with}
 
 -- ---- what is no refusal
 
-none_refused : (st : Stop) → IsNoRefusal st → IsRefused st → ⊥
+pub none_refused : (st : Stop) → IsNoRefusal st → IsRefused st → ⊥
 none_refused (stop.Refused words) none refused = none
 none_refused stop.Endless none refused = refused
 none_refused stop.Memory none refused = refused
@@ -45,7 +46,7 @@ err_holds (Ok done) P holds = tt
 err_holds (Err st) P holds = λ refused. holds
 
 -- a refusal is told as one, and nothing else is
-told_refused : (st : Stop) (fault : ToolFault) → TellsStop st fault → IsRefusal fault → IsRefused st
+pub told_refused : (st : Stop) (fault : ToolFault) → TellsStop st fault → IsRefusal fault → IsRefused st
 told_refused (stop.Refused words) fault tells refusal = tt
 told_refused stop.Endless (tool.Device word) tells refusal = refusal
 told_refused stop.Endless (tool.Refused words) tells refusal = tells
@@ -81,10 +82,10 @@ missing_fails fault count report tool.Memory missing = λ verdicts refusal. refu
 
 -- nothing is refused where what is left is told
 pub left_refuses : (missing : Option Shortfall) (table : Table) (old noted new : Report) (st : Stop) → noted ≡ record old { shortfall = missing_after old.shortfall missing }
-    → StopsUnrefused noted st → IsRefused st → ConcludesAsDealt missing table old new (Err st)
+    → StopsUnrefused noted st → IsRefused st → old.manner ≡ Verdicts → ConcludesAsDealt missing table old new (Err st)
 unfolding StopsUnrefused
-left_refuses missing table old noted new st is stops refused = λ w last all report kept.
-    let none : ⊥ = none_refused st (stops (ap (λ (r : Report). r.manner) is ∙ report.verdicts)) refused in absurd none
+left_refuses missing table old noted new st is stops refused verdicts = λ w last all report kept.
+    let none : ⊥ = none_refused st (stops (ap (λ (r : Report). r.manner) is ∙ verdicts)) refused in absurd none
 
 pub concludes_refused : (missing : Option Shortfall) (table : Table) (old noted mid new : Report) (result : Result Bool Stop)
     → noted ≡ record old { shortfall = missing_after old.shortfall missing } → EndsAsDealt missing table noted mid → Finishes (found_of mid) result
@@ -93,12 +94,12 @@ pub concludes_refused : (missing : Option Shortfall) (table : Table) (old noted 
 concludes_refused missing table old noted mid new (Ok well) is ends finishes page = tt
 concludes_refused missing table old noted mid new (Err st) is ends finishes page = λ refused w last all report kept.
     let of_noted : IsReportOf w noted = record {
-      verdicts = ap (λ (r : Report). r.manner) is ∙ report.verdicts;
+      manner_is = subst (TellsTo w.way) (sym (ap (λ (r : Report). r.manner) is)) report.manner_is;
       active = ap (λ (r : Report). r.active) is ∙ report.active;
       passive = ap (λ (r : Report). r.passive) is ∙ report.passive;
     } in (
       mid,
-      subst (λ (r : Report). EndsAll w.active w.passive missing all.known r mid) is (ends w.port w.peer w.active w.passive last all of_noted kept),
+      subst (λ (r : Report). EndsAll w.active w.passive missing all.known r mid) is (ends w.port w.peer w.way w.active w.passive last all of_noted kept),
       page refused,
       finishes,
     )
@@ -109,33 +110,41 @@ answers_refused found stop.Endless fault finishes tells refusal = absurd finishe
 answers_refused found stop.Memory fault finishes tells refusal = let none : ⊥ = subst IsRefusal tells refusal in absurd none
 
 pub finishes_refused : (missing : Option Shortfall) (table : Table) (old mid : Report) (out now : Option (List ℕ)) (st : Stop) (fault : ToolFault)
-    → (IsRefused st → ConcludesAsDealt missing table old mid (Err st)) → TellsStop st fault → Grows out now mid.page.octets
+    → ConcludesAsDealt missing table old mid (Err st) → TellsStop st fault → Grows out now mid.page.octets
     → IsRefusal fault → FinishesAsDealt missing table old out now (Err fault)
 finishes_refused missing table old mid out now st fault concludes tells grows refusal = λ w last all report kept.
-    let on = concludes (told_refused st fault tells refusal) w last all report kept in record {
+    let on = concludes w last all report kept in record {
       told = on.0;
       ends = on.1;
       written = subst (λ (os : List ℕ). Grows out now os) on.2 grows;
       answers = answers_refused (found_of on.0) st fault on.3 tells refusal;
     }
 
+-- nothing is refused where what is left is told
+pub left_told : (missing : Option Shortfall) (old noted new : Report) (st : Stop) → noted ≡ record old { shortfall = missing_after old.shortfall missing }
+    → StopsUnrefused noted st → IsRefused st → Concludes missing old new (Err st)
+unfolding StopsUnrefused
+left_told missing old noted new st is stops refused = λ verdicts.
+    let none : ⊥ = none_refused st (stops (ap (λ (r : Report). r.manner) is ∙ verdicts)) refused in absurd none
+
+pub ends_told : (missing : Option Shortfall) (old mid : Report) (out now : Option (List ℕ)) (st : Stop) (fault : ToolFault)
+    → (IsRefused st → Concludes missing old mid (Err st)) → TellsStop st fault → Grows out now mid.page.octets
+    → IsRefusal fault → EndsWith missing old out now (Err fault)
+ends_told missing old mid out now st fault concludes tells grows refusal =
+    ends_with missing old mid out now (Err st) (Err fault) (concludes (told_refused st fault tells refusal))
+    (λ found finishes. answers_refused found st fault finishes tells refusal) grows
+
 -- ---- of what is answered
 
 -- what is told of a file, where this is answered
-abbrev pub FileAs : Capturing → Type 0 → Option (List ℕ) → Option (List ℕ) → Option (List ℕ) → Result Bool ToolFault → Type 0
-FileAs options IsTold from out now answer = IsTold → options.joined ≡ false → WhereTold from (λ input. CapturesFile (wanted_of options) input out now answer)
+abbrev pub FileAs : Capturing → Option (List ℕ) → Option (List ℕ) → Option (List ℕ) → Result Bool ToolFault → Type 0
+FileAs options from out now answer = options.joined ≡ false → WhereTold from (λ input. CapturesFile (wanted_of options) input out now answer)
 
-pub ok_file : (result : Result Bool ToolFault) (options : Capturing) (IsTold : Type 0) (from out now : Option (List ℕ)) (F : Result Bool ToolFault → Type 0)
-    → ((answer : Result Bool ToolFault) → F answer → FileAs options IsTold from out now answer)
-    → IfOk result (λ well. F (Ok well)) → IfOk result (λ well. FileAs options IsTold from out now (Ok well))
-ok_file (Ok well) options IsTold from out now F then_so so = then_so (Ok well) so
-ok_file (Err fault) options IsTold from out now F then_so so = tt
-
-pub err_file : (result : Result Bool ToolFault) (options : Capturing) (IsTold : Type 0) (from out now : Option (List ℕ)) (F : Result Bool ToolFault → Type 0)
-    → ((answer : Result Bool ToolFault) → F answer → FileAs options IsTold from out now answer)
-    → IfErr result (λ fault. IsRefusal fault → F (Err fault)) → IfErr result (λ fault. IsRefusal fault → FileAs options IsTold from out now (Err fault))
-err_file (Ok well) options IsTold from out now F then_so so = tt
-err_file (Err fault) options IsTold from out now F then_so so = λ refusal. then_so (Err fault) (so refusal)
+pub ok_file : (result : Result Bool ToolFault) (options : Capturing) (from out now : Option (List ℕ)) (F : Result Bool ToolFault → Type 0)
+    → ((answer : Result Bool ToolFault) → F answer → FileAs options from out now answer)
+    → IfOk result (λ well. F (Ok well)) → IfOk result (λ well. FileAs options from out now (Ok well))
+ok_file (Ok well) options from out now F then_so so = then_so (Ok well) so
+ok_file (Err fault) options from out now F then_so so = tt
 
 pub fails_file : (report : Report) (fault : ToolFault) (IsTold C : Type 0) → (IsTold → report.manner ≡ Verdicts) → FailsUnrefused report fault
     → IsRefusal fault → IsTold → C

@@ -1,7 +1,7 @@
 -- A connection by the number of its SYN.
 use Rattle.std.proofs.Common.{◌≡◌, ◌+◌, ◌%◌, ◌^◌, ◌&&◌, ◌++◌, ◌∷◌, ℕ, Bool, true, false, cond, List, [], map, Option, Some, None, Vec, Global, inl, inr, refl, sym, ap, subst, ◌∙◌, append_assoc}
 use Rattle.std.proofs.lemmas.List.{append-nil}
-use Rattle.std.specs.Prelude.{Result, Ok, Err, IfOk, OnOk}
+use Rattle.std.specs.Prelude.{Result, Ok, Err, IfOk}
 use Rattle.hsms_machine.specs.Settings.{Parameters}
 use Rattle.hsms_capture.specs.declared.packet.Segment.{Segment}
 use Rattle.hsms_capture.specs.declared.packet.Side.{Side}
@@ -19,10 +19,12 @@ use Rattle.hsms_wire.specs.declared.flow.Waiting.{Waiting}
 use Rattle.hsms_wire.specs.declared.report.Manner.TheVariants.{Verdicts}
 use Rattle.hsms_wire.specs.declared.report.Report.{Report}
 use Rattle.hsms_wire.specs.declared.shortfall.Shortfall.{Shortfall}
-use Rattle.hsms_wire.specs.Followed.{BeginsWith, EndsOpen, Follows, FollowsThem, seen_waiting}
+use Rattle.hsms_wire.specs.Followed.{BeginsWith, Follows, FollowsThem, seen_waiting}
 use Rattle.hsms_wire.specs.Logged.{ToldForGood, ToldOf}
 use Rattle.hsms_wire.specs.Report.{Tells}
-use Rattle.hsms_wire.specs.Staged.{EndsBy, EndsFlows, EndsStage, OverBy, StageGoes, TakesStage, ToldUnanswered, WaitsOn, answered_by, answers, begins_with_syn, if_answered, is_answer, is_number, is_passive, stage_by}
+use Rattle.hsms_wire.specs.Paged.{EndsStageOnPage}
+use Rattle.hsms_wire.specs.Tabled.{EndsFlows}
+use Rattle.hsms_wire.specs.Staged.{EndsStage, OverBy, StageGoes, TakesStage, WaitsOn, answered_by, answers, begins_with_syn, if_answered, is_answer, is_number, is_passive, stage_by}
 
 -- ---- the SYN of the passive end
 
@@ -52,7 +54,7 @@ answered_more number (x ∷ xs) s none = by_answer (is_answer number x) none (an
     by_answer true none rest = absurd cc
     by_answer false none rest = rest none
 
-answered_kept : (number : ℕ) (xs : List Seen) (s : Seen) (other : ℕ) → answered_by number xs ≡ Some other → answered_by number (xs ++ s ∷ []) ≡ Some other
+pub answered_kept : (number : ℕ) (xs : List Seen) (s : Seen) (other : ℕ) → answered_by number xs ≡ Some other → answered_by number (xs ++ s ∷ []) ≡ Some other
 answered_kept number [] s other is = absurd cc
 answered_kept number (x ∷ xs) s other is = by_answer (is_answer number x) is (answered_kept number xs s other)
   where
@@ -62,20 +64,20 @@ answered_kept number (x ∷ xs) s other is = by_answer (is_answer number x) is (
     by_answer true is rest = is
     by_answer false is rest = rest is
 
-answered_now : (number : ℕ) (xs : List Seen) (s : Segment) (octets : List ℕ) (b : Bool) → answered_by number xs ≡ None → answers number s ≡ b
+pub answered_now : (number : ℕ) (xs : List Seen) (s : Segment) (octets : List ℕ) (b : Bool) → answered_by number xs ≡ None → answers number s ≡ b
     → answered_by number (xs ++ seen_of s octets ∷ []) ≡ cond b (Some s.number) None
 answered_now number xs s octets b none is =
     answered_more number xs (seen_of s octets) none ∙ ap (λ (c : Bool). cond c (Some s.number) None) (answer_same number s octets ∙ is)
 
 -- whether a segment is it
-is_answered : (number kept : ℕ) (s : Segment) → Some kept ≡ cond (answers number s) (Some number) None → (answers number s ≡ true) × (kept ≡ number)
+pub is_answered : (number kept : ℕ) (s : Segment) → Some kept ≡ cond (answers number s) (Some number) None → (answers number s ≡ true) × (kept ≡ number)
 is_answered number kept s is = by_answer (answers number s) refl is
   where
     by_answer : (b : Bool) → answers number s ≡ b → Some kept ≡ cond b (Some number) None → (answers number s ≡ true) × (kept ≡ number)
     by_answer true yes_is is = (yes_is, cc)
     by_answer false no_is is = absurd cc
 
-isnt_answered : (number : ℕ) (s : Segment) → None ≡ cond (answers number s) (Some number) None → answers number s ≡ false
+pub isnt_answered : (number : ℕ) (s : Segment) → None ≡ cond (answers number s) (Some number) None → answers number s ≡ false
 isnt_answered number s is = by_answer (answers number s) refl is
   where
     by_answer : (b : Bool) → answers number s ≡ b → None ≡ cond b (Some number) None → answers number s ≡ false
@@ -149,39 +151,31 @@ take_waits (Err stop) pair begins s octets waiting old new answered waits = tt
 
 -- ---- no segment follows
 
-pub end_open_stage : {E : Type 0} (result : Result (Unit {0}) E) (pair : Pair) (replaced : Bool) (missing : Option Shortfall) (o : Open) (old new : Report)
-    → OnOk result (EndsOpen pair replaced missing o old new) → OnOk result (EndsStage pair replaced missing (stage.Open o) old new)
-end_open_stage (Ok done) pair replaced missing o old new ends = λ verdicts number seen numbered st.
-    subst (λ (m : Option ℕ). EndsBy m old.active old.passive pair number seen replaced missing old new) (sym st.1)
-    (ends verdicts (bases number st.0) seen numbered st.2)
-end_open_stage (Err stop) pair replaced missing o old new ends = tt
-
-pub end_opening : {E : Type 0} (result : Result (Unit {0}) E) (pair : Pair) (replaced : Bool) (missing : Option Shortfall) (waiting : Vec Waiting Global) (old new : Report)
-    → OnOk result (old.manner ≡ Verdicts → ToldUnanswered pair (map seen_waiting waiting.items) old new)
-    → OnOk result (EndsStage pair replaced missing (stage.Opening waiting) old new)
-end_opening (Ok done) pair replaced missing waiting old new tells = λ verdicts number seen numbered st.
-    subst (λ (m : Option ℕ). EndsBy m old.active old.passive pair number seen replaced missing old new) (sym st.1)
-    (subst (λ (ss : List Seen). ToldUnanswered pair ss old new) st.0 (tells verdicts))
-end_opening (Err stop) pair replaced missing waiting old new tells = tt
-
 -- of one connection more
 pub flows_more : (missing : Option Shortfall) (flows : List (Pair × Flow)) (pair : Pair) (flow : Flow) (old mid new : Report) → EndsFlows missing flows old mid
-    → Tells mid new → EndsStage pair false missing flow.stage mid new → EndsFlows missing (flows ++ (pair, flow) ∷ []) old new
-flows_more missing [] pair flow old mid new before told ends =
-    (new, subst (λ (r : Report). Tells r new) before told, subst (λ (r : Report). EndsStage pair false missing flow.stage r new) before ends, refl)
-flows_more missing ((other, first) ∷ flows) pair flow old mid new before told ends =
-    (before.0, before.1, before.2, flows_more missing flows pair flow before.0 mid new before.3 told ends)
+    → Tells mid new → EndsStage pair false missing flow.stage mid new → EndsStageOnPage false missing flow.stage mid new
+    → EndsFlows missing (flows ++ (pair, flow) ∷ []) old new
+flows_more missing [] pair flow old mid new before told ends logs = (
+  new,
+  subst (λ (r : Report). Tells r new) before told,
+  subst (λ (r : Report). EndsStage pair false missing flow.stage r new) before ends,
+  subst (λ (r : Report). EndsStageOnPage false missing flow.stage r new) before logs,
+  refl,
+)
+flows_more missing ((other, first) ∷ flows) pair flow old mid new before told ends logs =
+    (before.0, before.1, before.2, before.3, flows_more missing flows pair flow before.0 mid new before.4 told ends logs)
 
 -- so far the first ones were told, and the others are left
 abbrev pub AreEnded : Option Shortfall → List (Pair × Flow) → List (Pair × Flow) → Report → Report → Type 0
 AreEnded missing all left old new = (done : List (Pair × Flow)) × (all ≡ done ++ left) × EndsFlows missing done old new
 
 pub flows_turn : (missing : Option Shortfall) (all left rest : List (Pair × Flow)) (pair : Pair) (flow : Flow) (old mid new : Report) → AreEnded missing all left old mid
-    → left ≡ (pair, flow) ∷ rest → Tells mid new → EndsStage pair false missing flow.stage mid new → AreEnded missing all rest old new
-flows_turn missing all left rest pair flow old mid new ended takes told ends = (
+    → left ≡ (pair, flow) ∷ rest → Tells mid new → EndsStage pair false missing flow.stage mid new → EndsStageOnPage false missing flow.stage mid new
+    → AreEnded missing all rest old new
+flows_turn missing all left rest pair flow old mid new ended takes told ends logs = (
   ended.0 ++ (pair, flow) ∷ [],
   ended.1 ∙ ap (λ (fs : List (Pair × Flow)). ended.0 ++ fs) takes ∙ sym (append_assoc ended.0 ((pair, flow) ∷ []) rest),
-  flows_more missing ended.0 pair flow old mid new ended.2 told ends,
+  flows_more missing ended.0 pair flow old mid new ended.2 told ends logs,
 )
 
 pub flows_ended : (missing : Option Shortfall) (all left : List (Pair × Flow)) (old new : Report) → AreEnded missing all left old new → left ≡ []

@@ -1,6 +1,6 @@
 -- Connections that are told, one after another.
 use Rattle.std.proofs.Common.{◌≡◌, ◌++◌, ℕ, Bool, true, List, [], ◌∷◌, Option, None, Some, refl, sym, ◌∙◌, ap, subst, append_assoc}
-use Rattle.std.specs.Prelude.{Result, Ok, Err, IfOk, OnOk}
+use Rattle.std.specs.Prelude.{Result, Ok, Err, IfErr, IfOk, OnOk}
 use Rattle.std.proofs.lemmas.List.{append-nil}
 use Rattle.std.proofs.lemmas.Grind.{flat_map-append}
 use Rattle.hsms_frame.specs.Device.{Grows}
@@ -10,20 +10,24 @@ use Rattle.hsms_options.specs.declared.fault.ToolFault.{ToolFault}
 use Rattle.hsms_accounts.specs.declared.ends.Ends.{Ends}
 use Rattle.hsms_accounts.specs.declared.journal.Journal.{Journal}
 use Rattle.hsms_accounts.specs.declared.pair.Pair.{Pair}
+use Rattle.hsms_accounts.specs.declared.text.Text.{Text}
 use Rattle.hsms_wire.specs.declared.report.Manner.TheVariants.{Verdicts, Log}
 use Rattle.hsms_wire.specs.declared.report.Report.{Report}
 use Rattle.hsms_wire.specs.declared.shortfall.Shortfall.{Shortfall}
 use Rattle.hsms_accounts.specs.declared.stop.Stop.{Stop}
 use Rattle.hsms_wire.specs.Capturing.{CapturesTo}
 use Rattle.hsms_wire.specs.LeftOut.{line_of}
-use Rattle.hsms_wire.specs.Report.{AnswersWell, Concludes, EndsWith, Finishes, Found, HasTold, IsTold, Telling, Tells, TellsBehind, TellsBy, TellsVerdicts, Writes, failed_after, found_after, found_behind, found_of, found_with, lines_of, missing_after, nothing_found, telling_lines}
+use Rattle.hsms_wire.specs.Stop.{IsRefusal, IsRefused}
+use Rattle.hsms_wire.specs.Report.{Answers, Concludes, EndsWith, Finishes, Found, HasTold, IsTold, Telling, Tells, TellsBehind, TellsBy, TellsVerdicts, Writes, failed_after, found_after, found_behind, found_of, found_with, lines_of, missing_after, nothing_found, telling_lines}
 
 -- ---- what is told
 
 pub tells_nothing : (old : Report) → Tells old old
 unfolding Tells
-tells_nothing old verdicts =
-    ([], record { page = sym (append-nil old.page.octets); found = refl; active = refl; passive = refl; manner = verdicts; left_out = refl })
+tells_nothing old = (
+  λ verdicts. ([], record { page = sym (append-nil old.page.octets); found = refl; active = refl; passive = refl; manner = verdicts; left_out = refl }),
+  λ j log. (j, log, refl, refl, refl, refl),
+)
 
 pub tells_behind : {T E : Type 0} (result : Result T E) (old new : Report) → OnOk result (Tells old new) → OnOk result (TellsBehind old new)
 tells_behind (Ok done) old new tells = (old.left_out, tells)
@@ -46,9 +50,9 @@ joined pa pb pc ra rp rb rq one two same_a same_p first second =
     ∙ append_assoc pa (lines_of ra rp one) (lines_of ra rp two)
     ∙ ap (λ l. pa ++ l) (sym (flat_map-append (telling_lines ra rp) one two))
 
-pub tells_then : (a b c : Report) → Tells a b → Tells b c → Tells a c
-unfolding Tells
-tells_then a b c first second verdicts =
+verdicts_then : (a b c : Report) → (a.manner ≡ Verdicts → (tellings : List Telling) × HasTold tellings a b)
+    → (b.manner ≡ Verdicts → (tellings : List Telling) × HasTold tellings b c) → a.manner ≡ Verdicts → (tellings : List Telling) × HasTold tellings a c
+verdicts_then a b c first second verdicts =
     let one = first verdicts in
     let two = second one.1.manner in (
       one.0 ++ two.0,
@@ -63,19 +67,38 @@ tells_then a b c first second verdicts =
       },
     )
 
+pub tells_then : (a b c : Report) → Tells a b → Tells b c → Tells a c
+unfolding Tells
+tells_then a b c first second = (
+  λ verdicts. verdicts_then a b c first.0 second.0 verdicts,
+  λ j log.
+      let one = first.1 j log in
+      let two = second.1 one.0 one.1 in
+      (two.0, two.1, two.2 ∙ one.2, two.3 ∙ one.3, two.4 ∙ one.4, two.5 ∙ one.5),
+)
+
 pub ok_then : {T E : Type 0} (result : Result T E) (a b c : Report) → Tells a b → OnOk result (Tells b c) → OnOk result (Tells a c)
 ok_then (Ok done) a b c first second = tells_then a b c first second
 ok_then (Err fault) a b c first second = second
 
 -- where the log of an end is told
-pub tells_log : (old new : Report) (journal : Journal) → old.manner ≡ Log journal → Tells old new
+pub log_tells : {T E : Type 0} (result : Result T E) (old new : Report) (journal next : Journal) (page : Text) → old.manner ≡ Log journal
+    → new ≡ record old { manner = Log next; page = page } → (next.settings ≡ journal.settings) × (next.side ≡ journal.side) → OnOk result (Tells old new)
 unfolding Tells
-tells_log old new journal is verdicts = let none : ⊥ = cc in absurd none
-
-pub log_tells : {T E : Type 0} (result : Result T E) (old new : Report) (journal : Journal) → old.manner ≡ Log journal
-    → OnOk result (Tells old new)
-log_tells (Ok done) old new journal is = tells_log old new journal is
-log_tells (Err fault) old new journal is = tt
+log_tells (Ok done) old new journal next page of is same = (
+  λ verdicts. absurd (let none : Log journal ≡ Verdicts = sym of ∙ verdicts in cc),
+  λ j log.
+      let one : Log journal ≡ Log j = sym of ∙ log in
+      let journal_is : journal ≡ j = cc in (
+        next,
+        ap (λ (r : Report). r.manner) is,
+        same.0 ∙ ap (λ (x : Journal). x.settings) journal_is,
+        same.1 ∙ ap (λ (x : Journal). x.side) journal_is,
+        ap (λ (r : Report). r.active) is,
+        ap (λ (r : Report). r.passive) is,
+      ),
+)
+log_tells (Err fault) old new journal next page of is same = tt
 
 -- ---- a connection is over
 
@@ -123,10 +146,19 @@ one_told pair shortfall (Some ends) old mid new noted same verdicts told =
 pub concluded : (pair : Pair) (shortfall : Option Shortfall) (ends : Option Ends) (old mid new : Report) → NotedAs shortfall old mid
     → TellsBy mid.manner pair shortfall ends mid new → ToldAs mid new → Tells old new
 unfolding Tells
-concluded pair shortfall ends old mid new noted tells same verdicts =
-    let at_mid : mid.manner ≡ Verdicts = ap (λ (r : Report). r.manner) noted ∙ verdicts in
-    one_told pair shortfall ends old mid new noted same verdicts
-    (subst (λ m. TellsBy m pair shortfall ends mid new) at_mid tells)
+concluded pair shortfall ends old mid new noted tells same = (
+  λ verdicts.
+      let at_mid : mid.manner ≡ Verdicts = ap (λ (r : Report). r.manner) noted ∙ verdicts in
+      one_told pair shortfall ends old mid new noted same verdicts (subst (λ m. TellsBy m pair shortfall ends mid new) at_mid tells),
+  λ j log. (
+    j,
+    ap (λ (r : Report). r.manner) same ∙ ap (λ (r : Report). r.manner) noted ∙ log,
+    refl,
+    refl,
+    ap (λ (r : Report). r.active) same ∙ ap (λ (r : Report). r.active) noted,
+    ap (λ (r : Report). r.passive) same ∙ ap (λ (r : Report). r.passive) noted,
+  ),
+)
 
 -- ---- what is written
 
@@ -170,7 +202,7 @@ pub writes_told : (old mid new : Report) (before after : Option (List ℕ)) → 
     → new ≡ record mid { page = new.page } → new.page.octets ≡ [] → Writes old before new after
 unfolding Tells Writes
 writes_told old mid new before after tells grows same none verdicts empty =
-    let told = tells.1 verdicts in
+    let told = tells.1.0 verdicts in
     let lines = lines_of old.active.role old.passive.role told.0 in (
       told.0,
       record {
@@ -185,13 +217,12 @@ writes_told old mid new before after tells grows same none verdicts empty =
     )
 
 -- the connections that were left are told, and how all ends
-pub concludes : (missing : Option Shortfall) (old noted mid new : Report) (result : Result Bool Stop)
+concludes_so : (missing : Option Shortfall) (old noted mid new : Report) (result : Result Bool Stop)
     → noted ≡ record old { shortfall = missing_after old.shortfall missing } → Tells noted mid → Finishes (found_of mid) result
-    → OnOk result (new.page.octets ≡ mid.page.octets ++ line_of mid.left_out)
-    → IfOk result (λ well. Concludes missing old new well)
+    → new.page.octets ≡ mid.page.octets ++ line_of mid.left_out → Concludes missing old new result
 unfolding Tells
-concludes missing old noted mid new (Ok well) is tells answers page = λ verdicts.
-    let told = tells (ap (λ (r : Report). r.manner) is ∙ verdicts) in
+concludes_so missing old noted mid new result is tells answers page = λ verdicts.
+    let told = tells.0 (ap (λ (r : Report). r.manner) is ∙ verdicts) in
     let lines = lines_of old.active.role old.passive.role told.0 in
     let left_out = line_of mid.left_out in
     let there : mid.page.octets ≡ old.page.octets ++ lines =
@@ -199,29 +230,45 @@ concludes missing old noted mid new (Ok well) is tells answers page = λ verdict
       told.0,
       mid.left_out,
       page ∙ ap (λ p. p ++ left_out) there ∙ append_assoc old.page.octets lines left_out,
-      subst (λ f. AnswersWell f well) (told.1.found ∙ ap (λ f. found_behind f told.0) (ap found_of is)) answers,
+      subst (λ f. Finishes f result) (told.1.found ∙ ap (λ f. found_behind f told.0) (ap found_of is)) answers,
     )
+
+pub concludes : (missing : Option Shortfall) (old noted mid new : Report) (result : Result Bool Stop)
+    → noted ≡ record old { shortfall = missing_after old.shortfall missing } → Tells noted mid → Finishes (found_of mid) result
+    → OnOk result (new.page.octets ≡ mid.page.octets ++ line_of mid.left_out)
+    → IfOk result (λ well. Concludes missing old new (Ok well))
+concludes missing old noted mid new (Ok well) is tells answers page = concludes_so missing old noted mid new (Ok well) is tells answers page
 concludes missing old noted mid new (Err stop) is tells answers page = tt
 
-pub ends_with : (missing : Option Shortfall) (old mid : Report) (before after : Option (List ℕ)) (well : Bool)
-    → Concludes missing old mid well → Grows before after mid.page.octets → EndsWith missing old before after well
-ends_with missing old mid before after well concludes grows = λ verdicts empty.
+-- the same where that is refused
+pub concludes_told : (missing : Option Shortfall) (old noted mid new : Report) (result : Result Bool Stop)
+    → noted ≡ record old { shortfall = missing_after old.shortfall missing } → Tells noted mid → Finishes (found_of mid) result
+    → IfErr result (λ stop. IsRefused stop → new.page.octets ≡ mid.page.octets ++ line_of mid.left_out)
+    → IfErr result (λ stop. IsRefused stop → Concludes missing old new (Err stop))
+concludes_told missing old noted mid new (Ok well) is tells answers page = tt
+concludes_told missing old noted mid new (Err stop) is tells answers page = λ refused.
+    concludes_so missing old noted mid new (Err stop) is tells answers (page refused)
+
+pub ends_with : (missing : Option Shortfall) (old mid : Report) (before after : Option (List ℕ)) (ended : Result Bool Stop) (result : Result Bool ToolFault)
+    → Concludes missing old mid ended → ((found : Found) → Finishes found ended → Answers found result) → Grows before after mid.page.octets
+    → EndsWith missing old before after result
+ends_with missing old mid before after ended result concludes answers grows = λ verdicts empty.
     let end = concludes verdicts in
     let lines = lines_of old.active.role old.passive.role end.0 ++ line_of end.1 in (
       end.0,
       end.1,
       (λ octets is. grows octets is ∙ ap (λ l. Some (octets ++ l)) (end.2 ∙ ap (λ p. p ++ lines) empty)),
-      end.3,
+      answers (found_behind (found_with (found_of old) missing) end.0) end.3,
     )
 
 -- the lines of both parts, and the answer
-pub captures : (active passive : Parameters) (is_told : Type 0) (missing : Option Shortfall) (first mid : Report)
+captures_so : (active passive : Parameters) (is_told : Type 0) (missing : Option Shortfall) (first mid : Report)
     → (before between after : Option (List ℕ)) (result : Result Bool ToolFault) → (is_told → first.manner ≡ Verdicts)
     → first.active ≡ active → first.passive ≡ passive → found_of first ≡ nothing_found → first.page.octets ≡ []
-    → Writes first before mid between → IfOk result (λ well. EndsWith missing mid between after well)
-    → IfOk result (λ well. is_told → CapturesTo active.role passive.role before after well)
+    → Writes first before mid between → EndsWith missing mid between after result
+    → is_told → CapturesTo active.role passive.role before after result
 unfolding Writes
-captures active passive is_told missing first mid before between after (Ok well) manner is_a is_p none empty writes ends = λ told.
+captures_so active passive is_told missing first mid before between after result manner is_a is_p none empty writes ends told =
     let one = writes (manner told) empty in
     let two = ends one.1.manner one.1.page in
     let lines = lines_of first.active.role first.passive.role one.0 in
@@ -241,7 +288,25 @@ captures active passive is_told missing first mid before between after (Ok well)
       two.1,
       subst (λ (p : Parameters). Grows before after (lines_of active.role p.role (one.0 ++ two.0) ++ left_out)) is_p
           (subst (λ (p : Parameters). Grows before after (lines_of p.role first.passive.role (one.0 ++ two.0) ++ left_out)) is_a grown),
-      subst (λ f. AnswersWell (found_behind (found_with f missing) two.0) well)
+      subst (λ f. Answers (found_behind (found_with f missing) two.0) result)
           (one.1.found ∙ ap (λ f. found_behind f one.0) none) two.3,
     )
+
+pub captures : (active passive : Parameters) (is_told : Type 0) (missing : Option Shortfall) (first mid : Report)
+    → (before between after : Option (List ℕ)) (result : Result Bool ToolFault) → (is_told → first.manner ≡ Verdicts)
+    → first.active ≡ active → first.passive ≡ passive → found_of first ≡ nothing_found → first.page.octets ≡ []
+    → Writes first before mid between → IfOk result (λ well. EndsWith missing mid between after (Ok well))
+    → IfOk result (λ well. is_told → CapturesTo active.role passive.role before after (Ok well))
+captures active passive is_told missing first mid before between after (Ok well) manner is_a is_p none empty writes ends =
+    captures_so active passive is_told missing first mid before between after (Ok well) manner is_a is_p none empty writes ends
 captures active passive is_told missing first mid before between after (Err fault) manner is_a is_p none empty writes ends = tt
+
+-- the same where that is refused
+pub captures_told : (active passive : Parameters) (is_told : Type 0) (missing : Option Shortfall) (first mid : Report)
+    → (before between after : Option (List ℕ)) (result : Result Bool ToolFault) → (is_told → first.manner ≡ Verdicts)
+    → first.active ≡ active → first.passive ≡ passive → found_of first ≡ nothing_found → first.page.octets ≡ []
+    → Writes first before mid between → IfErr result (λ fault. IsRefusal fault → EndsWith missing mid between after (Err fault))
+    → IfErr result (λ fault. IsRefusal fault → is_told → CapturesTo active.role passive.role before after (Err fault))
+captures_told active passive is_told missing first mid before between after (Ok well) manner is_a is_p none empty writes ends = tt
+captures_told active passive is_told missing first mid before between after (Err fault) manner is_a is_p none empty writes ends = λ refusal.
+    captures_so active passive is_told missing first mid before between after (Err fault) manner is_a is_p none empty writes (ends refusal)

@@ -1,13 +1,15 @@
 -- Where verdicts are told, nothing is refused before the end.
-use Rattle.std.proofs.Common.{◌≡◌, sym, subst}
+use Rattle.std.proofs.Common.{◌≡◌, ◌∙◌, sym, subst}
 use Rattle.std.specs.Prelude.{Result, Ok, Err, IfErr}
 use Rattle.hsms_accounts.specs.declared.journal.Journal.{Journal}
 use Rattle.hsms_accounts.specs.declared.stop.Stop.{Stop}
 use Rattle.hsms_accounts.specs.declared.stop.Stop.TheVariants as stop
 use Rattle.hsms_accounts.specs.Stop.{IsNoRefusal}
-use Rattle.hsms_wire.specs.declared.report.Manner.TheVariants.{Log}
+use Rattle.hsms_wire.specs.declared.report.Manner.TheVariants.{Log, Verdicts}
 use Rattle.hsms_wire.specs.declared.report.Report.{Report}
+use Rattle.hsms_wire.specs.Refused.{InLog}
 use Rattle.hsms_wire.specs.Report.{StopsUnrefused, Tells}
+use Rattle.hsms_wire.specs.Stop.{IsRefused}
 use Rattle.hsms_wire.proofs.Tellings.{log_tells, ok_then, tells_nothing, tells_then}
 
 -- ---- what stops isn't a refusal
@@ -31,7 +33,7 @@ log_stops r st journal is verdicts = let none : ⊥ = cc in absurd none
 -- behind what is told
 pub stops_then : (a b : Report) (st : Stop) → Tells a b → StopsUnrefused b st → StopsUnrefused a st
 unfolding Tells StopsUnrefused
-stops_then a b st first second = λ verdicts. second (first verdicts).1.manner
+stops_then a b st first second = λ verdicts. second (first.0 verdicts).1.manner
 
 -- ---- the same of what is answered
 
@@ -51,6 +53,31 @@ pub err_then : {T : Type 0} (result : Result T Stop) (a b : Report) → Tells a 
 err_then (Ok done) a b first second = tt
 err_then (Err st) a b first second = stops_then a b st first second
 
-pub ruleset unrefused_steps = (memory_stops, is_memory_stops, quiet_stops, stops_then, err_memory, err_quiet, err_then)
+-- ---- the same where the log of an end is told
 
-pub ruleset telling_steps = (tells_nothing, tells_then, ok_then, log_tells, memory_stops, is_memory_stops, quiet_stops, stops_then, err_memory, err_quiet, err_then, err_log)
+pub memory_in_log : (old : Report) (IsSo : Journal → Type 0) → InLog stop.Memory old IsSo
+unfolding InLog
+memory_in_log old IsSo refused = absurd refused
+
+pub is_memory_in_log : (st : Stop) (old : Report) (IsSo : Journal → Type 0) → st ≡ stop.Memory → InLog st old IsSo
+unfolding InLog
+is_memory_in_log st old IsSo is refused = let none : ⊥ = subst IsRefused is refused in absurd none
+
+pub quiet_in_log : (st : Stop) (old : Report) (IsSo : Journal → Type 0) → IsNoRefusal st → InLog st old IsSo
+unfolding InLog
+quiet_in_log (stop.Refused words) old IsSo none refused = absurd none
+quiet_in_log stop.Endless old IsSo none refused = absurd refused
+quiet_in_log stop.Memory old IsSo none refused = absurd refused
+
+pub verdicts_in_log : (st : Stop) (old : Report) (IsSo : Journal → Type 0) → old.manner ≡ Verdicts → InLog st old IsSo
+unfolding InLog
+verdicts_in_log st old IsSo is refused j log = absurd (let same : Verdicts ≡ Log j = sym is ∙ log in cc)
+
+-- of what is answered
+pub err_map : {T : Type 0} {P Q : Stop → Type 0} (result : Result T Stop) → ((st : Stop) → P st → Q st) → IfErr result P → IfErr result Q
+err_map (Ok done) f given = tt
+err_map (Err st) f given = f st given
+
+pub ruleset unrefused_steps = (memory_stops, is_memory_stops, quiet_stops, stops_then, err_memory, err_quiet, err_then, memory_in_log, is_memory_in_log, quiet_in_log)
+
+pub ruleset telling_steps = (tells_nothing, tells_then, ok_then, log_tells, memory_stops, is_memory_stops, quiet_stops, stops_then, err_memory, err_quiet, err_then, err_log, memory_in_log, is_memory_in_log, quiet_in_log)

@@ -20,15 +20,15 @@ use Rattle.hsms_packets.specs.File.{Packet, Ending, ReadsFile, complete, cut, fa
 use Rattle.hsms_packets.specs.Laws.{EachRestIsRead}
 use Rattle.hsms_packets.specs.Segment.{segment_at}
 use Rattle.hsms_accounts.specs.declared.stop.Stop.{Stop}
-use Rattle.hsms_wire.specs.declared.report.Manner.TheVariants.{Verdicts}
+use Rattle.hsms_wire.specs.declared.report.Manner.{Manner}
 use Rattle.hsms_wire.specs.declared.report.Report.{Report}
 use Rattle.hsms_wire.specs.declared.shortfall.Shortfall.{Shortfall}
 use Rattle.hsms_wire.specs.declared.table.Capture.{Capture}
 use Rattle.hsms_wire.specs.declared.table.Table.{Table}
 use Rattle.hsms_wire.specs.Capturing.{IsMissingBy}
 use Rattle.hsms_wire.specs.Connections.{Captured, Connections, DealsPacket, EndsAll}
-use Rattle.hsms_wire.specs.Dealt.{CapturesFile, DealsEach, DealsOne, DealsShown, IsBlank, LacksBy, PutsOut, Wanted, none_yet}
-use Rattle.hsms_wire.specs.Kept.{AreSame, ConcludesAsDealt, EndsAsDealt, FinishesAsDealt, IsReportOf, IsTableOf, PutsAsDealt, ReadsAsDealt, ShowsAsDealt, TakesAsDealt, captured_of, wanted_of}
+use Rattle.hsms_wire.specs.Dealt.{BeginsAs, Way, to_log, to_verdicts, CapturesFile, DealsEach, DealsOne, DealsShown, IsBlank, LacksBy, PutsOut, Wanted, none_yet}
+use Rattle.hsms_wire.specs.Kept.{AreSame, ConcludesAsDealt, EndsAsDealt, FinishesAsDealt, IsReportOf, IsTableOf, PutsAsDealt, ReadsAsDealt, ShowsAsDealt, TakesAsDealt, captured_of, TellsTo, wanted_of, way_of}
 use Rattle.hsms_wire.specs.LeftOut.{left_out_after, line_of, none_left_out}
 use Rattle.hsms_wire.specs.Report.{Finishes, TellsBehind, found_of, missing_after, nothing_found}
 use Rattle.hsms_wire.specs.Segments.{body_in}
@@ -42,7 +42,7 @@ pub segment_shows : {E : Type 0} (result : Result (Option Shortfall) E) (packet 
     → capture.octets.now ≡ body_in segment octets → IfOk result (λ missing. TakesAsDealt segment capture missing old new before after)
     → IfOk result (λ missing. ShowsAsDealt packet r octets missing old new before after)
 segment_shows (Ok missing) packet r octets segment capture old new before after is packet_is time_is body_is takes = λ w last all report past kept.
-    let on = takes w.port w.peer w.active w.passive last all report (subst (λ (n : ℕ). last < n) (sym packet_is) past) kept in
+    let on = takes w.port w.peer w.way w.active w.passive last all report (subst (λ (n : ℕ). last < n) (sym packet_is) past) kept in
     let same : captured_of capture ≡ record { packet = packet; time = r.time; octets = body_in segment octets } =
     (λ i. record { packet = packet_is i; time = time_is i; octets = body_is i }) in (
       on.0,
@@ -58,7 +58,7 @@ pub other_shows : (packet : ℕ) (r : Record) (octets : List ℕ) (table : Table
 other_shows packet r octets table report is = λ w last all of_it past kept. (
   all,
   subst (λ (s : Shown). DealsShown s w packet r.time octets None all all report report) (sym is) (refl, refl, refl),
-  later w.port w.peer w.active w.passive last packet table table all kept (omega (arith, past)) refl,
+  later w.port w.peer w.way w.active w.passive last packet table table all kept (omega (arith, past)) refl,
 )
 
 -- or it is left out
@@ -67,13 +67,13 @@ pub left_out_shows : (packet : ℕ) (r : Record) (octets : List ℕ) (reason : R
 left_out_shows packet r octets reason table before after is same = λ w last all of_it past kept. (
   all,
   subst (λ (s : Shown). DealsShown s w packet r.time octets None all all before after) (sym is) (refl, refl, same),
-  later w.port w.peer w.active w.passive last packet table table all kept (omega (arith, past)) refl,
+  later w.port w.peer w.way w.active w.passive last packet table table all kept (omega (arith, past)) refl,
 )
 
 -- what is told with it is written
 report_put : (w : Wanted) (told after : Report) → IsReportOf w told → after ≡ record told { page = after.page } → IsReportOf w after
 report_put w told after is same = record {
-  verdicts = ap (λ (r : Report). r.manner) same ∙ is.verdicts;
+  manner_is = subst (TellsTo w.way) (sym (ap (λ (r : Report). r.manner) same)) is.manner_is;
   active = ap (λ (r : Report). r.active) same ∙ is.active;
   passive = ap (λ (r : Report). r.passive) same ∙ is.passive;
 }
@@ -81,6 +81,7 @@ report_put w told after is same = record {
 pub puts : (packet : ℕ) (r : Record) (octets : List ℕ) (missing : Option Shortfall) (old new : Table) (before told after : Report) (out now : Option (List ℕ))
     → ShowsAsDealt packet r octets missing old new before told → TellsBehind before told → Grows out now told.page.octets → after ≡ record told { page = after.page }
     → after.page.octets ≡ [] → PutsAsDealt packet r octets missing old new before after out now
+unfolding PutsAsDealt
 puts packet r octets missing old new before told after out now shows tells grows same none = λ w last all report past kept.
     let on = shows w last all report past kept in (
       on.0,
@@ -88,8 +89,8 @@ puts packet r octets missing old new before told after out now shows tells grows
       on.1,
       record { written = grows; same = same; none = none },
       on.2,
-      report_put w told after (report_then w.active w.passive (record before { left_out = tells.0 }) told
-          (record { verdicts = report.verdicts; active = report.active; passive = report.passive }) tells.1) same,
+      report_put w told after (report_then w.way w.active w.passive (record before { left_out = tells.0 }) told
+          (record { manner_is = report.manner_is; active = report.active; passive = report.passive }) tells.1) same,
     )
 
 -- ---- packets, one after another
@@ -117,7 +118,7 @@ each_more w (q ∷ ps) p old mid new before between told after out put now each 
   each_more w ps p each.0 mid new each.2 between told after each.3 put now each.6 one puts,
 )
 
-tells_on : (Was : List Packet → Ending → Type 0) (told ps : List Packet) (was now : Reading) (left new : Option (List ℕ)) (t : TellsPackets Was told was left)
+pub tells_on : (Was : List Packet → Ending → Type 0) (told ps : List Packet) (was now : Reading) (left new : Option (List ℕ)) (t : TellsPackets Was told was left)
     → TellsPackets (ReadsOn was t.0) ps now new → TellsPackets Was (told ++ ps) now new
 tells_on Was told ps was now left new t u = (
   u.0,
@@ -164,6 +165,7 @@ pub goes_so : (first : Reading) (from : Option (List ℕ)) (old : Table) (before
     → WhereTold left (λ input. StepsAs was input (Ok st) now new) → CountsOn st was.state.packets now.state.packets → was.state.packets ≤ first.state.packets + counter → counter < 2 ^ 64 - 1
     → octets ≡ take r.held (drop r.body now.last) → is_some missing ≡ false → PutsAsDealt n r octets missing table next between after put written
     → IsSoFar first from old before out now new next after written
+unfolding PutsAsDealt
 goes_so first from old before out was now left new table next between after put written n r octets counter st missing so st_is steps_as counts_as few under octets_is none puts_as =
     λ w all zero is kept input told.
     let steps = subst (λ (x : Step). WhereTold left (λ input. StepsAs was input (Ok x) now new)) st_is steps_as in
@@ -196,7 +198,7 @@ passes_so first from old before out was now left new table after put counter st 
       mid = one.mid;
       tells = subst (λ (l : List Packet). TellsPackets (ReadsOn first input) l now new) (append-nil one.told) tells;
       each = one.each;
-      kept = later w.port w.peer w.active w.passive was.state.packets now.state.packets table table one.mid one.kept (onward zero (subst (λ (x : Step). CountsOn x was.state.packets now.state.packets) st_is counts_as)) refl;
+      kept = later w.port w.peer w.way w.active w.passive was.state.packets now.state.packets table table one.mid one.kept (onward zero (subst (λ (x : Step). CountsOn x was.state.packets now.state.packets) st_is counts_as)) refl;
       report = one.report;
     }
   where
@@ -217,6 +219,7 @@ counts_passed first was now counter (inr more) few = omega (arith, more, few)
 ends_with : (first : Reading) (from : Option (List ℕ)) (old : Table) (before : Report) (out : Option (List ℕ)) (was : Reading) (left : Option (List ℕ)) (table : Table)
     (after : Report) (now : Option (List ℕ)) (missing : Option Shortfall) (ending : Ending) → IsSoFar first from old before out was left table after now
     → LacksBy ending missing → WhereTold left (λ input. ReadsOn was input [] ending) → ReadsAsDealt first missing from old table before after out now
+unfolding ReadsAsDealt
 ends_with first from old before out was left table after now missing ending so lacks reads = λ w all zero is kept input told.
     let one = so w all zero is kept input told in (
       one.told ++ [],
@@ -255,6 +258,7 @@ pub stops_so : (first : Reading) (from : Option (List ℕ)) (old : Table) (befor
     → WhereTold left (λ input. StepsAs was input (Ok st) now new) → CountsOn st was.state.packets now.state.packets → was.state.packets ≤ first.state.packets + counter → counter < 2 ^ 64 - 1
     → octets ≡ take r.held (drop r.body now.last) → is_some missing ≡ true → PutsAsDealt n r octets missing table next between after put written
     → ReadsAsDealt first missing from old next before after out written
+unfolding PutsAsDealt ReadsAsDealt
 stops_so first from old before out was now left new table next between after put written n r octets counter st missing each so st_is steps_as counts_as few under octets_is some
     puts =
     λ w all zero is kept input told.
@@ -296,12 +300,12 @@ pub concludes_dealt : (missing : Option Shortfall) (table : Table) (old noted mi
     → OnOk result (new.page.octets ≡ mid.page.octets ++ line_of mid.left_out) → IfOk result (λ well. ConcludesAsDealt missing table old new (Ok well))
 concludes_dealt missing table old noted mid new (Ok well) is ends answers page = λ w last all report kept.
     let of_noted : IsReportOf w noted = record {
-      verdicts = ap (λ (r : Report). r.manner) is ∙ report.verdicts;
+      manner_is = subst (TellsTo w.way) (sym (ap (λ (r : Report). r.manner) is)) report.manner_is;
       active = ap (λ (r : Report). r.active) is ∙ report.active;
       passive = ap (λ (r : Report). r.passive) is ∙ report.passive;
     } in (
       mid,
-      subst (λ (r : Report). EndsAll w.active w.passive missing all.known r mid) is (ends w.port w.peer w.active w.passive last all of_noted kept),
+      subst (λ (r : Report). EndsAll w.active w.passive missing all.known r mid) is (ends w.port w.peer w.way w.active w.passive last all of_noted kept),
       page,
       answers,
     )
@@ -319,7 +323,7 @@ finishes_dealt missing table old mid out now well concludes grows = λ w last al
 
 -- ---- the whole of it
 
-first_table : (options : Capturing) (table : Table) (n : ℕ) → options.joined ≡ false
+pub first_table : (options : Capturing) (table : Table) (n : ℕ) → options.joined ≡ false
     → (table.port ≡ options.port) × (table.peer ≡ options.peer) × (table.is_joined ≡ options.joined) → (table.flows.entries ≡ []) × (table.begun ≡ 0)
     → IsTableOf (wanted_of options) n table none_yet
 first_table options table n joined of_it none = record {
@@ -327,27 +331,31 @@ first_table options table n joined of_it none = record {
   peer_is = of_it.1;
   joined = of_it.2 ∙ joined;
   begun = sym none.1;
-  same = subst (λ fs. AreSame options.active options.passive n fs []) (sym none.0) tt;
+  same = subst (λ fs. AreSame (way_of options) options.active options.passive n fs []) (sym none.0) tt;
 }
 
-pub is_blank : (options : Capturing) (report : Report) → report.manner ≡ Verdicts → report.active ≡ options.active → report.passive ≡ options.passive
+pub is_blank : (options : Capturing) (report : Report) → BeginsAs (way_of options) report.manner → report.active ≡ options.active → report.passive ≡ options.passive
     → found_of report ≡ nothing_found → report.left_out ≡ none_left_out → report.page.octets ≡ [] → IsBlank (wanted_of options) report
-is_blank options report verdicts active passive found left_out page =
-    record { verdicts = verdicts; active = active; passive = passive; found = found; left_out = left_out; page = page }
+is_blank options report begins active passive found left_out page =
+    record { manner_is = begins; active = active; passive = passive; found = found; left_out = left_out; page = page }
 
-of_blank : (w : Wanted) (report : Report) → IsBlank w report → IsReportOf w report
-of_blank w report is = record { verdicts = is.verdicts; active = is.active; passive = is.passive }
+begins_tells : (how : Way) (manner : Manner) → BeginsAs how manner → TellsTo how manner
+begins_tells to_verdicts manner is = is
+begins_tells (to_log settings side) manner is = (record { settings = settings; side = side; begun = None; time = 0 }, is, refl, refl)
+
+pub of_blank : (w : Wanted) (report : Report) → IsBlank w report → IsReportOf w report
+of_blank w report is = record { manner_is = begins_tells w.way report.manner is.manner_is; active = is.active; passive = is.passive }
 
 -- the file was opened
 pub captures_opened : (options : Capturing) (reading : Reading) (missing : Option Shortfall) (first last : Report) (table end : Table) (from left : Option (List ℕ))
-    (out put now : Option (List ℕ)) (result : Result Bool ToolFault) (IsTold : Type 0) → (IsTold → IsBlank (wanted_of options) first)
+    (out put now : Option (List ℕ)) (result : Result Bool ToolFault) → IsBlank (wanted_of options) first
     → (table.port ≡ options.port) × (table.peer ≡ options.peer) × (table.is_joined ≡ options.joined) → (table.flows.entries ≡ []) × (table.begun ≡ 0)
     → WhereTold from (λ input. OpensAs input (Ok reading) left) → reading.state.packets ≡ 0 → ReadsAsDealt reading missing left table end first last out put
-    → FinishesAsDealt missing end last put now result
-    → IsTold → options.joined ≡ false → WhereTold from (λ input. CapturesFile (wanted_of options) input out now result)
-captures_opened options reading missing first last table end from left out put now result IsTold blank of_it none opens zero reads finishes = λ told joined input at.
+    → (TellsTo (way_of options) last.manner → FinishesAsDealt missing end last put now result)
+    → options.joined ≡ false → WhereTold from (λ input. CapturesFile (wanted_of options) input out now result)
+unfolding ReadsAsDealt
+captures_opened options reading missing first last table end from left out put now result is of_it none opens zero reads finishes = λ joined input at.
     let opened = opens input at in
-    let is = blank told in
     let on = reads (wanted_of options) none_yet zero (of_blank (wanted_of options) first is) (first_table options table 0 joined of_it none) opened.0 opened.1 in
     record {
       packets = on.0;
@@ -360,18 +368,17 @@ captures_opened options reading missing first last table end from left out put n
       reads = opened.2 on.0 on.1 on.4;
       blank = is;
       deals = on.5;
-      concluded = finishes (wanted_of options) on.3 on.2 on.7 on.6;
+      concluded = finishes on.7.manner_is (wanted_of options) on.3 on.2 on.7 on.6;
     }
 
 -- or it has no packet
 pub captures_none : (options : Capturing) (fault : FileFault) (shortfall : Shortfall) (first : Report) (table : Table) (from left : Option (List ℕ)) (out now : Option (List ℕ))
-    (result : Result Bool ToolFault) (IsTold : Type 0) → (IsTold → IsBlank (wanted_of options) first)
+    (result : Result Bool ToolFault) → IsBlank (wanted_of options) first
     → (table.port ≡ options.port) × (table.peer ≡ options.peer) × (table.is_joined ≡ options.joined) → (table.flows.entries ≡ []) × (table.begun ≡ 0)
     → WhereTold from (λ input. OpensAs input (Err fault) left) → IsMissingBy fault 0 (Ok shortfall)
-    → FinishesAsDealt (Some shortfall) table first out now result
-    → IsTold → options.joined ≡ false → WhereTold from (λ input. CapturesFile (wanted_of options) input out now result)
-captures_none options fault shortfall first table from left out now result IsTold blank of_it none opens missing finishes = λ told joined input at.
-    let is = blank told in
+    → (TellsTo (way_of options) first.manner → FinishesAsDealt (Some shortfall) table first out now result)
+    → options.joined ≡ false → WhereTold from (λ input. CapturesFile (wanted_of options) input out now result)
+captures_none options fault shortfall first table from left out now result is of_it none opens missing finishes = λ joined input at.
     let ended = by_fault input fault (opens input at) missing in
     record {
       packets = [];
@@ -384,7 +391,7 @@ captures_none options fault shortfall first table from left out now result IsTol
       reads = ended.1;
       blank = is;
       deals = inl (ended.2, (refl, refl, refl));
-      concluded = finishes (wanted_of options) 0 none_yet (of_blank (wanted_of options) first is) (first_table options table 0 joined of_it none);
+      concluded = finishes (of_blank (wanted_of options) first is).manner_is (wanted_of options) 0 none_yet (of_blank (wanted_of options) first is) (first_table options table 0 joined of_it none);
     }
   where
     by_fault : (input : List ℕ) (f : FileFault) → OpensAs input (Err f) left → IsMissingBy f 0 (Ok shortfall)

@@ -7,7 +7,7 @@ use Rattle.hsms_packets.specs.declared.fault.FileFault.{FileFault}
 use Rattle.hsms_packets.specs.declared.fault.FileFault.TheVariants as file
 use Rattle.hsms_machine.specs.declared.settings.Role.{Role}
 use Rattle.hsms_wire.specs.LeftOut.{line_of}
-use Rattle.hsms_wire.specs.Report.{AnswersWell, Telling, found_behind, found_with, lines_of, nothing_found}
+use Rattle.hsms_wire.specs.Report.{Answers, Telling, found_behind, found_with, lines_of, nothing_found}
 use Rattle.hsms_wire.specs.declared.left_out.LeftOut.{LeftOut}
 use Rattle.hsms_wire.specs.declared.shortfall.Shortfall.{Shortfall}
 use Rattle.hsms_wire.specs.declared.shortfall.Shortfall.TheVariants.{File}
@@ -17,13 +17,13 @@ unfoldable pub GrowsBySome : Option (List ℕ) → Option (List ℕ) → Type 0
 GrowsBySome old new = WhereTold old (λ octets. (told : List ℕ) × (new ≡ Some (octets ++ told)))
 
 -- What is written where verdicts are told: the lines of the connections that were told while the capture was read, then of
--- those that were left at its end, and then what was left out; and whether all is well by these and by what is missing of
--- the file.
-abbrev pub CapturesTo : Role → Role → Option (List ℕ) → Option (List ℕ) → Bool → Type 0
-CapturesTo active passive before after well =
+-- those that were left at its end, and then what was left out; and what is answered by these and by what is missing of the
+-- file.
+abbrev pub CapturesTo : Role → Role → Option (List ℕ) → Option (List ℕ) → Result Bool ToolFault → Type 0
+CapturesTo active passive before after result =
     (reading ending : List Telling) × (missing : Option Shortfall) × (left_out : LeftOut)
     × Grows before after (lines_of active passive (reading ++ ending) ++ line_of left_out)
-    × AnswersWell (found_behind (found_with (found_behind nothing_found reading) missing) ending) well
+    × Answers (found_behind (found_with (found_behind nothing_found reading) missing) ending) result
 
 -- where a device is named, writing failed, or a log is endless
 abbrev pub IsWriteOrEndless : ToolFault → Type 0

@@ -6,15 +6,20 @@ use Rattle.std.specs.declared.net.ip_addr.IpAddr.{IpAddr}
 use Rattle.hsms_machine.specs.Settings.{Parameters}
 use Rattle.hsms_packets.specs.declared.segment.Segment.{Segment}
 use Rattle.hsms_capture.specs.declared.packet.Side.{Side}
-use Rattle.hsms_capture.specs.Known.{seen_of}
+use Rattle.hsms_capture.specs.Known.{bases, seen_of}
 use Rattle.hsms_capture.specs.Wire.{Seen}
 use Rattle.hsms_accounts.specs.Pair.{IsOfPeer, pairs_at, turned}
+use Rattle.hsms_accounts.specs.declared.journal.Journal.{Journal}
 use Rattle.hsms_accounts.specs.declared.pair.Pair.{Pair}
 use Rattle.hsms_accounts.specs.contracts.pair.PairPartialEq.TheImpl as same_pair
+use Rattle.hsms_wire.specs.declared.report.Manner.{Manner}
+use Rattle.hsms_wire.specs.declared.report.Manner.TheVariants.{Log, Verdicts}
 use Rattle.hsms_wire.specs.declared.report.Report.{Report}
 use Rattle.hsms_wire.specs.declared.shortfall.Shortfall.{Shortfall}
 use Rattle.hsms_wire.specs.declared.shortfall.Shortfall.TheVariants.{Time}
 use Rattle.hsms_wire.specs.Segments.{pair_among, syn_by, taken_segment}
+use Rattle.hsms_wire.specs.Followed.{MayTellMore}
+use Rattle.hsms_wire.specs.Paged.{EndsOnPageBy, LogsTo, OverOnPage, TellsWith}
 use Rattle.hsms_wire.specs.Staged.{EndsBy, OverBy, answered_by, first_shown}
 use Rattle.hsms_wire.specs.Tabled.{HasTime, KeepsOf}
 
@@ -57,9 +62,13 @@ abbrev pub starting : ℕ → ℕ → Connection
 starting number born = record { number = number; born = born; packets = Some [] }
 
 -- no packet of it follows: what is left of it is told
+abbrev pub EndsAs : Manner → Parameters → Parameters → Pair → Bool → Option Shortfall → ℕ → List Seen → Report → Report → Type 0
+EndsAs Verdicts a p pair replaced missing number seen old new = EndsBy (answered_by number seen) a p pair number seen replaced missing old new
+EndsAs (Log j) a p pair replaced missing number seen old new = EndsOnPageBy (answered_by number seen) j number seen replaced missing old new
+
 abbrev pub EndsWith : Parameters → Parameters → Pair → Bool → Option Shortfall → ℕ → Option (List Seen) → Report → Report → Type 0
 EndsWith a p pair replaced missing number None old new = new ≡ old
-EndsWith a p pair replaced missing number (Some seen) old new = EndsBy (answered_by number seen) a p pair number seen replaced missing old new
+EndsWith a p pair replaced missing number (Some seen) old new = EndsAs old.manner a p pair replaced missing number seen old new
 
 -- since another one replaces it
 abbrev pub IsReplaced : Parameters → Parameters → Pair → Option Connection → Report → Report → Type 0
@@ -79,13 +88,32 @@ pub record StartsOne (a p : Parameters) (pair : Pair) (number : ℕ) (old new : 
 
 -- ---- one packet more
 
--- It is one of its packets, of which no more than 4,096 wait for the SYN of the passive end; or the one with which it is
--- told for good.
+-- All is not known of it: no more than 4,096 packets wait for the SYN of the passive end, or something may follow them that
+-- is told, or that changes how it ends.
+abbrev pub IsOpenStill : Option ℕ → Parameters → ℕ → List Seen → Type 0
+IsOpenStill None a number all = length all ≤ 4096
+IsOpenStill (Some other) a number all = MayTellMore a (bases number other) all
+
+-- It is one of its packets, as long as all is not known of it; or the one with which it is told for good.
+abbrev pub GoesToVerdicts : Parameters → Parameters → Pair → ℕ → List Seen → Seen → Option (List Seen) → Report → Report → Type 0
+GoesToVerdicts a p pair number seen s (Some all) old new =
+    (all ≡ seen ++ s ∷ []) × (new ≡ old) × IsOpenStill (answered_by number all) a number all
+GoesToVerdicts a p pair number seen s None old new = OverBy (answered_by number (seen ++ s ∷ [])) a p pair number (seen ++ s ∷ []) old new
+
+-- where the log of an end is told, its page gets what is told with the packet
+abbrev pub GoesToLog : Journal → Pair → ℕ → List Seen → Seen → Option (List Seen) → Report → Report → Type 0
+GoesToLog j pair number seen s (Some all) old new =
+    (all ≡ seen ++ s ∷ []) × LogsTo (TellsWith (answered_by number seen) (answered_by number all) j.settings j.side pair number seen s) j old new
+    × IsOpenStill (answered_by number all) j.settings number all
+GoesToLog j pair number seen s None old new = OverOnPage (answered_by number seen) (answered_by number (seen ++ s ∷ [])) j pair number seen s old new
+
+abbrev pub GoesAs : Manner → Parameters → Parameters → Pair → ℕ → List Seen → Seen → Option (List Seen) → Report → Report → Type 0
+GoesAs Verdicts a p pair number seen s next old new = GoesToVerdicts a p pair number seen s next old new
+GoesAs (Log j) a p pair number seen s next old new = GoesToLog j pair number seen s next old new
+
 abbrev pub Goes : Parameters → Parameters → Pair → ℕ → Seen → Option (List Seen) → Option (List Seen) → Report → Report → Type 0
 Goes a p pair number s None next old new = (next ≡ None) × (new ≡ old)
-Goes a p pair number s (Some seen) (Some all) old new =
-    (all ≡ seen ++ s ∷ []) × (new ≡ old) × (answered_by number all ≡ None → length all ≤ 4096)
-Goes a p pair number s (Some seen) None old new = OverBy (answered_by number (seen ++ s ∷ [])) a p pair number (seen ++ s ∷ []) old new
+Goes a p pair number s (Some seen) next old new = GoesAs old.manner a p pair number seen s next old new
 
 abbrev pub GoesBy : Option Connection → Parameters → Parameters → Pair → Seen → Connections → Connections → Report → Report → Type 0
 GoesBy None a p pair s old new before after = (new ≡ old) × (after ≡ before)

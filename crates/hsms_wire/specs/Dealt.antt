@@ -9,7 +9,9 @@ use Rattle.hsms_packets.specs.declared.segment.Shown.{Shown}
 use Rattle.hsms_packets.specs.declared.segment.Shown.TheVariants as shown
 use Rattle.hsms_packets.specs.File.{Packet, Ending, ReadsFile, complete, cut, faulty}
 use Rattle.hsms_packets.specs.Segment.{segment_at}
-use Rattle.hsms_wire.specs.declared.report.Manner.TheVariants.{Verdicts}
+use Rattle.hsms_capture.specs.declared.packet.Side.{Side}
+use Rattle.hsms_wire.specs.declared.report.Manner.{Manner}
+use Rattle.hsms_wire.specs.declared.report.Manner.TheVariants.{Log, Verdicts}
 use Rattle.hsms_wire.specs.declared.report.Report.{Report}
 use Rattle.hsms_wire.specs.declared.shortfall.Shortfall.{Shortfall}
 use Rattle.hsms_wire.specs.declared.shortfall.Shortfall.TheVariants as lacks
@@ -18,11 +20,17 @@ use Rattle.hsms_wire.specs.LeftOut.{left_out_after, line_of, none_left_out}
 use Rattle.hsms_wire.specs.Report.{Answers, found_of, missing_after, nothing_found}
 use Rattle.hsms_wire.specs.Segments.{body_in}
 
+-- what is told: verdicts, or the log of the end on this side, with these settings
+pub data Way : Type 0 where
+  to_verdicts : Way
+  to_log : Parameters → Side → Way
+
 -- What is looked at: connections whose passive ends have this port, and of which one end has this address, where one is
 -- asked for; both ends have these settings.
 pub record Wanted : Type 0 where
   pub port : ℕ
   pub peer : Option IpAddr
+  pub way : Way
   pub active : Parameters
   pub passive : Parameters
 
@@ -77,8 +85,12 @@ abbrev pub none_yet : Connections
 none_yet = record { known = []; begun = 0 }
 
 -- nothing is told yet
+abbrev pub BeginsAs : Way → Manner → Type 0
+BeginsAs to_verdicts manner = manner ≡ Verdicts
+BeginsAs (to_log settings side) manner = manner ≡ Log (record { settings = settings; side = side; begun = None; time = 0 })
+
 pub record IsBlank (w : Wanted) (report : Report) : Type 0 where
-  pub verdicts : report.manner ≡ Verdicts
+  pub manner_is : BeginsAs w.way report.manner
   pub active : report.active ≡ w.active
   pub passive : report.passive ≡ w.passive
   pub found : found_of report ≡ nothing_found

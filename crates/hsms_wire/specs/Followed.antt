@@ -13,11 +13,12 @@ use Rattle.hsms_capture.specs.declared.telling.Event.{Event}
 use Rattle.hsms_capture.specs.declared.telling.Event.TheVariants as happens
 use Rattle.hsms_capture.specs.declared.telling.Happening.{Happening}
 use Rattle.hsms_capture.specs.Wire.{End, Seen, places}
+use Rattle.hsms_capture.specs.Finished.{is_known}
 use Rattle.hsms_capture.specs.Known.{bases, seen_of}
 use Rattle.hsms_capture.specs.Laws.{AreNumbered}
 use Rattle.hsms_capture.specs.Standing.{Stands, TakesOn}
 use Rattle.hsms_capture.specs.Stopping.{EndsPast, IsFar}
-use Rattle.hsms_capture.specs.Telling.{entry_as}
+use Rattle.hsms_capture.specs.Told.{tells}
 use Rattle.hsms_capture.specs.Time.{IsInTime, TakesInTime}
 use Rattle.hsms_accounts.specs.Account.{HasLogged, Note}
 use Rattle.hsms_accounts.specs.Ends.{Adds, Records, heard_of, note_of}
@@ -39,7 +40,7 @@ use Rattle.hsms_wire.specs.declared.report.Report.{Report}
 use Rattle.hsms_wire.specs.declared.shortfall.Shortfall.{Shortfall}
 use Rattle.hsms_wire.specs.declared.shortfall.Shortfall.TheVariants as lacks
 use Rattle.hsms_wire.specs.Courses.{lack_behind}
-use Rattle.hsms_wire.specs.Logged.{TellsOf, ToldForGood, ToldOf, bare_resets, clock_of, course_of, is_among, logged}
+use Rattle.hsms_wire.specs.Logged.{TellsOf, ToldForGood, ToldOf, bare_resets, clock_of, course_by, course_of, is_among, logged}
 use Rattle.hsms_wire.specs.Report.{HasTold, IsVerdictOn}
 
 -- ---- what both ends have heard
@@ -191,12 +192,16 @@ pub record IsFollowed (a p : Parameters) (base : End → ℕ) (seen : List Seen)
   pub bare : o.logs.bare_resets.items ≡ bare_resets seen
   pub ends : EndsHave a p told o.logs.ends
 
--- it hasn't ended, and is given up with a segment, with which too much would wait: both logs end with what was told of those
--- before it
+-- Behind these segments more may be told of it, whatever was told, and it isn't known how that ends.
+unfoldable pub MayTellMore : Parameters → (End → ℕ) → List Seen → Type 0
+MayTellMore a base seen =
+    (course_by a.max (tells (places base [] seen)) ≡ course.Goes) × (is_known (places base [] seen) ≡ false)
+
+-- it is given up with a segment, with which too much would wait: both logs end with what is told of those before it
 abbrev pub GivesUp : Parameters → Parameters → Pair → (End → ℕ) → List Seen → Seen → Report → Report → Type 0
 GivesUp a p pair base before s old new =
-    (c : Connection) × (told : List Happening) × (c.ending ≡ None) × Stands c told base before × IsTooMuch base before s
-    × TellsOf a p pair (clock_of base before) (map entry_as told) false (Some (lacks.Full s.packet)) old new
+    MayTellMore a base before × IsTooMuch base before s
+    × TellsOf a p pair (clock_of base before) (tells (places base [] before)) false (Some (lacks.Full s.packet)) old new
 
 abbrev pub FollowsOn : Parameters → Parameters → Pair → (End → ℕ) → List Seen → Seen → Option Open → Report → Report → Type 0
 FollowsOn a p pair base before s None old new = ToldForGood a p pair base (before ++ s ∷ []) old new ⊎ GivesUp a p pair base before s old new

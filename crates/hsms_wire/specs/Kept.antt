@@ -1,7 +1,9 @@
 -- The connections that are kept, as those of the definition.
-use Rattle.std.specs.Prelude.{◌≡◌, ◌≤◌, ◌<◌, ◌++◌, ◌∷◌, ℕ, Bool, false, List, [], Option, Some, None, Result}
+use Rattle.std.specs.Prelude.{◌≡◌, ◌≤◌, ◌<◌, ◌++◌, ◌∷◌, ℕ, Bool, true, false, if◌then◌else◌, List, [], Option, Some, None, Result}
 use Rattle.std.specs.declared.net.ip_addr.IpAddr.{IpAddr}
 use Rattle.hsms_machine.specs.Settings.{Parameters}
+use Rattle.hsms_machine.specs.declared.settings.Role.{Role}
+use Rattle.hsms_machine.specs.declared.settings.Role.TheVariants as role
 use Rattle.hsms_frame.specs.Device.{WhereTold}
 use Rattle.hsms_options.specs.declared.capturing.Capturing.{Capturing}
 use Rattle.hsms_options.specs.declared.fault.ToolFault.{ToolFault}
@@ -10,84 +12,114 @@ use Rattle.hsms_packets.specs.declared.segment.Segment.{Segment}
 use Rattle.hsms_packets.specs.Blocks.{Reading, ReadsOn}
 use Rattle.hsms_packets.specs.File.{Packet, Ending}
 use Rattle.hsms_packets.specs.Segment.{segment_at}
-use Rattle.hsms_capture.specs.Wire.{Seen}
+use Rattle.hsms_capture.specs.declared.packet.Side.TheVariants.{Active, Passive}
+use Rattle.hsms_capture.specs.Wire.{End, Seen}
+use Rattle.hsms_accounts.specs.declared.journal.Journal.{Journal}
 use Rattle.hsms_accounts.specs.declared.pair.Pair.{Pair}
 use Rattle.hsms_accounts.specs.declared.stop.Stop.{Stop}
 use Rattle.hsms_wire.specs.declared.flow.Flow.{Flow}
+use Rattle.hsms_wire.specs.declared.flow.Open.{Open}
 use Rattle.hsms_wire.specs.declared.flow.Stage.{Stage}
 use Rattle.hsms_wire.specs.declared.flow.Stage.TheVariants as stage
-use Rattle.hsms_wire.specs.declared.report.Manner.TheVariants.{Verdicts}
+use Rattle.hsms_wire.specs.declared.report.Manner.{Manner}
+use Rattle.hsms_wire.specs.declared.report.Manner.TheVariants.{Log, Verdicts}
 use Rattle.hsms_wire.specs.declared.report.Report.{Report}
 use Rattle.hsms_wire.specs.declared.shortfall.Shortfall.{Shortfall}
 use Rattle.hsms_wire.specs.declared.table.Capture.{Capture}
 use Rattle.hsms_wire.specs.declared.table.Table.{Table}
 use Rattle.hsms_wire.specs.Connections.{Captured, Connection, Connections, DealsPacket, EndsAll}
-use Rattle.hsms_wire.specs.Dealt.{Concluded, DealsShown, DealsUpTo, PutsOut, Wanted}
+use Rattle.hsms_wire.specs.Dealt.{Concluded, DealsShown, DealsUpTo, PutsOut, Wanted, Way, to_log, to_verdicts}
 use Rattle.hsms_wire.specs.LeftOut.{line_of}
 use Rattle.hsms_wire.specs.Report.{Finishes, found_of, missing_after}
-use Rattle.hsms_wire.specs.Staged.{StageIs}
+use Rattle.hsms_wire.specs.Followed.{IsFollowed}
+use Rattle.hsms_wire.specs.Paged.{IsOpenIn}
+use Rattle.hsms_wire.specs.Staged.{StageAs}
 
 -- each is past the one before it, and none past the last one
 abbrev pub UpTo : ℕ → ℕ → List Seen → Type 0
 UpTo first last [] = first ≤ last
 UpTo first last (s ∷ ss) = (first < s.packet) × UpTo s.packet last ss
 
--- its packets wait, or it is followed; or it was told
-abbrev pub StageStands : Parameters → Parameters → ℕ → ℕ → Option (List Seen) → Stage → Type 0
-StageStands a p last number None st = st ≡ stage.Over
-StageStands a p last number (Some seen) st = StageIs a p number seen st × UpTo 0 last seen
+-- where verdicts are told both logs have what was told of it; where the log of an end is, its page has
+abbrev pub IsFollowedAs : Way → Parameters → Parameters → (End → ℕ) → List Seen → Open → Type 0
+IsFollowedAs to_verdicts a p base seen o = IsFollowed a p base seen o
+IsFollowedAs (to_log settings side) a p base seen o = IsOpenIn settings.max base seen o
 
-pub record IsOne (a p : Parameters) (last : ℕ) (flow : Flow) (one : Connection) : Type 0 where
+-- its packets wait, or it is followed; or it was told
+abbrev pub StageStands : Way → Parameters → Parameters → ℕ → ℕ → Option (List Seen) → Stage → Type 0
+StageStands how a p last number None st = st ≡ stage.Over
+StageStands how a p last number (Some seen) st = StageAs (IsFollowedAs how a p) number seen st × UpTo 0 last seen
+
+pub record IsOne (how : Way) (a p : Parameters) (last : ℕ) (flow : Flow) (one : Connection) : Type 0 where
   pub syn : flow.syn ≡ Some one.number
   pub born : flow.born ≡ one.born
-  pub stands : StageStands a p last one.number one.packets flow.stage
+  pub stands : StageStands how a p last one.number one.packets flow.stage
 
 -- one for one
-abbrev pub AreSame : Parameters → Parameters → ℕ → List (Pair × Flow) → List (Pair × Connection) → Type 0
-AreSame a p last [] [] = Unit {0}
-AreSame a p last [] (one ∷ ones) = ⊥
-AreSame a p last (flow ∷ flows) [] = ⊥
-AreSame a p last (flow ∷ flows) (one ∷ ones) = (one.0 ≡ flow.0) × IsOne a p last flow.1 one.1 × AreSame a p last flows ones
+abbrev pub AreSame : Way → Parameters → Parameters → ℕ → List (Pair × Flow) → List (Pair × Connection) → Type 0
+AreSame how a p last [] [] = Unit {0}
+AreSame how a p last [] (one ∷ ones) = ⊥
+AreSame how a p last (flow ∷ flows) [] = ⊥
+AreSame how a p last (flow ∷ flows) (one ∷ ones) = (one.0 ≡ flow.0) × IsOne how a p last flow.1 one.1 × AreSame how a p last flows ones
 
 -- what it is of: the port, the peer's address, and sessions that begin with a SYN
-pub record IsTable (port : ℕ) (peer : Option IpAddr) (a p : Parameters) (last : ℕ) (table : Table) (all : Connections) : Type 0 where
+pub record IsTable (port : ℕ) (peer : Option IpAddr) (how : Way) (a p : Parameters) (last : ℕ) (table : Table) (all : Connections) : Type 0 where
   pub port_is : table.port ≡ port
   pub peer_is : table.peer ≡ peer
   pub joined : table.is_joined ≡ false
   pub begun : all.begun ≡ table.begun
-  pub same : AreSame a p last table.flows.entries all.known
+  pub same : AreSame how a p last table.flows.entries all.known
 
-pub record IsReport (a p : Parameters) (report : Report) : Type 0 where
-  pub verdicts : report.manner ≡ Verdicts
+-- the log of an end by these settings is told, or verdicts are
+abbrev pub TellsTo : Way → Manner → Type 0
+TellsTo to_verdicts manner = manner ≡ Verdicts
+TellsTo (to_log settings side) manner = (j : Journal) × (manner ≡ Log j) × (j.settings ≡ settings) × (j.side ≡ side)
+
+pub record IsReport (how : Way) (a p : Parameters) (report : Report) : Type 0 where
+  pub manner_is : TellsTo how report.manner
   pub active : report.active ≡ a
   pub passive : report.passive ≡ p
 
 abbrev pub captured_of : Capture → Captured
 captured_of capture = record { packet = capture.packet; time = capture.time; octets = capture.octets.now }
 
--- A packet is dealt as the definition says, where verdicts are told, of sessions that begin with a SYN.
+-- A packet is dealt as the definition says, of sessions that begin with a SYN.
 abbrev pub TakesAsDealt : Segment → Capture → Option Shortfall → Table → Table → Report → Report → Type 0
 TakesAsDealt segment capture missing old new before after =
-    (port : ℕ) (peer : Option IpAddr) (a p : Parameters) (last : ℕ) (all : Connections) → IsReport a p before → last < capture.packet
-    → IsTable port peer a p last old all
-    → (next : Connections) × DealsPacket port peer a p segment (captured_of capture) missing all next before after × IsTable port peer a p capture.packet new next
+    (port : ℕ) (peer : Option IpAddr) (how : Way) (a p : Parameters) (last : ℕ) (all : Connections) → IsReport how a p before → last < capture.packet
+    → IsTable port peer how a p last old all
+    → (next : Connections) × DealsPacket port peer a p segment (captured_of capture) missing all next before after × IsTable port peer how a p capture.packet new next
 
 -- and what is left is told as it says
 abbrev pub EndsAsDealt : Option Shortfall → Table → Report → Report → Type 0
 EndsAsDealt missing table old new =
-    (port : ℕ) (peer : Option IpAddr) (a p : Parameters) (last : ℕ) (all : Connections) → IsReport a p old → IsTable port peer a p last table all
+    (port : ℕ) (peer : Option IpAddr) (how : Way) (a p : Parameters) (last : ℕ) (all : Connections) → IsReport how a p old → IsTable port peer how a p last table all
     → EndsAll a p missing all.known old new
 
 -- ---- the same of packets of a file
 
+abbrev pub same_role : Role → Role → Bool
+same_role role.Host role.Host = true
+same_role role.Host role.Equipment = false
+same_role role.Equipment role.Host = false
+same_role role.Equipment role.Equipment = true
+
+-- what is told: verdicts, or the log of the end that has a role, the active one where both have it
+abbrev pub way_by : Option Role → Parameters → Parameters → Way
+way_by None a p = to_verdicts
+way_by (Some r) a p = if same_role r a.role then to_log a Active else to_log p Passive
+
+abbrev pub way_of : Capturing → Way
+way_of options = way_by options.log options.active options.passive
+
 abbrev pub wanted_of : Capturing → Wanted
-wanted_of options = record { port = options.port; peer = options.peer; active = options.active; passive = options.passive }
+wanted_of options = record { port = options.port; peer = options.peer; way = way_of options; active = options.active; passive = options.passive }
 
 abbrev pub IsTableOf : Wanted → ℕ → Table → Connections → Type 0
-IsTableOf w last table all = IsTable w.port w.peer w.active w.passive last table all
+IsTableOf w last table all = IsTable w.port w.peer w.way w.active w.passive last table all
 
 abbrev pub IsReportOf : Wanted → Report → Type 0
-IsReportOf w report = IsReport w.active w.passive report
+IsReportOf w report = IsReport w.way w.active w.passive report
 
 abbrev pub ShowsAsDealt : ℕ → Record → List ℕ → Option Shortfall → Table → Table → Report → Report → Type 0
 ShowsAsDealt packet r octets missing old new before after =
@@ -95,14 +127,14 @@ ShowsAsDealt packet r octets missing old new before after =
     → (next : Connections) × DealsShown (segment_at r.link octets) w packet r.time octets missing all next before after × IsTableOf w packet new next
 
 -- and it is written what is told with it
-abbrev pub PutsAsDealt : ℕ → Record → List ℕ → Option Shortfall → Table → Table → Report → Report → Option (List ℕ) → Option (List ℕ) → Type 0
+unfoldable pub PutsAsDealt : ℕ → Record → List ℕ → Option Shortfall → Table → Table → Report → Report → Option (List ℕ) → Option (List ℕ) → Type 0
 PutsAsDealt packet r octets missing old new before after out now =
     (w : Wanted) (last : ℕ) (all : Connections) → IsReportOf w before → last < packet → IsTableOf w last old all
     → (next : Connections) × (told : Report) × DealsShown (segment_at r.link octets) w packet r.time octets missing all next before told
     × PutsOut told after out now × IsTableOf w packet new next × IsReportOf w after
 
 -- all packets of a file that was opened
-abbrev pub ReadsAsDealt : Reading → Option Shortfall → Option (List ℕ) → Table → Table → Report → Report → Option (List ℕ) → Option (List ℕ) → Type 0
+unfoldable pub ReadsAsDealt : Reading → Option Shortfall → Option (List ℕ) → Table → Table → Report → Report → Option (List ℕ) → Option (List ℕ) → Type 0
 ReadsAsDealt reading missing left old new before after out now =
     (w : Wanted) (all : Connections) → reading.state.packets ≡ 0 → IsReportOf w before → IsTableOf w 0 old all
     → WhereTold left (λ input. (packets : List Packet) × (ending : Ending) × (next : Connections) × (last : ℕ) × ReadsOn reading input packets ending

@@ -2,7 +2,6 @@ pub mod Line
 pub mod Stop
 pub mod Report
 pub mod Capturing
-pub mod Joined
 pub mod Said
 pub mod Courses
 pub mod Logged
@@ -14,3 +13,12 @@ pub mod Connections
 pub mod Kept
 pub mod Dealt
 pub mod LeftOut
+pub mod Paged
+pub mod Items
+pub mod Supposing
+pub mod Joined
+pub mod Session
+pub mod Running
+pub mod Refused
+pub mod RefusedTable
+pub mod RefusedFile

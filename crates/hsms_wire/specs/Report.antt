@@ -16,6 +16,7 @@ use Rattle.hsms_options.specs.declared.fault.ToolFault.TheVariants as tool
 use Rattle.hsms_accounts.specs.Account.{HasLogged, Note, SaysOf, Standing}
 use Rattle.hsms_accounts.specs.declared.account.Told.{Told}
 use Rattle.hsms_accounts.specs.declared.ends.Ends.{Ends}
+use Rattle.hsms_accounts.specs.declared.journal.Journal.{Journal}
 use Rattle.hsms_accounts.specs.declared.pair.Pair.{Pair}
 use Rattle.hsms_wire.specs.declared.left_out.LeftOut.{LeftOut}
 use Rattle.hsms_wire.specs.declared.report.Manner.{Manner}
@@ -159,8 +160,14 @@ pub record HasTold (tellings : List Telling) (old new : Report) : Type 0 where
   pub manner : new.manner ≡ Verdicts
   pub left_out : new.left_out ≡ old.left_out
 
+-- the log of an end that is told goes on, by the same settings
+abbrev pub KeepsLog : Report → Report → Type 0
+KeepsLog old new =
+    (j : Journal) → old.manner ≡ Log j
+    → (next : Journal) × (new.manner ≡ Log next) × (next.settings ≡ j.settings) × (next.side ≡ j.side) × (new.active ≡ old.active) × (new.passive ≡ old.passive)
+
 unfoldable pub Tells : Report → Report → Type 0
-Tells old new = old.manner ≡ Verdicts → (tellings : List Telling) × HasTold tellings old new
+Tells old new = (old.manner ≡ Verdicts → (tellings : List Telling) × HasTold tellings old new) × KeepsLog old new
 
 -- the same behind a packet that may have been left out
 abbrev pub TellsBehind : Report → Report → Type 0
@@ -179,16 +186,16 @@ unfoldable pub Writes : Report → Option (List ℕ) → Report → Option (List
 Writes old before new after =
     old.manner ≡ Verdicts → old.page.octets ≡ [] → (tellings : List Telling) × HasWritten tellings old before new after
 
--- the connections that were left are told, then what was left out, and this says whether all is well
-abbrev pub Concludes : Option Shortfall → Report → Report → Bool → Type 0
-Concludes missing old new well =
+-- the connections that were left are told, then what was left out, and this is answered
+abbrev pub Concludes : Option Shortfall → Report → Report → Result Bool Stop → Type 0
+Concludes missing old new result =
     old.manner ≡ Verdicts → (tellings : List Telling) × (left_out : LeftOut)
     × (new.page.octets ≡ old.page.octets ++ (lines_of old.active.role old.passive.role tellings ++ line_of left_out))
-    × AnswersWell (found_behind (found_with (found_of old) missing) tellings) well
+    × Finishes (found_behind (found_with (found_of old) missing) tellings) result
 
 -- their lines were written
-abbrev pub EndsWith : Option Shortfall → Report → Option (List ℕ) → Option (List ℕ) → Bool → Type 0
-EndsWith missing old before after well =
+abbrev pub EndsWith : Option Shortfall → Report → Option (List ℕ) → Option (List ℕ) → Result Bool ToolFault → Type 0
+EndsWith missing old before after result =
     old.manner ≡ Verdicts → old.page.octets ≡ [] → (tellings : List Telling) × (left_out : LeftOut)
     × Grows before after (lines_of old.active.role old.passive.role tellings ++ line_of left_out)
-    × AnswersWell (found_behind (found_with (found_of old) missing) tellings) well
+    × Answers (found_behind (found_with (found_of old) missing) tellings) result

@@ -21,7 +21,6 @@ use Rattle.hsms_wire.specs.declared.report.Report.{Report}
 use Rattle.hsms_wire.specs.declared.shortfall.Shortfall.{Shortfall}
 use Rattle.hsms_wire.specs.declared.shortfall.Shortfall.TheVariants.{Lost}
 use Rattle.hsms_wire.specs.Logged.{ToldForGood, ToldOf}
-use Rattle.hsms_wire.specs.Report.{Tells}
 use Rattle.hsms_wire.specs.Followed.{GivesUp, IsFollowed, WhenTold, seen_waiting}
 
 -- ---- the SYN of the passive end
@@ -61,9 +60,13 @@ abbrev pub first_shown : List Seen → Option ℕ
 first_shown [] = None
 first_shown (s ∷ ss) = if shows_answer s then Some s.packet else first_shown ss
 
--- it is lost at the first such packet; where there is none, nothing is told: the connection was refused, or is half open
+-- it is lost at the first such packet
+abbrev pub lost_by : List Seen → Option Shortfall
+lost_by ss = option_map (λ packet. Lost packet) (first_shown ss)
+
+-- where there is none, nothing is told: the connection was refused, or is half open
 abbrev pub ToldUnanswered : Pair → List Seen → Report → Report → Type 0
-ToldUnanswered pair ss old new = WhenTold (is_some (first_shown ss)) pair (option_map (λ packet. Lost packet) (first_shown ss)) None old new
+ToldUnanswered pair ss old new = WhenTold (is_some (first_shown ss)) pair (lost_by ss) None old new
 
 -- ---- how it begins
 
@@ -105,12 +108,15 @@ shows side.Active acknowledged some = is_some acknowledged || some
 shows side.Passive acknowledged some = some
 
 -- behind these segments: packets wait, or it is followed
+abbrev pub StageAs : ((End → ℕ) → List Seen → Open → Type 0) → ℕ → List Seen → Stage → Type 0
+StageAs IsSo number seen (stage.Opening waiting) = (map seen_waiting waiting.items ≡ seen) × (answered_by number seen ≡ None) × (length seen ≤ 4096)
+StageAs IsSo number seen (stage.Open o) = (other : ℕ) × (answered_by number seen ≡ Some other) × IsSo (bases number other) seen o
+StageAs IsSo number seen (stage.Joining gathering) = ⊥
+StageAs IsSo number seen (stage.Within within) = ⊥
+StageAs IsSo number seen stage.Over = ⊥
+
 abbrev pub StageIs : Parameters → Parameters → ℕ → List Seen → Stage → Type 0
-StageIs a p number seen (stage.Opening waiting) = (map seen_waiting waiting.items ≡ seen) × (answered_by number seen ≡ None) × (length seen ≤ 4096)
-StageIs a p number seen (stage.Open o) = (other : ℕ) × (answered_by number seen ≡ Some other) × IsFollowed a p (bases number other) seen o
-StageIs a p number seen (stage.Joining gathering) = ⊥
-StageIs a p number seen (stage.Within within) = ⊥
-StageIs a p number seen stage.Over = ⊥
+StageIs a p number seen st = StageAs (IsFollowed a p) number seen st
 
 -- all is told of it, or it is given up with one of these segments
 abbrev pub OverWith : Parameters → Parameters → Pair → (End → ℕ) → List Seen → Report → Report → Type 0
@@ -173,9 +179,3 @@ EndsStage pair replaced missing (stage.Open o) old new = EndsFrom pair replaced 
 EndsStage pair replaced missing (stage.Joining gathering) old new = Unit {0}
 EndsStage pair replaced missing (stage.Within within) old new = Unit {0}
 EndsStage pair replaced missing stage.Over old new = new ≡ old
-
--- no packet follows: what is left of each connection is told, in the order in which they began
-abbrev pub EndsFlows : Option Shortfall → List (Pair × Flow) → Report → Report → Type 0
-EndsFlows missing [] old new = new ≡ old
-EndsFlows missing ((pair, flow) ∷ flows) old new =
-    (mid : Report) × Tells old mid × EndsStage pair false missing flow.stage old mid × EndsFlows missing flows mid new

@@ -17,6 +17,7 @@ use Rattle.hsms_wire.specs.declared.shortfall.Shortfall.{Shortfall}
 use Rattle.hsms_wire.specs.declared.shortfall.Shortfall.TheVariants.{Time}
 use Rattle.hsms_wire.specs.declared.table.Capture.{Capture}
 use Rattle.hsms_wire.specs.declared.table.Table.{Table}
+use Rattle.hsms_wire.specs.Paged.{EndsStageOnPage, TakesOnPage}
 use Rattle.hsms_wire.specs.Report.{Tells}
 use Rattle.hsms_wire.specs.Segments.{has_rst, pair_at, syn_by, taken_segment}
 use Rattle.hsms_wire.specs.Staged.{EndsStage, IsBegun, IsForgotten, TakesStage}
@@ -47,7 +48,7 @@ FollowsBy None pair s old new before after = (new ≡ old) × (after ≡ before)
 FollowsBy (Some flow) pair s old new before after =
     (next : Stage) × (new ≡ record old { flows = new.flows })
     × WritesThrough (same_pair.ghosts).eq ((same_pair.ghosts).eq pair) old.flows (record flow { stage = next }) new.flows
-    × TakesStage pair flow.syn s flow.stage next before after
+    × TakesStage pair flow.syn s flow.stage next before after × TakesOnPage pair flow.syn s flow.stage next before after
 
 abbrev pub FollowsFlow : Pair → Seen → Table → Table → Report → Report → Type 0
 FollowsFlow pair s old new before after = FollowsBy (flow_of old pair) pair s old new before after
@@ -57,7 +58,7 @@ FollowsFlow pair s old new before after = FollowsBy (flow_of old pair) pair s ol
 -- the one before ends, since this one replaces it
 abbrev pub EndsBefore : Option Flow → Pair → Report → Report → Type 0
 EndsBefore None pair before after = after ≡ before
-EndsBefore (Some flow) pair before after = EndsStage pair true None flow.stage before after
+EndsBefore (Some flow) pair before after = EndsStage pair true None flow.stage before after × EndsStageOnPage true None flow.stage before after
 
 -- those that are forgotten are left out, and the others stay, in their order
 abbrev pub LeavesOut : {X : Type 0} → (X → Type 0) → List (Pair × X) → List (Pair × X) → Type 0
@@ -146,3 +147,12 @@ TakesBy (Some found) segment capture missing old new before after = TakesOf foun
 abbrev pub TakesPacket : Segment → Capture → Option Shortfall → Table → Table → Report → Report → Type 0
 TakesPacket segment capture missing old new before after =
     (found : Option (Pair × Side)) × LooksAt old segment found × TakesBy found segment capture missing old new before after
+
+-- ---- no packet follows
+
+-- no packet follows: what is left of each connection is told, in the order in which they began
+abbrev pub EndsFlows : Option Shortfall → List (Pair × Flow) → Report → Report → Type 0
+EndsFlows missing [] old new = new ≡ old
+EndsFlows missing ((pair, flow) ∷ flows) old new =
+    (mid : Report) × Tells old mid × EndsStage pair false missing flow.stage old mid × EndsStageOnPage false missing flow.stage old mid
+    × EndsFlows missing flows mid new

@@ -6,7 +6,9 @@ ghost use Rattle.hsms_lines.specs.Devices.{CountsFailure, IsReadWriteOrEndless};
 ghost use Rattle.hsms_wire.specs.Capturing.{CapturesTo, GrowsBySome, IsMissingBy, IsWriteOrEndless};
 ghost use Rattle.hsms_wire.specs.Dealt.{CapturesFile};
 ghost use Rattle.hsms_wire.specs.Kept.{ConcludesAsDealt, FinishesAsDealt, PutsAsDealt, ReadsAsDealt, ShowsAsDealt, wanted_of};
+ghost use Rattle.hsms_wire.specs.RefusedFile.{ConcludesAsRefused, FinishesAsRefused, PutsAsRefused, ReadsAsRefused, RefusesFile, ShowsAsRefused};
 ghost use Rattle.hsms_wire.specs.Report.{Concludes, EndsWith, FailsUnrefused, StopsUnrefused, TellsBehind, Writes};
+ghost use Rattle.hsms_wire.specs.declared.report.Manner.TheVariants.{Verdicts};
 ghost use Rattle.hsms_wire.specs.Segments.{body_in};
 ghost use Rattle.hsms_wire.specs.Stop.{IsRefusal, IsRefused};
 
@@ -49,19 +51,21 @@ pub fn capture_to<R: Source, W: Sink>(
     ensures writes { CountsFailure (codes "Write") result (W.state sink.old).failures (W.state sink.new).failures }
     ensures some { GrowsBySome (W.state sink.old).written (W.state sink.new).written }
     ensures lines { IfOk result (λ well. options.log ≡ None → CapturesTo options.active.role options.passive.role
-        (W.state sink.old).written (W.state sink.new).written well) }
-    ensures file { IfOk result (λ well. options.log ≡ None → options.joined ≡ false → WhereTold (R.state source.old).left
+        (W.state sink.old).written (W.state sink.new).written (Ok well)) }
+    ensures told { IfErr result (λ fault. IsRefusal fault → options.log ≡ None → CapturesTo options.active.role
+        options.passive.role (W.state sink.old).written (W.state sink.new).written (Err fault)) }
+    ensures file { IfOk result (λ well. options.joined ≡ false → WhereTold (R.state source.old).left
         (λ input. CapturesFile (wanted_of options) input
         (W.state sink.old).written (W.state sink.new).written (Ok well))) }
-    ensures refused { IfErr result (λ fault. IsRefusal fault → options.log ≡ None → options.joined ≡ false
-        → WhereTold (R.state source.old).left (λ input. CapturesFile (wanted_of options) input
-        (W.state sink.old).written (W.state sink.new).written (Err fault))) }
+    ensures refused { IfErr result (λ fault. IsRefusal fault → options.joined ≡ false
+        → WhereTold (R.state source.old).left (λ input. RefusesFile (wanted_of options) input
+        (W.state sink.old).written (W.state sink.new).written fault)) }
 {
     let mut report = Report::new(alloc, &options);
     let mut table = Table::new(alloc, options.port, options.peer, options.joined);
     match Packets::open(alloc, source) {
-        Ok(packets) => {
-            let missing = read_all(alloc, packets, source, sink, &mut table, &mut report)?;
+        Ok(mut packets) => {
+            let missing = read_all(alloc, &mut packets, source, sink, &mut table, &mut report)?;
             finish(alloc, sink, table, report, missing)
         }
         Err(fault) => {
@@ -75,7 +79,7 @@ pub fn capture_to<R: Source, W: Sink>(
 #[tactic(auto, using(crate::proofs::Written::none_more, crate::proofs::Written::some_more, crate::proofs::Refusing::fails_behind))]
 fn read_all<R: Source, W: Sink>(
     alloc: Global,
-    mut packets: Packets,
+    packets: &mut Packets,
     source: &mut R,
     sink: &mut W,
     table: &mut Table,
@@ -86,9 +90,11 @@ fn read_all<R: Source, W: Sink>(
     ensures writes { CountsFailure (codes "Write") result (W.state sink.old).failures (W.state sink.new).failures }
     ensures some { GrowsBySome (W.state sink.old).written (W.state sink.new).written }
     ensures lines { OnOk result (Writes report.old (W.state sink.old).written report.new (W.state sink.new).written) }
-    ensures deals { IfOk result (λ missing. ReadsAsDealt packets missing (R.state source.old).left table.old table.new
+    ensures deals { IfOk result (λ missing. ReadsAsDealt packets.old missing (R.state source.old).left table.old table.new
         report.old report.new (W.state sink.old).written (W.state sink.new).written) }
     ensures unrefused { IfErr result (λ fault. report.old.page.octets ≡ [] → FailsUnrefused report.old fault) }
+    ensures refuses { IfErr result (λ fault. ReadsAsRefused packets.old (R.state source.old).left table.old report.old
+        (W.state sink.old).written (W.state sink.new).written fault) }
 {
     each_rest_is_read();
     for _ in 0..u64::MAX {
@@ -112,7 +118,7 @@ fn read_all<R: Source, W: Sink>(
 }
 
 // Takes a packet, and writes what is told with it.
-#[tactic(auto, using(crate::proofs::Written::none_more, crate::proofs::Written::some_more, crate::proofs::Refusing::fails_write, crate::proofs::Refusing::fails_told))]
+#[tactic(auto, using(crate::proofs::Written::none_more, crate::proofs::Written::some_more, crate::proofs::Refusing::fails_write, crate::proofs::Refusing::fails_told, crate::proofs::FileRefusals::never_puts))]
 fn take<W: Sink>(
     alloc: Global,
     sink: &mut W,
@@ -129,6 +135,8 @@ fn take<W: Sink>(
     ensures deals { IfOk result (λ missing. PutsAsDealt packet «record».now octets.now missing table.old table.new
         report.old report.new (W.state sink.old).written (W.state sink.new).written) }
     ensures unrefused { IfErr result (FailsUnrefused report.old) }
+    ensures refuses { IfErr result (λ fault. PutsAsRefused packet «record».now octets.now table.old report.old
+        (W.state sink.old).written (W.state sink.new).written fault) }
 {
     let taken = take_packet(alloc, table, report, packet, record, octets);
     report.put_out(sink)?;
@@ -151,6 +159,8 @@ fn take_packet(
     ensures deals { IfOk result (λ missing. ShowsAsDealt packet «record».now octets.now missing table.old table.new
         report.old report.new) }
     ensures unrefused { IfErr result (StopsUnrefused report.old) }
+    ensures refuses { IfErr result (λ stop. ShowsAsRefused packet «record».now octets.now table.old stop
+        report.old report.new) }
 {
     match segment_of(record.link, octets) {
         Shown::Segment(segment) => {
@@ -193,7 +203,7 @@ fn missing_by(fault: FileFault, packets: u64) -> Result<Shortfall, ToolFault>
 }
 
 // Tells what is left of each connection, and whether each log passes.
-#[tactic(auto, using(crate::proofs::Written::none_more, crate::proofs::Written::some_more, crate::proofs::Refusing::write_holds))]
+#[tactic(auto, using(crate::proofs::Written::none_more, crate::proofs::Written::some_more, crate::proofs::Refusing::write_holds, crate::proofs::FileRefusals::never_finishes))]
 fn finish<W: Sink>(
     alloc: Global,
     sink: &mut W,
@@ -204,11 +214,15 @@ fn finish<W: Sink>(
     ensures word { IfErr result IsWriteOrEndless }
     ensures writes { CountsFailure (codes "Write") result (W.state sink.old).failures (W.state sink.new).failures }
     ensures some { GrowsBySome (W.state sink.old).written (W.state sink.new).written }
-    ensures lines { IfOk result (λ well. EndsWith missing report (W.state sink.old).written (W.state sink.new).written well) }
+    ensures lines { IfOk result (λ well. EndsWith missing report (W.state sink.old).written (W.state sink.new).written (Ok well)) }
+    ensures told { IfErr result (λ fault. IsRefusal fault → EndsWith missing report (W.state sink.old).written
+        (W.state sink.new).written (Err fault)) }
     ensures deals { IfOk result (λ well. FinishesAsDealt missing table report (W.state sink.old).written
         (W.state sink.new).written (Ok well)) }
-    ensures refuses { IfErr result (λ fault. IsRefusal fault → FinishesAsDealt missing table report (W.state sink.old).written
-        (W.state sink.new).written (Err fault)) }
+    ensures refuses { IfErr result (λ fault. IsRefusal fault → report.manner ≡ Verdicts → FinishesAsDealt missing table report
+        (W.state sink.old).written (W.state sink.new).written (Err fault)) }
+    ensures stops { IfErr result (λ fault. FinishesAsRefused missing table report
+        (W.state sink.old).written (W.state sink.new).written fault) }
 {
     let well = conclude(alloc, table, &mut report, missing);
     report.put_out(sink)?;
@@ -225,9 +239,12 @@ fn conclude(
     report: &mut Report,
     missing: Option<Shortfall>,
 ) -> Result<bool, Stop>
-    ensures lines { IfOk result (λ well. Concludes missing report.old report.new well) }
+    ensures lines { IfOk result (λ well. Concludes missing report.old report.new (Ok well)) }
+    ensures told { IfErr result (λ stop. IsRefused stop → Concludes missing report.old report.new (Err stop)) }
     ensures deals { IfOk result (λ well. ConcludesAsDealt missing table report.old report.new (Ok well)) }
-    ensures refuses { IfErr result (λ stop. IsRefused stop → ConcludesAsDealt missing table report.old report.new (Err stop)) }
+    ensures refuses { IfErr result (λ stop. IsRefused stop → report.old.manner ≡ Verdicts
+        → ConcludesAsDealt missing table report.old report.new (Err stop)) }
+    ensures stops { IfErr result (λ stop. ConcludesAsRefused missing table report.old report.new stop) }
 {
     report.note_missing(missing);
     table.finish(alloc, report, missing)?;

@@ -1,13 +1,17 @@
 //! A connection of a capture, from its first SYN on, or from the first packet of a session that was running before.
 
 ghost use Rattle.std.specs.Prelude.{◌≡◌, ◌&&◌, ◌||◌, ◌++◌, [], ◌∷◌, IfErr, IfOk, OnOk, is_some, map};
+ghost use Rattle.hsms_accounts.specs.Stop.{IsNoRefusal};
 ghost use Rattle.hsms_accounts.specs.declared.stop.Stop.TheVariants.{Memory};
 ghost use Rattle.hsms_capture.specs.Known.{seen_of};
-ghost use Rattle.hsms_wire.specs.declared.report.Manner.TheVariants.{Verdicts};
+ghost use Rattle.hsms_accounts.specs.declared.journal.Journal.{Journal};
+ghost use Rattle.hsms_wire.specs.declared.report.Manner.TheVariants.{Log, Verdicts};
+ghost use Rattle.hsms_wire.specs.Paged.{BeginsOnPage, DownsIf, EndsOnPage, FollowsAllOnPage, FollowsOnPage, GoesOnPage, LogsAll, WaitsOnPage};
 ghost use Rattle.hsms_wire.specs.Followed.{BeginsWith, DownBy, EndsOpen, Follows, FollowsAll, GoesOn, HearsThem, TakesSegment, seen_waiting};
 ghost use Rattle.hsms_wire.specs.Logged.{is_there};
+ghost use Rattle.hsms_wire.specs.Refused.{BeginsRefused, EndsOpenRefused, FollowsAllRefused, FollowsRefused, HearsThemRefused, LacksRefused, WaitsRefused, lack_left};
 ghost use Rattle.hsms_wire.specs.Report.{StopsUnrefused, Tells};
-ghost use Rattle.hsms_wire.specs.Staged.{ToldUnanswered, WaitsOn, answers, first_shown, if_answered, shows, stage_by};
+ghost use Rattle.hsms_wire.specs.Staged.{ToldUnanswered, WaitsOn, answers, first_shown, if_answered, lost_by, shows, stage_by};
 
 use crate::course::Course;
 use crate::joining::{Joining, begin, gather};
@@ -153,6 +157,8 @@ impl Stage {
     ghost use Rattle.std.specs.Prelude.{IfErr, IfOk, OnOk};
     ghost use Rattle.hsms_capture.specs.Known.{seen_of};
     ghost use Rattle.hsms_wire.specs.Report.{StopsUnrefused, Tells};
+    ghost use Rattle.hsms_wire.specs.Paged.{EndsStageOnPage, TakesOnPage};
+    ghost use Rattle.hsms_wire.specs.Refused.{EndsRefused, TakesRefused};
     ghost use Rattle.hsms_wire.specs.Staged.{EndsStage, TakesStage};
 
     /// Takes a packet of a connection that begins with a SYN of this number, if it does with one.
@@ -169,7 +175,11 @@ impl Stage {
         ensures told { OnOk result (Tells report.old report.new) }
         ensures takes { IfOk result (λ stage.
             TakesStage pair.now syn (seen_of segment octets.now) self stage report.old report.new) }
+        ensures logged { IfOk result (λ stage.
+            TakesOnPage pair.now syn (seen_of segment octets.now) self stage report.old report.new) }
         ensures unrefused { IfErr result (StopsUnrefused report.old) }
+        ensures refuses { IfErr result (λ stop.
+            TakesRefused pair.now syn (seen_of segment octets.now) self stop report.old report.new) }
     {
         match self {
             Stage::Over => Ok(Stage::Over),
@@ -202,7 +212,9 @@ impl Stage {
     ) -> Result<(), Stop>
         ensures told { OnOk result (Tells report.old report.new) }
         ensures ends { OnOk result (EndsStage pair.now is_replaced missing self report.old report.new) }
+        ensures logged { OnOk result (EndsStageOnPage is_replaced missing self report.old report.new) }
         ensures unrefused { IfErr result (StopsUnrefused report.old) }
+        ensures refuses { IfErr result (λ stop. EndsRefused missing self stop report.old report.new) }
     {
         match self {
             Stage::Over => Ok(()),
@@ -219,7 +231,10 @@ impl Stage {
 
 impl Logs {
     ghost use Rattle.std.specs.Prelude.{◌≡◌, ◌||◌, [], false, IfErr, OnOk, None, is_some};
-    ghost use Rattle.hsms_wire.specs.declared.report.Manner.TheVariants.{Verdicts};
+    ghost use Rattle.hsms_accounts.specs.declared.journal.Journal.{Journal};
+    ghost use Rattle.hsms_wire.specs.declared.report.Manner.TheVariants.{Log, Verdicts};
+    ghost use Rattle.hsms_wire.specs.Paged.{CountsIf};
+    ghost use Rattle.hsms_wire.specs.Refused.{LacksRefused};
     ghost use Rattle.hsms_wire.specs.Followed.{WhenTold, is_up_event, timed_by, unboxed_ends};
     ghost use Rattle.hsms_wire.specs.Report.{StopsUnrefused, Tells};
 
@@ -257,7 +272,10 @@ impl Logs {
         ensures told { OnOk result (Tells report.old report.new) }
         ensures once { OnOk result (report.old.manner ≡ Verdicts
             → WhenTold (self.is_up || is_some shortfall) pair.now shortfall (unboxed_ends self.ends) report.old report.new) }
+        ensures logged { OnOk result ((j : Journal) → report.old.manner ≡ Log j
+            → (shortfall ≡ None) × CountsIf self.is_up report.old report.new) }
         ensures unrefused { IfErr result (StopsUnrefused report.old) }
+        ensures refuses { IfErr result (λ stop. LacksRefused shortfall stop report.old report.new) }
     {
         let Logs {
             ends,
@@ -295,7 +313,11 @@ fn begin_with(
     ensures told { OnOk result (Tells report.old report.new) }
     ensures begins { IfOk result (λ left. BeginsWith pair.now syn segment.number
         (map seen_waiting waiting.items ++ seen_of segment octets.now ∷ []) left report.old report.new) }
+    ensures logged { IfOk result (λ left. BeginsOnPage pair.now syn segment.number
+        (map seen_waiting waiting.items ++ seen_of segment octets.now ∷ []) left report.old report.new) }
     ensures unrefused { IfErr result (StopsUnrefused report.old) }
+    ensures refuses { IfErr result (λ stop. BeginsRefused pair.now syn segment.number
+        (map seen_waiting waiting.items ++ seen_of segment octets.now ∷ []) stop report.old report.new) }
 {
     let open = Open {
         connection: Connection::new(alloc, syn, segment.number),
@@ -358,7 +380,9 @@ fn end_open(
 ) -> Result<(), Stop>
     ensures told { OnOk result (Tells report.old report.new) }
     ensures ends { OnOk result (EndsOpen pair.now is_replaced missing «open» report.old report.new) }
+    ensures logged { OnOk result (EndsOnPage is_replaced missing «open» report.old report.new) }
     ensures unrefused { IfErr result (StopsUnrefused report.old) }
+    ensures refuses { IfErr result (λ stop. EndsOpenRefused missing «open» stop report.old report.new) }
 {
     let Open {
         connection,
@@ -389,8 +413,10 @@ fn go_down(
 ) -> Result<(), Stop>
     ensures told { OnOk result (Tells report.old report.new) }
     ensures down { OnOk result (report.old.manner ≡ Verdicts → DownBy (is_replaced && logs.old.is_up) logs.old logs.new) }
+    ensures logged { OnOk result ((j : Journal) → report.old.manner ≡ Log j
+        → DownsIf (is_replaced && logs.old.is_up) j report.old report.new × (logs.new.is_up ≡ logs.old.is_up)) }
     ensures same { OnOk result (report.old.manner ≡ Verdicts → report.new ≡ report.old) }
-    ensures unrefused { IfErr result (StopsUnrefused report.old) }
+    ensures unrefused { IfErr result IsNoRefusal }
 {
     if is_replaced && logs.is_up {
         return report.replace(alloc, &mut logs.ends);
@@ -433,7 +459,11 @@ fn wait(
     ensures told { OnOk result (Tells report.old report.new) }
     ensures waits { IfOk result (λ stage. report.old.manner ≡ Verdicts → WaitsOn pair.now
         (map seen_waiting waiting.items ++ seen_of segment octets.now ∷ []) stage report.old report.new) }
+    ensures logged { IfOk result (λ stage. (j : Journal) → report.old.manner ≡ Log j → WaitsOnPage
+        (map seen_waiting waiting.items ++ seen_of segment octets.now ∷ []) stage report.old report.new) }
     ensures unrefused { IfErr result (StopsUnrefused report.old) }
+    ensures refuses { IfErr result (λ stop. WaitsRefused
+        (map seen_waiting waiting.items ++ seen_of segment octets.now ∷ []) stop report.old report.new) }
 {
     let mut held = Vec::new(alloc);
     held.extend_from_slice(octets)?;
@@ -457,7 +487,11 @@ fn give_up(alloc: Global, report: &mut Report, pair: &Pair, waiting: &[Waiting])
     ensures told { OnOk result (Tells report.old report.new) }
     ensures unanswered { OnOk result (report.old.manner ≡ Verdicts
         → ToldUnanswered pair.now (map seen_waiting waiting.now) report.old report.new) }
+    ensures logged { OnOk result ((j : Journal) → report.old.manner ≡ Log j
+        → (first_shown (map seen_waiting waiting.now) ≡ None) × (report.new ≡ report.old)) }
     ensures unrefused { IfErr result (StopsUnrefused report.old) }
+    ensures refuses { IfErr result (λ stop.
+        LacksRefused (lost_by (map seen_waiting waiting.now)) stop report.old report.new) }
 {
     match lost_at(waiting) {
         Some(packet) => report.conclude(alloc, pair, None, Some(Shortfall::Lost(packet))),
@@ -500,7 +534,11 @@ fn follow_all(
     ensures told { OnOk result (Tells report.old report.new) }
     ensures follows { IfOk result (λ left.
         FollowsAll pair.now (map seen_waiting waiting.items) «open» left report.old report.new) }
+    ensures logged { IfOk result (λ left.
+        FollowsAllOnPage pair.now (map seen_waiting waiting.items) «open» left report.old report.new) }
     ensures unrefused { IfErr result (StopsUnrefused report.old) }
+    ensures refuses { IfErr result (λ stop.
+        FollowsAllRefused pair.now (map seen_waiting waiting.items) «open» stop report.old report.new) }
 {
     let mut left = Some(open);
     for packet in waiting {
@@ -525,7 +563,11 @@ fn follow(
     ensures told { OnOk result (Tells report.old report.new) }
     ensures follows { IfOk result (λ left.
         Follows pair.now (seen_of segment octets.now) «open» left report.old report.new) }
+    ensures logged { IfOk result (λ left.
+        FollowsOnPage pair.now (seen_of segment octets.now) «open» left report.old report.new) }
     ensures unrefused { IfErr result (StopsUnrefused report.old) }
+    ensures refuses { IfErr result (λ stop.
+        FollowsRefused pair.now (seen_of segment octets.now) «open» stop report.old report.new) }
 {
     let Open {
         connection,
@@ -575,7 +617,10 @@ fn go_on(
     ensures told { OnOk result (Tells report.old report.new) }
     ensures goes { IfOk result (λ left. report.old.manner ≡ Verdicts
         → GoesOn pair.now logs course followed left report.old report.new) }
+    ensures logged { IfOk result (λ left. (j : Journal) → report.old.manner ≡ Log j
+        → GoesOnPage logs course followed left report.old report.new) }
     ensures unrefused { IfErr result (StopsUnrefused report.old) }
+    ensures refuses { IfErr result (λ stop. LacksRefused (lack_left course followed) stop report.old report.new) }
 {
     let shortfall = match course {
         Course::Over(shortfall) => shortfall,
@@ -600,8 +645,12 @@ fn hear_all(
     ensures told { OnOk result (Tells report.old report.new) }
     ensures heard { IfOk result (λ course. report.old.manner ≡ Verdicts
         → HearsThem report.old.active report.old.passive logs.old told.items course logs.new) }
+    ensures logged { IfOk result (λ course. (j : Journal) → report.old.manner ≡ Log j
+        → LogsAll pair.now logs.old told.items course j report.old logs.new report.new) }
     ensures same { OnOk result (report.old.manner ≡ Verdicts → report.new ≡ report.old) }
     ensures unrefused { IfErr result (StopsUnrefused report.old) }
+    ensures refuses { IfErr result (λ stop.
+        HearsThemRefused pair.now logs.old told.items stop report.old report.new) }
 {
     for happening in told {
         let packet = happening.packet;

@@ -1,17 +1,18 @@
 //! What is told of a session that was running before the capture.
 
-ghost use Rattle.std.specs.Prelude.{IfErr, OnOk};
+ghost use Rattle.std.specs.Prelude.{◌≡◌, IfErr, OnOk};
 ghost use Rattle.hsms_wire.specs.Joined.{IsQuiet};
+ghost use Rattle.hsms_wire.specs.Supposing.{counts_by, other_side, said_by};
 ghost use Rattle.hsms_wire.specs.Report.{StopsUnrefused, Tells};
 
 use crate::course::Course;
 use crate::report::Report;
 use crate::said::Said;
 use crate::shortfall::Shortfall;
-use hsms_accounts::{Ends, Pair, Stop, header_at, unboxed};
+use hsms_accounts::{Ends, Pair, Stop, unboxed};
 use hsms_capture::{Event, Happening, Side};
-use hsms_frame::{Frame, Header, select_req, select_rsp};
-use hsms_joined::{Start, Supposed};
+use hsms_frame::{Header, select_req, select_rsp};
+use hsms_joined::{Start, Supposed, header_at};
 use std::alloc::Global;
 use std::mem;
 
@@ -75,14 +76,32 @@ enum Part {
 }
 
 impl Joined {
-    ghost use Rattle.std.specs.Prelude.{◌≡◌, ◌≢◌, ◌⊎◌, IfErr, None, OnOk, false, true};
+    ghost use Rattle.std.specs.Prelude.{◌≡◌, ◌≢◌, ◌++◌, ◌∷◌, [], ◌||◌, ◌⊎◌, ℕ, IfErr, IfOk, List, None, OnOk, Some, false, is_some, map, true};
+    ghost use Rattle.hsms_accounts.specs.declared.journal.Journal.{Journal};
+    ghost use Rattle.hsms_accounts.specs.declared.pair.Pair.{Pair};
     ghost use Rattle.hsms_accounts.specs.declared.stop.Stop.TheVariants.{Memory};
+    ghost use Rattle.hsms_capture.specs.declared.telling.Happening.{Happening};
+    ghost use Rattle.hsms_joined.specs.Supposed.{supposed_by};
+    ghost use Rattle.hsms_joined.specs.declared.supposed.Supposed.TheVariants.{Selected};
+    ghost use Rattle.hsms_machine.specs.Settings.{Parameters};
+    ghost use Rattle.hsms_wire.specs.declared.course.Course.TheVariants.{Goes};
     ghost use Rattle.hsms_wire.specs.declared.joined.Part.TheVariants.{Message};
-    ghost use Rattle.hsms_wire.specs.Joined.{IsQuiet};
+    ghost use Rattle.hsms_wire.specs.declared.report.Manner.TheVariants.{Log, Verdicts};
+    ghost use Rattle.hsms_wire.specs.declared.said.Said.{Said};
+    ghost use Rattle.hsms_wire.specs.Dealt.{Way};
+    ghost use Rattle.hsms_wire.specs.Followed.{Replaces, WhenTold, unboxed_ends};
+    ghost use Rattle.hsms_wire.specs.Items.{TakesItems, leaves_out};
+    ghost use Rattle.hsms_wire.specs.Joined.{Decides, HearsItem, HearsNext, HearsOn, IsNew, IsPartOf, IsQuiet, Settles, TellsPart, TellsThem, Waits, SettlesAndTells, come_items_if, end_course, ends_if, left_items, left_packets};
+    ghost use Rattle.hsms_wire.specs.Paged.{CountsIf, GoesDown};
     ghost use Rattle.hsms_wire.specs.Report.{StopsUnrefused, Tells, TellsBy};
+    ghost use Rattle.hsms_wire.specs.Said.{KnowsBoth, Spoken, spoken_to, with_message};
+    ghost use Rattle.hsms_wire.specs.Supposing.{asked_by, supposed_messages};
 
     /// A session of which nothing is told.
-    pub fn new(alloc: Global, start: Start) -> Joined {
+    #[tactic(auto, using(crate::proofs::Sessions::new_joined))]
+    pub fn new(alloc: Global, start: Start) -> Joined
+        ensures { IsNew start result }
+    {
         Joined {
             start,
             ends: None,
@@ -96,7 +115,7 @@ impl Joined {
         }
     }
 
-    /// Something happens on it. What happened before both directions had begun is left out.
+    /// Something happens on it. Messages before both directions had begun are left out, and that it came up is supposed.
     #[tactic(auto, using(crate::proofs::Quiet::quiet_steps))]
     pub fn hear(
         &mut self,
@@ -107,55 +126,50 @@ impl Joined {
     ) -> Result<Course, Stop>
         ensures told { OnOk result (Tells report.old report.new) }
         ensures quiet { OnOk result (IsQuiet self.old.is_up self.new.is_up report.old report.new) }
+        ensures hears { IfOk result (λ course. HearsOn pair.now happening self.old report.old course self.new report.new) }
         ensures unrefused { IfErr result (StopsUnrefused report.old) }
     {
-        let is_early = happening.packet < self.start.packet;
-        match &happening.event {
-            Event::Up => Ok(Course::Goes),
-            Event::Message { .. } if is_early => Ok(Course::Goes),
-            Event::Message { from, octets } => {
-                let message = header_at(octets.as_slice(), report.max());
-                let from = *from;
-                self.hear_message(alloc, report, pair, from, message, happening)
-            }
-            Event::Down if is_early => Ok(Course::Over(None)),
-            Event::Down => self.settle_and_tell(alloc, report, pair, happening),
+        if counts(&happening, self.start) {
+            self.hear_next(alloc, report, pair, happening)
+        } else {
+            Ok(Course::Goes)
         }
     }
 
-    // A message is sent, with this header, if it has one.
+    // A message is sent, or it goes down.
     #[tactic(auto, using(crate::proofs::Quiet::quiet_steps))]
-    fn hear_message(
+    fn hear_next(
         &mut self,
         alloc: Global,
         report: &mut Report,
         pair: &Pair,
-        from: Side,
-        message: Option<Header>,
         happening: Happening,
     ) -> Result<Course, Stop>
         ensures told { OnOk result (Tells report.old report.new) }
         ensures quiet { OnOk result (IsQuiet self.old.is_up self.new.is_up report.old report.new) }
+        ensures hears { IfOk result (λ course. HearsNext pair.now happening self.old report.old course self.new report.new) }
         ensures unrefused { IfErr result (StopsUnrefused report.old) }
     {
         if self.is_decided {
             return self.tell(alloc, report, pair, happening);
         }
-        let Some(message) = message else {
+        let Some((from, message)) = message_of(&happening, report.max()) else {
             return self.settle_and_tell(alloc, report, pair, happening);
         };
         let Some(supposed) = self.decided_by(from, message) else {
             return self.wait(alloc, report, pair, from, message, happening);
         };
-        self.decide(alloc, supposed, other(from))?;
-        match self.tell_waiting(alloc, report, pair)? {
+        match self.decide(alloc, report, pair, supposed, other(from))? {
             Course::Goes => self.tell(alloc, report, pair, happening),
             Course::Over(shortfall) => Ok(Course::Over(shortfall)),
         }
     }
 
     // What a message says of what stood before, if it decides that.
-    fn decided_by(&self, from: Side, message: Header) -> Option<Supposed> {
+    fn decided_by(&self, from: Side, message: Header) -> Option<Supposed>
+        ensures { (said : Said) (spoken : Spoken) → self.now.said ≡ Some said → KnowsBoth spoken said
+            → result ≡ supposed_by message (spoken_to from spoken) }
+    {
         match &self.said {
             Some(said) => said.decided_by(from, message),
             None => None,
@@ -175,6 +189,8 @@ impl Joined {
     ) -> Result<Course, Stop>
         ensures told { OnOk result (Tells report.old report.new) }
         ensures quiet { OnOk result (IsQuiet self.old.is_up self.new.is_up report.old report.new) }
+        ensures waits { IfOk result (λ course.
+            Waits pair.now from message happening self.old report.old course self.new report.new) }
         ensures unrefused { IfErr result (StopsUnrefused report.old) }
     {
         self.note(from, message)?;
@@ -184,12 +200,15 @@ impl Joined {
         if self.waiting.len() <= GREATEST_WAIT {
             return Ok(Course::Goes);
         }
-        self.settle(alloc, report, pair)
+        self.decide(alloc, report, pair, Supposed::Selected, Side::Active)
     }
 
     // An end sent a message.
     fn note(&mut self, from: Side, message: Header) -> Result<(), Stop>
-        ensures same { self.new.is_up ≡ self.old.is_up }
+        ensures same { self.new ≡ record self.old { said = self.new.said } }
+        ensures noted { OnOk result ((said : Said) (spoken : Spoken) → self.old.said ≡ Some said → KnowsBoth spoken said
+            → (next : Said) × (self.new.said ≡ Some next) × KnowsBoth (with_message from message spoken) next) }
+        ensures none { self.old.said ≡ None → self.new.said ≡ None }
         ensures memory { IfErr result (λ stop. stop ≡ Memory) }
     {
         match &mut self.said {
@@ -209,6 +228,8 @@ impl Joined {
     ) -> Result<Course, Stop>
         ensures told { OnOk result (Tells report.old report.new) }
         ensures quiet { OnOk result (IsQuiet self.old.is_up self.new.is_up report.old report.new) }
+        ensures tells { IfOk result (λ course.
+            SettlesAndTells pair.now happening self.old report.old course self.new report.new) }
         ensures unrefused { IfErr result (StopsUnrefused report.old) }
     {
         match self.settle(alloc, report, pair)? {
@@ -227,18 +248,48 @@ impl Joined {
     ) -> Result<Course, Stop>
         ensures told { OnOk result (Tells report.old report.new) }
         ensures quiet { OnOk result (IsQuiet self.old.is_up self.new.is_up report.old report.new) }
+        ensures settles { IfOk result (λ course. Settles pair.now self.old report.old course self.new report.new) }
+        ensures nothing { self.old.waiting.items ≡ [] → IfOk result (λ course.
+            (course ≡ Goes) × (self.new ≡ self.old) × (report.new ≡ report.old)) }
         ensures unrefused { IfErr result (StopsUnrefused report.old) }
     {
         if self.waiting.is_empty() {
             return Ok(Course::Goes);
         }
-        self.decide(alloc, Supposed::Selected, Side::Active)?;
-        self.tell_waiting(alloc, report, pair)
+        self.decide(alloc, report, pair, Supposed::Selected, Side::Active)
     }
 
-    // What stood before is decided. An end may have asked.
-    fn decide(&mut self, alloc: Global, supposed: Supposed, asker: Side) -> Result<(), Stop>
-        ensures same { self.new.is_up ≡ self.old.is_up }
+    // What stood before is decided, and an end may have asked: what waits is told.
+    #[tactic(auto, using(crate::proofs::Quiet::quiet_steps))]
+    fn decide(
+        &mut self,
+        alloc: Global,
+        report: &mut Report,
+        pair: &Pair,
+        supposed: Supposed,
+        asker: Side,
+    ) -> Result<Course, Stop>
+        ensures told { OnOk result (Tells report.old report.new) }
+        ensures quiet { OnOk result (IsQuiet self.old.is_up self.new.is_up report.old report.new) }
+        ensures decides { IfOk result (λ course.
+            Decides pair.now supposed asker self.old report.old course self.new report.new) }
+        ensures unrefused { IfErr result (StopsUnrefused report.old) }
+    {
+        self.suppose(alloc, supposed, asker)?;
+        let waiting = mem::replace(&mut self.waiting, Vec::new(alloc));
+        self.tell_all(alloc, report, pair, waiting)
+    }
+
+    // What stood before is decided.
+    fn suppose(&mut self, alloc: Global, supposed: Supposed, asker: Side) -> Result<(), Stop>
+        ensures same { self.new ≡ record self.old {
+          is_decided = self.new.is_decided;
+          supposed = self.new.supposed;
+          asker = self.new.asker;
+          said = self.new.said;
+        } }
+        ensures decided { (self.new.is_decided ≡ true) × (self.new.supposed ≡ supposed) × (self.new.asker ≡ asker) }
+        ensures said { OnOk result ((said : Said) × (self.new.said ≡ Some said) × KnowsBoth (asked_by supposed asker) said) }
         ensures memory { IfErr result (λ stop. stop ≡ Memory) }
     {
         self.is_decided = true;
@@ -252,10 +303,19 @@ impl Joined {
     }
 
     // It comes up with the first message that is told: what is supposed is told, and what was left out.
-    #[tactic(auto, using(crate::proofs::Unrefused::telling_steps))]
+    #[tactic(auto, using(crate::proofs::Unrefused::telling_steps, crate::proofs::Taking::takes_nothing, crate::proofs::Taking::takes_one_then))]
     fn come_up(&mut self, alloc: Global, report: &mut Report, pair: &Pair) -> Result<(), Stop>
         ensures told { OnOk result (Tells report.old report.new) }
         ensures up { OnOk result (self.new.is_up ≡ true) }
+        ensures items { OnOk result (TakesItems pair.now Goes (come_items_if self.old.is_up self.old)
+            self.old.ends report.old self.new.ends report.new) }
+        ensures same { OnOk result (self.new ≡ record self.old {
+          is_up = true;
+          ends = self.new.ends;
+          left_out = self.new.left_out;
+        }) }
+        ensures left { self.old.is_up ≡ true → self.new ≡ self.old }
+        ensures none { self.old.is_up ≡ false → OnOk result (self.new.left_out.items ≡ []) }
         ensures unrefused { IfErr result (StopsUnrefused report.old) }
     {
         if self.is_up {
@@ -270,53 +330,46 @@ impl Joined {
     }
 
     // What is supposed is told, besides that the connection came up.
-    #[tactic(auto, using(crate::proofs::Unrefused::telling_steps))]
+    #[tactic(auto, using(crate::proofs::Unrefused::telling_steps, crate::proofs::Taking::takes_nothing, crate::proofs::Taking::takes_one_then))]
     fn suppose_before(&mut self, alloc: Global, report: &mut Report) -> Result<(), Stop>
         ensures told { OnOk result (Tells report.old report.new) }
+        ensures items { (pair : Pair) → OnOk result (TakesItems pair Goes
+            (supposed_messages self.old.supposed self.old.asker) self.old.ends report.old self.new.ends report.new) }
+        ensures same { self.new ≡ record self.old { ends = self.new.ends } }
         ensures unrefused { IfErr result (StopsUnrefused report.old) }
     {
-        let asker = self.asker;
         match self.supposed {
             Supposed::Selected => self.suppose_select(alloc, report),
-            Supposed::Asked(system) => self.suppose(alloc, report, asker, select_req(system)),
+            Supposed::Asked(system) => {
+                report.suppose_message(alloc, &mut self.ends, self.asker, select_req(system))
+            }
             Supposed::Nothing => Ok(()),
         }
     }
 
     // A Select is supposed, and its answer.
-    #[tactic(auto, using(crate::proofs::Unrefused::telling_steps))]
+    #[tactic(auto, using(crate::proofs::Unrefused::telling_steps, crate::proofs::Taking::takes_nothing, crate::proofs::Taking::takes_one_then))]
     fn suppose_select(&mut self, alloc: Global, report: &mut Report) -> Result<(), Stop>
         ensures told { OnOk result (Tells report.old report.new) }
+        ensures items { (pair : Pair) → OnOk result (TakesItems pair Goes
+            (supposed_messages Selected self.old.asker) self.old.ends report.old self.new.ends report.new) }
+        ensures same { self.new ≡ record self.old { ends = self.new.ends } }
         ensures unrefused { IfErr result (StopsUnrefused report.old) }
     {
         let request = select_req(SUPPOSED_SYSTEM);
-        self.suppose(alloc, report, Side::Active, request)?;
-        self.suppose(alloc, report, Side::Passive, select_rsp(request, 0))
-    }
-
-    // A control message is supposed.
-    #[tactic(auto, using(crate::proofs::Unrefused::telling_steps))]
-    fn suppose(
-        &mut self,
-        alloc: Global,
-        report: &mut Report,
-        from: Side,
-        header: Header,
-    ) -> Result<(), Stop>
-        ensures told { OnOk result (Tells report.old report.new) }
-        ensures unrefused { IfErr result (StopsUnrefused report.old) }
-    {
-        let frame = Frame {
-            header,
-            text: Vec::new(alloc),
-        };
-        report.suppose_message(alloc, &mut self.ends, from, frame)
+        let response = select_rsp(request, 0);
+        report.suppose_message(alloc, &mut self.ends, Side::Active, request)?;
+        report.suppose_message(alloc, &mut self.ends, Side::Passive, response)
     }
 
     // The messages are told that were left out so far.
-    #[tactic(auto, using(crate::proofs::Unrefused::telling_steps))]
+    #[tactic(auto, using(crate::proofs::Unrefused::telling_steps, crate::proofs::Taking::takes_nothing, crate::proofs::Taking::takes_one_then))]
     fn tell_left_out(&mut self, alloc: Global, report: &mut Report) -> Result<(), Stop>
         ensures told { OnOk result (Tells report.old report.new) }
+        ensures items { (pair : Pair) → OnOk result (TakesItems pair Goes (map leaves_out self.old.left_out.items)
+            self.old.ends report.old self.new.ends report.new) }
+        ensures same { self.new ≡ record self.old { ends = self.new.ends; left_out = self.new.left_out } }
+        ensures none { self.new.left_out.items ≡ [] }
         ensures unrefused { IfErr result (StopsUnrefused report.old) }
     {
         let left_out = mem::replace(&mut self.left_out, Vec::new(alloc));
@@ -326,19 +379,22 @@ impl Joined {
         Ok(())
     }
 
-    // The messages that waited are told.
+    // What happens is told, thing by thing.
     #[tactic(auto, using(crate::proofs::Quiet::quiet_steps))]
-    fn tell_waiting(
+    fn tell_all(
         &mut self,
         alloc: Global,
         report: &mut Report,
         pair: &Pair,
+        waiting: Vec<Happening>,
     ) -> Result<Course, Stop>
         ensures told { OnOk result (Tells report.old report.new) }
         ensures quiet { OnOk result (IsQuiet self.old.is_up self.new.is_up report.old report.new) }
+        ensures tells { IfOk result (λ course.
+            TellsThem pair.now waiting.items self.old report.old course self.new report.new) }
+        ensures same { OnOk result (self.new.is_decided ≡ self.old.is_decided) }
         ensures unrefused { IfErr result (StopsUnrefused report.old) }
     {
-        let waiting = mem::replace(&mut self.waiting, Vec::new(alloc));
         for happening in waiting {
             match self.tell(alloc, report, pair, happening)? {
                 Course::Goes => {}
@@ -359,6 +415,9 @@ impl Joined {
     ) -> Result<Course, Stop>
         ensures told { OnOk result (Tells report.old report.new) }
         ensures quiet { OnOk result (IsQuiet self.old.is_up self.new.is_up report.old report.new) }
+        ensures tells { IfOk result (λ course.
+            TellsThem pair.now (happening ∷ []) self.old report.old course self.new report.new) }
+        ensures same { OnOk result (self.new.is_decided ≡ self.old.is_decided) }
         ensures unrefused { IfErr result (StopsUnrefused report.old) }
     {
         let part = self.part_of(&happening, report)?;
@@ -378,6 +437,9 @@ impl Joined {
         ensures told { OnOk result (Tells report.old report.new) }
         ensures quiet { OnOk result (IsQuiet self.old.is_up self.new.is_up report.old report.new) }
         ensures up { OnOk result (self.new.is_up ≡ true → (self.old.is_up ≡ true) ⊎ (part ≡ Message)) }
+        ensures tells { IfOk result (λ course.
+            TellsPart pair.now part happening self.old report.old course self.new report.new) }
+        ensures same { OnOk result ((self.new.is_decided ≡ self.old.is_decided) × (self.new.said ≡ self.old.said)) }
         ensures unrefused { IfErr result (StopsUnrefused report.old) }
     {
         match part {
@@ -392,7 +454,8 @@ impl Joined {
 
     // What becomes of what happens. A message is noted.
     fn part_of(&mut self, happening: &Happening, report: &Report) -> Result<Part, Stop>
-        ensures same { self.new.is_up ≡ self.old.is_up }
+        ensures same { self.new ≡ record self.old { said = self.new.said } }
+        ensures part { IfOk result (λ part. IsPartOf happening.now report.now self.old part self.new) }
         ensures memory { IfErr result (λ stop. stop ≡ Memory) }
     {
         let begun = self.start.time;
@@ -414,11 +477,15 @@ impl Joined {
     }
 
     // A message is left out: the comment in its place is told, once the session came up.
-    #[tactic(auto, using(crate::proofs::Quiet::quiet_steps))]
+    #[tactic(auto, using(crate::proofs::Quiet::quiet_steps, crate::proofs::Sessions::left_nothing, crate::proofs::Sessions::left_told))]
     fn leave_out(&mut self, alloc: Global, report: &mut Report, packet: u64) -> Result<Course, Stop>
         ensures told { OnOk result (Tells report.old report.new) }
         ensures quiet { OnOk result (IsQuiet self.old.is_up self.new.is_up report.old report.new) }
-        ensures same { self.new.is_up ≡ self.old.is_up }
+        ensures goes { IfOk result (λ course. course ≡ Goes) }
+        ensures items { (pair : Pair) → OnOk result (TakesItems pair Goes (left_items self.old.is_up packet)
+            self.old.ends report.old self.new.ends report.new) }
+        ensures left { OnOk result (self.new.left_out.items ≡ self.old.left_out.items ++ left_packets self.old.is_up packet) }
+        ensures same { self.new ≡ record self.old { ends = self.new.ends; left_out = self.new.left_out } }
         ensures unrefused { IfErr result (StopsUnrefused report.old) }
     {
         if self.is_up {
@@ -442,7 +509,11 @@ impl Joined {
     ) -> Result<Course, Stop>
         ensures told { OnOk result (Tells report.old report.new) }
         ensures quiet { OnOk result (IsQuiet self.old.is_up self.new.is_up report.old report.new) }
-        ensures same { self.new.is_up ≡ self.old.is_up }
+        ensures hears { self.old.is_up ≡ true → IfOk result (λ course.
+            HearsItem pair.now happening course self.old.ends report.old self.new.ends report.new) }
+        ensures never { self.old.is_up ≡ false → IfOk result (λ course.
+            (course ≡ end_course happening.event happening.packet) × (self.new ≡ self.old) × (report.new ≡ report.old)) }
+        ensures same { self.new ≡ record self.old { ends = self.new.ends } }
         ensures unrefused { IfErr result (StopsUnrefused report.old) }
     {
         if self.is_up {
@@ -465,7 +536,9 @@ impl Joined {
         happening: Happening,
     ) -> Result<Course, Stop>
         ensures told { OnOk result (Tells report.old report.new) }
-        ensures same { self.new.is_up ≡ self.old.is_up }
+        ensures hears { IfOk result (λ course.
+            HearsItem pair.now happening course self.old.ends report.old self.new.ends report.new) }
+        ensures same { self.new ≡ record self.old { ends = self.new.ends } }
         ensures unrefused { IfErr result (StopsUnrefused report.old) }
     {
         let packet = happening.packet;
@@ -487,6 +560,11 @@ impl Joined {
         ensures quiet { self.is_up ≡ false → shortfall ≡ None → OnOk result (report.new ≡ report.old) }
         ensures missing { self.is_up ≡ false → shortfall ≢ None
             → OnOk result (TellsBy report.old.manner pair.now shortfall None report.old report.new) }
+        ensures once { OnOk result (report.old.manner ≡ Verdicts
+            → WhenTold (self.is_up || is_some shortfall) pair.now shortfall (ends_if self.is_up self.ends)
+            report.old report.new) }
+        ensures logged { OnOk result ((j : Journal) → report.old.manner ≡ Log j
+            → (shortfall ≡ None) × CountsIf self.is_up report.old report.new) }
         ensures unrefused { IfErr result (StopsUnrefused report.old) }
     {
         let Joined {
@@ -513,7 +591,12 @@ impl Joined {
     #[tactic(auto, using(crate::proofs::Unrefused::telling_steps))]
     pub fn replace(&mut self, alloc: Global, report: &mut Report) -> Result<(), Stop>
         ensures told { OnOk result (Tells report.old report.new) }
-        ensures quiet { self.old.is_up ≡ false → OnOk result (report.new ≡ report.old) }
+        ensures quiet { self.old.is_up ≡ false → OnOk result ((self.new ≡ self.old) × (report.new ≡ report.old)) }
+        ensures replaced { self.old.is_up ≡ true → OnOk result (report.old.manner ≡ Verdicts
+            → (report.new ≡ report.old) × Replaces self.old.ends self.new.ends) }
+        ensures logged { self.old.is_up ≡ true → OnOk result ((j : Journal) → report.old.manner ≡ Log j
+            → GoesDown j report.old report.new) }
+        ensures same { self.new ≡ record self.old { ends = self.new.ends } }
         ensures unrefused { IfErr result (StopsUnrefused report.old) }
     {
         if !self.is_up {
@@ -523,8 +606,21 @@ impl Joined {
     }
 }
 
+// Whether what happens counts: a message since both directions had begun, or that the connection goes down.
+fn counts(happening: &Happening, start: Start) -> bool
+    ensures { result ≡ counts_by start.packet happening.now.packet happening.now.event }
+{
+    match &happening.event {
+        Event::Up => false,
+        Event::Message { .. } => start.packet <= happening.packet,
+        Event::Down => true,
+    }
+}
+
 // The header of a message that an end takes, and which one sent it.
-fn message_of(happening: &Happening, max: u32) -> Option<(Side, Header)> {
+fn message_of(happening: &Happening, max: u32) -> Option<(Side, Header)>
+    ensures { result ≡ said_by max happening.now.event }
+{
     match &happening.event {
         Event::Message { from, octets } => match header_at(octets.as_slice(), max) {
             Some(message) => Some((*from, message)),
@@ -535,7 +631,9 @@ fn message_of(happening: &Happening, max: u32) -> Option<(Side, Header)> {
 }
 
 // The other end.
-fn other(side: Side) -> Side {
+fn other(side: Side) -> Side
+    ensures { result ≡ other_side side }
+{
     match side {
         Side::Active => Side::Passive,
         Side::Passive => Side::Active,

@@ -5,7 +5,7 @@ use crate::line::end_line;
 use crate::shortfall::Shortfall;
 use hsms_accounts::{Ends, Heard, Journal, Pair, Stop, Text, Told};
 use hsms_capture::{Happening, Side};
-use hsms_frame::{Frame, Sink};
+use hsms_frame::{Frame, Header, Sink};
 use hsms_joined::Session;
 use hsms_lines::put;
 use hsms_log::Verdict;
@@ -35,7 +35,7 @@ pub struct Report {
 }
 
 impl Report {
-    ghost use Rattle.std.specs.Prelude.{◌≡◌, ◌≤◌, ◌⊎◌, ◌++◌, [], None, Some, IfErr, IfOk, OnOk, true};
+    ghost use Rattle.std.specs.Prelude.{◌≡◌, ◌≤◌, ◌⊎◌, ◌++◌, ◌∷◌, [], None, Some, IfErr, IfOk, OnOk, true};
     ghost use Rattle.hsms_frame.specs.Count.{count_failure};
     ghost use Rattle.hsms_frame.specs.Device.{Grows};
     ghost use Rattle.hsms_lines.specs.Devices.{IsWrite};
@@ -43,7 +43,18 @@ impl Report {
     ghost use Rattle.hsms_wire.specs.declared.report.Manner.TheVariants.{Verdicts};
     ghost use Rattle.hsms_accounts.specs.Stop.{IsNoRefusal};
     ghost use Rattle.hsms_accounts.specs.declared.stop.Stop.TheVariants.{Memory};
+    ghost use Rattle.hsms_accounts.specs.declared.journal.Journal.{Journal};
+    ghost use Rattle.hsms_accounts.specs.declared.pair.Pair.{Pair};
+    ghost use Rattle.hsms_wire.specs.declared.report.Manner.TheVariants.{Log};
+    ghost use Rattle.hsms_wire.specs.Courses.{course_behind};
+    ghost use Rattle.hsms_wire.specs.declared.course.Course.TheVariants.{Goes};
     ghost use Rattle.hsms_wire.specs.Followed.{Begins, HearsOn, Replaces, TellsOnce};
+    ghost use Rattle.hsms_wire.specs.Items.{TakesItems, comes_up, leaves_out, most_of, supposes};
+    ghost use Rattle.hsms_wire.specs.Joined.{HearsItem};
+    ghost use Rattle.hsms_wire.specs.Paged.{GoesDown, LogsThem};
+    ghost use Rattle.hsms_wire.specs.Refused.{HearsRefused, LacksRefused};
+    ghost use Rattle.hsms_wire.specs.Dealt.{BeginsAs};
+    ghost use Rattle.hsms_wire.specs.Kept.{way_of};
     ghost use Rattle.hsms_wire.specs.LeftOut.{line_of, none_left_out};
     ghost use Rattle.hsms_wire.specs.Line.{end_line_of};
     ghost use Rattle.hsms_wire.specs.Stop.{IsRefused};
@@ -52,6 +63,7 @@ impl Report {
     /// Nothing is told yet.
     pub fn new(alloc: Global, options: &Capturing) -> Report
         ensures manner { options.now.log ≡ None → result.manner ≡ Verdicts }
+        ensures way { BeginsAs (way_of options.now) result.manner }
         ensures active { result.active ≡ options.now.active }
         ensures passive { result.passive ≡ options.now.passive }
         ensures found { found_of result ≡ nothing_found }
@@ -106,8 +118,13 @@ impl Report {
         ensures told { OnOk result (Tells self.old self.new) }
         ensures heard { IfOk result (λ heard. self.old.manner ≡ Verdicts
             → HearsOn self.old.active self.old.passive happening heard ends.old ends.new) }
+        ensures logged { IfOk result (λ heard. (j : Journal) → self.old.manner ≡ Log j
+            → LogsThem pair.now (happening ∷ []) (course_behind heard happening.packet) j self.old self.new) }
+        ensures item { IfOk result (λ heard. HearsItem pair.now happening (course_behind heard happening.packet)
+            ends.old self.old ends.new self.new) }
         ensures same { OnOk result (self.old.manner ≡ Verdicts → self.new ≡ self.old) }
         ensures unrefused { IfErr result (StopsUnrefused self.old) }
+        ensures refuses { IfErr result (λ stop. HearsRefused pair.now happening stop self.old self.new) }
     {
         self.begin(alloc, ends)?;
         match (&mut self.manner, ends) {
@@ -141,8 +158,9 @@ impl Report {
     pub fn replace(&mut self, alloc: Global, ends: &mut Option<Box<Ends>>) -> Result<(), Stop>
         ensures told { OnOk result (Tells self.old self.new) }
         ensures replaced { OnOk result (self.old.manner ≡ Verdicts → Replaces ends.old ends.new) }
+        ensures logged { OnOk result ((j : Journal) → self.old.manner ≡ Log j → GoesDown j self.old self.new) }
         ensures same { OnOk result (self.old.manner ≡ Verdicts → self.new ≡ self.old) }
-        ensures unrefused { IfErr result (StopsUnrefused self.old) }
+        ensures unrefused { IfErr result IsNoRefusal }
     {
         match (&mut self.manner, ends) {
             (Manner::Log(journal), _) => journal.replace(&mut self.page),
@@ -163,6 +181,7 @@ impl Report {
         time: u64,
     ) -> Result<(), Stop>
         ensures told { OnOk result (Tells self.old self.new) }
+        ensures logged { OnOk result (TakesItems pair.now Goes (comes_up time ∷ []) ends.old self.old ends.new self.new) }
         ensures unrefused { IfErr result (StopsUnrefused self.old) }
     {
         self.begin(alloc, ends)?;
@@ -175,18 +194,25 @@ impl Report {
         }
     }
 
-    /// An end sent a message, as it is supposed.
+    /// An end sent a message without a text, as it is supposed.
     #[tactic(auto, using(crate::proofs::Unrefused::telling_steps))]
     pub fn suppose_message(
         &mut self,
         alloc: Global,
         ends: &mut Option<Box<Ends>>,
         from: Side,
-        frame: Frame,
+        header: Header,
     ) -> Result<(), Stop>
         ensures told { OnOk result (Tells self.old self.new) }
+        ensures logged { (pair : Pair) → OnOk result
+            (TakesItems pair Goes (supposes from header ∷ []) ends.old self.old ends.new self.new) }
         ensures unrefused { IfErr result (StopsUnrefused self.old) }
     {
+        self.begin(alloc, ends)?;
+        let frame = Frame {
+            header,
+            text: Vec::new(alloc),
+        };
         match (&mut self.manner, ends) {
             (Manner::Log(journal), _) => journal.suppose_message(&mut self.page, from, frame),
             (Manner::Verdicts, Some(ends)) => ends.suppose_message(alloc, from, frame),
@@ -203,8 +229,11 @@ impl Report {
         packet: u64,
     ) -> Result<(), Stop>
         ensures told { OnOk result (Tells self.old self.new) }
+        ensures logged { (pair : Pair) → OnOk result
+            (TakesItems pair Goes (leaves_out packet ∷ []) ends.old self.old ends.new self.new) }
         ensures unrefused { IfErr result (StopsUnrefused self.old) }
     {
+        self.begin(alloc, ends)?;
         match (&mut self.manner, ends) {
             (Manner::Log(journal), _) => journal.leave_out(&mut self.page, packet),
             (Manner::Verdicts, Some(ends)) => ends.leave_out(alloc, packet),
@@ -224,12 +253,19 @@ impl Report {
     }
 
     /// How many octets header and text of a message have at most.
-    pub fn max(&self) -> u32 {
-        self.active.max()
+    pub fn max(&self) -> u32
+        ensures { result ≡ most_of self.now }
+    {
+        match &self.manner {
+            Manner::Verdicts => self.active.max(),
+            Manner::Log(journal) => journal.max(),
+        }
     }
 
     /// T3 of the ends, in milliseconds.
-    pub fn t3(&self) -> u32 {
+    pub fn t3(&self) -> u32
+        ensures { result ≡ self.now.active.t3 }
+    {
         self.active.t3()
     }
 
@@ -254,7 +290,10 @@ impl Report {
         ensures lines { OnOk result (TellsBy self.old.manner pair.now shortfall ends self.old self.new) }
         ensures same { OnOk result (self.new.manner ≡ self.old.manner) }
         ensures goes { OnOk result ((shortfall ≡ None) ⊎ (self.old.manner ≡ Verdicts)) }
+        ensures logged { OnOk result ((j : Journal) → self.old.manner ≡ Log j
+            → (shortfall ≡ None) × (self.new ≡ record self.old { has_told = true })) }
         ensures unrefused { IfErr result (StopsUnrefused self.old) }
+        ensures refuses { IfErr result (λ stop. LacksRefused shortfall stop self.old self.new) }
     {
         self.conclude_with(alloc, shortfall)?;
         self.tell(alloc, pair, ends, shortfall)?;
@@ -270,6 +309,7 @@ impl Report {
         }) }
         ensures goes { OnOk result ((shortfall ≡ None) ⊎ (self.old.manner ≡ Verdicts)) }
         ensures unrefused { IfErr result (StopsUnrefused self.old) }
+        ensures refuses { IfErr result (λ stop. LacksRefused shortfall stop self.old self.new) }
     {
         self.has_told = true;
         let Some(shortfall) = shortfall else {

@@ -60,10 +60,13 @@ impl Table {
     ghost use Rattle.hsms_capture.specs.Known.{seen_of};
     ghost use Rattle.hsms_accounts.specs.Pair.{IsOfPeer};
     ghost use Rattle.hsms_wire.specs.Kept.{EndsAsDealt, TakesAsDealt};
+    ghost use Rattle.hsms_wire.specs.RefusedFile.{EndsAsRefused, TakesAsRefused};
+    ghost use Rattle.hsms_wire.specs.RefusedTable.{FollowsFlowRefused, ReplacesRefused, StartsRefused, TakesOfRefused};
+    ghost use Rattle.hsms_wire.specs.Stop.{IsRefused};
     ghost use Rattle.hsms_wire.specs.Report.{StopsUnrefused, Tells};
     ghost use Rattle.hsms_wire.specs.Segments.{pair_at};
-    ghost use Rattle.hsms_wire.specs.Staged.{EndsFlows, IsForgotten};
-    ghost use Rattle.hsms_wire.specs.Tabled.{BeginsFlow, BeginsWith, FollowsFlow, HasFlow, Joins, KeepsOf, ReplacesFlow, TakesOf, TakesPacket, is_live};
+    ghost use Rattle.hsms_wire.specs.Staged.{IsForgotten};
+    ghost use Rattle.hsms_wire.specs.Tabled.{BeginsFlow, BeginsWith, EndsFlows, FollowsFlow, HasFlow, Joins, KeepsOf, ReplacesFlow, TakesOf, TakesPacket, is_live};
 
     /// No connection, at this port of passive ends, with an end of this address, where there is one; those that were
     /// running before the capture are looked at or not.
@@ -95,6 +98,8 @@ impl Table {
         ensures deals { IfOk result (λ missing. TakesAsDealt segment.now capture.entry missing self.old self.new
             report.old report.new) }
         ensures unrefused { IfErr result (StopsUnrefused report.old) }
+        ensures refuses { IfErr result (λ stop. TakesAsRefused segment.now capture.entry self.old stop
+            report.old report.new) }
     {
         match self.pair_of(segment) {
             Some((pair, from)) => self.take_of(alloc, report, pair, from, segment, capture),
@@ -114,6 +119,7 @@ impl Table {
         ensures ends { OnOk result (EndsFlows missing self.flows.entries report.old report.new) }
         ensures deals { OnOk result (EndsAsDealt missing self report.old report.new) }
         ensures unrefused { IfErr result (StopsUnrefused report.old) }
+        ensures refuses { IfErr result (λ stop. EndsAsRefused missing self stop report.old report.new) }
     {
         let Table {
             port: _,
@@ -143,6 +149,8 @@ impl Table {
         ensures takes { IfOk result (λ missing. TakesOf pair from segment.now capture.entry missing self.old self.new
             report.old report.new) }
         ensures unrefused { IfErr result (StopsUnrefused report.old) }
+        ensures refuses { IfErr result (λ stop. TakesOfRefused pair from segment.now capture.entry self.old stop
+            report.old report.new) }
     {
         let syn = self.new_syn(&pair, from, segment);
         let begins = syn.is_some() || self.joins(&pair, segment);
@@ -249,6 +257,7 @@ impl Table {
         ensures told { OnOk result (Tells report.old report.new) }
         ensures unrefused { IfErr result (StopsUnrefused report.old) }
         ensures replaces { OnOk result (ReplacesFlow pair.now self.old self.new report.old report.new) }
+        ensures refuses { IfErr result (λ stop. ReplacesRefused pair.now self.old stop report.old report.new) }
     {
         if let Some(before) = self.flows.shift_remove(pair) {
             before.stage.end(alloc, report, pair, true, None)?;
@@ -269,6 +278,7 @@ impl Table {
         ensures told { OnOk result (Tells report.old report.new) }
         ensures unrefused { IfErr result (StopsUnrefused report.old) }
         ensures begins { OnOk result (BeginsFlow pair syn self.old self.new report.old report.new) }
+        ensures refuses { IfErr result (λ stop. IsRefused stop → StartsRefused pair self.old stop report.old report.new) }
     {
         self.replace(alloc, report, &pair.turned())?;
         self.replace(alloc, report, &pair)?;
@@ -312,6 +322,8 @@ impl Table {
         ensures follows { OnOk result (FollowsFlow pair.now (seen_of segment octets.now) self.old self.new
             report.old report.new) }
         ensures unrefused { IfErr result (StopsUnrefused report.old) }
+        ensures refuses { IfErr result (λ stop. FollowsFlowRefused pair.now (seen_of segment octets.now) self.old stop
+            report.old report.new) }
     {
         let Some(flow) = self.flows.get_mut(pair) else {
             return Ok(());

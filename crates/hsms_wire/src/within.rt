@@ -1,8 +1,11 @@
 //! A connection of a session that was running before the capture, once both of its directions have begun.
 
-ghost use Rattle.std.specs.Prelude.{◌≡◌, IfErr, OnOk};
+ghost use Rattle.std.specs.Prelude.{◌≡◌, ◌-◌, IfErr, IfOk, OnOk, map};
 ghost use Rattle.hsms_accounts.specs.declared.stop.Stop.TheVariants.{Memory};
+ghost use Rattle.hsms_wire.specs.Joined.{HearsEach};
 ghost use Rattle.hsms_wire.specs.Report.{StopsUnrefused, Tells};
+ghost use Rattle.hsms_wire.specs.Running.{TakesCut, begin_at, cut_by, ending_in, over_as};
+ghost use Rattle.hsms_wire.specs.Session.{FinishesAs, ReplacedAs, in_capture, uncaptured};
 
 use crate::course::Course;
 use crate::joined::Joined;
@@ -153,7 +156,9 @@ impl Within {
     }
 
     // Where a direction begins.
-    fn begin_of(&self, side: Side) -> u32 {
+    fn begin_of(&self, side: Side) -> u32
+        ensures { result ≡ begin_at self.now.active self.now.passive side }
+    {
         match side {
             Side::Active => self.active,
             Side::Passive => self.passive,
@@ -203,6 +208,8 @@ fn take_segment(
     octets: &[u8],
     told: &mut Vec<Happening>,
 ) -> Result<Followed, Stop>
+    ensures takes { IfOk result (λ followed. TakesCut connection (cut_by begin segment octets.now) segment.packet
+        told.old.items told.new.items followed) }
     ensures memory { IfErr result (λ stop. stop ≡ Memory) }
 {
     let (_, kept) = octets.split_at(octets_before(begin, segment.number, octets.len()));
@@ -222,7 +229,9 @@ fn take_segment(
 }
 
 // How it ends, at a packet of the capture.
-fn in_capture(ending: Ending) -> Ending {
+fn in_capture(ending: Ending) -> Ending
+    ensures { result ≡ ending_in ending }
+{
     match ending {
         Ending::Closed => Ending::Closed,
         Ending::Complete => Ending::Complete,
@@ -232,12 +241,16 @@ fn in_capture(ending: Ending) -> Ending {
 }
 
 // The number of a packet in the capture.
-fn captured(packet: u64) -> u64 {
+fn captured(packet: u64) -> u64
+    ensures { result ≡ packet - uncaptured }
+{
     packet.saturating_sub(OPENING)
 }
 
 // A connection is over by what was heard of it, or goes on as it did.
-fn over_by(course: Course, followed: Followed) -> Followed {
+fn over_by(course: Course, followed: Followed) -> Followed
+    ensures { result ≡ over_as course followed }
+{
     match course {
         Course::Goes => followed,
         Course::Over(shortfall) => Followed::Ends(shortfall),
@@ -255,6 +268,8 @@ fn hear_all(
     told: Vec<Happening>,
 ) -> Result<Course, Stop>
     ensures told { OnOk result (Tells report.old report.new) }
+    ensures hears { IfOk result (λ course. HearsEach pair.now (map (in_capture bare_resets.now) told.items)
+        joined.old report.old course joined.new report.new) }
     ensures unrefused { IfErr result (StopsUnrefused report.old) }
 {
     for happening in told {
@@ -268,7 +283,9 @@ fn hear_all(
 }
 
 // What happens, at its packet of the capture.
-fn timed(bare_resets: &[u64], happening: Happening) -> Happening {
+fn timed(bare_resets: &[u64], happening: Happening) -> Happening
+    ensures { result ≡ in_capture bare_resets.now happening }
+{
     let packet = captured(happening.packet);
     let happening = Happening {
         packet,
@@ -288,6 +305,7 @@ fn finish(
     shortfall: Option<Shortfall>,
 ) -> Result<(), Stop>
     ensures told { OnOk result (Tells report.old report.new) }
+    ensures finishes { OnOk result (FinishesAs pair.now joined shortfall report.old report.new) }
     ensures unrefused { IfErr result (StopsUnrefused report.old) }
 {
     let mut joined = joined;
@@ -301,6 +319,7 @@ fn finish(
 #[tactic(auto, using(crate::proofs::Unrefused::telling_steps))]
 fn replace(alloc: Global, report: &mut Report, pair: &Pair, joined: Joined) -> Result<(), Stop>
     ensures told { OnOk result (Tells report.old report.new) }
+    ensures replaced { OnOk result (ReplacedAs pair.now joined report.old report.new) }
     ensures unrefused { IfErr result (StopsUnrefused report.old) }
 {
     let mut joined = joined;

@@ -1,8 +1,9 @@
 use Rattle.std.proofs.Common.{Some}
 use Rattle.std.proofs.lemmas.Result.{err_from_is_err_and}
 use Rattle.hsms_wire.specs.Kept.{FinishesAsDealt}
-use Rattle.hsms_wire.proofs.Refusing.{err_file, fails_file, missing_fails, ok_file}
-use Rattle.hsms_wire.proofs.Tellings.{captures, writes_nothing}
+use Rattle.hsms_wire.proofs.FileRefusals.{file_refused, missing_refuses, refuses_none, refuses_opened, refuses_reading}
+use Rattle.hsms_wire.proofs.Refusing.{fails_file, missing_fails, ok_file}
+use Rattle.hsms_wire.proofs.Tellings.{captures, captures_told, writes_nothing}
 use Rattle.hsms_wire.proofs.Whole.{captures_none, captures_opened, is_blank}
 use Rattle.hsms_wire.proofs.Written.{some_more}
 use Rattle.hsms_wire.proofs.capturing.capture_to.Goals as goal
@@ -23,57 +24,83 @@ returns-in_ok-missing-in-Err-clause-lines g c =
     c.new-report.ensures.passive c.new-report.ensures.found c.new-report.ensures.page (writes_nothing _ _)
     c.finish-in-Err.ensures.lines
 
+pub returns-in_ok-missing-in-Ok-clause-told : goal.returns-in_ok-missing-in-Ok-clause-told
+returns-in_ok-missing-in-Ok-clause-told g c =
+    captures_told c.args.options.active c.args.options.passive _ c.in_ok-missing-in-Ok.missing c.new-report.result c.read_all.new.report
+    _ _ _ c.finish.result c.new-report.ensures.manner c.new-report.ensures.active c.new-report.ensures.passive
+    c.new-report.ensures.found c.new-report.ensures.page c.in_ok-missing-in-Ok.ensures.lines c.finish.ensures.told
+
+pub returns-in_ok-missing-in-Err-clause-told : goal.returns-in_ok-missing-in-Err-clause-told
+returns-in_ok-missing-in-Err-clause-told g c =
+    captures_told c.args.options.active c.args.options.passive _ (Some c.in_ok-missing-in-Err.missing) c.new-report.result
+    c.new-report.result _ _ _ c.finish-in-Err.result c.new-report.ensures.manner c.new-report.ensures.active
+    c.new-report.ensures.passive c.new-report.ensures.found c.new-report.ensures.page (writes_nothing _ _)
+    c.finish-in-Err.ensures.told
+
+pub returns-in_err-missing-in-Ok-clause-told : goal.returns-in_err-missing-in-Ok-clause-told
+returns-in_err-missing-in-Ok-clause-told g c =
+    let p = err_from_is_err_and c.from_residual.result c.from_residual.ensures.1 in
+    rw (p.1, p.2)
+    (fails_file c.new-report.result _ _ _ c.new-report.ensures.manner (c.in_err-missing-in-Ok.ensures.unrefused c.new-report.ensures.page))
+
+pub returns-in_err-missing-in-Err-clause-told : goal.returns-in_err-missing-in-Err-clause-told
+returns-in_err-missing-in-Err-clause-told g c =
+    let p = err_from_is_err_and c.from_residual-in_err-missing-in-Err.result c.from_residual-in_err-missing-in-Err.ensures.1 in
+    rw (p.1, p.2)
+    (fails_file c.new-report.result _ _ _ c.new-report.ensures.manner
+    (missing_fails c.in-Err.fault 0 c.new-report.result _ c.in_err-missing-in-Err.ensures))
+
 pub returns-in_ok-missing-in-Ok-clause-file : goal.returns-in_ok-missing-in-Ok-clause-file
 returns-in_ok-missing-in-Ok-clause-file g c =
-    ok_file c.finish.result c.args.options _ _ _ _
+    ok_file c.finish.result c.args.options _ _ _
     (λ a. FinishesAsDealt c.in_ok-missing-in-Ok.missing c.read_all.new.table c.read_all.new.report (g.W.Sink.state c.read_all.new.sink).written
     (g.W.Sink.state c.finish.new.sink).written a)
     (λ a so. captures_opened c.args.options c.in-Ok.packets c.in_ok-missing-in-Ok.missing c.new-report.result c.read_all.new.report c.new-table.result
-    c.read_all.new.table _ _ _ _ _ a _
-    (λ told. is_blank c.args.options c.new-report.result (c.new-report.ensures.manner told) c.new-report.ensures.active c.new-report.ensures.passive
+    c.read_all.new.table _ _ _ _ _ a
+    (is_blank c.args.options c.new-report.result c.new-report.ensures.way c.new-report.ensures.active c.new-report.ensures.passive
     c.new-report.ensures.found c.new-report.ensures.left_out c.new-report.ensures.page) c.new-table.ensures.of c.new-table.ensures.none c.in-Ok.ensures.opened
-    c.in-Ok.ensures.count c.in_ok-missing-in-Ok.ensures.deals so) c.finish.ensures.deals
+    c.in-Ok.ensures.count c.in_ok-missing-in-Ok.ensures.deals (λ tells. so)) c.finish.ensures.deals
 
 pub returns-in_ok-missing-in-Err-clause-file : goal.returns-in_ok-missing-in-Err-clause-file
 returns-in_ok-missing-in-Err-clause-file g c =
-    ok_file c.finish-in-Err.result c.args.options _ _ _ _
+    ok_file c.finish-in-Err.result c.args.options _ _ _
     (λ a. FinishesAsDealt (Some c.in_ok-missing-in-Err.missing) c.new-table.result c.new-report.result (g.W.Sink.state c.args.sink.now).written
     (g.W.Sink.state c.finish-in-Err.new.sink).written a)
-    (λ a so. captures_none c.args.options c.in-Err.fault c.in_ok-missing-in-Err.missing c.new-report.result c.new-table.result _ _ _ _ a _
-    (λ told. is_blank c.args.options c.new-report.result (c.new-report.ensures.manner told) c.new-report.ensures.active c.new-report.ensures.passive
+    (λ a so. captures_none c.args.options c.in-Err.fault c.in_ok-missing-in-Err.missing c.new-report.result c.new-table.result _ _ _ _ a
+    (is_blank c.args.options c.new-report.result c.new-report.ensures.way c.new-report.ensures.active c.new-report.ensures.passive
     c.new-report.ensures.found c.new-report.ensures.left_out c.new-report.ensures.page) c.new-table.ensures.of c.new-table.ensures.none c.in-Err.ensures.opened
-    c.in_ok-missing-in-Err.ensures so) c.finish-in-Err.ensures.deals
+    c.in_ok-missing-in-Err.ensures (λ tells. so)) c.finish-in-Err.ensures.deals
 
 pub returns-in_ok-missing-in-Ok-clause-refused : goal.returns-in_ok-missing-in-Ok-clause-refused
 returns-in_ok-missing-in-Ok-clause-refused g c =
-    err_file c.finish.result c.args.options _ _ _ _
-    (λ a. FinishesAsDealt c.in_ok-missing-in-Ok.missing c.read_all.new.table c.read_all.new.report (g.W.Sink.state c.read_all.new.sink).written
-    (g.W.Sink.state c.finish.new.sink).written a)
-    (λ a so. captures_opened c.args.options c.in-Ok.packets c.in_ok-missing-in-Ok.missing c.new-report.result c.read_all.new.report c.new-table.result
-    c.read_all.new.table _ _ _ _ _ a _
-    (λ told. is_blank c.args.options c.new-report.result (c.new-report.ensures.manner told) c.new-report.ensures.active c.new-report.ensures.passive
-    c.new-report.ensures.found c.new-report.ensures.left_out c.new-report.ensures.page) c.new-table.ensures.of c.new-table.ensures.none c.in-Ok.ensures.opened
-    c.in-Ok.ensures.count c.in_ok-missing-in-Ok.ensures.deals so) c.finish.ensures.refuses
+    file_refused c.finish.result _ _
+    (λ fault. refuses_opened c.args.options c.in-Ok.packets c.in_ok-missing-in-Ok.missing c.new-report.result c.read_all.new.report c.new-table.result
+    c.read_all.new.table _ _ _ _ _ fault
+    (is_blank c.args.options c.new-report.result c.new-report.ensures.way c.new-report.ensures.active c.new-report.ensures.passive
+    c.new-report.ensures.found c.new-report.ensures.left_out c.new-report.ensures.page)
+    c.new-table.ensures.of c.new-table.ensures.none c.in-Ok.ensures.opened c.in-Ok.ensures.count c.in_ok-missing-in-Ok.ensures.deals)
+    c.finish.ensures.refuses c.finish.ensures.stops
 
 pub returns-in_ok-missing-in-Err-clause-refused : goal.returns-in_ok-missing-in-Err-clause-refused
 returns-in_ok-missing-in-Err-clause-refused g c =
-    err_file c.finish-in-Err.result c.args.options _ _ _ _
-    (λ a. FinishesAsDealt (Some c.in_ok-missing-in-Err.missing) c.new-table.result c.new-report.result (g.W.Sink.state c.args.sink.now).written
-    (g.W.Sink.state c.finish-in-Err.new.sink).written a)
-    (λ a so. captures_none c.args.options c.in-Err.fault c.in_ok-missing-in-Err.missing c.new-report.result c.new-table.result _ _ _ _ a _
-    (λ told. is_blank c.args.options c.new-report.result (c.new-report.ensures.manner told) c.new-report.ensures.active c.new-report.ensures.passive
-    c.new-report.ensures.found c.new-report.ensures.left_out c.new-report.ensures.page) c.new-table.ensures.of c.new-table.ensures.none c.in-Err.ensures.opened
-    c.in_ok-missing-in-Err.ensures so) c.finish-in-Err.ensures.refuses
+    file_refused c.finish-in-Err.result _ _
+    (λ fault. refuses_none c.args.options c.in-Err.fault c.in_ok-missing-in-Err.missing c.new-report.result c.new-table.result _ _ _ _ fault
+    (is_blank c.args.options c.new-report.result c.new-report.ensures.way c.new-report.ensures.active c.new-report.ensures.passive
+    c.new-report.ensures.found c.new-report.ensures.left_out c.new-report.ensures.page)
+    c.new-table.ensures.of c.new-table.ensures.none c.in-Err.ensures.opened c.in_ok-missing-in-Err.ensures)
+    c.finish-in-Err.ensures.refuses c.finish-in-Err.ensures.stops
 
 pub returns-in_err-missing-in-Ok-clause-refused : goal.returns-in_err-missing-in-Ok-clause-refused
 returns-in_err-missing-in-Ok-clause-refused g c =
     let p = err_from_is_err_and c.from_residual.result c.from_residual.ensures.1 in
     rw (p.1, p.2)
-    (fails_file c.new-report.result _ _ _ c.new-report.ensures.manner (c.in_err-missing-in-Ok.ensures.unrefused c.new-report.ensures.page))
+    (refuses_reading c.args.options c.in-Ok.packets c.new-report.result c.new-table.result _ _ _ _ _
+    (is_blank c.args.options c.new-report.result c.new-report.ensures.way c.new-report.ensures.active c.new-report.ensures.passive
+    c.new-report.ensures.found c.new-report.ensures.left_out c.new-report.ensures.page)
+    c.new-table.ensures.of c.new-table.ensures.none c.in-Ok.ensures.opened c.in-Ok.ensures.count
+    (c.in_err-missing-in-Ok.ensures.unrefused c.new-report.ensures.page) c.in_err-missing-in-Ok.ensures.refuses)
 
 pub returns-in_err-missing-in-Err-clause-refused : goal.returns-in_err-missing-in-Err-clause-refused
 returns-in_err-missing-in-Err-clause-refused g c =
     let p = err_from_is_err_and c.from_residual-in_err-missing-in-Err.result c.from_residual-in_err-missing-in-Err.ensures.1 in
-    rw (p.1, p.2)
-    (fails_file c.new-report.result _ _ _ c.new-report.ensures.manner
-    (missing_fails c.in-Err.fault 0 c.new-report.result _ c.in_err-missing-in-Err.ensures))
+    rw (p.1, p.2) (λ refusal. absurd (missing_refuses c.in-Err.fault 0 _ c.in_err-missing-in-Err.ensures refusal))

@@ -4,6 +4,7 @@ use Rattle.hsms_packets.specs.Blocks.{CountsOn}
 use Rattle.hsms_packets.specs.File.{State}
 use Rattle.hsms_wire.specs.Capturing.{IsMissingBy}
 use Rattle.std.proofs.lemmas.Result.{err_from_is_err_and}
+use Rattle.hsms_wire.proofs.FileRefusals.{missing_refuses, never_reads, reads_refused}
 use Rattle.hsms_wire.proofs.Refusing.{fails_device, missing_fails}
 use Rattle.hsms_wire.proofs.Tellings.{writes_nothing, writes_then}
 use Rattle.hsms_wire.proofs.Whole.{begins_so, counts_packet, counts_passed, ends_complete, ends_faulty, goes_so, passes_so, stops_so}
@@ -44,31 +45,31 @@ loop-preserved g c =
       ],
       elim c.match-step.branch [
         | in-Packet+in_ok-missing-in-Packet+else-is_some w ↦
-            counts_packet w.in-Packet.number w.in-Packet.record c.args.packets.state.packets c.loop.packets.state.packets
+            counts_packet w.in-Packet.number w.in-Packet.record c.args.packets.now.state.packets c.loop.packets.state.packets
             c.next.new.self.state.packets c.loop.counter
             (subst (λ (st : Step). CountsOn st c.loop.packets.state.packets c.next.new.self.state.packets) w.in-Packet.is c.in-Ok.ensures.counts) inv.4
         | in-Passed w ↦
-            counts_passed c.args.packets.state.packets c.loop.packets.state.packets c.next.new.self.state.packets c.loop.counter
+            counts_passed c.args.packets.now.state.packets c.loop.packets.state.packets c.next.new.self.state.packets c.loop.counter
             (subst (λ (st : Step). CountsOn st c.loop.packets.state.packets c.next.new.self.state.packets) w.in-Passed.is c.in-Ok.ensures.counts) inv.4
       ],
       elim c.match-step.branch [
         | in-Packet+in_ok-missing-in-Packet+else-is_some w ↦
             rw (w.report-is, w.sink-is, w.table-is)
-            (goes_so c.args.packets _ c.args.table.now c.args.report.now _ c.loop.packets c.next.new.self _ _ c.loop.table w.take.new.table
+            (goes_so c.args.packets.now _ c.args.table.now c.args.report.now _ c.loop.packets c.next.new.self _ _ c.loop.table w.take.new.table
             c.loop.report w.take.new.report _ _ w.in-Packet.number w.in-Packet.record w.octets_of-octets.result.now c.loop.counter c.in-Ok.step
             w.in_ok-missing-in-Packet.missing inv.5 w.in-Packet.is c.in-Ok.ensures.step c.in-Ok.ensures.counts inv.4 c.loop-test.true
             (w.octets_of-octets.ensures ∙ ap (λ (l : List ℕ). take w.in-Packet.record.held (drop w.in-Packet.record.body l)) w.octets.ensures)
             (sym w.is_some.ensures ∙ w.if-is_some.false) w.in_ok-missing-in-Packet.ensures.deals)
         | in-Passed w ↦
             rw (w.report-is, w.sink-is, w.table-is)
-            (passes_so c.args.packets _ c.args.table.now c.args.report.now _ c.loop.packets c.next.new.self _ _ c.loop.table c.loop.report _
+            (passes_so c.args.packets.now _ c.args.table.now c.args.report.now _ c.loop.packets c.next.new.self _ _ c.loop.table c.loop.report _
             c.loop.counter c.in-Ok.step inv.5 w.in-Passed.is c.in-Ok.ensures.step c.in-Ok.ensures.counts inv.4 c.loop-test.true)
       ],
     )
 
 pub returns-then-is_some-clause-deals : goal.returns-then-is_some-clause-deals
 returns-then-is_some-clause-deals g c =
-    stops_so c.args.packets _ c.args.table.now c.args.report.now _ c.loop.packets c.next.new.self _ _ c.loop.table c.take.new.table c.loop.report
+    stops_so c.args.packets.now _ c.args.table.now c.args.report.now _ c.loop.packets c.next.new.self _ _ c.loop.table c.take.new.table c.loop.report
     c.take.new.report _ _ c.in-Packet.number c.in-Packet.record c.octets_of-octets.result.now c.loop.counter c.in-Ok.step
     c.in_ok-missing-in-Packet.missing c.each_rest_is_read.ensures c.loop.invariant.5 c.in-Packet.is c.in-Ok.ensures.step c.in-Ok.ensures.counts
     c.loop.invariant.4 c.loop-test.true
@@ -77,20 +78,40 @@ returns-then-is_some-clause-deals g c =
 
 pub returns-in-End-clause-deals : goal.returns-in-End-clause-deals
 returns-in-End-clause-deals g c =
-    ends_complete c.args.packets _ c.args.table.now c.args.report.now _ c.loop.packets c.next.new.self _ _ c.loop.table c.loop.report _ c.in-Ok.step
+    ends_complete c.args.packets.now _ c.args.table.now c.args.report.now _ c.loop.packets c.next.new.self _ _ c.loop.table c.loop.report _ c.in-Ok.step
     c.loop.invariant.5 c.in-End.is c.in-Ok.ensures.step
 
 pub returns-in-Err-clause-deals : goal.returns-in-Err-clause-deals
 returns-in-Err-clause-deals g c =
-    ends_faulty c.args.packets _ c.args.table.now c.args.report.now _ c.loop.packets c.next.new.self _ _ c.loop.table c.loop.report _ c.in-Err.fault
+    ends_faulty c.args.packets.now _ c.args.table.now c.args.report.now _ c.loop.packets c.next.new.self _ _ c.loop.table c.loop.report _ c.in-Err.fault
     c.in_ok-missing_by-in-Err.field-0 c.loop.invariant.5 c.in-Err.ensures.step
     (subst (λ (n : ℕ). IsMissingBy c.in-Err.fault n (Ok c.in_ok-missing_by-in-Err.field-0))
-    (c.packets-in-Err.ensures ∙ ap (λ (s : State). s.packets) c.reader.ensures) c.in_ok-missing_by-in-Err.ensures)
+    (c.packets.ensures ∙ ap (λ (s : State). s.packets) c.reader.ensures) c.in_ok-missing_by-in-Err.ensures)
 
 pub returns-in_err-missing_by-in-Err-clause-unrefused : goal.returns-in_err-missing_by-in-Err-clause-unrefused
 returns-in_err-missing_by-in-Err-clause-unrefused g c =
     let p = err_from_is_err_and c.from_residual.result c.from_residual.ensures.1 in
-    rw (p.1, p.2) (λ empty. missing_fails c.in-Err.fault c.packets-in-Err.result c.args.report.now _ c.in_err-missing_by-in-Err.ensures)
+    rw (p.1, p.2) (λ empty. missing_fails c.in-Err.fault c.packets.result c.args.report.now _ c.in_err-missing_by-in-Err.ensures)
 
 pub returns-clause-unrefused : goal.returns-clause-unrefused
 returns-clause-unrefused g c = λ empty. fails_device c.args.report.now _ (λ refusal. refusal)
+
+pub returns-in_err-missing-in-Packet-clause-refuses : goal.returns-in_err-missing-in-Packet-clause-refuses
+returns-in_err-missing-in-Packet-clause-refuses g c =
+    let p = err_from_is_err_and c.from_residual-in_err-missing-in-Packet.result c.from_residual-in_err-missing-in-Packet.ensures.1 in
+    rw (p.1, p.2)
+    (reads_refused c.args.packets.now _ c.args.table.now c.args.report.now _ c.loop.packets c.next.new.self _ _ c.loop.table c.loop.report _ _
+    c.in-Packet.number c.in-Packet.record c.octets_of-octets.result.now c.loop.counter c.in-Ok.step _ c.each_rest_is_read.ensures c.loop.invariant.5
+    c.in-Packet.is c.in-Ok.ensures.step c.in-Ok.ensures.counts c.loop.invariant.4 c.loop-test.true
+    (c.octets_of-octets.ensures ∙ ap (λ (l : List ℕ). take c.in-Packet.record.held (drop c.in-Packet.record.body l)) c.octets.ensures)
+    c.in_err-missing-in-Packet.ensures.refuses)
+
+pub returns-in_err-missing_by-in-Err-clause-refuses : goal.returns-in_err-missing_by-in-Err-clause-refuses
+returns-in_err-missing_by-in-Err-clause-refuses g c =
+    let p = err_from_is_err_and c.from_residual.result c.from_residual.ensures.1 in
+    rw (p.1, p.2)
+    (never_reads c.args.packets.now _ c.args.table.now c.args.report.now _ _ _
+    (missing_refuses c.in-Err.fault c.packets.result _ c.in_err-missing_by-in-Err.ensures))
+
+pub returns-clause-refuses : goal.returns-clause-refuses
+returns-clause-refuses g c = never_reads c.args.packets.now _ c.args.table.now c.args.report.now _ _ _ (λ refusal. refusal)

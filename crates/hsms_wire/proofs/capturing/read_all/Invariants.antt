@@ -11,6 +11,6 @@ invariant-loop g l =
     × ((g.W.Sink.state l.sink).failures ≡ (g.W.Sink.state l.initial.sink).failures)
     × Writes l.initial.report (g.W.Sink.state l.initial.sink).written l.report (g.W.Sink.state l.sink).written
     × GrowsBySome (g.W.Sink.state l.initial.sink).written (g.W.Sink.state l.sink).written
-    × (l.packets.state.packets ≤ l.fn.packets.state.packets + l.counter)
-    × IsSoFar l.fn.packets (g.R.Source.state l.initial.source).left l.initial.table l.initial.report (g.W.Sink.state l.initial.sink).written
+    × (l.packets.state.packets ≤ l.initial.packets.state.packets + l.counter)
+    × IsSoFar l.initial.packets (g.R.Source.state l.initial.source).left l.initial.table l.initial.report (g.W.Sink.state l.initial.sink).written
     l.packets (g.R.Source.state l.source).left l.table l.report (g.W.Sink.state l.sink).written

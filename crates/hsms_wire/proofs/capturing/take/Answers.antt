@@ -1,3 +1,4 @@
+use Rattle.hsms_wire.proofs.FileRefusals.{puts_refused}
 use Rattle.hsms_wire.proofs.Tellings.{writes_told}
 use Rattle.hsms_wire.proofs.Whole.{puts}
 use Rattle.hsms_wire.proofs.capturing.take.Goals as goal
@@ -12,3 +13,8 @@ returns-in-Ok-clause-deals g c =
     puts c.args.packet c.args.record.now c.args.octets.now c.in-Ok.missing c.args.table.now c.take_packet-taken.new.table c.args.report.now
     c.take_packet-taken.new.report c.put_out.new.self _ _ c.in-Ok.ensures.deals c.in-Ok.ensures.told c.in_ok-put_out.ensures.ok c.put_out.ensures.same
     c.in_ok-put_out.ensures.none
+
+pub returns-in-Err-clause-refuses : goal.returns-in-Err-clause-refuses
+returns-in-Err-clause-refuses g c =
+    puts_refused c.args.packet c.args.record.now c.args.octets.now c.args.table.now c.in-Err.stop c.args.report.now c.take_packet-taken.new.report _ _
+    c.fault_of.result c.in-Err.ensures.refuses c.fault_of.ensures c.in_ok-put_out.ensures.ok

@@ -1,5 +1,6 @@
 use Rattle.std.proofs.Common.{refl, sym, ap, ◌∙◌}
 use Rattle.hsms_wire.specs.declared.left_out.LeftOut.{LeftOut}
+use Rattle.hsms_wire.proofs.FileRefusals.{segments_refused}
 use Rattle.hsms_wire.proofs.Tellings.{tells_behind, tells_nothing}
 use Rattle.hsms_wire.proofs.Whole.{left_out_shows, other_shows, segment_shows}
 use Rattle.hsms_wire.proofs.capturing.take_packet.Goals as goal
@@ -18,6 +19,7 @@ returns-in-Other c = record {
   told = (_, tells_nothing c.args.report.now);
   deals = other_shows c.args.packet c.args.record.now c.args.octets.now c.args.table.now c.args.report.now (sym c.segment_of.ensures ∙ c.in-Other.is);
   unrefused = tt;
+  refuses = tt;
 }
 
 pub returns-in-LeftOut : goal.returns-in-LeftOut
@@ -27,4 +29,11 @@ returns-in-LeftOut c = record {
       (sym c.segment_of.ensures ∙ c.in-LeftOut.is)
       (ap (λ (counts : LeftOut). record c.args.report.now { left_out = counts }) c.count.ensures);
   unrefused = tt;
+  refuses = tt;
 }
+
+pub returns-in-Segment-clause-refuses : goal.returns-in-Segment-clause-refuses
+returns-in-Segment-clause-refuses c =
+    segments_refused c.take.result c.args.packet c.args.record.now c.args.octets.now c.in-Segment.segment
+    (record { packet = c.args.packet; time = c.args.record.now.time; octets = c.body_of.result }) c.args.table.now c.args.report.now
+    c.take.new.report (sym c.segment_of.ensures ∙ c.in-Segment.is) refl refl c.body_of.ensures c.take.ensures.refuses

@@ -1,7 +1,11 @@
 use Rattle.std.proofs.Common.{refl}
+use Rattle.std.proofs.lemmas.Result.{err_from_is_err_and}
 use Rattle.hsms_capture.specs.Known.{seen_of}
 use Rattle.hsms_wire.specs.declared.flow.Logs.{Logs}
 use Rattle.hsms_wire.proofs.Connections.{follows_ok}
+use Rattle.hsms_wire.proofs.Paging.{follows_page_ok}
+use Rattle.hsms_wire.proofs.Refusals.{follows_left, follows_refused}
+use Rattle.hsms_wire.proofs.Unrefused.{err_map}
 use Rattle.hsms_wire.proofs.flow.follow.Goals as goal
 
 pub returns-clause-follows : goal.returns-clause-follows
@@ -11,3 +15,30 @@ returns-clause-follows c =
     follows_ok c.go_on.result c.args.pair.now (seen_of c.args.segment c.args.octets.now) o c.in_ok-followed.followed c.in_ok-course.course first c.hear_all.new.logs
     c.new-told.result.items c.take_segment.new.told.items c.args.report.now c.hear_all.new.report c.go_on.new.report c.new-told.ensures.items
     c.in_ok-followed.ensures.takes (c.in_ok-note_reset.ensures, refl, refl) c.in_ok-course.ensures.heard c.in_ok-course.ensures.same c.go_on.ensures.goes
+
+pub returns-clause-logged : goal.returns-clause-logged
+returns-clause-logged c =
+    let o = c.args.«open» in
+    let first : Logs = record { ends = o.logs.ends; is_up = o.logs.is_up; bare_resets = c.note_reset.new.bare_resets } in
+    follows_page_ok c.go_on.result c.args.pair.now (seen_of c.args.segment c.args.octets.now) o c.in_ok-followed.followed c.in_ok-course.course first c.hear_all.new.logs
+    c.new-told.result.items c.take_segment.new.told.items c.args.report.now c.hear_all.new.report c.go_on.new.report c.new-told.ensures.items
+    c.in_ok-followed.ensures.takes (c.in_ok-note_reset.ensures, refl, refl) c.in_ok-course.ensures.logged c.go_on.ensures.logged
+
+pub returns-in_err-course-clause-refuses : goal.returns-in_err-course-clause-refuses
+returns-in_err-course-clause-refuses c =
+    let p = err_from_is_err_and c.from_residual-in_err-course.result c.from_residual-in_err-course.ensures.1 in
+    let o = c.args.«open» in
+    let first : Logs = record { ends = o.logs.ends; is_up = o.logs.is_up; bare_resets = c.note_reset.new.bare_resets } in
+    rw (p.1, p.2)
+    (follows_refused c.args.pair.now (seen_of c.args.segment c.args.octets.now) o c.in_ok-followed.followed first c.new-told.result.items
+    c.take_segment.new.told.items _ c.args.report.now c.hear_all.new.report c.new-told.ensures.items c.in_ok-followed.ensures.takes
+    (c.in_ok-note_reset.ensures, refl, refl) c.in_err-course.ensures.refuses)
+
+pub returns-clause-refuses : goal.returns-clause-refuses
+returns-clause-refuses c =
+    let o = c.args.«open» in
+    let first : Logs = record { ends = o.logs.ends; is_up = o.logs.is_up; bare_resets = c.note_reset.new.bare_resets } in
+    err_map c.go_on.result
+    (λ st. follows_left c.args.pair.now (seen_of c.args.segment c.args.octets.now) o c.in_ok-followed.followed c.in_ok-course.course first c.hear_all.new.logs
+    c.new-told.result.items c.take_segment.new.told.items st c.args.report.now c.hear_all.new.report c.go_on.new.report c.new-told.ensures.items
+    c.in_ok-followed.ensures.takes (c.in_ok-note_reset.ensures, refl, refl) c.in_ok-course.ensures.logged) c.go_on.ensures.refuses

@@ -4,6 +4,7 @@ use Rattle.hsms_capture.specs.Laws.{AreNumbered}
 use Rattle.hsms_wire.specs.declared.report.Manner.TheVariants.{Verdicts}
 use Rattle.hsms_wire.specs.Followed.{FollowsThem, IsFollowed, seen_waiting}
 use Rattle.hsms_wire.specs.Report.{Tells}
+use Rattle.hsms_wire.proofs.Staging.{SoFarOnPage}
 use Rattle.hsms_wire.proofs.flow.follow_all.Given as goal
 
 -- so far some connections were told, and of this one what those packets tell that were taken
@@ -13,4 +14,5 @@ invariant-loop-packet l = record {
   follows : l.initial.report.manner ≡ Verdicts → (base : End → ℕ) (before : List Seen) → AreNumbered 0 (before ++ map seen_waiting l.fn.waiting.items)
       → IsFollowed l.initial.report.active l.initial.report.passive base before l.fn.«open»
       → FollowsThem l.initial.report.active l.initial.report.passive l.fn.pair base before (map seen_waiting l.yielded) l.left l.initial.report l.report;
+  logged : SoFarOnPage l.fn.pair l.fn.waiting.items l.fn.«open» l.initial.report l.yielded l.left l.report;
 }

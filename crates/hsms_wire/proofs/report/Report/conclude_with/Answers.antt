@@ -1,5 +1,6 @@
 use Rattle.std.proofs.Common.{sym, ap, ◌∙◌}
 use Rattle.hsms_wire.specs.declared.report.Report.{Report}
+use Rattle.hsms_wire.proofs.Refusals.{noted_refused}
 use Rattle.hsms_wire.proofs.Unrefused.{log_stops}
 use Rattle.hsms_wire.proofs.report.Report.conclude_with.Goals as goal
 
@@ -7,3 +8,8 @@ use Rattle.hsms_wire.proofs.report.Report.conclude_with.Goals as goal
 pub returns-in-Log-clause-unrefused : goal.returns-in-Log-clause-unrefused
 returns-in-Log-clause-unrefused c =
     log_stops c.args.self.now _ _ (ap (λ (r : Report). r.manner) (sym c.note-first.ensures.noted) ∙ c.in-Log.is)
+
+pub returns-in-Log-clause-refuses : goal.returns-in-Log-clause-refuses
+returns-in-Log-clause-refuses c =
+    noted_refused c.args.shortfall c.in-Some.shortfall c.note-first.result c.refusal.result c.args.self.now c.note-first.new.self c.in-Some.is
+    c.note-first.ensures.first c.refusal.ensures (ap (λ (r : Report). r.page.octets) c.note-first.ensures.noted)

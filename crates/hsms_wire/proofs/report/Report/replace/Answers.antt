@@ -1,10 +1,21 @@
+use Rattle.hsms_wire.proofs.Paging.{down_one, never_down}
 use Rattle.hsms_wire.proofs.Tellings.{log_tells, same_tells}
 use Rattle.hsms_wire.proofs.report.Report.replace.Goals as goal
 use Rattle.hsms_wire.proofs.report.Report.replace.Goals.{in-Log-default, in-Verdicts-Some, in-Verdicts-None}
 
 pub returns-clause-told : goal.returns-clause-told
 returns-clause-told c = elim c.match-self.branch [
-  | in-Log-default w ↦ log_tells c.match-self.result c.args.self.now c.match-self.self _ w.in-Log-default.is-0
+  | in-Log-default w ↦ log_tells c.match-self.result c.args.self.now c.match-self.self w.in-Log-default.journal w.replace.new.self w.replace.new.page
+      w.in-Log-default.is-0 w.self-is w.replace.ensures.same
   | in-Verdicts-Some w ↦ same_tells c.match-self.result c.args.self.now c.match-self.self w.self-is
   | in-Verdicts-None w ↦ same_tells c.match-self.result c.args.self.now c.match-self.self w.self-is
+]
+
+pub returns-clause-logged : goal.returns-clause-logged
+returns-clause-logged c = elim c.match-self.branch [
+  | in-Log-default w ↦
+      rw w.result-is (down_one w.replace.result w.in-Log-default.journal w.replace.new.self w.replace.new.page c.args.self.now c.match-self.self w.in-Log-default.is-0
+      w.self-is w.replace.ensures.told w.replace.ensures.begun w.replace.ensures.time w.replace.ensures.same)
+  | in-Verdicts-Some w ↦ never_down c.match-self.result c.args.self.now _ w.in-Verdicts-Some.is-0
+  | in-Verdicts-None w ↦ never_down c.match-self.result c.args.self.now _ w.in-Verdicts-None.is-0
 ]

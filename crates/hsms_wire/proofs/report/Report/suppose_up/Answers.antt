@@ -1,10 +1,38 @@
 use Rattle.hsms_wire.proofs.Tellings.{log_tells, same_tells}
+use Rattle.std.proofs.Common.{max, refl}
+use Rattle.hsms_machine.specs.declared.entry.Event.TheVariants.{Up}
+use Rattle.hsms_accounts.specs.declared.account.Remark.TheVariants as remark
+use Rattle.hsms_accounts.specs.Ends.{note_of}
+use Rattle.hsms_wire.specs.Items.{comes_up}
+use Rattle.hsms_wire.proofs.Taking.{more_ok, never_takes, ok_of, takes_in_log, takes_in_verdicts}
 use Rattle.hsms_wire.proofs.report.Report.suppose_up.Goals as goal
 use Rattle.hsms_wire.proofs.report.Report.suppose_up.Goals.{in-Log-default, in-Verdicts-Some, in-Verdicts-None}
 
 pub returns-clause-told : goal.returns-clause-told
 returns-clause-told c = elim c.match-self.branch [
-  | in-Log-default w ↦ log_tells c.match-self.result c.args.self.now c.match-self.self _ w.in-Log-default.is-0
+  | in-Log-default w ↦ log_tells c.match-self.result c.args.self.now c.match-self.self w.in-Log-default.journal w.suppose_up.new.self w.suppose_up.new.page
+      w.in-Log-default.is-0 w.self-is w.suppose_up.ensures.same
   | in-Verdicts-Some w ↦ same_tells c.match-self.result c.args.self.now c.match-self.self w.self-is
   | in-Verdicts-None w ↦ same_tells c.match-self.result c.args.self.now c.match-self.self w.self-is
 ]
+
+pub returns-clause-logged : goal.returns-clause-logged
+returns-clause-logged c =
+    let old = c.args.self.now in
+    let x = comes_up c.args.time in
+    elim c.match-self.branch [
+      | in-Log-default w ↦
+          rw w.result-is (takes_in_log w.suppose_up.result c.args.pair.now x (note_of remark.Supposed (max w.in-Log-default.journal.time c.args.time) Up) c.args.ends.now
+          c.match-self.ends w.in-Log-default.journal w.suppose_up.new.self w.suppose_up.new.page old c.match-self.self w.in-Log-default.is-0 w.self-is
+          w.suppose_up.ensures.may refl w.suppose_up.ensures.told w.suppose_up.ensures.begun (ok_of w.suppose_up.result w.suppose_up.ensures.time)
+          w.suppose_up.ensures.same)
+      | in-Verdicts-Some w ↦
+          takes_in_verdicts c.match-self.result c.args.pair.now x c.args.ends.now c.match-self.ends old c.match-self.self w.self-is w.in-Verdicts-Some.is-0
+          (λ verdicts. rw w.result-is (more_ok w.suppose_up-in-Verdicts-Some.result old.active old.passive x c.args.ends.now c.begin.new.ends c.match-self.ends
+          w.in-Verdicts-Some.ends _ w.deref_mut.result.now (note_of remark.Supposed (max w.deref_mut.result.now.time c.args.time) Up) (note_of remark.Supposed (max w.deref_mut.result.now.time c.args.time) Up) (c.in_ok-begin.ensures.begins verdicts) w.in-Verdicts-Some.is-1
+          w.ends-is w.deref_mut.ensures.value refl refl w.suppose_up-in-Verdicts-Some.ensures.active
+          w.suppose_up-in-Verdicts-Some.ensures.passive w.suppose_up-in-Verdicts-Some.ensures.time w.suppose_up-in-Verdicts-Some.ensures.max))
+      | in-Verdicts-None w ↦
+          never_takes c.match-self.result c.args.pair.now x c.args.ends.now c.begin.new.ends c.match-self.ends old c.match-self.self c.in_ok-begin.ensures.begins
+          w.in-Verdicts-None.is-1 w.in-Verdicts-None.is-0
+    ]

@@ -1,4 +1,5 @@
 use Rattle.std.proofs.Common.{◌≡◌, ◌+◌, ◌-◌, ◌^◌, ◌++◌, ◌∷◌, ℕ, min, false, List, [], sym, ap, subst, ◌∙◌}
+use Rattle.std.proofs.lemmas.Result.{err_from_is_err_and}
 use Rattle.std.specs.Prelude.{Result, Ok, Err, OnOk}
 use Rattle.std.specs.Result.{is_err}
 use Rattle.indexmap.proofs.CallerLemmas.{insert_entry-new}
@@ -7,6 +8,7 @@ use Rattle.hsms_accounts.specs.contracts.pair.PairPartialEq.TheImpl as same_pair
 use Rattle.hsms_wire.specs.declared.flow.Flow.{Flow}
 use Rattle.hsms_wire.specs.declared.table.Table.{Table}
 use Rattle.hsms_wire.specs.Staged.{IsBegun, IsForgotten}
+use Rattle.hsms_wire.proofs.TableRefusals.{starts_other, starts_same}
 use Rattle.hsms_wire.specs.Tabled.{KeepsOf, ReplacesFlow}
 use Rattle.hsms_wire.proofs.table.Table.begin.Goals as goal
 
@@ -42,3 +44,19 @@ returns-clause-begins c =
           ∙ ap (λ (t : Table). record t { flows = c.forget.new.self.flows; begun = c.saturating_add-self.result }) of_other.same
           ∙ ap (λ (n : ℕ). record old { flows = c.forget.new.self.flows; begun = n }) (sym counted);
     }
+
+pub returns-in_err-replace-clause-refuses : goal.returns-in_err-replace-clause-refuses
+returns-in_err-replace-clause-refuses c =
+    let p = err_from_is_err_and c.from_residual.result c.from_residual.ensures.1 in
+    rw (p.1, p.2)
+    (starts_other c.args.pair c.turned.result c.args.self.now _ c.args.report.now c.replace.new.report c.turned.ensures c.in_err-replace.ensures.refuses)
+
+pub returns-in_err-replace-2-clause-refuses : goal.returns-in_err-replace-2-clause-refuses
+returns-in_err-replace-2-clause-refuses c =
+    let p = err_from_is_err_and c.from_residual-in_err-replace-2.result c.from_residual-in_err-replace-2.ensures.1 in
+    rw (p.1, p.2)
+    (starts_same c.args.pair c.turned.result c.args.self.now c.replace.new.self _ c.args.report.now c.replace.new.report c.replace-2.new.report c.turned.ensures
+    c.in_ok-replace.ensures.replaces c.in_err-replace-2.ensures.refuses)
+
+pub returns-then-is_err-clause-refuses : goal.returns-then-is_err-clause-refuses
+returns-then-is_err-clause-refuses c refused = absurd refused

@@ -2,6 +2,9 @@ use Rattle.std.proofs.Common.{[], refl, sym}
 use Rattle.hsms_wire.proofs.Dealing.{ends_all}
 use Rattle.hsms_wire.proofs.Stages.{flows_ended, flows_turn}
 use Rattle.hsms_wire.proofs.Tellings.{tells_nothing, tells_then}
+use Rattle.std.proofs.lemmas.Result.{err_from_is_err_and}
+use Rattle.hsms_wire.proofs.TableRefusals.{flows_refused, left_refused}
+use Rattle.hsms_wire.proofs.Unrefused.{stops_then}
 use Rattle.hsms_wire.proofs.table.Table.finish.Goals as goal
 
 pub loop-pair-init : goal.loop-pair-init
@@ -17,7 +20,7 @@ loop-pair-preserved c =
     record {
       told = tells_then first c.loop-pair.report c.end.new.report inv.told c.in_ok-end.ensures.told;
       ends = flows_turn c.args.missing c.args.self.flows.entries c.loop-pair.pair-iterator c.next.new.self c.in-Some.pair c.in-Some.flow first
-          c.loop-pair.report c.end.new.report inv.ends c.in-Some.ensures.steps c.in_ok-end.ensures.told c.in_ok-end.ensures.ends;
+          c.loop-pair.report c.end.new.report inv.ends c.in-Some.ensures.steps c.in_ok-end.ensures.told c.in_ok-end.ensures.ends c.in_ok-end.ensures.logged;
     }
 
 pub returns-clause-ends : goal.returns-clause-ends
@@ -26,5 +29,15 @@ returns-clause-ends c =
     c.in-None.ensures.steps.0
 
 pub returns-clause-deals : goal.returns-clause-deals
-returns-clause-deals c = λ port peer a p last all report is.
-    ends_all a p last c.args.missing c.args.self.flows.entries all.known c.args.report.now c.loop-pair.report report is.same (returns-clause-ends c)
+returns-clause-deals c = λ port peer how a p last all report is.
+    ends_all how a p last c.args.missing c.args.self.flows.entries all.known c.args.report.now c.loop-pair.report report is.same (returns-clause-ends c)
+
+pub returns-in_err-end-clause-refuses : goal.returns-in_err-end-clause-refuses
+returns-in_err-end-clause-refuses c =
+    let p = err_from_is_err_and c.from_residual.result c.from_residual.ensures.1 in
+    let inv = c.loop-pair.invariant in
+    let first = c.args.report.now in
+    rw (p.1, p.2)
+    (left_refused c.args.missing c.args.self _ first c.end.new.report (stops_then first c.loop-pair.report _ inv.told c.in_err-end.ensures.unrefused)
+    (flows_refused c.args.missing c.args.self.flows.entries c.loop-pair.pair-iterator c.next.new.self c.in-Some.pair c.in-Some.flow _ first
+    c.loop-pair.report c.end.new.report inv.ends c.in-Some.ensures.steps c.in_err-end.ensures.refuses))

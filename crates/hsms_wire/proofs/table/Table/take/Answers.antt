@@ -1,5 +1,6 @@
 use Rattle.std.proofs.Common.{None, refl}
 use Rattle.hsms_wire.proofs.Dealing.{deals_packet, found_deals}
+use Rattle.hsms_wire.proofs.TableRefusals.{packets_refused}
 use Rattle.hsms_wire.proofs.table.Table.take.Goals as goal
 
 pub returns-in-Some-clause-deals : goal.returns-in-Some-clause-deals
@@ -8,6 +9,11 @@ returns-in-Some-clause-deals c =
     (c.in-Some.ensures.pair, c.in-Some.ensures.peer) c.take_of.ensures.takes
 
 pub returns-in-None-clause-deals : goal.returns-in-None-clause-deals
-returns-in-None-clause-deals c = λ port peer a p last all report past is.
-    deals_packet port peer a p last c.args.segment.now c.args.capture _ c.args.self.now c.args.self.now c.args.report.now c.args.report.now all report past is
+returns-in-None-clause-deals c = λ port peer how a p last all report past is.
+    deals_packet port peer how a p last c.args.segment.now c.args.capture _ c.args.self.now c.args.self.now c.args.report.now c.args.report.now all report past is
     (None, c.in-None.ensures.none, (refl, refl, refl))
+
+pub returns-in-Some-clause-refuses : goal.returns-in-Some-clause-refuses
+returns-in-Some-clause-refuses c =
+    packets_refused c.take_of.result c.in-Some.pair c.in-Some.from c.args.segment.now c.args.capture c.args.self.now c.args.report.now c.take_of.new.report
+    (c.in-Some.ensures.pair, c.in-Some.ensures.peer) c.take_of.ensures.unrefused c.take_of.ensures.refuses

@@ -1,11 +1,13 @@
 use Rattle.std.proofs.Common.{◌≡◌, Bool, true, false, inl, inr, refl, sym, subst, ◌∙◌}
 use Rattle.std.specs.Prelude.{◌↔◌, IsTrue}
+use Rattle.std.proofs.lemmas.Result.{err_from_is_err_and}
 use Rattle.hsms_capture.specs.declared.packet.Segment.{Segment as Taken}
 use Rattle.hsms_capture.specs.Known.{seen_of}
 use Rattle.hsms_wire.specs.declared.report.Report.{Report}
 use Rattle.hsms_wire.specs.declared.table.Table.{Table}
 use Rattle.hsms_wire.specs.Tabled.{FollowsFlow, Joins, TakesIt, seen_by}
 use Rattle.hsms_wire.proofs.Beginnings.{Decides, with_syn, without_syn}
+use Rattle.hsms_wire.proofs.TableRefusals.{takes_begun, takes_first, takes_later}
 use Rattle.hsms_wire.proofs.table.Table.take_of.Goals as goal
 use Rattle.hsms_wire.proofs.table.Table.take_of.Goals.{then-is_some, else-is_some, then-begins+in_ok-begin, else-begins, else-not-begins-via-then-not-begins+else-not-is_live, else-not-begins-via-else-not-begins}
 
@@ -62,3 +64,48 @@ returns-clause-takes c =
       )
     ] in
     inl (refl, c.in-Some.time, c.in-Some.ensures.there, it)
+
+pub returns-in_err-begin-clause-refuses : goal.returns-in_err-begin-clause-refuses
+returns-in_err-begin-clause-refuses c =
+    let decides : Decides c.args.self.now c.args.pair c.args.from c.args.segment.now c.new_syn-syn.result c.if-is_some.begins =
+    elim c.if-is_some.branch [
+      | then-is_some w ↦ with_syn c.args.self.now c.args.pair c.args.from c.args.segment.now c.new_syn-syn.result c.if-is_some.begins
+          (sym c.is_some.ensures ∙ w.if-is_some.true) (w.begins-is ∙ w.if-is_some.true) c.new_syn-syn.ensures.there
+      | else-is_some w ↦ without_syn c.args.self.now c.args.pair c.args.from c.args.segment.now c.new_syn-syn.result c.if-is_some.begins
+          (sym c.is_some.ensures ∙ w.if-is_some.false)
+          (subst (λ (b : Bool). IsTrue b ↔ Joins c.args.self.now c.args.pair c.args.segment.now) (sym w.begins-is) w.joins-begins.ensures)
+          c.new_syn-syn.ensures.none
+    ] in
+    let p = err_from_is_err_and c.from_residual.result c.from_residual.ensures.1 in
+    rw (p.1, p.2)
+    (takes_begun c.args.pair c.args.from c.args.segment.now c.args.capture c.args.self.now c.in-Some.time c.new_syn-syn.result _ c.args.report.now c.begin.new.report
+    c.in-Some.ensures.there (decides.there c.if-begins.true) c.in_err-begin.ensures.refuses)
+
+pub returns-in_err-follow-clause-refuses : goal.returns-in_err-follow-clause-refuses
+returns-in_err-follow-clause-refuses c =
+    let decides : Decides c.args.self.now c.args.pair c.args.from c.args.segment.now c.new_syn-syn.result c.if-is_some.begins =
+    elim c.if-is_some.branch [
+      | then-is_some w ↦ with_syn c.args.self.now c.args.pair c.args.from c.args.segment.now c.new_syn-syn.result c.if-is_some.begins
+          (sym c.is_some.ensures ∙ w.if-is_some.true) (w.begins-is ∙ w.if-is_some.true) c.new_syn-syn.ensures.there
+      | else-is_some w ↦ without_syn c.args.self.now c.args.pair c.args.from c.args.segment.now c.new_syn-syn.result c.if-is_some.begins
+          (sym c.is_some.ensures ∙ w.if-is_some.false)
+          (subst (λ (b : Bool). IsTrue b ↔ Joins c.args.self.now c.args.pair c.args.segment.now) (sym w.begins-is) w.joins-begins.ensures)
+          c.new_syn-syn.ensures.none
+    ] in
+    let p = err_from_is_err_and c.from_residual-in_err-follow.result c.from_residual-in_err-follow.ensures.1 in
+    rw (p.1, p.2)
+    (elim c.if-begins.branch [
+      | then-begins+in_ok-begin w ↦
+          takes_first c.args.pair c.args.from c.args.segment.now c.args.capture c.args.self.now w.begin.new.self c.in-Some.time c.new_syn-syn.result
+          c.segment_of-taken.result c.if-begins.self _ c.args.report.now w.begin.new.report c.if-begins.report c.follow.new.report c.in-Some.ensures.there
+          (decides.there w.if-begins.true) w.in_ok-begin.ensures.begins
+          (c.segment_of-taken.ensures, w.self-is, w.report-is, c.in_err-follow.ensures.refuses)
+      | else-begins w ↦
+          takes_later c.args.pair c.args.from c.args.segment.now c.args.capture c.args.self.now c.in-Some.time c.segment_of-taken.result c.if-begins.self _
+          c.args.report.now c.if-begins.report c.follow.new.report c.in-Some.ensures.there (decides.none w.if-begins.false)
+          (elim c.else-not-begins.branch [
+            | else-not-begins-via-then-not-begins+else-not-is_live v ↦ v.is_live.ensures.0 v.if-not-is_live.false
+            | else-not-begins-via-else-not-begins v ↦ absurd (true_false (sym v.if-not-begins.false ∙ w.if-begins.false))
+          ])
+          (c.segment_of-taken.ensures, w.self-is, w.report-is, c.in_err-follow.ensures.refuses)
+    ])

@@ -1,0 +1,283 @@
+-- The connections that are kept refuse as those of the definition, where the log of an end is told.
+use Rattle.std.proofs.Common.{◌≡◌, ◌<◌, ◌++◌, ◌∷◌, ℕ, List, [], Option, Some, None, inl, inr, sym, ap, subst, ◌∙◌}
+use Rattle.std.specs.Prelude.{IfErr, Result, Ok, Err}
+use Rattle.std.specs.declared.net.ip_addr.IpAddr.{IpAddr}
+use Rattle.hsms_machine.specs.Settings.{Parameters}
+use Rattle.hsms_packets.specs.declared.segment.Segment.{Segment}
+use Rattle.hsms_capture.specs.declared.packet.Segment.{Segment as Taken}
+use Rattle.hsms_capture.specs.declared.packet.Side.{Side}
+use Rattle.hsms_capture.specs.Known.{seen_of}
+use Rattle.hsms_capture.specs.Wire.{Seen}
+use Rattle.hsms_accounts.specs.Pair.{IsOfPeer, turned}
+use Rattle.hsms_accounts.specs.declared.journal.Journal.{Journal}
+use Rattle.hsms_accounts.specs.declared.pair.Pair.{Pair}
+use Rattle.hsms_accounts.specs.declared.stop.Stop.{Stop}
+use Rattle.hsms_wire.specs.declared.flow.Flow.{Flow}
+use Rattle.hsms_wire.specs.declared.flow.Stage.{Stage}
+use Rattle.hsms_wire.specs.declared.report.Report.{Report}
+use Rattle.hsms_wire.specs.declared.shortfall.Shortfall.{Shortfall}
+use Rattle.hsms_wire.specs.declared.table.Capture.{Capture}
+use Rattle.hsms_wire.specs.declared.table.Table.{Table}
+use Rattle.hsms_wire.specs.Connections.{Connection, Connections, connection_of, without}
+use Rattle.hsms_wire.specs.Dealt.{Way, to_log, to_verdicts}
+use Rattle.hsms_wire.specs.Kept.{AreSame, IsOne, IsReport, IsTable, StageStands, TellsTo, captured_of}
+use Rattle.hsms_wire.specs.Paged.{StageIn}
+use Rattle.hsms_wire.specs.Refused.{EndsRefused, InLog, TakesRefused}
+use Rattle.hsms_wire.specs.RefusedFile.{DealsByRefused, DealsRefused, EndRefused, EndsAsRefused, LastRefused, MoreRefused, NextRefused, StartRefused, TakesAsRefused}
+use Rattle.hsms_wire.specs.RefusedTable.{EndsFlowsRefused, FollowsFlowRefused, ReplacesRefused, StartsRefused, TakesItRefused, TakesOfRefused}
+use Rattle.hsms_wire.specs.Report.{StopsUnrefused}
+use Rattle.hsms_wire.specs.Stop.{IsRefused}
+use Rattle.hsms_wire.specs.Segments.{taken_segment}
+use Rattle.hsms_wire.specs.Tabled.{Begins, BeginsFlow, BeginsWith, EndsFlows, HasTime, IsFollowed, LooksAt, ReplacesFlow, flow_of, seen_by}
+use Rattle.hsms_wire.proofs.Dealing.{AreBoth, begins, both_of, ends_all, is_open, never_joins, none_starts, pair_same, replaces, report_then, starts, up_more, up_numbered}
+use Rattle.hsms_wire.proofs.Refusing.{none_refused}
+use Rattle.hsms_wire.proofs.Stages.{AreEnded}
+
+-- ---- a connection that is kept
+
+stands_in : (settings : Parameters) (side : Side) (a p : Parameters) (last number : ℕ) (seen : List Seen) (stage : Stage) (j : Journal) → j.settings ≡ settings
+    → StageStands (to_log settings side) a p last number (Some seen) stage → StageIn j.settings.max number seen stage
+stands_in settings side a p last number seen stage j is stands = subst (λ (s : Parameters). StageIn s.max number seen stage) (sym is) stands.0
+
+end_refused : (settings : Parameters) (side : Side) (a p : Parameters) (last : ℕ) (missing : Option Shortfall) (number : ℕ) (packets : Option (List Seen)) (stage : Stage)
+    → (st : Stop) (old new : Report) → IsRefused st → TellsTo (to_log settings side) old.manner → StageStands (to_log settings side) a p last number packets stage
+    → EndsRefused missing stage st old new → EndRefused missing number packets st old new
+unfolding InLog
+end_refused settings side a p last missing number None stage st old new refused manner stands ends = (ends refused manner.0 manner.1).0 stands
+end_refused settings side a p last missing number (Some seen) stage st old new refused manner stands ends =
+    (ends refused manner.0 manner.1).1 number seen (up_numbered 0 last seen stands.1) (stands_in settings side a p last number seen stage manner.0 manner.2 stands)
+
+more_refused : (settings : Parameters) (side : Side) (a p : Parameters) (last : ℕ) (pair : Pair) (s : Seen) (number : ℕ) (packets : Option (List Seen)) (stage : Stage)
+    → (begun : Option ℕ) (st : Stop) (old new : Report) → IsRefused st → TellsTo (to_log settings side) old.manner → begun ≡ Some number → last < s.packet
+    → StageStands (to_log settings side) a p last number packets stage → TakesRefused pair begun s stage st old new → MoreRefused number packets pair s st old new
+unfolding InLog
+more_refused settings side a p last pair s number None stage begun st old new refused manner is past stands takes = (takes refused manner.0 manner.1).0 stands
+more_refused settings side a p last pair s number (Some seen) stage begun st old new refused manner is past stands takes = (
+  manner.0,
+  manner.1,
+  (takes refused manner.0 manner.1).1 number is seen (up_more 0 last seen s stands.1 past) (stands_in settings side a p last number seen stage manner.0 manner.2 stands),
+)
+
+last_refused : (settings : Parameters) (side : Side) (a p : Parameters) (last : ℕ) (f : Option Flow) (c : Option Connection) (flow : Flow) (st : Stop) (old new : Report)
+    → IsRefused st → TellsTo (to_log settings side) old.manner → AreBoth (to_log settings side) a p last f c → f ≡ Some flow → EndsRefused None flow.stage st old new
+    → LastRefused c st old new
+last_refused settings side a p last f None flow st old new refused manner both at ends = subst (λ (x : Option Flow). AreBoth (to_log settings side) a p last x None) at both
+last_refused settings side a p last f (Some one) flow st old new refused manner both at ends =
+    let is : IsOne (to_log settings side) a p last flow one = subst (λ (x : Option Flow). AreBoth (to_log settings side) a p last x (Some one)) at both in
+    end_refused settings side a p last None one.number one.packets flow.stage st old new refused manner is.stands ends
+
+next_refused : (settings : Parameters) (side : Side) (a p : Parameters) (last : ℕ) (pair : Pair) (s : Seen) (f : Option Flow) (c : Option Connection) (flow : Flow) (st : Stop)
+    → (old new : Report) → IsRefused st → TellsTo (to_log settings side) old.manner → last < s.packet → AreBoth (to_log settings side) a p last f c → f ≡ Some flow
+    → TakesRefused pair flow.syn s flow.stage st old new → NextRefused c pair s st old new
+next_refused settings side a p last pair s f None flow st old new refused manner past both at takes =
+    subst (λ (x : Option Flow). AreBoth (to_log settings side) a p last x None) at both
+next_refused settings side a p last pair s f (Some one) flow st old new refused manner past both at takes =
+    let is : IsOne (to_log settings side) a p last flow one = subst (λ (x : Option Flow). AreBoth (to_log settings side) a p last x (Some one)) at both in
+    more_refused settings side a p last pair s one.number one.packets flow.stage flow.syn st old new refused manner is.syn past is.stands takes
+
+-- ---- a packet of the capture
+
+start_refused : (port : ℕ) (peer : Option IpAddr) (settings : Parameters) (side : Side) (a p : Parameters) (last : ℕ) (pair : Pair) (table : Table) (all : Connections) (st : Stop)
+    → (before after : Report) → IsRefused st → IsReport (to_log settings side) a p before → IsTable port peer (to_log settings side) a p last table all
+    → StartsRefused pair table st before after → StartRefused a p pair all st before after
+start_refused port peer settings side a p last pair table all st before after refused report is starts = elim starts [
+  | inl one ↦ inl (last_refused settings side a p last (flow_of table (turned pair)) (connection_of all (turned pair)) one.0 st before after refused report.manner_is
+      (both_of port peer (to_log settings side) a p last table all (turned pair) is) one.1 one.2)
+  | inr two ↦
+      let first = replaces port peer (to_log settings side) a p last (turned pair) table two.0 before two.1 all report two.2 is in
+      let there = report_then (to_log settings side) a p before two.1 report two.2.told in
+      inr (
+        two.1,
+        first.0,
+        last_refused settings side a p last (flow_of two.0 pair) (connection_of (without (turned pair) all) pair) two.3.0 st two.1 after refused there.manner_is
+            (both_of port peer (to_log settings side) a p last two.0 (without (turned pair) all) pair first.1) two.3.1 two.3.2,
+      )
+]
+
+flow_refused : (port : ℕ) (peer : Option IpAddr) (settings : Parameters) (side : Side) (a p : Parameters) (last : ℕ) (pair : Pair) (s : Seen) (table : Table) (all : Connections)
+    → (st : Stop) (before after : Report) → IsRefused st → IsReport (to_log settings side) a p before → last < s.packet
+    → IsTable port peer (to_log settings side) a p last table all → FollowsFlowRefused pair s table st before after → NextRefused (connection_of all pair) pair s st before after
+flow_refused port peer settings side a p last pair s table all st before after refused report past is follows =
+    next_refused settings side a p last pair s (flow_of table pair) (connection_of all pair) follows.0 st before after refused report.manner_is past
+    (both_of port peer (to_log settings side) a p last table all pair is) follows.1 follows.2
+
+deals_refused : (port : ℕ) (peer : Option IpAddr) (settings : Parameters) (side : Side) (a p : Parameters) (last : ℕ) (pair : Pair) (from : Side) (segment : Segment) (s : Seen)
+    → (table : Table) (all : Connections) (st : Stop) (before after : Report) → IsRefused st → IsReport (to_log settings side) a p before → last < s.packet
+    → IsTable port peer (to_log settings side) a p last table all → TakesItRefused pair from segment s table st before after
+    → DealsRefused a p pair from segment s all st before after
+deals_refused port peer settings side a p last pair from segment s table all st before after refused report past is takes = elim takes [
+  | inl starting ↦ by_start starting.0 starting.1 starting.2
+  | inr rest ↦ elim rest [
+    | inl begun ↦ by_syn begun.0 begun.1 begun.2 begun.3 begun.4 begun.5
+    | inr goes ↦ inr (inr (
+      none_starts port peer (to_log settings side) a p last pair from segment table all is goes.0,
+      is_open port peer (to_log settings side) a p last pair table all is goes.1,
+      flow_refused port peer settings side a p last pair s table all st before after refused report past is goes.2,
+    ))
+  ]
+]
+  where
+    by_start : (syn : Option ℕ) → BeginsWith table pair from segment syn → StartsRefused pair table st before after → DealsRefused a p pair from segment s all st before after
+    by_start None joins starting = absurd (never_joins table is.joined joins.0)
+    by_start (Some number) with_it starting = inl (
+      number,
+      starts port peer (to_log settings side) a p last pair from segment number table all is with_it,
+      start_refused port peer settings side a p last pair table all st before after refused report is starting,
+    )
+
+    by_syn : (syn : Option ℕ) (begun : Table) (ended : Report) → BeginsWith table pair from segment syn → BeginsFlow pair syn table begun before ended
+        → FollowsFlowRefused pair s begun st ended after → DealsRefused a p pair from segment s all st before after
+    by_syn None begun ended joins begins_it goes = absurd (never_joins table is.joined joins.0)
+    by_syn (Some number) begun ended with_it begins_it goes =
+        let one = begins port peer (to_log settings side) a p last pair number table begun before ended all report begins_it is in
+        let there = report_then (to_log settings side) a p begins_it.mid ended
+        (report_then (to_log settings side) a p before begins_it.mid report begins_it.of_other.told) begins_it.of_pair.told in
+        inr (inl (
+          number,
+          one.0,
+          ended,
+          starts port peer (to_log settings side) a p last pair from segment number table all is with_it,
+          one.1,
+          flow_refused port peer settings side a p last pair s begun one.0 st ended after refused there past one.2 goes,
+        ))
+
+-- ---- the packet of a pair
+
+pub starts_other : (pair other : Pair) (table : Table) (st : Stop) (before after : Report) → other ≡ turned pair → ReplacesRefused other table st before after → IsRefused st
+    → StartsRefused pair table st before after
+starts_other pair other table st before after is replaced refused = inl (subst (λ (q : Pair). ReplacesRefused q table st before after) is replaced)
+
+pub starts_same : (pair other : Pair) (table between : Table) (st : Stop) (before mid after : Report) → other ≡ turned pair → ReplacesFlow other table between before mid
+    → ReplacesRefused pair between st mid after → IsRefused st → StartsRefused pair table st before after
+starts_same pair other table between st before mid after is first replaced refused =
+    inr (between, mid, subst (λ (q : Pair). ReplacesFlow q table between before mid) is first, replaced)
+
+pub takes_begun : (pair : Pair) (from : Side) (segment : Segment) (capture : Capture) (table : Table) (time : ℕ) (syn : Option ℕ) (st : Stop) (before after : Report)
+    → HasTime capture.time time → BeginsWith table pair from segment syn → (IsRefused st → StartsRefused pair table st before after)
+    → TakesOfRefused pair from segment capture table st before after
+takes_begun pair from segment capture table time syn st before after timed begun starting refused = (time, timed, inl (syn, begun, starting refused))
+
+-- what takes it, by other names
+abbrev TakesNext : Pair → Side → Segment → Capture → ℕ → Taken → Table → Table → Stop → Report → Report → Report → Type 0
+TakesNext pair from segment capture time taken self table st report before after =
+    (taken ≡ taken_segment from capture.packet time segment) × (self ≡ table) × (report ≡ before) × FollowsFlowRefused pair (seen_of taken capture.octets.now) self st report after
+
+takes_next : (pair : Pair) (from : Side) (segment : Segment) (capture : Capture) (time : ℕ) (taken : Taken) (self table : Table) (st : Stop) (report before after : Report)
+    → TakesNext pair from segment capture time taken self table st report before after
+    → FollowsFlowRefused pair (seen_by from segment capture time) table st before after
+takes_next pair from segment capture time taken self table st report before after is =
+    subst (λ (t : Table). FollowsFlowRefused pair (seen_by from segment capture time) t st before after) is.1
+    (subst (λ (r : Report). FollowsFlowRefused pair (seen_by from segment capture time) self st r after) is.2
+    (subst (λ (x : Taken). FollowsFlowRefused pair (seen_of x capture.octets.now) self st report after) is.0 is.3))
+
+pub takes_first : (pair : Pair) (from : Side) (segment : Segment) (capture : Capture) (table begun : Table) (time : ℕ) (syn : Option ℕ) (taken : Taken) (self : Table) (st : Stop)
+    → (before ended report after : Report) → HasTime capture.time time → BeginsWith table pair from segment syn → BeginsFlow pair syn table begun before ended
+    → TakesNext pair from segment capture time taken self begun st report ended after → TakesOfRefused pair from segment capture table st before after
+takes_first pair from segment capture table begun time syn taken self st before ended report after timed begins_it flow is refused =
+    (time, timed, inr (inl (syn, begun, ended, begins_it, flow, takes_next pair from segment capture time taken self begun st report ended after is)))
+
+pub takes_later : (pair : Pair) (from : Side) (segment : Segment) (capture : Capture) (table : Table) (time : ℕ) (taken : Taken) (self : Table) (st : Stop)
+    → (before report after : Report) → HasTime capture.time time → (Begins table pair from segment → ⊥) → IsFollowed table pair
+    → TakesNext pair from segment capture time taken self table st report before after → TakesOfRefused pair from segment capture table st before after
+takes_later pair from segment capture table time taken self st before report after timed none followed is refused =
+    (time, timed, inr (inr (none, followed, takes_next pair from segment capture time taken self table st report before after is)))
+
+-- ---- all packets
+
+-- where verdicts are told, nothing is
+pub never_in_verdicts : (a p : Parameters) (report : Report) (st : Stop) → IsReport to_verdicts a p report → StopsUnrefused report st → IsRefused st → ⊥
+unfolding StopsUnrefused
+never_in_verdicts a p report st is stops refused = none_refused st (stops is.manner_is) refused
+
+packet_refused : (pair : Pair) (from : Side) (segment : Segment) (capture : Capture) (table : Table) (st : Stop) (before after : Report)
+    → LooksAt table segment (Some (pair, from)) → StopsUnrefused before st → TakesOfRefused pair from segment capture table st before after
+    → TakesAsRefused segment capture table st before after
+packet_refused pair from segment capture table st before after looks stops takes refused port peer to_verdicts a p last all report past is =
+    absurd (never_in_verdicts a p before st report stops refused)
+packet_refused pair from segment capture table st before after looks stops takes refused port peer (to_log settings side) a p last all report past is =
+    let on = takes refused in
+    subst (λ (r : Option (Pair × Side)). DealsByRefused peer r a p segment (captured_of capture) all st before after)
+    (sym looks.0 ∙ pair_same port peer (to_log settings side) a p last table all segment is) (
+      subst (λ (x : Option IpAddr). IsOfPeer x pair) is.peer_is looks.1,
+      on.0,
+      on.1,
+      deals_refused port peer settings side a p last pair from segment (seen_by from segment capture on.0) table all st before after refused report past is on.2,
+    )
+
+pub packets_refused : {T : Type 0} (result : Result T Stop) (pair : Pair) (from : Side) (segment : Segment) (capture : Capture) (table : Table) (before after : Report)
+    → LooksAt table segment (Some (pair, from)) → IfErr result (StopsUnrefused before)
+    → IfErr result (λ st. TakesOfRefused pair from segment capture table st before after) → IfErr result (λ st. TakesAsRefused segment capture table st before after)
+packets_refused (Ok missing) pair from segment capture table before after looks stops takes = tt
+packets_refused (Err st) pair from segment capture table before after looks stops takes = packet_refused pair from segment capture table st before after looks stops takes
+
+-- ---- no packet follows
+
+-- the same one of both
+pub record Splits (how : Way) (a p : Parameters) (last : ℕ) (front : List (Pair × Flow)) (pair : Pair) (flow : Flow) (ones : List (Pair × Connection)) : Type 0 where
+  pub before : List (Pair × Connection)
+  pub one : Connection
+  pub behind : List (Pair × Connection)
+  pub are : ones ≡ before ++ (pair, one) ∷ behind
+  pub same : AreSame how a p last front before
+  pub is : IsOne how a p last flow one
+
+splits : (how : Way) (a p : Parameters) (last : ℕ) (front rest : List (Pair × Flow)) (pair : Pair) (flow : Flow) (ones : List (Pair × Connection))
+    → AreSame how a p last (front ++ (pair, flow) ∷ rest) ones → Splits how a p last front pair flow ones
+splits how a p last [] rest pair flow [] same = absurd same
+splits how a p last [] rest pair flow ((q, one) ∷ ones) same = record {
+  before = [];
+  one = one;
+  behind = ones;
+  are = ap (λ (r : Pair). (r, one) ∷ ones) same.0;
+  same = tt;
+  is = same.1;
+}
+splits how a p last (f ∷ front) rest pair flow [] same = absurd same
+splits how a p last (f ∷ front) rest pair flow (o ∷ ones) same =
+    let more = splits how a p last front rest pair flow ones same.2 in record {
+      before = o ∷ more.before;
+      one = more.one;
+      behind = more.behind;
+      are = ap (λ (os : List (Pair × Connection)). o ∷ os) more.are;
+      same = (same.0, same.1, more.same);
+      is = more.is;
+    }
+
+-- what was told before it
+told_before : (missing : Option Shortfall) (flows : List (Pair × Flow)) (old new : Report) (how : Way) (a p : Parameters) → IsReport how a p old → EndsFlows missing flows old new
+    → IsReport how a p new
+told_before missing [] old new how a p report ends = subst (IsReport how a p) (sym ends) report
+told_before missing ((pair, flow) ∷ flows) old new how a p report ends =
+    told_before missing flows ends.0 new how a p (report_then how a p old ends.0 report ends.1) ends.4
+
+pub left_refused : (missing : Option Shortfall) (table : Table) (st : Stop) (old new : Report) → StopsUnrefused old st
+    → EndsFlowsRefused missing table.flows.entries st old new → EndsAsRefused missing table st old new
+left_refused missing table st old new stops ends refused port peer to_verdicts a p last all report is = absurd (never_in_verdicts a p old st report stops refused)
+left_refused missing table st old new stops ends refused port peer (to_log settings side) a p last all report is =
+    let how = to_log settings side in
+    let split = splits how a p last ends.0 ends.3 ends.1 ends.2 all.known
+    (subst (λ (fs : List (Pair × Flow)). AreSame how a p last fs all.known) ends.5 is.same) in
+    let there = told_before missing ends.0 old ends.4 how a p report ends.6 in (
+      split.before,
+      ends.1,
+      split.one,
+      split.behind,
+      ends.4,
+      split.are,
+      ends_all how a p last missing ends.0 split.before old ends.4 report split.same ends.6,
+      end_refused settings side a p last missing split.one.number split.one.packets ends.2.stage st ends.4 new refused there.manner_is split.is.stands ends.7,
+    )
+
+-- the one that is next
+pub flows_refused : (missing : Option Shortfall) (all left rest : List (Pair × Flow)) (pair : Pair) (flow : Flow) (st : Stop) (old mid new : Report) → AreEnded missing all left old mid
+    → left ≡ (pair, flow) ∷ rest → EndsRefused missing flow.stage st mid new → EndsFlowsRefused missing all st old new
+flows_refused missing all left rest pair flow st old mid new ended is refused = (
+  ended.0,
+  pair,
+  flow,
+  rest,
+  mid,
+  ended.1 ∙ ap (λ (fs : List (Pair × Flow)). ended.0 ++ fs) is,
+  ended.2,
+  refused,
+)

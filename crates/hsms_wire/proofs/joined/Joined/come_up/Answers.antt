@@ -1,0 +1,11 @@
+use Rattle.std.proofs.Common.{ap}
+use Rattle.hsms_wire.specs.declared.joined.Joined.{Joined}
+use Rattle.hsms_wire.proofs.Sessions.{come_told}
+use Rattle.hsms_wire.proofs.joined.Joined.come_up.Goals as goal
+
+pub returns-clause-items : goal.returns-clause-items
+returns-clause-items c =
+    come_told c.args.pair.now c.args.self.now c.suppose_up.new.ends c.suppose_before.new.self.ends c.tell_left_out.new.self.ends
+    c.suppose_before.new.self.left_out.items c.args.report.now c.suppose_up.new.self c.suppose_before.new.report c.tell_left_out.new.report c.if-self.false
+    (ap (λ (j : Joined). j.left_out.items) c.suppose_before.ensures.same) c.in_ok-suppose_up.ensures.logged
+    (c.in_ok-suppose_before.ensures.items c.args.pair.now) (c.in_ok-tell_left_out.ensures.items c.args.pair.now)

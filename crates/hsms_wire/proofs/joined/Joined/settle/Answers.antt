@@ -1,0 +1,17 @@
+use Rattle.std.proofs.Common.{◌≡◌, length, vec_len, rules}
+use Rattle.hsms_wire.proofs.Sessions.{none_by, ok_map, settles_none, settles_some, some_by}
+use Rattle.hsms_wire.proofs.joined.Joined.settle.Goals as goal
+
+pub returns-then-is_empty-clause-settles : goal.returns-then-is_empty-clause-settles
+returns-then-is_empty-clause-settles c =
+    let waiting = c.args.self.now.waiting in
+    let len : vec_len waiting ≡ length waiting.items = search rules in
+    settles_none c.args.pair.now c.args.self.now c.args.report.now (none_by waiting.items (vec_len waiting) c.is_empty.result len c.is_empty.ensures c.if-is_empty.true)
+
+pub returns-clause-settles : goal.returns-clause-settles
+returns-clause-settles c =
+    let waiting = c.args.self.now.waiting in
+    let len : vec_len waiting ≡ length waiting.items = search rules in
+    ok_map c.decide.result
+    (λ course. settles_some c.args.pair.now course c.args.self.now c.decide.new.self c.args.report.now c.decide.new.report
+    (some_by waiting.items (vec_len waiting) c.is_empty.result len c.is_empty.ensures c.if-is_empty.false)) c.decide.ensures.decides

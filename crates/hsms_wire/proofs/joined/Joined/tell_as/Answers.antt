@@ -1,0 +1,20 @@
+use Rattle.std.proofs.Common.{sym}
+use Rattle.hsms_wire.proofs.Sessions.{end_ok, left_ok, ok_map, tells_message}
+use Rattle.hsms_wire.proofs.joined.Joined.tell_as.Goals as goal
+
+pub returns-in_ok-come_up-in-Message-clause-tells : goal.returns-in_ok-come_up-in-Message-clause-tells
+returns-in_ok-come_up-in-Message-clause-tells c =
+    ok_map c.tell_up.result
+    (λ course hears. tells_message c.args.pair.now c.args.part c.args.happening course c.args.self.now c.come_up.new.self c.tell_up.new.self c.args.report.now
+    c.come_up.new.report c.tell_up.new.report (sym c.in-Message.is) c.in_ok-come_up-in-Message.ensures.items c.in_ok-come_up-in-Message.ensures.same
+    c.in_ok-come_up-in-Message.ensures.left c.in_ok-come_up-in-Message.ensures.none hears c.tell_up.ensures.same) c.tell_up.ensures.hears
+
+pub returns-in-LeftOut-clause-tells : goal.returns-in-LeftOut-clause-tells
+returns-in-LeftOut-clause-tells c =
+    left_ok c.leave_out.result c.args.pair.now c.args.part c.args.happening c.args.self.now c.leave_out.new.self c.args.report.now c.leave_out.new.report
+    (sym c.in-LeftOut.is) c.leave_out.ensures.goes (c.leave_out.ensures.items c.args.pair.now) c.leave_out.ensures.left c.leave_out.ensures.same
+
+pub returns-in-End-clause-tells : goal.returns-in-End-clause-tells
+returns-in-End-clause-tells c =
+    end_ok c.tell_end.result c.args.pair.now c.args.part c.args.happening c.args.self.now c.tell_end.new.self c.args.report.now c.tell_end.new.report
+    (sym c.in-End.is) c.tell_end.ensures.hears c.tell_end.ensures.never c.tell_end.ensures.same

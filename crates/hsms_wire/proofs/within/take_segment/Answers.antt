@@ -1,0 +1,42 @@
+use Rattle.std.proofs.Common.{◌≡◌, ℕ, List, None, ap, drop, inl, length, subst, sym, ◌∙◌}
+use Rattle.hsms_capture.specs.declared.packet.Segment.{Segment}
+use Rattle.hsms_capture.specs.declared.ending.Ending.{Ending}
+use Rattle.hsms_capture.specs.Known.{seen_of}
+use Rattle.hsms_capture.specs.Standing.{TakesOn}
+use Rattle.hsms_capture.specs.Time.{TakesInTime}
+use Rattle.hsms_capture.specs.Wire.{Seen}
+use Rattle.hsms_joined.specs.Joining.{segment_by}
+use Rattle.hsms_joined.specs.Numbers.{before_by}
+use Rattle.hsms_wire.specs.Courses.{lack_behind}
+use Rattle.hsms_wire.specs.Running.{counted, cut_by}
+use Rattle.hsms_wire.proofs.within.take_segment.Goals as goal
+
+-- what is taken is the packet's part from the beginning on
+cut_is : (begin packet count : ℕ) (segment kept : Segment) (octets behind : List ℕ) → kept ≡ segment_by begin segment (length octets) → packet ≡ counted segment.packet
+    → count ≡ before_by begin segment.number (length octets) → behind ≡ drop count octets → seen_of (record kept { packet = packet }) behind ≡ cut_by begin segment octets
+cut_is begin packet count segment kept octets behind same number before back =
+    ap (λ (g : Segment). seen_of (record g { packet = packet }) behind) same
+    ∙ ap (λ (n : ℕ). seen_of (record (segment_by begin segment (length octets)) { packet = n }) behind) number
+    ∙ ap (λ (os : List ℕ). seen_of (record (segment_by begin segment (length octets)) { packet = counted segment.packet }) os) (back ∙ ap (λ (n : ℕ). drop n octets) before)
+
+pub returns-in-None-clause-takes : goal.returns-in-None-clause-takes
+returns-in-None-clause-takes c =
+    let cut : seen_of (record c.segment_from-cut.result { packet = c.saturating_add.result }) c.split_at.result.1.now ≡ cut_by c.args.begin c.args.segment c.args.octets.now = cut_is c.args.begin c.saturating_add.result c.octets_before.result c.args.segment c.segment_from-cut.result c.args.octets.now c.split_at.result.1.now
+    c.segment_from-cut.ensures c.saturating_add.ensures c.octets_before.ensures.numbers c.split_at.ensures.back in (
+      sym c.ending.ensures ∙ c.in-None.is,
+      subst (λ (s : Seen). TakesOn c.args.connection s c.args.told.now.items c.in-Ok.connection c.take.new.told.items) cut c.in-Ok.ensures.told,
+      subst (λ (s : Seen). TakesInTime c.args.connection s c.args.told.now.items c.in-Ok.connection c.take.new.told.items) cut c.in-Ok.ensures.times,
+    )
+
+pub returns-in-Some-clause-takes : goal.returns-in-Some-clause-takes
+returns-in-Some-clause-takes c =
+    let cut : seen_of (record c.segment_from-cut.result { packet = c.saturating_add.result }) c.split_at.result.1.now ≡ cut_by c.args.begin c.args.segment c.args.octets.now = cut_is c.args.begin c.saturating_add.result c.octets_before.result c.args.segment c.segment_from-cut.result c.args.octets.now c.split_at.result.1.now
+    c.segment_from-cut.ensures c.saturating_add.ensures c.octets_before.ensures.numbers c.split_at.ensures.back in
+    inl (
+      c.in-Ok.connection,
+      c.in-Some.ending,
+      sym c.ending.ensures ∙ c.in-Some.is,
+      c.behind.ensures ∙ ap (λ (e : Ending). lack_behind e None) c.in_capture.ensures,
+      subst (λ (s : Seen). TakesOn c.args.connection s c.args.told.now.items c.in-Ok.connection c.take.new.told.items) cut c.in-Ok.ensures.told,
+      subst (λ (s : Seen). TakesInTime c.args.connection s c.args.told.now.items c.in-Ok.connection c.take.new.told.items) cut c.in-Ok.ensures.times,
+    )

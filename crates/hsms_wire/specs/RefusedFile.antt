@@ -1,0 +1,196 @@
+-- Where the log of one end is told: with which packet of a capture it is refused, or which connection refuses it at the end.
+use Rattle.std.specs.Prelude.{◌≡◌, ◌⊎◌, ◌<◌, ◌++◌, ◌∷◌, ℕ, List, [], Option, Some, None, Err}
+use Rattle.std.specs.declared.net.ip_addr.IpAddr.{IpAddr}
+use Rattle.hsms_frame.specs.Device.{Grows, WhereTold}
+use Rattle.hsms_machine.specs.Settings.{Parameters}
+use Rattle.hsms_options.specs.declared.fault.ToolFault.{ToolFault}
+use Rattle.hsms_packets.specs.declared.front.Record.{Record}
+use Rattle.hsms_packets.specs.declared.segment.Segment.{Segment}
+use Rattle.hsms_packets.specs.declared.segment.Shown.{Shown}
+use Rattle.hsms_packets.specs.declared.segment.Shown.TheVariants as shown
+use Rattle.hsms_packets.specs.Blocks.{Reading, ReadsOn}
+use Rattle.hsms_packets.specs.File.{Packet, Ending, ReadsFile}
+use Rattle.hsms_packets.specs.Segment.{segment_at}
+use Rattle.hsms_capture.specs.declared.packet.Side.{Side}
+use Rattle.hsms_capture.specs.Wire.{Seen}
+use Rattle.hsms_accounts.specs.Pair.{IsOfPeer, turned}
+use Rattle.hsms_accounts.specs.declared.journal.Journal.{Journal}
+use Rattle.hsms_accounts.specs.declared.pair.Pair.{Pair}
+use Rattle.hsms_accounts.specs.declared.stop.Stop.{Stop}
+use Rattle.hsms_wire.specs.declared.report.Manner.TheVariants.{Log}
+use Rattle.hsms_wire.specs.declared.report.Report.{Report}
+use Rattle.hsms_wire.specs.declared.shortfall.Shortfall.{Shortfall}
+use Rattle.hsms_wire.specs.declared.table.Capture.{Capture}
+use Rattle.hsms_wire.specs.declared.table.Table.{Table}
+use Rattle.hsms_wire.specs.Connections.{Captured, Connection, Connections, EndsAll, IsOpen, IsReplaced, Starts, StartsAny, StartsOne, connection_of, pair_in, seen_at, without}
+use Rattle.hsms_wire.specs.Dealt.{CapturesFile, DealsEach, DealsUpTo, IsBlank, Wanted, Way, none_yet, to_log, to_verdicts}
+use Rattle.hsms_wire.specs.Kept.{ConcludesAsDealt, FinishesAsDealt, IsReport, IsReportOf, IsTable, IsTableOf, captured_of}
+use Rattle.hsms_wire.specs.Refused.{RefusedWith, RefusesFor, lack_at_end}
+use Rattle.hsms_wire.specs.Report.{missing_after}
+use Rattle.hsms_wire.specs.Segments.{body_in}
+use Rattle.hsms_wire.specs.Staged.{answered_by}
+use Rattle.hsms_wire.specs.Stop.{IsRefusal, IsRefused, TellsStop}
+use Rattle.hsms_wire.specs.Tabled.{HasTime}
+
+-- ---- a connection by its packets
+
+-- it lacks something that ends
+abbrev pub EndRefused : Option Shortfall → ℕ → Option (List Seen) → Stop → Report → Report → Type 0
+EndRefused missing number None st old new = ⊥
+EndRefused missing number (Some seen) st old new = RefusesFor (lack_at_end (answered_by number seen) number seen missing) st old new
+
+-- since another one replaces it
+abbrev pub LastRefused : Option Connection → Stop → Report → Report → Type 0
+LastRefused None st old new = ⊥
+LastRefused (Some one) st old new = EndRefused None one.number one.packets st old new
+
+-- the one before, whichever of the two ends connected
+abbrev pub StartRefused : Parameters → Parameters → Pair → Connections → Stop → Report → Report → Type 0
+StartRefused a p pair all st before after =
+    LastRefused (connection_of all (turned pair)) st before after
+    ⊎ ((mid : Report) × IsReplaced a p (turned pair) (connection_of all (turned pair)) before mid
+    × LastRefused (connection_of (without (turned pair) all) pair) st mid after)
+
+-- with one packet more
+abbrev pub MoreRefused : ℕ → Option (List Seen) → Pair → Seen → Stop → Report → Report → Type 0
+MoreRefused number None pair s st old new = ⊥
+MoreRefused number (Some seen) pair s st old new =
+    (j : Journal) × (old.manner ≡ Log j) × RefusedWith (answered_by number seen) (answered_by number (seen ++ s ∷ [])) j pair number seen s st old new
+
+abbrev pub NextRefused : Option Connection → Pair → Seen → Stop → Report → Report → Type 0
+NextRefused None pair s st old new = ⊥
+NextRefused (Some one) pair s st old new = MoreRefused one.number one.packets pair s st old new
+
+-- ---- a packet of the capture
+
+-- the connection before that which it begins refuses, that one, or another one whose next packet it is
+abbrev pub DealsRefused : Parameters → Parameters → Pair → Side → Segment → Seen → Connections → Stop → Report → Report → Type 0
+DealsRefused a p pair from segment s all st before after =
+    ((number : ℕ) × Starts all pair from segment number × StartRefused a p pair all st before after)
+    ⊎ ((number : ℕ) × (begun : Connections) × (ended : Report) × Starts all pair from segment number
+    × StartsOne a p pair number all begun before ended × NextRefused (connection_of begun pair) pair s st ended after)
+    ⊎ ((StartsAny all pair from segment → ⊥) × IsOpen all pair × NextRefused (connection_of all pair) pair s st before after)
+
+abbrev pub DealsByRefused : Option IpAddr → Option (Pair × Side) → Parameters → Parameters → Segment → Captured → Connections → Stop → Report → Report → Type 0
+DealsByRefused peer None a p segment captured all st before after = ⊥
+DealsByRefused peer (Some found) a p segment captured all st before after =
+    IsOfPeer peer found.0 × (time : ℕ) × HasTime captured.time time
+    × DealsRefused a p found.0 found.1 segment (seen_at found.1 segment captured time) all st before after
+
+abbrev pub DealsPacketRefused : ℕ → Option IpAddr → Parameters → Parameters → Segment → Captured → Connections → Stop → Report → Report → Type 0
+DealsPacketRefused port peer a p segment captured all st before after = DealsByRefused peer (pair_in port all segment) a p segment captured all st before after
+
+-- no packet follows: the first one that lacks something
+abbrev pub EndsAllRefused : Parameters → Parameters → Option Shortfall → List (Pair × Connection) → Stop → Report → Report → Type 0
+EndsAllRefused a p missing known st old new =
+    (front : List (Pair × Connection)) × (pair : Pair) × (one : Connection) × (rest : List (Pair × Connection)) × (mid : Report)
+    × (known ≡ front ++ (pair, one) ∷ rest) × EndsAll a p missing front old mid × EndRefused missing one.number one.packets st mid new
+
+-- ---- a packet of a file
+
+abbrev pub ShownRefused : Shown → Wanted → ℕ → Option ℕ → List ℕ → Connections → Stop → Report → Report → Type 0
+ShownRefused (shown.Segment segment) w number time octets all st before after =
+    DealsPacketRefused w.port w.peer w.active w.passive segment (record { packet = number; time = time; octets = body_in segment octets }) all st before after
+ShownRefused shown.Other w number time octets all st before after = ⊥
+ShownRefused (shown.LeftOut reason) w number time octets all st before after = ⊥
+
+abbrev pub OneRefused : Wanted → Packet → Connections → Stop → Report → Report → Type 0
+OneRefused w p all st before after = ShownRefused (segment_at p.link p.octets) w p.number p.time p.octets all st before after
+
+-- the words of a refusal, and what was written: what was on the page then
+pub record IsWritten (st : Stop) (told : Report) (out now : Option (List ℕ)) (fault : ToolFault) : Type 0 where
+  pub written : Grows out now told.page.octets
+  pub says : TellsStop st fault
+
+-- those before it were dealt, and what was told with them is written
+pub record StopsAt (w : Wanted) (packets : List Packet) (all : Connections) (before : Report) (out now : Option (List ℕ)) (fault : ToolFault) : Type 0 where
+  pub front : List Packet
+  pub p : Packet
+  pub rest : List Packet
+  pub are : packets ≡ front ++ p ∷ rest
+  pub mid : Connections
+  pub between : Report
+  pub put : Option (List ℕ)
+  pub each : DealsEach w front all mid before between out put
+  pub st : Stop
+  pub told : Report
+  pub refused : OneRefused w p mid st between told
+  pub is_written : IsWritten st told put now fault
+
+-- ---- the whole of it
+
+-- it is refused with a packet
+pub record RefusesPacket (w : Wanted) (input : List ℕ) (out now : Option (List ℕ)) (fault : ToolFault) : Type 0 where
+  pub packets : List Packet
+  pub ending : Ending
+  pub first : Report
+  pub reads : ReadsFile input packets ending
+  pub blank : IsBlank w first
+  pub stops : StopsAt w packets none_yet first out now fault
+
+-- it is refused since a connection that is left lacks something
+pub record RefusesLeft (w : Wanted) (input : List ℕ) (out now : Option (List ℕ)) (fault : ToolFault) : Type 0 where
+  pub packets : List Packet
+  pub ending : Ending
+  pub missing : Option Shortfall
+  pub all : Connections
+  pub first : Report
+  pub last : Report
+  pub put : Option (List ℕ)
+  pub reads : ReadsFile input packets ending
+  pub blank : IsBlank w first
+  pub deals : DealsUpTo w packets ending missing none_yet all first last out put
+  pub st : Stop
+  pub told : Report
+  pub refused : EndsAllRefused w.active w.passive missing all.known st (record last { shortfall = missing_after last.shortfall missing }) told
+  pub is_written : IsWritten st told put now fault
+
+-- Where verdicts are told, only at the end: by what was found. Where the log of an end is, as well by what can't go on there.
+abbrev pub RefusesBy : Way → Wanted → List ℕ → Option (List ℕ) → Option (List ℕ) → ToolFault → Type 0
+RefusesBy to_verdicts w input out now fault = CapturesFile w input out now (Err fault)
+RefusesBy (to_log settings side) w input out now fault =
+    CapturesFile w input out now (Err fault) ⊎ RefusesPacket w input out now fault ⊎ RefusesLeft w input out now fault
+
+abbrev pub RefusesFile : Wanted → List ℕ → Option (List ℕ) → Option (List ℕ) → ToolFault → Type 0
+RefusesFile w input out now fault = RefusesBy w.way w input out now fault
+
+-- ---- the connections that are kept
+
+abbrev pub TakesAsRefused : Segment → Capture → Table → Stop → Report → Report → Type 0
+TakesAsRefused segment capture table st before after =
+    IsRefused st → (port : ℕ) (peer : Option IpAddr) (how : Way) (a p : Parameters) (last : ℕ) (all : Connections) → IsReport how a p before
+    → last < capture.packet → IsTable port peer how a p last table all → DealsPacketRefused port peer a p segment (captured_of capture) all st before after
+
+abbrev pub EndsAsRefused : Option Shortfall → Table → Stop → Report → Report → Type 0
+EndsAsRefused missing table st old new =
+    IsRefused st → (port : ℕ) (peer : Option IpAddr) (how : Way) (a p : Parameters) (last : ℕ) (all : Connections) → IsReport how a p old
+    → IsTable port peer how a p last table all → EndsAllRefused a p missing all.known st old new
+
+abbrev pub ShowsAsRefused : ℕ → Record → List ℕ → Table → Stop → Report → Report → Type 0
+ShowsAsRefused packet r octets table st before after =
+    IsRefused st → (w : Wanted) (last : ℕ) (all : Connections) → IsReportOf w before → last < packet → IsTableOf w last table all
+    → ShownRefused (segment_at r.link octets) w packet r.time octets all st before after
+
+-- and it is written what was on the page
+abbrev pub PutsAsRefused : ℕ → Record → List ℕ → Table → Report → Option (List ℕ) → Option (List ℕ) → ToolFault → Type 0
+PutsAsRefused packet r octets table before out now fault =
+    IsRefusal fault → (w : Wanted) (last : ℕ) (all : Connections) → IsReportOf w before → last < packet → IsTableOf w last table all
+    → (st : Stop) × (told : Report) × ShownRefused (segment_at r.link octets) w packet r.time octets all st before told × IsWritten st told out now fault
+
+unfoldable pub ReadsAsRefused : Reading → Option (List ℕ) → Table → Report → Option (List ℕ) → Option (List ℕ) → ToolFault → Type 0
+ReadsAsRefused reading left table before out now fault =
+    IsRefusal fault → (w : Wanted) (all : Connections) → reading.state.packets ≡ 0 → IsReportOf w before → IsTableOf w 0 table all
+    → WhereTold left (λ input. (packets : List Packet) × (ending : Ending) × ReadsOn reading input packets ending × StopsAt w packets all before out now fault)
+
+-- at the end: by what was found, or by one that is left
+abbrev pub ConcludesAsRefused : Option Shortfall → Table → Report → Report → Stop → Type 0
+ConcludesAsRefused missing table before after st =
+    IsRefused st → ConcludesAsDealt missing table before after (Err st)
+    ⊎ ((w : Wanted) (last : ℕ) (all : Connections) → IsReportOf w before → IsTableOf w last table all
+    → EndsAllRefused w.active w.passive missing all.known st (record before { shortfall = missing_after before.shortfall missing }) after)
+
+abbrev pub FinishesAsRefused : Option Shortfall → Table → Report → Option (List ℕ) → Option (List ℕ) → ToolFault → Type 0
+FinishesAsRefused missing table before out now fault =
+    IsRefusal fault → FinishesAsDealt missing table before out now (Err fault)
+    ⊎ ((w : Wanted) (last : ℕ) (all : Connections) → IsReportOf w before → IsTableOf w last table all → (st : Stop) × (told : Report)
+    × EndsAllRefused w.active w.passive missing all.known st (record before { shortfall = missing_after before.shortfall missing }) told × IsWritten st told out now fault)
