@@ -17,8 +17,9 @@ It reads lines such as these, where `-->` was sent and `<--` was received by the
     2024-03-01 10:00:45.351 T3 TIMEOUT SystemBytes=00000003
     2024-03-01 10:00:50.000 DISCONNECTED
 
-HEADER below has the forms: change it to the log at hand. A line without `-->`, `<--`, SxFy, `<` and `>` becomes a
-comment. Any other one that isn't read is refused by its number: nothing is passed over. Messages are encoded by
+HEADER below has the forms: change it to the log at hand. A line without `-->`, `<--`, SxFy, `<`, `>`, system bytes, the
+name of a control message and a timeout of T3 becomes a comment, and is left out before the first one with a date and a
+time. Any other one that isn't read is refused by its number: nothing is passed over. Messages are encoded by
 `hsms encode`, once SML's own forms are written as it takes them: TRUE and FALSE, values of F4 and F8 in decimals,
 numbers of I and U in hexadecimal, those of B in decimals, texts in single quotes, `/* */` and `//`.
 
@@ -45,7 +46,9 @@ MARKS = {"-->": ">", "<--": "<"}
 STYPES = {"select.req": 1, "select.rsp": 2, "linktest.req": 5, "linktest.rsp": 6, "reject.req": 7, "separate.req": 9}
 
 # What tells that a line is meant to be read.
-IS_MEANT = re.compile(r"-->|<--|\bS\d+F\d+\b|[<>]")
+IS_MEANT = re.compile(
+    r"-->|<--|\bS\d+F\d+\b|[<>]|system ?bytes|\w\.(req|rsp)\b|\bT3\b.*(time-?out|expir)|(time-?out|expir).*\bT3\b", re.I
+)
 
 TOKEN = re.compile(r"""/\*.*?\*/|//[^\n]*|"[^"\n]*"|'[^'\n]*'|\[[^\]\n]*\]|[<>]|\.(?=\s*$)|[^\s<>\[\]"']+|\s+""", re.S)
 FLOATS = {"F4": ">f", "F8": ">d"}
@@ -76,6 +79,8 @@ def items_of(text, line):
                 raise Refused(at, f"no type of an item: {token}")
             token = kind
         elif token not in (">", ".") and not token.startswith("["):
+            if not kind:
+                raise Refused(at, f"no SML: {token}")
             token = value_of(kind, token, at)
         words.append(token)
     return " ".join(words[:-1] if words[-1:] == ["."] else words)

@@ -10,12 +10,13 @@
 #     2024-03-01 10:00:50.000 DISCONNECT
 #
 # Octets may go on in lines that begin with a space: as they are, or behind an offset and before a column of what they
-# are as text, as hex dumps have them. Each other line becomes a comment, but for one that shows a message which isn't
-# read: ten octets or more, or the digits of fourteen in one word, the first of them 00.
+# are as text, as hex dumps have them. Several messages of one read stand one after the other, with one time. Each other
+# line becomes a comment, but for one that shows a message which isn't read: ten octets or more, or fourteen in words of
+# any length, the first of them 00. Blank lines are left out.
 #
-# Where no line is any of these, where there is such a message, or one hasn't as many octets as its length says, a word
-# goes to standard error, the status is 2, and nothing more is written. Nothing at all is written before the first line
-# that is read, so that no log is made in which there is nothing to judge.
+# Where no line is any of these, where there is such a message, where one hasn't as many octets as its length says, or
+# where a line that is read has no date, time, octets or system bytes as above, a word goes to standard error and the
+# status is 2. Nothing is written then, so that no log is made in which there is nothing to judge.
 
 BEGIN {
   FOUR = "[0-9A-Fa-f][0-9A-Fa-f][0-9A-Fa-f][0-9A-Fa-f]"
@@ -23,13 +24,18 @@ BEGIN {
   if (link == "") link = "active"
   if (t3 == "") t3 = 45000
   OFFSET = "^" FOUR "(" FOUR ")?:?$"
+  SYSTEM = "^" FOUR FOUR "$"
   PAIR = "[0-9A-Fa-f][0-9A-Fa-f]"
   TEN = "(^|[^0-9A-Fa-f])" PAIR
   for (i = 1; i < 10; i++) TEN = TEN "[ \t]+" PAIR
-  WORD = "(^|[ \t])00"
-  for (i = 1; i < 14; i++) WORD = WORD PAIR
+  WORDS = "(^|[ \t])00"
+  for (i = 1; i < 14; i++) WORDS = WORDS "[ \t]*" PAIR
+  OCTET = "^[ \t]+" PAIR "[ \t]"
+  NEAR = "^[ \t][ \t]?[^ \t]"
+  DATE = "^[0-9][0-9][0-9][0-9]-(0[1-9]|1[0-2])-[0-3][0-9]$"
+  TIME = "^[0-2]?[0-9]:[0-5][0-9]:[0-5][0-9]([.,][0-9]+)?$"
   # (version 2: the log may go over several connections)
-  first = "hsms-log 2 " role " " link " " (device + 0) " " t3 " 6000 10000 5000 1048576 32"
+  put("hsms-log 2 " role " " link " " (device + 0) " " t3 " 6000 10000 5000 1048576 32")
 }
 
 # The days up to a date, of the calendar that has leap years.
@@ -38,8 +44,10 @@ function days(year, month, day) {
   return 365 * year + int(year / 4) - int(year / 100) + int(year / 400) + int((153 * month - 457) / 5) + day
 }
 
-# Milliseconds from the first line on.
+# Milliseconds from the first line that is read on.
 function moment(date, time,   d, t, now) {
+  if (date !~ DATE || time !~ TIME)
+    refuse("line " NR ": no date and time as 2024-03-01 10:00:00.000: " date " " time)
   split(date, d, "-")
   split(time, t, /[:.,]/)
   now = (((days(d[1], d[2], d[3]) * 24 + t[1]) * 60 + t[2]) * 60 + t[3]) * 1000 + substr(t[4] "000", 1, 3)
@@ -47,12 +55,8 @@ function moment(date, time,   d, t, now) {
   return sprintf("%.0f", now - begin)
 }
 
-# Writes a line of the log, behind the first one.
-function put(line) {
-  if (first != "") print first
-  first = ""
-  print line
-}
+# Holds a line of the log until all are read.
+function put(line) { log_of[lines++] = line }
 
 # Says what is wrong, and ends.
 function refuse(what) {
@@ -61,18 +65,34 @@ function refuse(what) {
   exit 2
 }
 
-# The octets from a word on, without spaces.
-function octets(from,   i, all) {
-  for (i = from; i <= NF; i++) all = all $i
-  return tolower(all)
+# Takes the octets from a word on.
+function take_words(from,   i, all, said) {
+  for (i = from; i <= NF; i++) { all = all $i; said = said " " $i }
+  if (all !~ /^[0-9A-Fa-f]*$/) refuse("line " NR ": no octets:" said)
+  take(tolower(all))
 }
 
-# The octets of a line of a hex dump: at most sixteen, behind an offset of four or eight digits. What is left of the line
-# is the column of text.
-function dumped(   i, all) {
-  for (i = 2; i <= NF && i < 18 && $i ~ /^[0-9A-Fa-f][0-9A-Fa-f]$/ && length(hex all) < wanted(hex all); i++)
-    all = all tolower($i)
-  return all
+# Takes the octets of a line of a hex dump, behind an offset of four or eight digits: at most sixteen, up to a gap of
+# more than two spaces. What is left of the line is the column of text.
+function take_dump(   text, count) {
+  text = $0 " "
+  sub(/^[ \t]+[^ \t]+/, "", text)
+  for (; count < 16 && text ~ OCTET && (!count || text ~ NEAR); count++) {
+    sub(/^[ \t]+/, "", text)
+    take(tolower(substr(text, 1, 2)))
+    text = substr(text, 3)
+  }
+  if (!count) refuse("line " NR ": no octets:" $0)
+}
+
+# Takes digits, and writes each message that is whole, without its four length octets.
+function take(digits,   size) {
+  hex = hex digits
+  while (hex != "" && length(hex) >= (size = wanted(hex))) {
+    put(at " " mark " " substr(hex, 9, size - 8))
+    hex = substr(hex, size + 1)
+    wholes++
+  }
 }
 
 # How many digits a message has, by the length in its first eight; before they are there, nine.
@@ -82,34 +102,36 @@ function wanted(digits,   i, size) {
   return 8 + 2 * size
 }
 
-# Writes the message that is held, without its four length octets.
-function end_message() {
-  if (mark == "") return
-  if (hex !~ /^[0-9a-f]+$/ || length(hex) != wanted(hex))
+# Ends the messages of a line and of those that go on with it. The last one has to be whole.
+function end_messages() {
+  if (mark != "" && (hex != "" || !wholes))
     refuse("line " line ": a message that hasn't as many octets as its length says")
-  put(at " " mark " " substr(hex, 9))
   mark = ""
 }
 
-# Holds a message, whose octets are here or in the lines that follow.
-function begin_message(of) {
-  at = moment($1, $2); mark = of; hex = octets(4); line = NR
+# Begins with messages, whose octets are here or in the lines that follow.
+function begin_messages(of) {
+  at = moment($1, $2); mark = of; hex = ""; wholes = 0; line = NR
+  take_words(4)
 }
 
 { sub(/\r$/, "") }
-/^[ \t]/ && mark != "" && $1 ~ OFFSET { hex = hex dumped(); next }
-/^[ \t]/ && mark != "" { hex = hex octets(1); next }
-{ end_message() }
+!NF { next }
+/^[ \t]/ && mark != "" && $1 ~ OFFSET { take_dump(); next }
+/^[ \t]/ && mark != "" { take_words(1); next }
+{ end_messages() }
 $3 == "CONNECT" { put(moment($1, $2) " up"); next }
 $3 == "DISCONNECT" { put(moment($1, $2) " down"); next }
-$3 == "SEND" { begin_message(">"); next }
-$3 == "RECV" { begin_message("<"); next }
+$3 == "SEND" { begin_messages(">"); next }
+$3 == "RECV" { begin_messages("<"); next }
+$3 == "T3" && $NF !~ SYSTEM { refuse("line " NR ": no system bytes of eight digits: " $NF) }
 $3 == "T3" { put(moment($1, $2) " t3 " tolower($NF)); next }
-$0 ~ TEN || $0 ~ WORD { refuse("line " NR ": octets that no SEND or RECV stands before") }
-first == "" { print "# " $0 }
+$0 ~ TEN || $0 ~ WORDS { refuse("line " NR ": octets that no SEND or RECV stands before") }
+{ put("# " $0) }
 
 END {
   if (refused) exit 2
-  end_message()
-  if (first != "") refuse("no line is a connection, a message or a timeout")
+  end_messages()
+  if (begin == "") refuse("no line is a connection, a message or a timeout")
+  for (i = 0; i < lines; i++) print log_of[i]
 }

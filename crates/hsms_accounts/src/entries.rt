@@ -27,17 +27,6 @@ pub fn frame_of(octets: Vec<u8>) -> Option<Frame>
     })
 }
 
-/// The header of the message of these octets, those of its length first; none where header and text have fewer than ten
-/// octets, or more than this.
-pub fn header_at(octets: &[u8], max: u32) -> Option<Header> {
-    if octets.len() as u64 > u64::from(max) + LENGTH as u64 {
-        return None;
-    }
-    let (_, behind) = octets.split_first_chunk::<LENGTH>()?;
-    let (header, _) = behind.split_first_chunk::<HEADER_LENGTH>()?;
-    Some(Header::of(*header))
-}
-
 // The octets of a header.
 fn header_in(octets: &[u8]) -> [u8; HEADER_LENGTH]
     requires { length octets.now ≡ 10 }

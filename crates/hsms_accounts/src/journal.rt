@@ -75,6 +75,13 @@ impl Journal {
         }
     }
 
+    /// How many octets header and text of a message have at most.
+    pub fn max(&self) -> u32
+        ensures { result ≡ self.now.settings.max }
+    {
+        self.settings.max()
+    }
+
     /// Tells on a page what happens on the connection of a pair, where it is no message that no end takes.
     ///
     /// # Errors

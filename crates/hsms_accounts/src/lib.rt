@@ -14,7 +14,6 @@ mod text;
 
 pub use account::{Account, Remark, Told};
 pub use ends::{Ends, Heard, unboxed};
-pub use entries::header_at;
 pub use journal::Journal;
 pub use pair::{Pair, pairs_of};
 pub use stop::Stop;

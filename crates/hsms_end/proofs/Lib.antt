@@ -13,7 +13,7 @@ pub mod ExpiredData
 pub mod Overdue
 pub mod Notices
 pub mod Expiries
-pub mod TickCalls
+pub mod Ends
 pub mod Messages
 pub mod Sent
 pub mod AwaitingReplies

@@ -186,7 +186,7 @@ impl<D: TurnDesk> End<D> {
     /// # Errors
     ///
     /// `Spent`, `NotUp`, `Memory`.
-    #[tactic(auto, using(crate::proofs::TickCalls::ticked), unfolding(crate::specs::Fault::Meets))]
+    #[tactic(auto, using(crate::proofs::Ends::ticked), unfolding(crate::specs::Fault::Meets))]
     pub fn tick(&mut self, now: u64) -> Result<Vec<Entry>, EndFault>
         ensures { MatchResult result
             (λ entries. Accepts D.answers_after self.old (tick now) entries.items self.new)

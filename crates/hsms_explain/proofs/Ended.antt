@@ -20,13 +20,13 @@ use Rattle.hsms_explain.specs.declared.course.Failure.{Failure}
 use Rattle.hsms_explain.specs.declared.course.Judged.{Judged}
 use Rattle.hsms_explain.specs.declared.course.Judged.TheVariants.{Lawful, Broken}
 use Rattle.hsms_explain.specs.declared.note.Note.{Note}
-use Rattle.hsms_explain.specs.declared.step.Step.{Step}
-use Rattle.hsms_explain.specs.declared.step.What.{What}
-use Rattle.hsms_explain.specs.declared.step.What.TheVariants as what
+use Rattle.hsms_log.specs.declared.step.Step.{Step}
+use Rattle.hsms_log.specs.declared.step.What.{What}
+use Rattle.hsms_log.specs.declared.step.What.TheVariants as what
 use Rattle.hsms_explain.specs.Course.{Standing}
 use Rattle.hsms_explain.specs.Gone.{LinesAreRepaired, LinesCarry, LinesPut}
 use Rattle.hsms_explain.specs.Row.{AreJudged, IsJudged, LeadsOn, Mends, changed, left_of, most_steps}
-use Rattle.hsms_explain.specs.Step.{entry_by, entry_of_what}
+use Rattle.hsms_log.specs.Step.{entry_by, entry_of_what}
 
 at_least_one : (steps : Steps) → 1 ≤ judgements steps
 at_least_one Passed = omega arith

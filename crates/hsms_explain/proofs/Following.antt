@@ -30,7 +30,7 @@ use Rattle.hsms_explain.specs.Course.{Standing, HasCourse, CourseLeadsTo, Judges
 use Rattle.hsms_explain.specs.Failing.{FailsFirst, failed_at}
 use Rattle.hsms_explain.specs.Heard.{IsShown, Tracks, TracksOrFails, BeginsOrFails}
 use Rattle.hsms_explain.specs.Noted.{either, first_why, why_of, with_carried, FailsBy, IsCarried, LineFailsBy}
-use Rattle.hsms_explain.specs.Step.{entry_by}
+use Rattle.hsms_log.specs.Step.{entry_by}
 
 -- ---- notes
 

@@ -15,7 +15,7 @@ use Rattle.hsms_explain.specs.Gone.{GoesOn, LineMends, LinePuts, LinesPut}
 use Rattle.hsms_explain.specs.Heard.{IsShown}
 use Rattle.hsms_explain.specs.Noted.{IsCarried}
 use Rattle.hsms_explain.specs.Row.{put_of}
-use Rattle.hsms_explain.specs.Step.{entry_by}
+use Rattle.hsms_log.specs.Step.{entry_by}
 use Rattle.hsms_explain.proofs.Following.{carried_shown, next_course, spelled_shown}
 use Rattle.hsms_explain.proofs.Rows.{row_mends}
 

@@ -15,12 +15,12 @@ use Rattle.hsms_explain.specs.declared.course.Opening.{Opening}
 use Rattle.hsms_explain.specs.declared.course.Judged.{Judged}
 use Rattle.hsms_explain.specs.declared.course.Judged.TheVariants.{Lawful, Broken}
 use Rattle.hsms_explain.specs.declared.note.Note.{Note}
-use Rattle.hsms_explain.specs.declared.step.Step.{Step}
-use Rattle.hsms_explain.specs.declared.step.What.{What}
-use Rattle.hsms_explain.specs.declared.step.What.TheVariants as what
+use Rattle.hsms_log.specs.declared.step.Step.{Step}
+use Rattle.hsms_log.specs.declared.step.What.{What}
+use Rattle.hsms_log.specs.declared.step.What.TheVariants as what
 use Rattle.hsms_explain.specs.Course.{Standing, HasCourse, ForEachCourse, JudgesAs}
 use Rattle.hsms_explain.specs.Row.{AreDone, AreJudged, IsJudged, LeadsBy, LeadsOn, Notes, NotesSay, NoteSays, RowMends, StepsOn, changed, entries_of, left_of, log_after, most_steps, next_after, put_of, put_with, told_of, told_with}
-use Rattle.hsms_explain.specs.Step.{entry_by, entry_of_what}
+use Rattle.hsms_log.specs.Step.{entry_by, entry_of_what}
 
 -- ---- what a judgement puts, and what it tells
 

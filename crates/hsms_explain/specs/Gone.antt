@@ -15,7 +15,7 @@ use Rattle.hsms_explain.specs.declared.told.Carried.TheVariants as carried
 use Rattle.hsms_explain.specs.Alike.{counted}
 use Rattle.hsms_explain.specs.Course.{Standing, HasCourse}
 use Rattle.hsms_explain.specs.Row.{Mends}
-use Rattle.hsms_explain.specs.Step.{entry_by}
+use Rattle.hsms_log.specs.Step.{entry_by}
 
 -- that a line can't be read is noted
 abbrev pub NotesUnreadable : List Note → List Note → Type 0

@@ -12,7 +12,6 @@ pub mod Page
 pub mod Row
 pub mod Shown
 pub mod Sort
-pub mod Step
 pub mod Words
 pub mod Written
 pub mod Explain

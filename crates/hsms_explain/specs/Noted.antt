@@ -14,7 +14,7 @@ use Rattle.hsms_explain.specs.declared.told.Carried.{Carried}
 use Rattle.hsms_explain.specs.declared.told.Carried.TheVariants as carried
 use Rattle.hsms_explain.specs.Counting.{with_entry}
 use Rattle.hsms_explain.specs.Course.{Standing, ForEachCourse, CourseLeadsTo}
-use Rattle.hsms_explain.specs.Step.{entry_by}
+use Rattle.hsms_log.specs.Step.{entry_by}
 
 -- why a line fails first, by its notes
 abbrev pub first_why : List Note → Option Why

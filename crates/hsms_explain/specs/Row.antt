@@ -12,11 +12,11 @@ use Rattle.hsms_explain.specs.declared.course.Judged.{Judged}
 use Rattle.hsms_explain.specs.declared.course.Judged.TheVariants.{Lawful, Broken}
 use Rattle.hsms_explain.specs.declared.note.Note.{Note}
 use Rattle.hsms_explain.specs.declared.note.Note.TheVariants.{Closes, Fails}
-use Rattle.hsms_explain.specs.declared.step.Step.{Step}
+use Rattle.hsms_log.specs.declared.step.Step.{Step}
 use Rattle.hsms_explain.specs.declared.words.Closing.{Closing}
 use Rattle.hsms_explain.specs.declared.note.Failing.{Failing}
 use Rattle.hsms_explain.specs.Course.{Standing, HasCourse, ForEachCourse, JudgesAs}
-use Rattle.hsms_explain.specs.Step.{entry_by}
+use Rattle.hsms_log.specs.Step.{entry_by}
 use Rattle.hsms_explain.specs.Words.{SaysRule}
 
 -- ---- one judgement

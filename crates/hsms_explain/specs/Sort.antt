@@ -10,8 +10,8 @@ use Rattle.hsms_machine.specs.declared.entry.Mark.{Mark}
 use Rattle.hsms_machine.specs.declared.entry.Mark.TheVariants.{Sent, Taken, Discarded}
 use Rattle.hsms_machine.specs.declared.rule.Rule.{Rule}
 use Rattle.hsms_machine.specs.declared.rule.Rule.TheVariants.{Backwards, NotUp, Ended, T3Overdue, LinkOverdue, NotDue, TooLong, PType, SType, ControlText, Session, Direction, NotSelected, WBit, Text, SystemInUse, NoTransaction, SelectStatus, NoCause}
-use Rattle.hsms_explain.specs.declared.step.What.{What}
-use Rattle.hsms_explain.specs.declared.step.What.TheVariants.{Up, Frame, T3, Cut, Down}
+use Rattle.hsms_log.specs.declared.step.What.{What}
+use Rattle.hsms_log.specs.declared.step.What.TheVariants.{Up, Frame, T3, Cut, Down}
 
 abbrev pub rule_number : Rule → ℕ
 rule_number Backwards = 0

@@ -5,8 +5,8 @@ use Rattle.hsms_machine.specs.declared.entry.Mark.TheVariants.{Sent, Taken, Disc
 use Rattle.hsms_lines.specs.Line.{LineOf}
 use Rattle.hsms_explain.specs.declared.note.Note.{Note}
 use Rattle.hsms_explain.specs.declared.note.Note.TheVariants.{Closes, Fails, FailsAlike}
-use Rattle.hsms_explain.specs.declared.step.What.{What}
-use Rattle.hsms_explain.specs.declared.step.What.TheVariants as what
+use Rattle.hsms_log.specs.declared.step.What.{What}
+use Rattle.hsms_log.specs.declared.step.What.TheVariants as what
 use Rattle.hsms_explain.specs.declared.told.Carried.{Carried}
 use Rattle.hsms_explain.specs.declared.told.Carried.TheVariants as carried
 use Rattle.hsms_explain.specs.declared.told.Told.{Told}

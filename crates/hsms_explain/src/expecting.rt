@@ -2,9 +2,9 @@
 
 use crate::known::Known;
 use crate::past::{Closed, Request, Requests};
-use crate::step::{Step, What};
 use crate::words::Tie;
 use hsms_frame::{CONTROL_SESSION, Header, Kind, kind};
+use hsms_log::{Step, What};
 use hsms_machine::{EntryRef, Mark, Rule, Settings};
 use secs_item::{ItemFault, measure_text};
 use std::fmt;

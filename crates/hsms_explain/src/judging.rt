@@ -2,10 +2,10 @@
 
 ghost use Rattle.std.specs.Prelude.{◌≡◌, IfOk, OnOk};
 ghost use Rattle.hsms_explain.specs.Course.{JudgesAs};
-ghost use Rattle.hsms_explain.specs.Step.{entry_by};
+ghost use Rattle.hsms_log.specs.Step.{entry_by};
 
 use crate::course::{Course, Judged};
-use crate::step::{Step, What};
+use hsms_log::{Step, What};
 use hsms_machine::{Entry, EntryRef, Event};
 use std::alloc::AllocError;
 

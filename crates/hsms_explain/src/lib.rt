@@ -34,7 +34,6 @@ mod replies;
 mod report;
 mod sort;
 mod stage;
-mod step;
 mod style;
 mod tally;
 mod telling;

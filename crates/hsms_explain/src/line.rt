@@ -127,7 +127,7 @@ fn later_line(
 {
     let max = known.settings.max();
     known.course.next_line();
-    let carried = carried_by(alloc, line, max, octets)?;
+    let carried = carried_by(line, max, octets)?;
     report.judge(alloc, known, carried)?;
     let told = Told {
         number: known.course.line(),

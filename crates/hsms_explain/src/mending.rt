@@ -8,7 +8,7 @@ ghost use Rattle.hsms_log.specs.declared.verdict.Why.TheVariants.{Broken};
 ghost use Rattle.hsms_explain.specs.declared.course.Judged.TheVariants.{Lawful};
 ghost use Rattle.hsms_explain.specs.Noted.{either, first_why, why_of, FailsBy};
 ghost use Rattle.hsms_explain.specs.Row.{LeadsOn, Mends, Notes, StepsOn, changed, entries_of, most_steps, told_with};
-ghost use Rattle.hsms_explain.specs.Step.{entry_by, entry_of_what};
+ghost use Rattle.hsms_log.specs.Step.{entry_by, entry_of_what};
 ghost use Rattle.hsms_explain.specs.Words.{SaysRule};
 
 use crate::course::{Failure, Judged, Opening};
@@ -17,10 +17,9 @@ use crate::judging::judge_step;
 use crate::known::Known;
 use crate::note::{Failing, Note};
 use crate::sort::sort_of;
-use crate::step::{Step, What};
-use crate::words::Closing;
+use crate::words::{Closing, Tie};
 use hsms_frame::{Kind, kind};
-use hsms_log::Why;
+use hsms_log::{Step, What, Why};
 use hsms_machine::{Mark, Remedy, Rule};
 use hsms_options::sentence;
 use std::alloc::{AllocError, Global};
@@ -178,7 +177,7 @@ fn closing(step: Step, opening: Opening) -> Closing
     ensures { result.line ≡ opening.line }
 {
     Closing {
-        tie: step.what.tie(),
+        tie: Tie::of(step.what),
         line: opening.line,
         after: step.time.saturating_sub(opening.time),
     }

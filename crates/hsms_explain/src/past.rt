@@ -1,8 +1,8 @@
 //! What a connection showed so far that a later failure may have to do with.
 
-use crate::step::{Step, What};
 use crate::words::Tie;
 use hsms_frame::{Header, Kind, kind};
+use hsms_log::{Step, What};
 use hsms_machine::Mark;
 use std::alloc::{AllocError, Global};
 use std::collections::VecDeque;
@@ -206,7 +206,7 @@ impl Past {
             return Ok(());
         }
         let closed = Closed {
-            tie: What::Frame(mark, header).tie(),
+            tie: Tie::of(What::Frame(mark, header)),
             line,
             system: header.system,
         };

@@ -3,8 +3,8 @@
 ghost use Rattle.std.specs.Prelude.{◌≡◌, ◌<◌, ◌^◌};
 ghost use Rattle.hsms_explain.specs.Sort.{cut_number as number_of_cut, event_number as number_of_event, frame_number as number_of_frame, mark_number as number_of_mark, sort_number};
 
-use crate::step::What;
 use hsms_frame::{Header, Kind, kind};
+use hsms_log::What;
 use hsms_machine::{Cause, Mark, Rule};
 
 /// The sort of lines that can't be read. No other failure has it.

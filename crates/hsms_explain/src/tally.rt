@@ -7,12 +7,11 @@ ghost use Rattle.hsms_log.specs.declared.verdict.Verdict.TheVariants.{Fail};
 ghost use Rattle.hsms_explain.specs.Counting.{counts_of, with_entry, with_kind};
 ghost use Rattle.hsms_explain.specs.Failing.{failed_at, unjudged_by, verdict_by};
 ghost use Rattle.hsms_explain.specs.Noted.{either, first_why};
-ghost use Rattle.hsms_explain.specs.Step.{entry_of_what};
+ghost use Rattle.hsms_log.specs.Step.{entry_of_what};
 
 use crate::note::Note;
-use crate::step::What;
 use crate::words::name_of;
-use hsms_log::{Summary, Verdict, Why};
+use hsms_log::{Summary, Verdict, What, Why};
 use hsms_machine::Mark;
 use std::alloc::{AllocError, Global};
 

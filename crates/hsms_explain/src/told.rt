@@ -1,16 +1,13 @@
 //! A line of a log, as it is told.
 
-ghost use Rattle.std.specs.Prelude.{◌≡◌, ◌≤◌, ℕ, [], IfOk};
-ghost use Rattle.hsms_machine.specs.Entry.{frame_entry};
+ghost use Rattle.std.specs.Prelude.{◌≡◌, ◌≤◌, ℕ, IfOk, length};
 ghost use Rattle.hsms_log.specs.Spelling.{line_limit};
 ghost use Rattle.hsms_explain.specs.Noted.{IsCarried};
-ghost use Rattle.hsms_explain.specs.Step.{entry_by, entry_of_what};
+ghost use Rattle.hsms_log.specs.Carried.{SpellsNoFrame};
 
-use crate::step::{Step, What};
-use hsms_frame::{Frame, HEADER_LENGTH};
-use hsms_log::{FrameLine, Line, LineFault, read_frame_line, read_line};
-use hsms_machine::{Entry, Event, Mark};
-use std::alloc::{AllocError, Global};
+use hsms_frame::HEADER_LENGTH;
+use hsms_log::{Step, is_blank, read_frame_line, read_plain_line};
+use std::alloc::AllocError;
 
 /// How many octets the line of the settings has at most, without its end.
 pub const SETTINGS_LIMIT: usize = 256;
@@ -66,7 +63,6 @@ pub fn limit_of(max: u32) -> usize
 
 /// What a line that isn't the first carries. The octets of its frame are put in place of what `octets` holds.
 pub fn carried_by<'a>(
-    alloc: Global,
     line: &[u8],
     max: u32,
     octets: &'a mut Vec<u8>,
@@ -77,59 +73,24 @@ pub fn carried_by<'a>(
         return Ok(Carried::Unreadable);
     }
     match read_frame_line(line, octets)? {
-        Some(FrameLine { time, mark, header }) => {
+        Some(step) => {
             let (_, text) = octets.split_at(HEADER_LENGTH);
-            let what = What::Frame(mark, header);
-            Ok(Carried::Entry(Step { time, what }, text))
+            Ok(Carried::Entry(step, text))
         }
-        None => carried_besides(alloc, line, max, octets),
+        None => Ok(carried_besides(line)),
     }
 }
 
 // The same of a line in which no frame was found.
-fn carried_besides<'a>(
-    alloc: Global,
-    line: &[u8],
-    max: u32,
-    octets: &'a mut Vec<u8>,
-) -> Result<Carried<'a>, AllocError>
-    ensures { IfOk result (IsCarried max line.now) }
+fn carried_besides(line: &[u8]) -> Carried<'static>
+    requires { SpellsNoFrame line.now }
+    ensures { (max : ℕ) → length line.now ≤ line_limit max → IsCarried max line.now result }
 {
-    octets.clear();
-    match read_line(alloc, line, max) {
-        Ok(Line::Entry(entry)) => {
-            let step = step_of(&entry, octets)?;
-            Ok(Carried::Entry(step, octets.as_slice()))
-        }
-        Ok(Line::Nothing) => Ok(Carried::Nothing),
-        Err(LineFault::Unreadable) => Ok(Carried::Unreadable),
-        Err(LineFault::Memory) => Err(AllocError),
+    if is_blank(line) {
+        return Carried::Nothing;
     }
-}
-
-// The step of an entry, whose text is put behind the octets.
-fn step_of(entry: &Entry, octets: &mut Vec<u8>) -> Result<Step, AllocError>
-    ensures { IfOk result (λ step. octets.old.items ≡ [] → entry_by step octets.new.items ≡ entry.now) }
-{
-    let what = match &entry.event {
-        Event::Up => What::Up,
-        Event::Sent(frame) => framed(Mark::Sent, frame, octets)?,
-        Event::Taken(frame) => framed(Mark::Taken, frame, octets)?,
-        Event::Discarded(frame) => framed(Mark::Discarded, frame, octets)?,
-        Event::T3(system) => What::T3(*system),
-        Event::Cut(cause) => What::Cut(*cause),
-        Event::Down => What::Down,
-    };
-    Ok(Step {
-        time: entry.time,
-        what,
-    })
-}
-
-fn framed(mark: Mark, frame: &Frame, octets: &mut Vec<u8>) -> Result<What, AllocError>
-    ensures { IfOk result (λ what. octets.old.items ≡ []
-        → (time : ℕ) → entry_of_what time what octets.new.items ≡ frame_entry time mark frame.now.header frame.now.text) }
-{
-    octets.extend_from_slice(frame.text.as_slice())?;
-    Ok(What::Frame(mark, frame.header))
+    match read_plain_line(line) {
+        Some(step) => Carried::Entry(step, &[]),
+        None => Carried::Unreadable,
+    }
 }

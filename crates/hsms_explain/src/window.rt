@@ -61,16 +61,11 @@ impl Held {
     }
 
     // What the line carries. The octets of its frame are put in place of what `octets` holds.
-    fn carried<'a>(
-        &self,
-        alloc: Global,
-        max: u32,
-        octets: &'a mut Vec<u8>,
-    ) -> Result<Carried<'a>, AllocError> {
+    fn carried<'a>(&self, max: u32, octets: &'a mut Vec<u8>) -> Result<Carried<'a>, AllocError> {
         if !self.is_entry {
             return Ok(Carried::Nothing);
         }
-        carried_by(alloc, &self.octets, max, octets)
+        carried_by(&self.octets, max, octets)
     }
 }
 
@@ -245,7 +240,7 @@ impl Window {
     {
         self.go_to(alloc, page, held.number)?;
         let teller = self.teller();
-        let carried = held.carried(alloc, max, &mut self.octets)?;
+        let carried = held.carried(max, &mut self.octets)?;
         let told = Told {
             number: held.number,
             octets: &held.octets,

@@ -4,8 +4,9 @@ ghost use Rattle.std.specs.Prelude.{◌≡◌, Some, codes};
 ghost use Rattle.hsms_explain.specs.Words.{alike_text, cause_word, closing_text, concern_text, rest_text, tie_word, why_name};
 
 use crate::moment::Moment;
+use hsms_frame::{Kind, kind};
 use hsms_lines::rule_name;
-use hsms_log::Why;
+use hsms_log::{What, Why};
 use hsms_machine::{Cause, Remedy};
 use std::fmt;
 
@@ -15,6 +16,22 @@ pub enum Tie {
     Answers,
     Rejects,
     Expires,
+}
+
+impl Tie {
+    /// What an entry that says this is.
+    pub fn of(what: What) -> Tie {
+        match what {
+            What::Frame(_, header) => {
+                if kind(header) == Kind::Reject {
+                    Tie::Rejects
+                } else {
+                    Tie::Answers
+                }
+            }
+            What::Up | What::T3(_) | What::Cut(_) | What::Down => Tie::Expires,
+        }
+    }
 }
 
 /// The word for it.

@@ -6,7 +6,7 @@ use Rattle.hsms_frame.specs.declared.fault.FrameFault.{FrameFault}
 use Rattle.hsms_frame.specs.declared.fault.FrameFault.TheVariants.{TooShort, TooLong, Memory}
 use Rattle.hsms_frame.specs.Frame.{Frame, frame_octets, IsFrame}
 use Rattle.hsms_frame.specs.Framing.{FramerState, FramesAs}
-use Rattle.hsms_frame.specs.Calls.{Call, Push, Next, Does, DoesAll, octets_of, message_of, IsDrained}
+use Rattle.hsms_frame.specs.Calls.{Call, Push, Next, Performs, PerformsAll, octets_of, message_of, IsDrained}
 use Rattle.hsms_frame.proofs.Determined.{same_front}
 
 -- a fault leaves what is pending
@@ -15,7 +15,7 @@ fault_keeps max pending rest (TooShort n) h = h.1
 fault_keeps max pending rest (TooLong n g) h = h.1
 fault_keeps max pending rest Memory h = h.6
 
-pub gives_what_was_pushed : (old new : FramerState) (calls : List Call) → DoesAll old calls new
+pub gives_what_was_pushed : (old new : FramerState) (calls : List Call) → PerformsAll old calls new
     → old.pending ++ flat_map octets_of calls ≡ flat_map frame_octets (flat_map message_of calls) ++ new.pending
 gives_what_was_pushed old new [] h = append-nil old.pending ∙ ap (λ (s : FramerState). s.pending) (sym h)
 gives_what_was_pushed old new (Push octets (Ok u) ∷ calls) (mid, does, more) =
@@ -40,16 +40,16 @@ AreMessages max [] = Unit {0}
 AreMessages max (f ∷ fs) = IsFrame f × (10 + length f.text ≤ max) × AreMessages max fs
 
 -- a call keeps the limit
-keeps_limit : (old mid : FramerState) (call : Call) → Does old call mid → mid.max ≡ old.max
+keeps_limit : (old mid : FramerState) (call : Call) → Performs old call mid → mid.max ≡ old.max
 keeps_limit old mid (Push octets (Ok u)) does = ap (λ (s : FramerState). s.max) does
 keeps_limit old mid (Push octets (Err e)) does = ap (λ (s : FramerState). s.max) does
 keeps_limit old mid (Next answer) does = does.1
 
-keep_limit : (old new : FramerState) (calls : List Call) → DoesAll old calls new → new.max ≡ old.max
+keep_limit : (old new : FramerState) (calls : List Call) → PerformsAll old calls new → new.max ≡ old.max
 keep_limit old new [] h = ap (λ (s : FramerState). s.max) h
 keep_limit old new (call ∷ calls) (mid, does, more) = keep_limit mid new calls more ∙ keeps_limit old mid call does
 
-are_messages : (old new : FramerState) (calls : List Call) → DoesAll old calls new → AreMessages old.max (flat_map message_of calls)
+are_messages : (old new : FramerState) (calls : List Call) → PerformsAll old calls new → AreMessages old.max (flat_map message_of calls)
 unfolding AreMessages
 are_messages old new [] h = tt
 are_messages old new (Push octets result ∷ calls) (mid, does, more) =
@@ -84,7 +84,7 @@ same_messages max (m ∷ ms) (n ∷ ns) x y a b none none_too same =
     let rest = same_messages max ms ns x y a.2 b.2 none none_too first.1 in
     (ap (λ f. f ∷ ms) first.0 ∙ ap (λ fs. n ∷ fs) rest.0, rest.1)
 
-pub any_pieces : (old new end : FramerState) (calls others : List Call) → DoesAll old calls new → DoesAll old others end
+pub any_pieces : (old new end : FramerState) (calls others : List Call) → PerformsAll old calls new → PerformsAll old others end
     → flat_map octets_of calls ≡ flat_map octets_of others → IsDrained new → IsDrained end
     → (flat_map message_of calls ≡ flat_map message_of others) × (new ≡ end)
 any_pieces old new end calls others h k same drained drained_too =

@@ -10,15 +10,15 @@ pub data Call : Type 0 where
   Next : Result (Option Frame) FrameFault → Call
 
 -- what a call does, as the contracts of `push` and `next` say it
-abbrev pub Does : FramerState → Call → FramerState → Type 0
-Does old (Push octets (Ok _)) new = IsPushed old octets new
-Does old (Push octets (Err _)) new = new ≡ old
-Does old (Next answer) new = FramesAs old.max old.pending answer new.pending × (new.max ≡ old.max)
+abbrev pub Performs : FramerState → Call → FramerState → Type 0
+Performs old (Push octets (Ok _)) new = IsPushed old octets new
+Performs old (Push octets (Err _)) new = new ≡ old
+Performs old (Next answer) new = FramesAs old.max old.pending answer new.pending × (new.max ≡ old.max)
 
 -- what calls do, in order
-abbrev pub DoesAll : FramerState → List Call → FramerState → Type 0
-DoesAll old [] new = new ≡ old
-DoesAll old (call ∷ calls) new = (mid : FramerState) × Does old call mid × DoesAll mid calls new
+abbrev pub PerformsAll : FramerState → List Call → FramerState → Type 0
+PerformsAll old [] new = new ≡ old
+PerformsAll old (call ∷ calls) new = (mid : FramerState) × Performs old call mid × PerformsAll mid calls new
 
 -- the octets that a call took in
 abbrev pub octets_of : Call → List ℕ

@@ -8,7 +8,7 @@ use Rattle.hsms_frame.specs.Header.{header_octets, IsHeader}
 use Rattle.hsms_frame.specs.Frame.{Frame, frame_octets, IsFrame, IsOctets}
 use Rattle.hsms_frame.specs.Reading.{ReadsAs, IsRefusal}
 use Rattle.hsms_frame.specs.Framing.{FramerState, FramesAs}
-use Rattle.hsms_frame.specs.Calls.{Call, DoesAll, octets_of, message_of, IsDrained}
+use Rattle.hsms_frame.specs.Calls.{Call, PerformsAll, octets_of, message_of, IsDrained}
 
 -- What spells a header is octets.
 abbrev pub HeadersAreOctets : Type 0
@@ -56,13 +56,13 @@ OneAnswerToPending =
 -- What was pending and what was pushed are the messages that were given, in order, and then what is pending.
 abbrev pub GivesWhatWasPushed : Type 0
 GivesWhatWasPushed =
-    (old new : FramerState) (calls : List Call) → DoesAll old calls new
+    (old new : FramerState) (calls : List Call) → PerformsAll old calls new
     → old.pending ++ flat_map octets_of calls ≡ flat_map frame_octets (flat_map message_of calls) ++ new.pending
 
 -- However the same octets are cut into pieces, the messages are the same, once none is pending whole, and so is the
 -- framer.
 abbrev pub AnyPiecesGiveTheSame : Type 0
 AnyPiecesGiveTheSame =
-    (old new end : FramerState) (calls others : List Call) → DoesAll old calls new → DoesAll old others end
+    (old new end : FramerState) (calls others : List Call) → PerformsAll old calls new → PerformsAll old others end
     → flat_map octets_of calls ≡ flat_map octets_of others → IsDrained new → IsDrained end
     → (flat_map message_of calls ≡ flat_map message_of others) × (new ≡ end)

@@ -86,7 +86,7 @@ impl Ahead {
         ensures ends { (R.state source.new).ends ≡ ends_after_more result (R.state source.old).ends }
         ensures failures { (R.state source.new).failures ≡ failures_after_more result (R.state source.old).failures }
     {
-        self.end = settle(&mut self.octets, self.place, self.end);
+        self.end = move_to_front(&mut self.octets, self.place, self.end);
         self.place = 0;
         make_room(&mut self.octets, self.end)?;
         let most = (self.end + BLOCK).max(2 * BLOCK);
@@ -97,7 +97,7 @@ impl Ahead {
 }
 
 // Moves a part to the front, and says where it ends there.
-fn settle(octets: &mut [u8], place: usize, end: usize) -> usize
+fn move_to_front(octets: &mut [u8], place: usize, end: usize) -> usize
     requires { (place ≤ end) × (end ≤ length octets.old) }
     ensures length { length octets.new ≡ length octets.old }
     ensures end { result ≡ end - place }

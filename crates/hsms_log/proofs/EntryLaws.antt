@@ -16,12 +16,18 @@ front_of line entry h =
 pub entry_unread : (line : List ℕ) → number_at line ≡ None → (entry : Entry) → SpellsEntry line entry → ⊥
 entry_unread line h entry spelled = let no = sym h ∙ front_of line entry spelled in cc no
 
+-- what follows the number spells the entry's event
+pub event_after : (line text : List ℕ) (time : ℕ) → number_at line ≡ Some (time, text)
+    → (entry : Entry) → SpellsEntry line entry → IsEvent entry.event × SpellsEvent text entry.event
+event_after line text time h entry spelled =
+    let both = pair_inj entry.time time spelled.spelled.0 text (sym (front_of line entry spelled) ∙ h) in
+    let P : List ℕ → Type 0 = λ t. SpellsEvent t entry.event in
+    (spelled.fits.event, subst P both.1 spelled.spelled.1)
+
 pub event_unread : (line text : List ℕ) (time : ℕ) → number_at line ≡ Some (time, text)
     → ((event : Event) → IsEvent event → SpellsEvent text event → ⊥) → (entry : Entry) → SpellsEntry line entry → ⊥
 event_unread line text time h none entry spelled =
-    let both = pair_inj entry.time time spelled.spelled.0 text (sym (front_of line entry spelled) ∙ h) in
-    let P : List ℕ → Type 0 = λ t. SpellsEvent t entry.event in
-    none entry.event spelled.fits.event (subst P both.1 spelled.spelled.1)
+    let both = event_after line text time h entry spelled in none entry.event both.0 both.1
 
 pub entry_found : (line text : List ℕ) (time : ℕ) (event : Event) → number_at line ≡ Some (time, text) → IsEvent event → SpellsEvent text event
     → SpellsEntry line (record { time = time; event = event })
@@ -39,13 +45,6 @@ pub entry_parts : (line : List ℕ) (a b : Entry) (h : SpellsEntry line a) (k : 
 entry_parts line a b h k = pair_inj a.time b.time h.spelled.0 k.spelled.0 (sym (front_of line a h) ∙ front_of line b k)
 
 -- ---- lines that carry a frame
-
-pub event_marked : (line text : List ℕ) (time : ℕ) → number_at line ≡ Some (time, text)
-    → ((event : Event) → SpellsEvent text event → HasFrame event) → (entry : Entry) → SpellsEntry line entry → HasFrame entry.event
-event_marked line text time h framed entry spelled =
-    let both = pair_inj entry.time time spelled.spelled.0 text (sym (front_of line entry spelled) ∙ h) in
-    let P : List ℕ → Type 0 = λ t. SpellsEvent t entry.event in
-    framed entry.event (subst P both.1 spelled.spelled.1)
 
 pub line_marked : (max : ℕ) (line : List ℕ) → (IsBlank line → ⊥) → ((entry : Entry) → SpellsEntry line entry → HasFrame entry.event)
     → (carried : Option Entry) → Carries max line carried → CarriesFrame carried

@@ -1,18 +1,23 @@
 -- Lines that carry a frame, read.
-use Rattle.std.proofs.Common.{◌≡◌, ◌≤◌, ◌+◌, ◌%◌, ◌++◌, ◌∷◌, ℕ, List, length, take, drop, Some, refl, ap, ◌∙◌, arith, length-append}
+use Rattle.std.proofs.Common.{◌≡◌, ◌<◌, ◌≤◌, ◌+◌, ◌%◌, ◌++◌, ◌∷◌, ℕ, List, length, take, drop, Some, refl, sym, ap, ◌∙◌, subst, arith, length-append}
+use Rattle.std.specs.Prelude.{decimal}
+use Rattle.std.proofs.lemmas.Fmt.{decimal_nonempty}
 use Rattle.std.proofs.lemmas.List.{append-nil, drop_all, take_all}
 use Rattle.hsms_frame.specs.declared.header.Header.{Header}
 use Rattle.hsms_frame.specs.Frame.{Frame}
 use Rattle.hsms_frame.specs.Header.{header_octets}
 use Rattle.hsms_machine.specs.declared.entry.Mark.{Mark}
 use Rattle.hsms_machine.specs.declared.entry.Mark.TheVariants.{Sent, Taken, Discarded}
+use Rattle.hsms_machine.specs.declared.entry.Event.{Event}
 use Rattle.hsms_machine.specs.declared.entry.Event.TheVariants as event
 use Rattle.hsms_machine.specs.Entry.{frame_entry}
 use Rattle.hex.proofs.HexLemmas.{decode_of-ok}
-use Rattle.hsms_log.specs.Spelling.{SpellsEntry, IsHexOf, message_octets}
+use Rattle.hsms_log.specs.Spelling.{SpellsEntry, SpellsEvent, IsHexOf, message_octets}
+use Rattle.hsms_log.specs.Carried.{HasFrame, SpellsFramesAlone, SpellsNoFrame}
 use Rattle.hsms_log.specs.Reading.{number_at}
 use Rattle.hsms_log.specs.FrameLine.{IsSpelled, mark_word}
-use Rattle.hsms_log.proofs.EntryLaws.{entry_found}
+use Rattle.hsms_log.proofs.EntryLaws.{entry_found, event_after}
+use Rattle.hsms_log.proofs.Uniqueness.{marked_after}
 
 pub frame_found : (line text digits : List ℕ) (time : ℕ) (mark : Mark) (header : Header) (octets : List ℕ) → number_at line ≡ Some (time, text)
     → text ≡ mark_word mark ++ 32 ∷ digits → IsSpelled digits header octets → SpellsEntry line (frame_entry time mark header octets)
@@ -39,3 +44,65 @@ pub written_all : (octets items : List ℕ) (n : ℕ) → length octets ≡ n �
 written_all octets items n one two =
     ap (λ l. take n (octets ++ l)) (drop_all (length octets) items (omega (arith, one, two)))
     ∙ ap (take n) (append-nil octets) ∙ take_all n octets (omega (arith, one))
+
+-- ---- which events a line spells
+
+-- a frame has a mark, and digits behind it
+event_frame : (text : List ℕ) (e : Event) → SpellsEvent text e → HasFrame e
+    → (mark : Mark) × (digits : List ℕ) × (frame : Frame) × IsHexOf digits (message_octets frame) × (text ≡ mark_word mark ++ 32 ∷ digits)
+event_frame text (event.Sent frame) spelled framed = (Sent, spelled.0, frame, spelled.1, spelled.2)
+event_frame text (event.Taken frame) spelled framed = (Taken, spelled.0, frame, spelled.1, spelled.2)
+event_frame text (event.Discarded frame) spelled framed = (Discarded, spelled.0, frame, spelled.1, spelled.2)
+event_frame text e spelled framed = absurd framed
+
+mark_size : (mark : Mark) → length (mark_word mark) ≡ 1
+mark_size Sent = refl
+mark_size Taken = refl
+mark_size Discarded = refl
+
+after_mark : (mark : Mark) (digits : List ℕ) → drop 2 (mark_word mark ++ 32 ∷ digits) ≡ digits
+after_mark Sent digits = refl
+after_mark Taken digits = refl
+after_mark Discarded digits = refl
+
+-- a line of so few octets spells no frame
+pub frame_short : (line : List ℕ) → length line < 24 → SpellsNoFrame line
+frame_short line short entry spelled framed =
+    let text = spelled.spelled.0 in
+    let parts = event_frame text entry.event spelled.spelled.1 framed in
+    let digits = parts.1 in
+    let size = (message_size digits parts.2 parts.3).1 in
+    let some : 0 < length (decimal entry.time) = decimal_nonempty entry.time spelled.fits.time in
+    let long : length line ≡ length (decimal entry.time) + length (32 ∷ text) =
+    ap length spelled.spelled.2 ∙ length-append (decimal entry.time) (32 ∷ text) in
+    let marked : length text ≡ length (mark_word parts.0) + length (32 ∷ digits) =
+    ap length parts.4 ∙ length-append (mark_word parts.0) (32 ∷ digits) in
+    omega (arith, short, size, some, long, marked, mark_size parts.0)
+
+-- nor does one whose event begins with no mark
+pub frame_unmarked : (line text : List ℕ) (time : ℕ) → number_at line ≡ Some (time, text)
+    → ((mark : Mark) (digits : List ℕ) → text ≡ mark_word mark ++ 32 ∷ digits → ⊥) → SpellsNoFrame line
+frame_unmarked line text time at none entry spelled framed =
+    let parts = event_frame text entry.event (event_after line text time at entry spelled).1 framed in
+    none parts.0 parts.1 parts.4
+
+-- nor does one whose digits spell no message
+pub frame_unread : (line text digits : List ℕ) (time : ℕ) (mark : Mark) → number_at line ≡ Some (time, text) → text ≡ mark_word mark ++ 32 ∷ digits
+    → ((frame : Frame) → IsHexOf digits (message_octets frame) → ⊥) → SpellsNoFrame line
+frame_unread line text digits time mark at text_is none entry spelled framed =
+    let parts = event_frame text entry.event (event_after line text time at entry spelled).1 framed in
+    let same : parts.1 ≡ digits =
+    sym (after_mark parts.0 parts.1) ∙ ap (drop 2) (sym parts.4 ∙ text_is) ∙ after_mark mark digits in
+    let P : List ℕ → Type 0 = λ l. IsHexOf l (message_octets parts.2) in
+    none parts.2 (subst P same parts.3)
+
+-- behind a mark stands no event but a frame
+frame_behind : (text digits : List ℕ) (mark : Mark) (e : Event) → text ≡ mark_word mark ++ 32 ∷ digits → SpellsEvent text e → HasFrame e
+frame_behind text digits Sent e is h = marked_after text digits 62 e is (omega arith) h
+frame_behind text digits Taken e is h = marked_after text digits 60 e is (omega arith) h
+frame_behind text digits Discarded e is h = marked_after text digits 33 e is (omega arith) h
+
+pub frame_marked : (line text digits : List ℕ) (time : ℕ) (mark : Mark) → number_at line ≡ Some (time, text) → text ≡ mark_word mark ++ 32 ∷ digits
+    → SpellsFramesAlone line
+frame_marked line text digits time mark at text_is entry spelled =
+    frame_behind text digits mark entry.event text_is (event_after line text time at entry spelled).1

@@ -8,6 +8,7 @@ pub mod LineReader
 pub mod Reading
 pub mod Carried
 pub mod FrameLine
+pub mod Step
 pub mod Digits
 pub mod Fields
 pub mod Counters

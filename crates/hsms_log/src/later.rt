@@ -1,14 +1,14 @@
 //! Judging a line that is not the first.
 
-ghost use Rattle.std.specs.Prelude.{◌≡◌, ◌+◌, ◌-◌, ◌<◌, ◌≤◌, ◌^◌, ◌++◌, [], ◌∷◌, List, ℕ, Some, None, Ok, IfOk, IfSome, IsSome};
+ghost use Rattle.std.specs.Prelude.{◌≡◌, ◌+◌, ◌-◌, ◌<◌, ◌≤◌, ◌^◌, ◌++◌, [], ◌∷◌, List, ℕ, Some, None, Ok, IfOk, IfSome, IsSome, length};
 ghost use Rattle.hsms_log.specs.Verdict.{FailsAfter};
 ghost use Rattle.hsms_machine.specs.Entry.{frame_entry};
-ghost use Rattle.hsms_log.specs.Spelling.{Carries, entry_line};
+ghost use Rattle.hsms_log.specs.Spelling.{Carries, IsBlank, entry_line, line_limit};
+ghost use Rattle.hsms_log.specs.Carried.{SpellsNoFrame};
 ghost use Rattle.hsms_log.specs.Judging.{Tracks, message_size};
 
-use crate::fault::LineFault;
 use crate::range::entry_is_in_range;
-use crate::reading::{FrameLine, Line, frame_at_front, is_blank, read_line};
+use crate::reading::{FrameLine, entry_of, frame_at_front, is_blank, read_plain_line};
 use crate::session::Session;
 use crate::tally::Tally;
 use crate::verdict::Why;
@@ -43,7 +43,7 @@ pub fn later_line(
             let (_, text) = octets[..length].split_at(HEADER_LENGTH);
             frame_line(session, tally, frame, text)
         }
-        None => other_line(session, tally, alloc, line, max),
+        None => other_line(session, tally, alloc, line),
     }
 }
 
@@ -78,25 +78,20 @@ fn other_line(
     tally: &mut Tally,
     alloc: Global,
     line: &[u8],
-    max: u32,
 ) -> Result<Option<Why>, AllocError>
     requires room { tally.old.lines < 2 ^ 64 - 1 }
-    requires max { max ≡ session.old.settings.max }
+    requires fits { length line.now ≤ line_limit session.old.settings.max }
+    requires entry { IsBlank line.now → ⊥ }
+    requires other { SpellsNoFrame line.now }
     ensures follows { result ≡ Ok None → (before : List (List ℕ)) → Tracks session.old tally.old before → Tracks session.new tally.new (before ++ line.now ∷ []) }
     ensures same { IfOk result (λ answer. IsSome answer → tally.new.lines ≡ tally.old.lines) }
     ensures number { result ≡ Ok None → tally.new.lines ≡ tally.old.lines + 1 }
     ensures fails { IfOk result (λ answer. IfSome answer (λ why. (before : List (List ℕ)) → Tracks session.old tally.old before → FailsAfter before line.now why)) }
 {
-    let entry = match read_line(alloc, line, max) {
-        Ok(Line::Entry(entry)) => entry,
-        Ok(Line::Nothing) => {
-            tally.count_line();
-            return Ok(None);
-        }
-        Err(LineFault::Unreadable) => return Ok(Some(Why::Unreadable)),
-        Err(LineFault::Memory) => return Err(AllocError),
-    };
-    carried_entry(session, tally, &entry)
+    match read_plain_line(line) {
+        Some(step) => carried_entry(session, tally, &entry_of(step, Vec::new(alloc))),
+        None => Ok(Some(Why::Unreadable)),
+    }
 }
 
 /// Judges an entry by itself, as it is judged by its line.

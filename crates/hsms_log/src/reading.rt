@@ -1,17 +1,20 @@
 //! What a line that is not the first carries.
 
-ghost use Rattle.std.specs.Prelude.{◌≡◌, ◌≢◌, ◌↔◌, ◌<◌, ◌≤◌, ◌/◌, ◌%◌, ◌^◌, ◌++◌, ◌∷◌, true, false, ℕ, List, Option, None, Ok, IsTrue, IfOk, IfErr, IfSome, OnOk, length, vec_len, take, drop, codes};
+ghost use Rattle.std.specs.Prelude.{◌≡◌, ◌≢◌, ◌↔◌, ◌<◌, ◌≤◌, ◌/◌, ◌%◌, ◌^◌, ◌++◌, ◌∷◌, [], true, false, ℕ, List, Option, None, Ok, IsTrue, IfOk, IfErr, IfNone, IfSome, OnErr, OnOk, length, vec_len, take, drop, codes};
 ghost use Rattle.hsms_frame.specs.Frame.{Frame as Message};
 ghost use Rattle.hsms_machine.specs.declared.entry.Event.{Event as Happening};
 ghost use Rattle.hsms_machine.specs.declared.entry.Entry.{Entry as LogEntry};
 ghost use Rattle.hsms_log.specs.Spelling.{Carries, IsBlank, SpellsEntry, SpellsEvent, IsEvent, IsMessage, IsHexOf, message_octets, system_octets};
-ghost use Rattle.hsms_machine.specs.Entry.{frame_entry};
-ghost use Rattle.hsms_log.specs.Carried.{carried_by, CarriesFrame, HasFrame};
+ghost use Rattle.hsms_machine.specs.Entry.{frame_entry, frame_event};
+ghost use Rattle.hsms_log.specs.Step.{entry_by, event_of};
+ghost use Rattle.hsms_log.specs.Carried.{carried_by, CarriesFrame, HasFrame, SpellsFramesAlone, SpellsNoFrame};
+ghost use Rattle.hsms_machine.specs.declared.entry.Mark.{Mark as FrameMark};
 ghost use Rattle.hsms_log.specs.FrameLine.{IsSpelled, mark_word};
 
 use crate::digits::decode;
 use crate::fault::LineFault;
 use crate::number::{after_prefix, number_at};
+use crate::step::{Step, What};
 use hsms_frame::{Frame, HEADER_LENGTH, Header, drop_front};
 use hsms_machine::{Cause, Entry, Event, Mark};
 use std::alloc::{AllocError, Global};
@@ -41,7 +44,15 @@ pub fn read_line(alloc: Global, line: &[u8], max: u32) -> Result<Line, LineFault
     if is_blank(line) {
         return Ok(Line::Nothing);
     }
-    Ok(Line::Entry(read_entry(alloc, line)?))
+    let mut octets = Vec::new(alloc);
+    if let Some(step) = read_frame_line(line, &mut octets)? {
+        drop_front(&mut octets, HEADER_LENGTH);
+        return Ok(Line::Entry(entry_of(step, octets)));
+    }
+    match read_plain_line(line) {
+        Some(step) => Ok(Line::Entry(entry_of(step, Vec::new(alloc)))),
+        None => Err(LineFault::Unreadable),
+    }
 }
 
 /// Whether the line is empty, or a comment.
@@ -54,53 +65,47 @@ pub fn is_blank(line: &[u8]) -> bool
     }
 }
 
-fn read_entry(alloc: Global, line: &[u8]) -> Result<Entry, LineFault>
-    ensures found { IfOk result (SpellsEntry line.now) }
-    ensures unreadable { IfErr result (λ fault. fault ≡ LineFault.Unreadable → (entry : LogEntry) → SpellsEntry line.now entry → ⊥) }
-    ensures memory { IfErr result (λ fault. fault ≡ LineFault.Memory → (entry : LogEntry) → SpellsEntry line.now entry → HasFrame entry.event) }
+/// The entry of a step, with the text of its frame.
+pub fn entry_of(step: Step, text: Vec<u8>) -> Entry
+    ensures { result ≡ entry_by step text.items }
 {
-    let Some((time, text)) = number_at(line) else {
-        return Err(LineFault::Unreadable);
+    let event = match step.what {
+        What::Up => Event::Up,
+        What::Frame(mark, header) => framed(mark, Frame { header, text }),
+        What::T3(system) => Event::T3(system),
+        What::Cut(cause) => Event::Cut(cause),
+        What::Down => Event::Down,
     };
-    let event = read_event(alloc, text)?;
-    Ok(Entry { time, event })
+    let time = step.time;
+    Entry { time, event }
 }
 
-fn read_event(alloc: Global, text: &[u8]) -> Result<Event, LineFault>
-    ensures found { IfOk result (λ event. IsEvent event × SpellsEvent text.now event) }
-    ensures unreadable { IfErr result (λ fault. fault ≡ LineFault.Unreadable → (event : Happening) → IsEvent event → SpellsEvent text.now event → ⊥) }
-    ensures memory { IfErr result (λ fault. fault ≡ LineFault.Memory → (event : Happening) → SpellsEvent text.now event → HasFrame event) }
+/// The event of a frame that has this mark.
+fn framed(mark: Mark, frame: Frame) -> Event
+    ensures { result ≡ frame_event mark frame }
 {
-    if let Some(digits) = after_prefix(text, b"> ") {
-        return Ok(Event::Sent(read_message(alloc, digits)?));
+    match mark {
+        Mark::Sent => Event::Sent(frame),
+        Mark::Taken => Event::Taken(frame),
+        Mark::Discarded => Event::Discarded(frame),
     }
-    if let Some(digits) = after_prefix(text, b"< ") {
-        return Ok(Event::Taken(read_message(alloc, digits)?));
-    }
-    if let Some(digits) = after_prefix(text, b"! ") {
-        return Ok(Event::Discarded(read_message(alloc, digits)?));
-    }
-    if let Some(digits) = after_prefix(text, b"t3 ") {
-        return Ok(Event::T3(read_system(digits)?));
-    }
-    read_plain_event(text)
 }
 
-/// Reads an event that is words alone.
-fn read_plain_event(text: &[u8]) -> Result<Event, LineFault>
-    ensures found { IfOk result (λ event. IsEvent event × SpellsEvent text.now event) }
-    ensures only { IfErr result (λ e. (e ≡ LineFault.Unreadable) × (text.now ≢ codes "up") × (text.now ≢ codes "down")
-        × (text.now ≢ codes "cut t6") × (text.now ≢ codes "cut t7") × (text.now ≢ codes "cut t8") × (text.now ≢ codes "cut length")) }
+/// Reads a line that carries a frame. `octets` holds the octets of its header and text then, in place of what it held.
+pub fn read_frame_line(line: &[u8], octets: &mut Vec<u8>) -> Result<Option<Step>, AllocError>
+    ensures found { IfOk result (λ answer. IfSome answer (λ step.
+        SpellsEntry line.now (entry_by step (drop 10 octets.new.items)))) }
+    ensures size { IfOk result (λ answer. IfSome answer (λ step. 10 ≤ length octets.new.items)) }
+    ensures none { result ≡ Ok None → SpellsNoFrame line.now }
+    ensures memory { OnErr result (SpellsFramesAlone line.now) }
 {
-    match text {
-        b"up" => Ok(Event::Up),
-        b"down" => Ok(Event::Down),
-        b"cut t6" => Ok(Event::Cut(Cause::T6)),
-        b"cut t7" => Ok(Event::Cut(Cause::T7)),
-        b"cut t8" => Ok(Event::Cut(Cause::T8)),
-        b"cut length" => Ok(Event::Cut(Cause::Length)),
-        _ => Err(LineFault::Unreadable),
-    }
+    let Some((frame, length)) = frame_at_front(line, octets)? else {
+        return Ok(None);
+    };
+    octets.truncate(length);
+    let FrameLine { time, mark, header } = frame;
+    let what = What::Frame(mark, header);
+    Ok(Some(Step { time, what }))
 }
 
 /// What a line that carries a frame says, but for the octets of its header and text.
@@ -109,18 +114,6 @@ pub struct FrameLine {
     pub time: u64,
     pub mark: Mark,
     pub header: Header,
-}
-
-/// Reads a line that carries a frame. `octets` holds the octets of its header and text then, in place of what it held.
-pub fn read_frame_line(line: &[u8], octets: &mut Vec<u8>) -> Result<Option<FrameLine>, AllocError>
-    ensures found { IfOk result (λ answer. IfSome answer (λ x. SpellsEntry line.now (frame_entry x.time x.mark x.header (drop 10 octets.new.items)))) }
-    ensures size { IfOk result (λ answer. IfSome answer (λ x. 10 ≤ length octets.new.items)) }
-{
-    let Some((frame, length)) = frame_at_front(line, octets)? else {
-        return Ok(None);
-    };
-    octets.truncate(length);
-    Ok(Some(frame))
 }
 
 /// How many octets a line that carries a frame has at least: a digit, a space, the mark, a space, and the header's digits.
@@ -136,6 +129,8 @@ pub fn frame_at_front(
     ensures found { IfOk result (λ answer. IfSome answer (λ x. SpellsEntry line.now
         (frame_entry x.0.time x.0.mark x.0.header (drop 10 (take x.1 octets.new.items))))) }
     ensures size { IfOk result (λ answer. IfSome answer (λ x. (10 ≤ x.1) × (x.1 ≤ vec_len octets.new))) }
+    ensures none { result ≡ Ok None → SpellsNoFrame line.now }
+    ensures memory { OnErr result (SpellsFramesAlone line.now) }
 {
     if line.len() < SHORTEST {
         return Ok(None);
@@ -154,7 +149,8 @@ pub fn frame_at_front(
 
 /// The mark of a frame, and what follows it and a space.
 fn mark_at(text: &[u8]) -> Option<(Mark, &[u8])>
-    ensures { IfSome result (λ x. text.now ≡ mark_word x.0 ++ 32 ∷ x.1.now) }
+    ensures found { IfSome result (λ x. text.now ≡ mark_word x.0 ++ 32 ∷ x.1.now) }
+    ensures none { IfNone result ((mark : FrameMark) (digits : List ℕ) → text.now ≡ mark_word mark ++ 32 ∷ digits → ⊥) }
 {
     match text {
         [b'>', b' ', digits @ ..] => Some((Mark::Sent, digits)),
@@ -162,23 +158,6 @@ fn mark_at(text: &[u8]) -> Option<(Mark, &[u8])>
         [b'!', b' ', digits @ ..] => Some((Mark::Discarded, digits)),
         _ => None,
     }
-}
-
-/// Reads the header and the text of a message from hexadecimal digits.
-fn read_message(alloc: Global, digits: &[u8]) -> Result<Frame, LineFault>
-    ensures found { IfOk result (λ frame. IsMessage frame × IsHexOf digits.now (message_octets frame)) }
-    ensures unreadable { IfErr result (λ fault. fault ≡ LineFault.Unreadable → (frame : Message) → IsHexOf digits.now (message_octets frame) → ⊥) }
-{
-    let mut octets = Vec::new(alloc);
-    let Some((header, length)) = read_octets(digits, &mut octets)? else {
-        return Err(LineFault::Unreadable);
-    };
-    octets.truncate(length);
-    drop_front(&mut octets, HEADER_LENGTH);
-    Ok(Frame {
-        header,
-        text: octets,
-    })
 }
 
 /// Reads a message from hexadecimal digits, and gives its header and how many octets header and text have, or None where
@@ -230,14 +209,52 @@ fn lengthen(octets: &mut Vec<u8>, length: usize) -> Result<(), AllocError>
     Ok(())
 }
 
+/// Reads a line that carries an entry without a frame.
+pub fn read_plain_line(line: &[u8]) -> Option<Step>
+    ensures found { IfSome result (λ step. SpellsEntry line.now (entry_by step [])) }
+    ensures none { IfNone result (SpellsFramesAlone line.now) }
+{
+    let (time, text) = number_at(line)?;
+    let what = read_plain_event(text)?;
+    Some(Step { time, what })
+}
+
+/// Reads an event that is no frame.
+fn read_plain_event(text: &[u8]) -> Option<What>
+    ensures found { IfSome result (λ what. IsEvent (event_of what []) × SpellsEvent text.now (event_of what [])) }
+    ensures none { IfNone result ((event : Happening) → IsEvent event → SpellsEvent text.now event → HasFrame event) }
+{
+    if let Some(digits) = after_prefix(text, b"t3 ") {
+        return Some(What::T3(read_system(digits)?));
+    }
+    event_of_words(text)
+}
+
+/// Reads an event that is words alone.
+fn event_of_words(text: &[u8]) -> Option<What>
+    ensures found { IfSome result (λ what. IsEvent (event_of what []) × SpellsEvent text.now (event_of what [])) }
+    ensures none { IfNone result ((text.now ≢ codes "up") × (text.now ≢ codes "down") × (text.now ≢ codes "cut t6")
+        × (text.now ≢ codes "cut t7") × (text.now ≢ codes "cut t8") × (text.now ≢ codes "cut length")) }
+{
+    match text {
+        b"up" => Some(What::Up),
+        b"down" => Some(What::Down),
+        b"cut t6" => Some(What::Cut(Cause::T6)),
+        b"cut t7" => Some(What::Cut(Cause::T7)),
+        b"cut t8" => Some(What::Cut(Cause::T8)),
+        b"cut length" => Some(What::Cut(Cause::Length)),
+        _ => None,
+    }
+}
+
 /// Reads system bytes from eight hexadecimal digits.
-fn read_system(digits: &[u8]) -> Result<u32, LineFault>
-    ensures found { IfOk result (λ system. IsHexOf digits.now (system_octets system)) }
-    ensures only { IfErr result (λ e. (e ≡ LineFault.Unreadable) × ((system : ℕ) → system < 2 ^ 32 → IsHexOf digits.now (system_octets system) → ⊥)) }
+fn read_system(digits: &[u8]) -> Option<u32>
+    ensures found { IfSome result (λ system. IsHexOf digits.now (system_octets system)) }
+    ensures none { IfNone result ((system : ℕ) → system < 2 ^ 32 → IsHexOf digits.now (system_octets system) → ⊥) }
 {
     let mut octets = [0u8; 4];
     match hex::decode_to_slice(digits, &mut octets) {
-        Ok(()) => Ok(u32::from_be_bytes(octets)),
-        Err(_) => Err(LineFault::Unreadable),
+        Ok(()) => Some(u32::from_be_bytes(octets)),
+        Err(_) => None,
     }
 }

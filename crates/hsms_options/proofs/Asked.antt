@@ -109,8 +109,8 @@ command_is_free = refl
 spells : (words : List Text) (request : Request) → SpellsWork words request → Spells words request
 spells words (request.Task (asked.Help text)) (fine, (name, rows, entered, asks)) = absurd asks
 spells words (request.Task asked.Audit) work = work
-spells words (request.Task (asked.Show max depth form)) work = work
-spells words (request.Task (asked.Encode device system max depth hex)) work = work
+spells words (request.Task (asked.Show s)) work = work
+spells words (request.Task (asked.Encode e)) work = work
 spells words (request.Explain excerpt) work = work
 spells words (request.Capture capturing) work = work
 spells words (request.Serve service) work = work
@@ -167,8 +167,8 @@ asks_explained words app k (Ok (request.Task (asked.Help text))) is fails (help,
 asks_explained words app k (Ok (request.Task (asked.Help text))) is fails (help, inr kind) =
     inr (among_faults words app DisplayVersion (λ memory. absurd cc) is (subst (λ x. is_simple_and_free app ≡ true → (x ≡ OutOfMemory) ⊎ IsAmong x (fault_of app words)) kind fails))
 asks_explained words app k (Ok (request.Task asked.Audit)) is fails (help, kind) = absurd help
-asks_explained words app k (Ok (request.Task (asked.Show max depth form))) is fails (help, kind) = absurd help
-asks_explained words app k (Ok (request.Task (asked.Encode device system max depth hex))) is fails (help, kind) = absurd help
+asks_explained words app k (Ok (request.Task (asked.Show s))) is fails (help, kind) = absurd help
+asks_explained words app k (Ok (request.Task (asked.Encode e))) is fails (help, kind) = absurd help
 asks_explained words app k (Ok (request.Explain excerpt)) is fails (help, kind) = absurd help
 asks_explained words app k (Ok (request.Capture capturing)) is fails (help, kind) = absurd help
 asks_explained words app k (Ok (request.Serve service)) is fails (help, kind) = absurd help

@@ -63,16 +63,22 @@ form_by false true = None
 abbrev pub form_in : List Row → Option Form
 form_in rows = form_by (flag_in (codes "hex") rows) (flag_in (codes "bare") rows)
 
+-- the four octets that count the others are left out
+abbrev pub is_bare : Form → Bool
+is_bare form.Octets = false
+is_bare form.Lines = false
+is_bare form.BareLines = true
+
 -- what a subcommand of this name asks for, with these matches, where it is a task
 abbrev pub AsksForTask : Text → List Row → Task → Type 0
 AsksForTask name rows (asked.Help text) = ⊥
 AsksForTask name rows asked.Audit = name ≡ codes "audit"
-AsksForTask name rows (asked.Show max depth form) =
-    (name ≡ codes "show") × (number_in max_number rows ≡ Some max) × (number_in depth_number rows ≡ Some depth)
-    × (form_in rows ≡ Some form)
-AsksForTask name rows (asked.Encode device system max depth hex) =
-    (name ≡ codes "encode") × (number_in device_number rows ≡ Some device) × (number_in system_number rows ≡ Some system)
-    × (number_in max_number rows ≡ Some max) × (number_in depth_number rows ≡ Some depth) × IsFlag (codes "hex") rows hex
+AsksForTask name rows (asked.Show s) =
+    (name ≡ codes "show") × (number_in max_number rows ≡ Some s.max) × (number_in depth_number rows ≡ Some s.depth)
+    × (form_in rows ≡ Some s.form)
+AsksForTask name rows (asked.Encode e) =
+    (name ≡ codes "encode") × (number_in device_number rows ≡ Some e.device) × (number_in system_number rows ≡ Some e.system)
+    × (number_in max_number rows ≡ Some e.max) × (number_in depth_number rows ≡ Some e.depth) × IsFlag (codes "hex") rows e.hex
 
 -- what a subcommand of this name asks for, with these matches
 abbrev pub AsksFor : Text → List Row → Request → Type 0
@@ -102,8 +108,8 @@ CallsForText kind = (kind ≡ DisplayHelp) ⊎ (kind ≡ DisplayVersion)
 abbrev pub SpellsTask : List Text → Task → Type 0
 SpellsTask words (asked.Help text) = IsAmong DisplayHelp (fault_of command_line words) ⊎ IsAmong DisplayVersion (fault_of command_line words)
 SpellsTask words asked.Audit = SpellsWork words (request.Task asked.Audit)
-SpellsTask words (asked.Show max depth form) = SpellsWork words (request.Task (asked.Show max depth form))
-SpellsTask words (asked.Encode device system max depth hex) = SpellsWork words (request.Task (asked.Encode device system max depth hex))
+SpellsTask words (asked.Show s) = SpellsWork words (request.Task (asked.Show s))
+SpellsTask words (asked.Encode e) = SpellsWork words (request.Task (asked.Encode e))
 
 -- the words ask for this, or may call for help or for the version
 abbrev pub Spells : List Text → Request → Type 0
@@ -122,9 +128,9 @@ SpellsNothing words =
 abbrev pub IsTaskWithinLimits : Task → Type 0
 IsTaskWithinLimits (asked.Help text) = Unit {0}
 IsTaskWithinLimits asked.Audit = Unit {0}
-IsTaskWithinLimits (asked.Show max depth form) = (256 ≤ max) × (max ≤ 33554432) × (1 ≤ depth) × (depth ≤ 100)
-IsTaskWithinLimits (asked.Encode device system max depth hex) =
-    (device ≤ 32767) × (256 ≤ max) × (max ≤ 33554432) × (1 ≤ depth) × (depth ≤ 100)
+IsTaskWithinLimits (asked.Show s) = (256 ≤ s.max) × (s.max ≤ 33554432) × (1 ≤ s.depth) × (s.depth ≤ 100)
+IsTaskWithinLimits (asked.Encode e) =
+    (e.device ≤ 32767) × (256 ≤ e.max) × (e.max ≤ 33554432) × (1 ≤ e.depth) × (e.depth ≤ 100)
 
 -- each number of a request is within its limits; those of settings are by their type
 abbrev pub IsWithinLimits : Request → Type 0
@@ -137,8 +143,8 @@ IsWithinLimits (request.Serve service) = (1 ≤ service.port) × (service.port �
 abbrev pub IsHelpText : Task → Type 0
 IsHelpText (asked.Help text) = Unit {0}
 IsHelpText asked.Audit = ⊥
-IsHelpText (asked.Show max depth form) = ⊥
-IsHelpText (asked.Encode device system max depth hex) = ⊥
+IsHelpText (asked.Show s) = ⊥
+IsHelpText (asked.Encode e) = ⊥
 
 abbrev pub IsHelp : Request → Type 0
 IsHelp (request.Task task) = IsHelpText task

@@ -29,7 +29,7 @@ pub use capturing::Capturing;
 pub use describing::command;
 pub use excerpt::{Excerpt, Lines, Telling};
 pub use fault::{ToolFault, exit_status, no_request, refused};
-pub use options::{Form, Request, Task, parse};
+pub use options::{Encoding, Form, Request, Showing, Task, parse};
 pub use repeating::Repeat;
 pub use sentences::sentence;
 pub use service::Service;

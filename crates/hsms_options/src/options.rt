@@ -37,24 +37,32 @@ pub enum Request {
 pub enum Task {
     /// The text is to be printed.
     Help(String),
-    /// The messages of standard input, in a form, are to be shown. `max` is the greatest count of octets of header and
-    /// text, and `depth` the deepest nesting of lists.
-    Show {
-        max: u32,
-        depth: u8,
-        form: Form,
-    },
+    /// The messages of standard input are to be shown.
+    Show(Showing),
     /// The log of standard input is to be audited.
     Audit,
-    /// The messages of standard input, in notation, are to be encoded for a device, with system bytes from `system` on:
-    /// as octets, or with `hex` as lines of hexadecimal.
-    Encode {
-        device: u16,
-        system: u32,
-        max: u32,
-        depth: u8,
-        hex: bool,
-    },
+    /// The messages of standard input, in notation, are to be encoded.
+    Encode(Encoding),
+}
+
+/// How messages are shown: in which form they stand, how many octets header and text have at most, and how deep the
+/// lists of a readable text are nested at most.
+#[derive(Clone, Copy, Debug)]
+pub struct Showing {
+    pub max: u32,
+    pub depth: u8,
+    pub form: Form,
+}
+
+/// How messages are encoded: for which device, with which system bytes first, how many octets header and text have at
+/// most, how deep lists are nested at most, and whether as lines of hexadecimal in place of octets.
+#[derive(Clone, Copy, Debug)]
+pub struct Encoding {
+    pub device: u16,
+    pub system: u32,
+    pub max: u32,
+    pub depth: u8,
+    pub hex: bool,
 }
 
 /// In which form the messages of an input stand.
@@ -163,7 +171,7 @@ fn asked_to_show(options: &ArgMatches<'_>) -> Option<Task>
     let max = max_of(options)?;
     let depth = depth_of(options)?;
     let form = form_of(options)?;
-    Some(Task::Show { max, depth, form })
+    Some(Task::Show(Showing { max, depth, form }))
 }
 
 fn form_of(options: &ArgMatches<'_>) -> Option<Form>
@@ -183,18 +191,13 @@ fn asked_to_encode(options: &ArgMatches<'_>) -> Option<Task>
     ensures none { result ≡ None → (task : Task)
         → AsksForTask (codes "encode") (rows_of (found_of options.now)) task → ⊥ }
 {
-    let device = device_of(options)?;
-    let system = system_of(options)?;
-    let max = max_of(options)?;
-    let depth = depth_of(options)?;
-    let hex = flag_of(options, "hex");
-    Some(Task::Encode {
-        device,
-        system,
-        max,
-        depth,
-        hex,
-    })
+    Some(Task::Encode(Encoding {
+        device: device_of(options)?,
+        system: system_of(options)?,
+        max: max_of(options)?,
+        depth: depth_of(options)?,
+        hex: flag_of(options, "hex"),
+    }))
 }
 
 // The answer where `clap` doesn't match the words: the text of help or of the version, or a refusal.

@@ -6,9 +6,11 @@ ghost use Rattle.hex.specs.Hex.{hex_digit_value};
 ghost use Rattle.hsms_frame.specs.Frame.{Frame};
 ghost use Rattle.hsms_frame.specs.Header.{IsHeader, header_octets};
 ghost use Rattle.hsms_frame.specs.declared.header.Header.{Header as Head};
+ghost use Rattle.hsms_options.specs.Options.{is_bare};
 ghost use Rattle.hsms_show.specs.ShowHex.{IsMessageOf, is_blank, octet_of, octets_spelled};
 
 use hsms_frame::Header;
+use hsms_options::Form;
 use std::alloc::{AllocError, Global};
 
 /// The octets that a text spells: two digits each, with spaces and tabs before, between and behind them.
@@ -60,16 +62,15 @@ fn digit(octet: u8) -> Option<u8>
     }
 }
 
-/// The header and the text of the message that octets are, which is within the limit for both together. `bare` octets
-/// are header and text alone, without the four octets that count them.
-pub fn message_of(octets: &[u8], max: u32, bare: bool) -> Option<(Header, &[u8])>
-    ensures some { IfSome result (λ m. IsMessageOf bare max octets.now (record { header = m.0; text = m.1.now })) }
-    ensures none { result ≡ None → (f : Frame) → IsMessageOf bare max octets.now f → ⊥ }
+/// The header and the text of the message that octets are, which is within the limit for both together. Those of bare
+/// lines are header and text alone, without the four octets that count them.
+pub fn message_of(octets: &[u8], max: u32, form: Form) -> Option<(Header, &[u8])>
+    ensures some { IfSome result (λ m. IsMessageOf (is_bare form) max octets.now (record { header = m.0; text = m.1.now })) }
+    ensures none { result ≡ None → (f : Frame) → IsMessageOf (is_bare form) max octets.now f → ⊥ }
 {
-    if bare {
-        header_and_text(octets, max)
-    } else {
-        header_and_text(behind_length(octets)?, max)
+    match form {
+        Form::BareLines => header_and_text(octets, max),
+        Form::Octets | Form::Lines => header_and_text(behind_length(octets)?, max),
     }
 }
 

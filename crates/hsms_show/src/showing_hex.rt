@@ -3,6 +3,7 @@
 ghost use Rattle.std.specs.Prelude.{◌≡◌, ◌≤◌, ◌++◌, [], Bool, Err, Some, IfOk, IfErr, OnOk, codes, if◌then◌else◌};
 ghost use Rattle.hsms_frame.specs.Count.{next_count};
 ghost use Rattle.hsms_frame.specs.Device.{WhereTold};
+ghost use Rattle.hsms_options.specs.Options.{is_bare};
 ghost use Rattle.hsms_options.specs.Status.{IsRefusedAs};
 ghost use Rattle.hsms_show.specs.Ahead.{left_after};
 ghost use Rattle.hsms_lines.specs.Devices.{CountsFailure, HasWord, IsOfInput, IsReadOrWrite, IsReadWriteOrEndless};
@@ -13,7 +14,7 @@ use crate::hex_octets::{message_of, octets_in};
 use crate::next_frame::read_more;
 use hsms_frame::{Ahead, Sink, Source};
 use hsms_lines::{lay_line, put_out};
-use hsms_options::ToolFault;
+use hsms_options::{Showing, ToolFault};
 use secs_text::Block;
 use std::alloc::Global;
 
@@ -21,9 +22,9 @@ use std::alloc::Global;
 /// the input is one message in hexadecimal digits of either case, or nothing.
 ///
 /// A line ends with LF or CR LF, the last one may lack it, and spaces and tabs may stand before, between and behind its
-/// octets. `bare` lines are of header and text alone, without the four octets that count them. `max` and `depth` are as
-/// for [`show`](crate::show). A line has at most four times `max` and 64 octets, and no more of the input is held than
-/// it and a block.
+/// octets. Where the form is `BareLines`, lines are of header and text alone, without the four octets that count them.
+/// `max` and `depth` are as for [`show`](crate::show). A line has at most four times `max` and 64 octets, and no more of
+/// the input is held than it and a block.
 ///
 /// # Errors
 ///
@@ -38,12 +39,11 @@ pub fn show_hex<R: Source, W: Sink>(
     alloc: Global,
     source: &mut R,
     sink: &mut W,
-    max: u32,
-    depth: u8,
-    bare: bool,
+    showing: Showing,
 ) -> Result<(), ToolFault>
-    requires { depth ≤ 100 }
-    ensures lines { WhereTold (R.state source.old).left (λ input. ShowsHex bare max depth input result
+    requires { showing.depth ≤ 100 }
+    ensures lines { WhereTold (R.state source.old).left
+        (λ input. ShowsHex (is_bare showing.form) showing.max showing.depth input result
         (R.state source.new).left (W.state sink.old).written (W.state sink.new).written) }
     // Where the source doesn't tell its octets, its end was found once all the same.
     ensures end { OnOk result ((R.state source.new).ends ≡ next_count (R.state source.old).ends) }
@@ -53,24 +53,14 @@ pub fn show_hex<R: Source, W: Sink>(
 {
     let mut ahead = Ahead::new(alloc)?;
     let mut held = Block::new(alloc)?;
-    let reading = Reading { bare, max, depth };
     for passed in 0..u32::MAX {
         let number = passed + 1;
-        if !show_next(alloc, source, sink, &mut ahead, &mut held, reading, number)? {
+        if !show_next(alloc, source, sink, &mut ahead, &mut held, showing, number)? {
             return Ok(());
         }
     }
     put_out(sink, &mut held)?;
     find_end(source, &mut ahead, &held)
-}
-
-/// How lines are shown: whether they lack the four octets that count the others, how many octets header and text have
-/// at most, and how deep the lists of a readable text are nested at most.
-#[derive(Clone, Copy)]
-struct Reading {
-    bare: bool,
-    max: u32,
-    depth: u8,
 }
 
 // Looks for the end of the input, where as many lines are passed as the command passes.
@@ -99,11 +89,11 @@ fn show_next<R: Source, W: Sink>(
     sink: &mut W,
     ahead: &mut Ahead,
     held: &mut Block,
-    reading: Reading,
+    showing: Showing,
     number: u32,
 ) -> Result<bool, ToolFault>
-    requires { reading.depth ≤ 100 }
-    ensures line { WhereTold (R.state source.old).left (λ rest. ShowsNextLine reading.bare reading.max reading.depth number (ahead.old ++ rest)
+    requires { showing.depth ≤ 100 }
+    ensures line { WhereTold (R.state source.old).left (λ rest. ShowsNextLine (is_bare showing.form) showing.max showing.depth number (ahead.old ++ rest)
         result (left_after result ahead.new (R.state source.new).left) (W.state sink.old).written held.old (W.state sink.new).written held.new) }
     ensures end { IfOk result (λ is_more. (R.state source.new).ends
         ≡ (if is_more then (R.state source.old).ends else next_count (R.state source.old).ends)) }
@@ -111,21 +101,21 @@ fn show_next<R: Source, W: Sink>(
     ensures reads { CountsFailure (codes "Read") result (R.state source.old).failures (R.state source.new).failures }
     ensures writes { CountsFailure (codes "Write") result (W.state sink.old).failures (W.state sink.new).failures }
 {
-    match next_end(source, sink, ahead, held, reading.max)? {
+    match next_end(source, sink, ahead, held, showing.max)? {
         LineEnd::Feed(place) => {
             lay_shown(
                 alloc,
                 sink,
                 held,
                 &ahead.as_slice()[..place],
-                reading,
+                showing,
                 number,
             )?;
             ahead.pass(place + 1);
             Ok(true)
         }
         LineEnd::Open => {
-            lay_shown(alloc, sink, held, ahead.as_slice(), reading, number)?;
+            lay_shown(alloc, sink, held, ahead.as_slice(), showing, number)?;
             put_out(sink, held)?;
             Ok(false)
         }
@@ -139,18 +129,18 @@ fn lay_shown<W: Sink>(
     sink: &mut W,
     held: &mut Block,
     line: &[u8],
-    reading: Reading,
+    showing: Showing,
     number: u32,
 ) -> Result<(), ToolFault>
-    requires { reading.depth ≤ 100 }
-    ensures shown { LaysShown (ShowsLine reading.bare reading.max reading.depth line.now)
-        (IsRefusedLine reading.bare reading.max number line.now) result
+    requires { showing.depth ≤ 100 }
+    ensures shown { LaysShown (ShowsLine (is_bare showing.form) showing.max showing.depth line.now)
+        (IsRefusedLine (is_bare showing.form) showing.max number line.now) result
         (W.state sink.old).written held.old (W.state sink.new).written held.new }
     ensures word { IfErr result (HasWord (codes "Write")) }
     ensures writes { CountsFailure (codes "Write") result (W.state sink.old).failures (W.state sink.new).failures }
 {
     match octets_of_line(alloc, line, number) {
-        Ok(octets) => lay_octets(alloc, sink, held, &octets, reading, number),
+        Ok(octets) => lay_octets(alloc, sink, held, &octets, showing, number),
         Err(fault) => Err(stop(sink, held, fault)),
     }
 }
@@ -161,12 +151,12 @@ fn lay_octets<W: Sink>(
     sink: &mut W,
     held: &mut Block,
     octets: &[u8],
-    reading: Reading,
+    showing: Showing,
     number: u32,
 ) -> Result<(), ToolFault>
-    requires { reading.depth ≤ 100 }
-    ensures shown { LaysShown (ShowsOctets reading.bare reading.max reading.depth octets.now)
-        (λ words. IsNoMessage reading.bare reading.max octets.now × (words ≡ at_line (codes "NoMessage") number)) result
+    requires { showing.depth ≤ 100 }
+    ensures shown { LaysShown (ShowsOctets (is_bare showing.form) showing.max showing.depth octets.now)
+        (λ words. IsNoMessage (is_bare showing.form) showing.max octets.now × (words ≡ at_line (codes "NoMessage") number)) result
         (W.state sink.old).written held.old (W.state sink.new).written held.new }
     ensures word { IfErr result (HasWord (codes "Write")) }
     ensures writes { CountsFailure (codes "Write") result (W.state sink.old).failures (W.state sink.new).failures }
@@ -174,8 +164,8 @@ fn lay_octets<W: Sink>(
     if octets.is_empty() {
         return Ok(());
     }
-    match message_of(octets, reading.max, reading.bare) {
-        Some((header, text)) => lay_line(sink, held, header, text, reading.depth),
+    match message_of(octets, showing.max, showing.form) {
+        Some((header, text)) => lay_line(sink, held, header, text, showing.depth),
         None => Err(stop(sink, held, refusal(alloc, "NoMessage", number))),
     }
 }

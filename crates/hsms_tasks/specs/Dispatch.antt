@@ -36,15 +36,15 @@ ShowsForm form.BareLines max depth input result left old new = ShowsHex true max
 -- or encoded; a log is audited, and all is well where it passes.
 abbrev pub Performs : Task → Result Bool ToolFault → SourceState → SourceState → SinkState → SinkState → Type 0
 Performs (asked.Help text) result old new before after = Prints (string_bytes text) result before.written after.written
-Performs (asked.Show max depth form) result old new before after =
+Performs (asked.Show s) result old new before after =
     IsDone result old new
-    × WhereTold old.left (λ input. ShowsForm form max depth input result new.left before.written after.written)
+    × WhereTold old.left (λ input. ShowsForm s.form s.max s.depth input result new.left before.written after.written)
 Performs asked.Audit result old new before after =
     IfOk result (λ well. OnTrue well (HasEnded old.ends new.ends))
     × WhereTold old.left (λ input. AuditsTo input result new.left (HasEnded old.ends new.ends) before.written after.written)
-Performs (asked.Encode device system max depth hex) result old new before after =
+Performs (asked.Encode e) result old new before after =
     IsDone result old new
-    × WhereTold old.left (λ input. EncodesAll device max depth hex system input result new.left before.written after.written)
+    × WhereTold old.left (λ input. EncodesAll e.device e.max e.depth e.hex e.system input result new.left before.written after.written)
 
 -- all is well where it is done
 abbrev pub well : Result (Unit {0}) ToolFault → Result Bool ToolFault

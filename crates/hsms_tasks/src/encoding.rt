@@ -9,11 +9,11 @@ ghost use Rattle.hsms_frame.specs.Device.{WhereTold};
 ghost use Rattle.hsms_tasks.specs.Encode.{EncodesAll, Encodes, IsNotEncoded, IsNotRead, IsToldText};
 ghost use Rattle.hsms_lines.specs.Devices.{CountsFailure, IsReadOrWrite};
 
-use crate::frames::{Frames, Framing};
+use crate::frames::Frames;
 use crate::input::read_whole;
 use crate::writing::put_frames;
 use hsms_frame::{Sink, Source};
-use hsms_options::ToolFault;
+use hsms_options::{Encoding, ToolFault};
 use secs_text::{Message, TextFault, read_all, spell_all};
 use std::alloc::{AllocError, Global};
 
@@ -53,14 +53,35 @@ pub fn encode_all<R: Source, W: Sink>(
     ensures reads { CountsFailure (codes "Read") result (R.state source.old).failures (R.state source.new).failures }
     ensures writes { CountsFailure (codes "Write") result (W.state sink.old).failures (W.state sink.new).failures }
 {
-    let input = read_whole(alloc, source, INPUT_LIMIT)?;
-    let framing = Framing {
+    let encoding = Encoding {
         device,
         system,
         max,
+        depth,
+        hex,
     };
-    let octets = encoded(alloc, &input, framing, depth)?;
-    put_frames(alloc, sink, &octets, hex)
+    encode_to(alloc, source, sink, encoding)
+}
+
+/// The same, with the options as one value.
+pub fn encode_to<R: Source, W: Sink>(
+    alloc: Global,
+    source: &mut R,
+    sink: &mut W,
+    encoding: Encoding,
+) -> Result<(), ToolFault>
+    requires { encoding.depth ≤ 100 }
+    ensures frames { WhereTold (R.state source.old).left
+        (λ input. EncodesAll encoding.device encoding.max encoding.depth encoding.hex encoding.system input result
+        (R.state source.new).left (W.state sink.old).written (W.state sink.new).written) }
+    ensures end { OnOk result ((R.state source.new).ends ≡ next_count (R.state source.old).ends) }
+    ensures word { IfErr result IsReadOrWrite }
+    ensures reads { CountsFailure (codes "Read") result (R.state source.old).failures (R.state source.new).failures }
+    ensures writes { CountsFailure (codes "Write") result (W.state sink.old).failures (W.state sink.new).failures }
+{
+    let input = read_whole(alloc, source, INPUT_LIMIT)?;
+    let octets = encoded(alloc, &input, encoding)?;
+    put_frames(alloc, sink, &octets, encoding.hex)
 }
 
 /// The messages that an input is the notation of.
@@ -76,14 +97,14 @@ pub fn messages_of(alloc: Global, input: &[u8], depth: u8) -> Result<Vec<Message
 }
 
 // The octets of the frames of the messages that an input is the notation of.
-fn encoded(alloc: Global, input: &[u8], framing: Framing, depth: u8) -> Result<Vec<u8>, ToolFault>
-    requires { depth ≤ 100 }
-    ensures ok { IfOk result (λ octets. (ms : List Content) × Notations ms input.now × AllWithin depth ms
-        × Encodes framing.device framing.max false framing.system ms octets.items) }
-    ensures err { IfErr result (IsNotEncoded framing.device framing.max depth framing.system input.now) }
+fn encoded(alloc: Global, input: &[u8], encoding: Encoding) -> Result<Vec<u8>, ToolFault>
+    requires { encoding.depth ≤ 100 }
+    ensures ok { IfOk result (λ octets. (ms : List Content) × Notations ms input.now × AllWithin encoding.depth ms
+        × Encodes encoding.device encoding.max false encoding.system ms octets.items) }
+    ensures err { IfErr result (IsNotEncoded encoding.device encoding.max encoding.depth encoding.system input.now) }
 {
-    let mut frames = Frames::new(alloc, framing);
-    match spell_all(alloc, input, depth, &mut frames) {
+    let mut frames = Frames::new(alloc, encoding);
+    match spell_all(alloc, input, encoding.depth, &mut frames) {
         Ok(()) => frames.finish(),
         Err(fault) => Err(not_read(alloc, fault)),
     }

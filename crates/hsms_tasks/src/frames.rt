@@ -7,7 +7,7 @@ ghost use Rattle.hsms_tasks.specs.Encode.{HasRefused};
 
 use crate::refusal::Refusal;
 use hsms_frame::{Header, data_header, front_octets};
-use hsms_options::{ToolFault, refused};
+use hsms_options::{Encoding, ToolFault, refused};
 use secs_text::{Head, Receiver};
 use std::alloc::{AllocError, Global};
 
@@ -33,31 +33,23 @@ fn push_octets(output: &mut Vec<u8>, header: Header, text: &[u8]) -> Result<(), 
     Ok(())
 }
 
-/// How messages are framed: for which device, with which system bytes first, and how long at most.
-#[derive(Clone, Copy)]
-pub struct Framing {
-    pub device: u16,
-    pub system: u32,
-    pub max: u32,
-}
-
 /// The octets of the frames of messages, one behind another, up to the first message that has none.
 #[derive(Drop)]
 pub struct Frames {
     alloc: Global,
     output: Vec<u8>,
     refusal: Option<Refusal>,
-    framing: Framing,
+    encoding: Encoding,
     next: u32,
 }
 
 impl Receiver for Frames {
     ghost use Rattle.hsms_tasks.specs.Encode.{Frames as Gathers};
 
-    type Kept = Framing;
+    type Kept = Encoding;
 
-    ghost Given = { λ framing frames given. (frames.framing ≡ framing)
-        × Gathers frames.framing.device frames.framing.max frames.framing.system frames.next frames.refusal frames.output.items given };
+    ghost Given = { λ encoding frames given. (frames.encoding ≡ encoding)
+        × Gathers frames.encoding.device frames.encoding.max frames.encoding.system frames.next frames.refusal frames.output.items given };
 
     fn take(&mut self, head: Head, text: Option<&[u8]>) -> Result<(), AllocError> {
         if self.refusal.is_some() {
@@ -67,14 +59,14 @@ impl Receiver for Frames {
             self.refusal = Some(Refusal::TooLarge);
             return Ok(());
         };
-        let max = self.framing.max;
+        let max = self.encoding.max;
         let length = 10 + text.len() as u64;
         if length > u64::from(max) {
             self.refusal = Some(Refusal::TooLong(length));
             return Ok(());
         }
         let header = data_header(
-            self.framing.device,
+            self.encoding.device,
             head.stream,
             head.function,
             head.wait,
@@ -90,16 +82,16 @@ impl Frames {
     ghost use Rattle.hsms_tasks.specs.Encode.{Frames as Gathers};
 
     /// No frames yet.
-    pub fn new(alloc: Global, framing: Framing) -> Frames
-        ensures { (result.framing ≡ framing)
-            × Gathers result.framing.device result.framing.max result.framing.system result.next result.refusal result.output.items [] }
+    pub fn new(alloc: Global, encoding: Encoding) -> Frames
+        ensures { (result.encoding ≡ encoding)
+            × Gathers result.encoding.device result.encoding.max result.encoding.system result.next result.refusal result.output.items [] }
     {
         Frames {
             alloc,
             output: Vec::new(alloc),
             refusal: None,
-            framing,
-            next: framing.system,
+            encoding,
+            next: encoding.system,
         }
     }
 

@@ -8,9 +8,9 @@ ghost use Rattle.secs_item.specs.Item.{view, InRange};
 
 use crate::fault::ItemFault;
 use crate::format::Format;
+use crate::header::header_octets;
 use crate::item::Item;
 use crate::value::{Value, octets_known};
-use byteorder::{BigEndian, ByteOrder};
 use std::alloc::{AllocError, Global};
 
 /// The greatest number that three length octets hold.
@@ -21,16 +21,12 @@ fn push_header(octets: &mut Vec<u8>, format: Format, number: usize) -> Result<()
     requires { number < 256 ^ 3 }
     ensures { OnOk result (octets.new.items ≡ octets.old.items ++ header format (field_of number) number) }
 {
-    let code = 4 * format.code();
     if number <= 0xff {
-        octets.extend_from_slice(&[code + 1, number as u8])?;
+        octets.extend_from_slice(&header_octets(format, 1, number)[..2])?;
         return Ok(());
     }
     let field = if number <= 0xffff { 2 } else { 3 };
-    let mut length = [0; 3];
-    BigEndian::write_uint(&mut length, number as u64, field);
-    octets.push(code + field as u8)?;
-    octets.extend_from_slice(&length[..field])?;
+    octets.extend_from_slice(&header_octets(format, field, number)[..1 + field])?;
     Ok(())
 }
 

@@ -1,10 +1,11 @@
 //! Item headers.
 
-ghost use Rattle.std.specs.Prelude.{◌≡◌, ◌≤◌, ◌<◌, ◌+◌, ◌%◌, ◌^◌, ◌∷◌, true, false, length, drop, IfOk};
+ghost use Rattle.std.specs.Prelude.{◌≡◌, ◌≤◌, ◌<◌, ◌+◌, ◌%◌, ◌^◌, ◌∷◌, true, false, length, take, drop, IfOk};
 ghost use Rattle.byteorder.specs.Endian.{big_number};
 ghost use Rattle.secs_item.specs.Format.{is_list, value_size};
 ghost use Rattle.secs_item.specs.Header.{header_at};
 ghost use Rattle.secs_item.specs.Measure.{header_from};
+ghost use Rattle.secs_item.specs.Spelling.{header};
 
 use crate::fault::ItemFault;
 use crate::format::Format;
@@ -35,6 +36,23 @@ fn read_length(octets: &[u8], field: usize) -> usize
         1 => usize::from(octets[0]),
         2 => usize::from(BigEndian::read_u16(octets)),
         _ => BigEndian::read_u24(octets) as usize,
+    }
+}
+
+/// The octets of a header with this many length octets. They stand first in the array, and zeros behind them.
+#[inline(always)]
+pub(crate) fn header_octets(format: Format, field: usize, number: usize) -> [u8; 4]
+    requires one_at_least { 1 ≤ field }
+    requires three_at_most { field ≤ 3 }
+    requires fits { number < 256 ^ field }
+    ensures { take (1 + field) result ≡ header format field number }
+{
+    let first = 4 * format.code() + field as u8;
+    let [.., high, middle, low] = number.to_be_bytes();
+    match field {
+        1 => [first, low, 0, 0],
+        2 => [first, middle, low, 0],
+        _ => [first, high, middle, low],
     }
 }
 

@@ -26,6 +26,7 @@ mod item;
 pub mod laws;
 mod measure;
 mod part;
+mod patch;
 mod value;
 
 pub use decode::{decode_front, decode_text, item_of_values};
@@ -35,4 +36,5 @@ pub use format::Format;
 pub use header::{Header, read_header};
 pub use item::{Item, nesting};
 pub use measure::{MAX_DEPTH, measure_front, measure_text};
+pub use patch::patch_header;
 pub use value::octets_known;

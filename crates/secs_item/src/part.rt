@@ -20,8 +20,10 @@ pub struct Part {
 /// Stands for a list in `MASKS`.
 const LIST: u8 = 0x80;
 
-/// By a header's first octet that says that one length octet follows, how many octets one value has, less one: a body is
-/// whole values where its length has none of these bits. It has 0xff where no format has the code, and for other octets.
+/// By a header's first octet that says that one length octet follows, how many octets one value has, less one: a body
+/// is whole values where its length has none of these bits. It has 0xff where no format has the code, and for other
+/// octets. It says what `Format` says of codes and sizes, as `mask_of` ensures. It is written out, since a constant
+/// can't call what computes it, and an item is measured by one look at it.
 static MASKS: [u8; 256] = [
     0xff, LIST, 0xff, 0xff, 0xff, 0xff, 0xff, 0xff, 0xff, 0xff, 0xff, 0xff, 0xff, 0xff, 0xff, 0xff,
     0xff, 0xff, 0xff, 0xff, 0xff, 0xff, 0xff, 0xff, 0xff, 0xff, 0xff, 0xff, 0xff, 0xff, 0xff, 0xff,

@@ -1,9 +1,11 @@
 -- Tokens that stand as a message is printed.
-use Rattle.std.proofs.Common.{◌≡◌, ℕ, suc, ◌+◌, ◌-◌, ◌*◌, ◌^◌, ◌<◌, ◌≤◌, Bool, true, false, ◌||◌, not, List, [], ◌∷◌, ◌++◌, length, take, drop, get_or, refl, sym, ap, ◌∙◌, arith, codes, append_assoc}
-use Rattle.std.specs.Prelude.{Some, Ok, Err, ◌==◌}
-use Rattle.std.specs.List.{list_all}
+use Rattle.std.proofs.Common.{◌≡◌, ℕ, suc, ◌+◌, ◌-◌, ◌*◌, ◌^◌, ◌<◌, ◌≤◌, Bool, true, false, ◌||◌, not, List, [], ◌∷◌, ◌++◌, length, take, drop, get_or, refl, sym, ap, subst, ◌∙◌, arith, codes, append_assoc}
+use Rattle.std.specs.Prelude.{Option, Some, Ok, Err, cond, ◌==◌}
+use Rattle.std.specs.List.{find, list_all}
+use Rattle.std.specs.Str.{bytes_eq}
 use Rattle.std.specs.Str.Parse.{digits_value}
 use Rattle.std.proofs.lemmas.Bool.{eqb-true, false_from_ne_true, lt-ltb, le-ltb}
+use Rattle.std.proofs.lemmas.Slice.Eq.{bytes_eq-Decides}
 use Rattle.std.proofs.lemmas.List.{drop-drop, drop_more, length-append, length-take-le, take-append-drop}
 use Rattle.secs_item.specs.declared.format.Format.{Format}
 use Rattle.secs_text.specs.AsPrinted.{EndsWord, IsWord, IsSymbol, IsSymbolBehind, NamesType, IsCounted, IsSmall, IsLettered, IsHeaded, IsOpening, IsWait, IsHead}
@@ -21,7 +23,7 @@ use Rattle.secs_text.specs.Octets.{is_white, is_digit, is_of_word}
 use Rattle.secs_text.specs.Seen.{seen, then_tokens}
 use Rattle.secs_text.specs.Token as math
 use Rattle.secs_text.specs.Token.{Placed, front, whole, with_front, tokens_after, tokens_from}
-use Rattle.secs_text.specs.TypeName.{format_named}
+use Rattle.secs_text.specs.TypeName.{type_name, formats, format_named}
 use Rattle.secs_text.specs.Words.{is_numeral, number_below, head, head_word, head_of_parts}
 use Rattle.secs_text.proofs.Fronts.{both}
 use Rattle.secs_text.proofs.Numbers.{just, no_number, take_all, value_more, numeral_digits}
@@ -38,9 +40,6 @@ two_of o le = one_of o (omega arith) ∙ ap (λ r. get_or o 0 0 ∷ r) (drop_mor
 
 pub three_of : (o : List ℕ) → 3 ≤ length o → o ≡ get_or o 0 0 ∷ get_or o 1 0 ∷ get_or o 2 0 ∷ drop 3 o
 three_of o le = two_of o (omega arith) ∙ ap (λ r. get_or o 0 0 ∷ get_or o 1 0 ∷ r) (drop_more o 2 0 (omega arith))
-
-four_of : (o : List ℕ) → 4 ≤ length o → o ≡ get_or o 0 0 ∷ get_or o 1 0 ∷ get_or o 2 0 ∷ get_or o 3 0 ∷ drop 4 o
-four_of o le = three_of o (omega arith) ∙ ap (λ r. get_or o 0 0 ∷ get_or o 1 0 ∷ get_or o 2 0 ∷ r) (drop_more o 3 0 (omega arith))
 
 -- ---- symbols
 
@@ -196,30 +195,49 @@ opening_taken at size number count f text octets behind_name left names name_lef
 letter_word : (a : ℕ) → is_of_word a ≡ true → IsWord (a ∷ [])
 letter_word a is = record { some = omega arith; all = and_true _ _ is refl }
 
-pair_word : (a b : ℕ) → is_of_word a ≡ true → is_of_word b ≡ true → IsWord (a ∷ b ∷ [])
-pair_word a b first second = record { some = omega arith; all = and_true _ _ first (and_true _ _ second refl) }
+pub name_word : (f : Format) → IsWord (type_name f)
+name_word format.List = record { some = omega arith; all = refl }
+name_word format.Binary = record { some = omega arith; all = refl }
+name_word format.Boolean = record { some = omega arith; all = refl }
+name_word format.Ascii = record { some = omega arith; all = refl }
+name_word format.Jis8 = record { some = omega arith; all = refl }
+name_word format.Char2 = record { some = omega arith; all = refl }
+name_word format.I1 = record { some = omega arith; all = refl }
+name_word format.I2 = record { some = omega arith; all = refl }
+name_word format.I4 = record { some = omega arith; all = refl }
+name_word format.I8 = record { some = omega arith; all = refl }
+name_word format.U1 = record { some = omega arith; all = refl }
+name_word format.U2 = record { some = omega arith; all = refl }
+name_word format.U4 = record { some = omega arith; all = refl }
+name_word format.U8 = record { some = omega arith; all = refl }
+name_word format.F4 = record { some = omega arith; all = refl }
+name_word format.F8 = record { some = omega arith; all = refl }
 
-pub names_letter : (f : Format) (o : List ℕ) → 3 ≤ length o → format_named (get_or o 0 0 ∷ []) ≡ Some f → is_of_word (get_or o 0 0) ≡ true → get_or o 1 0 ≡ 0x20 → get_or o 2 0 ≡ 0x5B
-    → NamesType f 1 o
-names_letter f o le named first space bracket = record {
-  name = get_or o 0 0 ∷ [];
-  rest = drop 3 o;
-  named = named;
-  word = letter_word (get_or o 0 0) first;
-  sized = refl;
-  parts = three_of o le ∙ rw (space, bracket) refl;
-}
+-- the first of these formats that has this name, if the first test is so and the rest finds this
+by_first : (f g : Format) (w : List ℕ) (rest : Option Format) (b : Bool) → bytes_eq (type_name g) w ≡ b → ◌≡◌ {A = Option Format} (cond b (Some g) rest) (Some f) → (◌≡◌ {A = Option Format} rest (Some f) → IsWord w) → IsWord w
+by_first f g w rest true is e next = subst IsWord ((bytes_eq-Decides (type_name g) w).0 is) (name_word g)
+by_first f g w rest false is e next = next e
 
-pub names_pair : (f : Format) (o : List ℕ) → 4 ≤ length o → format_named (get_or o 0 0 ∷ get_or o 1 0 ∷ []) ≡ Some f → is_of_word (get_or o 0 0) ≡ true → is_of_word (get_or o 1 0) ≡ true → get_or o 2 0 ≡ 0x20 → get_or o 3 0 ≡ 0x5B
-    → NamesType f 2 o
-names_pair f o le named first second space bracket = record {
-  name = get_or o 0 0 ∷ get_or o 1 0 ∷ [];
-  rest = drop 4 o;
-  named = named;
-  word = pair_word (get_or o 0 0) (get_or o 1 0) first second;
-  sized = refl;
-  parts = four_of o le ∙ rw (space, bracket) refl;
-}
+among_words : (f : Format) (w : List ℕ) (fs : List Format) → find (λ g. bytes_eq (type_name g) w) fs ≡ Some f → IsWord w
+among_words f w [] e = cc
+among_words f w (g ∷ fs) e = by_first f g w (find (λ h. bytes_eq (type_name h) w) fs) (bytes_eq (type_name g) w) refl e (among_words f w fs)
+
+named_word : (f : Format) (w : List ℕ) → format_named w ≡ Some f → IsWord w
+unfolding format_named
+named_word f w is = among_words f w formats is
+
+pub names_front : (f : Format) (size : ℕ) (o : List ℕ) → size + 2 ≤ length o → format_named (take size o) ≡ Some f → get_or o size 0 ≡ 0x20 → get_or o (size + 1) 0 ≡ 0x5B
+    → NamesType f size o
+names_front f size o within named space bracket =
+    let behind : drop (size + 1) o ≡ 0x5B ∷ drop (size + 1 + 1) o = drop_more o (size + 1) 0 (omega arith) ∙ ap (λ c. c ∷ drop (size + 1 + 1) o) bracket in
+    record {
+      name = take size o;
+      rest = drop (size + 1 + 1) o;
+      named = named;
+      word = named_word f (take size o) named;
+      sized = length-take-le size o (omega arith);
+      parts = sym (take-append-drop size o) ∙ ap (λ r. take size o ++ r) (drop_more o size 0 (omega arith) ∙ ap (λ c. c ∷ drop (size + 1) o) space ∙ ap (λ r. 0x20 ∷ r) behind);
+    }
 
 -- ---- heads
 

@@ -1,11 +1,14 @@
 -- Items and the elements of a list, laid onto octets one after another.
-use Rattle.std.proofs.Common.{◌≡◌, ℕ, suc, ◌+◌, ◌*◌, ◌&&◌, Bool, true, false, List, [], ◌∷◌, ◌++◌, length, refl, sym, ap, ◌∙◌, append_assoc, append-nil, length-append, arith, if◌then◌else◌, ◌-◌}
-use Rattle.std.specs.Prelude.{Ok, Err, Option, Some, None, option_map, option_and_then}
+use Rattle.std.proofs.Common.{◌≡◌, ℕ, suc, ◌+◌, ◌*◌, ◌&&◌, Bool, true, false, List, [], ◌∷◌, ◌++◌, length, take, drop, refl, sym, ap, ◌∙◌, append_assoc, append-nil, length-append, arith, if◌then◌else◌, ◌-◌, ◌<◌, ◌^◌, ◌≤◌}
+use Rattle.std.specs.Prelude.{Ok, Err, Option, Some, None, option_map, option_and_then, nat_lt, IsTrue, ◌↔◌}
+use Rattle.std.proofs.lemmas.Bool.{le-ltb, lt-ltb}
+use Rattle.std.proofs.lemmas.List.{take_at, drop_at}
 use Rattle.secs_item.specs.declared.format.Format.{Format}
 use Rattle.secs_item.specs.declared.format.Format.TheVariants as format
 use Rattle.secs_item.specs.Format.{value_size}
 use Rattle.secs_item.specs.Item.{Value, list, values, Elements, no_elements, element, count, with_element, count_of_values}
-use Rattle.secs_item.specs.Short.{framed, short, short_elements, short_body}
+use Rattle.secs_item.specs.Spelling.{header}
+use Rattle.secs_item.specs.Short.{field_of, framed, short, short_elements, short_body}
 use Rattle.secs_text.specs.Body.{nothing_of}
 use Rattle.secs_text.specs.Token as math
 use Rattle.secs_text.specs.Token.{Placed}
@@ -15,14 +18,32 @@ use Rattle.secs_text.specs.Spellings.{laid, Lays, Closed, Itemized, Deep, Anywhe
 use Rattle.secs_text.specs.declared.fault.TextFault.{TextFault}
 use Rattle.secs_text.specs.declared.fault.TextFault.TheVariants as fault
 
+-- ---- headers
+
+-- what `patch_header` says: whether there is a header, and that it stands over two octets then
+pub record Patched (f : Format) (number start : ℕ) (old now : List ℕ) (fits : Bool) : Type 0 where
+  pub holds : IsTrue fits ↔ (number < 256 ^ 3)
+  pub octets : IsTrue fits → now ≡ take start old ++ (header f (field_of number) number ++ drop (start + 2) old)
+
+patched_laid : {f : Format} {number start : ℕ} {old now : List ℕ} (fits : Bool) (front body : List ℕ)
+    → Patched f number start old now fits → old ≡ front ++ 0 ∷ 0 ∷ body → length front ≡ start → Lays fits front now (framed f number body)
+patched_laid {f} {number} {start} {old} true front body h is long =
+    let less : nat_lt number (256 ^ 3) ≡ true = lt-ltb number (256 ^ 3) (h.holds.0 refl) in
+    let before : take start old ≡ front = ap (λ o. take start o) is ∙ take_at front (0 ∷ 0 ∷ body) start long in
+    let kept : length (front ++ 0 ∷ 0 ∷ []) ≡ start + 2 = length-append front (0 ∷ 0 ∷ []) ∙ ap (λ k. k + 2) long in
+    let behind : drop (start + 2) old ≡ body = ap (λ o. drop (start + 2) o) (is ∙ sym (append_assoc front (0 ∷ 0 ∷ []) body)) ∙ drop_at (front ++ 0 ∷ 0 ∷ []) body (start + 2) kept in
+    rw less (ap (λ o. Some o) (h.octets refl ∙ rw (before, behind) refl))
+patched_laid {f} {number} false front body h is long =
+    let more : 256 ^ 3 ≤ number = grind (arith, h.holds.1) in
+    rw (le-ltb number (256 ^ 3) more) refl
+
 -- ---- items of values
 
 -- behind two octets the values were laid, and then the header over these
-pub item_sealed : {f : Format} {c : Option Count} {before after : List Placed} (old from mid now : List ℕ) (fits : Bool) (start end : ℕ)
-    → Closed f c before after from mid → from ≡ old ++ 0 ∷ 0 ∷ [] → start ≡ length old → end ≡ length mid
-    → ((front body : List ℕ) (a b : ℕ) → length front ≡ start → mid ≡ front ++ a ∷ b ∷ body → Lays fits front now (framed f (end - start - 2) body))
+pub item_patched : {f : Format} {c : Option Count} {before after : List Placed} (old from mid now : List ℕ) (fits : Bool) (start end : ℕ)
+    → Closed f c before after from mid → from ≡ old ++ 0 ∷ 0 ∷ [] → start ≡ length old → end ≡ length mid → Patched f (end - start - 2) start mid now fits
     → Itemized Anywhere (λ b. in_item b (record { count = c; so_far = nothing_of f })) before after fits old now
-item_sealed {f} {c} old from mid now fits start end h kept start_is end_is sealed =
+item_patched {f} {c} old from mid now fits start end h kept start_is end_is patched =
     let body = short_body h.held in
     let parts : mid ≡ old ++ 0 ∷ 0 ∷ body = h.octets ∙ ap (λ o. o ++ body) kept ∙ append_assoc old (0 ∷ 0 ∷ []) body in
     let long : length mid ≡ length old + length (0 ∷ 0 ∷ body) = ap length parts ∙ length-append old (0 ∷ 0 ∷ body) in
@@ -31,7 +52,7 @@ item_sealed {f} {c} old from mid now fits start end h kept start_is end_is seale
     record {
       value = values h.held;
       leads = λ rules b where_. h.leads rules b;
-      lays = sealed old body 0 0 (sym start_is) parts ∙ ap (λ n. option_map (λ o. old ++ o) (framed f n body)) size
+      lays = patched_laid fits old body patched parts (sym start_is) ∙ ap (λ n. option_map (λ o. old ++ o) (framed f n body)) size
           ∙ ap (λ g. option_map (λ o. old ++ o) (framed g (value_size g * count_of_values h.held) body)) (sym h.form);
     }
 
@@ -137,10 +158,9 @@ module _ {depth : ℕ} {c : Option Count} {before after : List Placed} {fits : B
       by_elements (Some s) e = cc
 
   -- behind two octets the elements were laid, and then the header over these
-  pub list_sealed : (done : Bool) (now : List ℕ) → fits ≡ true → is_counted c number ≡ true
-      → ((front body : List ℕ) (a b : ℕ) → length front ≡ length old → new ≡ front ++ a ∷ b ∷ body → Lays done front now (framed format.List number body))
+  pub list_patched : (done : Bool) (start : ℕ) (now : List ℕ) → fits ≡ true → is_counted c number ≡ true → start ≡ length old → Patched format.List number start new now done
       → Itemized (Deep (1 + depth)) (λ b. in_item b (record { count = c; so_far = list no_elements })) before rest done old now
-  list_sealed done now fit right sealed = record {
+  list_patched done start now fit right start_is patched = record {
     value = list h.elements;
     leads = λ rules b deep. close rules b true deep right;
     lays = by_elements (short_elements h.elements) (ap (λ d. laid d new) (sym fit) ∙ h.lays);
@@ -151,4 +171,4 @@ module _ {depth : ℕ} {c : Option Count} {before after : List Placed} {fits : B
       by_elements None e = cc
       by_elements (Some s) e =
           let parts : new ≡ (old ++ 0 ∷ 0 ∷ []) ++ s = cc in
-          sealed old s 0 0 refl (parts ∙ append_assoc old (0 ∷ 0 ∷ []) s) ∙ ap (λ n. option_map (λ o. old ++ o) (framed format.List n s)) (sym h.counted)
+          patched_laid done old s patched (parts ∙ append_assoc old (0 ∷ 0 ∷ []) s) (sym start_is) ∙ ap (λ n. option_map (λ o. old ++ o) (framed format.List n s)) (sym h.counted)

@@ -20,6 +20,7 @@ use Rattle.secs_text.specs.TypeName.{type_name, format_named}
 use Rattle.secs_text.specs.Words.{head, number_below, head_of_numbers, head_of_parts, head_word}
 use Rattle.secs_text.proofs.SoFar.{SoFar}
 use Rattle.secs_text.specs.AsPrinted.{IsWord}
+use Rattle.secs_text.proofs.AsPrinted.{name_word}
 use Rattle.secs_text.proofs.PrintedWords.{and_true, all_digits, decimal_digits, decimal_word, number_read, octet_word, octet_is_read, written_word, written_read}
 use Rattle.secs_text.proofs.Tokenized.{Prints, is_low, low_both, low_word, end_kinds, word_kinds, prefix_front, take_front, drop_front, prints_none, prints_along, prints_both, prints_word, prints_opening, prints_count, prints_close, prints_space, prints_stop, prints_quoted}
 
@@ -136,24 +137,6 @@ name_named format.U4 = refl
 name_named format.U8 = refl
 name_named format.F4 = refl
 name_named format.F8 = refl
-
-name_word : (f : Format) → IsWord (type_name f)
-name_word format.List = record { some = omega arith; all = refl }
-name_word format.Binary = record { some = omega arith; all = refl }
-name_word format.Boolean = record { some = omega arith; all = refl }
-name_word format.Ascii = record { some = omega arith; all = refl }
-name_word format.Jis8 = record { some = omega arith; all = refl }
-name_word format.Char2 = record { some = omega arith; all = refl }
-name_word format.I1 = record { some = omega arith; all = refl }
-name_word format.I2 = record { some = omega arith; all = refl }
-name_word format.I4 = record { some = omega arith; all = refl }
-name_word format.I8 = record { some = omega arith; all = refl }
-name_word format.U1 = record { some = omega arith; all = refl }
-name_word format.U2 = record { some = omega arith; all = refl }
-name_word format.U4 = record { some = omega arith; all = refl }
-name_word format.U8 = record { some = omega arith; all = refl }
-name_word format.F4 = record { some = omega arith; all = refl }
-name_word format.F8 = record { some = omega arith; all = refl }
 
 record PrintsItem (v : Value) : Type 0 where
   ts : List Token

@@ -1,6 +1,6 @@
 -- Items of values, printed by their octets.
-use Rattle.std.proofs.Common.{◌≡◌, ℕ, zero, suc, ◌+◌, ◌/◌, ◌<◌, ◌≤◌, ◌^◌, false, List, [], ◌∷◌, ◌++◌, length, get_or, take, codes, append_assoc, refl, sym, ap, ◌∙◌, subst, arith, Bool, decimal, Ok, Err, if◌then◌else◌}
-use Rattle.std.specs.Prelude.{Option, Result, IfOk, OnOk, FitsSigned}
+use Rattle.std.proofs.Common.{◌≡◌, ℕ, zero, suc, ◌+◌, ◌/◌, ◌<◌, ◌≤◌, ◌^◌, false, List, [], ◌∷◌, ◌++◌, length, get_or, take, codes, append_assoc, refl, sym, ap, ◌∙◌, subst, arith, Ok, Err}
+use Rattle.std.specs.Prelude.{Result, IfOk, OnOk, FitsSigned}
 use Rattle.std.specs.List.{AllByRecursion}
 use Rattle.std.specs.Int.{w8, w16, w32, w64}
 use Rattle.std.proofs.Math.Nat.{div-le_self}
@@ -12,10 +12,9 @@ use Rattle.secs_item.specs.Short.{IsBodyOf, short_body}
 use Rattle.secs_item.proofs.Bodies.{body_reads}
 use Rattle.secs_item.proofs.Uniqueness.{body_short}
 use Rattle.secs_text.specs.Body.{signed_number, unsigned_number, hex_float, body_of}
-use Rattle.secs_text.specs.Content.{Content}
 use Rattle.secs_text.specs.Held.{Fits, IsOctets, AllHeld, BodyIsHeld, IsHeld}
 use Rattle.secs_text.specs.Laid.{Puts, opening_of}
-use Rattle.secs_text.specs.Printed.{printed, printed_optional, printed_elements, printed_item, printed_values}
+use Rattle.secs_text.specs.Printed.{printed_elements, printed_item, printed_values}
 use Rattle.secs_text.proofs.Blocks.{puts_same, puts_then}
 use Rattle.std.proofs.lemmas.List.{take_more, take_all}
 use Rattle.secs_item.specs.declared.format.Format.TheVariants as format
@@ -109,13 +108,7 @@ list_held items i all few held =
     let whole : take i items ≡ items = take_all i items all in
     (omega (arith, few, count_views items), subst (λ xs. AllHeld (views xs)) whole held)
 
--- ---- a message
-
-pub message_puts : {G H K L : List ℕ → Type 0} {block a b now : List ℕ} {i j at : ℕ} (stream function : ℕ) (wait : Bool) (item : Option Value) (m : Content) → stream ≡ m.stream → function ≡ m.function → wait ≡ m.wait → item ≡ m.item
-    → Puts G block 0 H a i (codes "S" ++ decimal stream ++ codes "F" ++ decimal function ++ (if wait then codes " W" else [])) → Puts H a i K b j (printed_optional item) → Puts K b j L now at (codes " .") → Puts G block 0 L now at (printed m)
-message_puts {G} {H} {K} {L} {block} {a} {b} {now} {i} {j} {at} stream function wait item m s f w e head middle stop =
-    let P : ℕ → ℕ → Bool → Option Value → Type 0 = λ x y z v. Puts G block 0 L now at (printed (record { stream = x; function = y; wait = z; item = v })) in
-    subst (λ x. P x m.function m.wait m.item) s (subst (λ y. P stream y m.wait m.item) f (subst (λ z. P stream function z m.item) w (subst (λ v. P stream function wait v) e (puts_then (puts_then head middle) stop))))
+-- ---- what follows from results
 
 -- what holds of a result holds by what follows from it
 pub if_ok_map : {T E : Type 0} (r : Result T E) (P Q : T → Type 0) → ((x : T) → P x → Q x) → IfOk r P → IfOk r Q

@@ -1,26 +1,14 @@
 -- Where tokens lead.
 use Rattle.std.proofs.Common.{◌≡◌, refl, List, ℕ, Bor, ◌||◌, not, false}
-use Rattle.std.specs.Prelude.{None, Option, Err}
-use Rattle.secs_item.specs.Item.{Value, Values, values}
+use Rattle.std.specs.Prelude.{Option, Err}
+use Rattle.secs_item.specs.Item.{Values, values}
 use Rattle.secs_text.specs.Content.{Content}
 use Rattle.secs_text.specs.Token.{Placed}
 use Rattle.secs_text.specs.Seen.{seen, then_tokens}
-use Rattle.secs_text.specs.Places.{Rules, Before, Count, start, is_empty, walk, after_type, in_item}
+use Rattle.secs_text.specs.Places.{Rules, Before, Count, start, is_empty, walk, in_item}
 use Rattle.secs_text.specs.declared.fault.TextFault.TheVariants as fault
 use Rattle.secs_text.specs.declared.token.Token.{Token}
 use Rattle.secs_text.specs.declared.token.Token.TheVariants as token
-
--- where no count is written, a value or the end of the item comes
-pub no_count : (rules : Rules) (b : Before) (v : Value) (at : ℕ) (t : Token) (ts : List Placed) → (t ≡ token.Bracket → ⊥) → walk rules (after_type b v) (then_tokens (record { at = at; token = seen t }) ts) ≡ walk rules (in_item b (record { count = None; so_far = v })) (then_tokens (record { at = at; token = seen t }) ts)
-no_count rules b v at (token.Word w) ts not = refl
-no_count rules b v at (token.Quoted q) ts not = refl
-no_count rules b v at token.Less ts not = refl
-no_count rules b v at token.Greater ts not = refl
-no_count rules b v at token.Bracket ts not = absurd (not refl)
-no_count rules b v at token.BracketEnd ts not = refl
-no_count rules b v at token.Stop ts not = refl
-no_count rules b v at token.Broken ts not = refl
-no_count rules b v at token.End ts not = refl
 
 -- what is neither a value nor the end of octets of text
 pub no_text : (rules : Rules) (b : Before) (count : Option Count) (v : Values) (at : ℕ) (t : Token) (ts : List Placed) → ((q : Bor (List ℕ)) → t ≡ token.Quoted q → ⊥) → ((w : Bor (List ℕ)) → t ≡ token.Word w → ⊥) → (t ≡ token.Greater → ⊥) → walk rules (in_item b (record { count = count; so_far = values v })) (then_tokens (record { at = at; token = seen t }) ts) ≡ Err (fault.Syntax at)

@@ -8,7 +8,7 @@ ghost use Rattle.secs_text.specs.Octets.{is_of_word};
 use crate::count::Count;
 use crate::octet::{is_digit, is_of_word};
 use crate::tokens::Tokens;
-use crate::type_name::{format_of_letter, format_of_pair};
+use crate::type_name::format_named;
 use crate::word::leading_numeral;
 use secs_item::Format;
 
@@ -19,8 +19,8 @@ fn name_front(octets: &[u8]) -> Option<(Format, usize)>
     ensures within { IfSome result (λ n. n.1 + 2 ≤ length octets.now) }
 {
     match octets {
-        [letter, b' ', b'[', ..] => Some((format_of_letter(*letter)?, 1)),
-        [letter, size, b' ', b'[', ..] => Some((format_of_pair(*letter, *size)?, 2)),
+        [_, b' ', b'[', ..] => Some((format_named(&octets[..1])?, 1)),
+        [_, _, b' ', b'[', ..] => Some((format_named(&octets[..2])?, 2)),
         _ => None,
     }
 }
@@ -108,16 +108,12 @@ fn lettered_number(letter: u8, octets: &[u8]) -> Option<(u8, usize)>
     ensures lettered { IfSome result (λ n. IsLettered letter n.0 n.1 octets.now) }
     ensures within { IfSome result (λ n. n.1 < length octets.now) }
 {
-    match octets {
-        [first, rest @ ..] => {
-            if *first != letter {
-                return None;
-            }
-            let (number, size) = small_number(rest)?;
-            Some((number, size + 1))
-        }
-        [] => None,
+    let (first, rest) = octets.split_first()?;
+    if *first != letter {
+        return None;
     }
+    let (number, size) = small_number(rest)?;
+    Some((number, size + 1))
 }
 
 /// The stream and function that a head at the front names, each with one or two digits, and how many octets it has.

@@ -1,7 +1,7 @@
 //! Laying words into a block of octets. A word is copied by one load and one store of a fixed size, of which only the
 //! first octets count.
 
-ghost use Rattle.std.specs.Prelude.{◌≡◌, ◌+◌, ◌≤◌, ◌<◌, ◌++◌, [], ◌∷◌, length, take, codes};
+ghost use Rattle.std.specs.Prelude.{◌+◌, ◌≤◌, ◌<◌, ◌++◌, [], ◌∷◌, length, take, codes};
 ghost use Rattle.std.specs.Fmt.{decimal};
 ghost use Rattle.secs_text.specs.Laid.{Laid, two_decimals};
 ghost use Rattle.secs_text.specs.Printed.{hexadecimal, two_digits};

@@ -1,6 +1,6 @@
 //! SECS-II messages (SEMI E5).
 
-ghost use Rattle.std.specs.Prelude.{◌≡◌, ◌<◌};
+ghost use Rattle.std.specs.Prelude.{◌≡◌, ◌<◌, option_map};
 
 use secs_item::Item;
 
@@ -29,7 +29,6 @@ impl Drop for Message {
 }
 
 impl Message {
-    ghost use Rattle.std.specs.Prelude.{option_map};
     ghost use Rattle.secs_item.specs.Item.{view};
     ghost use Rattle.secs_text.specs.View.{content};
 

@@ -46,19 +46,18 @@ fn count_after(tokens: &mut Tokens, opening: usize) -> Result<Count, TextFault>
     ensures no_longer { octets_left tokens.new ≤ octets_left tokens.old }
 {
     let next = tokens.next();
-    let count = match next.token {
-        Token::Word(word) => match number(word) {
-            Some(number) => Count {
-                at: opening,
-                number,
-            },
-            None => return Err(TextFault::Number { at: next.at }),
-        },
-        _ => return Err(TextFault::Syntax { at: next.at }),
+    let Token::Word(word) = next.token else {
+        return Err(TextFault::Syntax { at: next.at });
+    };
+    let Some(number) = number(word) else {
+        return Err(TextFault::Number { at: next.at });
     };
     let next = tokens.next();
     match next.token {
-        Token::BracketEnd => Ok(count),
+        Token::BracketEnd => Ok(Count {
+            at: opening,
+            number,
+        }),
         _ => Err(TextFault::Syntax { at: next.at }),
     }
 }
@@ -73,16 +72,12 @@ fn optional_count(tokens: &mut Tokens) -> Result<Option<Count>, TextFault>
 {
     let mut ahead = *tokens;
     let next = ahead.next();
-    match next.token {
-        Token::Bracket => {
-            *tokens = ahead;
-            match count_after(tokens, next.at) {
-                Ok(count) => Ok(Some(count)),
-                Err(fault) => Err(fault),
-            }
-        }
-        _ => Ok(None),
-    }
+    let Token::Bracket = next.token else {
+        return Ok(None);
+    };
+    *tokens = ahead;
+    let count = count_after(tokens, next.at)?;
+    Ok(Some(count))
 }
 
 /// Reads the type name of an item whose `<` stood at `opening`, and its count, if one is written. Lists may be nested

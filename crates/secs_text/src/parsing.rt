@@ -1,11 +1,10 @@
 //! Reading messages from notation straight onto octets.
 
-mod header;
 mod items;
 mod runs;
 pub mod values;
 
-ghost use Rattle.std.specs.Prelude.{◌≡◌, ◌≤◌, ◌<◌, ℕ, ◌++◌, ◌⊎◌, [], ◌∷◌, List, false, IfOk, IfErr, OnOk, IfSome, OnSome, MatchResult, Option};
+ghost use Rattle.std.specs.Prelude.{◌≡◌, ◌≤◌, ◌<◌, ℕ, ◌++◌, ◌⊎◌, [], ◌∷◌, List, IfOk, IfErr, OnOk, IfSome, OnSome, Option};
 ghost use Rattle.std.specs.Result.{IsErrAnd};
 ghost use Rattle.secs_item.specs.Item.{Value};
 ghost use Rattle.secs_text.specs.Content.{Content, AllWithin};

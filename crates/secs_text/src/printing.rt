@@ -5,18 +5,18 @@ pub mod messages;
 mod text;
 mod values;
 
-ghost use Rattle.std.specs.Prelude.{◌≡◌, ◌≤◌, ◌++◌, ℕ, List, true, false, length, codes, string_bytes, IfOk, IfErr, OnOk, MatchOption, option_map};
+ghost use Rattle.std.specs.Prelude.{◌≡◌, ◌≤◌, ◌++◌, List, true, false, length, codes, string_bytes, IfOk, IfErr, OnOk};
 ghost use Rattle.std.specs.Str.{IsUtf8};
 ghost use Rattle.secs_item.specs.Format.{is_list};
 ghost use Rattle.secs_item.specs.Item.{view, views, format_of, list};
 ghost use Rattle.secs_text.specs.Held.{IsHeld, IsHeldMessage};
 ghost use Rattle.secs_text.specs.Laid.{Puts};
 ghost use Rattle.secs_text.specs.Notation.{Notation};
-ghost use Rattle.secs_text.specs.Printed.{printed_item, printed_optional, printed};
+ghost use Rattle.secs_text.specs.Printed.{printed_item, printed};
 ghost use Rattle.secs_text.specs.View.{content};
 ghost use Rattle.secs_text.specs.declared.fault.TextFault.TheVariants.{Memory};
 
-use crate::block::{Block, Output};
+use crate::block::Output;
 use crate::fault::TextFault;
 use crate::message::Message;
 use crate::printing::items::{put_end, put_item_of_values, put_opening};
@@ -32,8 +32,6 @@ struct Gathered {
 }
 
 impl Output for Gathered {
-    ghost use Rattle.std.specs.Prelude.{◌≡◌, true};
-
     ghost Given = { λ g given. g.is_whole ≡ true → g.octets.items ≡ given };
 
     fn give(&mut self, octets: &[u8]) {
@@ -105,26 +103,6 @@ fn put_list<O: Output>(
     Ok(put_end(out, block, at))
 }
 
-/// Puts the item of a message, if there is one.
-fn put_optional<O: Output>(
-    alloc: Global,
-    out: &mut O,
-    block: &mut [u8],
-    from: usize,
-    item: Option<&Item>,
-) -> Result<usize, AllocError>
-    requires size { length block.old ≡ 65536 }
-    requires within { from ≤ 65536 }
-    ensures puts { IfOk result (λ at. Puts (O.Given out.old) block.old from (O.Given out.new) block.new at
-        (printed_optional (option_map (λ i. view i.now) item.entry))) }
-    ensures held { OnOk result (MatchOption (option_map (λ i. view i.now) item.entry) (Unit {0}) IsHeld) }
-{
-    match item {
-        Some(item) => put_tree(alloc, out, block, from, item),
-        None => Ok(from),
-    }
-}
-
 /// Puts a message.
 fn put_message<O: Output>(
     alloc: Global,
@@ -143,7 +121,10 @@ fn put_message<O: Output>(
         wait: message.wait(),
     };
     let at = put_head(out, block, 0, head);
-    let at = put_optional(alloc, out, block, at, message.item())?;
+    let Some(item) = message.item() else {
+        return Ok(put_stop(out, block, at));
+    };
+    let at = put_tree(alloc, out, block, at, item)?;
     Ok(put_stop(out, block, at))
 }
 

@@ -1,64 +1,33 @@
 //! The names of the item formats, as they are read and printed.
 
-ghost use Rattle.std.specs.Prelude.{◌≡◌, ◌≤◌, ◌++◌, ◌∷◌, [], true, length, take, codes, OnSome};
-ghost use Rattle.secs_text.specs.Octets.{is_of_word};
+ghost use Rattle.std.specs.Prelude.{◌≡◌, ◌≤◌, ◌++◌, length, take, codes};
 ghost use Rattle.secs_text.specs.TypeName.{type_name, format_named};
 
 use secs_item::Format;
 
 /// The format that a word names.
+#[inline(always)]
 #[tactic(auto, unfolding(crate::specs::TypeName::format_named))]
 pub fn format_named(word: &[u8]) -> Option<Format>
     ensures { result ≡ format_named word.now }
 {
     match word {
-        [letter] => format_of_letter(*letter),
-        [letter, size] => format_of_pair(*letter, *size),
-        _ => {
-            if b"BOOLEAN".as_slice() == word {
-                Some(Format::Boolean)
-            } else {
-                None
-            }
-        }
-    }
-}
-
-/// The format that one letter names.
-#[inline(always)]
-#[tactic(auto, unfolding(crate::specs::TypeName::format_named))]
-pub fn format_of_letter(letter: u8) -> Option<Format>
-    ensures named { result ≡ format_named (letter ∷ []) }
-    ensures word { OnSome result (is_of_word letter ≡ true) }
-{
-    match letter {
-        b'L' => Some(Format::List),
-        b'B' => Some(Format::Binary),
-        b'A' => Some(Format::Ascii),
-        b'J' => Some(Format::Jis8),
-        _ => None,
-    }
-}
-
-/// The format that a letter and a digit name.
-#[inline(always)]
-#[tactic(auto, unfolding(crate::specs::TypeName::format_named))]
-pub fn format_of_pair(letter: u8, size: u8) -> Option<Format>
-    ensures named { result ≡ format_named (letter ∷ size ∷ []) }
-    ensures word { OnSome result ((is_of_word letter ≡ true) × (is_of_word size ≡ true)) }
-{
-    match (letter, size) {
-        (b'C', b'2') => Some(Format::Char2),
-        (b'I', b'1') => Some(Format::I1),
-        (b'I', b'2') => Some(Format::I2),
-        (b'I', b'4') => Some(Format::I4),
-        (b'I', b'8') => Some(Format::I8),
-        (b'U', b'1') => Some(Format::U1),
-        (b'U', b'2') => Some(Format::U2),
-        (b'U', b'4') => Some(Format::U4),
-        (b'U', b'8') => Some(Format::U8),
-        (b'F', b'4') => Some(Format::F4),
-        (b'F', b'8') => Some(Format::F8),
+        b"L" => Some(Format::List),
+        b"B" => Some(Format::Binary),
+        b"BOOLEAN" => Some(Format::Boolean),
+        b"A" => Some(Format::Ascii),
+        b"J" => Some(Format::Jis8),
+        b"C2" => Some(Format::Char2),
+        b"I1" => Some(Format::I1),
+        b"I2" => Some(Format::I2),
+        b"I4" => Some(Format::I4),
+        b"I8" => Some(Format::I8),
+        b"U1" => Some(Format::U1),
+        b"U2" => Some(Format::U2),
+        b"U4" => Some(Format::U4),
+        b"U8" => Some(Format::U8),
+        b"F4" => Some(Format::F4),
+        b"F8" => Some(Format::F8),
         _ => None,
     }
 }

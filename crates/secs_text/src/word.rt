@@ -77,19 +77,6 @@ pub fn leading_numeral(octets: &[u8]) -> Option<(u64, usize)>
     Some((number, size))
 }
 
-/// The number that digits spell, if they are a numeral and it is below the limit. `number` is what they spell, modulo
-/// 2^64.
-#[inline(always)]
-#[tactic(auto, unfolding(crate::specs::Words::number_below))]
-fn digits_below(limit: u64, digits: &[u8], number: u64) -> Option<u64>
-    requires all { list_all is_digit digits.now ≡ true }
-    requires number { number ≡ digits_value 10 digits.now % 2 ^ 64 }
-    ensures value { result ≡ number_below limit digits.now }
-    ensures below { IfSome result (λ n. n < limit) }
-{
-    number_of_digits(digits, number).filter(|n| *n < limit)
-}
-
 /// The number that a word spells, if it is below 2^64.
 pub fn number(word: &[u8]) -> Option<u64>
     ensures { result ≡ number_below (2 ^ 64) word.now }
@@ -186,19 +173,7 @@ pub fn truth_of(word: &[u8]) -> Option<bool>
     }
 }
 
-/// The octets that digits spell, two digits for each.
-fn octets_of_digits<const N: usize>(digits: &[u8]) -> Option<[u8; N]>
-    requires { length digits.now ≡ 2 * N }
-    ensures { result ≡ hex_octets digits.now }
-{
-    let mut octets = [0; N];
-    for i in 0..N {
-        octets[i] = octet_of_digits(digits[2 * i], digits[2 * i + 1])?;
-    }
-    Some(octets)
-}
-
-/// The octets that digits spell, if there are as many as wanted.
+/// The octets that digits spell, two digits for each, if there are as many as wanted.
 fn sized_octets<const N: usize>(digits: &[u8]) -> Option<[u8; N]>
     requires { N < 256 }
     ensures { result ≡ option_and_then (sized N) (hex_octets digits.now) }
@@ -206,7 +181,11 @@ fn sized_octets<const N: usize>(digits: &[u8]) -> Option<[u8; N]>
     if digits.len() != 2 * N {
         return None;
     }
-    octets_of_digits(digits)
+    let mut octets = [0; N];
+    for i in 0..N {
+        octets[i] = octet_of_digits(digits[2 * i], digits[2 * i + 1])?;
+    }
+    Some(octets)
 }
 
 /// The octets of the float that a word spells.
@@ -247,27 +226,23 @@ fn wrong_head(stream: &[u8], function: &[u8]) -> HeadWord
 
 /// The stream whose digits stand before this, and the function. `number` is what those digits spell, modulo 2^64.
 #[inline(always)]
+#[tactic(auto, unfolding(crate::specs::Words::number_below))]
 fn head_of_parts(stream: &[u8], number: u64, rest: &[u8]) -> HeadWord
     requires all { list_all is_digit stream.now ≡ true }
     requires number { number ≡ digits_value 10 stream.now % 2 ^ 64 }
     ensures value { head_seen result ≡ head_of_parts stream.now rest.now }
     ensures in_range { IsStream result }
 {
-    match rest {
-        [] => HeadWord::NoHead,
-        [letter, function @ ..] => {
-            if *letter != b'F' {
-                return HeadWord::NoHead;
-            }
-            let Some(stream_number) = digits_below(128, stream, number) else {
-                return wrong_head(stream, function);
-            };
-            let Some(function_number) = number_below(256, function) else {
-                return wrong_head(stream, function);
-            };
-            HeadWord::Head(stream_number as u8, function_number as u8)
-        }
-    }
+    let [b'F', function @ ..] = rest else {
+        return HeadWord::NoHead;
+    };
+    let Some(stream_number) = number_of_digits(stream, number).filter(|n| *n < 128) else {
+        return wrong_head(stream, function);
+    };
+    let Some(function_number) = number_below(256, function) else {
+        return wrong_head(stream, function);
+    };
+    HeadWord::Head(stream_number as u8, function_number as u8)
 }
 
 /// The stream and function that a word names.
@@ -277,15 +252,10 @@ pub fn head_of(word: &[u8]) -> HeadWord
     ensures value { head_seen result ≡ head_word word.now }
     ensures in_range { IsStream result }
 {
-    match word {
-        [] => HeadWord::NoHead,
-        [letter, rest @ ..] => {
-            if *letter != b'S' {
-                return HeadWord::NoHead;
-            }
-            let (digits, number) = leading_number(rest);
-            let (stream, rest) = rest.split_at(digits);
-            head_of_parts(stream, number, rest)
-        }
-    }
+    let [b'S', rest @ ..] = word else {
+        return HeadWord::NoHead;
+    };
+    let (digits, number) = leading_number(rest);
+    let (stream, rest) = rest.split_at(digits);
+    head_of_parts(stream, number, rest)
 }

@@ -2,6 +2,7 @@ ghost use Rattle.std.specs.Prelude.{◌<◌};
 
 use super::{DONE, Outcome, feed_of, judge, outcome_of, store_of};
 use hsms_frame::Store;
+use hsms_options::{Form, Showing};
 use hsms_tasks::show_hex;
 use std::alloc::{AllocError, Global};
 use std::process::Abort;
@@ -17,7 +18,12 @@ fn shown(
     requires { 0 < piece }
 {
     let mut source = feed_of(alloc, text.as_bytes(), piece, u64::MAX)?;
-    Ok(outcome_of(show_hex(alloc, &mut source, sink, 256, 32, bare)))
+    let showing = Showing {
+        max: 256,
+        depth: 32,
+        form: if bare { Form::BareLines } else { Form::Lines },
+    };
+    Ok(outcome_of(show_hex(alloc, &mut source, sink, showing)))
 }
 
 fn judge_lines(

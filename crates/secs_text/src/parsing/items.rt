@@ -12,11 +12,10 @@ ghost use Rattle.secs_text.specs.Spellings.{ItemRead, Deep, Anywhere};
 use crate::count::Count;
 use crate::fault::TextFault;
 use crate::opening::{check_count, format_and_count};
-use crate::parsing::header::seal;
 use crate::parsing::values::parse_values;
 use crate::token::Token;
 use crate::tokens::Tokens;
-use secs_item::Format;
+use secs_item::{Format, patch_header};
 
 /// Reads the values of an item, after its type name and its count, and adds the item's octets. Says whether it has any.
 fn item_of_values(
@@ -34,7 +33,7 @@ fn item_of_values(
     out.extend_from_slice(&[0, 0])?;
     parse_values(out, tokens, format, count)?;
     let number = out.len() - start - 2;
-    Ok(seal(out, start, format, number)?)
+    Ok(patch_header(out, start, format, number)?)
 }
 
 /// Reads the elements of a list, after its type name and its count, and adds the list's octets. Lists in it may be
@@ -70,7 +69,7 @@ fn elements(
     if !fits {
         return Ok(false);
     }
-    Ok(seal(out, start, Format::List, number)?)
+    Ok(patch_header(out, start, Format::List, number)?)
 }
 
 /// Reads the item whose `<` stood at `opening`, and adds its octets. Lists may be nested `depth` deep. Says whether the

@@ -1,6 +1,6 @@
 //! Runs of values that are single octets, each a short word behind one space, as they are printed.
 
-ghost use Rattle.std.specs.Prelude.{◌≡◌, ◌≤◌, ◌<◌, ◌+◌, ◌*◌, ◌/◌, ℕ, List, Option, true, length, take, drop, OnOk};
+ghost use Rattle.std.specs.Prelude.{◌≡◌, ◌≤◌, ◌<◌, ◌+◌, ◌*◌, ◌/◌, ℕ, List, length, take, drop, OnOk};
 ghost use Rattle.secs_item.specs.Format.{value_size};
 ghost use Rattle.secs_text.specs.AsPrinted.{EndsWord};
 ghost use Rattle.secs_text.specs.Left.{left, octets_left};

@@ -32,19 +32,6 @@ fn lay_count(block: &mut [u8], at: usize, count: usize) -> usize
     }
 }
 
-/// Lays the opening of an item, after a space.
-#[inline(always)]
-fn lay_opening(block: &mut [u8], at: usize, format: Format, count: usize) -> usize
-    requires { at + 64 ≤ length block.old }
-    ensures laid { Laid block.old block.new at (opening_of format count) result }
-    ensures near { result ≤ at + 64 }
-{
-    let (word, length) = opening_word(format);
-    let at = lay_word::<16>(block, at, word.as_slice(), length);
-    let at = lay_count(block, at, count);
-    lay_byte(block, at, b']')
-}
-
 /// Puts the opening of an item with a body of this length, after a space.
 #[inline(always)]
 pub fn put_opening<O: Output>(
@@ -60,7 +47,10 @@ pub fn put_opening<O: Output>(
         (opening_of format (body_length / value_size format)) }
 {
     let at = room(out, block, from);
-    lay_opening(block, at, format, body_length / format.size())
+    let (word, length) = opening_word(format);
+    let at = lay_word::<16>(block, at, word.as_slice(), length);
+    let at = lay_count(block, at, body_length / format.size());
+    lay_byte(block, at, b']')
 }
 
 /// Puts what ends an item.

@@ -1,6 +1,6 @@
 //! Octets of text: runs of printable octets in quotes, every other octet in hexadecimal.
 
-ghost use Rattle.std.specs.Prelude.{◌≡◌, ◌≤◌, ◌<◌, ◌+◌, ◌*◌, ◌++◌, ℕ, List, [], true, false, length, take, codes, if◌then◌else◌};
+ghost use Rattle.std.specs.Prelude.{◌≡◌, ◌≤◌, ◌<◌, ◌+◌, ◌*◌, ◌++◌, ℕ, List, [], true, length, codes, if◌then◌else◌};
 ghost use Rattle.std.specs.List.{list_all};
 ghost use Rattle.secs_text.specs.Laid.{Laid};
 ghost use Rattle.secs_text.specs.Octets.{is_quotable};
@@ -21,33 +21,6 @@ fn lay_quote(block: &mut [u8], at: usize, quoted: bool) -> usize
     lay_slice(block, at, b" \"")
 }
 
-/// Lays an octet that may stand between quotes, where a quote is open or not.
-#[inline(always)]
-fn lay_quotable(block: &mut [u8], at: usize, in_quotes: bool, octet: u8) -> usize
-    requires quotable { is_quotable octet ≡ true }
-    requires room { at + 16 ≤ length block.old }
-    ensures laid { Laid block.old block.new at (printed_octet in_quotes octet) result }
-    ensures near { result ≤ at + 16 }
-{
-    let at = lay_quote(block, at, in_quotes);
-    lay_byte(block, at, octet)
-}
-
-/// Lays an octet that may not stand between quotes, where a quote is open or not.
-#[inline(always)]
-fn lay_other(block: &mut [u8], at: usize, in_quotes: bool, octet: u8) -> usize
-    requires other { is_quotable octet ≡ false }
-    requires room { at + 16 ≤ length block.old }
-    ensures laid { Laid block.old block.new at (printed_octet in_quotes octet) result }
-    ensures near { result ≤ at + 16 }
-{
-    if !in_quotes {
-        return lay_octet(block, at, octet);
-    }
-    let at = lay_byte(block, at, b'"');
-    lay_octet(block, at, octet)
-}
-
 /// Lays an octet of text, where a quote is open or not.
 #[inline(always)]
 fn lay_text_octet(block: &mut [u8], at: usize, in_quotes: bool, octet: u8) -> usize
@@ -56,10 +29,14 @@ fn lay_text_octet(block: &mut [u8], at: usize, in_quotes: bool, octet: u8) -> us
     ensures near { result ≤ at + 16 }
 {
     if is_quotable(octet) {
-        lay_quotable(block, at, in_quotes, octet)
-    } else {
-        lay_other(block, at, in_quotes, octet)
+        let at = lay_quote(block, at, in_quotes);
+        return lay_byte(block, at, octet);
     }
+    if !in_quotes {
+        return lay_octet(block, at, octet);
+    }
+    let at = lay_byte(block, at, b'"');
+    lay_octet(block, at, octet)
 }
 
 /// Lays octets of text one by one, where a quote is open or not, and tells whether one is open behind them.

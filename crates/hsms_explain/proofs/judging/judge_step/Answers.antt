@@ -1,9 +1,9 @@
 use Rattle.std.proofs.Common.{◌∙◌, sym, ap, subst}
 use Rattle.std.specs.Prelude.{IfOk}
 use Rattle.hsms_machine.specs.declared.entry.Entry.{Entry}
-use Rattle.hsms_explain.specs.declared.step.What.{What}
+use Rattle.hsms_log.specs.declared.step.What.{What}
 use Rattle.hsms_explain.specs.Course.{JudgesAs}
-use Rattle.hsms_explain.specs.Step.{entry_of_what}
+use Rattle.hsms_log.specs.Step.{entry_of_what}
 use Rattle.hsms_explain.proofs.judging.judge_step.Goals as goal
 
 pub returns-in-Frame-clause-judged : goal.returns-in-Frame-clause-judged

@@ -1,5 +1,5 @@
 use Rattle.std.proofs.Common.{[], List, subst}
-use Rattle.hsms_explain.specs.declared.step.Step.{Step}
+use Rattle.hsms_log.specs.declared.step.Step.{Step}
 use Rattle.hsms_explain.specs.Row.{Notes, entries_of, told_with}
 use Rattle.hsms_explain.proofs.Following.{on_ok, on_ok_more}
 use Rattle.hsms_explain.proofs.Rows.{broken_steps, lawful_steps}

@@ -3,7 +3,7 @@ use Rattle.hsms_machine.specs.declared.entry.Entry.{Entry}
 use Rattle.hsms_machine.specs.Repair.{change_by}
 use Rattle.hsms_machine.specs.View.{waiting_of}
 use Rattle.hsms_explain.specs.Row.{changed, entries_of, most_steps}
-use Rattle.hsms_explain.specs.Step.{entry_by}
+use Rattle.hsms_log.specs.Step.{entry_by}
 use Rattle.hsms_explain.proofs.Rows.{Stepped, none_stepped, stepped_more, stepped_most, stepped_none, no_steps, steps_popped}
 use Rattle.hsms_explain.proofs.mending.mend.Goals as goal
 

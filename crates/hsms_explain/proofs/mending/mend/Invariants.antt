@@ -4,7 +4,7 @@ use Rattle.hsms_machine.specs.Repair.{change_by}
 use Rattle.hsms_machine.specs.View.{waiting_of}
 use Rattle.hsms_explain.specs.Noted.{first_why}
 use Rattle.hsms_explain.specs.Row.{changed, entries_of, most_steps}
-use Rattle.hsms_explain.specs.Step.{entry_by}
+use Rattle.hsms_log.specs.Step.{entry_by}
 use Rattle.hsms_explain.proofs.Rows.{Stepped}
 use Rattle.hsms_explain.proofs.mending.mend.Given as goal
 

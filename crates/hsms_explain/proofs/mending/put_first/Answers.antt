@@ -1,5 +1,5 @@
 use Rattle.std.proofs.Common.{◌∙◌, ◌∷◌, ap}
-use Rattle.hsms_explain.specs.Step.{entry_of_what}
+use Rattle.hsms_log.specs.Step.{entry_of_what}
 use Rattle.hsms_explain.proofs.Following.{on_ok_more}
 use Rattle.hsms_explain.proofs.mending.put_first.Goals as goal
 

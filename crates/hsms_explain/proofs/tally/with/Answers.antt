@@ -1,8 +1,8 @@
 use Rattle.std.proofs.Common.{◌≡◌, ℕ, sym, subst}
 use Rattle.hsms_machine.specs.Entry.{frame_entry}
-use Rattle.hsms_explain.specs.declared.step.What.{What}
+use Rattle.hsms_log.specs.declared.step.What.{What}
 use Rattle.hsms_explain.specs.Counting.{with_entry, with_kind}
-use Rattle.hsms_explain.specs.Step.{entry_of_what}
+use Rattle.hsms_log.specs.Step.{entry_of_what}
 use Rattle.hsms_explain.proofs.tally.with.Goals as goal
 
 pub returns-in-Frame : goal.returns-in-Frame

@@ -1,5 +1,5 @@
 use Rattle.std.proofs.Common.{◌++◌, ℕ, List, refl, sym, ap, subst}
-use Rattle.hsms_explain.specs.declared.step.What.{What}
+use Rattle.hsms_log.specs.declared.step.What.{What}
 use Rattle.hsms_explain.specs.Page.{Adds}
 use Rattle.hsms_explain.specs.Written.{WhatSaid, mark_text}
 use Rattle.hsms_explain.proofs.Pages.{adds_is, adds_then}

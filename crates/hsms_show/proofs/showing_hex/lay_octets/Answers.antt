@@ -1,20 +1,21 @@
 use Rattle.std.proofs.Common.{◌≡◌, ◌<◌, List, ℕ, length, ap, arith, codes, rules}
 use Rattle.hsms_frame.specs.Frame.{Frame}
+use Rattle.hsms_options.specs.Options.{is_bare}
 use Rattle.hsms_show.specs.ShowHex.{IsNoMessage, ShowsOctets, at_line}
 use Rattle.hsms_show.proofs.HexSteps.{laid_message, stopped_as, told_no_message}
 use Rattle.hsms_show.proofs.showing_hex.lay_octets.Goals as goal
 
 pub returns-in-Some-clause-shown : goal.returns-in-Some-clause-shown
 returns-in-Some-clause-shown g c =
-    let IsWhy : List ℕ → Type 0 = λ words. IsNoMessage c.args.reading.bare c.args.reading.max c.args.octets.now × (words ≡ at_line (codes "NoMessage") c.args.number) in
+    let IsWhy : List ℕ → Type 0 = λ words. IsNoMessage (is_bare c.args.showing.form) c.args.showing.max c.args.octets.now × (words ≡ at_line (codes "NoMessage") c.args.number) in
     let f : Frame = record { header = c.in-Some.header; text = c.in-Some.text.now } in
-    laid_message c.args.reading.bare c.args.reading.max c.args.reading.depth IsWhy c.args.octets.now f c.lay_line.result (g.W.Sink.state c.args.sink.now).written c.args.held.now (g.W.Sink.state c.lay_line.new.sink).written c.lay_line.new.held c.in-Some.ensures.some c.lay_line.ensures.word c.lay_line.ensures.line
+    laid_message (is_bare c.args.showing.form) c.args.showing.max c.args.showing.depth IsWhy c.args.octets.now f c.lay_line.result (g.W.Sink.state c.args.sink.now).written c.args.held.now (g.W.Sink.state c.lay_line.new.sink).written c.lay_line.new.held c.in-Some.ensures.some c.lay_line.ensures.word c.lay_line.ensures.line
 
 pub returns-in-None-clause-shown : goal.returns-in-None-clause-shown
 returns-in-None-clause-shown g c =
     let some : 0 < length c.args.octets.now = search rules in
-    let IsWhy : List ℕ → Type 0 = λ words. IsNoMessage c.args.reading.bare c.args.reading.max c.args.octets.now × (words ≡ at_line (codes "NoMessage") c.args.number) in
-    let none : IsNoMessage c.args.reading.bare c.args.reading.max c.args.octets.now =
+    let IsWhy : List ℕ → Type 0 = λ words. IsNoMessage (is_bare c.args.showing.form) c.args.showing.max c.args.octets.now × (words ≡ at_line (codes "NoMessage") c.args.number) in
+    let none : IsNoMessage (is_bare c.args.showing.form) c.args.showing.max c.args.octets.now =
     ((λ empty. let size : length c.args.octets.now ≡ 0 = ap length empty in omega (arith, some, size)), c.message_of.ensures.none c.in-None.is) in
-    stopped_as (ShowsOctets c.args.reading.bare c.args.reading.max c.args.reading.depth c.args.octets.now) IsWhy c.refusal.result c.stop.result (g.W.Sink.state c.args.sink.now).written c.args.held.now (g.W.Sink.state c.stop.new.sink).written c.stop.new.held
-    (told_no_message (IsNoMessage c.args.reading.bare c.args.reading.max c.args.octets.now) (at_line (codes "NoMessage") c.args.number) c.refusal.result none c.refusal.ensures) c.stop.ensures.stops
+    stopped_as (ShowsOctets (is_bare c.args.showing.form) c.args.showing.max c.args.showing.depth c.args.octets.now) IsWhy c.refusal.result c.stop.result (g.W.Sink.state c.args.sink.now).written c.args.held.now (g.W.Sink.state c.stop.new.sink).written c.stop.new.held
+    (told_no_message (IsNoMessage (is_bare c.args.showing.form) c.args.showing.max c.args.octets.now) (at_line (codes "NoMessage") c.args.number) c.refusal.result none c.refusal.ensures) c.stop.ensures.stops

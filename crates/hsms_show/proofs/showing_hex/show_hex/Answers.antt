@@ -1,5 +1,6 @@
 use Rattle.std.proofs.Common.{arith, refl, ◌∙◌}
 use Rattle.std.proofs.lemmas.Result.{err_from_is_err_and}
+use Rattle.hsms_options.specs.Options.{is_bare}
 use Rattle.hsms_lines.proofs.Devices.{of_input, wider}
 use Rattle.hsms_show.proofs.HexRuns.{lines_begin, lines_end, lines_full, lines_go_on, lines_stop, lines_unwritten, no_line}
 use Rattle.hsms_show.proofs.Runs.{along, input_is_no_write}
@@ -8,12 +9,12 @@ use Rattle.hsms_show.proofs.showing_hex.show_hex.Goals as goal
 pub returns-in_err-ahead-clause-lines : goal.returns-in_err-ahead-clause-lines
 returns-in_err-ahead-clause-lines g c = λ input told.
     let p = err_from_is_err_and c.from_residual.result c.from_residual.ensures.1 in
-    rw (p.1, p.2) (no_line c.args.bare c.args.max c.args.depth input (g.R.Source.state c.args.source.now).left (g.W.Sink.state c.args.sink.now).written told)
+    rw (p.1, p.2) (no_line (is_bare c.args.showing.form) c.args.showing.max c.args.showing.depth input (g.R.Source.state c.args.source.now).left (g.W.Sink.state c.args.sink.now).written told)
 
 pub returns-in_err-held-clause-lines : goal.returns-in_err-held-clause-lines
 returns-in_err-held-clause-lines g c = λ input told.
     let p = err_from_is_err_and c.from_residual-in_err-held.result c.from_residual-in_err-held.ensures.1 in
-    rw (p.1, p.2) (no_line c.args.bare c.args.max c.args.depth input (g.R.Source.state c.args.source.now).left (g.W.Sink.state c.args.sink.now).written told)
+    rw (p.1, p.2) (no_line (is_bare c.args.showing.form) c.args.showing.max c.args.showing.depth input (g.R.Source.state c.args.source.now).left (g.W.Sink.state c.args.sink.now).written told)
 
 pub loop-passed-init : goal.loop-passed-init
 loop-passed-init g c = (

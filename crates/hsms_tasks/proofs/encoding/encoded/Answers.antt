@@ -1,7 +1,7 @@
 use Rattle.std.proofs.Common.{[], subst}
 use Rattle.std.specs.Prelude.{Result, Ok, Err, IfOk, IfErr}
 use Rattle.hsms_tasks.specs.Encode.{Frames}
-use Rattle.hsms_tasks.specs.declared.frames.Framing.{Framing}
+use Rattle.hsms_options.specs.declared.options.Encoding.{Encoding}
 use Rattle.hsms_tasks.proofs.Encodings.{all_framed, none_framed, not_notation}
 use Rattle.hsms_tasks.proofs.encoding.encoded.Goals as goal
 
@@ -17,9 +17,9 @@ pub returns-in-Ok-clause-ok : goal.returns-in-Ok-clause-ok
 returns-in-Ok-clause-ok c =
     let told = c.in-Ok.ensures.ok in
     let made = c.spell_all.new.receiver in
-    let k = c.args.framing in
+    let k = c.args.encoding in
     let given = told.3 k [] c.new-frames.ensures in
-    let P : Framing → Type 0 = λ f. Frames f.device f.max f.system made.next made.refusal made.output.items told.0 in
+    let P : Encoding → Type 0 = λ f. Frames f.device f.max f.system made.next made.refusal made.output.items told.0 in
     if_ok c.finish.result c.finish.ensures.ok (λ output e.
     (told.0, told.1, told.2, all_framed k.device k.max k.system made.next made.refusal output.items made.output.items told.0 (subst P given.0 given.1) e))
 
@@ -27,13 +27,13 @@ pub returns-in-Ok-clause-err : goal.returns-in-Ok-clause-err
 returns-in-Ok-clause-err c =
     let told = c.in-Ok.ensures.ok in
     let made = c.spell_all.new.receiver in
-    let k = c.args.framing in
+    let k = c.args.encoding in
     let given = told.3 k [] c.new-frames.ensures in
-    let P : Framing → Type 0 = λ f. Frames f.device f.max f.system made.next made.refusal made.output.items told.0 in
+    let P : Encoding → Type 0 = λ f. Frames f.device f.max f.system made.next made.refusal made.output.items told.0 in
     if_err c.finish.result c.finish.ensures.err (λ fault e.
-    none_framed k.device k.max c.args.depth k.system made.next made.refusal c.args.input.now made.output.items told.0 fault told.1 told.2 (subst P given.0 given.1) e)
+    none_framed k.device k.max k.depth k.system made.next made.refusal c.args.input.now made.output.items told.0 fault told.1 told.2 (subst P given.0 given.1) e)
 
 pub returns-in-Err-clause-err : goal.returns-in-Err-clause-err
 returns-in-Err-clause-err c =
-    let k = c.args.framing in
-    not_notation k.device k.max c.args.depth k.system c.args.input.now c.in-Err.fault c.not_read.result c.in-Err.ensures.err c.not_read.ensures
+    let k = c.args.encoding in
+    not_notation k.device k.max k.depth k.system c.args.input.now c.in-Err.fault c.not_read.result c.in-Err.ensures.err c.not_read.ensures

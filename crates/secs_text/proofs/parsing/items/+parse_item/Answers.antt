@@ -1,8 +1,8 @@
-use Rattle.std.proofs.Common.{◌≡◌, ◌∙◌, ◌&&◌, ◌+◌, Bool, sym, ap, subst, rules, length}
+use Rattle.std.proofs.Common.{◌≡◌, ◌∙◌, ◌&&◌, ◌+◌, Bool, sym, ap, subst, rules}
 use Rattle.secs_text.specs.Left.{left}
 use Rattle.secs_text.specs.Reads.{count_seen}
 use Rattle.secs_text.specs.Seen.{seen, then_tokens}
-use Rattle.secs_text.proofs.ParsingItems.{ListedSoFar, none_listed, element_listed, list_unfit, list_sealed}
+use Rattle.secs_text.proofs.ParsingItems.{ListedSoFar, none_listed, element_listed, list_unfit, list_patched}
 use Rattle.secs_text.proofs.parsing.items.+parse_item.Goals as goal
 use Rattle.secs_text.proofs.parsing.items.+parse_item.Goals.{elements-then-fits, elements-else-fits}
 
@@ -35,8 +35,6 @@ elements-returns-then-not-fits-clause-reads t c =
 
 pub elements-returns-clause-reads : goal.elements-returns-clause-reads
 elements-returns-clause-reads t c =
-    let start : c.len-start.result ≡ length c.args.out.now.items = search rules in
-    list_sealed c.next-next.result.at (left c.next-next.new.self) c.loop-out.invariant.listed
+    list_patched c.next-next.result.at (left c.next-next.new.self) c.loop-out.invariant.listed
     (c.next-next.ensures.tokens ∙ ap (λ u. then_tokens (record { at = c.next-next.result.at; token = seen u }) (left c.next-next.new.self)) c.in-Greater.is)
-    c.in_ok-seal.field-0 c.seal.new.out.items c.if-not-fits.false c.in_ok-check_count.ensures
-    (λ front body a b size. c.in_ok-seal.ensures front body a b (size ∙ sym start))
+    c.in_ok-patch_header.field-0 c.len-start.result c.patch_header.new.out.items c.if-not-fits.false c.in_ok-check_count.ensures (search rules) (record { holds = c.in_ok-patch_header.ensures.fits; octets = c.in_ok-patch_header.ensures.octets })

@@ -1,7 +1,7 @@
 use Rattle.std.proofs.Common.{◌≡◌, ◌*◌, length, take, drop}
 use Rattle.secs_text.specs.Words.{hex_octets}
 use Rattle.secs_text.proofs.Hexadecimal.{after_octets}
-use Rattle.secs_text.proofs.word.octets_of_digits.Given as goal
+use Rattle.secs_text.proofs.word.sized_octets.Given as goal
 
 abbrev pub invariant-loop-i : goal.invariant-loop-i
 invariant-loop-i g l = record {
