@@ -69,8 +69,10 @@ KEPT = "out/incremental"
 # The status of a check that is to be of a function which isn't there.
 NO_SUCH_FUNCTION = 2
 
-# How many bodies are tried together, and how many such checks a body may have before it is tried alone.
+# How many bodies are tried together, how many where one check isn't enough for those of a crate, so that its checks end
+# together, and how many such checks a body may have before it is tried alone.
 TOGETHER = 115
+IN_ONE_OF_SOME = 45
 AMONG_OTHERS = 2
 
 # How many seconds pass between two looks at what `rt ci` has proved, and what it says of a crate then.
@@ -665,8 +667,9 @@ def in_lots(edits):
     that fewer checks look at what they call.
     """
     left, lots = sorted(edits, key=lambda it: ([change.path for change in it.changes], sorted(map(str, it.functions())))), []
+    most = TOGETHER if len(left) <= TOGETHER else IN_ONE_OF_SOME
     while left:
-        lot = chosen(left, -(-len(left) // -(-len(left) // TOGETHER)))
+        lot = chosen(left, -(-len(left) // -(-len(left) // most)))
         left = [it for it in left if it not in lot]
         lots.append(lot)
     return lots
@@ -699,14 +702,14 @@ def can_be_double(edit):
 
 
 class Lanes:
-    """Room for some checks at once: whoever comes when all are taken waits, and who takes longest goes first."""
+    """Room for some checks at once: whoever comes when all are taken waits, and whose crate has most to try goes first."""
 
     def __init__(self, most):
         self.most, self.taken, self.waiting, self.freed = most, 0, [], threading.Condition()
 
     @contextmanager
     def one(self, size):
-        """A lane for a check of so many edits."""
+        """A lane for a check of a crate that has so many edits to try."""
         with self.freed:
             self.waiting.append(size)
             while self.taken >= self.most() or size < max(self.waiting):
@@ -747,8 +750,8 @@ class Trial:
     """The trials of a crate's edits and twins."""
 
     def __init__(self, crate, home, lanes, is_beside=False):
-        self.crate, self.lanes = crate, lanes
-        with lanes.one(len(bodies_of(crate))):
+        self.crate, self.lanes, self.size = crate, lanes, len(bodies_of(crate))
+        with lanes.one(self.size):
             self.rooms = Rooms(crate, home, is_beside)
         self.passed, self.failed, self.checks, self.counting = 0, [], 0, threading.Lock()
 
@@ -763,7 +766,7 @@ class Trial:
     def check(self, edits=(), of_crate=False):
         """Checks the functions that edits turn, or the whole crate, with these edits."""
         self.count(checks=1)
-        with self.lanes.one(len(edits)), self.rooms.one() as room:
+        with self.lanes.one(self.size - self.passed), self.rooms.one() as room:
             return room.check(edits, of_crate)
 
     def is_proved(self):
