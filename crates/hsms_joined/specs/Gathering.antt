@@ -20,6 +20,10 @@ AreBeginnings s gs both = BeginsWith s Active gs both.active × BeginsWith s Pas
 abbrev pub AreSure : Beginnings → Type 0
 AreSure both = (both.active.is_sure ≡ true) × (both.passive.is_sure ≡ true)
 
+-- it isn't sure of one of them
+abbrev pub AreUnsure : Session → List Gathered → Type 0
+AreUnsure s gs = (both : Beginnings) × AreBeginnings s gs both × (AreSure both → ⊥)
+
 -- how many octets these packets bring
 abbrev pub octets_brought : List Gathered → ℕ
 octets_brought gs = sum_by (λ g. length g.octets.items) gs

@@ -5,6 +5,7 @@ use Rattle.hsms_capture.specs.declared.packet.Segment.{Segment}
 use Rattle.hsms_capture.specs.declared.packet.Side.{Side}
 use Rattle.hsms_capture.specs.declared.packet.Side.TheVariants.{Active, Passive}
 use Rattle.hsms_joined.specs.declared.gathered.Gathered.{Gathered}
+use Rattle.hsms_joined.specs.declared.joining.Handshake.{Handshake}
 use Rattle.hsms_joined.specs.declared.start.Start.{Start}
 use Rattle.hsms_joined.specs.Gathered.{is_same}
 use Rattle.hsms_joined.specs.Numbers.{from_by, number_behind, number_by, reaches_by}
@@ -70,10 +71,9 @@ abbrev pub number_before : ℕ → ℕ
 number_before number = (number + 2 ^ 32 - 1) % 2 ^ 32
 
 -- the active end's SYN, the other one's, which acknowledges it, and the ACK of that, in three packets
-abbrev pub AreOpening : ℕ → ℕ → List Segment → Type 0
-AreOpening active passive segments =
-    segments
-    ≡ opening_as 1 Active (number_before active) None true
-    ∷ opening_as 2 Passive (number_before passive) (Some active) true
-    ∷ opening_as 3 Active active (Some passive) false
-    ∷ []
+abbrev pub opening_by : ℕ → ℕ → Handshake
+opening_by active passive = record {
+  syn = opening_as 1 Active (number_before active) None true;
+  answer = opening_as 2 Passive (number_before passive) (Some active) true;
+  acknowledgement = opening_as 3 Active active (Some passive) false;
+}

@@ -43,7 +43,7 @@ impl Model for Gathering {
 impl Gathering {
     ghost use Rattle.std.specs.Int.{IsPowerOfTwo};
     ghost use Rattle.std.specs.Prelude.{◌≡◌, ◌≤◌, ◌↔◌, [], true, false, None, IfOk, IfSome, IsTrue, OnOk, OnErr, length};
-    ghost use Rattle.hsms_joined.specs.Gathering.{AreBeginnings, AreSilent, AreSure, Gathers, IsDue, IsFull};
+    ghost use Rattle.hsms_joined.specs.Gathering.{AreBeginnings, AreSilent, AreSure, AreUnsure, Gathers, IsDue, IsFull};
 
     /// No packet.
     pub fn new(alloc: Global) -> Gathering
@@ -118,7 +118,7 @@ impl Gathering {
         requires { session.depth ≤ 100 }
         ensures begin { IfOk result (λ found. IfSome found (AreBeginnings session self.now)) }
         ensures sure { IfOk result (λ found. is_last ≡ false → IfSome found AreSure) }
-        ensures none { IfOk result (λ found. found ≡ None → is_last ≡ false) }
+        ensures none { IfOk result (λ found. found ≡ None → (is_last ≡ false) × AreUnsure session self.now) }
     {
         let active = begun_of(alloc, session, &self.packets, Side::Active)?;
         let passive = begun_of(alloc, session, &self.packets, Side::Passive)?;

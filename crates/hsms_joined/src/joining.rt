@@ -1,7 +1,7 @@
 //! The packets of a session, as those of a connection whose SYNs stand before the places at which its directions begin.
 
 ghost use Rattle.std.specs.Prelude.{◌≡◌, ◌&&◌, ◌||◌, IfNone, IfSome, false};
-ghost use Rattle.hsms_joined.specs.Joining.{AreOpening, IsStart, has_both, opening_as, segment_by, shows};
+ghost use Rattle.hsms_joined.specs.Joining.{IsStart, has_both, opening_as, opening_by, segment_by, shows};
 
 use crate::gathered::Gathered;
 use crate::numbers::{is_from, number_behind, number_from, reaches};
@@ -85,9 +85,21 @@ pub fn segment_from(begin: u32, segment: Segment, length: usize) -> Segment
     }
 }
 
-/// The three segments by which a connection comes up whose directions begin at these numbers.
-pub fn opening(active: u32, passive: u32) -> [Segment; 3]
-    ensures { AreOpening active passive result }
+/// The three segments by which a connection comes up (RFC 9293, section 3.5).
+#[derive(Clone, Copy)]
+pub struct Handshake {
+    /// The SYN of the active end.
+    pub syn: Segment,
+    /// The SYN of the passive end, which acknowledges it.
+    pub answer: Segment,
+    /// The active end's ACK of that.
+    pub acknowledgement: Segment,
+}
+
+/// The three segments by which a connection comes up (RFC 9293, section 3.5), whose directions begin at these
+/// numbers.
+pub fn opening(active: u32, passive: u32) -> Handshake
+    ensures { result ≡ opening_by active passive }
 {
     let syn = opening_segment(1, Side::Active, active.wrapping_sub(1), None, true);
     let answer = opening_segment(
@@ -98,7 +110,11 @@ pub fn opening(active: u32, passive: u32) -> [Segment; 3]
         true,
     );
     let acknowledgement = opening_segment(3, Side::Active, active, Some(passive), false);
-    [syn, answer, acknowledgement]
+    Handshake {
+        syn,
+        answer,
+        acknowledgement,
+    }
 }
 
 // One of them.

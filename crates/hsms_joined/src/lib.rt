@@ -27,7 +27,7 @@ pub use beginning::{Beginning, begins, begins_at_end};
 pub use front::header_at;
 pub use gathered::{Begun, Gathered};
 pub use gathering::{Beginnings, Gathering};
-pub use joining::{opening, segment_from, start_of};
+pub use joining::{Handshake, opening, segment_from, start_of};
 pub use numbers::{is_from, octets_before, reaches};
 pub use requests::Requests;
 pub use session::Session;

@@ -20,28 +20,30 @@ use Rattle.hsms_wire.specs.declared.joined.Joined.{Joined}
 use Rattle.hsms_wire.specs.declared.report.Manner.TheVariants.{Log, Verdicts}
 use Rattle.hsms_wire.specs.declared.report.Report.{Report}
 use Rattle.hsms_wire.specs.declared.shortfall.Shortfall.{Shortfall}
-use Rattle.hsms_wire.specs.Dealt.{Way, to_log, to_verdicts}
+use Rattle.hsms_wire.specs.Way.{IsReport, Way, to_log, to_verdicts}
 use Rattle.hsms_wire.specs.Followed.{Replaces, TellsOnce, WhenTold}
 use Rattle.hsms_wire.specs.Items.{AreItems, EndsHadItems, EndsHaveItems, HaveItems, Item, LogsItems, TakesItems, goes_down, time_behind, with_item}
 use Rattle.hsms_wire.specs.Joined.{IsTelling, LogsMore, Settles, ends_if, most_by, terms_by}
-use Rattle.hsms_wire.specs.Kept.{IsReport}
 use Rattle.hsms_wire.specs.Logged.{TellsIf, is_there}
 use Rattle.hsms_wire.specs.Paged.{CountsIf, GoesDown, page_of, with_down}
 use Rattle.hsms_wire.specs.Report.{HasTold, Telling}
 use Rattle.hsms_wire.specs.Session.{EndsSession, FinishesAs, JudgedItems, ReplacedAs, ShownItems, TellsItems, and_down}
-use Rattle.hsms_wire.specs.Supposing.{Before, Terms, before_of, if_told, items_of, session_items, supposed_items, sure_log, tells_some, whole_log}
+use Rattle.hsms_wire.specs.Supposing.{Before, Terms, before_of, behind_front, if_told, items_of, session_items, supposed_items, sure_log, tells_some, whole_log}
 use Rattle.hsms_wire.proofs.Paging.{same_page}
 use Rattle.hsms_wire.proofs.Supposing.{items_all}
 use Rattle.hsms_wire.proofs.Taking.{logs_then, takes_nothing}
 
 -- ---- a log has something where a message is told
 
-log_there : (t : Terms) (b : Before) (hs : List Happening) → is_there (session_items t b hs) ≡ tells_some (items_of t b hs)
-log_there t b hs = by_told (tells_some (items_of t b hs))
+pub front_there : (t : Terms) (b : Before) (xs : List Item) → is_there (behind_front (supposed_items b t.begun) xs) ≡ tells_some xs
+front_there t b xs = by_told (tells_some xs)
   where
-    by_told : (x : Bool) → is_there (if_told x (supposed_items b t.begun) (items_of t b hs)) ≡ x
+    by_told : (x : Bool) → is_there (if_told x (supposed_items b t.begun) xs) ≡ x
     by_told true = refl
     by_told false = refl
+
+log_there : (t : Terms) (b : Before) (hs : List Happening) → is_there (session_items t b hs) ≡ tells_some (items_of t b hs)
+log_there t b hs = front_there t b (items_of t b hs)
 
 telling_there : (how : Way) (a p : Parameters) (start : Start) (b : Before) (hs : List Happening) (j : Joined) → IsTelling how a p start b hs j
     → is_there (session_items (terms_by how a start) b hs) ≡ j.is_up

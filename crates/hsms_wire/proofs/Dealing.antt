@@ -24,19 +24,22 @@ use Rattle.hsms_wire.specs.declared.report.Report.{Report}
 use Rattle.hsms_wire.specs.declared.shortfall.Shortfall.{Shortfall}
 use Rattle.hsms_wire.specs.declared.table.Capture.{Capture}
 use Rattle.hsms_wire.specs.declared.table.Table.{Table}
-use Rattle.hsms_wire.specs.Connections.{Connection, Connections, Deals, DealsBy, DealsOf, DealsPacket, EndsAll, EndsAs, EndsWith, Goes, GoesAs, GoesToLog, GoesToVerdicts, GoesBy, GoesOn, Has, IsGone, IsOpen, IsOpenStill, IsReplaced, NothingIsLeft, Starts, StartsAny, StartsOne, connection_of, has_one, pair_in, starting, without}
+use Rattle.hsms_wire.specs.Connections.{Connection, Connections, Deals, DealsBy, DealsOf, DealsPacket, EndsAll, EndsAs, EndsWith, Goes, GoesAs, GoesOfSyn, GoesToLog, GoesToVerdicts, GoesBy, GoesOn, Has, IsGone, IsOpen, IsOpenStill, IsReplaced, NothingIsLeft, Packets, Starts, StartsAny, StartsOne, connection_of, has_one, gathered, of_session, of_syn, pair_in, starting, without}
 use Rattle.hsms_wire.specs.Followed.{seen_waiting}
-use Rattle.hsms_wire.specs.Kept.{AreSame, captured_of, IsOne, IsReport, IsTable, StageStands, TakesAsDealt, TellsTo, UpTo}
-use Rattle.hsms_wire.specs.Dealt.{Way, to_log, to_verdicts}
+use Rattle.hsms_wire.specs.Joining.{EndsJoined, TakesJoined, brought}
+use Rattle.hsms_wire.specs.Kept.{AreSame, captured_of, IsFollowedAs, IsOne, IsTable, StageStands, TakesAsDealt, UpTo}
+use Rattle.hsms_wire.specs.Way.{IsReport, TellsTo, Way, to_log, to_verdicts}
 use Rattle.hsms_wire.specs.Paged.{EndsStageOnPage, LogsTo, Page, StageOnPage, TakesOnPage, TellsWith}
 use Rattle.hsms_wire.specs.Report.{Tells}
-use Rattle.hsms_wire.specs.Staged.{EndsBy, EndsStage, IsBegun, IsForgotten, IsIdle, StageGoes, TakesStage, answered_by, first_shown}
+use Rattle.hsms_wire.specs.Running.{Brought, seen_brought}
+use Rattle.hsms_wire.specs.Staged.{EndsBy, EndsStage, IsBegun, IsForgotten, IsIdle, StageAs, StageGoes, TakesStage, answered_by, first_shown}
 use Rattle.hsms_wire.specs.Segments.{has_flow as has_flow_of, pair_among, pair_at}
 use Rattle.hsms_wire.proofs.Connections.{tells_more}
 use Rattle.hsms_wire.proofs.Paging.{page_more}
+use Rattle.hsms_wire.proofs.SessionDealt.{kept_ends, kept_takes, rise_later, running_ends, running_takes}
 use Rattle.hsms_wire.proofs.Staging.{to_nothing}
 use Rattle.hsms_wire.proofs.Stages.{answered_kept}
-use Rattle.hsms_wire.specs.Tabled.{Begins, BeginsFlow, BeginsWith, EndsBefore, EndsFlows, FollowsBy, FollowsFlow, HasFlow, IsFollowed, KeepsIf, KeepsOf, LeavesOut, LooksAt, ReplacesFlow, TakesBy, TakesIt, TakesOf, TakesPacket, flow_of, is_live, seen_by}
+use Rattle.hsms_wire.specs.Tabled.{Begins, BeginsFlow, BeginsWith, EndsBefore, EndsFlows, FollowsBy, FollowsFlow, HasFlow, IsFollowed, KeepsIf, KeepsOf, LeavesOut, LooksAt, ReplacesFlow, TakesBy, TakesIt, TakesOf, TakesPacket, flow_of, is_live, brought_by}
 
 -- ---- numbers of packets
 
@@ -56,7 +59,12 @@ pub up_numbered : (first last : ℕ) (ss : List Seen) → UpTo first last ss →
 up_numbered first last [] up = tt
 up_numbered first last (x ∷ ss) up = (up.0, up_numbered x.packet last ss up.1)
 
--- ---- one that is kept
+-- ---- one that begins with a SYN
+
+-- its packets wait, or it is followed; or it was told
+abbrev pub SynStands : Way → Parameters → Parameters → ℕ → ℕ → Option (List Seen) → Stage → Type 0
+SynStands how a p last number None st = st ≡ stage.Over
+SynStands how a p last number (Some seen) st = StageAs (IsFollowedAs how a p) number seen st × UpTo 0 last seen
 
 -- no SYN of the passive end was there before where none is with one packet more
 unanswered : (number : ℕ) (seen : List Seen) (s : Seen) → answered_by number (seen ++ s ∷ []) ≡ None → answered_by number seen ≡ None
@@ -69,7 +77,7 @@ unanswered number seen s none = by_answer (answered_by number seen) refl
 -- one packet more, where verdicts are told
 stage_goes : (a p : Parameters) (pair : Pair) (number : ℕ) (s : Seen) (seen : List Seen) (next : Stage) (old new : Report)
     → StageGoes a p pair number (seen ++ s ∷ []) next old new → UpTo 0 s.packet (seen ++ s ∷ [])
-    → (packets : Option (List Seen)) × GoesToVerdicts a p pair number seen s packets old new × StageStands to_verdicts a p s.packet number packets next
+    → (packets : Option (List Seen)) × GoesToVerdicts a p pair number seen s packets old new × SynStands to_verdicts a p s.packet number packets next
 stage_goes a p pair number s seen (stage.Opening w) old new goes up =
     let all = seen ++ s ∷ [] in
     (Some all, (refl, goes.0, subst (λ (m : Option ℕ). IsOpenStill m a number all) (sym goes.1.1) goes.1.2), (goes.1, up))
@@ -87,7 +95,7 @@ LogOf j = to_log j.settings j.side
 
 page_goes : (j : Journal) (a p : Parameters) (pair : Pair) (number : ℕ) (s : Seen) (seen : List Seen) (next : Stage) (old new : Report) → old.manner ≡ Log j
     → StageOnPage j pair number seen s next old new → UpTo 0 s.packet (seen ++ s ∷ [])
-    → (packets : Option (List Seen)) × GoesToLog j pair number seen s packets old new × StageStands (LogOf j) a p s.packet number packets next
+    → (packets : Option (List Seen)) × GoesToLog j pair number seen s packets old new × SynStands (LogOf j) a p s.packet number packets next
 page_goes j a p pair number s seen (stage.Opening w) old new log goes up =
     let all = seen ++ s ∷ [] in
     let none_before : answered_by number seen ≡ None = unanswered number seen s goes.1.1 in
@@ -105,10 +113,10 @@ page_goes j a p pair number s seen (stage.Within w) old new log goes up = absurd
 page_goes j a p pair number s seen stage.Over old new log goes up = (None, goes, refl)
 
 verdicts_take : (pair : Pair) (number last : ℕ) (s : Seen) (seen : List Seen) (st next : Stage) (begins : Option ℕ) (old new : Report)
-    → old.manner ≡ Verdicts → begins ≡ Some number → last < s.packet → StageStands to_verdicts old.active old.passive last number (Some seen) st
+    → old.manner ≡ Verdicts → begins ≡ Some number → last < s.packet → SynStands to_verdicts old.active old.passive last number (Some seen) st
     → TakesStage pair begins s st next old new
     → (all : Option (List Seen)) × GoesToVerdicts old.active old.passive pair number seen s all old new
-    × StageStands to_verdicts old.active old.passive s.packet number all next
+    × SynStands to_verdicts old.active old.passive s.packet number all next
 verdicts_take pair number last s seen (stage.Opening w) next begins old new verdicts is past stands takes =
     stage_goes old.active old.passive pair number s seen next old new
     (takes verdicts number is seen (up_more 0 last seen s stands.1 past) stands.0) (up_to 0 last seen s stands.1 past)
@@ -120,36 +128,33 @@ verdicts_take pair number last s seen (stage.Within w) next begins old new verdi
 verdicts_take pair number last s seen stage.Over next begins old new verdicts is past stands takes = absurd stands.0
 
 page_take : (j : Journal) (pair : Pair) (number last : ℕ) (s : Seen) (seen : List Seen) (st next : Stage) (begins : Option ℕ) (old new : Report)
-    → old.manner ≡ Log j → begins ≡ Some number → last < s.packet → StageStands (LogOf j) old.active old.passive last number (Some seen) st
+    → old.manner ≡ Log j → begins ≡ Some number → last < s.packet → SynStands (LogOf j) old.active old.passive last number (Some seen) st
     → TakesOnPage pair begins s st next old new
-    → (all : Option (List Seen)) × GoesToLog j pair number seen s all old new × StageStands (LogOf j) old.active old.passive s.packet number all next
+    → (all : Option (List Seen)) × GoesToLog j pair number seen s all old new × SynStands (LogOf j) old.active old.passive s.packet number all next
 page_take j pair number last s seen st next begins old new log is past stands takes =
     page_goes j old.active old.passive pair number s seen next old new log
     (takes j log number is seen (up_more 0 last seen s stands.1 past) stands.0) (up_to 0 last seen s stands.1 past)
 
-stage_takes : (how : Way) (pair : Pair) (number last : ℕ) (s : Seen) (packets : Option (List Seen)) (st next : Stage) (begins : Option ℕ) (old new : Report)
-    → TellsTo how old.manner → begins ≡ Some number → last < s.packet → StageStands how old.active old.passive last number packets st
-    → TakesStage pair begins s st next old new × TakesOnPage pair begins s st next old new
-    → (all : Option (List Seen)) × Goes old.active old.passive pair number s packets all old new × StageStands how old.active old.passive s.packet number all next
-stage_takes how pair number last s None st next begins old new manner is past stands takes =
-    let goes = subst (λ (x : Stage). TakesStage pair begins s x next old new) stands takes.0 in
-    (None, (refl, goes.1), goes.0)
-stage_takes to_verdicts pair number last s (Some seen) st next begins old new manner is past stands takes =
-    let on = verdicts_take pair number last s seen st next begins old new manner is past stands takes.0 in
+syn_takes : (how : Way) (pair : Pair) (number last : ℕ) (s : Seen) (seen : List Seen) (st next : Stage) (begins : Option ℕ) (old new : Report)
+    → TellsTo how old.manner → begins ≡ Some number → last < s.packet → SynStands how old.active old.passive last number (Some seen) st
+    → TakesStage pair begins s st next old new → TakesOnPage pair begins s st next old new
+    → (all : Option (List Seen)) × GoesAs old.manner old.active old.passive pair number seen s all old new × SynStands how old.active old.passive s.packet number all next
+syn_takes to_verdicts pair number last s seen st next begins old new manner is past stands takes logs =
+    let on = verdicts_take pair number last s seen st next begins old new manner is past stands takes in
     (on.0, subst (λ (m : Manner). GoesAs m old.active old.passive pair number seen s on.0 old new) (sym manner) on.1, on.2)
-stage_takes (to_log settings side) pair number last s (Some seen) st next begins old new manner is past stands takes =
+syn_takes (to_log settings side) pair number last s seen st next begins old new manner is past stands takes logs =
     let j = manner.0 in
     let way : LogOf j ≡ to_log settings side = ap (λ (x : Parameters). to_log x j.side) manner.2 ∙ ap (to_log settings) manner.3 in
     let on = page_take j pair number last s seen st next begins old new manner.1 is past
-    (subst (λ (w : Way). StageStands w old.active old.passive last number (Some seen) st) (sym way) stands) takes.1 in (
+    (subst (λ (w : Way). SynStands w old.active old.passive last number (Some seen) st) (sym way) stands) logs in (
       on.0,
       subst (λ (m : Manner). GoesAs m old.active old.passive pair number seen s on.0 old new) (sym manner.1) on.1,
-      subst (λ (w : Way). StageStands w old.active old.passive s.packet number on.0 next) way on.2,
+      subst (λ (w : Way). SynStands w old.active old.passive s.packet number on.0 next) way on.2,
     )
 
 -- no packet follows
 verdicts_end : (pair : Pair) (number last : ℕ) (replaced : Bool) (missing : Option Shortfall) (seen : List Seen) (st : Stage) (old new : Report)
-    → old.manner ≡ Verdicts → StageStands to_verdicts old.active old.passive last number (Some seen) st → EndsStage pair replaced missing st old new
+    → old.manner ≡ Verdicts → SynStands to_verdicts old.active old.passive last number (Some seen) st → EndsStage pair replaced missing st old new
     → EndsBy (answered_by number seen) old.active old.passive pair number seen replaced missing old new
 verdicts_end pair number last replaced missing seen (stage.Opening w) old new verdicts stands ends =
     ends verdicts number seen (up_numbered 0 last seen stands.1) stands.0
@@ -159,84 +164,153 @@ verdicts_end pair number last replaced missing seen (stage.Joining g) old new ve
 verdicts_end pair number last replaced missing seen (stage.Within w) old new verdicts stands ends = absurd stands.0
 verdicts_end pair number last replaced missing seen stage.Over old new verdicts stands ends = absurd stands.0
 
-stage_ends : (how : Way) (pair : Pair) (number last : ℕ) (replaced : Bool) (missing : Option Shortfall) (packets : Option (List Seen)) (st : Stage) (old new : Report)
-    → TellsTo how old.manner → StageStands how old.active old.passive last number packets st
-    → EndsStage pair replaced missing st old new × EndsStageOnPage replaced missing st old new
-    → EndsWith old.active old.passive pair replaced missing number packets old new
-stage_ends how pair number last replaced missing None st old new manner stands ends =
-    subst (λ (x : Stage). EndsStage pair replaced missing x old new) stands ends.0
-stage_ends to_verdicts pair number last replaced missing (Some seen) st old new manner stands ends =
+syn_ends : (how : Way) (pair : Pair) (number last : ℕ) (replaced : Bool) (missing : Option Shortfall) (seen : List Seen) (st : Stage) (old new : Report)
+    → TellsTo how old.manner → SynStands how old.active old.passive last number (Some seen) st → EndsStage pair replaced missing st old new
+    → EndsStageOnPage replaced missing st old new → EndsAs old.manner old.active old.passive pair replaced missing number seen old new
+syn_ends to_verdicts pair number last replaced missing seen st old new manner stands ends logs =
     subst (λ (m : Manner). EndsAs m old.active old.passive pair replaced missing number seen old new) (sym manner)
-    (verdicts_end pair number last replaced missing seen st old new manner stands ends.0)
-stage_ends (to_log settings side) pair number last replaced missing (Some seen) st old new manner stands ends =
+    (verdicts_end pair number last replaced missing seen st old new manner stands ends)
+syn_ends (to_log settings side) pair number last replaced missing seen st old new manner stands ends logs =
     let j = manner.0 in
     let way : LogOf j ≡ to_log settings side = ap (λ (x : Parameters). to_log x j.side) manner.2 ∙ ap (to_log settings) manner.3 in
-    let here = subst (λ (w : Way). StageStands w old.active old.passive last number (Some seen) st) (sym way) stands in
+    let here = subst (λ (w : Way). SynStands w old.active old.passive last number (Some seen) st) (sym way) stands in
     subst (λ (m : Manner). EndsAs m old.active old.passive pair replaced missing number seen old new) (sym manner.1)
-    (ends.1 j manner.1 number seen (up_numbered 0 last seen here.1) here.0)
+    (logs j manner.1 number seen (up_numbered 0 last seen here.1) here.0)
+
+-- ---- any one that is kept
+
+abbrev with_number : ℕ → Option (List Seen) → Option Packets
+with_number number None = None
+with_number number (Some seen) = Some (of_syn number seen)
+
+syn_goes : (a p : Parameters) (pair : Pair) (number : ℕ) (seen : List Seen) (s : Seen) (all : Option (List Seen)) (old new : Report)
+    → GoesAs old.manner a p pair number seen s all old new → GoesOfSyn a p pair number seen s (with_number number all) old new
+syn_goes a p pair number seen s None old new goes = goes
+syn_goes a p pair number seen s (Some all) old new goes = (refl, goes)
+
+syn_stands : (how : Way) (a p : Parameters) (last number : ℕ) (syn : Option ℕ) (all : Option (List Seen)) (st : Stage) → syn ≡ Some number → SynStands how a p last number all st
+    → StageStands how a p last syn (with_number number all) st
+syn_stands how a p last number syn None st is stands = stands
+syn_stands how a p last number syn (Some all) st is stands = (is, stands.0, stands.1)
+
+stage_takes : (how : Way) (pair : Pair) (syn : Option ℕ) (last : ℕ) (g : Brought) (packets : Option Packets) (st next : Stage) (begins : Option ℕ) (old new : Report)
+    → TellsTo how old.manner → begins ≡ syn → last < g.segment.packet → g.segment.packet + 3 < 2 ^ 64 → StageStands how old.active old.passive last syn packets st
+    → TakesStage pair begins (seen_brought g) st next old new → TakesOnPage pair begins (seen_brought g) st next old new
+    → TakesJoined pair g.segment g.octets st next old new
+    → (all : Option Packets) × Goes old.active old.passive pair g packets all old new × StageStands how old.active old.passive g.segment.packet syn all next
+stage_takes how pair syn last g None st next begins old new manner is past few stands takes logs joined =
+    let goes = subst (λ (x : Stage). TakesStage pair begins (seen_brought g) x next old new) stands takes in
+    (None, (refl, goes.1), goes.0)
+stage_takes how pair syn last g (Some (of_syn number seen)) st next begins old new manner is past few stands takes logs joined =
+    let s = seen_brought g in
+    let on = syn_takes how pair number last s seen st next begins old new manner (is ∙ stands.0) past (stands.1, stands.2) takes logs in (
+      with_number number on.0,
+      syn_goes old.active old.passive pair number seen s on.0 old new on.1,
+      syn_stands how old.active old.passive g.segment.packet number syn on.0 next stands.0 on.2,
+    )
+stage_takes how pair syn last g (Some (gathered gs)) st next begins old new manner is past few stands takes logs joined =
+    kept_takes how pair syn last g gs next old new manner past few stands.1
+    (subst (λ (x : Stage). TakesJoined pair g.segment g.octets x next old new) stands.0 joined)
+stage_takes how pair syn last g (Some (of_session s)) st next begins old new manner is past few stands takes logs joined =
+    running_takes how pair syn last s g stands.0 next old new manner past few stands.2 stands.3 stands.4 stands.5
+    (subst (λ (x : Stage). TakesJoined pair g.segment g.octets x next old new) stands.1 joined)
+
+-- no packet follows
+stage_ends : (how : Way) (pair : Pair) (syn : Option ℕ) (last : ℕ) (replaced : Bool) (missing : Option Shortfall) (packets : Option Packets) (st : Stage) (old new : Report)
+    → TellsTo how old.manner → last + 3 < 2 ^ 64 → StageStands how old.active old.passive last syn packets st → EndsStage pair replaced missing st old new
+    → EndsStageOnPage replaced missing st old new → EndsJoined pair replaced missing st old new
+    → EndsWith old.active old.passive pair replaced missing packets old new
+stage_ends how pair syn last replaced missing None st old new manner few stands ends logs joined =
+    subst (λ (x : Stage). EndsStage pair replaced missing x old new) stands ends
+stage_ends how pair syn last replaced missing (Some (of_syn number seen)) st old new manner few stands ends logs joined =
+    syn_ends how pair number last replaced missing seen st old new manner (stands.1, stands.2) ends logs
+stage_ends how pair syn last replaced missing (Some (gathered gs)) st old new manner few stands ends logs joined =
+    kept_ends how pair replaced missing last gs old new manner few stands.1 (subst (λ (x : Stage). EndsJoined pair replaced missing x old new) stands.0 joined)
+stage_ends how pair syn last replaced missing (Some (of_session s)) st old new manner few stands ends logs joined =
+    running_ends how pair replaced missing last s stands.0 old new manner few stands.2 stands.3 stands.4 stands.5
+    (subst (λ (x : Stage). EndsJoined pair replaced missing x old new) stands.1 joined)
 
 -- nothing is left to be told of it
-idle_left : (how : Way) (a p : Parameters) (last number : ℕ) (packets : Option (List Seen)) (st : Stage) → StageStands how a p last number packets st → IsIdle st
-    → NothingIsLeft number packets
-idle_left how a p last number None st stands idle = tt
-idle_left how a p last number (Some seen) (stage.Opening w) stands idle =
-    (stands.0.1, subst (λ (ss : List Seen). is_some (first_shown ss) ≡ false) stands.0.0 idle)
-idle_left how a p last number (Some seen) (stage.Open o) stands idle = absurd idle
-idle_left how a p last number (Some seen) (stage.Joining g) stands idle = absurd stands.0
-idle_left how a p last number (Some seen) (stage.Within w) stands idle = absurd idle
-idle_left how a p last number (Some seen) stage.Over stands idle = absurd stands.0
+syn_left : (how : Way) (a p : Parameters) (last number : ℕ) (seen : List Seen) (st : Stage) → StageAs (IsFollowedAs how a p) number seen st → IsIdle st
+    → NothingIsLeft (Some (of_syn number seen))
+syn_left how a p last number seen (stage.Opening w) stands idle =
+    (stands.1, subst (λ (ss : List Seen). is_some (first_shown ss) ≡ false) stands.0 idle)
+syn_left how a p last number seen (stage.Open o) stands idle = absurd idle
+syn_left how a p last number seen (stage.Joining g) stands idle = absurd stands
+syn_left how a p last number seen (stage.Within w) stands idle = absurd idle
+syn_left how a p last number seen stage.Over stands idle = absurd stands
 
-left_idle : (how : Way) (a p : Parameters) (last number : ℕ) (packets : Option (List Seen)) (st : Stage) → StageStands how a p last number packets st
-    → NothingIsLeft number packets → IsIdle st
-left_idle how a p last number None st stands left = subst IsIdle (sym stands) tt
-left_idle how a p last number (Some seen) (stage.Opening w) stands left =
-    subst (λ (ss : List Seen). is_some (first_shown ss) ≡ false) (sym stands.0.0) left.1
-left_idle how a p last number (Some seen) (stage.Open o) stands left = absurd (none_some (sym left.0 ∙ stands.0.1))
+idle_left : (how : Way) (a p : Parameters) (last : ℕ) (syn : Option ℕ) (packets : Option Packets) (st : Stage) → StageStands how a p last syn packets st → IsIdle st
+    → NothingIsLeft packets
+idle_left how a p last syn None st stands idle = tt
+idle_left how a p last syn (Some (of_syn number seen)) st stands idle = syn_left how a p last number seen st stands.1 idle
+idle_left how a p last syn (Some (gathered gs)) st stands idle = subst IsIdle stands.0 idle
+idle_left how a p last syn (Some (of_session s)) st stands idle = subst IsIdle stands.1 idle
+
+syn_idle : (how : Way) (a p : Parameters) (last number : ℕ) (seen : List Seen) (st : Stage) → StageAs (IsFollowedAs how a p) number seen st
+    → NothingIsLeft (Some (of_syn number seen)) → IsIdle st
+syn_idle how a p last number seen (stage.Opening w) stands left = subst (λ (ss : List Seen). is_some (first_shown ss) ≡ false) (sym stands.0) left.1
+syn_idle how a p last number seen (stage.Open o) stands left = absurd (none_some (sym left.0 ∙ stands.1))
   where
-    none_some : ◌≡◌ {A = Option ℕ} None (Some stands.0.0) → ⊥
+    none_some : ◌≡◌ {A = Option ℕ} None (Some stands.0) → ⊥
     none_some is = cc
-left_idle how a p last number (Some seen) (stage.Joining g) stands left = absurd stands.0
-left_idle how a p last number (Some seen) (stage.Within w) stands left = absurd stands.0
-left_idle how a p last number (Some seen) stage.Over stands left = absurd stands.0
+syn_idle how a p last number seen (stage.Joining g) stands left = absurd stands
+syn_idle how a p last number seen (stage.Within w) stands left = absurd stands
+syn_idle how a p last number seen stage.Over stands left = absurd stands
+
+left_idle : (how : Way) (a p : Parameters) (last : ℕ) (syn : Option ℕ) (packets : Option Packets) (st : Stage) → StageStands how a p last syn packets st
+    → NothingIsLeft packets → IsIdle st
+left_idle how a p last syn None st stands left = subst IsIdle (sym stands) tt
+left_idle how a p last syn (Some (of_syn number seen)) st stands left = syn_idle how a p last number seen st stands.1 left
+left_idle how a p last syn (Some (gathered gs)) st stands left = subst IsIdle (sym stands.0) left
+left_idle how a p last syn (Some (of_session s)) st stands left = absurd left
 
 -- more may be told of it
-live_some : (how : Way) (a p : Parameters) (last number : ℕ) (packets : Option (List Seen)) (st : Stage) → StageStands how a p last number packets st → is_live st ≡ true
+live_some : (how : Way) (a p : Parameters) (last : ℕ) (syn : Option ℕ) (packets : Option Packets) (st : Stage) → StageStands how a p last syn packets st → is_live st ≡ true
     → is_some packets ≡ true
-live_some how a p last number None st stands live = absurd (never (sym (ap is_live stands) ∙ live))
+live_some how a p last syn None st stands live = absurd (never (sym (ap is_live stands) ∙ live))
   where
     never : false ≡ true → ⊥
     never is = cc
-live_some how a p last number (Some seen) st stands live = refl
+live_some how a p last syn (Some packets) st stands live = refl
 
-some_live : (how : Way) (a p : Parameters) (last number : ℕ) (packets : Option (List Seen)) (st : Stage) → StageStands how a p last number packets st
+syn_live : (how : Way) (a p : Parameters) (number : ℕ) (seen : List Seen) (st : Stage) → StageAs (IsFollowedAs how a p) number seen st → is_live st ≡ true
+syn_live how a p number seen (stage.Opening w) stands = refl
+syn_live how a p number seen (stage.Open o) stands = refl
+syn_live how a p number seen (stage.Joining g) stands = refl
+syn_live how a p number seen (stage.Within w) stands = refl
+syn_live how a p number seen stage.Over stands = absurd stands
+
+some_live : (how : Way) (a p : Parameters) (last : ℕ) (syn : Option ℕ) (packets : Option Packets) (st : Stage) → StageStands how a p last syn packets st
     → is_some packets ≡ true → is_live st ≡ true
-some_live how a p last number None st stands some = absurd cc
-some_live how a p last number (Some seen) (stage.Opening w) stands some = refl
-some_live how a p last number (Some seen) (stage.Open o) stands some = refl
-some_live how a p last number (Some seen) (stage.Joining g) stands some = refl
-some_live how a p last number (Some seen) (stage.Within w) stands some = refl
-some_live how a p last number (Some seen) stage.Over stands some = absurd stands.0
+some_live how a p last syn None st stands some = absurd cc
+some_live how a p last syn (Some (of_syn number seen)) st stands some = syn_live how a p number seen st stands.1
+some_live how a p last syn (Some (gathered gs)) st stands some = ap is_live stands.0
+some_live how a p last syn (Some (of_session s)) st stands some = ap is_live stands.1
 
 forgotten_gone : (how : Way) (a p : Parameters) (last begun : ℕ) (flow : Flow) (one : Connection) → IsOne how a p last flow one → IsForgotten flow begun → IsGone one begun
 forgotten_gone how a p last begun flow one is forgotten =
-    (idle_left how a p last one.number one.packets flow.stage is.stands forgotten.0, subst (λ (n : ℕ). n + 4096 < begun) is.born forgotten.1)
+    (idle_left how a p last one.syn one.packets flow.stage is.stands forgotten.0, subst (λ (n : ℕ). n + 4096 < begun) is.born forgotten.1)
 
 gone_forgotten : (how : Way) (a p : Parameters) (last begun : ℕ) (flow : Flow) (one : Connection) → IsOne how a p last flow one → IsGone one begun → IsForgotten flow begun
 gone_forgotten how a p last begun flow one is gone =
-    (left_idle how a p last one.number one.packets flow.stage is.stands gone.0, subst (λ (n : ℕ). n + 4096 < begun) (sym is.born) gone.1)
+    (left_idle how a p last one.syn one.packets flow.stage is.stands gone.0, subst (λ (n : ℕ). n + 4096 < begun) (sym is.born) gone.1)
 
 -- ---- all that are kept
 
-stands_later : (how : Way) (a p : Parameters) (last later number : ℕ) (packets : Option (List Seen)) (st : Stage) → last ≤ later
-    → StageStands how a p last number packets st → StageStands how a p later number packets st
-stands_later how a p last later number None st past stands = stands
-stands_later how a p last later number (Some seen) st past stands = (stands.0, up_later 0 last later seen stands.1 past)
+stands_later : (how : Way) (a p : Parameters) (last later : ℕ) (syn : Option ℕ) (packets : Option Packets) (st : Stage) → last ≤ later
+    → StageStands how a p last syn packets st → StageStands how a p later syn packets st
+stands_later how a p last later syn None st past stands = stands
+stands_later how a p last later syn (Some (of_syn number seen)) st past stands = (stands.0, stands.1, up_later 0 last later seen stands.2 past)
+stands_later how a p last later syn (Some (gathered gs)) st past stands = (stands.0, rise_later 0 last later (map brought gs) stands.1 past)
+stands_later how a p last later syn (Some (of_session s)) st past stands =
+    (stands.0, stands.1, stands.2, stands.3, stands.4, rise_later 0 last later s.packets stands.5 past)
 
 is_later : (how : Way) (a p : Parameters) (last later : ℕ) (flow : Flow) (one : Connection) → last ≤ later → IsOne how a p last flow one → IsOne how a p later flow one
 is_later how a p last later flow one past is = record {
   syn = is.syn;
   born = is.born;
-  stands = stands_later how a p last later one.number one.packets flow.stage past is.stands;
+  stands = stands_later how a p last later one.syn one.packets flow.stage past is.stands;
 }
 
 same_later : (how : Way) (a p : Parameters) (last later : ℕ) (flows : List (Pair × Flow)) (ones : List (Pair × Connection)) → last ≤ later
@@ -350,11 +424,12 @@ report_then (to_log settings side) a p old new is tells =
 
 -- only the connections change
 moved : (port : ℕ) (peer : Option IpAddr) (how : Way) (a p : Parameters) (last later : ℕ) (old new : Table) (all next : Connections) → IsTable port peer how a p last old all
-    → new ≡ record old { flows = new.flows } → next.begun ≡ all.begun → AreSame how a p later new.flows.entries next.known → IsTable port peer how a p later new next
-moved port peer how a p last later old new all next is only count same = record {
+    → new ≡ record old { flows = new.flows } → next.begun ≡ all.begun → next.joined ≡ all.joined → later + 3 < 2 ^ 64 → AreSame how a p later new.flows.entries next.known → IsTable port peer how a p later new next
+moved port peer how a p last later old new all next is only count joins few same = record {
   port_is = ap (λ (t : Table). t.port) only ∙ is.port_is;
   peer_is = ap (λ (t : Table). t.peer) only ∙ is.peer_is;
-  joined = ap (λ (t : Table). t.is_joined) only ∙ is.joined;
+  joined = joins ∙ is.joined ∙ sym (ap (λ (t : Table). t.is_joined) only);
+  bound = few;
   begun = count ∙ is.begun ∙ sym (ap (λ (t : Table). t.begun) only);
   same = same;
 }
@@ -395,62 +470,67 @@ flow_has port peer how a p last table all pair IsSo Is is so has =
 
 -- ---- a packet of a pair
 
-follows_by : (port : ℕ) (peer : Option IpAddr) (how : Way) (last : ℕ) (pair : Pair) (s : Seen) (old new : Table) (before after : Report) (all : Connections) (f : Option Flow) (c : Option Connection)
-    → TellsTo how before.manner → IsTable port peer how before.active before.passive last old all → last < s.packet → AreBoth how before.active before.passive last f c
-    → FollowsBy f pair s old new before after
-    → (next : Connections) × GoesBy c before.active before.passive pair s all next before after × IsTable port peer how before.active before.passive s.packet new next
-follows_by port peer how last pair s old new before after all None None manner is past both follows = (
+follows_by : (port : ℕ) (peer : Option IpAddr) (how : Way) (last : ℕ) (pair : Pair) (g : Brought) (old new : Table) (before after : Report) (all : Connections) (f : Option Flow) (c : Option Connection)
+    → TellsTo how before.manner → IsTable port peer how before.active before.passive last old all → last < g.segment.packet → g.segment.packet + 3 < 2 ^ 64
+    → AreBoth how before.active before.passive last f c → FollowsBy f pair g old new before after
+    → (next : Connections) × GoesBy c before.active before.passive pair g all next before after × IsTable port peer how before.active before.passive g.segment.packet new next
+follows_by port peer how last pair g old new before after all None None manner is past few both follows = (
   all,
   (refl, follows.1),
-  subst (λ (t : Table). IsTable port peer how before.active before.passive s.packet t all) (sym follows.0)
-      (moved port peer how before.active before.passive last s.packet old old all all is refl refl
-      (same_later how before.active before.passive last s.packet old.flows.entries all.known (omega arith) is.same)),
+  subst (λ (t : Table). IsTable port peer how before.active before.passive g.segment.packet t all) (sym follows.0)
+      (moved port peer how before.active before.passive last g.segment.packet old old all all is refl refl refl few
+      (same_later how before.active before.passive last g.segment.packet old.flows.entries all.known (omega arith) is.same)),
 )
-follows_by port peer how last pair s old new before after all None (Some one) manner is past both follows = absurd both
-follows_by port peer how last pair s old new before after all (Some flow) None manner is past both follows = absurd both
-follows_by port peer how last pair s old new before after all (Some flow) (Some one) manner is past both follows =
-    let goes = stage_takes how pair one.number last s one.packets flow.stage follows.0 flow.syn before after manner both.syn past both.stands (follows.3, follows.4) in
-    let then : IsOne how before.active before.passive s.packet (record flow { stage = follows.0 }) (record one { packets = goes.0 }) =
+follows_by port peer how last pair g old new before after all None (Some one) manner is past few both follows = absurd both
+follows_by port peer how last pair g old new before after all (Some flow) None manner is past few both follows = absurd both
+follows_by port peer how last pair g old new before after all (Some flow) (Some one) manner is past few both follows =
+    let goes = stage_takes how pair one.syn last g one.packets flow.stage follows.0 flow.syn before after manner both.syn past few both.stands follows.3 follows.4 follows.5 in
+    let then : IsOne how before.active before.passive g.segment.packet (record flow { stage = follows.0 }) (record one { packets = goes.0 }) =
     record { syn = both.syn; born = both.born; stands = goes.2 } in
     let known = set_value ((same_pair.ghosts).eq pair) all.known (record one { packets = goes.0 }) in (
       record all { known = known },
       (goes.0, refl, goes.1),
-      moved port peer how before.active before.passive last s.packet old new all (record all { known = known }) is follows.1 refl
-          (subst (λ (fs : List (Pair × Flow)). AreSame how before.active before.passive s.packet fs known) (sym follows.2.0)
-          (same_set how before.active before.passive s.packet ((same_pair.ghosts).eq pair) old.flows.entries all.known (record flow { stage = follows.0 })
+      moved port peer how before.active before.passive last g.segment.packet old new all (record all { known = known }) is follows.1 refl refl few
+          (subst (λ (fs : List (Pair × Flow)). AreSame how before.active before.passive g.segment.packet fs known) (sym follows.2.0)
+          (same_set how before.active before.passive g.segment.packet ((same_pair.ghosts).eq pair) old.flows.entries all.known (record flow { stage = follows.0 })
           (record one { packets = goes.0 })
-          (same_later how before.active before.passive last s.packet old.flows.entries all.known (omega arith) is.same) then)),
+          (same_later how before.active before.passive last g.segment.packet old.flows.entries all.known (omega arith) is.same) then)),
     )
 
-abbrev FollowsAs : ℕ → Option IpAddr → Way → ℕ → Pair → Seen → Table → Table → Report → Report → Connections → Parameters → Parameters → Type 0
-FollowsAs port peer how last pair s old new before after all a p =
+abbrev FollowsAs : ℕ → Option IpAddr → Way → ℕ → Pair → Brought → Table → Table → Report → Report → Connections → Parameters → Parameters → Type 0
+FollowsAs port peer how last pair g old new before after all a p =
     IsTable port peer how a p last old all
-    → (next : Connections) × GoesOn a p pair s all next before after × IsTable port peer how a p s.packet new next
+    → (next : Connections) × GoesOn a p pair g all next before after × IsTable port peer how a p g.segment.packet new next
 
-follows : (port : ℕ) (peer : Option IpAddr) (how : Way) (a p : Parameters) (last : ℕ) (pair : Pair) (s : Seen) (old new : Table) (before after : Report) (all : Connections)
-    → IsReport how a p before → last < s.packet → FollowsFlow pair s old new before after → FollowsAs port peer how last pair s old new before after all a p
-follows port peer how a p last pair s old new before after all report past goes =
-    subst (λ (x : Parameters). FollowsAs port peer how last pair s old new before after all a x) report.passive
-    (subst (λ (x : Parameters). FollowsAs port peer how last pair s old new before after all x before.passive) report.active
-    (λ is. follows_by port peer how last pair s old new before after all (flow_of old pair) (connection_of all pair) report.manner_is is past
+follows : (port : ℕ) (peer : Option IpAddr) (how : Way) (a p : Parameters) (last : ℕ) (pair : Pair) (g : Brought) (old new : Table) (before after : Report) (all : Connections)
+    → IsReport how a p before → last < g.segment.packet → g.segment.packet + 3 < 2 ^ 64 → FollowsFlow pair g old new before after → FollowsAs port peer how last pair g old new before after all a p
+follows port peer how a p last pair g old new before after all report past few goes =
+    subst (λ (x : Parameters). FollowsAs port peer how last pair g old new before after all a x) report.passive
+    (subst (λ (x : Parameters). FollowsAs port peer how last pair g old new before after all x before.passive) report.active
+    (λ is. follows_by port peer how last pair g old new before after all (flow_of old pair) (connection_of all pair) report.manner_is is past few
     (both_of port peer how before.active before.passive last old all pair is) goes))
 
 -- ---- one begins
 
 ends_before : (how : Way) (last : ℕ) (pair : Pair) (before after : Report) (f : Option Flow) (c : Option Connection) → TellsTo how before.manner
-    → AreBoth how before.active before.passive last f c → EndsBefore f pair before after → IsReplaced before.active before.passive pair c before after
-ends_before how last pair before after None None manner both ends = ends
-ends_before how last pair before after None (Some one) manner both ends = absurd both
-ends_before how last pair before after (Some flow) None manner both ends = absurd both
-ends_before how last pair before after (Some flow) (Some one) manner both ends =
-    stage_ends how pair one.number last true None one.packets flow.stage before after manner both.stands ends
+    → last + 3 < 2 ^ 64 → AreBoth how before.active before.passive last f c → EndsBefore f pair before after → IsReplaced before.active before.passive pair c before after
+ends_before how last pair before after None None manner few both ends = ends
+ends_before how last pair before after None (Some one) manner few both ends = absurd both
+ends_before how last pair before after (Some flow) None manner few both ends = absurd both
+ends_before how last pair before after (Some flow) (Some one) manner few both ends =
+    stage_ends how pair one.syn last true None one.packets flow.stage before after manner few both.stands ends.0 ends.1 ends.2
 
-begun_one : (how : Way) (a p : Parameters) (last number born : ℕ) (flow : Flow) → IsBegun (Some number) born flow → IsOne how a p last flow (starting number born)
-begun_one how a p last number born flow begun = record {
+begun_one : (how : Way) (a p : Parameters) (last born : ℕ) (syn : Option ℕ) (flow : Flow) → IsBegun syn born flow → IsOne how a p last flow (starting syn born)
+begun_one how a p last born (Some number) flow begun = record {
   syn = ap (λ (f : Flow). f.syn) begun.1;
   born = ap (λ (f : Flow). f.born) begun.1;
-  stands = subst (λ (st : Stage). StageStands how a p last number (Some []) st) (sym (ap (λ (f : Flow). f.stage) begun.1))
-      ((ap (λ (ws : List Waiting). map seen_waiting ws) begun.2, refl, omega arith), omega arith);
+  stands = subst (λ (st : Stage). StageStands how a p last (Some number) (Some (of_syn number [])) st) (sym (ap (λ (f : Flow). f.stage) begun.1))
+      (refl, (ap (λ (ws : List Waiting). map seen_waiting ws) begun.2, refl, omega arith), omega arith);
+}
+begun_one how a p last born None flow begun = record {
+  syn = ap (λ (f : Flow). f.syn) begun;
+  born = ap (λ (f : Flow). f.born) begun;
+  stands = (ap (λ (f : Flow). f.stage) begun, omega arith);
 }
 
 abbrev ReplacesAs : ℕ → Option IpAddr → Way → ℕ → Pair → Table → Table → Report → Report → Connections → Parameters → Parameters → Type 0
@@ -466,37 +546,39 @@ replaces port peer how a p last pair old new before after all report goes =
   where
     at_report : ReplacesAs port peer how last pair old new before after all before.active before.passive
     at_report is = (
-      ends_before how last pair before after (flow_of old pair) (connection_of all pair) report.manner_is
+      ends_before how last pair before after (flow_of old pair) (connection_of all pair) report.manner_is is.bound
           (both_of port peer how before.active before.passive last old all pair is) goes.ended,
-      moved port peer how before.active before.passive last last old new all (without pair all) is goes.same refl
+      moved port peer how before.active before.passive last last old new all (without pair all) is goes.same refl refl is.bound
           (subst (λ (fs : List (Pair × Flow)). AreSame how before.active before.passive last fs (without pair all).known) (sym goes.known)
           (same_removed how before.active before.passive last ((same_pair.ghosts).eq pair) old.flows.entries all.known is.same)),
     )
 
-pub begins : (port : ℕ) (peer : Option IpAddr) (how : Way) (a p : Parameters) (last : ℕ) (pair : Pair) (number : ℕ) (old new : Table) (before after : Report) (all : Connections)
-    → IsReport how a p before → BeginsFlow pair (Some number) old new before after → IsTable port peer how a p last old all
-    → (next : Connections) × StartsOne a p pair number all next before after × IsTable port peer how a p last new next
-begins port peer how a p last pair number old new before after all report goes is =
+pub begins : (port : ℕ) (peer : Option IpAddr) (how : Way) (a p : Parameters) (last : ℕ) (pair : Pair) (syn : Option ℕ) (old new : Table) (before after : Report) (all : Connections)
+    → IsReport how a p before → BeginsFlow pair syn old new before after → IsTable port peer how a p last old all
+    → (next : Connections) × StartsOne a p pair syn all next before after × IsTable port peer how a p last new next
+begins port peer how a p last pair syn old new before after all report goes is =
     let first = replaces port peer how a p last (turned pair) old goes.between before goes.mid all report goes.of_other is in
     let second = replaces port peer how a p last pair goes.between goes.free goes.mid after (without (turned pair) all)
     (report_then how a p before goes.mid report goes.of_other.told) goes.of_pair first.1 in
     let left = without pair (without (turned pair) all) in
-    let same = same_last how a p last pair goes.free.flows.entries left.known goes.flow (starting number all.begun) second.1.same
-    (subst (λ (n : ℕ). IsOne how a p last goes.flow (starting number n)) (sym is.begun) (begun_one how a p last number old.begun goes.flow goes.begun)) in
+    let same = same_last how a p last pair goes.free.flows.entries left.known goes.flow (starting syn all.begun) second.1.same
+    (subst (λ (n : ℕ). IsOne how a p last goes.flow (starting syn n)) (sym is.begun) (begun_one how a p last old.begun syn goes.flow goes.begun)) in
     let kept = same_kept how a p last new.begun (goes.free.flows.entries ++ (pair, goes.flow) ∷ []) new.flows.entries
-    (left.known ++ (pair, starting number all.begun) ∷ []) same goes.known in (
-      record { known = kept.0; begun = new.begun },
+    (left.known ++ (pair, starting syn all.begun) ∷ []) same goes.known in (
+      record { known = kept.0; begun = new.begun; joined = all.joined },
       record {
         mid = goes.mid;
         of_other = first.0;
         of_pair = second.0;
         counted = goes.counted ∙ ap (λ (n : ℕ). min (n + 1) (2 ^ 64 - 1)) (sym is.begun);
+        joined = refl;
         known = kept.1;
       },
       record {
         port_is = ap (λ (t : Table). t.port) goes.same ∙ is.port_is;
         peer_is = ap (λ (t : Table). t.peer) goes.same ∙ is.peer_is;
-        joined = ap (λ (t : Table). t.is_joined) goes.same ∙ is.joined;
+        joined = is.joined ∙ sym (ap (λ (t : Table). t.is_joined) goes.same);
+        bound = is.bound;
         begun = refl;
         same = kept.2;
       },
@@ -504,107 +586,101 @@ begins port peer how a p last pair number old new before after all report goes i
 
 -- ---- a packet of the capture
 
-one_number : (how : Way) (a p : Parameters) (last number : ℕ) (flow : Flow) (one : Connection) → IsOne how a p last flow one → flow.syn ≡ Some number → one.number ≡ number
-one_number how a p last number flow one is syn = some_same (sym is.syn ∙ syn)
-  where
-    some_same : Some one.number ≡ Some number → one.number ≡ number
-    some_same is = cc
-
-pub starts : (port : ℕ) (peer : Option IpAddr) (how : Way) (a p : Parameters) (last : ℕ) (pair : Pair) (from : Side) (segment : Segment) (number : ℕ) (table : Table) (all : Connections)
-    → IsTable port peer how a p last table all → BeginsWith table pair from segment (Some number) → Starts all pair from segment number
-starts port peer how a p last pair from segment number table all is begins = (
+pub starts : (port : ℕ) (peer : Option IpAddr) (how : Way) (a p : Parameters) (last : ℕ) (pair : Pair) (from : Side) (segment : Segment) (syn : Option ℕ) (table : Table) (all : Connections)
+    → IsTable port peer how a p last table all → BeginsWith table pair from segment syn → Starts all pair from segment syn
+starts port peer how a p last pair from segment (Some number) table all is begins = (
   begins.0,
-  λ has. begins.1 (has_flow port peer how a p last table all pair (λ one. one.number ≡ number) (λ flow. flow.syn ≡ Some number) is
-      (λ flow one both same. both.syn ∙ ap Some same) has),
+  λ has. begins.1 (has_flow port peer how a p last table all pair (λ one. one.syn ≡ Some number) (λ flow. flow.syn ≡ Some number) is
+      (λ flow one both same. both.syn ∙ same) has),
+)
+starts port peer how a p last pair from segment None table all is begins = (
+  is.joined ∙ begins.0,
+  begins.1,
+  begins.2,
+  λ has. begins.3 (has_flow port peer how a p last table all pair (λ one. Unit {0}) (λ flow. Unit {0}) is (λ flow one both same. tt) has),
 )
 
-begins_with : (port : ℕ) (peer : Option IpAddr) (how : Way) (a p : Parameters) (last : ℕ) (pair : Pair) (from : Side) (segment : Segment) (number : ℕ) (table : Table) (all : Connections)
-    → IsTable port peer how a p last table all → Starts all pair from segment number → BeginsWith table pair from segment (Some number)
-begins_with port peer how a p last pair from segment number table all is starts = (
+begins_with : (port : ℕ) (peer : Option IpAddr) (how : Way) (a p : Parameters) (last : ℕ) (pair : Pair) (from : Side) (segment : Segment) (syn : Option ℕ) (table : Table) (all : Connections)
+    → IsTable port peer how a p last table all → Starts all pair from segment syn → BeginsWith table pair from segment syn
+begins_with port peer how a p last pair from segment (Some number) table all is starts = (
   starts.0,
-  λ has. starts.1 (flow_has port peer how a p last table all pair (λ one. one.number ≡ number) (λ flow. flow.syn ≡ Some number) is
-      (λ flow one both same. one_number how a p last number flow one both same) has),
+  λ has. starts.1 (flow_has port peer how a p last table all pair (λ one. one.syn ≡ Some number) (λ flow. flow.syn ≡ Some number) is
+      (λ flow one both same. sym both.syn ∙ same) has),
 )
-
-pub never_joins : (table : Table) → table.is_joined ≡ false → table.is_joined ≡ true → ⊥
-never_joins table no_is yes_is = absurd_bool (sym no_is ∙ yes_is)
-  where
-    absurd_bool : false ≡ true → ⊥
-    absurd_bool is = cc
+begins_with port peer how a p last pair from segment None table all is starts = (
+  sym is.joined ∙ starts.0,
+  starts.1,
+  starts.2,
+  λ has. starts.3 (flow_has port peer how a p last table all pair (λ one. Unit {0}) (λ flow. Unit {0}) is (λ flow one both same. tt) has),
+)
 
 -- it begins one where the definition says so
 any_begins : (port : ℕ) (peer : Option IpAddr) (how : Way) (a p : Parameters) (last : ℕ) (pair : Pair) (from : Side) (segment : Segment) (table : Table) (all : Connections)
     → IsTable port peer how a p last table all → Begins table pair from segment → StartsAny all pair from segment
-any_begins port peer how a p last pair from segment table all is begins = by_syn begins.0 begins.1
-  where
-    by_syn : (syn : Option ℕ) → BeginsWith table pair from segment syn → StartsAny all pair from segment
-    by_syn None joins = absurd (never_joins table is.joined joins.0)
-    by_syn (Some number) with_it = (number, starts port peer how a p last pair from segment number table all is with_it)
+any_begins port peer how a p last pair from segment table all is begins =
+    (begins.0, starts port peer how a p last pair from segment begins.0 table all is begins.1)
 
 pub none_starts : (port : ℕ) (peer : Option IpAddr) (how : Way) (a p : Parameters) (last : ℕ) (pair : Pair) (from : Side) (segment : Segment) (table : Table) (all : Connections)
     → IsTable port peer how a p last table all → (Begins table pair from segment → ⊥) → StartsAny all pair from segment → ⊥
 none_starts port peer how a p last pair from segment table all is none any =
-    none (Some any.0, begins_with port peer how a p last pair from segment any.0 table all is any.1)
+    none (any.0, begins_with port peer how a p last pair from segment any.0 table all is any.1)
 
 pub is_open : (port : ℕ) (peer : Option IpAddr) (how : Way) (a p : Parameters) (last : ℕ) (pair : Pair) (table : Table) (all : Connections)
     → IsTable port peer how a p last table all → IsFollowed table pair → IsOpen all pair
 is_open port peer how a p last pair table all is followed =
     flow_has port peer how a p last table all pair (λ one. is_some one.packets ≡ true) (λ flow. is_live flow.stage ≡ true) is
-    (λ flow one both live. live_some how a p last one.number one.packets flow.stage both.stands live) followed
+    (λ flow one both live. live_some how a p last one.syn one.packets flow.stage both.stands live) followed
 
 is_followed : (port : ℕ) (peer : Option IpAddr) (how : Way) (a p : Parameters) (last : ℕ) (pair : Pair) (table : Table) (all : Connections)
     → IsTable port peer how a p last table all → IsOpen all pair → IsFollowed table pair
 is_followed port peer how a p last pair table all is opened =
     has_flow port peer how a p last table all pair (λ one. is_some one.packets ≡ true) (λ flow. is_live flow.stage ≡ true) is
-    (λ flow one both some. some_live how a p last one.number one.packets flow.stage both.stands some) opened
+    (λ flow one both some. some_live how a p last one.syn one.packets flow.stage both.stands some) opened
 
-deals : (port : ℕ) (peer : Option IpAddr) (how : Way) (a p : Parameters) (last : ℕ) (pair : Pair) (from : Side) (segment : Segment) (s : Seen) (old new : Table) (before after : Report)
-    (all : Connections) → IsReport how a p before → last < s.packet → IsTable port peer how a p last old all → TakesIt pair from segment s old new before after
-    → (next : Connections) × Deals a p pair from segment s all next before after × IsTable port peer how a p s.packet new next
-deals port peer how a p last pair from segment s old new before after all report past is takes =
+deals : (port : ℕ) (peer : Option IpAddr) (how : Way) (a p : Parameters) (last : ℕ) (pair : Pair) (from : Side) (segment : Segment) (g : Brought) (old new : Table) (before after : Report)
+    (all : Connections) → IsReport how a p before → last < g.segment.packet → g.segment.packet + 3 < 2 ^ 64 → IsTable port peer how a p last old all
+    → TakesIt pair from segment g old new before after
+    → (next : Connections) × Deals a p pair from segment g all next before after × IsTable port peer how a p g.segment.packet new next
+deals port peer how a p last pair from segment g old new before after all report past few is takes =
     elim takes [
-      | inl begun ↦ by_syn begun.0 begun.1 begun.2 begun.3 begun.4 begun.5
+      | inl begun ↦
+          let it = begun.4 in
+          let one = begins port peer how a p last pair begun.0 old begun.1 before begun.2 all report it is in
+          let on = follows port peer how a p last pair g begun.1 new begun.2 after one.0
+          (report_then how a p it.mid begun.2 (report_then how a p before it.mid report it.of_other.told) it.of_pair.told) past few begun.5 one.2 in (
+            on.0,
+            inl (begun.0, one.0, begun.2, starts port peer how a p last pair from segment begun.0 old all is begun.3, one.1, on.1),
+            on.2,
+          )
       | inr goes ↦
-          let on = follows port peer how a p last pair s old new before after all report past goes.2 is in (
+          let on = follows port peer how a p last pair g old new before after all report past few goes.2 is in (
             on.0,
             inr (none_starts port peer how a p last pair from segment old all is goes.0, is_open port peer how a p last pair old all is goes.1, on.1),
             on.2,
           )
     ]
-  where
-    by_syn : (syn : Option ℕ) (begun : Table) (ended : Report) → BeginsWith old pair from segment syn → BeginsFlow pair syn old begun before ended
-        → FollowsFlow pair s begun new ended after
-        → (next : Connections) × Deals a p pair from segment s all next before after × IsTable port peer how a p s.packet new next
-    by_syn None begun ended joins begins_it goes = absurd (never_joins old is.joined joins.0)
-    by_syn (Some number) begun ended with_it begins_it goes =
-        let one = begins port peer how a p last pair number old begun before ended all report begins_it is in
-        let on = follows port peer how a p last pair s begun new ended after one.0 (report_then how a p begins_it.mid ended (report_then how a p before begins_it.mid report begins_it.of_other.told) begins_it.of_pair.told) past goes one.2 in (
-          on.0,
-          inl (number, one.0, ended, starts port peer how a p last pair from segment number old all is with_it, one.1, on.1),
-          on.2,
-        )
 
 -- those that are kept with nothing taken
 pub later : (port : ℕ) (peer : Option IpAddr) (how : Way) (a p : Parameters) (last packet : ℕ) (old new : Table) (all : Connections) → IsTable port peer how a p last old all
-    → last ≤ packet → new ≡ old → IsTable port peer how a p packet new all
-later port peer how a p last packet old new all is past same =
+    → last ≤ packet → packet + 3 < 2 ^ 64 → new ≡ old → IsTable port peer how a p packet new all
+later port peer how a p last packet old new all is past few same =
     subst (λ (t : Table). IsTable port peer how a p packet t all) (sym same)
-    (moved port peer how a p last packet old old all all is refl refl (same_later how a p last packet old.flows.entries all.known past is.same))
+    (moved port peer how a p last packet old old all all is refl refl refl few (same_later how a p last packet old.flows.entries all.known past is.same))
 
 deals_of : (port : ℕ) (peer : Option IpAddr) (how : Way) (a p : Parameters) (last : ℕ) (pair : Pair) (from : Side) (segment : Segment) (capture : Capture) (missing : Option Shortfall)
-    (old new : Table) (before after : Report) (all : Connections) → IsReport how a p before → last < capture.packet → IsTable port peer how a p last old all
-    → TakesOf pair from segment capture missing old new before after
+    (old new : Table) (before after : Report) (all : Connections) → IsReport how a p before → last < capture.packet → capture.packet + 3 < 2 ^ 64
+    → IsTable port peer how a p last old all → TakesOf pair from segment capture missing old new before after
     → (next : Connections) × DealsOf a p pair from segment (captured_of capture) missing all next before after × IsTable port peer how a p capture.packet new next
-deals_of port peer how a p last pair from segment capture missing old new before after all report past is takes =
+deals_of port peer how a p last pair from segment capture missing old new before after all report past few is takes =
     elim takes [
       | inl dealt ↦
-          let on = deals port peer how a p last pair from segment (seen_by from segment capture dealt.1) old new before after all report past is dealt.3 in
+          let on = deals port peer how a p last pair from segment (brought_by from segment capture dealt.1) old new before after all report past few is dealt.3 in
           (on.0, inl (dealt.0, dealt.1, dealt.2, on.1), on.2)
       | inr rest ↦ elim rest [
         | inl untimed ↦ (
           all,
           inr (inl (untimed.0, refl, untimed.2, untimed.3, would untimed.4)),
-          later port peer how a p last capture.packet old new all is (omega arith) untimed.1,
+          later port peer how a p last capture.packet old new all is (omega arith) few untimed.1,
         )
         | inr passed ↦ (
           all,
@@ -615,7 +691,7 @@ deals_of port peer how a p last pair from segment capture missing old new before
             none_starts port peer how a p last pair from segment old all is passed.3,
             (λ opened. passed.4 (is_followed port peer how a p last pair old all is opened)),
           )),
-          later port peer how a p last capture.packet old new all is (omega arith) passed.1,
+          later port peer how a p last capture.packet old new all is (omega arith) few passed.1,
         )
       ]
     ]
@@ -642,10 +718,10 @@ pair_same port peer how a p last table all segment is =
     has q = both_some how a p last (flow_of table q) (connection_of all q) (both_of port peer how a p last table all q is)
 
 pub deals_packet : (port : ℕ) (peer : Option IpAddr) (how : Way) (a p : Parameters) (last : ℕ) (segment : Segment) (capture : Capture) (missing : Option Shortfall)
-    (old new : Table) (before after : Report) (all : Connections) → IsReport how a p before → last < capture.packet → IsTable port peer how a p last old all
-    → TakesPacket segment capture missing old new before after
+    (old new : Table) (before after : Report) (all : Connections) → IsReport how a p before → last < capture.packet → capture.packet + 3 < 2 ^ 64
+    → IsTable port peer how a p last old all → TakesPacket segment capture missing old new before after
     → (next : Connections) × DealsPacket port peer a p segment (captured_of capture) missing all next before after × IsTable port peer how a p capture.packet new next
-deals_packet port peer how a p last segment capture missing old new before after all report past is takes = by_found takes.0 takes.1 takes.2
+deals_packet port peer how a p last segment capture missing old new before after all report past few is takes = by_found takes.0 takes.1 takes.2
   where
     not_looked : (r : Option (Pair × Side)) → IfSome r (λ found. IsOfPeer peer found.0 → ⊥) → missing ≡ None → after ≡ before
         → DealsBy peer r a p segment (captured_of capture) missing all all before after
@@ -660,10 +736,10 @@ deals_packet port peer how a p last segment capture missing old new before after
           (subst (λ (x : Option IpAddr). IfSome (pair_in port all segment) (λ found. IsOfPeer x found.0 → ⊥)) is.peer_is
           (subst (λ (r : Option (Pair × Side)). IfSome r (λ found. IsOfPeer old.peer found.0 → ⊥)) (pair_same port peer how a p last old all segment is) none))
           passed.0 passed.2,
-      later port peer how a p last capture.packet old new all is (omega arith) passed.1,
+      later port peer how a p last capture.packet old new all is (omega arith) few passed.1,
     )
     by_found (Some found) looks dealt =
-        let on = deals_of port peer how a p last found.0 found.1 segment capture missing old new before after all report past is dealt in (
+        let on = deals_of port peer how a p last found.0 found.1 segment capture missing old new before after all report past few is dealt in (
           on.0,
           subst (λ (r : Option (Pair × Side)). DealsBy peer r a p segment (captured_of capture) missing all on.0 before after)
               (sym looks.0 ∙ pair_same port peer how a p last old all segment is)
@@ -675,26 +751,26 @@ deals_packet port peer how a p last segment capture missing old new before after
 pub found_deals : {E : Type 0} (result : Result (Option Shortfall) E) (pair : Pair) (from : Side) (segment : Segment) (capture : Capture) (old new : Table) (before after : Report)
     → LooksAt old segment (Some (pair, from)) → IfOk result (λ missing. TakesOf pair from segment capture missing old new before after)
     → IfOk result (λ missing. TakesAsDealt segment capture missing old new before after)
-found_deals (Ok missing) pair from segment capture old new before after looks takes = λ port peer how a p last all report past is.
-    deals_packet port peer how a p last segment capture missing old new before after all report past is (Some (pair, from), looks, takes)
+found_deals (Ok missing) pair from segment capture old new before after looks takes = λ port peer how a p last all report past few is.
+    deals_packet port peer how a p last segment capture missing old new before after all report past few is (Some (pair, from), looks, takes)
 found_deals (Err stop) pair from segment capture old new before after looks takes = tt
 
 -- ---- no packet follows
 
 pub ends_all : (how : Way) (a p : Parameters) (last : ℕ) (missing : Option Shortfall) (flows : List (Pair × Flow)) (ones : List (Pair × Connection)) (old new : Report)
-    → IsReport how a p old → AreSame how a p last flows ones → EndsFlows missing flows old new → EndsAll a p missing ones old new
-ends_all how a p last missing [] [] old new report same ends = ends
-ends_all how a p last missing [] (one ∷ ones) old new report same ends = absurd same
-ends_all how a p last missing (flow ∷ flows) [] old new report same ends = absurd same
-ends_all how a p last missing ((pair, flow) ∷ flows) ((other, one) ∷ ones) old new report same ends = (
+    → IsReport how a p old → last + 3 < 2 ^ 64 → AreSame how a p last flows ones → EndsFlows missing flows old new → EndsAll a p missing ones old new
+ends_all how a p last missing [] [] old new report few same ends = ends
+ends_all how a p last missing [] (one ∷ ones) old new report few same ends = absurd same
+ends_all how a p last missing (flow ∷ flows) [] old new report few same ends = absurd same
+ends_all how a p last missing ((pair, flow) ∷ flows) ((other, one) ∷ ones) old new report few same ends = (
   ends.0,
-  subst (λ (q : Pair). EndsWith a p q false missing one.number one.packets old ends.0) (sym same.0) by_report,
-  ends_all how a p last missing flows ones ends.0 new (report_then how a p old ends.0 report ends.1) same.2 ends.4,
+  subst (λ (q : Pair). EndsWith a p q false missing one.packets old ends.0) (sym same.0) by_report,
+  ends_all how a p last missing flows ones ends.0 new (report_then how a p old ends.0 report ends.1) few same.2 ends.5,
 )
   where
-    by_report : EndsWith a p pair false missing one.number one.packets old ends.0
+    by_report : EndsWith a p pair false missing one.packets old ends.0
     by_report =
-        subst (λ (x : Parameters). StageStands how a x last one.number one.packets flow.stage → EndsWith a x pair false missing one.number one.packets old ends.0) report.passive
-        (subst (λ (x : Parameters). StageStands how x old.passive last one.number one.packets flow.stage
-        → EndsWith x old.passive pair false missing one.number one.packets old ends.0) report.active
-        (λ stands. stage_ends how pair one.number last false missing one.packets flow.stage old ends.0 report.manner_is stands (ends.2, ends.3))) same.1.stands
+        subst (λ (x : Parameters). StageStands how a x last one.syn one.packets flow.stage → EndsWith a x pair false missing one.packets old ends.0) report.passive
+        (subst (λ (x : Parameters). StageStands how x old.passive last one.syn one.packets flow.stage
+        → EndsWith x old.passive pair false missing one.packets old ends.0) report.active
+        (λ stands. stage_ends how pair one.syn last false missing one.packets flow.stage old ends.0 report.manner_is few stands ends.2 ends.3 ends.4)) same.1.stands

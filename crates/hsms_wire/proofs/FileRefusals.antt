@@ -1,5 +1,5 @@
 -- A capture is refused as the definition says, where the log of an end is told.
-use Rattle.std.proofs.Common.{◌≡◌, ◌≤◌, ◌<◌, ◌+◌, ◌-◌, ◌^◌, ◌++◌, ◌∷◌, ℕ, false, List, [], take, drop, Option, Some, inl, inr, refl, sym, ap, subst, ◌∙◌, append_assoc, arith}
+use Rattle.std.proofs.Common.{◌≡◌, ◌≤◌, ◌<◌, ◌+◌, ◌-◌, ◌^◌, ◌++◌, ◌∷◌, ℕ, List, [], take, drop, Option, Some, inl, inr, refl, sym, ap, subst, ◌∙◌, append_assoc, arith}
 use Rattle.std.specs.Prelude.{IfErr, Result, Ok, Err}
 use Rattle.hsms_frame.specs.Device.{Grows, WhereTold}
 use Rattle.hsms_lines.specs.Devices.{IsWrite}
@@ -24,8 +24,9 @@ use Rattle.hsms_wire.specs.declared.table.Capture.{Capture}
 use Rattle.hsms_wire.specs.declared.table.Table.{Table}
 use Rattle.hsms_wire.specs.Capturing.{IsMissingBy}
 use Rattle.hsms_wire.specs.Connections.{Captured}
-use Rattle.hsms_wire.specs.Dealt.{IsBlank, Way, none_yet, to_log, to_verdicts}
-use Rattle.hsms_wire.specs.Kept.{ConcludesAsDealt, FinishesAsDealt, IsReportOf, ReadsAsDealt, TellsTo, captured_of, wanted_of, way_of}
+use Rattle.hsms_wire.specs.Dealt.{IsBlank, none_yet}
+use Rattle.hsms_wire.specs.Way.{TellsTo, Way, to_log, to_verdicts}
+use Rattle.hsms_wire.specs.Kept.{ConcludesAsDealt, FinishesAsDealt, IsReportOf, ReadsAsDealt, captured_of, wanted_of, way_of}
 use Rattle.hsms_wire.specs.RefusedFile.{ConcludesAsRefused, DealsPacketRefused, EndsAllRefused, EndsAsRefused, FinishesAsRefused, PutsAsRefused, ReadsAsRefused, RefusesBy, RefusesFile, ShownRefused, ShowsAsRefused, TakesAsRefused}
 use Rattle.hsms_wire.specs.Report.{FailsUnrefused, missing_after}
 use Rattle.hsms_wire.specs.Segments.{body_in}
@@ -69,7 +70,7 @@ pub reads_refused : (first : Reading) (from : Option (List ℕ)) (old : Table) (
     (table : Table) (between : Report) (put written : Option (List ℕ)) (n : ℕ) (r : Record) (octets : List ℕ) (counter : ℕ) (st : Step) (fault : ToolFault)
     → EachRestIsRead → IsSoFar first from old before out was left table between put → st ≡ step.Packet n r
     → WhereTold left (λ input. StepsAs was input (Ok st) now new) → CountsOn st was.state.packets now.state.packets → was.state.packets ≤ first.state.packets + counter
-    → counter < 2 ^ 64 - 1 → octets ≡ take r.held (drop r.body now.last) → PutsAsRefused n r octets table between put written fault
+    → counter < 2 ^ 64 - 4 → octets ≡ take r.held (drop r.body now.last) → PutsAsRefused n r octets table between put written fault
     → ReadsAsRefused first from old before out written fault
 unfolding ReadsAsRefused
 reads_refused first from old before out was now left new table between put written n r octets counter st fault each so st_is steps_as counts_as few under octets_is puts
@@ -147,21 +148,21 @@ pub refuses_opened : (options : Capturing) (reading : Reading) (missing : Option
     → (table.port ≡ options.port) × (table.peer ≡ options.peer) × (table.is_joined ≡ options.joined) → (table.flows.entries ≡ []) × (table.begun ≡ 0)
     → WhereTold from (λ input. OpensAs input (Ok reading) left) → reading.state.packets ≡ 0 → ReadsAsDealt reading missing left table end first last out put
     → (IsRefusal fault → last.manner ≡ Verdicts → FinishesAsDealt missing end last put now (Err fault)) → FinishesAsRefused missing end last put now fault
-    → IsRefusal fault → options.joined ≡ false → WhereTold from (λ input. RefusesFile (wanted_of options) input out now fault)
+    → IsRefusal fault → WhereTold from (λ input. RefusesFile (wanted_of options) input out now fault)
 unfolding ReadsAsDealt
-refuses_opened options reading missing first last table end from left out put now fault blank of_it none opens zero reads verdicts stops refusal joined input at =
+refuses_opened options reading missing first last table end from left out put now fault blank of_it none opens zero reads verdicts stops refusal input at =
     by_way (way_of options) refl
   where
     by_way : (how : Way) → way_of options ≡ how → RefusesBy how (wanted_of options) input out now fault
     by_way to_verdicts is =
         captures_opened options reading missing first last table end from left out put now (Err fault) blank of_it none opens zero reads
-        (λ tells. verdicts refusal (subst (λ (h : Way). TellsTo h last.manner) is tells)) joined input at
+        (λ tells. verdicts refusal (subst (λ (h : Way). TellsTo h last.manner) is tells)) input at
     by_way (to_log settings side) is = elim (stops refusal) [
       | inl dealt ↦ inl (captures_opened options reading missing first last table end from left out put now (Err fault) blank of_it none opens zero reads
-          (λ tells. dealt) joined input at)
+          (λ tells. dealt) input at)
       | inr left_over ↦
           let opened = opens input at in
-          let on = reads (wanted_of options) none_yet zero (of_blank (wanted_of options) first blank) (first_table options table 0 joined of_it none) opened.0 opened.1 in
+          let on = reads (wanted_of options) (none_yet (wanted_of options)) zero (of_blank (wanted_of options) first blank) (first_table options table of_it none) opened.0 opened.1 in
           let r = left_over (wanted_of options) on.3 on.2 on.7 on.6 in
           inr (inr (record {
             packets = on.0;
@@ -186,15 +187,15 @@ pub refuses_reading : (options : Capturing) (reading : Reading) (first : Report)
     → (table.port ≡ options.port) × (table.peer ≡ options.peer) × (table.is_joined ≡ options.joined) → (table.flows.entries ≡ []) × (table.begun ≡ 0)
     → WhereTold from (λ input. OpensAs input (Ok reading) left) → reading.state.packets ≡ 0 → FailsUnrefused first fault
     → ReadsAsRefused reading left table first out now fault
-    → IsRefusal fault → options.joined ≡ false → WhereTold from (λ input. RefusesFile (wanted_of options) input out now fault)
+    → IsRefusal fault → WhereTold from (λ input. RefusesFile (wanted_of options) input out now fault)
 unfolding FailsUnrefused ReadsAsRefused
-refuses_reading options reading first table from left out now fault blank of_it none opens zero fails reads refusal joined input at = by_way (way_of options) refl
+refuses_reading options reading first table from left out now fault blank of_it none opens zero fails reads refusal input at = by_way (way_of options) refl
   where
     by_way : (how : Way) → way_of options ≡ how → RefusesBy how (wanted_of options) input out now fault
     by_way to_verdicts is = absurd (fails (subst (λ (h : Way). TellsTo h first.manner) is (of_blank (wanted_of options) first blank).manner_is) refusal)
     by_way (to_log settings side) is =
         let opened = opens input at in
-        let on = reads refusal (wanted_of options) none_yet zero (of_blank (wanted_of options) first blank) (first_table options table 0 joined of_it none) opened.0 opened.1 in
+        let on = reads refusal (wanted_of options) (none_yet (wanted_of options)) zero (of_blank (wanted_of options) first blank) (first_table options table of_it none) opened.0 opened.1 in
         inr (inl (record {
           packets = on.0;
           ending = on.1;
@@ -211,18 +212,18 @@ pub refuses_none : (options : Capturing) (fault : FileFault) (shortfall : Shortf
     → WhereTold from (λ input. OpensAs input (Err fault) left) → IsMissingBy fault 0 (Ok shortfall)
     → (IsRefusal told → first.manner ≡ Verdicts → FinishesAsDealt (Some shortfall) table first out now (Err told))
     → FinishesAsRefused (Some shortfall) table first out now told
-    → IsRefusal told → options.joined ≡ false → WhereTold from (λ input. RefusesFile (wanted_of options) input out now told)
-refuses_none options fault shortfall first table from left out now told blank of_it none opens missing verdicts stops refusal joined input at = by_way (way_of options) refl
+    → IsRefusal told → WhereTold from (λ input. RefusesFile (wanted_of options) input out now told)
+refuses_none options fault shortfall first table from left out now told blank of_it none opens missing verdicts stops refusal input at = by_way (way_of options) refl
   where
     by_way : (how : Way) → way_of options ≡ how → RefusesBy how (wanted_of options) input out now told
     by_way to_verdicts is =
         captures_none options fault shortfall first table from left out now (Err told) blank of_it none opens missing
-        (λ tells. verdicts refusal (subst (λ (h : Way). TellsTo h first.manner) is tells)) joined input at
+        (λ tells. verdicts refusal (subst (λ (h : Way). TellsTo h first.manner) is tells)) input at
     by_way (to_log settings side) is = elim (stops refusal) [
-      | inl dealt ↦ inl (captures_none options fault shortfall first table from left out now (Err told) blank of_it none opens missing (λ tells. dealt) joined input at)
+      | inl dealt ↦ inl (captures_none options fault shortfall first table from left out now (Err told) blank of_it none opens missing (λ tells. dealt) input at)
       | inr left_over ↦
           let w = wanted_of options in
-          let r = left_over w 0 none_yet (of_blank w first blank) (first_table options table 0 joined of_it none) in
+          let r = left_over w 0 (none_yet w) (of_blank w first blank) (first_table options table of_it none) in
           absurd (not_empty r.2.0 r.2.3 (r.2.1, r.2.2) r.2.5)
     ]
 

@@ -14,6 +14,11 @@ mod Supposing
 mod Sessions
 mod Closing
 mod Running
+mod Opening
+mod SessionPackets
+mod SessionBegins
+mod SessionDealt
+mod SessionRefusals
 mod Stages
 mod Staging
 mod Forgetting

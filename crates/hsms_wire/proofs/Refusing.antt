@@ -1,5 +1,5 @@
 -- A refusal at the end: what was told and written before it, and why it is one.
-use Rattle.std.proofs.Common.{◌≡◌, ◌++◌, List, ℕ, Bool, false, [], Option, sym, ap, subst, ◌∙◌}
+use Rattle.std.proofs.Common.{◌≡◌, ◌++◌, List, ℕ, Bool, [], Option, sym, ap, subst, ◌∙◌}
 use Rattle.std.specs.Prelude.{Result, Ok, Err, IfErr, IfOk}
 use Rattle.hsms_frame.specs.Device.{Grows, WhereTold}
 use Rattle.hsms_lines.specs.Devices.{IsWrite}
@@ -17,7 +17,8 @@ use Rattle.hsms_wire.specs.declared.table.Table.{Table}
 use Rattle.hsms_wire.specs.Capturing.{IsMissingBy}
 use Rattle.hsms_wire.specs.Connections.{EndsAll}
 use Rattle.hsms_wire.specs.Dealt.{CapturesFile}
-use Rattle.hsms_wire.specs.Kept.{ConcludesAsDealt, EndsAsDealt, FinishesAsDealt, IsReportOf, TellsTo, wanted_of}
+use Rattle.hsms_wire.specs.Kept.{ConcludesAsDealt, EndsAsDealt, FinishesAsDealt, IsReportOf, wanted_of}
+use Rattle.hsms_wire.specs.Way.{TellsTo}
 use Rattle.hsms_wire.specs.LeftOut.{line_of}
 use Rattle.hsms_wire.specs.Report.{Answers, Concludes, EndsWith, FailsUnrefused, Finishes, Found, StopsUnrefused, Writes, found_of, missing_after}
 use Rattle.hsms_wire.specs.Stop.{IsRefusal, IsRefused, TellsStop}
@@ -138,7 +139,7 @@ ends_told missing old mid out now st fault concludes tells grows refusal =
 
 -- what is told of a file, where this is answered
 abbrev pub FileAs : Capturing → Option (List ℕ) → Option (List ℕ) → Option (List ℕ) → Result Bool ToolFault → Type 0
-FileAs options from out now answer = options.joined ≡ false → WhereTold from (λ input. CapturesFile (wanted_of options) input out now answer)
+FileAs options from out now answer = WhereTold from (λ input. CapturesFile (wanted_of options) input out now answer)
 
 pub ok_file : (result : Result Bool ToolFault) (options : Capturing) (from out now : Option (List ℕ)) (F : Result Bool ToolFault → Type 0)
     → ((answer : Result Bool ToolFault) → F answer → FileAs options from out now answer)

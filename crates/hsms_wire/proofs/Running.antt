@@ -17,7 +17,7 @@ use Rattle.hsms_capture.proofs.Lasting.{told_at_packets}
 use Rattle.hsms_joined.specs.declared.start.Start.{Start}
 use Rattle.hsms_wire.specs.declared.course.Course.TheVariants as course
 use Rattle.hsms_wire.specs.declared.joined.Joined.{Joined}
-use Rattle.hsms_wire.specs.Dealt.{Way}
+use Rattle.hsms_wire.specs.Way.{Way}
 use Rattle.hsms_wire.specs.Followed.{course_by_events, time_by, timed_by}
 use Rattle.hsms_wire.specs.Joined.{JoinedStands, most_by}
 use Rattle.hsms_wire.specs.Logged.{bare_if, is_among}
@@ -98,7 +98,7 @@ times_more bare more (x ∷ hs) h =
 
 -- ---- packets
 
-seen_more : (active passive : ℕ) (gs later : List Brought) → session_seen active passive (gs ++ later) ≡ session_seen active passive gs ++ map (cut active passive) later
+pub seen_more : (active passive : ℕ) (gs later : List Brought) → session_seen active passive (gs ++ later) ≡ session_seen active passive gs ++ map (cut active passive) later
 seen_more active passive gs later =
     ap (λ (ss : List Seen). opening_seen active passive ++ ss) (map-append (cut active passive) gs later)
     ∙ sym (append_assoc (opening_seen active passive) (map (cut active passive) gs) (map (cut active passive) later))

@@ -38,11 +38,10 @@ use Rattle.hsms_wire.specs.declared.shortfall.Shortfall.{Shortfall}
 use Rattle.hsms_wire.specs.declared.shortfall.Shortfall.TheVariants as lacks
 use Rattle.hsms_wire.specs.Logged.{and_course, and_logged}
 use Rattle.hsms_wire.specs.Paged.{OnPage, Page, page_of}
-use Rattle.hsms_wire.specs.Dealt.{Way, to_log, to_verdicts}
+use Rattle.hsms_wire.specs.Way.{IsReport, Way, to_log, to_verdicts}
 use Rattle.hsms_wire.specs.Followed.{came_up_by, course_by_events, hears_event, is_up_event, logged_by}
 use Rattle.hsms_wire.specs.Items.{comes_up, EndsHadItems, EndsHaveItems, EndsItemsBy, Item, leaves_out, LogsItems, most_in, most_of, supposes, TakesItems, tells}
 use Rattle.hsms_wire.specs.Joined.{come_items, come_items_if, Decides, end_course, HearsEach, HearsItem, HearsNext, HearsOn, IsNew, IsOverAs, IsPartOf, IsTelling, IsTold, IsWaiting, JoinedStands, latest_behind, left_if, left_items, left_packets, LogsMore, most_by, packet_left, part_with, SaidAs, Settles, SettlesAndTells, spoken_behind, StandsBy, TellingBy, TellsPart, TellsThem, terms_by, ToldBy, Waits}
-use Rattle.hsms_wire.specs.Kept.{IsReport}
 use Rattle.hsms_wire.specs.Said.{KnowsBoth, nothing_spoken, Spoken, spoken_to, with_message}
 use Rattle.hsms_wire.specs.Supposing.{asked, asked_by, Before, before_by, before_of, before_or, before_with, behind_front, counts_by, decided_by, decided_with, if_told, is_decided, is_message_told, is_said, item_by, item_with, items_by, items_of, log_if, looked_at, other_side, said_by, session_items, since, spoken_with, supposed_items, supposed_messages, sure_log, tells_some, Terms, was_selected, whole_log}
 use Rattle.hsms_wire.proofs.Logging.{came_up_more, goes_on, stops_there}
@@ -115,11 +114,11 @@ behind_none : (front xs ys : List Item) → tells_some xs ≡ false → tells_so
 behind_none front xs ys none also =
     ap (λ (b : Bool). if_told b front (xs ++ ys)) (some_more xs ys ∙ ap (λ (b : Bool). b || tells_some ys) none ∙ also) ∙ ap (λ (b : Bool). if_told b front xs) (sym none)
 
-behind_first : (front xs ys : List Item) → tells_some xs ≡ false → tells_some ys ≡ true → behind_front front (xs ++ ys) ≡ front ++ (xs ++ ys)
+pub behind_first : (front xs ys : List Item) → tells_some xs ≡ false → tells_some ys ≡ true → behind_front front (xs ++ ys) ≡ front ++ (xs ++ ys)
 behind_first front xs ys none some =
     ap (λ (b : Bool). if_told b front (xs ++ ys)) (some_more xs ys ∙ ap (λ (b : Bool). b || tells_some ys) none ∙ some)
 
-none_yet : (front xs : List Item) → tells_some xs ≡ false → behind_front front xs ≡ []
+pub none_yet : (front xs : List Item) → tells_some xs ≡ false → behind_front front xs ≡ []
 none_yet front xs none = ap (λ (b : Bool). if_told b front xs) none
 
 -- ---- what becomes of it
@@ -183,13 +182,13 @@ goes_next : (most : ℕ) (hs : List Happening) (h : Happening) → course_by_eve
     → course_by_events most (hs ++ h ∷ []) ≡ course.Goes
 goes_next most hs h goes on = (goes_on (hears_event most) (λ h. h.packet) hs (h ∷ []) goes).1 ∙ course_one most h on
 
-log_next : (t : Terms) (b : Before) (hs : List Happening) (h : Happening) (x : Item) → course_by_events t.most hs ≡ course.Goes → heard_of t.most h.event ≡ heard.Goes
+pub log_next : (t : Terms) (b : Before) (hs : List Happening) (h : Happening) (x : Item) → course_by_events t.most hs ≡ course.Goes → heard_of t.most h.event ≡ heard.Goes
     → item_with (said_by t.most h.event) t (spoken_behind t.most (asked b) hs) (max (latest_behind 0 hs) h.time) h ≡ x
     → session_items t b (hs ++ h ∷ []) ≡ behind_front (supposed_items b t.begun) (items_by t (asked b) 0 hs ++ x ∷ [])
 log_next t b hs h x goes on is =
     ap (behind_front (supposed_items b t.begun)) (items_all t b (hs ++ h ∷ []) (goes_next t.most hs h goes on) ∙ item_next t b hs h x is)
 
-log_now : (t : Terms) (b : Before) (hs : List Happening) → course_by_events t.most hs ≡ course.Goes
+pub log_now : (t : Terms) (b : Before) (hs : List Happening) → course_by_events t.most hs ≡ course.Goes
     → session_items t b hs ≡ behind_front (supposed_items b t.begun) (items_by t (asked b) 0 hs)
 log_now t b hs goes = ap (behind_front (supposed_items b t.begun)) (items_all t b hs goes)
 
@@ -546,7 +545,7 @@ them_then pair c xs ys old mid new before between after first second = λ how a 
     (logs_more pair c (session_items t b hs) (session_items t b (hs ++ xs)) (session_items t b ((hs ++ xs) ++ ys)) old mid new before between after one.0 two.0, two.1)
 
 -- nothing behind its end is told
-over_items : (t : Terms) (b : Before) (hs ys : List Happening) (lack : Option Shortfall) → course_by_events t.most hs ≡ course.Over lack
+pub over_items : (t : Terms) (b : Before) (hs ys : List Happening) (lack : Option Shortfall) → course_by_events t.most hs ≡ course.Over lack
     → (items_of t b (hs ++ ys) ≡ items_of t b hs) × (course_by_events t.most (hs ++ ys) ≡ course.Over lack)
 over_items t b hs ys lack over =
     let stops = stops_there (hears_event t.most) (λ h. h.packet) hs ys lack over in
@@ -574,15 +573,13 @@ them_over pair lack xs ys old new before after them = λ how a p start b hs repo
 
 -- ---- what stood before is decided
 
-pub decides : (pair : Pair) (supposed : Supposed) (asker : Side) (c : Course) (old mid new : Joined) (before after : Report) → mid.start ≡ old.start → mid.is_decided ≡ true
+pub begins_telling : (supposed : Supposed) (asker : Side) (how : Way) (a p : Parameters) (start : Start) (hs : List Happening) (old mid : Joined) → mid.start ≡ old.start
     → mid.supposed ≡ supposed → mid.asker ≡ asker → mid.is_up ≡ old.is_up → mid.ends ≡ old.ends → mid.left_out ≡ old.left_out → mid.waiting.items ≡ []
-    → (said : Said) × (mid.said ≡ Some said) × KnowsBoth (asked_by supposed asker) said → TellsThem pair old.waiting.items mid before c new after
-    → new.is_decided ≡ mid.is_decided → Decides pair supposed asker old before c new after
-unfolding TellsThem Decides
-decides pair supposed asker c old mid new before after start_is decided supposed_is asker_is up ends left waiting said them kept = λ how a p start hs report of waits.
+    → (said : Said) × (mid.said ≡ Some said) × KnowsBoth (asked_by supposed asker) said → old.start ≡ start → IsWaiting (most_by how a) hs old
+    → IsTelling how a p start (record { supposed = supposed; asker = asker }) [] mid
+begins_telling supposed asker how a p start hs old mid start_is supposed_is asker_is up ends left waiting said of waits =
     let b : Before = record { supposed = supposed; asker = asker } in
     let t = terms_by how a start in
-    let goes = undecided_goes t.most nothing_spoken hs waits.undecided in
     let none : mid.is_up ≡ false = up ∙ waits.up in
     let told : IsTold how a p start b [] mid = record {
       start_is = start_is ∙ of;
@@ -597,12 +594,22 @@ decides pair supposed asker c old mid new before after start_is decided supposed
       ends = λ e. subst (λ (x : Option (Box Ends Global)). EndsHaveItems a p (session_items t b []) x) (sym (ends ∙ waits.ends))
           (ap (behind_front (supposed_items b t.begun)) (items_none t (asked b) 0));
     } in
-    let knows : SaidAs t 0 (asked b) mid.said =
-    subst (λ (s : Option Said). SaidAs t 0 (asked b) s) (sym said.1) (omega arith, said.2) in
-    let it = them how a p start b [] report (told, knows) (ap came_up_by waits.waiting ∙ goes.1) in
+    (told, subst (λ (s : Option Said). SaidAs t 0 (asked b) s) (sym said.1) (omega arith, said.2))
+
+pub decides : (pair : Pair) (supposed : Supposed) (asker : Side) (c : Course) (old mid new : Joined) (before after : Report) → mid.start ≡ old.start → mid.is_decided ≡ true
+    → mid.supposed ≡ supposed → mid.asker ≡ asker → mid.is_up ≡ old.is_up → mid.ends ≡ old.ends → mid.left_out ≡ old.left_out → mid.waiting.items ≡ []
+    → (said : Said) × (mid.said ≡ Some said) × KnowsBoth (asked_by supposed asker) said → TellsThem pair old.waiting.items mid before c new after
+    → new.is_decided ≡ mid.is_decided → Decides pair supposed asker old before c new after
+unfolding TellsThem Decides
+decides pair supposed asker c old mid new before after start_is decided supposed_is asker_is up ends left waiting said them kept = λ how a p start hs report of waits.
+    let b : Before = record { supposed = supposed; asker = asker } in
+    let t = terms_by how a start in
+    let goes = undecided_goes t.most nothing_spoken hs waits.undecided in
+    let telling = begins_telling supposed asker how a p start hs old mid start_is supposed_is asker_is up ends left waiting said of waits in
+    let it = them how a p start b [] report telling (ap came_up_by waits.waiting ∙ goes.1) in
     let all : old.waiting.items ≡ hs = waits.waiting in
-    let telling = subst (λ (gs : List Happening). TellingBy c how a p start b gs new) all it.1 in
-    let c_is : c ≡ course.Goes = never_over how a p start b hs c telling goes.0 in
+    let told = subst (λ (gs : List Happening). TellingBy c how a p start b gs new) all it.1 in
+    let c_is : c ≡ course.Goes = never_over how a p start b hs c told goes.0 in
     let log : session_items t b [] ≡ [] = ap (behind_front (supposed_items b t.begun)) (items_none t (asked b) 0) in (
       c_is,
       kept ∙ decided,
@@ -612,7 +619,7 @@ decides pair supposed asker c old mid new before after start_is decided supposed
         subst (λ (x : Course). TakesItems pair x it.0.0 old.ends before new.ends after) c_is
             (subst (λ (x : Option (Box Ends Global)). TakesItems pair c it.0.0 x before new.ends after) ends it.0.2),
       ),
-      subst (λ (x : Course). TellingBy x how a p start b hs new) c_is telling,
+      subst (λ (x : Course). TellingBy x how a p start b hs new) c_is told,
     )
   where
     never_over : (how : Way) (a p : Parameters) (start : Start) (b : Before) (hs : List Happening) (c : Course) → TellingBy c how a p start b hs new
@@ -622,13 +629,13 @@ decides pair supposed asker c old mid new before after start_is decided supposed
 
 -- ---- as long as it waits
 
-none_sure : (t : Terms) (hs : List Happening) → decided_by t.most nothing_spoken hs ≡ false → length hs < looked_at → sure_log t hs ≡ []
+pub none_sure : (t : Terms) (hs : List Happening) → decided_by t.most nothing_spoken hs ≡ false → length hs < looked_at → sure_log t hs ≡ []
 none_sure t hs still few = ap (λ (x : Bool). log_if x (whole_log t hs)) (undecided_yet t.most hs few still)
 
-sure_then : (t : Terms) (hs : List Happening) → is_decided t.most hs ≡ true → sure_log t hs ≡ whole_log t hs
+pub sure_then : (t : Terms) (hs : List Happening) → is_decided t.most hs ≡ true → sure_log t hs ≡ whole_log t hs
 sure_then t hs is = ap (λ (x : Bool). log_if x (whole_log t hs)) is
 
-open_before : (most : ℕ) (hs : List Happening) → decided_by most nothing_spoken hs ≡ false → length hs ≤ looked_at → before_of most hs ≡ was_selected
+pub open_before : (most : ℕ) (hs : List Happening) → decided_by most nothing_spoken hs ≡ false → length hs ≤ looked_at → before_of most hs ≡ was_selected
 open_before most hs still few = before_few most hs few ∙ undecided_before most nothing_spoken hs still
 
 -- it is told by what is supposed, where nothing has happened
@@ -738,23 +745,23 @@ before_stays most hs ys is = by_long (nat_le looked_at (length hs)) refl
         )
 
 -- with the last one
-longer : (hs : List Happening) (h : Happening) → length hs < looked_at → length (hs ++ h ∷ []) ≤ looked_at
+pub longer : (hs : List Happening) (h : Happening) → length hs < looked_at → length (hs ++ h ∷ []) ≤ looked_at
 longer hs h few = omega (arith, few, length-append hs (h ∷ []))
 
-before_last : (most : ℕ) (hs : List Happening) (h : Happening) → length hs < looked_at → decided_by most nothing_spoken hs ≡ false
+pub before_last : (most : ℕ) (hs : List Happening) (h : Happening) → length hs < looked_at → decided_by most nothing_spoken hs ≡ false
     → before_of most (hs ++ h ∷ []) ≡ before_with (said_by most h.event) (spoken_behind most nothing_spoken hs) (λ later. was_selected)
 before_last most hs h few still =
     before_few most (hs ++ h ∷ []) (longer hs h few) ∙ (undecided_more most nothing_spoken hs (h ∷ []) still).1 ∙ before_one most (spoken_behind most nothing_spoken hs) h
 
-decided_last : (most : ℕ) (hs : List Happening) (h : Happening) → decided_by most nothing_spoken hs ≡ false
+pub decided_last : (most : ℕ) (hs : List Happening) (h : Happening) → decided_by most nothing_spoken hs ≡ false
     → decided_by most nothing_spoken (hs ++ h ∷ []) ≡ decided_with (said_by most h.event) (spoken_behind most nothing_spoken hs) (λ later. false)
 decided_last most hs h still = (undecided_more most nothing_spoken hs (h ∷ []) still).0 ∙ decided_one most (spoken_behind most nothing_spoken hs) h
 
-is_sure : (most : ℕ) (hs : List Happening) → decided_by most nothing_spoken hs ≡ true → is_decided most hs ≡ true
+pub is_sure : (most : ℕ) (hs : List Happening) → decided_by most nothing_spoken hs ≡ true → is_decided most hs ≡ true
 is_sure most hs is = ap (λ (b : Bool). nat_le looked_at (length hs) || b) is ∙ or_some (nat_le looked_at (length hs))
 
 -- it is told, by what is known for sure
-stands_told : (how : Way) (a p : Parameters) (start : Start) (b : Before) (hs : List Happening) (c : Course) (j : Joined) → before_of (most_by how a) hs ≡ b
+pub stands_told : (how : Way) (a p : Parameters) (start : Start) (b : Before) (hs : List Happening) (c : Course) (j : Joined) → before_of (most_by how a) hs ≡ b
     → is_decided (most_by how a) hs ≡ true → j.is_decided ≡ true → TellingBy c how a p start b hs j → StandsBy c how a p start hs j
 stands_told how a p start b hs course.Goes j before sure decided telling =
     (telling.0.start_is, inr (decided, sure, subst (λ (x : Before). IsTelling how a p start x hs j) (sym before) telling))
@@ -803,7 +810,7 @@ waited_then how a p start b hs h pair c old mid new before between after few sti
       one.1,
     )
 
-most_same : (how : Way) (a p : Parameters) (r : Report) → IsReport how a p r → most_of r ≡ most_by how a
+pub most_same : (how : Way) (a p : Parameters) (r : Report) → IsReport how a p r → most_of r ≡ most_by how a
 most_same to_verdicts a p r is = ap (λ (m : Manner). most_in m r.active) is.manner_is ∙ ap (λ (x : Parameters). x.max) is.active
 most_same (to_log settings side) a p r is = ap (λ (m : Manner). most_in m r.active) is.manner_is.1 ∙ ap (λ (x : Parameters). x.max) is.manner_is.2
 
@@ -908,7 +915,7 @@ next_waits pair h from message found m c old new before after undecided said_is 
 
 -- ---- one more waits
 
-waits_more : (most : ℕ) (hs : List Happening) (h : Happening) (from : Side) (message : Header) (next : Said) (old mid new : Joined) → IsWaiting most hs old
+pub waits_more : (most : ℕ) (hs : List Happening) (h : Happening) (from : Side) (message : Header) (next : Said) (old mid new : Joined) → IsWaiting most hs old
     → said_by most h.event ≡ Some (from, message) → supposed_by message (spoken_to from (spoken_behind most nothing_spoken hs)) ≡ None
     → mid ≡ record old { said = mid.said } → mid.said ≡ Some next → KnowsBoth (with_message from message (spoken_behind most nothing_spoken hs)) next
     → new ≡ record mid { waiting = new.waiting } → new.waiting.items ≡ mid.waiting.items ++ h ∷ [] → IsWaiting most (hs ++ h ∷ []) new
@@ -985,7 +992,7 @@ waits_full pair from message h c old mid full new before after noted notes pushe
 
 -- ---- anything happens
 
-since_more : (start : Start) (all : List Happening) (h : Happening)
+pub since_more : (start : Start) (all : List Happening) (h : Happening)
     → since start (all ++ h ∷ []) ≡ since start all ++ cond (counts_by start.packet h.packet h.event) (h ∷ []) []
 since_more start all h = filter-append (λ (x : Happening). counts_by start.packet x.packet x.event) all (h ∷ [])
 
@@ -1345,7 +1352,7 @@ each_then pair c xs h old mid new before between after first second = λ how a p
     )
 
 -- what is over is decided
-over_decided : (most : ℕ) (spoken : Spoken) (hs : List Happening) (lack : Option Shortfall) → course_by_events most hs ≡ course.Over lack → decided_by most spoken hs ≡ true
+pub over_decided : (most : ℕ) (spoken : Spoken) (hs : List Happening) (lack : Option Shortfall) → course_by_events most hs ≡ course.Over lack → decided_by most spoken hs ≡ true
 over_decided most spoken hs lack over = by_decided (decided_by most spoken hs) refl
   where
     by_decided : (b : Bool) → decided_by most spoken hs ≡ b → decided_by most spoken hs ≡ true

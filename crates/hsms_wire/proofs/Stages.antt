@@ -22,6 +22,7 @@ use Rattle.hsms_wire.specs.declared.shortfall.Shortfall.{Shortfall}
 use Rattle.hsms_wire.specs.Followed.{BeginsWith, Follows, FollowsThem, seen_waiting}
 use Rattle.hsms_wire.specs.Logged.{ToldForGood, ToldOf}
 use Rattle.hsms_wire.specs.Report.{Tells}
+use Rattle.hsms_wire.specs.Joining.{EndsJoined}
 use Rattle.hsms_wire.specs.Paged.{EndsStageOnPage}
 use Rattle.hsms_wire.specs.Tabled.{EndsFlows}
 use Rattle.hsms_wire.specs.Staged.{EndsStage, OverBy, StageGoes, TakesStage, WaitsOn, answered_by, answers, begins_with_syn, if_answered, is_answer, is_number, is_passive, stage_by}
@@ -154,16 +155,17 @@ take_waits (Err stop) pair begins s octets waiting old new answered waits = tt
 -- of one connection more
 pub flows_more : (missing : Option Shortfall) (flows : List (Pair × Flow)) (pair : Pair) (flow : Flow) (old mid new : Report) → EndsFlows missing flows old mid
     → Tells mid new → EndsStage pair false missing flow.stage mid new → EndsStageOnPage false missing flow.stage mid new
-    → EndsFlows missing (flows ++ (pair, flow) ∷ []) old new
-flows_more missing [] pair flow old mid new before told ends logs = (
+    → EndsJoined pair false missing flow.stage mid new → EndsFlows missing (flows ++ (pair, flow) ∷ []) old new
+flows_more missing [] pair flow old mid new before told ends logs joined = (
   new,
   subst (λ (r : Report). Tells r new) before told,
   subst (λ (r : Report). EndsStage pair false missing flow.stage r new) before ends,
   subst (λ (r : Report). EndsStageOnPage false missing flow.stage r new) before logs,
+  subst (λ (r : Report). EndsJoined pair false missing flow.stage r new) before joined,
   refl,
 )
-flows_more missing ((other, first) ∷ flows) pair flow old mid new before told ends logs =
-    (before.0, before.1, before.2, before.3, flows_more missing flows pair flow before.0 mid new before.4 told ends logs)
+flows_more missing ((other, first) ∷ flows) pair flow old mid new before told ends logs joined =
+    (before.0, before.1, before.2, before.3, before.4, flows_more missing flows pair flow before.0 mid new before.5 told ends logs joined)
 
 -- so far the first ones were told, and the others are left
 abbrev pub AreEnded : Option Shortfall → List (Pair × Flow) → List (Pair × Flow) → Report → Report → Type 0
@@ -171,11 +173,11 @@ AreEnded missing all left old new = (done : List (Pair × Flow)) × (all ≡ don
 
 pub flows_turn : (missing : Option Shortfall) (all left rest : List (Pair × Flow)) (pair : Pair) (flow : Flow) (old mid new : Report) → AreEnded missing all left old mid
     → left ≡ (pair, flow) ∷ rest → Tells mid new → EndsStage pair false missing flow.stage mid new → EndsStageOnPage false missing flow.stage mid new
-    → AreEnded missing all rest old new
-flows_turn missing all left rest pair flow old mid new ended takes told ends logs = (
+    → EndsJoined pair false missing flow.stage mid new → AreEnded missing all rest old new
+flows_turn missing all left rest pair flow old mid new ended takes told ends logs joined = (
   ended.0 ++ (pair, flow) ∷ [],
   ended.1 ∙ ap (λ (fs : List (Pair × Flow)). ended.0 ++ fs) takes ∙ sym (append_assoc ended.0 ((pair, flow) ∷ []) rest),
-  flows_more missing ended.0 pair flow old mid new ended.2 told ends logs,
+  flows_more missing ended.0 pair flow old mid new ended.2 told ends logs joined,
 )
 
 pub flows_ended : (missing : Option Shortfall) (all left : List (Pair × Flow)) (old new : Report) → AreEnded missing all left old new → left ≡ []

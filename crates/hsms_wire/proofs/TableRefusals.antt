@@ -18,9 +18,9 @@ use Rattle.hsms_wire.specs.declared.report.Report.{Report}
 use Rattle.hsms_wire.specs.declared.shortfall.Shortfall.{Shortfall}
 use Rattle.hsms_wire.specs.declared.table.Capture.{Capture}
 use Rattle.hsms_wire.specs.declared.table.Table.{Table}
-use Rattle.hsms_wire.specs.Connections.{Connection, Connections, connection_of, without}
-use Rattle.hsms_wire.specs.Dealt.{Way, to_log, to_verdicts}
-use Rattle.hsms_wire.specs.Kept.{AreSame, IsOne, IsReport, IsTable, StageStands, TellsTo, captured_of}
+use Rattle.hsms_wire.specs.Connections.{Connection, Connections, Packets, connection_of, gathered, of_session, of_syn, without}
+use Rattle.hsms_wire.specs.Way.{IsReport, TellsTo, Way, to_log, to_verdicts}
+use Rattle.hsms_wire.specs.Kept.{AreSame, IsFollowedAs, IsOne, IsTable, StageStands, captured_of}
 use Rattle.hsms_wire.specs.Paged.{StageIn}
 use Rattle.hsms_wire.specs.Refused.{EndsRefused, InLog, TakesRefused}
 use Rattle.hsms_wire.specs.RefusedFile.{DealsByRefused, DealsRefused, EndRefused, EndsAsRefused, LastRefused, MoreRefused, NextRefused, StartRefused, TakesAsRefused}
@@ -28,35 +28,42 @@ use Rattle.hsms_wire.specs.RefusedTable.{EndsFlowsRefused, FollowsFlowRefused, R
 use Rattle.hsms_wire.specs.Report.{StopsUnrefused}
 use Rattle.hsms_wire.specs.Stop.{IsRefused}
 use Rattle.hsms_wire.specs.Segments.{taken_segment}
-use Rattle.hsms_wire.specs.Tabled.{Begins, BeginsFlow, BeginsWith, EndsFlows, HasTime, IsFollowed, LooksAt, ReplacesFlow, flow_of, seen_by}
-use Rattle.hsms_wire.proofs.Dealing.{AreBoth, begins, both_of, ends_all, is_open, never_joins, none_starts, pair_same, replaces, report_then, starts, up_more, up_numbered}
+use Rattle.hsms_wire.specs.Running.{seen_brought}
+use Rattle.hsms_wire.specs.Staged.{StageAs}
+use Rattle.hsms_wire.specs.Tabled.{Begins, BeginsFlow, BeginsWith, EndsFlows, HasTime, IsFollowed, LooksAt, ReplacesFlow, flow_of, brought_by}
+use Rattle.hsms_wire.proofs.Dealing.{AreBoth, begins, both_of, ends_all, is_open, none_starts, pair_same, replaces, report_then, starts, up_more, up_numbered}
 use Rattle.hsms_wire.proofs.Refusing.{none_refused}
 use Rattle.hsms_wire.proofs.Stages.{AreEnded}
 
 -- ---- a connection that is kept
 
-stands_in : (settings : Parameters) (side : Side) (a p : Parameters) (last number : ℕ) (seen : List Seen) (stage : Stage) (j : Journal) → j.settings ≡ settings
-    → StageStands (to_log settings side) a p last number (Some seen) stage → StageIn j.settings.max number seen stage
-stands_in settings side a p last number seen stage j is stands = subst (λ (s : Parameters). StageIn s.max number seen stage) (sym is) stands.0
+stands_in : (settings : Parameters) (side : Side) (a p : Parameters) (number : ℕ) (seen : List Seen) (stage : Stage) (j : Journal) → j.settings ≡ settings
+    → StageAs (IsFollowedAs (to_log settings side) a p) number seen stage → StageIn j.settings.max number seen stage
+stands_in settings side a p number seen stage j is stands = subst (λ (s : Parameters). StageIn s.max number seen stage) (sym is) stands
 
-end_refused : (settings : Parameters) (side : Side) (a p : Parameters) (last : ℕ) (missing : Option Shortfall) (number : ℕ) (packets : Option (List Seen)) (stage : Stage)
-    → (st : Stop) (old new : Report) → IsRefused st → TellsTo (to_log settings side) old.manner → StageStands (to_log settings side) a p last number packets stage
-    → EndsRefused missing stage st old new → EndRefused missing number packets st old new
+end_refused : (settings : Parameters) (side : Side) (a p : Parameters) (last : ℕ) (missing : Option Shortfall) (syn : Option ℕ) (packets : Option Packets) (stage : Stage)
+    → (st : Stop) (old new : Report) → IsRefused st → TellsTo (to_log settings side) old.manner → StageStands (to_log settings side) a p last syn packets stage
+    → EndsRefused missing stage st old new → EndRefused missing packets st old new
 unfolding InLog
-end_refused settings side a p last missing number None stage st old new refused manner stands ends = (ends refused manner.0 manner.1).0 stands
-end_refused settings side a p last missing number (Some seen) stage st old new refused manner stands ends =
-    (ends refused manner.0 manner.1).1 number seen (up_numbered 0 last seen stands.1) (stands_in settings side a p last number seen stage manner.0 manner.2 stands)
+end_refused settings side a p last missing syn None stage st old new refused manner stands ends = (ends refused manner.0 manner.1).0 stands
+end_refused settings side a p last missing syn (Some (of_syn number seen)) stage st old new refused manner stands ends =
+    (ends refused manner.0 manner.1).1 number seen (up_numbered 0 last seen stands.2) (stands_in settings side a p number seen stage manner.0 manner.2 stands.1)
+end_refused settings side a p last missing syn (Some (gathered gs)) stage st old new refused manner stands ends = tt
+end_refused settings side a p last missing syn (Some (of_session s)) stage st old new refused manner stands ends = tt
 
-more_refused : (settings : Parameters) (side : Side) (a p : Parameters) (last : ℕ) (pair : Pair) (s : Seen) (number : ℕ) (packets : Option (List Seen)) (stage : Stage)
-    → (begun : Option ℕ) (st : Stop) (old new : Report) → IsRefused st → TellsTo (to_log settings side) old.manner → begun ≡ Some number → last < s.packet
-    → StageStands (to_log settings side) a p last number packets stage → TakesRefused pair begun s stage st old new → MoreRefused number packets pair s st old new
+more_refused : (settings : Parameters) (side : Side) (a p : Parameters) (last : ℕ) (pair : Pair) (s : Seen) (syn : Option ℕ) (packets : Option Packets) (stage : Stage)
+    → (begun : Option ℕ) (st : Stop) (old new : Report) → IsRefused st → TellsTo (to_log settings side) old.manner → begun ≡ syn → last < s.packet
+    → StageStands (to_log settings side) a p last syn packets stage → TakesRefused pair begun s stage st old new → MoreRefused packets pair s st old new
 unfolding InLog
-more_refused settings side a p last pair s number None stage begun st old new refused manner is past stands takes = (takes refused manner.0 manner.1).0 stands
-more_refused settings side a p last pair s number (Some seen) stage begun st old new refused manner is past stands takes = (
+more_refused settings side a p last pair s syn None stage begun st old new refused manner is past stands takes = (takes refused manner.0 manner.1).0 stands
+more_refused settings side a p last pair s syn (Some (of_syn number seen)) stage begun st old new refused manner is past stands takes = (
   manner.0,
   manner.1,
-  (takes refused manner.0 manner.1).1 number is seen (up_more 0 last seen s stands.1 past) (stands_in settings side a p last number seen stage manner.0 manner.2 stands),
+  (takes refused manner.0 manner.1).1 number (is ∙ stands.0) seen (up_more 0 last seen s stands.2 past)
+      (stands_in settings side a p number seen stage manner.0 manner.2 stands.1),
 )
+more_refused settings side a p last pair s syn (Some (gathered gs)) stage begun st old new refused manner is past stands takes = tt
+more_refused settings side a p last pair s syn (Some (of_session r)) stage begun st old new refused manner is past stands takes = tt
 
 last_refused : (settings : Parameters) (side : Side) (a p : Parameters) (last : ℕ) (f : Option Flow) (c : Option Connection) (flow : Flow) (st : Stop) (old new : Report)
     → IsRefused st → TellsTo (to_log settings side) old.manner → AreBoth (to_log settings side) a p last f c → f ≡ Some flow → EndsRefused None flow.stage st old new
@@ -64,7 +71,7 @@ last_refused : (settings : Parameters) (side : Side) (a p : Parameters) (last : 
 last_refused settings side a p last f None flow st old new refused manner both at ends = subst (λ (x : Option Flow). AreBoth (to_log settings side) a p last x None) at both
 last_refused settings side a p last f (Some one) flow st old new refused manner both at ends =
     let is : IsOne (to_log settings side) a p last flow one = subst (λ (x : Option Flow). AreBoth (to_log settings side) a p last x (Some one)) at both in
-    end_refused settings side a p last None one.number one.packets flow.stage st old new refused manner is.stands ends
+    end_refused settings side a p last None one.syn one.packets flow.stage st old new refused manner is.stands ends
 
 next_refused : (settings : Parameters) (side : Side) (a p : Parameters) (last : ℕ) (pair : Pair) (s : Seen) (f : Option Flow) (c : Option Connection) (flow : Flow) (st : Stop)
     → (old new : Report) → IsRefused st → TellsTo (to_log settings side) old.manner → last < s.packet → AreBoth (to_log settings side) a p last f c → f ≡ Some flow
@@ -73,7 +80,7 @@ next_refused settings side a p last pair s f None flow st old new refused manner
     subst (λ (x : Option Flow). AreBoth (to_log settings side) a p last x None) at both
 next_refused settings side a p last pair s f (Some one) flow st old new refused manner past both at takes =
     let is : IsOne (to_log settings side) a p last flow one = subst (λ (x : Option Flow). AreBoth (to_log settings side) a p last x (Some one)) at both in
-    more_refused settings side a p last pair s one.number one.packets flow.stage flow.syn st old new refused manner is.syn past is.stands takes
+    more_refused settings side a p last pair s one.syn one.packets flow.stage flow.syn st old new refused manner is.syn past is.stands takes
 
 -- ---- a packet of the capture
 
@@ -106,9 +113,24 @@ deals_refused : (port : ℕ) (peer : Option IpAddr) (settings : Parameters) (sid
     → IsTable port peer (to_log settings side) a p last table all → TakesItRefused pair from segment s table st before after
     → DealsRefused a p pair from segment s all st before after
 deals_refused port peer settings side a p last pair from segment s table all st before after refused report past is takes = elim takes [
-  | inl starting ↦ by_start starting.0 starting.1 starting.2
+  | inl starting ↦ inl (
+    starting.0,
+    starts port peer (to_log settings side) a p last pair from segment starting.0 table all is starting.1,
+    start_refused port peer settings side a p last pair table all st before after refused report is starting.2,
+  )
   | inr rest ↦ elim rest [
-    | inl begun ↦ by_syn begun.0 begun.1 begun.2 begun.3 begun.4 begun.5
+    | inl begun ↦
+        let it = begun.4 in
+        let one = begins port peer (to_log settings side) a p last pair begun.0 table begun.1 before begun.2 all report it is in
+        let there = report_then (to_log settings side) a p it.mid begun.2 (report_then (to_log settings side) a p before it.mid report it.of_other.told) it.of_pair.told in
+        inr (inl (
+          begun.0,
+          one.0,
+          begun.2,
+          starts port peer (to_log settings side) a p last pair from segment begun.0 table all is begun.3,
+          one.1,
+          flow_refused port peer settings side a p last pair s begun.1 one.0 st begun.2 after refused there past one.2 begun.5,
+        ))
     | inr goes ↦ inr (inr (
       none_starts port peer (to_log settings side) a p last pair from segment table all is goes.0,
       is_open port peer (to_log settings side) a p last pair table all is goes.1,
@@ -116,30 +138,6 @@ deals_refused port peer settings side a p last pair from segment s table all st 
     ))
   ]
 ]
-  where
-    by_start : (syn : Option ℕ) → BeginsWith table pair from segment syn → StartsRefused pair table st before after → DealsRefused a p pair from segment s all st before after
-    by_start None joins starting = absurd (never_joins table is.joined joins.0)
-    by_start (Some number) with_it starting = inl (
-      number,
-      starts port peer (to_log settings side) a p last pair from segment number table all is with_it,
-      start_refused port peer settings side a p last pair table all st before after refused report is starting,
-    )
-
-    by_syn : (syn : Option ℕ) (begun : Table) (ended : Report) → BeginsWith table pair from segment syn → BeginsFlow pair syn table begun before ended
-        → FollowsFlowRefused pair s begun st ended after → DealsRefused a p pair from segment s all st before after
-    by_syn None begun ended joins begins_it goes = absurd (never_joins table is.joined joins.0)
-    by_syn (Some number) begun ended with_it begins_it goes =
-        let one = begins port peer (to_log settings side) a p last pair number table begun before ended all report begins_it is in
-        let there = report_then (to_log settings side) a p begins_it.mid ended
-        (report_then (to_log settings side) a p before begins_it.mid report begins_it.of_other.told) begins_it.of_pair.told in
-        inr (inl (
-          number,
-          one.0,
-          ended,
-          starts port peer (to_log settings side) a p last pair from segment number table all is with_it,
-          one.1,
-          flow_refused port peer settings side a p last pair s begun one.0 st ended after refused there past one.2 goes,
-        ))
 
 -- ---- the packet of a pair
 
@@ -164,10 +162,10 @@ TakesNext pair from segment capture time taken self table st report before after
 
 takes_next : (pair : Pair) (from : Side) (segment : Segment) (capture : Capture) (time : ℕ) (taken : Taken) (self table : Table) (st : Stop) (report before after : Report)
     → TakesNext pair from segment capture time taken self table st report before after
-    → FollowsFlowRefused pair (seen_by from segment capture time) table st before after
+    → FollowsFlowRefused pair (seen_brought (brought_by from segment capture time)) table st before after
 takes_next pair from segment capture time taken self table st report before after is =
-    subst (λ (t : Table). FollowsFlowRefused pair (seen_by from segment capture time) t st before after) is.1
-    (subst (λ (r : Report). FollowsFlowRefused pair (seen_by from segment capture time) self st r after) is.2
+    subst (λ (t : Table). FollowsFlowRefused pair (seen_brought (brought_by from segment capture time)) t st before after) is.1
+    (subst (λ (r : Report). FollowsFlowRefused pair (seen_brought (brought_by from segment capture time)) self st r after) is.2
     (subst (λ (x : Taken). FollowsFlowRefused pair (seen_of x capture.octets.now) self st report after) is.0 is.3))
 
 pub takes_first : (pair : Pair) (from : Side) (segment : Segment) (capture : Capture) (table begun : Table) (time : ℕ) (syn : Option ℕ) (taken : Taken) (self : Table) (st : Stop)
@@ -201,7 +199,7 @@ packet_refused pair from segment capture table st before after looks stops takes
       subst (λ (x : Option IpAddr). IsOfPeer x pair) is.peer_is looks.1,
       on.0,
       on.1,
-      deals_refused port peer settings side a p last pair from segment (seen_by from segment capture on.0) table all st before after refused report past is on.2,
+      deals_refused port peer settings side a p last pair from segment (seen_brought (brought_by from segment capture on.0)) table all st before after refused report past is on.2,
     )
 
 pub packets_refused : {T : Type 0} (result : Result T Stop) (pair : Pair) (from : Side) (segment : Segment) (capture : Capture) (table : Table) (before after : Report)
@@ -248,7 +246,7 @@ told_before : (missing : Option Shortfall) (flows : List (Pair × Flow)) (old ne
     → IsReport how a p new
 told_before missing [] old new how a p report ends = subst (IsReport how a p) (sym ends) report
 told_before missing ((pair, flow) ∷ flows) old new how a p report ends =
-    told_before missing flows ends.0 new how a p (report_then how a p old ends.0 report ends.1) ends.4
+    told_before missing flows ends.0 new how a p (report_then how a p old ends.0 report ends.1) ends.5
 
 pub left_refused : (missing : Option Shortfall) (table : Table) (st : Stop) (old new : Report) → StopsUnrefused old st
     → EndsFlowsRefused missing table.flows.entries st old new → EndsAsRefused missing table st old new
@@ -264,8 +262,8 @@ left_refused missing table st old new stops ends refused port peer (to_log setti
       split.behind,
       ends.4,
       split.are,
-      ends_all how a p last missing ends.0 split.before old ends.4 report split.same ends.6,
-      end_refused settings side a p last missing split.one.number split.one.packets ends.2.stage st ends.4 new refused there.manner_is split.is.stands ends.7,
+      ends_all how a p last missing ends.0 split.before old ends.4 report is.bound split.same ends.6,
+      end_refused settings side a p last missing split.one.syn split.one.packets ends.2.stage st ends.4 new refused there.manner_is split.is.stands ends.7,
     )
 
 -- the one that is next

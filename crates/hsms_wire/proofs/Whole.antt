@@ -27,8 +27,9 @@ use Rattle.hsms_wire.specs.declared.table.Capture.{Capture}
 use Rattle.hsms_wire.specs.declared.table.Table.{Table}
 use Rattle.hsms_wire.specs.Capturing.{IsMissingBy}
 use Rattle.hsms_wire.specs.Connections.{Captured, Connections, DealsPacket, EndsAll}
-use Rattle.hsms_wire.specs.Dealt.{BeginsAs, Way, to_log, to_verdicts, CapturesFile, DealsEach, DealsOne, DealsShown, IsBlank, LacksBy, PutsOut, Wanted, none_yet}
-use Rattle.hsms_wire.specs.Kept.{AreSame, ConcludesAsDealt, EndsAsDealt, FinishesAsDealt, IsReportOf, IsTableOf, PutsAsDealt, ReadsAsDealt, ShowsAsDealt, TakesAsDealt, captured_of, TellsTo, wanted_of, way_of}
+use Rattle.hsms_wire.specs.Dealt.{BeginsAs, CapturesFile, DealsEach, DealsOne, DealsShown, IsBlank, LacksBy, PutsOut, Wanted, none_yet}
+use Rattle.hsms_wire.specs.Way.{TellsTo, Way, to_log, to_verdicts}
+use Rattle.hsms_wire.specs.Kept.{AreSame, ConcludesAsDealt, EndsAsDealt, FinishesAsDealt, IsReportOf, IsTableOf, PutsAsDealt, ReadsAsDealt, ShowsAsDealt, TakesAsDealt, captured_of, wanted_of, way_of}
 use Rattle.hsms_wire.specs.LeftOut.{left_out_after, line_of, none_left_out}
 use Rattle.hsms_wire.specs.Report.{Finishes, TellsBehind, found_of, missing_after, nothing_found}
 use Rattle.hsms_wire.specs.Segments.{body_in}
@@ -41,8 +42,9 @@ pub segment_shows : {E : Type 0} (result : Result (Option Shortfall) E) (packet 
     (old new : Table) (before after : Report) → segment_at r.link octets ≡ shown.Segment segment → capture.packet ≡ packet → capture.time ≡ r.time
     → capture.octets.now ≡ body_in segment octets → IfOk result (λ missing. TakesAsDealt segment capture missing old new before after)
     → IfOk result (λ missing. ShowsAsDealt packet r octets missing old new before after)
-segment_shows (Ok missing) packet r octets segment capture old new before after is packet_is time_is body_is takes = λ w last all report past kept.
-    let on = takes w.port w.peer w.way w.active w.passive last all report (subst (λ (n : ℕ). last < n) (sym packet_is) past) kept in
+segment_shows (Ok missing) packet r octets segment capture old new before after is packet_is time_is body_is takes = λ w last all report past few kept.
+    let on = takes w.port w.peer w.way w.active w.passive last all report (subst (λ (n : ℕ). last < n) (sym packet_is) past)
+    (subst (λ (n : ℕ). n + 3 < 2 ^ 64) (sym packet_is) few) kept in
     let same : captured_of capture ≡ record { packet = packet; time = r.time; octets = body_in segment octets } =
     (λ i. record { packet = packet_is i; time = time_is i; octets = body_is i }) in (
       on.0,
@@ -55,19 +57,19 @@ segment_shows (Err stop) packet r octets segment capture old new before after is
 -- no TCP
 pub other_shows : (packet : ℕ) (r : Record) (octets : List ℕ) (table : Table) (report : Report) → segment_at r.link octets ≡ shown.Other
     → ShowsAsDealt packet r octets None table table report report
-other_shows packet r octets table report is = λ w last all of_it past kept. (
+other_shows packet r octets table report is = λ w last all of_it past few kept. (
   all,
   subst (λ (s : Shown). DealsShown s w packet r.time octets None all all report report) (sym is) (refl, refl, refl),
-  later w.port w.peer w.way w.active w.passive last packet table table all kept (omega (arith, past)) refl,
+  later w.port w.peer w.way w.active w.passive last packet table table all kept (omega (arith, past)) few refl,
 )
 
 -- or it is left out
 pub left_out_shows : (packet : ℕ) (r : Record) (octets : List ℕ) (reason : Reason) (table : Table) (before after : Report)
     → segment_at r.link octets ≡ shown.LeftOut reason → after ≡ record before { left_out = left_out_after before.left_out reason } → ShowsAsDealt packet r octets None table table before after
-left_out_shows packet r octets reason table before after is same = λ w last all of_it past kept. (
+left_out_shows packet r octets reason table before after is same = λ w last all of_it past few kept. (
   all,
   subst (λ (s : Shown). DealsShown s w packet r.time octets None all all before after) (sym is) (refl, refl, same),
-  later w.port w.peer w.way w.active w.passive last packet table table all kept (omega (arith, past)) refl,
+  later w.port w.peer w.way w.active w.passive last packet table table all kept (omega (arith, past)) few refl,
 )
 
 -- what is told with it is written
@@ -82,8 +84,8 @@ pub puts : (packet : ℕ) (r : Record) (octets : List ℕ) (missing : Option Sho
     → ShowsAsDealt packet r octets missing old new before told → TellsBehind before told → Grows out now told.page.octets → after ≡ record told { page = after.page }
     → after.page.octets ≡ [] → PutsAsDealt packet r octets missing old new before after out now
 unfolding PutsAsDealt
-puts packet r octets missing old new before told after out now shows tells grows same none = λ w last all report past kept.
-    let on = shows w last all report past kept in (
+puts packet r octets missing old new before told after out now shows tells grows same none = λ w last all report past few kept.
+    let on = shows w last all report past few kept in (
       on.0,
       told,
       on.1,
@@ -162,7 +164,7 @@ none_of (Some shortfall) none = absurd cc
 pub goes_so : (first : Reading) (from : Option (List ℕ)) (old : Table) (before : Report) (out : Option (List ℕ)) (was now : Reading) (left new : Option (List ℕ))
     (table next : Table) (between after : Report) (put written : Option (List ℕ)) (n : ℕ) (r : Record) (octets : List ℕ) (counter : ℕ) (st : Step)
     (missing : Option Shortfall) → IsSoFar first from old before out was left table between put → st ≡ step.Packet n r
-    → WhereTold left (λ input. StepsAs was input (Ok st) now new) → CountsOn st was.state.packets now.state.packets → was.state.packets ≤ first.state.packets + counter → counter < 2 ^ 64 - 1
+    → WhereTold left (λ input. StepsAs was input (Ok st) now new) → CountsOn st was.state.packets now.state.packets → was.state.packets ≤ first.state.packets + counter → counter < 2 ^ 64 - 4
     → octets ≡ take r.held (drop r.body now.last) → is_some missing ≡ false → PutsAsDealt n r octets missing table next between after put written
     → IsSoFar first from old before out now new next after written
 unfolding PutsAsDealt
@@ -173,7 +175,8 @@ goes_so first from old before out was now left new table next between after put 
     let puts = subst (λ (x : Option Shortfall). PutsAsDealt n r octets x table next between after put written) (none_of missing none) puts_as in
     let one = so w all zero is kept input told in
     let past : was.state.packets < n = omega (arith, counts.0, few, zero, under) in
-    let on = puts w was.state.packets one.mid one.report past one.kept in
+    let bound : n + 3 < 2 ^ 64 = omega (arith, counts.0, few, zero, under) in
+    let on = puts w was.state.packets one.mid one.report past bound one.kept in
     let p = packet_of n r now.last in
     let tells = tells_on (ReadsOn first input) one.told (p ∷ []) was now left new one.tells (steps one.tells.0 one.tells.1) in record {
       told = one.told ++ p ∷ [];
@@ -189,22 +192,27 @@ goes_so first from old before out was now left new table next between after put 
 pub passes_so : (first : Reading) (from : Option (List ℕ)) (old : Table) (before : Report) (out : Option (List ℕ)) (was now : Reading) (left new : Option (List ℕ))
     (table : Table) (after : Report) (put : Option (List ℕ)) (counter : ℕ) (st : Step) → IsSoFar first from old before out was left table after put
     → st ≡ step.Passed → WhereTold left (λ input. StepsAs was input (Ok st) now new) → CountsOn st was.state.packets now.state.packets → was.state.packets ≤ first.state.packets + counter
-    → counter < 2 ^ 64 - 1 → IsSoFar first from old before out now new table after put
+    → counter < 2 ^ 64 - 4 → IsSoFar first from old before out now new table after put
 passes_so first from old before out was now left new table after put counter st so st_is steps_as counts_as few under = λ w all zero is kept input told.
     let steps = subst (λ (x : Step). WhereTold left (λ input. StepsAs was input (Ok x) now new)) st_is steps_as in
+    let counts = subst (λ (x : Step). CountsOn x was.state.packets now.state.packets) st_is counts_as in
     let one = so w all zero is kept input told in
     let tells = tells_on (ReadsOn first input) one.told [] was now left new one.tells (steps one.tells.0 one.tells.1) in record {
       told = one.told;
       mid = one.mid;
       tells = subst (λ (l : List Packet). TellsPackets (ReadsOn first input) l now new) (append-nil one.told) tells;
       each = one.each;
-      kept = later w.port w.peer w.way w.active w.passive was.state.packets now.state.packets table table one.mid one.kept (onward zero (subst (λ (x : Step). CountsOn x was.state.packets now.state.packets) st_is counts_as)) refl;
+      kept = later w.port w.peer w.way w.active w.passive was.state.packets now.state.packets table table one.mid one.kept (onward zero counts) (bound zero counts) refl;
       report = one.report;
     }
   where
     onward : first.state.packets ≡ 0 → CountsOn step.Passed was.state.packets now.state.packets → was.state.packets ≤ now.state.packets
     onward zero (inl same) = omega (arith, same)
     onward zero (inr more) = omega (arith, more, few, zero, under)
+
+    bound : first.state.packets ≡ 0 → CountsOn step.Passed was.state.packets now.state.packets → now.state.packets + 3 < 2 ^ 64
+    bound zero (inl same) = omega (arith, same, few, zero, under)
+    bound zero (inr more) = omega (arith, more, few, zero, under)
 
 -- how many packets were passed
 pub counts_packet : (n : ℕ) (r : Record) (first was now counter : ℕ) → CountsOn (step.Packet n r) was now → was ≤ first + counter → now ≤ first + (counter + 1)
@@ -255,7 +263,7 @@ ends_faulty first from old before out was now left new table after put file.Memo
 pub stops_so : (first : Reading) (from : Option (List ℕ)) (old : Table) (before : Report) (out : Option (List ℕ)) (was now : Reading) (left new : Option (List ℕ))
     (table next : Table) (between after : Report) (put written : Option (List ℕ)) (n : ℕ) (r : Record) (octets : List ℕ) (counter : ℕ) (st : Step)
     (missing : Option Shortfall) → EachRestIsRead → IsSoFar first from old before out was left table between put → st ≡ step.Packet n r
-    → WhereTold left (λ input. StepsAs was input (Ok st) now new) → CountsOn st was.state.packets now.state.packets → was.state.packets ≤ first.state.packets + counter → counter < 2 ^ 64 - 1
+    → WhereTold left (λ input. StepsAs was input (Ok st) now new) → CountsOn st was.state.packets now.state.packets → was.state.packets ≤ first.state.packets + counter → counter < 2 ^ 64 - 4
     → octets ≡ take r.held (drop r.body now.last) → is_some missing ≡ true → PutsAsDealt n r octets missing table next between after put written
     → ReadsAsDealt first missing from old next before after out written
 unfolding PutsAsDealt ReadsAsDealt
@@ -266,7 +274,8 @@ stops_so first from old before out was now left new table next between after put
     let counts = subst (λ (x : Step). CountsOn x was.state.packets now.state.packets) st_is counts_as in
     let one = so w all zero is kept input told in
     let past : was.state.packets < n = omega (arith, counts.0, few, zero, under) in
-    let on = puts w was.state.packets one.mid one.report past one.kept in
+    let bound : n + 3 < 2 ^ 64 = omega (arith, counts.0, few, zero, under) in
+    let on = puts w was.state.packets one.mid one.report past bound one.kept in
     let p = packet_of n r now.last in
     let tells = tells_on (ReadsOn first input) one.told (p ∷ []) was now left new one.tells (steps one.tells.0 one.tells.1) in
     let rest = each now tells.0 in (
@@ -323,15 +332,15 @@ finishes_dealt missing table old mid out now well concludes grows = λ w last al
 
 -- ---- the whole of it
 
-pub first_table : (options : Capturing) (table : Table) (n : ℕ) → options.joined ≡ false
-    → (table.port ≡ options.port) × (table.peer ≡ options.peer) × (table.is_joined ≡ options.joined) → (table.flows.entries ≡ []) × (table.begun ≡ 0)
-    → IsTableOf (wanted_of options) n table none_yet
-first_table options table n joined of_it none = record {
+pub first_table : (options : Capturing) (table : Table) → (table.port ≡ options.port) × (table.peer ≡ options.peer) × (table.is_joined ≡ options.joined) → (table.flows.entries ≡ []) × (table.begun ≡ 0)
+    → IsTableOf (wanted_of options) 0 table (none_yet (wanted_of options))
+first_table options table of_it none = record {
   port_is = of_it.0;
   peer_is = of_it.1;
-  joined = of_it.2 ∙ joined;
+  joined = sym of_it.2;
+  bound = omega arith;
   begun = sym none.1;
-  same = subst (λ fs. AreSame (way_of options) options.active options.passive n fs []) (sym none.0) tt;
+  same = subst (λ fs. AreSame (way_of options) options.active options.passive 0 fs []) (sym none.0) tt;
 }
 
 pub is_blank : (options : Capturing) (report : Report) → BeginsAs (way_of options) report.manner → report.active ≡ options.active → report.passive ≡ options.passive
@@ -352,11 +361,11 @@ pub captures_opened : (options : Capturing) (reading : Reading) (missing : Optio
     → (table.port ≡ options.port) × (table.peer ≡ options.peer) × (table.is_joined ≡ options.joined) → (table.flows.entries ≡ []) × (table.begun ≡ 0)
     → WhereTold from (λ input. OpensAs input (Ok reading) left) → reading.state.packets ≡ 0 → ReadsAsDealt reading missing left table end first last out put
     → (TellsTo (way_of options) last.manner → FinishesAsDealt missing end last put now result)
-    → options.joined ≡ false → WhereTold from (λ input. CapturesFile (wanted_of options) input out now result)
+    → WhereTold from (λ input. CapturesFile (wanted_of options) input out now result)
 unfolding ReadsAsDealt
-captures_opened options reading missing first last table end from left out put now result is of_it none opens zero reads finishes = λ joined input at.
+captures_opened options reading missing first last table end from left out put now result is of_it none opens zero reads finishes = λ input at.
     let opened = opens input at in
-    let on = reads (wanted_of options) none_yet zero (of_blank (wanted_of options) first is) (first_table options table 0 joined of_it none) opened.0 opened.1 in
+    let on = reads (wanted_of options) (none_yet (wanted_of options)) zero (of_blank (wanted_of options) first is) (first_table options table of_it none) opened.0 opened.1 in
     record {
       packets = on.0;
       ending = on.1;
@@ -377,21 +386,21 @@ pub captures_none : (options : Capturing) (fault : FileFault) (shortfall : Short
     → (table.port ≡ options.port) × (table.peer ≡ options.peer) × (table.is_joined ≡ options.joined) → (table.flows.entries ≡ []) × (table.begun ≡ 0)
     → WhereTold from (λ input. OpensAs input (Err fault) left) → IsMissingBy fault 0 (Ok shortfall)
     → (TellsTo (way_of options) first.manner → FinishesAsDealt (Some shortfall) table first out now result)
-    → options.joined ≡ false → WhereTold from (λ input. CapturesFile (wanted_of options) input out now result)
-captures_none options fault shortfall first table from left out now result is of_it none opens missing finishes = λ joined input at.
+    → WhereTold from (λ input. CapturesFile (wanted_of options) input out now result)
+captures_none options fault shortfall first table from left out now result is of_it none opens missing finishes = λ input at.
     let ended = by_fault input fault (opens input at) missing in
     record {
       packets = [];
       ending = ended.0;
       missing = Some shortfall;
-      all = none_yet;
+      all = none_yet (wanted_of options);
       first = first;
       last = first;
       put = out;
       reads = ended.1;
       blank = is;
       deals = inl (ended.2, (refl, refl, refl));
-      concluded = finishes (of_blank (wanted_of options) first is).manner_is (wanted_of options) 0 none_yet (of_blank (wanted_of options) first is) (first_table options table 0 joined of_it none);
+      concluded = finishes (of_blank (wanted_of options) first is).manner_is (wanted_of options) 0 (none_yet (wanted_of options)) (of_blank (wanted_of options) first is) (first_table options table of_it none);
     }
   where
     by_fault : (input : List ℕ) (f : FileFault) → OpensAs input (Err f) left → IsMissingBy f 0 (Ok shortfall)

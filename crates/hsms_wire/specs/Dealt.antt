@@ -9,7 +9,6 @@ use Rattle.hsms_packets.specs.declared.segment.Shown.{Shown}
 use Rattle.hsms_packets.specs.declared.segment.Shown.TheVariants as shown
 use Rattle.hsms_packets.specs.File.{Packet, Ending, ReadsFile, complete, cut, faulty}
 use Rattle.hsms_packets.specs.Segment.{segment_at}
-use Rattle.hsms_capture.specs.declared.packet.Side.{Side}
 use Rattle.hsms_wire.specs.declared.report.Manner.{Manner}
 use Rattle.hsms_wire.specs.declared.report.Manner.TheVariants.{Log, Verdicts}
 use Rattle.hsms_wire.specs.declared.report.Report.{Report}
@@ -19,20 +18,17 @@ use Rattle.hsms_wire.specs.Connections.{Connections, DealsPacket, EndsAll}
 use Rattle.hsms_wire.specs.LeftOut.{left_out_after, line_of, none_left_out}
 use Rattle.hsms_wire.specs.Report.{Answers, found_of, missing_after, nothing_found}
 use Rattle.hsms_wire.specs.Segments.{body_in}
-
--- what is told: verdicts, or the log of the end on this side, with these settings
-pub data Way : Type 0 where
-  to_verdicts : Way
-  to_log : Parameters → Side → Way
+use Rattle.hsms_wire.specs.Way.{Way, to_log, to_verdicts}
 
 -- What is looked at: connections whose passive ends have this port, and of which one end has this address, where one is
--- asked for; both ends have these settings.
+-- asked for; both ends have these settings; and whether sessions are that were running before the capture.
 pub record Wanted : Type 0 where
   pub port : ℕ
   pub peer : Option IpAddr
   pub way : Way
   pub active : Parameters
   pub passive : Parameters
+  pub joined : Bool
 
 -- ---- a packet
 
@@ -81,8 +77,8 @@ DealsUpTo w ps ending missing old new before after out now =
 
 -- ---- the whole of it
 
-abbrev pub none_yet : Connections
-none_yet = record { known = []; begun = 0 }
+abbrev pub none_yet : Wanted → Connections
+none_yet w = record { known = []; begun = 0; joined = w.joined }
 
 -- nothing is told yet
 abbrev pub BeginsAs : Way → Manner → Type 0
@@ -116,5 +112,5 @@ pub record CapturesFile (w : Wanted) (input : List ℕ) (out now : Option (List 
   pub put : Option (List ℕ)
   pub reads : ReadsFile input packets ending
   pub blank : IsBlank w first
-  pub deals : DealsUpTo w packets ending missing none_yet all first last out put
+  pub deals : DealsUpTo w packets ending missing (none_yet w) all first last out put
   pub concluded : Concluded w missing all last put now result

@@ -27,10 +27,9 @@ use Rattle.hsms_wire.specs.declared.report.Report.{Report}
 use Rattle.hsms_wire.specs.declared.said.Said.{Said}
 use Rattle.hsms_wire.specs.declared.shortfall.Shortfall.{Shortfall}
 use Rattle.hsms_wire.specs.declared.shortfall.Shortfall.TheVariants.{Length}
-use Rattle.hsms_wire.specs.Dealt.{Way, to_log, to_verdicts}
+use Rattle.hsms_wire.specs.Way.{IsReport, Way, to_log, to_verdicts}
 use Rattle.hsms_wire.specs.Followed.{came_up_by, course_by_events, is_up_event, logged_by}
 use Rattle.hsms_wire.specs.Items.{EndsHadItems, EndsHaveItems, EndsItemsBy, Item, LogsItems, TakesItems, comes_up, supposes, leaves_out, tells, goes_down}
-use Rattle.hsms_wire.specs.Kept.{IsReport}
 use Rattle.hsms_wire.specs.Said.{KnowsBoth, Spoken, nothing_spoken, spoken_to}
 use Rattle.hsms_wire.specs.Supposing.{Before, Terms, asked, before_of, decided_by, is_decided, items_by, items_of, looked_at, said_by, session_items, since, spoken_with, supposed_items, sure_log, tells_some, whole_log}
 

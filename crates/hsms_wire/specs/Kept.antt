@@ -1,5 +1,5 @@
 -- The connections that are kept, as those of the definition.
-use Rattle.std.specs.Prelude.{◌≡◌, ◌≤◌, ◌<◌, ◌++◌, ◌∷◌, ℕ, Bool, true, false, if◌then◌else◌, List, [], Option, Some, None, Result}
+use Rattle.std.specs.Prelude.{◌≡◌, ◌≤◌, ◌<◌, ◌+◌, ◌^◌, ◌++◌, ◌∷◌, ℕ, Bool, true, false, if◌then◌else◌, List, [], map, Option, Some, None, Result}
 use Rattle.std.specs.declared.net.ip_addr.IpAddr.{IpAddr}
 use Rattle.hsms_machine.specs.Settings.{Parameters}
 use Rattle.hsms_machine.specs.declared.settings.Role.{Role}
@@ -14,25 +14,26 @@ use Rattle.hsms_packets.specs.File.{Packet, Ending}
 use Rattle.hsms_packets.specs.Segment.{segment_at}
 use Rattle.hsms_capture.specs.declared.packet.Side.TheVariants.{Active, Passive}
 use Rattle.hsms_capture.specs.Wire.{End, Seen}
-use Rattle.hsms_accounts.specs.declared.journal.Journal.{Journal}
 use Rattle.hsms_accounts.specs.declared.pair.Pair.{Pair}
 use Rattle.hsms_accounts.specs.declared.stop.Stop.{Stop}
 use Rattle.hsms_wire.specs.declared.flow.Flow.{Flow}
 use Rattle.hsms_wire.specs.declared.flow.Open.{Open}
 use Rattle.hsms_wire.specs.declared.flow.Stage.{Stage}
 use Rattle.hsms_wire.specs.declared.flow.Stage.TheVariants as stage
-use Rattle.hsms_wire.specs.declared.report.Manner.{Manner}
-use Rattle.hsms_wire.specs.declared.report.Manner.TheVariants.{Log, Verdicts}
 use Rattle.hsms_wire.specs.declared.report.Report.{Report}
 use Rattle.hsms_wire.specs.declared.shortfall.Shortfall.{Shortfall}
 use Rattle.hsms_wire.specs.declared.table.Capture.{Capture}
 use Rattle.hsms_wire.specs.declared.table.Table.{Table}
-use Rattle.hsms_wire.specs.Connections.{Captured, Connection, Connections, DealsPacket, EndsAll}
-use Rattle.hsms_wire.specs.Dealt.{Concluded, DealsShown, DealsUpTo, PutsOut, Wanted, Way, to_log, to_verdicts}
+use Rattle.hsms_wire.specs.declared.within.Within.{Within}
+use Rattle.hsms_wire.specs.Connections.{Captured, Connection, Connections, DealsPacket, EndsAll, Packets, gathered, of_session, of_syn}
+use Rattle.hsms_wire.specs.Dealt.{Concluded, DealsShown, DealsUpTo, PutsOut, Wanted}
+use Rattle.hsms_wire.specs.Way.{IsReport, Way, to_log, to_verdicts}
 use Rattle.hsms_wire.specs.LeftOut.{line_of}
 use Rattle.hsms_wire.specs.Report.{Finishes, found_of, missing_after}
 use Rattle.hsms_wire.specs.Followed.{IsFollowed}
+use Rattle.hsms_wire.specs.Joining.{brought}
 use Rattle.hsms_wire.specs.Paged.{IsOpenIn}
+use Rattle.hsms_wire.specs.Running.{Brought, IsWithin}
 use Rattle.hsms_wire.specs.Staged.{StageAs}
 
 -- each is past the one before it, and none past the last one
@@ -45,15 +46,25 @@ abbrev pub IsFollowedAs : Way → Parameters → Parameters → (End → ℕ) �
 IsFollowedAs to_verdicts a p base seen o = IsFollowed a p base seen o
 IsFollowedAs (to_log settings side) a p base seen o = IsOpenIn settings.max base seen o
 
--- its packets wait, or it is followed; or it was told
-abbrev pub StageStands : Way → Parameters → Parameters → ℕ → ℕ → Option (List Seen) → Stage → Type 0
-StageStands how a p last number None st = st ≡ stage.Over
-StageStands how a p last number (Some seen) st = StageAs (IsFollowedAs how a p) number seen st × UpTo 0 last seen
+-- the same of packets as they were captured
+abbrev pub RiseUpTo : ℕ → ℕ → List Brought → Type 0
+RiseUpTo first last [] = first ≤ last
+RiseUpTo first last (g ∷ gs) = (first < g.segment.packet) × RiseUpTo g.segment.packet last gs
+
+-- Its packets wait, or it is followed; or it was told. Where it was running before, packets are kept, or it is followed from
+-- where both of its directions begin.
+abbrev pub StageStands : Way → Parameters → Parameters → ℕ → Option ℕ → Option Packets → Stage → Type 0
+StageStands how a p last syn None st = st ≡ stage.Over
+StageStands how a p last syn (Some (of_syn number seen)) st = (syn ≡ Some number) × StageAs (IsFollowedAs how a p) number seen st × UpTo 0 last seen
+StageStands how a p last syn (Some (gathered gs)) st = (st ≡ stage.Joining gs) × RiseUpTo 0 last (map brought gs)
+StageStands how a p last syn (Some (of_session s)) st =
+    (w : Within) × (st ≡ stage.Within w) × (w.active ≡ s.active) × (w.passive ≡ s.passive) × IsWithin how a p s.start s.packets s.happened w
+    × RiseUpTo 0 last s.packets
 
 pub record IsOne (how : Way) (a p : Parameters) (last : ℕ) (flow : Flow) (one : Connection) : Type 0 where
-  pub syn : flow.syn ≡ Some one.number
+  pub syn : flow.syn ≡ one.syn
   pub born : flow.born ≡ one.born
-  pub stands : StageStands how a p last one.number one.packets flow.stage
+  pub stands : StageStands how a p last one.syn one.packets flow.stage
 
 -- one for one
 abbrev pub AreSame : Way → Parameters → Parameters → ℕ → List (Pair × Flow) → List (Pair × Connection) → Type 0
@@ -62,32 +73,23 @@ AreSame how a p last [] (one ∷ ones) = ⊥
 AreSame how a p last (flow ∷ flows) [] = ⊥
 AreSame how a p last (flow ∷ flows) (one ∷ ones) = (one.0 ≡ flow.0) × IsOne how a p last flow.1 one.1 × AreSame how a p last flows ones
 
--- what it is of: the port, the peer's address, and sessions that begin with a SYN
+-- what it is of: the port, the peer's address, and whether sessions are looked at that were running before
 pub record IsTable (port : ℕ) (peer : Option IpAddr) (how : Way) (a p : Parameters) (last : ℕ) (table : Table) (all : Connections) : Type 0 where
   pub port_is : table.port ≡ port
   pub peer_is : table.peer ≡ peer
-  pub joined : table.is_joined ≡ false
+  pub joined : all.joined ≡ table.is_joined
+  pub bound : last + 3 < 2 ^ 64
   pub begun : all.begun ≡ table.begun
   pub same : AreSame how a p last table.flows.entries all.known
-
--- the log of an end by these settings is told, or verdicts are
-abbrev pub TellsTo : Way → Manner → Type 0
-TellsTo to_verdicts manner = manner ≡ Verdicts
-TellsTo (to_log settings side) manner = (j : Journal) × (manner ≡ Log j) × (j.settings ≡ settings) × (j.side ≡ side)
-
-pub record IsReport (how : Way) (a p : Parameters) (report : Report) : Type 0 where
-  pub manner_is : TellsTo how report.manner
-  pub active : report.active ≡ a
-  pub passive : report.passive ≡ p
 
 abbrev pub captured_of : Capture → Captured
 captured_of capture = record { packet = capture.packet; time = capture.time; octets = capture.octets.now }
 
--- A packet is dealt as the definition says, of sessions that begin with a SYN.
+-- A packet is dealt as the definition says, as long as its number has three more behind it.
 abbrev pub TakesAsDealt : Segment → Capture → Option Shortfall → Table → Table → Report → Report → Type 0
 TakesAsDealt segment capture missing old new before after =
     (port : ℕ) (peer : Option IpAddr) (how : Way) (a p : Parameters) (last : ℕ) (all : Connections) → IsReport how a p before → last < capture.packet
-    → IsTable port peer how a p last old all
+    → capture.packet + 3 < 2 ^ 64 → IsTable port peer how a p last old all
     → (next : Connections) × DealsPacket port peer a p segment (captured_of capture) missing all next before after × IsTable port peer how a p capture.packet new next
 
 -- and what is left is told as it says
@@ -113,7 +115,8 @@ abbrev pub way_of : Capturing → Way
 way_of options = way_by options.log options.active options.passive
 
 abbrev pub wanted_of : Capturing → Wanted
-wanted_of options = record { port = options.port; peer = options.peer; way = way_of options; active = options.active; passive = options.passive }
+wanted_of options =
+    record { port = options.port; peer = options.peer; way = way_of options; active = options.active; passive = options.passive; joined = options.joined }
 
 abbrev pub IsTableOf : Wanted → ℕ → Table → Connections → Type 0
 IsTableOf w last table all = IsTable w.port w.peer w.way w.active w.passive last table all
@@ -123,13 +126,13 @@ IsReportOf w report = IsReport w.way w.active w.passive report
 
 abbrev pub ShowsAsDealt : ℕ → Record → List ℕ → Option Shortfall → Table → Table → Report → Report → Type 0
 ShowsAsDealt packet r octets missing old new before after =
-    (w : Wanted) (last : ℕ) (all : Connections) → IsReportOf w before → last < packet → IsTableOf w last old all
+    (w : Wanted) (last : ℕ) (all : Connections) → IsReportOf w before → last < packet → packet + 3 < 2 ^ 64 → IsTableOf w last old all
     → (next : Connections) × DealsShown (segment_at r.link octets) w packet r.time octets missing all next before after × IsTableOf w packet new next
 
 -- and it is written what is told with it
 unfoldable pub PutsAsDealt : ℕ → Record → List ℕ → Option Shortfall → Table → Table → Report → Report → Option (List ℕ) → Option (List ℕ) → Type 0
 PutsAsDealt packet r octets missing old new before after out now =
-    (w : Wanted) (last : ℕ) (all : Connections) → IsReportOf w before → last < packet → IsTableOf w last old all
+    (w : Wanted) (last : ℕ) (all : Connections) → IsReportOf w before → last < packet → packet + 3 < 2 ^ 64 → IsTableOf w last old all
     → (next : Connections) × (told : Report) × DealsShown (segment_at r.link octets) w packet r.time octets missing all next before told
     × PutsOut told after out now × IsTableOf w packet new next × IsReportOf w after
 

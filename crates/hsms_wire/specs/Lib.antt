@@ -4,6 +4,7 @@ pub mod Report
 pub mod Capturing
 pub mod Said
 pub mod Courses
+pub mod Way
 pub mod Logged
 pub mod Followed
 pub mod Staged
@@ -19,6 +20,8 @@ pub mod Supposing
 pub mod Joined
 pub mod Session
 pub mod Running
+pub mod Joining
 pub mod Refused
+pub mod RefusedSession
 pub mod RefusedTable
 pub mod RefusedFile

@@ -22,11 +22,13 @@ use Rattle.hsms_wire.specs.declared.report.Report.{Report}
 use Rattle.hsms_wire.specs.declared.shortfall.Shortfall.{Shortfall}
 use Rattle.hsms_wire.specs.declared.table.Capture.{Capture}
 use Rattle.hsms_wire.specs.declared.table.Table.{Table}
-use Rattle.hsms_wire.specs.Connections.{Captured, Connection, Connections, EndsAll, IsOpen, IsReplaced, Starts, StartsAny, StartsOne, connection_of, pair_in, seen_at, without}
-use Rattle.hsms_wire.specs.Dealt.{CapturesFile, DealsEach, DealsUpTo, IsBlank, Wanted, Way, none_yet, to_log, to_verdicts}
-use Rattle.hsms_wire.specs.Kept.{ConcludesAsDealt, FinishesAsDealt, IsReport, IsReportOf, IsTable, IsTableOf, captured_of}
+use Rattle.hsms_wire.specs.Connections.{Captured, Connection, Connections, EndsAll, IsOpen, IsReplaced, Starts, StartsAny, StartsOne, Packets, brought_at, connection_of, gathered, of_session, of_syn, pair_in, without}
+use Rattle.hsms_wire.specs.Dealt.{CapturesFile, DealsEach, DealsUpTo, IsBlank, Wanted, none_yet}
+use Rattle.hsms_wire.specs.Way.{IsReport, Way, to_log, to_verdicts}
+use Rattle.hsms_wire.specs.Kept.{ConcludesAsDealt, FinishesAsDealt, IsReportOf, IsTable, IsTableOf, captured_of}
 use Rattle.hsms_wire.specs.Refused.{RefusedWith, RefusesFor, lack_at_end}
 use Rattle.hsms_wire.specs.Report.{missing_after}
+use Rattle.hsms_wire.specs.Running.{seen_brought}
 use Rattle.hsms_wire.specs.Segments.{body_in}
 use Rattle.hsms_wire.specs.Staged.{answered_by}
 use Rattle.hsms_wire.specs.Stop.{IsRefusal, IsRefused, TellsStop}
@@ -34,15 +36,17 @@ use Rattle.hsms_wire.specs.Tabled.{HasTime}
 
 -- ---- a connection by its packets
 
--- it lacks something that ends
-abbrev pub EndRefused : Option Shortfall → ℕ → Option (List Seen) → Stop → Report → Report → Type 0
-EndRefused missing number None st old new = ⊥
-EndRefused missing number (Some seen) st old new = RefusesFor (lack_at_end (answered_by number seen) number seen missing) st old new
+-- it lacks something that ends; of a session that was running before nothing is said of it
+abbrev pub EndRefused : Option Shortfall → Option Packets → Stop → Report → Report → Type 0
+EndRefused missing None st old new = ⊥
+EndRefused missing (Some (of_syn number seen)) st old new = RefusesFor (lack_at_end (answered_by number seen) number seen missing) st old new
+EndRefused missing (Some (gathered gs)) st old new = Unit {0}
+EndRefused missing (Some (of_session s)) st old new = Unit {0}
 
 -- since another one replaces it
 abbrev pub LastRefused : Option Connection → Stop → Report → Report → Type 0
 LastRefused None st old new = ⊥
-LastRefused (Some one) st old new = EndRefused None one.number one.packets st old new
+LastRefused (Some one) st old new = EndRefused None one.packets st old new
 
 -- the one before, whichever of the two ends connected
 abbrev pub StartRefused : Parameters → Parameters → Pair → Connections → Stop → Report → Report → Type 0
@@ -52,30 +56,32 @@ StartRefused a p pair all st before after =
     × LastRefused (connection_of (without (turned pair) all) pair) st mid after)
 
 -- with one packet more
-abbrev pub MoreRefused : ℕ → Option (List Seen) → Pair → Seen → Stop → Report → Report → Type 0
-MoreRefused number None pair s st old new = ⊥
-MoreRefused number (Some seen) pair s st old new =
+abbrev pub MoreRefused : Option Packets → Pair → Seen → Stop → Report → Report → Type 0
+MoreRefused None pair s st old new = ⊥
+MoreRefused (Some (gathered gs)) pair s st old new = Unit {0}
+MoreRefused (Some (of_session r)) pair s st old new = Unit {0}
+MoreRefused (Some (of_syn number seen)) pair s st old new =
     (j : Journal) × (old.manner ≡ Log j) × RefusedWith (answered_by number seen) (answered_by number (seen ++ s ∷ [])) j pair number seen s st old new
 
 abbrev pub NextRefused : Option Connection → Pair → Seen → Stop → Report → Report → Type 0
 NextRefused None pair s st old new = ⊥
-NextRefused (Some one) pair s st old new = MoreRefused one.number one.packets pair s st old new
+NextRefused (Some one) pair s st old new = MoreRefused one.packets pair s st old new
 
 -- ---- a packet of the capture
 
 -- the connection before that which it begins refuses, that one, or another one whose next packet it is
 abbrev pub DealsRefused : Parameters → Parameters → Pair → Side → Segment → Seen → Connections → Stop → Report → Report → Type 0
 DealsRefused a p pair from segment s all st before after =
-    ((number : ℕ) × Starts all pair from segment number × StartRefused a p pair all st before after)
-    ⊎ ((number : ℕ) × (begun : Connections) × (ended : Report) × Starts all pair from segment number
-    × StartsOne a p pair number all begun before ended × NextRefused (connection_of begun pair) pair s st ended after)
+    ((syn : Option ℕ) × Starts all pair from segment syn × StartRefused a p pair all st before after)
+    ⊎ ((syn : Option ℕ) × (begun : Connections) × (ended : Report) × Starts all pair from segment syn
+    × StartsOne a p pair syn all begun before ended × NextRefused (connection_of begun pair) pair s st ended after)
     ⊎ ((StartsAny all pair from segment → ⊥) × IsOpen all pair × NextRefused (connection_of all pair) pair s st before after)
 
 abbrev pub DealsByRefused : Option IpAddr → Option (Pair × Side) → Parameters → Parameters → Segment → Captured → Connections → Stop → Report → Report → Type 0
 DealsByRefused peer None a p segment captured all st before after = ⊥
 DealsByRefused peer (Some found) a p segment captured all st before after =
     IsOfPeer peer found.0 × (time : ℕ) × HasTime captured.time time
-    × DealsRefused a p found.0 found.1 segment (seen_at found.1 segment captured time) all st before after
+    × DealsRefused a p found.0 found.1 segment (seen_brought (brought_at found.1 segment captured time)) all st before after
 
 abbrev pub DealsPacketRefused : ℕ → Option IpAddr → Parameters → Parameters → Segment → Captured → Connections → Stop → Report → Report → Type 0
 DealsPacketRefused port peer a p segment captured all st before after = DealsByRefused peer (pair_in port all segment) a p segment captured all st before after
@@ -84,7 +90,7 @@ DealsPacketRefused port peer a p segment captured all st before after = DealsByR
 abbrev pub EndsAllRefused : Parameters → Parameters → Option Shortfall → List (Pair × Connection) → Stop → Report → Report → Type 0
 EndsAllRefused a p missing known st old new =
     (front : List (Pair × Connection)) × (pair : Pair) × (one : Connection) × (rest : List (Pair × Connection)) × (mid : Report)
-    × (known ≡ front ++ (pair, one) ∷ rest) × EndsAll a p missing front old mid × EndRefused missing one.number one.packets st mid new
+    × (known ≡ front ++ (pair, one) ∷ rest) × EndsAll a p missing front old mid × EndRefused missing one.packets st mid new
 
 -- ---- a packet of a file
 
@@ -126,7 +132,7 @@ pub record RefusesPacket (w : Wanted) (input : List ℕ) (out now : Option (List
   pub first : Report
   pub reads : ReadsFile input packets ending
   pub blank : IsBlank w first
-  pub stops : StopsAt w packets none_yet first out now fault
+  pub stops : StopsAt w packets (none_yet w) first out now fault
 
 -- it is refused since a connection that is left lacks something
 pub record RefusesLeft (w : Wanted) (input : List ℕ) (out now : Option (List ℕ)) (fault : ToolFault) : Type 0 where
@@ -139,7 +145,7 @@ pub record RefusesLeft (w : Wanted) (input : List ℕ) (out now : Option (List �
   pub put : Option (List ℕ)
   pub reads : ReadsFile input packets ending
   pub blank : IsBlank w first
-  pub deals : DealsUpTo w packets ending missing none_yet all first last out put
+  pub deals : DealsUpTo w packets ending missing (none_yet w) all first last out put
   pub st : Stop
   pub told : Report
   pub refused : EndsAllRefused w.active w.passive missing all.known st (record last { shortfall = missing_after last.shortfall missing }) told

@@ -13,7 +13,8 @@ use Rattle.hsms_wire.specs.declared.table.Capture.{Capture}
 use Rattle.hsms_wire.specs.declared.table.Table.{Table}
 use Rattle.hsms_wire.specs.Refused.{EndsRefused, TakesRefused}
 use Rattle.hsms_wire.specs.Stop.{IsRefused}
-use Rattle.hsms_wire.specs.Tabled.{Begins, BeginsFlow, BeginsWith, EndsFlows, HasTime, IsFollowed, ReplacesFlow, flow_of, seen_by}
+use Rattle.hsms_wire.specs.Running.{seen_brought}
+use Rattle.hsms_wire.specs.Tabled.{Begins, BeginsFlow, BeginsWith, EndsFlows, HasTime, IsFollowed, ReplacesFlow, flow_of, brought_by}
 
 -- the one before, which ends since another one replaces it
 abbrev pub ReplacesRefused : Pair → Table → Stop → Report → Report → Type 0
@@ -40,7 +41,7 @@ TakesItRefused pair from segment s table st before after =
 
 abbrev pub TakesOfRefused : Pair → Side → Segment → Capture → Table → Stop → Report → Report → Type 0
 TakesOfRefused pair from segment capture table st before after =
-    IsRefused st → (time : ℕ) × HasTime capture.time time × TakesItRefused pair from segment (seen_by from segment capture time) table st before after
+    IsRefused st → (time : ℕ) × HasTime capture.time time × TakesItRefused pair from segment (seen_brought (brought_by from segment capture time)) table st before after
 
 -- the first one of those that are left that lacks something
 abbrev pub EndsFlowsRefused : Option Shortfall → List (Pair × Flow) → Stop → Report → Report → Type 0

@@ -18,6 +18,7 @@ use Rattle.hsms_accounts.specs.declared.account.Told.{Told}
 use Rattle.hsms_accounts.specs.declared.ends.Ends.{Ends}
 use Rattle.hsms_accounts.specs.declared.journal.Journal.{Journal}
 use Rattle.hsms_accounts.specs.declared.pair.Pair.{Pair}
+use Rattle.hsms_joined.specs.declared.session.Session.{Session}
 use Rattle.hsms_wire.specs.declared.left_out.LeftOut.{LeftOut}
 use Rattle.hsms_wire.specs.declared.report.Manner.{Manner}
 use Rattle.hsms_wire.specs.declared.report.Manner.TheVariants.{Verdicts, Log}
@@ -25,6 +26,10 @@ use Rattle.hsms_wire.specs.declared.report.Report.{Report}
 use Rattle.hsms_wire.specs.declared.shortfall.Shortfall.{Shortfall}
 use Rattle.hsms_accounts.specs.declared.stop.Stop.{Stop}
 use Rattle.hsms_accounts.specs.declared.stop.Stop.TheVariants as stop
+
+-- by what the messages of a session are known
+abbrev pub session_of : Parameters → Session
+session_of settings = record { device = settings.device; max = settings.max; depth = settings.depth }
 
 -- of what is missing, what was found first
 abbrev pub first_of : Option Shortfall → Shortfall → Shortfall

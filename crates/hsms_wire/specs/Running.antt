@@ -1,30 +1,44 @@
--- The packets of a session that was running before its capture: those of a connection that came up just before the places
--- at which its directions begin, by three packets that weren't captured.
-use Rattle.std.specs.Prelude.{◌≡◌, ◌⊎◌, ◌+◌, ◌-◌, ◌^◌, ◌&&◌, ◌++◌, ◌∷◌, min, ℕ, true, false, List, [], flat_map, length, map, drop, Some, None, is_none}
+-- A session that was running before its capture: what happens on it is what the wire shows of a connection that came up just
+-- before the places at which its directions begin, by three packets that weren't captured.
+use Rattle.std.specs.Prelude.{◌≡◌, ◌⊎◌, ◌+◌, ◌-◌, ◌^◌, ◌&&◌, ◌++◌, ◌∷◌, min, ℕ, Bool, true, false, List, [], flat_map, length, map, drop, Option, Some, None, is_none}
 use Rattle.hsms_capture.specs.declared.connection.Connection.{Connection}
 use Rattle.hsms_capture.specs.declared.ending.Ending.{Ending}
 use Rattle.hsms_capture.specs.declared.ending.Ending.TheVariants as ending
+use Rattle.hsms_machine.specs.Settings.{Parameters}
 use Rattle.hsms_capture.specs.declared.packet.Segment.{Segment}
 use Rattle.hsms_capture.specs.declared.packet.Side.{Side}
 use Rattle.hsms_capture.specs.declared.packet.Side.TheVariants as side
 use Rattle.hsms_capture.specs.declared.telling.Happening.{Happening}
-use Rattle.hsms_capture.specs.Wire.{End, Seen}
+use Rattle.hsms_capture.specs.Wire.{End, Seen, places}
+use Rattle.hsms_capture.specs.Finished.{ended, is_known}
 use Rattle.hsms_capture.specs.Known.{bases, seen_of}
+use Rattle.hsms_capture.specs.Laws.{AreNumbered}
 use Rattle.hsms_capture.specs.Standing.{Stands, TakesOn}
-use Rattle.hsms_capture.specs.Time.{TakesInTime}
-use Rattle.hsms_joined.specs.Joining.{number_before, opening_as, segment_by}
+use Rattle.hsms_capture.specs.Telling.{entry_as}
+use Rattle.hsms_capture.specs.Time.{AreTimed, IsInTime, TakesInTime, time_at}
+use Rattle.hsms_capture.specs.Told.{tells}
+use Rattle.hsms_accounts.specs.declared.journal.Journal.{Journal}
+use Rattle.hsms_accounts.specs.declared.pair.Pair.{Pair}
+use Rattle.hsms_joined.specs.Joining.{number_before, opening_by, segment_by}
 use Rattle.hsms_joined.specs.Numbers.{before_by}
 use Rattle.hsms_joined.specs.declared.start.Start.{Start}
 use Rattle.hsms_wire.specs.declared.course.Course.{Course}
 use Rattle.hsms_wire.specs.declared.course.Course.TheVariants as course
+use Rattle.hsms_wire.specs.declared.shortfall.Shortfall.{Shortfall}
 use Rattle.hsms_wire.specs.declared.shortfall.Shortfall.TheVariants as lacks
+use Rattle.hsms_wire.specs.declared.report.Manner.TheVariants.{Log}
+use Rattle.hsms_wire.specs.declared.report.Report.{Report}
 use Rattle.hsms_wire.specs.declared.within.Followed.{Followed}
 use Rattle.hsms_wire.specs.declared.within.Followed.TheVariants as followed
+use Rattle.hsms_wire.specs.declared.within.Within.{Within}
 use Rattle.hsms_wire.specs.Courses.{lack_behind}
-use Rattle.hsms_wire.specs.Followed.{IsTooMuch}
-use Rattle.hsms_wire.specs.Logged.{bare_if}
-use Rattle.hsms_wire.specs.Session.{in_capture, uncaptured}
-use Rattle.hsms_wire.specs.Supposing.{since}
+use Rattle.hsms_wire.specs.Way.{IsReport, Way, to_log, to_verdicts}
+use Rattle.hsms_wire.specs.Followed.{IsTooMuch, course_by_events}
+use Rattle.hsms_wire.specs.Items.{Item, LogsItems}
+use Rattle.hsms_wire.specs.Joined.{JoinedStands, most_by, terms_by}
+use Rattle.hsms_wire.specs.Logged.{bare_if, is_replaced_by, lack_by}
+use Rattle.hsms_wire.specs.Session.{EndsSession, and_down, in_capture, uncaptured}
+use Rattle.hsms_wire.specs.Supposing.{since, sure_log, whole_log}
 
 -- the number at which the direction of an end begins
 abbrev pub begin_at : ℕ → ℕ → Side → ℕ
@@ -46,16 +60,17 @@ pub record Brought : Type 0 where
   pub segment : Segment
   pub octets : List ℕ
 
+-- as it was captured
+abbrev pub seen_brought : Brought → Seen
+seen_brought g = seen_of g.segment g.octets
+
 abbrev pub cut : ℕ → ℕ → Brought → Seen
 cut active passive g = cut_by (begin_at active passive g.segment.from) g.segment g.octets
 
 -- the packets by which the connection came up
 abbrev pub opening_seen : ℕ → ℕ → List Seen
 opening_seen active passive =
-    seen_of (opening_as 1 side.Active (number_before active) None true) []
-    ∷ seen_of (opening_as 2 side.Passive (number_before passive) (Some active) true) []
-    ∷ seen_of (opening_as 3 side.Active active (Some passive) false) []
-    ∷ []
+    seen_of (opening_by active passive).syn [] ∷ seen_of (opening_by active passive).answer [] ∷ seen_of (opening_by active passive).acknowledgement [] ∷ []
 
 abbrev pub session_base : ℕ → ℕ → End → ℕ
 session_base active passive = bases (number_before active) (number_before passive)
@@ -92,3 +107,112 @@ TakesCut c s packet told later (followed.Ends lack) =
 abbrev pub over_as : Course → Followed → Followed
 over_as course.Goes f = f
 over_as (course.Over lack) f = followed.Ends lack
+
+-- ---- what happens on it
+
+-- what the wire shows of these packets, each at the time of its packet
+pub record Happens (active passive : ℕ) (gs : List Brought) (hs : List Happening) : Type 0 where
+  pub tells_are : map entry_as hs ≡ tells (places (session_base active passive) [] (session_seen active passive gs))
+  pub timed : AreTimed (time_at (places (session_base active passive) [] (session_seen active passive gs))) hs
+
+abbrev pub course_within : ℕ → Start → List Brought → List Happening → Course
+course_within most start gs hs = course_by_events most (counting start (resets_of gs) hs)
+
+-- what it lacks, where something may be missing behind these packets
+abbrev pub lack_within : ℕ → Start → ℕ → ℕ → List Brought → List Happening → Option Shortfall → Option Shortfall
+lack_within most start active passive gs hs missing =
+    lack_by (course_within most start gs hs) (ending_in (ended (places (session_base active passive) [] (session_seen active passive gs)))) missing
+
+-- the log of one that may be replaced
+abbrev pub and_down_if : Bool → List Item → List Item
+and_down_if true xs = and_down xs
+and_down_if false xs = xs
+
+-- what is told of a session of which these are all packets, where some items of its log were logged before
+abbrev pub TellsWithin : Way → Parameters → Parameters → Pair → Start → ℕ → ℕ → List Brought → List Happening → List Item → Bool → Option Shortfall → Report → Report → Type 0
+TellsWithin how a p pair start active passive gs hs had replaced missing old new =
+    (let most = most_by how a in
+    let lack = lack_within most start active passive gs hs missing in
+    EndsSession how a p pair
+    (and_down_if (is_replaced_by replaced (course_within most start gs hs) lack) (whole_log (terms_by how a start) (counting start (resets_of gs) hs))) had lack old new)
+
+-- all is told of it, whichever packets follow and whatever happens then, whether a later connection replaces it, and whatever
+-- may be missing
+abbrev pub TellsForGood : Way → Parameters → Parameters → Pair → Start → ℕ → ℕ → List Brought → List Happening → List Item → Report → Report → Type 0
+TellsForGood how a p pair start active passive gs hs had old new =
+    (later : List Brought) (more : List Happening) (replaced : Bool) (missing : Option Shortfall) → AreNumbered 0 (session_seen active passive (gs ++ later))
+    → Happens active passive (gs ++ later) (hs ++ more)
+    → TellsWithin how a p pair start active passive (gs ++ later) (hs ++ more) had replaced missing old new
+
+-- ---- in the midst of it
+
+-- behind these packets, on which this has happened
+pub record IsWithin (how : Way) (a p : Parameters) (start : Start) (gs : List Brought) (hs : List Happening) (w : Within) : Type 0 where
+  pub unended : w.connection.ending ≡ None
+  pub stands : Stands w.connection hs (session_base w.active w.passive) (session_seen w.active w.passive gs)
+  pub timed : IsInTime w.connection hs (session_base w.active w.passive) (session_seen w.active w.passive gs)
+  pub bare : w.bare_resets.items ≡ resets_of gs
+  pub heard : JoinedStands how a p start (counting start (resets_of gs) hs) w.joined
+
+-- nothing has happened that counts
+pub record BeginsWithin (active passive : ℕ) (start : Start) (w : Within) : Type 0 where
+  pub active_is : w.active ≡ active
+  pub passive_is : w.passive ≡ passive
+  pub happened : List Happening
+  pub none : counting start [] happened ≡ []
+  pub is : (how : Way) (a p : Parameters) → IsWithin how a p start [] happened w
+
+-- the connection takes one of the packets by which it came up
+abbrev pub Opens : Connection → Segment → Connection → Type 0
+Opens c segment next = (told : List Happening) × TakesOn c (seen_of segment []) [] next told × TakesInTime c (seen_of segment []) [] next told
+
+-- its log has more: on the page, where the log of an end is told
+abbrev pub LogsFurther : Way → Pair → List Item → List Item → Report → Report → Type 0
+LogsFurther to_verdicts pair had has old new = new ≡ old
+LogsFurther (to_log settings side) pair had has old new =
+    (more : List Item) × (has ≡ had ++ more) × ((j : Journal) → old.manner ≡ Log j → LogsItems pair course.Goes more j old new)
+
+-- more may be told of it, and it isn't known how that ends
+abbrev pub MayRunMore : ℕ → Start → ℕ → ℕ → List Brought → List Happening → Type 0
+MayRunMore most start active passive gs hs =
+    (course_within most start gs hs ≡ course.Goes) × (is_known (places (session_base active passive) [] (session_seen active passive gs)) ≡ false)
+
+-- it is given up with a packet, with which too much would wait: what is told is that of the packets before it
+pub record GivesUpWithin (how : Way) (a p : Parameters) (pair : Pair) (start : Start) (active passive : ℕ) (gs : List Brought) (hs : List Happening) (g : Brought) (had : List Item) (old new : Report) : Type 0 where
+  pub happens : Happens active passive gs hs
+  pub more : MayRunMore (most_by how a) start active passive gs hs
+  pub full : IsTooMuch (session_base active passive) (session_seen active passive gs) (cut active passive g)
+  pub ends : EndsSession how a p pair (whole_log (terms_by how a start) (counting start (resets_of gs) hs)) had (Some (lacks.Full g.segment.packet)) old new
+
+-- what was logged of it so far
+abbrev pub logged_so_far : Way → Parameters → Start → List Brought → List Happening → List Item
+logged_so_far how a start gs hs = sure_log (terms_by how a start) (counting start (resets_of gs) hs)
+
+-- it is over with a packet, behind others on which this had happened
+abbrev pub IsOverWith : Way → Parameters → Parameters → Pair → Start → ℕ → ℕ → List Brought → List Happening → Brought → List Item → Report → Report → Type 0
+IsOverWith how a p pair start active passive gs hs g had old new =
+    ((told : List Happening) × Happens active passive (gs ++ g ∷ []) (hs ++ told)
+    × TellsForGood how a p pair start active passive (gs ++ g ∷ []) (hs ++ told) had old new)
+    ⊎ GivesUpWithin how a p pair start active passive gs hs g had old new
+
+-- with one packet more it is over, or this has happened too
+abbrev pub GoesWithin : Way → Parameters → Parameters → Pair → Start → List Brought → List Happening → Brought → Within → Option Within → Report → Report → Type 0
+GoesWithin how a p pair start gs hs g w None old new =
+    IsOverWith how a p pair start w.active w.passive gs hs g (logged_so_far how a start gs hs) old new
+GoesWithin how a p pair start gs hs g w (Some next) old new =
+    (next.active ≡ w.active) × (next.passive ≡ w.passive)
+    × (told : List Happening) × Happens w.active w.passive (gs ++ g ∷ []) (hs ++ told) × IsWithin how a p start (gs ++ g ∷ []) (hs ++ told) next
+    × LogsFurther how pair (logged_so_far how a start gs hs) (logged_so_far how a start (gs ++ g ∷ []) (hs ++ told)) old new
+
+unfoldable pub TakesWithin : Pair → Brought → Within → Option Within → Report → Report → Type 0
+TakesWithin pair g w left old new =
+    (how : Way) (a p : Parameters) (start : Start) (gs : List Brought) (hs : List Happening) → IsReport how a p old
+    → AreNumbered 0 (session_seen w.active w.passive (gs ++ g ∷ [])) → IsWithin how a p start gs hs w → GoesWithin how a p pair start gs hs g w left old new
+
+-- no packet follows
+unfoldable pub EndsWithin : Pair → Bool → Option Shortfall → Within → Report → Report → Type 0
+EndsWithin pair replaced missing w old new =
+    (how : Way) (a p : Parameters) (start : Start) (gs : List Brought) (hs : List Happening) → IsReport how a p old
+    → AreNumbered 0 (session_seen w.active w.passive gs) → IsWithin how a p start gs hs w
+    → Happens w.active w.passive gs hs
+    × TellsWithin how a p pair start w.active w.passive gs hs (logged_so_far how a start gs hs) replaced missing old new

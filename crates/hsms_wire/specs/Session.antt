@@ -14,11 +14,10 @@ use Rattle.hsms_wire.specs.declared.joined.Joined.{Joined}
 use Rattle.hsms_wire.specs.declared.report.Manner.TheVariants.{Log}
 use Rattle.hsms_wire.specs.declared.report.Report.{Report}
 use Rattle.hsms_wire.specs.declared.shortfall.Shortfall.{Shortfall}
-use Rattle.hsms_wire.specs.Dealt.{Way, to_log, to_verdicts}
+use Rattle.hsms_wire.specs.Way.{IsReport, Way, to_log, to_verdicts}
 use Rattle.hsms_wire.specs.Followed.{timed_by}
 use Rattle.hsms_wire.specs.Items.{AreItems, Item, LogsItems, goes_down}
 use Rattle.hsms_wire.specs.Joined.{IsOverAs, JoinedStands, most_by, terms_by}
-use Rattle.hsms_wire.specs.Kept.{IsReport}
 use Rattle.hsms_wire.specs.Logged.{TellsIf, is_there}
 use Rattle.hsms_wire.specs.Paged.{CountsIf}
 use Rattle.hsms_wire.specs.Report.{Telling}

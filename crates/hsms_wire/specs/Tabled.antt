@@ -4,8 +4,6 @@ use Rattle.std.specs.Map.{remove_entry}
 use Rattle.indexmap.specs.IndexMap.{WritesThrough, get}
 use Rattle.hsms_packets.specs.declared.segment.Segment.{Segment}
 use Rattle.hsms_capture.specs.declared.packet.Side.{Side}
-use Rattle.hsms_capture.specs.Known.{seen_of}
-use Rattle.hsms_capture.specs.Wire.{Seen}
 use Rattle.hsms_accounts.specs.Pair.{IsOfPeer, has_syn, turned}
 use Rattle.hsms_accounts.specs.declared.pair.Pair.{Pair}
 use Rattle.hsms_accounts.specs.contracts.pair.PairPartialEq.TheImpl as same_pair
@@ -17,8 +15,10 @@ use Rattle.hsms_wire.specs.declared.shortfall.Shortfall.{Shortfall}
 use Rattle.hsms_wire.specs.declared.shortfall.Shortfall.TheVariants.{Time}
 use Rattle.hsms_wire.specs.declared.table.Capture.{Capture}
 use Rattle.hsms_wire.specs.declared.table.Table.{Table}
+use Rattle.hsms_wire.specs.Joining.{EndsJoined, TakesJoined}
 use Rattle.hsms_wire.specs.Paged.{EndsStageOnPage, TakesOnPage}
 use Rattle.hsms_wire.specs.Report.{Tells}
+use Rattle.hsms_wire.specs.Running.{Brought, seen_brought}
 use Rattle.hsms_wire.specs.Segments.{has_rst, pair_at, syn_by, taken_segment}
 use Rattle.hsms_wire.specs.Staged.{EndsStage, IsBegun, IsForgotten, TakesStage}
 
@@ -43,22 +43,24 @@ abbrev pub Joins : Table → Pair → Segment → Type 0
 Joins table pair segment = (table.is_joined ≡ true) × (has_syn segment ≡ false) × (has_rst segment ≡ false) × (HasFlow table pair (λ flow. Unit {0}) → ⊥)
 
 -- The connection of a pair takes a packet, if the pair has one, and no other one changes.
-abbrev pub FollowsBy : Option Flow → Pair → Seen → Table → Table → Report → Report → Type 0
-FollowsBy None pair s old new before after = (new ≡ old) × (after ≡ before)
-FollowsBy (Some flow) pair s old new before after =
+abbrev pub FollowsBy : Option Flow → Pair → Brought → Table → Table → Report → Report → Type 0
+FollowsBy None pair g old new before after = (new ≡ old) × (after ≡ before)
+FollowsBy (Some flow) pair g old new before after =
     (next : Stage) × (new ≡ record old { flows = new.flows })
     × WritesThrough (same_pair.ghosts).eq ((same_pair.ghosts).eq pair) old.flows (record flow { stage = next }) new.flows
-    × TakesStage pair flow.syn s flow.stage next before after × TakesOnPage pair flow.syn s flow.stage next before after
+    × TakesStage pair flow.syn (seen_brought g) flow.stage next before after × TakesOnPage pair flow.syn (seen_brought g) flow.stage next before after
+    × TakesJoined pair g.segment g.octets flow.stage next before after
 
-abbrev pub FollowsFlow : Pair → Seen → Table → Table → Report → Report → Type 0
-FollowsFlow pair s old new before after = FollowsBy (flow_of old pair) pair s old new before after
+abbrev pub FollowsFlow : Pair → Brought → Table → Table → Report → Report → Type 0
+FollowsFlow pair g old new before after = FollowsBy (flow_of old pair) pair g old new before after
 
 -- ---- a connection begins
 
 -- the one before ends, since this one replaces it
 abbrev pub EndsBefore : Option Flow → Pair → Report → Report → Type 0
 EndsBefore None pair before after = after ≡ before
-EndsBefore (Some flow) pair before after = EndsStage pair true None flow.stage before after × EndsStageOnPage true None flow.stage before after
+EndsBefore (Some flow) pair before after =
+    EndsStage pair true None flow.stage before after × EndsStageOnPage true None flow.stage before after × EndsJoined pair true None flow.stage before after
 
 -- those that are forgotten are left out, and the others stay, in their order
 abbrev pub LeavesOut : {X : Type 0} → (X → Type 0) → List (Pair × X) → List (Pair × X) → Type 0
@@ -116,21 +118,21 @@ IsFollowed table pair = HasFlow table pair (λ flow. is_live flow.stage ≡ true
 abbrev pub HasTime : Option ℕ → ℕ → Type 0
 HasTime captured time = (captured ≡ Some time) × (time < 2 ^ 64)
 
-abbrev pub seen_by : Side → Segment → Capture → ℕ → Seen
-seen_by from segment capture time = seen_of (taken_segment from capture.packet time segment) capture.octets.now
+abbrev pub brought_by : Side → Segment → Capture → ℕ → Brought
+brought_by from segment capture time = record { segment = taken_segment from capture.packet time segment; octets = capture.octets.now }
 
 -- it begins one and is its first packet, or it is one more of it
-abbrev pub TakesIt : Pair → Side → Segment → Seen → Table → Table → Report → Report → Type 0
-TakesIt pair from segment s old new before after =
+abbrev pub TakesIt : Pair → Side → Segment → Brought → Table → Table → Report → Report → Type 0
+TakesIt pair from segment g old new before after =
     ((syn : Option ℕ) × (begun : Table) × (ended : Report) × BeginsWith old pair from segment syn
-    × BeginsFlow pair syn old begun before ended × FollowsFlow pair s begun new ended after)
-    ⊎ ((Begins old pair from segment → ⊥) × IsFollowed old pair × FollowsFlow pair s old new before after)
+    × BeginsFlow pair syn old begun before ended × FollowsFlow pair g begun new ended after)
+    ⊎ ((Begins old pair from segment → ⊥) × IsFollowed old pair × FollowsFlow pair g old new before after)
 
 -- Nothing that is looked at hasn't a time: nothing behind it can be told.
 abbrev pub TakesOf : Pair → Side → Segment → Capture → Option Shortfall → Table → Table → Report → Report → Type 0
 TakesOf pair from segment capture missing old new before after =
     ((missing ≡ None) × (time : ℕ) × HasTime capture.time time
-    × TakesIt pair from segment (seen_by from segment capture time) old new before after)
+    × TakesIt pair from segment (brought_by from segment capture time) old new before after)
     ⊎ ((missing ≡ Some (Time capture.packet)) × (new ≡ old) × (after ≡ before) × ((time : ℕ) → HasTime capture.time time → ⊥)
     × (Begins old pair from segment ⊎ IsFollowed old pair))
     ⊎ ((missing ≡ None) × (new ≡ old) × (after ≡ before) × (Begins old pair from segment → ⊥) × (IsFollowed old pair → ⊥))
@@ -155,4 +157,4 @@ abbrev pub EndsFlows : Option Shortfall → List (Pair × Flow) → Report → R
 EndsFlows missing [] old new = new ≡ old
 EndsFlows missing ((pair, flow) ∷ flows) old new =
     (mid : Report) × Tells old mid × EndsStage pair false missing flow.stage old mid × EndsStageOnPage false missing flow.stage old mid
-    × EndsFlows missing flows mid new
+    × EndsJoined pair false missing flow.stage old mid × EndsFlows missing flows mid new

@@ -1,6 +1,6 @@
 //! `hsms capture`: a capture, read once.
 
-ghost use Rattle.std.specs.Prelude.{◌≡◌, [], IfErr, IfOk, OnOk, Ok, Err, None, codes, false};
+ghost use Rattle.std.specs.Prelude.{◌≡◌, [], IfErr, IfOk, OnOk, Ok, Err, None, codes};
 ghost use Rattle.hsms_frame.specs.Device.{WhereTold};
 ghost use Rattle.hsms_lines.specs.Devices.{CountsFailure, IsReadWriteOrEndless};
 ghost use Rattle.hsms_wire.specs.Capturing.{CapturesTo, GrowsBySome, IsMissingBy, IsWriteOrEndless};
@@ -23,6 +23,10 @@ use hsms_packets::laws::each_rest_is_read;
 use hsms_packets::{FileFault, Packets, Record, Segment, Shown, Step, octets_of, segment_of};
 use std::alloc::Global;
 
+// How many steps a capture is read in at most: behind each packet's number there are three more, for the packets by which a
+// session came up that was running before.
+const MOST_STEPS: u64 = u64::MAX - 3;
+
 /// Reads a capture (pcap or pcapng) once, packet by packet, and follows each TCP connection at a port. As soon as a
 /// connection is over it writes two lines, the verdicts of the audit on the logs of both of its ends, of which the active
 /// one is the first; or, where the options say so, it writes the log of one end, line by line. It says whether each log
@@ -37,7 +41,7 @@ use std::alloc::Global;
 ///   up; and where the log of an end would be one of two connections at once, or of other addresses. What is sure was
 ///   written before.
 /// - `Device`: `Read` or `Write`, where a device failed, and `Endless`, where a log may have more than 2^62 lines, or the
-///   capture has more than 2^64 blocks.
+///   capture has 2^64 - 4 blocks or more.
 /// - `Memory`.
 #[tactic(auto, using(crate::proofs::Written::none_more, crate::proofs::Written::some_more))]
 pub fn capture_to<R: Source, W: Sink>(
@@ -54,12 +58,10 @@ pub fn capture_to<R: Source, W: Sink>(
         (W.state sink.old).written (W.state sink.new).written (Ok well)) }
     ensures told { IfErr result (λ fault. IsRefusal fault → options.log ≡ None → CapturesTo options.active.role
         options.passive.role (W.state sink.old).written (W.state sink.new).written (Err fault)) }
-    ensures file { IfOk result (λ well. options.joined ≡ false → WhereTold (R.state source.old).left
-        (λ input. CapturesFile (wanted_of options) input
-        (W.state sink.old).written (W.state sink.new).written (Ok well))) }
-    ensures refused { IfErr result (λ fault. IsRefusal fault → options.joined ≡ false
-        → WhereTold (R.state source.old).left (λ input. RefusesFile (wanted_of options) input
-        (W.state sink.old).written (W.state sink.new).written fault)) }
+    ensures file { IfOk result (λ well. WhereTold (R.state source.old).left (λ input.
+        CapturesFile (wanted_of options) input (W.state sink.old).written (W.state sink.new).written (Ok well))) }
+    ensures refused { IfErr result (λ fault. IsRefusal fault → WhereTold (R.state source.old).left (λ input.
+        RefusesFile (wanted_of options) input (W.state sink.old).written (W.state sink.new).written fault)) }
 {
     let mut report = Report::new(alloc, &options);
     let mut table = Table::new(alloc, options.port, options.peer, options.joined);
@@ -97,7 +99,7 @@ fn read_all<R: Source, W: Sink>(
         (W.state sink.old).written (W.state sink.new).written fault) }
 {
     each_rest_is_read();
-    for _ in 0..u64::MAX {
+    for _ in 0..MOST_STEPS {
         let step = match packets.next(source) {
             Ok(step) => step,
             Err(fault) => return Ok(Some(missing_by(fault, packets.reader().packets())?)),

@@ -8,6 +8,7 @@ ghost use Rattle.hsms_accounts.specs.declared.journal.Journal.{Journal};
 ghost use Rattle.hsms_wire.specs.declared.report.Manner.TheVariants.{Log, Verdicts};
 ghost use Rattle.hsms_wire.specs.Paged.{BeginsOnPage, DownsIf, EndsOnPage, FollowsAllOnPage, FollowsOnPage, GoesOnPage, LogsAll, WaitsOnPage};
 ghost use Rattle.hsms_wire.specs.Followed.{BeginsWith, DownBy, EndsOpen, Follows, FollowsAll, GoesOn, HearsThem, TakesSegment, seen_waiting};
+ghost use Rattle.hsms_wire.specs.Joining.{EndsGathered, KeepsStage, TakesStageWithin};
 ghost use Rattle.hsms_wire.specs.Logged.{is_there};
 ghost use Rattle.hsms_wire.specs.Refused.{BeginsRefused, EndsOpenRefused, FollowsAllRefused, FollowsRefused, HearsThemRefused, LacksRefused, WaitsRefused, lack_left};
 ghost use Rattle.hsms_wire.specs.Report.{StopsUnrefused, Tells};
@@ -157,6 +158,7 @@ impl Stage {
     ghost use Rattle.std.specs.Prelude.{IfErr, IfOk, OnOk};
     ghost use Rattle.hsms_capture.specs.Known.{seen_of};
     ghost use Rattle.hsms_wire.specs.Report.{StopsUnrefused, Tells};
+    ghost use Rattle.hsms_wire.specs.Joining.{EndsJoined, TakesJoined};
     ghost use Rattle.hsms_wire.specs.Paged.{EndsStageOnPage, TakesOnPage};
     ghost use Rattle.hsms_wire.specs.Refused.{EndsRefused, TakesRefused};
     ghost use Rattle.hsms_wire.specs.Staged.{EndsStage, TakesStage};
@@ -177,6 +179,8 @@ impl Stage {
             TakesStage pair.now syn (seen_of segment octets.now) self stage report.old report.new) }
         ensures logged { IfOk result (λ stage.
             TakesOnPage pair.now syn (seen_of segment octets.now) self stage report.old report.new) }
+        ensures joined { IfOk result (λ stage.
+            TakesJoined pair.now segment octets.now self stage report.old report.new) }
         ensures unrefused { IfErr result (StopsUnrefused report.old) }
         ensures refuses { IfErr result (λ stop.
             TakesRefused pair.now syn (seen_of segment octets.now) self stop report.old report.new) }
@@ -213,6 +217,7 @@ impl Stage {
         ensures told { OnOk result (Tells report.old report.new) }
         ensures ends { OnOk result (EndsStage pair.now is_replaced missing self report.old report.new) }
         ensures logged { OnOk result (EndsStageOnPage is_replaced missing self report.old report.new) }
+        ensures joined { OnOk result (EndsJoined pair.now is_replaced missing self report.old report.new) }
         ensures unrefused { IfErr result (StopsUnrefused report.old) }
         ensures refuses { IfErr result (λ stop. EndsRefused missing self stop report.old report.new) }
     {
@@ -221,10 +226,9 @@ impl Stage {
             Stage::Opening(waiting) => give_up(alloc, report, pair, &waiting),
             Stage::Open(open) => end_open(alloc, report, pair, open, is_replaced, missing),
             Stage::Within(within) => within.end(alloc, report, pair, is_replaced, missing),
-            Stage::Joining(gathering) => match begin(alloc, report, pair, gathering, true)? {
-                Joining::Within(within) => within.end(alloc, report, pair, is_replaced, missing),
-                Joining::Gathers(_) | Joining::Over => Ok(()),
-            },
+            Stage::Joining(gathering) => {
+                end_gathered(alloc, report, pair, gathering, is_replaced, missing)
+            }
         }
     }
 }
@@ -340,6 +344,8 @@ fn join(
     octets: &[u8],
 ) -> Result<Stage, Stop>
     ensures told { OnOk result (Tells report.old report.new) }
+    ensures keeps { IfOk result (λ stage.
+        KeepsStage pair.now segment octets.now gathering stage report.old report.new) }
     ensures unrefused { IfErr result (StopsUnrefused report.old) }
 {
     match gather(alloc, report, pair, gathering, segment, octets)? {
@@ -360,11 +366,34 @@ fn go_within(
     octets: &[u8],
 ) -> Result<Stage, Stop>
     ensures told { OnOk result (Tells report.old report.new) }
+    ensures takes { IfOk result (λ stage. TakesStageWithin pair.now (record { segment = segment; octets = octets.now })
+        within stage report.old report.new) }
     ensures unrefused { IfErr result (StopsUnrefused report.old) }
 {
     match within.take(alloc, report, pair, segment, octets)? {
         Some(within) => Ok(Stage::Within(within)),
         None => Ok(Stage::Over),
+    }
+}
+
+// Tells what is left of a session that was running before, of which no more packets than those that are kept follow.
+#[tactic(auto, using(crate::proofs::Unrefused::telling_steps))]
+fn end_gathered(
+    alloc: Global,
+    report: &mut Report,
+    pair: &Pair,
+    gathering: Gathering,
+    is_replaced: bool,
+    missing: Option<Shortfall>,
+) -> Result<(), Stop>
+    ensures told { OnOk result (Tells report.old report.new) }
+    ensures ends { OnOk result (EndsGathered pair.now is_replaced missing gathering report.old report.new) }
+    ensures unrefused { IfErr result (StopsUnrefused report.old) }
+{
+    match begin(alloc, report, pair, gathering, true)? {
+        Joining::Gathers(_) => Ok(()),
+        Joining::Within(within) => within.end(alloc, report, pair, is_replaced, missing),
+        Joining::Over => Ok(()),
     }
 }
 

@@ -88,11 +88,14 @@ impl Joined {
     ghost use Rattle.hsms_wire.specs.declared.joined.Part.TheVariants.{Message};
     ghost use Rattle.hsms_wire.specs.declared.report.Manner.TheVariants.{Log, Verdicts};
     ghost use Rattle.hsms_wire.specs.declared.said.Said.{Said};
-    ghost use Rattle.hsms_wire.specs.Dealt.{Way};
+    ghost use Rattle.hsms_wire.specs.Way.{Way};
     ghost use Rattle.hsms_wire.specs.Followed.{Replaces, WhenTold, unboxed_ends};
     ghost use Rattle.hsms_wire.specs.Items.{TakesItems, leaves_out};
     ghost use Rattle.hsms_wire.specs.Joined.{Decides, HearsItem, HearsNext, HearsOn, IsNew, IsPartOf, IsQuiet, Settles, TellsPart, TellsThem, Waits, SettlesAndTells, come_items_if, end_course, ends_if, left_items, left_packets};
     ghost use Rattle.hsms_wire.specs.Paged.{CountsIf, GoesDown};
+    ghost use Rattle.hsms_accounts.specs.Stop.{IsNoRefusal};
+    ghost use Rattle.hsms_wire.specs.Refused.{HearsRefused, LacksRefused};
+    ghost use Rattle.hsms_wire.specs.RefusedSession.{ComesUpRefused, DecidesRefused, EachRefused, EndRefused, NextRefused, PartRefused, SettlesRefused, TellsRefused, WaitsRefused};
     ghost use Rattle.hsms_wire.specs.Report.{StopsUnrefused, Tells, TellsBy};
     ghost use Rattle.hsms_wire.specs.Said.{KnowsBoth, Spoken, spoken_to, with_message};
     ghost use Rattle.hsms_wire.specs.Supposing.{asked_by, supposed_messages};
@@ -128,6 +131,8 @@ impl Joined {
         ensures quiet { OnOk result (IsQuiet self.old.is_up self.new.is_up report.old report.new) }
         ensures hears { IfOk result (λ course. HearsOn pair.now happening self.old report.old course self.new report.new) }
         ensures unrefused { IfErr result (StopsUnrefused report.old) }
+        ensures refuses { IfErr result (λ stop.
+            EachRefused pair.now (happening ∷ []) self.old stop report.old report.new) }
     {
         if counts(&happening, self.start) {
             self.hear_next(alloc, report, pair, happening)
@@ -149,6 +154,7 @@ impl Joined {
         ensures quiet { OnOk result (IsQuiet self.old.is_up self.new.is_up report.old report.new) }
         ensures hears { IfOk result (λ course. HearsNext pair.now happening self.old report.old course self.new report.new) }
         ensures unrefused { IfErr result (StopsUnrefused report.old) }
+        ensures refuses { IfErr result (λ stop. NextRefused pair.now happening self.old stop report.old report.new) }
     {
         if self.is_decided {
             return self.tell(alloc, report, pair, happening);
@@ -192,6 +198,8 @@ impl Joined {
         ensures waits { IfOk result (λ course.
             Waits pair.now from message happening self.old report.old course self.new report.new) }
         ensures unrefused { IfErr result (StopsUnrefused report.old) }
+        ensures refuses { IfErr result (λ stop.
+            WaitsRefused pair.now from message happening self.old stop report.old report.new) }
     {
         self.note(from, message)?;
         if self.waiting.push(happening).is_err() {
@@ -231,6 +239,7 @@ impl Joined {
         ensures tells { IfOk result (λ course.
             SettlesAndTells pair.now happening self.old report.old course self.new report.new) }
         ensures unrefused { IfErr result (StopsUnrefused report.old) }
+        ensures refuses { IfErr result (λ stop. EndRefused pair.now happening self.old stop report.old report.new) }
     {
         match self.settle(alloc, report, pair)? {
             Course::Goes => self.tell(alloc, report, pair, happening),
@@ -252,6 +261,7 @@ impl Joined {
         ensures nothing { self.old.waiting.items ≡ [] → IfOk result (λ course.
             (course ≡ Goes) × (self.new ≡ self.old) × (report.new ≡ report.old)) }
         ensures unrefused { IfErr result (StopsUnrefused report.old) }
+        ensures refuses { IfErr result (λ stop. SettlesRefused pair.now self.old stop report.old report.new) }
     {
         if self.waiting.is_empty() {
             return Ok(Course::Goes);
@@ -274,6 +284,8 @@ impl Joined {
         ensures decides { IfOk result (λ course.
             Decides pair.now supposed asker self.old report.old course self.new report.new) }
         ensures unrefused { IfErr result (StopsUnrefused report.old) }
+        ensures refuses { IfErr result (λ stop.
+            DecidesRefused pair.now supposed asker self.old stop report.old report.new) }
     {
         self.suppose(alloc, supposed, asker)?;
         let waiting = mem::replace(&mut self.waiting, Vec::new(alloc));
@@ -317,6 +329,7 @@ impl Joined {
         ensures left { self.old.is_up ≡ true → self.new ≡ self.old }
         ensures none { self.old.is_up ≡ false → OnOk result (self.new.left_out.items ≡ []) }
         ensures unrefused { IfErr result (StopsUnrefused report.old) }
+        ensures refuses { IfErr result (λ stop. ComesUpRefused pair.now self.old stop report.old report.new) }
     {
         if self.is_up {
             return Ok(());
@@ -336,7 +349,7 @@ impl Joined {
         ensures items { (pair : Pair) → OnOk result (TakesItems pair Goes
             (supposed_messages self.old.supposed self.old.asker) self.old.ends report.old self.new.ends report.new) }
         ensures same { self.new ≡ record self.old { ends = self.new.ends } }
-        ensures unrefused { IfErr result (StopsUnrefused report.old) }
+        ensures unrefused { IfErr result IsNoRefusal }
     {
         match self.supposed {
             Supposed::Selected => self.suppose_select(alloc, report),
@@ -354,7 +367,7 @@ impl Joined {
         ensures items { (pair : Pair) → OnOk result (TakesItems pair Goes
             (supposed_messages Selected self.old.asker) self.old.ends report.old self.new.ends report.new) }
         ensures same { self.new ≡ record self.old { ends = self.new.ends } }
-        ensures unrefused { IfErr result (StopsUnrefused report.old) }
+        ensures unrefused { IfErr result IsNoRefusal }
     {
         let request = select_req(SUPPOSED_SYSTEM);
         let response = select_rsp(request, 0);
@@ -370,7 +383,7 @@ impl Joined {
             self.old.ends report.old self.new.ends report.new) }
         ensures same { self.new ≡ record self.old { ends = self.new.ends; left_out = self.new.left_out } }
         ensures none { self.new.left_out.items ≡ [] }
-        ensures unrefused { IfErr result (StopsUnrefused report.old) }
+        ensures unrefused { IfErr result IsNoRefusal }
     {
         let left_out = mem::replace(&mut self.left_out, Vec::new(alloc));
         for packet in left_out {
@@ -394,6 +407,8 @@ impl Joined {
             TellsThem pair.now waiting.items self.old report.old course self.new report.new) }
         ensures same { OnOk result (self.new.is_decided ≡ self.old.is_decided) }
         ensures unrefused { IfErr result (StopsUnrefused report.old) }
+        ensures refuses { IfErr result (λ stop.
+            TellsRefused pair.now waiting.items self.old stop report.old report.new) }
     {
         for happening in waiting {
             match self.tell(alloc, report, pair, happening)? {
@@ -419,6 +434,8 @@ impl Joined {
             TellsThem pair.now (happening ∷ []) self.old report.old course self.new report.new) }
         ensures same { OnOk result (self.new.is_decided ≡ self.old.is_decided) }
         ensures unrefused { IfErr result (StopsUnrefused report.old) }
+        ensures refuses { IfErr result (λ stop.
+            TellsRefused pair.now (happening ∷ []) self.old stop report.old report.new) }
     {
         let part = self.part_of(&happening, report)?;
         self.tell_as(alloc, report, pair, part, happening)
@@ -441,6 +458,8 @@ impl Joined {
             TellsPart pair.now part happening self.old report.old course self.new report.new) }
         ensures same { OnOk result ((self.new.is_decided ≡ self.old.is_decided) × (self.new.said ≡ self.old.said)) }
         ensures unrefused { IfErr result (StopsUnrefused report.old) }
+        ensures refuses { IfErr result (λ stop.
+            PartRefused pair.now part happening self.old stop report.old report.new) }
     {
         match part {
             Part::Message => {
@@ -486,7 +505,7 @@ impl Joined {
             self.old.ends report.old self.new.ends report.new) }
         ensures left { OnOk result (self.new.left_out.items ≡ self.old.left_out.items ++ left_packets self.old.is_up packet) }
         ensures same { self.new ≡ record self.old { ends = self.new.ends; left_out = self.new.left_out } }
-        ensures unrefused { IfErr result (StopsUnrefused report.old) }
+        ensures unrefused { IfErr result IsNoRefusal }
     {
         if self.is_up {
             report.leave_out(alloc, &mut self.ends, packet)?;
@@ -515,6 +534,7 @@ impl Joined {
             (course ≡ end_course happening.event happening.packet) × (self.new ≡ self.old) × (report.new ≡ report.old)) }
         ensures same { self.new ≡ record self.old { ends = self.new.ends } }
         ensures unrefused { IfErr result (StopsUnrefused report.old) }
+        ensures refuses { IfErr result (λ stop. HearsRefused pair.now happening stop report.old report.new) }
     {
         if self.is_up {
             return self.tell_up(alloc, report, pair, happening);
@@ -540,6 +560,7 @@ impl Joined {
             HearsItem pair.now happening course self.old.ends report.old self.new.ends report.new) }
         ensures same { self.new ≡ record self.old { ends = self.new.ends } }
         ensures unrefused { IfErr result (StopsUnrefused report.old) }
+        ensures refuses { IfErr result (λ stop. HearsRefused pair.now happening stop report.old report.new) }
     {
         let packet = happening.packet;
         let heard = report.hear(alloc, pair, &mut self.ends, happening)?;
@@ -566,6 +587,7 @@ impl Joined {
         ensures logged { OnOk result ((j : Journal) → report.old.manner ≡ Log j
             → (shortfall ≡ None) × CountsIf self.is_up report.old report.new) }
         ensures unrefused { IfErr result (StopsUnrefused report.old) }
+        ensures refuses { IfErr result (λ stop. LacksRefused shortfall stop report.old report.new) }
     {
         let Joined {
             start: _,
@@ -597,7 +619,7 @@ impl Joined {
         ensures logged { self.old.is_up ≡ true → OnOk result ((j : Journal) → report.old.manner ≡ Log j
             → GoesDown j report.old report.new) }
         ensures same { self.new ≡ record self.old { ends = self.new.ends } }
-        ensures unrefused { IfErr result (StopsUnrefused report.old) }
+        ensures unrefused { IfErr result IsNoRefusal }
     {
         if !self.is_up {
             return Ok(());

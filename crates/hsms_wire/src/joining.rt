@@ -1,7 +1,8 @@
 //! A session that was running before the capture, until both of its directions have begun.
 
-ghost use Rattle.std.specs.Prelude.{IfErr, OnOk};
-ghost use Rattle.hsms_wire.specs.Report.{StopsUnrefused, Tells};
+ghost use Rattle.std.specs.Prelude.{IfErr, IfOk, OnOk};
+ghost use Rattle.hsms_wire.specs.Joining.{BeginsWith, GathersOn, TakesFrom};
+ghost use Rattle.hsms_wire.specs.Report.{StopsUnrefused, Tells, session_of};
 
 use crate::report::Report;
 use crate::within::{Within, take_all};
@@ -29,6 +30,8 @@ pub fn gather(
     octets: &[u8],
 ) -> Result<Joining, Stop>
     ensures told { OnOk result (Tells report.old report.new) }
+    ensures gathers { IfOk result (λ joining. GathersOn pair.now (session_of report.old.active) segment octets.now
+        gathering joining report.old report.new) }
     ensures unrefused { IfErr result (StopsUnrefused report.old) }
 {
     let mut gathering = gathering;
@@ -50,6 +53,8 @@ pub fn begin(
     is_last: bool,
 ) -> Result<Joining, Stop>
     ensures told { OnOk result (Tells report.old report.new) }
+    ensures begins { IfOk result (λ joining. BeginsWith pair.now (session_of report.old.active) gathering is_last joining
+        report.old report.new) }
     ensures unrefused { IfErr result (StopsUnrefused report.old) }
 {
     let Some(beginnings) = gathering.beginnings(alloc, report.session(), is_last)? else {
@@ -71,6 +76,7 @@ fn take_from(
     beginnings: Beginnings,
 ) -> Result<Option<Within>, Stop>
     ensures told { OnOk result (Tells report.old report.new) }
+    ensures takes { IfOk result (λ left. TakesFrom pair.now gathering.now beginnings left report.old report.new) }
     ensures unrefused { IfErr result (StopsUnrefused report.old) }
 {
     let packets = gathering.packets();

@@ -53,12 +53,13 @@ impl Report {
     ghost use Rattle.hsms_wire.specs.Joined.{HearsItem};
     ghost use Rattle.hsms_wire.specs.Paged.{GoesDown, LogsThem};
     ghost use Rattle.hsms_wire.specs.Refused.{HearsRefused, LacksRefused};
+    ghost use Rattle.hsms_wire.specs.RefusedSession.{CantComeUp};
     ghost use Rattle.hsms_wire.specs.Dealt.{BeginsAs};
     ghost use Rattle.hsms_wire.specs.Kept.{way_of};
     ghost use Rattle.hsms_wire.specs.LeftOut.{line_of, none_left_out};
     ghost use Rattle.hsms_wire.specs.Line.{end_line_of};
     ghost use Rattle.hsms_wire.specs.Stop.{IsRefused};
-    ghost use Rattle.hsms_wire.specs.Report.{Finishes, IsTold, StopsUnrefused, Tells, TellsBy, TellsVerdicts, failed_after, first_of, found_of, missing_after, nothing_found, role_at};
+    ghost use Rattle.hsms_wire.specs.Report.{Finishes, IsTold, StopsUnrefused, Tells, TellsBy, TellsVerdicts, failed_after, first_of, found_of, missing_after, nothing_found, role_at, session_of};
 
     /// Nothing is told yet.
     pub fn new(alloc: Global, options: &Capturing) -> Report
@@ -183,6 +184,7 @@ impl Report {
         ensures told { OnOk result (Tells self.old self.new) }
         ensures logged { OnOk result (TakesItems pair.now Goes (comes_up time ∷ []) ends.old self.old ends.new self.new) }
         ensures unrefused { IfErr result (StopsUnrefused self.old) }
+        ensures refuses { IfErr result (λ stop. CantComeUp pair.now packet stop self.old self.new) }
     {
         self.begin(alloc, ends)?;
         match (&mut self.manner, ends) {
@@ -206,7 +208,7 @@ impl Report {
         ensures told { OnOk result (Tells self.old self.new) }
         ensures logged { (pair : Pair) → OnOk result
             (TakesItems pair Goes (supposes from header ∷ []) ends.old self.old ends.new self.new) }
-        ensures unrefused { IfErr result (StopsUnrefused self.old) }
+        ensures unrefused { IfErr result IsNoRefusal }
     {
         self.begin(alloc, ends)?;
         let frame = Frame {
@@ -231,7 +233,7 @@ impl Report {
         ensures told { OnOk result (Tells self.old self.new) }
         ensures logged { (pair : Pair) → OnOk result
             (TakesItems pair Goes (leaves_out packet ∷ []) ends.old self.old ends.new self.new) }
-        ensures unrefused { IfErr result (StopsUnrefused self.old) }
+        ensures unrefused { IfErr result IsNoRefusal }
     {
         self.begin(alloc, ends)?;
         match (&mut self.manner, ends) {
@@ -243,7 +245,8 @@ impl Report {
 
     /// By what the messages of a session are known.
     pub fn session(&self) -> Session
-        ensures { result.depth ≤ 100 }
+        ensures by { result ≡ session_of self.now.active }
+        ensures depth { result.depth ≤ 100 }
     {
         Session {
             device: self.active.device(),

@@ -319,7 +319,7 @@ impl Table {
         octets: &[u8],
     ) -> Result<(), Stop>
         ensures told { OnOk result (Tells report.old report.new) }
-        ensures follows { OnOk result (FollowsFlow pair.now (seen_of segment octets.now) self.old self.new
+        ensures follows { OnOk result (FollowsFlow pair.now (record { segment = segment; octets = octets.now }) self.old self.new
             report.old report.new) }
         ensures unrefused { IfErr result (StopsUnrefused report.old) }
         ensures refuses { IfErr result (λ stop. FollowsFlowRefused pair.now (seen_of segment octets.now) self.old stop

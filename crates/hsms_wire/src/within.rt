@@ -2,9 +2,11 @@
 
 ghost use Rattle.std.specs.Prelude.{◌≡◌, ◌-◌, IfErr, IfOk, OnOk, map};
 ghost use Rattle.hsms_accounts.specs.declared.stop.Stop.TheVariants.{Memory};
-ghost use Rattle.hsms_wire.specs.Joined.{HearsEach};
+ghost use Rattle.hsms_wire.specs.Joined.{HearsEach, IsQuiet};
+ghost use Rattle.hsms_wire.specs.Joining.{TakesThrough, brought};
+ghost use Rattle.hsms_wire.specs.RefusedSession.{EachRefused, FinishRefused, ReplaceRefused};
 ghost use Rattle.hsms_wire.specs.Report.{StopsUnrefused, Tells};
-ghost use Rattle.hsms_wire.specs.Running.{TakesCut, begin_at, cut_by, ending_in, over_as};
+ghost use Rattle.hsms_wire.specs.Running.{BeginsWithin, EndsWithin, Opens, TakesCut, TakesWithin, begin_at, cut_by, ending_in, over_as};
 ghost use Rattle.hsms_wire.specs.Session.{FinishesAs, ReplacedAs, in_capture, uncaptured};
 
 use crate::course::Course;
@@ -14,7 +16,7 @@ use crate::resets::{note_reset, time_of};
 use crate::shortfall::Shortfall;
 use hsms_accounts::{Pair, Stop};
 use hsms_capture::{Connection, ConnectionFault, Ending, Happening, Segment, Side};
-use hsms_joined::{Beginnings, Gathered, Start, octets_before, opening, segment_from};
+use hsms_joined::{Beginnings, Gathered, Handshake, Start, octets_before, opening, segment_from};
 use std::alloc::Global;
 
 // So many packets of the connection weren't captured: those by which it came up.
@@ -61,12 +63,17 @@ impl Within {
     ///
     /// `Memory`.
     pub fn new(alloc: Global, beginnings: Beginnings, start: Start) -> Result<Within, Stop>
+        ensures begins { IfOk result (λ within. BeginsWithin beginnings.active.number beginnings.passive.number start within) }
         ensures memory { IfErr result (λ stop. stop ≡ Memory) }
     {
         let active = beginnings.active.number;
         let passive = beginnings.passive.number;
         let connection = Connection::new(alloc, active.wrapping_sub(1), passive.wrapping_sub(1));
-        let [syn, answer, acknowledgement] = opening(active, passive);
+        let Handshake {
+            syn,
+            answer,
+            acknowledgement,
+        } = opening(active, passive);
         let connection = opened(alloc, connection, syn)?;
         let connection = opened(alloc, connection, answer)?;
         Ok(Within {
@@ -89,6 +96,8 @@ impl Within {
         octets: &[u8],
     ) -> Result<Option<Within>, Stop>
         ensures told { OnOk result (Tells report.old report.new) }
+        ensures takes { IfOk result (λ left.
+            TakesWithin pair.now (record { segment = segment; octets = octets.now }) self left report.old report.new) }
         ensures unrefused { IfErr result (StopsUnrefused report.old) }
     {
         let begin = self.begin_of(segment.from);
@@ -130,6 +139,7 @@ impl Within {
         missing: Option<Shortfall>,
     ) -> Result<(), Stop>
         ensures told { OnOk result (Tells report.old report.new) }
+        ensures ends { OnOk result (EndsWithin pair.now is_replaced missing self report.old report.new) }
         ensures unrefused { IfErr result (StopsUnrefused report.old) }
     {
         let Within {
@@ -166,7 +176,7 @@ impl Within {
     }
 }
 
-/// Takes the packets that were kept until both directions had begun.
+/// Takes the packets that were kept until both directions had begun. None is left where it is over with one of them.
 #[tactic(auto, using(crate::proofs::Unrefused::telling_steps))]
 pub fn take_all(
     alloc: Global,
@@ -176,20 +186,25 @@ pub fn take_all(
     packets: &[Gathered],
 ) -> Result<Option<Within>, Stop>
     ensures told { OnOk result (Tells report.old report.new) }
+    ensures takes { IfOk result (λ left.
+        TakesThrough pair.now (map brought packets.now) within left report.old report.new) }
     ensures unrefused { IfErr result (StopsUnrefused report.old) }
 {
     let mut left = Some(within);
-    for packet in packets.iter() {
+    let mut rest = packets;
+    while let Some((packet, others)) = rest.split_first() {
         left = match left {
             Some(within) => within.take(alloc, report, pair, packet.segment, &packet.octets)?,
             None => None,
         };
+        rest = others;
     }
     Ok(left)
 }
 
 // A connection takes one of the packets by which it came up.
 fn opened(alloc: Global, connection: Connection, segment: Segment) -> Result<Connection, Stop>
+    ensures opens { IfOk result (λ next. Opens connection segment next) }
     ensures memory { IfErr result (λ stop. stop ≡ Memory) }
 {
     let mut told = Vec::new(alloc);
@@ -258,7 +273,7 @@ fn over_by(course: Course, followed: Followed) -> Followed
 }
 
 // Hears what happens.
-#[tactic(auto, using(crate::proofs::Unrefused::telling_steps))]
+#[tactic(auto, using(crate::proofs::Quiet::quiet_steps))]
 fn hear_all(
     alloc: Global,
     report: &mut Report,
@@ -270,7 +285,10 @@ fn hear_all(
     ensures told { OnOk result (Tells report.old report.new) }
     ensures hears { IfOk result (λ course. HearsEach pair.now (map (in_capture bare_resets.now) told.items)
         joined.old report.old course joined.new report.new) }
+    ensures quiet { OnOk result (IsQuiet joined.old.is_up joined.new.is_up report.old report.new) }
     ensures unrefused { IfErr result (StopsUnrefused report.old) }
+    ensures refuses { IfErr result (λ stop. EachRefused pair.now (map (in_capture bare_resets.now) told.items)
+        joined.old stop report.old report.new) }
 {
     for happening in told {
         let happening = timed(bare_resets, happening);
@@ -307,6 +325,7 @@ fn finish(
     ensures told { OnOk result (Tells report.old report.new) }
     ensures finishes { OnOk result (FinishesAs pair.now joined shortfall report.old report.new) }
     ensures unrefused { IfErr result (StopsUnrefused report.old) }
+    ensures refuses { IfErr result (λ stop. FinishRefused pair.now joined shortfall stop report.old report.new) }
 {
     let mut joined = joined;
     match joined.settle(alloc, report, pair)? {
@@ -321,6 +340,7 @@ fn replace(alloc: Global, report: &mut Report, pair: &Pair, joined: Joined) -> R
     ensures told { OnOk result (Tells report.old report.new) }
     ensures replaced { OnOk result (ReplacedAs pair.now joined report.old report.new) }
     ensures unrefused { IfErr result (StopsUnrefused report.old) }
+    ensures refuses { IfErr result (λ stop. ReplaceRefused pair.now joined stop report.old report.new) }
 {
     let mut joined = joined;
     match joined.settle(alloc, report, pair)? {

@@ -2,6 +2,10 @@ use Rattle.std.proofs.Common.{subst}
 use Rattle.hsms_wire.specs.declared.course.Course.{Course}
 use Rattle.hsms_wire.specs.Joined.{Settles}
 use Rattle.hsms_wire.proofs.Closing.{replaces_never, replaces_ok}
+use Rattle.std.proofs.lemmas.Result.{err_from_is_err_and}
+use Rattle.hsms_wire.proofs.SessionRefusals.{replace_lack_refused, replace_never_refused, replace_settle_refused}
+use Rattle.hsms_wire.proofs.Tellings.{tells_then}
+use Rattle.hsms_wire.proofs.Unrefused.{err_map, quiet_in_log}
 use Rattle.hsms_wire.proofs.within.replace.Goals as goal
 
 pub returns-in_ok-replace-in-Goes-clause-replaced : goal.returns-in_ok-replace-in-Goes-clause-replaced
@@ -24,3 +28,27 @@ returns-in-Over-clause-replaced c =
     c.conclude-in-Over.new.report
     (subst (λ (x : Course). Settles c.args.pair.now c.args.joined c.args.report.now x c.settle.new.self c.settle.new.report) c.in-Over.is
     c.in_ok-settle.ensures.settles)
+
+pub returns-in_err-settle-clause-refuses : goal.returns-in_err-settle-clause-refuses
+returns-in_err-settle-clause-refuses c =
+    let p = err_from_is_err_and c.from_residual.result c.from_residual.ensures.1 in
+    rw (p.1, p.2) (replace_settle_refused c.args.pair.now c.args.joined _ c.args.report.now c.settle.new.report c.in_err-settle.ensures.refuses)
+
+pub returns-in_err-replace-in-Goes-clause-refuses : goal.returns-in_err-replace-in-Goes-clause-refuses
+returns-in_err-replace-in-Goes-clause-refuses c =
+    let p = err_from_is_err_and c.from_residual-in_err-replace-in-Goes.result c.from_residual-in_err-replace-in-Goes.ensures.1 in
+    rw (p.1, p.2) (quiet_in_log _ c.args.report.now _ c.in_err-replace-in-Goes.ensures.unrefused)
+
+pub returns-in_ok-replace-in-Goes-clause-refuses : goal.returns-in_ok-replace-in-Goes-clause-refuses
+returns-in_ok-replace-in-Goes-clause-refuses c =
+    err_map c.conclude.result
+    (λ st. replace_lack_refused c.args.pair.now c.args.joined st c.args.report.now c.replace.new.report c.conclude.new.report
+    (tells_then c.args.report.now c.settle.new.report c.replace.new.report c.in_ok-settle.ensures.told c.in_ok-replace-in-Goes.ensures.told)) c.conclude.ensures.refuses
+
+pub returns-in-Over-clause-refuses : goal.returns-in-Over-clause-refuses
+returns-in-Over-clause-refuses c =
+    err_map c.conclude-in-Over.result
+    (λ st refused. replace_never_refused c.args.pair.now c.in-Over.shortfall c.args.joined c.settle.new.self st c.args.report.now c.settle.new.report
+    c.conclude-in-Over.new.report
+    (subst (λ (x : Course). Settles c.args.pair.now c.args.joined c.args.report.now x c.settle.new.self c.settle.new.report) c.in-Over.is
+    c.in_ok-settle.ensures.settles)) c.conclude-in-Over.ensures.refuses

@@ -1,4 +1,3 @@
-use Rattle.std.proofs.lemmas.Result.{err_from_is_err_and}
 use Rattle.hsms_wire.proofs.StageRefusals.{end_joining_refused, end_open_refused, end_opening_refused, end_within_refused}
 use Rattle.hsms_wire.proofs.Unrefused.{err_map}
 use Rattle.hsms_wire.proofs.flow.Stage.end.Goals as goal
@@ -19,13 +18,8 @@ returns-in-Within-clause-refuses c =
     err_map c.end.result
     (λ st _. end_within_refused c.args.missing c.args.self c.in-Within.within st c.args.report.now c.end.new.report c.in-Within.is) c.end.ensures.unrefused
 
-pub returns-in_err-within-in-Joining-clause-refuses : goal.returns-in_err-within-in-Joining-clause-refuses
-returns-in_err-within-in-Joining-clause-refuses c =
-    let p = err_from_is_err_and c.from_residual.result c.from_residual.ensures.1 in
-    rw (p.1, p.2) (end_joining_refused c.args.missing c.args.self c.in-Joining.gathering _ c.args.report.now c.begin.new.report c.in-Joining.is)
-
-pub returns-in-Within-2-clause-refuses : goal.returns-in-Within-2-clause-refuses
-returns-in-Within-2-clause-refuses c =
-    err_map c.end-in-Within-2.result
-    (λ st _. end_joining_refused c.args.missing c.args.self c.in-Joining.gathering st c.args.report.now c.end-in-Within-2.new.report c.in-Joining.is)
-    c.end-in-Within-2.ensures.unrefused
+pub returns-in-Joining-clause-refuses : goal.returns-in-Joining-clause-refuses
+returns-in-Joining-clause-refuses c =
+    err_map c.end_gathered.result
+    (λ st _. end_joining_refused c.args.missing c.args.self c.in-Joining.gathering st c.args.report.now c.end_gathered.new.report c.in-Joining.is)
+    c.end_gathered.ensures.unrefused

@@ -1,5 +1,7 @@
 use Rattle.std.proofs.Common.{ap}
+use Rattle.std.proofs.lemmas.Result.{err_from_is_err_and}
 use Rattle.hsms_wire.specs.declared.joined.Joined.{Joined}
+use Rattle.hsms_wire.proofs.SessionRefusals.{up_refused}
 use Rattle.hsms_wire.proofs.Sessions.{come_told}
 use Rattle.hsms_wire.proofs.joined.Joined.come_up.Goals as goal
 
@@ -9,3 +11,8 @@ returns-clause-items c =
     c.suppose_before.new.self.left_out.items c.args.report.now c.suppose_up.new.self c.suppose_before.new.report c.tell_left_out.new.report c.if-self.false
     (ap (λ (j : Joined). j.left_out.items) c.suppose_before.ensures.same) c.in_ok-suppose_up.ensures.logged
     (c.in_ok-suppose_before.ensures.items c.args.pair.now) (c.in_ok-tell_left_out.ensures.items c.args.pair.now)
+
+pub returns-in_err-suppose_up-clause-refuses : goal.returns-in_err-suppose_up-clause-refuses
+returns-in_err-suppose_up-clause-refuses c =
+    let p = err_from_is_err_and c.from_residual.result c.from_residual.ensures.1 in
+    rw (p.1, p.2) (up_refused c.args.pair.now c.args.self.now _ c.args.report.now c.suppose_up.new.self c.if-self.false c.in_err-suppose_up.ensures.refuses)

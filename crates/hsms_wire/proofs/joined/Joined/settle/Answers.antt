@@ -1,4 +1,6 @@
 use Rattle.std.proofs.Common.{◌≡◌, length, vec_len, rules}
+use Rattle.hsms_wire.proofs.SessionRefusals.{settle_refused}
+use Rattle.hsms_wire.proofs.Unrefused.{err_map}
 use Rattle.hsms_wire.proofs.Sessions.{none_by, ok_map, settles_none, settles_some, some_by}
 use Rattle.hsms_wire.proofs.joined.Joined.settle.Goals as goal
 
@@ -15,3 +17,11 @@ returns-clause-settles c =
     ok_map c.decide.result
     (λ course. settles_some c.args.pair.now course c.args.self.now c.decide.new.self c.args.report.now c.decide.new.report
     (some_by waiting.items (vec_len waiting) c.is_empty.result len c.is_empty.ensures c.if-is_empty.false)) c.decide.ensures.decides
+
+pub returns-clause-refuses : goal.returns-clause-refuses
+returns-clause-refuses c =
+    let waiting = c.args.self.now.waiting in
+    let len : vec_len waiting ≡ length waiting.items = search rules in
+    err_map c.decide.result
+    (λ st. settle_refused c.args.pair.now c.args.self.now st c.args.report.now c.decide.new.report
+    (some_by waiting.items (vec_len waiting) c.is_empty.result len c.is_empty.ensures c.if-is_empty.false)) c.decide.ensures.refuses

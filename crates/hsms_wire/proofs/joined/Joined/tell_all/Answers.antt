@@ -1,6 +1,7 @@
 use Rattle.std.proofs.Common.{◌≡◌, ◌++◌, ◌∷◌, [], length, vec_len, rules, refl, sym, subst, ◌∙◌, append_assoc}
 use Rattle.std.proofs.lemmas.Iterator.Adapters.{YieldsList-from_vec}
 use Rattle.std.proofs.lemmas.Iterator.Consumers.{YieldsList-so_far, YieldsList-turn}
+use Rattle.std.proofs.lemmas.Result.{err_from_is_err_and}
 use Rattle.hsms_wire.specs.declared.course.Course.{Course}
 use Rattle.hsms_wire.specs.declared.course.Course.TheVariants as course
 use Rattle.hsms_capture.specs.declared.telling.Happening.{Happening}
@@ -8,6 +9,7 @@ use Rattle.std.proofs.Common.{List}
 use Rattle.hsms_wire.specs.Joined.{TellsThem}
 use Rattle.hsms_wire.proofs.Connections.{taken_apart}
 use Rattle.hsms_wire.proofs.Quiet.{quiet_nothing, quiet_then}
+use Rattle.hsms_wire.proofs.SessionRefusals.{tell_all_refused}
 use Rattle.hsms_wire.proofs.Sessions.{them_over, them_then, tells_none}
 use Rattle.hsms_wire.proofs.Tellings.{tells_nothing, tells_then}
 use Rattle.hsms_wire.proofs.joined.Joined.tell_all.Goals as goal
@@ -53,3 +55,19 @@ returns-in-Over-clause-tells c =
     (them_over c.args.pair.now c.in-Over.shortfall (yielded ++ h ∷ []) _ c.args.self.now c.tell.new.self c.args.report.now c.tell.new.report
     (them_then c.args.pair.now (course.Over c.in-Over.shortfall) yielded (h ∷ []) c.args.self.now c.loop-happening.self c.tell.new.self c.args.report.now
     c.loop-happening.report c.tell.new.report c.loop-happening.invariant.tells one))
+
+pub returns-in_err-tell-clause-refuses : goal.returns-in_err-tell-clause-refuses
+returns-in_err-tell-clause-refuses c =
+    let p = err_from_is_err_and c.from_residual.result c.from_residual.ensures.1 in
+    let inv = c.loop-happening.invariant in
+    let yielded = c.loop-happening.yielded in
+    let h = c.in-Some.happening in
+    let all = c.args.waiting.items in
+    let len : vec_len c.args.waiting ≡ length all = search rules in
+    let from = YieldsList-from_vec {s = c.into_iter-happening-iterator.result} all c.into_iter-happening-iterator.ensures.into_iter_gives.0
+    (c.into_iter-happening-iterator.ensures.into_iter_gives.1 ∙ len) in
+    let turn = YieldsList-turn from yielded c.loop-happening.happening-iterator c.loop-happening.yielded_by c.next.result c.next.new.self h c.in-Some.is c.next.ensures.steps in
+    let front = YieldsList-so_far from yielded c.loop-happening.happening-iterator c.loop-happening.yielded_by in
+    rw (p.1, p.2)
+    (tell_all_refused c.args.pair.now all yielded _ h c.args.self.now c.loop-happening.self _ c.args.report.now c.loop-happening.report c.tell.new.report
+    (taken_apart all yielded h front turn.0 turn.1) inv.told inv.quiet inv.tells c.in_err-tell.ensures.refuses)

@@ -4,6 +4,7 @@ use Rattle.hsms_machine.specs.declared.entry.Event.TheVariants.{Up}
 use Rattle.hsms_accounts.specs.declared.account.Remark.TheVariants as remark
 use Rattle.hsms_accounts.specs.Ends.{note_of}
 use Rattle.hsms_wire.specs.Items.{comes_up}
+use Rattle.hsms_wire.proofs.SessionRefusals.{cant_refused, never_cant}
 use Rattle.hsms_wire.proofs.Taking.{more_ok, never_takes, ok_of, takes_in_log, takes_in_verdicts}
 use Rattle.hsms_wire.proofs.report.Report.suppose_up.Goals as goal
 use Rattle.hsms_wire.proofs.report.Report.suppose_up.Goals.{in-Log-default, in-Verdicts-Some, in-Verdicts-None}
@@ -36,3 +37,12 @@ returns-clause-logged c =
           never_takes c.match-self.result c.args.pair.now x c.args.ends.now c.begin.new.ends c.match-self.ends old c.match-self.self c.in_ok-begin.ensures.begins
           w.in-Verdicts-None.is-1 w.in-Verdicts-None.is-0
     ]
+
+pub returns-clause-refuses : goal.returns-clause-refuses
+returns-clause-refuses c = elim c.match-self.branch [
+  | in-Log-default w ↦
+      rw w.result-is (cant_refused w.suppose_up.result c.args.pair.now c.args.packet w.in-Log-default.journal w.suppose_up.new.self w.suppose_up.new.page c.args.self.now
+      c.match-self.self w.in-Log-default.is-0 w.self-is w.suppose_up.ensures.stops w.suppose_up.ensures.kept)
+  | in-Verdicts-Some w ↦ never_cant c.match-self.result c.args.pair.now c.args.packet c.args.self.now c.match-self.self w.in-Verdicts-Some.is-0
+  | in-Verdicts-None w ↦ never_cant c.match-self.result c.args.pair.now c.args.packet c.args.self.now c.match-self.self w.in-Verdicts-None.is-0
+]

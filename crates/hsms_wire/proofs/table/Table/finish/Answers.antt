@@ -20,7 +20,7 @@ loop-pair-preserved c =
     record {
       told = tells_then first c.loop-pair.report c.end.new.report inv.told c.in_ok-end.ensures.told;
       ends = flows_turn c.args.missing c.args.self.flows.entries c.loop-pair.pair-iterator c.next.new.self c.in-Some.pair c.in-Some.flow first
-          c.loop-pair.report c.end.new.report inv.ends c.in-Some.ensures.steps c.in_ok-end.ensures.told c.in_ok-end.ensures.ends c.in_ok-end.ensures.logged;
+          c.loop-pair.report c.end.new.report inv.ends c.in-Some.ensures.steps c.in_ok-end.ensures.told c.in_ok-end.ensures.ends c.in_ok-end.ensures.logged c.in_ok-end.ensures.joined;
     }
 
 pub returns-clause-ends : goal.returns-clause-ends
@@ -30,7 +30,7 @@ returns-clause-ends c =
 
 pub returns-clause-deals : goal.returns-clause-deals
 returns-clause-deals c = λ port peer how a p last all report is.
-    ends_all how a p last c.args.missing c.args.self.flows.entries all.known c.args.report.now c.loop-pair.report report is.same (returns-clause-ends c)
+    ends_all how a p last c.args.missing c.args.self.flows.entries all.known c.args.report.now c.loop-pair.report report is.bound is.same (returns-clause-ends c)
 
 pub returns-in_err-end-clause-refuses : goal.returns-in_err-end-clause-refuses
 returns-in_err-end-clause-refuses c =

@@ -15,7 +15,7 @@ returns-clause-replaces c =
         | in-Some+in_ok-end w ↦
             subst (λ (r : Report). EndsBefore (flow_of old pair) pair c.args.report.now r) (sym w.report-is)
             (subst (λ (f : Option Flow). EndsBefore f pair c.args.report.now w.end.new.report) (sym w.in-Some.is ∙ c.shift_remove.ensures.value)
-            (w.in_ok-end.ensures.ends, w.in_ok-end.ensures.logged))
+            (w.in_ok-end.ensures.ends, w.in_ok-end.ensures.logged, w.in_ok-end.ensures.joined))
         | in_default w ↦
             subst (λ (f : Option Flow). EndsBefore f pair c.args.report.now c.match-shift_remove.report)
             (sym w.in_default.is ∙ c.shift_remove.ensures.value) w.report-is

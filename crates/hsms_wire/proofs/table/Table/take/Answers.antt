@@ -9,8 +9,8 @@ returns-in-Some-clause-deals c =
     (c.in-Some.ensures.pair, c.in-Some.ensures.peer) c.take_of.ensures.takes
 
 pub returns-in-None-clause-deals : goal.returns-in-None-clause-deals
-returns-in-None-clause-deals c = λ port peer how a p last all report past is.
-    deals_packet port peer how a p last c.args.segment.now c.args.capture _ c.args.self.now c.args.self.now c.args.report.now c.args.report.now all report past is
+returns-in-None-clause-deals c = λ port peer how a p last all report past few is.
+    deals_packet port peer how a p last c.args.segment.now c.args.capture _ c.args.self.now c.args.self.now c.args.report.now c.args.report.now all report past few is
     (None, c.in-None.ensures.none, (refl, refl, refl))
 
 pub returns-in-Some-clause-refuses : goal.returns-in-Some-clause-refuses

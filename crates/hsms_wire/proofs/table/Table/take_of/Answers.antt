@@ -2,10 +2,9 @@ use Rattle.std.proofs.Common.{◌≡◌, Bool, true, false, inl, inr, refl, sym,
 use Rattle.std.specs.Prelude.{◌↔◌, IsTrue}
 use Rattle.std.proofs.lemmas.Result.{err_from_is_err_and}
 use Rattle.hsms_capture.specs.declared.packet.Segment.{Segment as Taken}
-use Rattle.hsms_capture.specs.Known.{seen_of}
 use Rattle.hsms_wire.specs.declared.report.Report.{Report}
 use Rattle.hsms_wire.specs.declared.table.Table.{Table}
-use Rattle.hsms_wire.specs.Tabled.{FollowsFlow, Joins, TakesIt, seen_by}
+use Rattle.hsms_wire.specs.Tabled.{FollowsFlow, Joins, TakesIt, brought_by}
 use Rattle.hsms_wire.proofs.Beginnings.{Decides, with_syn, without_syn}
 use Rattle.hsms_wire.proofs.TableRefusals.{takes_begun, takes_first, takes_later}
 use Rattle.hsms_wire.proofs.table.Table.take_of.Goals as goal
@@ -38,11 +37,11 @@ returns-clause-takes c =
           (subst (λ (b : Bool). IsTrue b ↔ Joins c.args.self.now c.args.pair c.args.segment.now) (sym w.begins-is) w.joins-begins.ensures)
           c.new_syn-syn.ensures.none
     ] in
-    let s = seen_by c.args.from c.args.segment.now c.args.capture c.in-Some.time in
-    let follows : FollowsFlow c.args.pair s c.if-begins.self c.follow.new.self c.if-begins.report c.follow.new.report =
-    subst (λ (taken : Taken). FollowsFlow c.args.pair (seen_of taken c.args.capture.octets.now) c.if-begins.self c.follow.new.self c.if-begins.report c.follow.new.report)
+    let g = brought_by c.args.from c.args.segment.now c.args.capture c.in-Some.time in
+    let follows : FollowsFlow c.args.pair g c.if-begins.self c.follow.new.self c.if-begins.report c.follow.new.report =
+    subst (λ (taken : Taken). FollowsFlow c.args.pair (record { segment = taken; octets = c.args.capture.octets.now }) c.if-begins.self c.follow.new.self c.if-begins.report c.follow.new.report)
     c.segment_of-taken.ensures c.in_ok-follow.ensures.follows in
-    let it : TakesIt c.args.pair c.args.from c.args.segment.now s c.args.self.now c.follow.new.self c.args.report.now c.follow.new.report =
+    let it : TakesIt c.args.pair c.args.from c.args.segment.now g c.args.self.now c.follow.new.self c.args.report.now c.follow.new.report =
     elim c.if-begins.branch [
       | then-begins+in_ok-begin w ↦ inl (
         c.new_syn-syn.result,
@@ -50,8 +49,8 @@ returns-clause-takes c =
         w.begin.new.report,
         decides.there w.if-begins.true,
         w.in_ok-begin.ensures.begins,
-        subst (λ (t : Table). FollowsFlow c.args.pair s t c.follow.new.self w.begin.new.report c.follow.new.report) w.self-is
-            (subst (λ (r : Report). FollowsFlow c.args.pair s c.if-begins.self c.follow.new.self r c.follow.new.report) w.report-is follows),
+        subst (λ (t : Table). FollowsFlow c.args.pair g t c.follow.new.self w.begin.new.report c.follow.new.report) w.self-is
+            (subst (λ (r : Report). FollowsFlow c.args.pair g c.if-begins.self c.follow.new.self r c.follow.new.report) w.report-is follows),
       )
       | else-begins w ↦ inr (
         decides.none w.if-begins.false,
@@ -59,8 +58,8 @@ returns-clause-takes c =
           | else-not-begins-via-then-not-begins+else-not-is_live v ↦ v.is_live.ensures.0 v.if-not-is_live.false
           | else-not-begins-via-else-not-begins v ↦ absurd (true_false (sym v.if-not-begins.false ∙ w.if-begins.false))
         ],
-        subst (λ (t : Table). FollowsFlow c.args.pair s t c.follow.new.self c.args.report.now c.follow.new.report) w.self-is
-            (subst (λ (r : Report). FollowsFlow c.args.pair s c.if-begins.self c.follow.new.self r c.follow.new.report) w.report-is follows),
+        subst (λ (t : Table). FollowsFlow c.args.pair g t c.follow.new.self c.args.report.now c.follow.new.report) w.self-is
+            (subst (λ (r : Report). FollowsFlow c.args.pair g c.if-begins.self c.follow.new.self r c.follow.new.report) w.report-is follows),
       )
     ] in
     inl (refl, c.in-Some.time, c.in-Some.ensures.there, it)

@@ -1,0 +1,30 @@
+use Rattle.std.proofs.Common.{true, subst}
+use Rattle.hsms_wire.specs.declared.joining.Joining.{Joining}
+use Rattle.hsms_wire.specs.Joining.{BeginsWith}
+use Rattle.hsms_wire.specs.Report.{session_of}
+use Rattle.hsms_wire.proofs.SessionBegins.{left_kept, left_over, left_within}
+use Rattle.hsms_wire.proofs.flow.end_gathered.Goals as goal
+
+pub returns-in-Gathers-clause-ends : goal.returns-in-Gathers-clause-ends
+returns-in-Gathers-clause-ends c =
+    let pair = c.args.pair.now in
+    let old = c.args.report.now in
+    let mid = c.begin.new.report in
+    left_kept pair c.args.is_replaced c.args.missing c.args.gathering c.in-Gathers.field-0 old mid
+    (subst (λ (j : Joining). BeginsWith pair (session_of old.active) c.args.gathering true j old mid) c.in-Gathers.is c.in_ok-begin.ensures.begins)
+
+pub returns-in-Within-clause-ends : goal.returns-in-Within-clause-ends
+returns-in-Within-clause-ends c =
+    let pair = c.args.pair.now in
+    let old = c.args.report.now in
+    let mid = c.begin.new.report in
+    left_within c.end.result pair c.args.is_replaced c.args.missing c.args.gathering c.in-Within.within old mid c.end.new.report
+    (subst (λ (j : Joining). BeginsWith pair (session_of old.active) c.args.gathering true j old mid) c.in-Within.is c.in_ok-begin.ensures.begins) c.end.ensures.ends
+
+pub returns-clause-ends : goal.returns-clause-ends
+returns-clause-ends c =
+    let pair = c.args.pair.now in
+    let old = c.args.report.now in
+    let mid = c.begin.new.report in
+    left_over pair c.args.is_replaced c.args.missing c.args.gathering old mid
+    (subst (λ (j : Joining). BeginsWith pair (session_of old.active) c.args.gathering true j old mid) c.in-Over.is c.in_ok-begin.ensures.begins)

@@ -1,0 +1,22 @@
+use Rattle.std.proofs.Common.{◌≡◌, List, false, map, subst}
+use Rattle.hsms_joined.specs.declared.gathered.Gathered.{Gathered}
+use Rattle.hsms_joined.specs.Joining.{IsStart, has_both}
+use Rattle.hsms_wire.specs.Joining.{TakesThrough, brought}
+use Rattle.hsms_wire.proofs.SessionBegins.{takes_from, takes_none}
+use Rattle.hsms_wire.proofs.Sessions.{ok_map}
+use Rattle.hsms_wire.proofs.joining.take_from.Goals as goal
+
+pub returns-in_default-clause-takes : goal.returns-in_default-clause-takes
+returns-in_default-clause-takes c =
+    let both = c.args.beginnings in
+    takes_none c.args.pair.now c.args.gathering.now both c.args.report.now
+    (subst (λ (gs : List Gathered). has_both both.active.number both.passive.number gs ≡ false) c.packets-packets.ensures c.in_default.ensures.none)
+
+pub returns-clause-takes : goal.returns-clause-takes
+returns-clause-takes c =
+    let both = c.args.beginnings in
+    let gs = c.args.gathering.now in
+    ok_map c.take_all.result
+    (λ left through. takes_from c.args.pair.now gs both c.in-Some.start c.in_ok-within.within left c.args.report.now c.take_all.new.report
+    (subst (λ (gs : List Gathered). IsStart both.active.number both.passive.number gs c.in-Some.start) c.packets-packets.ensures c.in-Some.ensures.some) c.in_ok-within.ensures.begins
+    (subst (λ (gs : List Gathered). TakesThrough c.args.pair.now (map brought gs) c.in_ok-within.within left c.args.report.now c.take_all.new.report) c.packets-packets.ensures through)) c.take_all.ensures.takes

@@ -1,0 +1,55 @@
+use Rattle.std.proofs.Common.{◌≡◌, ◌&&◌, Bool, false, List, is_none, map, ap, rules, subst, sym, ◌∙◌}
+use Rattle.std.specs.Prelude.{OnOk}
+use Rattle.hsms_capture.specs.declared.ending.Ending.{Ending}
+use Rattle.hsms_capture.specs.declared.telling.Happening.{Happening}
+use Rattle.hsms_capture.specs.Standing.{EndsAs}
+use Rattle.hsms_wire.specs.declared.course.Course.{Course}
+use Rattle.hsms_wire.specs.Courses.{lack_behind}
+use Rattle.hsms_wire.specs.Joined.{HearsEach}
+use Rattle.hsms_wire.specs.Running.{EndsWithin}
+use Rattle.hsms_wire.specs.Session.{in_capture}
+use Rattle.hsms_wire.proofs.SessionPackets.{left_finished, left_over, left_replaced, not_replaced}
+use Rattle.hsms_wire.proofs.Taking.{ok_of}
+use Rattle.hsms_wire.proofs.within.Within.end.Goals.{else-is_replaced-via-then-is_replaced+else-is_none, else-is_replaced-via-else-is_replaced}
+use Rattle.hsms_wire.proofs.within.Within.end.Goals as goal
+
+pub returns-in-Over-clause-ends : goal.returns-in-Over-clause-ends
+returns-in-Over-clause-ends c =
+    let w = c.args.self in
+    let told = c.end.new.told.items in
+    let joined = c.hear_all.new.joined in
+    let ends = subst (λ (hs : List Happening). EndsAs w.connection hs told c.in-Ok.ending) c.new-told.ensures.items c.in-Ok.ensures.told in
+    let hears = subst (λ (x : Course). HearsEach c.args.pair.now (map (in_capture c.deref.result.now) told) w.joined c.args.report.now x joined c.hear_all.new.report) c.in-Over.is
+    c.in_ok-course.ensures.hears in
+    ok_of c.finish.result (left_over c.args.pair.now c.args.is_replaced c.args.missing told w c.deref.result.now c.in-Over.shortfall c.in-Ok.ending joined c.args.report.now
+    c.hear_all.new.report c.finish.new.report ends hears)
+
+pub returns-then-is_none-clause-ends : goal.returns-then-is_none-clause-ends
+returns-then-is_none-clause-ends c =
+    let w = c.args.self in
+    let told = c.end.new.told.items in
+    let joined = c.hear_all.new.joined in
+    let lack = c.behind-shortfall.result in
+    let ends = subst (λ (hs : List Happening). EndsAs w.connection hs told c.in-Ok.ending) c.new-told.ensures.items c.in-Ok.ensures.told in
+    let hears = subst (λ (x : Course). HearsEach c.args.pair.now (map (in_capture c.deref.result.now) told) w.joined c.args.report.now x joined c.hear_all.new.report) c.in-Goes.is
+    c.in_ok-course.ensures.hears in
+    subst (λ (b : Bool). OnOk c.replace.result (EndsWithin c.args.pair.now b c.args.missing w c.args.report.now c.replace.new.report)) (sym c.if-is_replaced.true)
+    (left_replaced c.replace.result c.args.pair.now c.args.missing lack told w c.deref.result.now c.in-Ok.ending joined c.args.report.now c.hear_all.new.report c.replace.new.report ends hears
+    (c.behind-shortfall.ensures ∙ ap (λ (e : Ending). lack_behind e c.args.missing) c.in_capture.ensures) (search rules) c.replace.ensures.replaced)
+
+pub returns-clause-ends : goal.returns-clause-ends
+returns-clause-ends c =
+    let w = c.args.self in
+    let told = c.end.new.told.items in
+    let joined = c.hear_all.new.joined in
+    let lack = c.behind-shortfall.result in
+    let ends = subst (λ (hs : List Happening). EndsAs w.connection hs told c.in-Ok.ending) c.new-told.ensures.items c.in-Ok.ensures.told in
+    let hears = subst (λ (x : Course). HearsEach c.args.pair.now (map (in_capture c.deref.result.now) told) w.joined c.args.report.now x joined c.hear_all.new.report) c.in-Goes.is
+    c.in_ok-course.ensures.hears in
+    let none : (c.args.is_replaced && is_none lack) ≡ false =
+    elim c.else-is_replaced.branch [
+      | else-is_replaced-via-then-is_replaced+else-is_none w ↦ not_replaced c.args.is_replaced (is_none lack) (search rules)
+      | else-is_replaced-via-else-is_replaced w ↦ ap (λ (b : Bool). b && is_none lack) w.if-is_replaced.false
+    ] in
+    left_finished c.finish-2.result c.args.pair.now c.args.is_replaced c.args.missing lack told w c.deref.result.now c.in-Ok.ending joined c.args.report.now c.hear_all.new.report
+    c.finish-2.new.report ends hears (c.behind-shortfall.ensures ∙ ap (λ (e : Ending). lack_behind e c.args.missing) c.in_capture.ensures) none c.finish-2.ensures.finishes
