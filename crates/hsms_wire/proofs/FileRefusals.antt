@@ -40,8 +40,9 @@ use Rattle.hsms_wire.proofs.Whole.{IsSoFar, captures_none, captures_opened, firs
 segment_refused : (packet : ℕ) (r : Record) (octets : List ℕ) (segment : Segment) (capture : Capture) (table : Table) (st : Stop) (before after : Report)
     → segment_at r.link octets ≡ shown.Segment segment → capture.packet ≡ packet → capture.time ≡ r.time → capture.octets.now ≡ body_in segment octets
     → TakesAsRefused segment capture table st before after → ShowsAsRefused packet r octets table st before after
-segment_refused packet r octets segment capture table st before after is packet_is time_is body_is takes refused w last all report past kept =
-    let on = takes refused w.port w.peer w.way w.active w.passive last all report (subst (λ (n : ℕ). last < n) (sym packet_is) past) kept in
+segment_refused packet r octets segment capture table st before after is packet_is time_is body_is takes refused w last all report past few kept =
+    let on = takes refused w.port w.peer w.way w.active w.passive last all report (subst (λ (n : ℕ). last < n) (sym packet_is) past)
+    (subst (λ (n : ℕ). n + 3 < 2 ^ 64) (sym packet_is) few) kept in
     let same : captured_of capture ≡ record { packet = packet; time = r.time; octets = body_in segment octets } =
     (λ i. record { packet = packet_is i; time = time_is i; octets = body_is i }) in
     subst (λ (s : Shown). ShownRefused s w packet r.time octets all st before after) (sym is)
@@ -57,8 +58,8 @@ segments_refused (Err st) packet r octets segment capture table before after is 
 
 pub puts_refused : (packet : ℕ) (r : Record) (octets : List ℕ) (table : Table) (st : Stop) (before told : Report) (out now : Option (List ℕ)) (fault : ToolFault)
     → ShowsAsRefused packet r octets table st before told → TellsStop st fault → Grows out now told.page.octets → PutsAsRefused packet r octets table before out now fault
-puts_refused packet r octets table st before told out now fault shows tells grows refusal w last all report past kept =
-    (st, told, shows (told_refused st fault tells refusal) w last all report past kept, record { written = grows; says = tells })
+puts_refused packet r octets table st before told out now fault shows tells grows refusal w last all report past few kept =
+    (st, told, shows (told_refused st fault tells refusal) w last all report past few kept, record { written = grows; says = tells })
 
 pub never_puts : (packet : ℕ) (r : Record) (octets : List ℕ) (table : Table) (before : Report) (out now : Option (List ℕ)) (fault : ToolFault) → IsWrite fault
     → PutsAsRefused packet r octets table before out now fault
@@ -79,7 +80,8 @@ reads_refused first from old before out was now left new table between put writt
     let counts = subst (λ (x : Step). CountsOn x was.state.packets now.state.packets) st_is counts_as in
     let one = so w all zero is kept input told in
     let past : was.state.packets < n = omega (arith, counts.0, few, zero, under) in
-    let on = puts refusal w was.state.packets one.mid one.report past one.kept in
+    let n_few : n + 3 < 2 ^ 64 = omega (arith, counts.0, few, zero, under) in
+    let on = puts refusal w was.state.packets one.mid one.report past n_few one.kept in
     let p = packet_of n r now.last in
     let tells = tells_on (ReadsOn first input) one.told (p ∷ []) was now left new one.tells (steps one.tells.0 one.tells.1) in
     let rest = each now tells.0 in (

@@ -19,6 +19,7 @@ mod SessionPackets
 mod SessionBegins
 mod SessionDealt
 mod SessionRefusals
+mod PacketRefusals
 mod Stages
 mod Staging
 mod Forgetting

@@ -133,9 +133,9 @@ through_over pair xs ys w old new first = λ how a p start gs hs report numbered
 
 -- ---- from where both directions begin
 
-none_sure : (t : Terms) → sure_log t [] ≡ []
+pub nothing_sure : (t : Terms) → sure_log t [] ≡ []
 unfolding decided_by
-none_sure t = refl
+nothing_sure t = refl
 
 pub takes_from : (pair : Pair) (gs : List Gathered) (both : Beginnings) (start : Start) (w : Within) (left : Option Within) (old new : Report)
     → IsStart both.active.number both.passive.number gs start → BeginsWithin both.active.number both.passive.number start w → TakesThrough pair (map brought gs) w left old new
@@ -152,7 +152,7 @@ takes_from pair gs both start w left old new is begins through =
           let n = subst (λ (k : ℕ). AreNumbered 0 (session_seen k w.passive bs)) (sym begins.active_is)
           (subst (λ (k : ℕ). AreNumbered 0 (session_seen active k bs)) (sym begins.passive_is) numbered) in
           let t = terms_by how a start in
-          let had : logged_so_far how a start [] begins.happened ≡ [] = ap (sure_log t) begins.none ∙ none_sure t in
+          let had : logged_so_far how a start [] begins.happened ≡ [] = ap (sure_log t) begins.none ∙ nothing_sure t in
           subst (λ (k : ℕ). GoesThrough how a p pair start k passive [] bs left old new) begins.active_is
           (subst (λ (k : ℕ). GoesThrough how a p pair start w.active k [] bs left old new) begins.passive_is
           (subst (λ (xs : List Item). GoesThrough how a p pair start w.active w.passive xs bs left old new) had

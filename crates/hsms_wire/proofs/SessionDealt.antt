@@ -59,7 +59,7 @@ cut_numbers active passive first last (g ∷ gs) up few =
 pub session_numbers : (active passive last : ℕ) (gs : List Brought) → RiseUpTo 0 last gs → last + 3 < 2 ^ 64 → AreNumbered 0 (session_seen active passive gs)
 session_numbers active passive last gs up few = (omega arith, (omega arith, (omega arith, cut_numbers active passive 0 last gs up few)))
 
-rise_gathered : (last : ℕ) (segment : Taken) (octets : List ℕ) (gs all : List Gathered) → Gathers segment octets gs all → RiseUpTo 0 last (map brought gs) → last < segment.packet
+pub rise_gathered : (last : ℕ) (segment : Taken) (octets : List ℕ) (gs all : List Gathered) → Gathers segment octets gs all → RiseUpTo 0 last (map brought gs) → last < segment.packet
     → RiseUpTo 0 segment.packet (map brought all)
 rise_gathered last segment octets gs all gathers up past =
     let g = gathers.0 in
@@ -80,7 +80,7 @@ report_of how r manner = record { manner_is = manner; active = refl; passive = r
 
 -- ---- where both directions begin
 
-from_some : (how : Way) (a p : Parameters) (pair : Pair) (gs : List Gathered) (both : Beginnings) (w : Within) (old new : Report) → IsReport how a p old
+pub from_some : (how : Way) (a p : Parameters) (pair : Pair) (gs : List Gathered) (both : Beginnings) (w : Within) (old new : Report) → IsReport how a p old
     → AreNumbered 0 (session_seen both.active.number both.passive.number (map brought gs)) → TakesFrom pair gs both (Some w) old new
     → (start : Start) × IsStart both.active.number both.passive.number gs start
     × GoesThrough how a p pair start both.active.number both.passive.number [] (map brought gs) (Some w) old new

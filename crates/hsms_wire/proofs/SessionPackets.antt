@@ -57,7 +57,7 @@ use Rattle.hsms_wire.proofs.Taking.{logs_then}
 pub seen_one : (active passive : ℕ) (gs : List Brought) (g : Brought) → session_seen active passive (gs ++ g ∷ []) ≡ session_seen active passive gs ++ cut active passive g ∷ []
 seen_one active passive gs g = seen_more active passive gs (g ∷ [])
 
-resets_one : (gs : List Brought) (g : Brought) → resets_of (gs ++ g ∷ []) ≡ resets_of gs ++ bare_if (g.segment.reset && is_none g.segment.acknowledged) g.segment.packet
+pub resets_one : (gs : List Brought) (g : Brought) → resets_of (gs ++ g ∷ []) ≡ resets_of gs ++ bare_if (g.segment.reset && is_none g.segment.acknowledged) g.segment.packet
 resets_one gs g =
     flat_map-append (λ (g : Brought). bare_if (g.segment.reset && is_none g.segment.acknowledged) g.segment.packet) gs (g ∷ [])
     ∙ ap (λ (ns : List ℕ). resets_of gs ++ ns) (append-nil (bare_if (g.segment.reset && is_none g.segment.acknowledged) g.segment.packet))
@@ -82,7 +82,7 @@ on_goes : (lack : Option Shortfall) (G : Page → Page → Type 0) (old new : Pa
 on_goes None G old new none on = on
 on_goes (Some lack) G old new none on = absurd cc
 
-further : (how : Way) (a p : Parameters) (pair : Pair) (had has : List Item) (old new : Joined) (before after : Report) → IsReport how a p before
+pub further : (how : Way) (a p : Parameters) (pair : Pair) (had has : List Item) (old new : Joined) (before after : Report) → IsReport how a p before
     → LogsMore pair course.Goes had has old before new after → LogsFurther how pair had has before after
 further to_verdicts a p pair had has old new before after report logs = takes_same pair course.Goes logs.0 old.ends new.ends before after logs.2 report.manner_is
 further (to_log settings side) a p pair had has old new before after report logs =
@@ -136,12 +136,12 @@ pub record Takes (how : Way) (a p : Parameters) (start : Start) (gs : List Broug
   pub is : IsWithin how a p start gs hs w
 
 -- the connection takes it
-record Taken (gs : List Brought) (hs told : List Happening) (g : Brought) (w : Within) (next : Connection) : Type 0 where
-  stands : Stands next (hs ++ told) (session_base w.active w.passive) (session_seen w.active w.passive (gs ++ g ∷ []))
-  timed : IsInTime next (hs ++ told) (session_base w.active w.passive) (session_seen w.active w.passive (gs ++ g ∷ []))
-  happened : Happens w.active w.passive (gs ++ g ∷ []) (hs ++ told)
+pub record Taken (gs : List Brought) (hs told : List Happening) (g : Brought) (w : Within) (next : Connection) : Type 0 where
+  pub stands : Stands next (hs ++ told) (session_base w.active w.passive) (session_seen w.active w.passive (gs ++ g ∷ []))
+  pub timed : IsInTime next (hs ++ told) (session_base w.active w.passive) (session_seen w.active w.passive (gs ++ g ∷ []))
+  pub happened : Happens w.active w.passive (gs ++ g ∷ []) (hs ++ told)
 
-taken : (how : Way) (a p : Parameters) (start : Start) (gs : List Brought) (hs told : List Happening) (g : Brought) (w : Within) (next : Connection) (old : Report)
+pub taken : (how : Way) (a p : Parameters) (start : Start) (gs : List Brought) (hs told : List Happening) (g : Brought) (w : Within) (next : Connection) (old : Report)
     → Takes how a p start gs hs g w old → TakesOn w.connection (cut w.active w.passive g) [] next told → TakesInTime w.connection (cut w.active w.passive g) [] next told
     → Taken gs hs told g w next
 taken how a p start gs hs told g w next old it on time =
@@ -156,13 +156,13 @@ taken how a p start gs hs told g w next old it on time =
     record { stands = stands; timed = timed; happened = happens_here w.active w.passive (gs ++ g ∷ []) (hs ++ told) next it.numbered stands timed }
 
 -- what happens is heard
-abbrev HeardOn : Way → Parameters → Parameters → Pair → Start → List Brought → List Happening → List Happening → Brought → Course → Joined → Joined → Report → Report → Type 0
+abbrev pub HeardOn : Way → Parameters → Parameters → Pair → Start → List Brought → List Happening → List Happening → Brought → Course → Joined → Joined → Report → Report → Type 0
 HeardOn how a p pair start gs hs told g c old new before after =
     LogsMore pair c (sure_log (terms_by how a start) (counting start (resets_of gs) hs)) (sure_log (terms_by how a start) (counting start (resets_of (gs ++ g ∷ [])) (hs ++ told)))
     old before new after
     × StandsBy c how a p start (counting start (resets_of (gs ++ g ∷ [])) (hs ++ told)) new
 
-heard_on : (how : Way) (a p : Parameters) (pair : Pair) (start : Start) (gs : List Brought) (hs told : List Happening) (g : Brought) (w : Within) (bare : List ℕ) (c : Course)
+pub heard_on : (how : Way) (a p : Parameters) (pair : Pair) (start : Start) (gs : List Brought) (hs told : List Happening) (g : Brought) (w : Within) (bare : List ℕ) (c : Course)
     → (joined : Joined) (old new : Report) → Takes how a p start gs hs g w old
     → bare ≡ w.bare_resets.items ++ bare_if (g.segment.reset && is_none g.segment.acknowledged) g.segment.packet
     → HearsEach pair (map (in_capture bare) told) w.joined old c joined new → HeardOn how a p pair start gs hs told g c w.joined joined old new
@@ -177,7 +177,7 @@ heard_on how a p pair start gs hs told g w bare c joined old new it resets hears
     ∙ ap (λ (ns : List ℕ). counting start ns (hs ++ told)) all) (hears how a p start (map (in_capture (resets_of gs)) hs) it.report it.is.heard)
 
 -- nothing happens
-heard_none : (how : Way) (a p : Parameters) (pair : Pair) (start : Start) (gs : List Brought) (hs : List Happening) (w : Within) (bare : List ℕ) (c : Course)
+pub heard_none : (how : Way) (a p : Parameters) (pair : Pair) (start : Start) (gs : List Brought) (hs : List Happening) (w : Within) (bare : List ℕ) (c : Course)
     → (joined : Joined) (old new : Report) → IsReport how a p old → IsWithin how a p start gs hs w → HearsEach pair (map (in_capture bare) []) w.joined old c joined new
     → LogsMore pair c (sure_log (terms_by how a start) (counting start (resets_of gs) hs)) (sure_log (terms_by how a start) (counting start (resets_of gs) hs)) w.joined old joined new
     × StandsBy c how a p start (counting start (resets_of gs) hs) joined
@@ -188,7 +188,7 @@ heard_none how a p pair start gs hs w bare c joined old new report is hears =
     subst (λ (xs : List Happening). LogsMore pair c had (sure_log t xs) w.joined old joined new × StandsBy c how a p start xs joined)
     (ap (since start) (append-nil (map (in_capture (resets_of gs)) hs))) (hears how a p start (map (in_capture (resets_of gs)) hs) report is.heard)
 
-never_over : (how : Way) (a p : Parameters) (start : Start) (xs : List Happening) (old new : Joined) (by : Option Shortfall) → JoinedStands how a p start xs old
+pub never_over : (how : Way) (a p : Parameters) (start : Start) (xs : List Happening) (old new : Joined) (by : Option Shortfall) → JoinedStands how a p start xs old
     → StandsBy (course.Over by) how a p start xs new → ⊥
 never_over how a p start xs old new by stands over =
     let bad : course.Over by ≡ course.Goes = sym over.course_is ∙ stands_goes how a p start xs old stands in cc
@@ -465,7 +465,7 @@ pub record Ends (how : Way) (a p : Parameters) (start : Start) (gs : List Brough
   pub is : IsWithin how a p start gs hs w
 
 -- all was told
-none_left : (how : Way) (a p : Parameters) (start : Start) (gs : List Brought) (hs told : List Happening) (w : Within) (e : Ending) (old : Report) → Ends how a p start gs hs w old
+pub none_left : (how : Way) (a p : Parameters) (start : Start) (gs : List Brought) (hs told : List Happening) (w : Within) (e : Ending) (old : Report) → Ends how a p start gs hs w old
     → EndsAs w.connection [] told e
     → (told ≡ []) × (e ≡ ended (places (session_base w.active w.passive) [] (session_seen w.active w.passive gs)))
 none_left how a p start gs hs told w e old it ends =
@@ -474,7 +474,7 @@ none_left how a p start gs hs told w e old it ends =
     let end = ends base seen hs it.numbered (subst (λ (zs : List Happening). Stands w.connection zs base seen) (sym (append-nil hs)) it.is.stands) in
     (nothing_more hs told (tells (places base [] seen)) (told_at_once w.connection hs base seen it.is.stands it.numbered).0 end.0, end.1)
 
-heard_left : (how : Way) (a p : Parameters) (pair : Pair) (start : Start) (gs : List Brought) (hs told : List Happening) (w : Within) (bare : List ℕ) (c : Course) (e : Ending)
+pub heard_left : (how : Way) (a p : Parameters) (pair : Pair) (start : Start) (gs : List Brought) (hs told : List Happening) (w : Within) (bare : List ℕ) (c : Course) (e : Ending)
     → (joined : Joined) (old new : Report) → Ends how a p start gs hs w old → EndsAs w.connection [] told e → HearsEach pair (map (in_capture bare) told) w.joined old c joined new
     → LogsMore pair c (sure_log (terms_by how a start) (counting start (resets_of gs) hs)) (sure_log (terms_by how a start) (counting start (resets_of gs) hs)) w.joined old joined new
     × StandsBy c how a p start (counting start (resets_of gs) hs) joined

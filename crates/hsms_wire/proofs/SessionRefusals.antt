@@ -1,6 +1,6 @@
 -- A session that was running before its capture is refused where the log of an end is told.
 use Rattle.std.proofs.Common.{is_some, ◌≡◌, ◌≤◌, ◌<◌, ◌⊎◌, inl, inr, ◌||◌, ◌++◌, ◌∷◌, max, cond, ℕ, Bool, true, false, List, [], length, Option, Some, None, refl, sym, ap, subst, ◌∙◌, append_assoc, arith, le-leb, map}
-use Rattle.std.proofs.lemmas.List.{append-nil, map-append}
+use Rattle.std.proofs.lemmas.List.{map-append}
 use Rattle.std.proofs.lemmas.List.Elements.{filter-append}
 use Rattle.std.specs.Prelude.{Result, Ok, Err, IfErr, OnErr}
 use Rattle.hsms_frame.specs.declared.header.Header.{Header}
@@ -31,7 +31,7 @@ use Rattle.hsms_wire.specs.Items.{Item, most_of, tells}
 use Rattle.hsms_wire.specs.Joined.{Decides, HearsEach, IsPartOf, IsQuiet, IsTelling, IsWaiting, JoinedStands, LogsMore, Settles, TellsThem, latest_behind, most_by, part_with, spoken_behind, terms_by}
 use Rattle.hsms_wire.specs.Logged.{is_there}
 use Rattle.hsms_wire.specs.Refused.{HearsRefused, InLog, LacksRefused, RefusesFor}
-use Rattle.hsms_wire.specs.RefusedSession.{CantComeUp, ComesUpRefused, DecidesRefused, EachRefused, EndRefused, FinishRefused, LogRefused, NextRefused, PartRefused, ReplaceRefused, SettlesRefused, StaysDown, TellsRefused, WaitsRefused}
+use Rattle.hsms_wire.specs.RefusedSession.{CantComeUp, ComesUpRefused, DecidesRefused, EachRefused, SettlesAndTellsRefused, FinishRefused, LogRefused, HearsNextRefused, PartRefused, ReplaceRefused, SettlesRefused, StaysDown, TellsRefused, UndecidedRefused}
 use Rattle.hsms_wire.specs.Report.{Tells}
 use Rattle.hsms_wire.specs.Said.{KnowsBoth, Spoken, nothing_spoken, spoken_to}
 use Rattle.hsms_wire.specs.Stop.{IsRefused}
@@ -42,7 +42,6 @@ use Rattle.hsms_wire.proofs.Logging.{came_up_more, goes_on}
 use Rattle.hsms_wire.proofs.Paging.{same_log}
 use Rattle.hsms_wire.proofs.Sessions.{Noted, before_last, before_stays, begins_telling, decided_last, is_sure, log_next, log_now, longer, most_same, none_sure, none_yet, open_before, over_items, part_said, part_tells, report_stays, since_more, sure_then, waits_more}
 use Rattle.hsms_wire.proofs.Supposing.{items_more, or_none, parts_of_or, said_goes, some_more, undecided_goes}
-use Rattle.hsms_wire.proofs.Taking.{takes_nothing}
 use Rattle.hsms_wire.proofs.Unrefused.{verdicts_in_log}
 
 -- ---- it can't come up
@@ -113,7 +112,7 @@ none_tells : (t : Terms) (b : Before) (hs : List Happening) → course_by_events
     → tells_some (items_by t (asked b) 0 hs) ≡ false
 none_tells t b hs goes none = sym (front_there t b (items_by t (asked b) 0 hs)) ∙ ap is_there (sym (log_now t b hs goes) ∙ none)
 
-both_empty : (xs ys all : List Item) → all ≡ xs ++ ys → all ≡ [] → xs ≡ []
+pub both_empty : (xs ys all : List Item) → all ≡ xs ++ ys → all ≡ [] → xs ≡ []
 both_empty [] ys all is none = refl
 both_empty (x ∷ xs) ys all is none = absurd (let no : [] ≡ x ∷ (xs ++ ys) = sym none ∙ is in cc)
 
@@ -154,7 +153,7 @@ tell_refused pair h which old mid st before after same by refused_as = λ refuse
     }
 
 -- it is refused behind what left the report as it was
-down_then : (pair : Pair) (packet : ℕ) (st : Stop) (j next : Journal) (before between after : Report) → between ≡ before → before.manner ≡ Log j → between.manner ≡ Log next
+pub down_then : (pair : Pair) (packet : ℕ) (st : Stop) (j next : Journal) (before between after : Report) → between ≡ before → before.manner ≡ Log j → between.manner ≡ Log next
     → StaysDown pair packet st next between after → StaysDown pair packet st j before after
 down_then pair packet st j next before between after still log here down =
     let same : next ≡ j = same_log between next j here (ap (λ (r : Report). r.manner) still ∙ log) in
@@ -263,7 +262,7 @@ ends_before most hs h few still none =
     )
 
 pub end_settle_refused : (pair : Pair) (h : Happening) (old : Joined) (st : Stop) (before after : Report) → SettlesRefused pair old st before after
-    → EndRefused pair h old st before after
+    → SettlesAndTellsRefused pair h old st before after
 unfolding InLog
 end_settle_refused pair h old st before after settles = λ refused j log how a p start hs report of few waits none no_up.
     let t = terms_by how a start in
@@ -273,7 +272,7 @@ end_settle_refused pair h old st before after settles = λ refused j log how a p
     (there_more t (before_of t.most hs) hs (h ∷ []) it.some) it.down
 
 pub end_tell_refused : (pair : Pair) (h : Happening) (old mid : Joined) (st : Stop) (before between after : Report) → Settles pair old before course.Goes mid between
-    → Tells before between → IsQuiet old.is_up mid.is_up before between → TellsRefused pair (h ∷ []) mid st between after → EndRefused pair h old st before after
+    → Tells before between → IsQuiet old.is_up mid.is_up before between → TellsRefused pair (h ∷ []) mid st between after → SettlesAndTellsRefused pair h old st before after
 unfolding InLog Settles
 end_tell_refused pair h old mid st before between after settles told quiet them = λ refused j log how a p start hs report of few waits none no_up.
     let t = terms_by how a start in
@@ -287,7 +286,7 @@ end_tell_refused pair h old mid st before between after settles told quiet them 
 -- by so many that wait
 pub wait_refused : (pair : Pair) (from : Side) (message : Header) (h : Happening) (old mid full : Joined) (st : Stop) (before after : Report) → mid ≡ record old { said = mid.said }
     → Noted from message old mid → full ≡ record mid { waiting = full.waiting } → full.waiting.items ≡ mid.waiting.items ++ h ∷ []
-    → (length full.waiting.items ≤ 4096 → ⊥) → DecidesRefused pair Selected side.Active full st before after → WaitsRefused pair from message h old st before after
+    → (length full.waiting.items ≤ 4096 → ⊥) → DecidesRefused pair Selected side.Active full st before after → UndecidedRefused pair from message h old st before after
 unfolding InLog
 wait_refused pair from message h old mid full st before after noted notes pushed waiting many decided = λ refused j log how a p start hs report of few waits says none.
     let most = most_by how a in
@@ -316,7 +315,7 @@ ByStand pair h old st before after =
 
 -- nothing is decided yet
 while_waiting : (pair : Pair) (h : Happening) (old : Joined) (st : Stop) (before after : Report) → old.is_decided ≡ false → ByStand pair h old st before after
-    → NextRefused pair h old st before after
+    → HearsNextRefused pair h old st before after
 unfolding InLog
 while_waiting pair h old st before after undecided by = λ refused j log how a p start hs report stands no_up.
     by_stand refused j log how a p start hs report no_up stands.0 stands.1
@@ -330,7 +329,7 @@ while_waiting pair h old st before after undecided by = λ refused j log how a p
     by_stand refused j log how a p start hs report no_up of (inl (few, waits)) = by refused j log how a p start hs report no_up of few waits
 
 pub next_told_refused : (pair : Pair) (h : Happening) (old : Joined) (st : Stop) (before after : Report) → old.is_decided ≡ true
-    → TellsRefused pair (h ∷ []) old st before after → NextRefused pair h old st before after
+    → TellsRefused pair (h ∷ []) old st before after → HearsNextRefused pair h old st before after
 unfolding InLog
 next_told_refused pair h old st before after decided them = λ refused j log how a p start hs report stands no_up.
     by_stand refused j log how a p start hs report no_up stands.1
@@ -351,7 +350,7 @@ next_told_refused pair h old st before after decided them = λ refused j log how
         record { none = sure_then t hs it.1 ∙ one.none; some = ap is_there now ∙ one.some; down = one.down }
 
 pub next_settled_refused : (pair : Pair) (h : Happening) (m : Option (Side × Header)) (old : Joined) (st : Stop) (before after : Report) → old.is_decided ≡ false
-    → m ≡ said_by (most_of before) h.event → m ≡ None → EndRefused pair h old st before after → NextRefused pair h old st before after
+    → m ≡ said_by (most_of before) h.event → m ≡ None → SettlesAndTellsRefused pair h old st before after → HearsNextRefused pair h old st before after
 unfolding InLog
 next_settled_refused pair h m old st before after undecided said_is m_is ends =
     while_waiting pair h old st before after undecided (λ refused j log how a p start hs report no_up of few waits.
@@ -360,7 +359,7 @@ next_settled_refused pair h m old st before after undecided said_is m_is ends =
 pub next_waits_refused : (pair : Pair) (h : Happening) (from : Side) (message : Header) (found : Option Supposed) (m : Option (Side × Header)) (old : Joined) (st : Stop)
     (before after : Report) → old.is_decided ≡ false → m ≡ said_by (most_of before) h.event → m ≡ Some (from, message)
     → ((said : Said) (spoken : Spoken) → old.said ≡ Some said → KnowsBoth spoken said → found ≡ supposed_by message (spoken_to from spoken))
-    → found ≡ None → WaitsRefused pair from message h old st before after → NextRefused pair h old st before after
+    → found ≡ None → UndecidedRefused pair from message h old st before after → HearsNextRefused pair h old st before after
 unfolding InLog
 next_waits_refused pair h from message found m old st before after undecided said_is m_is finds found_is waits =
     while_waiting pair h old st before after undecided (λ refused j log how a p start hs report no_up of few stands.
@@ -383,7 +382,7 @@ message_before most hs h from message supposed few still says by =
 pub next_decide_refused : (pair : Pair) (h : Happening) (from : Side) (message : Header) (supposed : Supposed) (found : Option Supposed) (m : Option (Side × Header))
     (asker : Side) (old : Joined) (st : Stop) (before after : Report) → old.is_decided ≡ false → m ≡ said_by (most_of before) h.event → m ≡ Some (from, message)
     → ((said : Said) (spoken : Spoken) → old.said ≡ Some said → KnowsBoth spoken said → found ≡ supposed_by message (spoken_to from spoken))
-    → found ≡ Some supposed → asker ≡ other_side from → DecidesRefused pair supposed asker old st before after → NextRefused pair h old st before after
+    → found ≡ Some supposed → asker ≡ other_side from → DecidesRefused pair supposed asker old st before after → HearsNextRefused pair h old st before after
 unfolding InLog
 next_decide_refused pair h from message supposed found m asker old st before after undecided said_is m_is finds found_is asks decided =
     while_waiting pair h old st before after undecided (λ refused j log how a p start hs report no_up of few waits.
@@ -403,7 +402,7 @@ pub next_tell_refused : (pair : Pair) (h : Happening) (from : Side) (message : H
     (old mid : Joined) (st : Stop) (before between after : Report) → old.is_decided ≡ false → m ≡ said_by (most_of before) h.event → m ≡ Some (from, message)
     → ((said : Said) (spoken : Spoken) → old.said ≡ Some said → KnowsBoth spoken said → found ≡ supposed_by message (spoken_to from spoken))
     → found ≡ Some supposed → Decides pair supposed (other_side from) old before course.Goes mid between → Tells before between
-    → IsQuiet old.is_up mid.is_up before between → TellsRefused pair (h ∷ []) mid st between after → NextRefused pair h old st before after
+    → IsQuiet old.is_up mid.is_up before between → TellsRefused pair (h ∷ []) mid st between after → HearsNextRefused pair h old st before after
 unfolding InLog Decides
 next_tell_refused pair h from message supposed found m old mid st before between after undecided said_is m_is finds found_is decided told quiet them =
     while_waiting pair h old st before after undecided (λ refused j log how a p start hs report no_up of few waits.
@@ -418,7 +417,7 @@ next_tell_refused pair h from message supposed found m old mid st before between
     with_one how a p start b hs h pair old mid st j before between after few waits.undecided no_up last.0 last.1 report it.2 it.3 told quiet refused log them)
 
 pub hear_refused : (pair : Pair) (h : Happening) (old : Joined) (st : Stop) (before after : Report) → counts_by old.start.packet h.packet h.event ≡ true
-    → is_up_event h.event ≡ false → NextRefused pair h old st before after → EachRefused pair (h ∷ []) old st before after
+    → is_up_event h.event ≡ false → HearsNextRefused pair h old st before after → EachRefused pair (h ∷ []) old st before after
 unfolding InLog
 hear_refused pair h old st before after counts no_up next = λ refused j log how a p start all report stands.
     let t = terms_by how a start in
@@ -444,7 +443,7 @@ sure_there t hs ys there = by_sure (is_decided t.most hs) refl
         absurd (let bad : false ≡ true = ap (λ (x : Bool). is_there (log_if x (whole_log t hs))) (sym isnt) ∙ there in cc)
 
 -- nothing is logged yet: it hasn't come up
-still_down : (how : Way) (a p : Parameters) (start : Start) (hs : List Happening) (joined : Joined) → JoinedStands how a p start hs joined
+pub still_down : (how : Way) (a p : Parameters) (start : Start) (hs : List Happening) (joined : Joined) → JoinedStands how a p start hs joined
     → sure_log (terms_by how a start) hs ≡ [] → joined.is_up ≡ false
 still_down how a p start hs joined stands none = by_stand stands.1
   where
@@ -508,20 +507,14 @@ finish_lack_refused pair lack old next st before mid after settles nothing told 
       inr (record {
         more = it.1.0;
         has_is = it.1.1;
+        course = course.Goes;
         mid = mid;
         logs = takes_logs pair course.Goes it.1.0 old.ends next.ends before mid it.1.2 j log;
         refuses = lacks refused kept.0 kept.1;
       });
   over = λ refused j log how a p start hs by report over.
-      let t = terms_by how a start in
       let same = (nothing over.waiting).2 in
-      record {
-        more = [];
-        has_is = sym (append-nil (whole_log t hs));
-        mid = before;
-        logs = takes_logs pair course.Goes [] old.ends old.ends before before (takes_nothing pair old.ends before) j log;
-        refuses = subst (λ (r : Report). RefusesFor lack st r after) same (lacks refused j (ap (λ (r : Report). r.manner) same ∙ log));
-      };
+      subst (λ (r : Report). RefusesFor lack st r after) same (lacks refused j (ap (λ (r : Report). r.manner) same ∙ log));
 }
 
 -- what waits never ends it

@@ -1,5 +1,5 @@
 -- Where the log of one end is told: with which packet of a capture it is refused, or which connection refuses it at the end.
-use Rattle.std.specs.Prelude.{◌≡◌, ◌⊎◌, ◌<◌, ◌++◌, ◌∷◌, ℕ, List, [], Option, Some, None, Err}
+use Rattle.std.specs.Prelude.{◌≡◌, ◌⊎◌, ◌<◌, ◌+◌, ◌^◌, ◌++◌, ◌∷◌, ℕ, List, [], map, Option, Some, None, Err}
 use Rattle.std.specs.declared.net.ip_addr.IpAddr.{IpAddr}
 use Rattle.hsms_frame.specs.Device.{Grows, WhereTold}
 use Rattle.hsms_machine.specs.Settings.{Parameters}
@@ -12,7 +12,12 @@ use Rattle.hsms_packets.specs.Blocks.{Reading, ReadsOn}
 use Rattle.hsms_packets.specs.File.{Packet, Ending, ReadsFile}
 use Rattle.hsms_packets.specs.Segment.{segment_at}
 use Rattle.hsms_capture.specs.declared.packet.Side.{Side}
-use Rattle.hsms_capture.specs.Wire.{Seen}
+use Rattle.hsms_joined.specs.declared.gathered.Gathered.{Gathered}
+use Rattle.hsms_joined.specs.declared.gathering.Beginnings.{Beginnings}
+use Rattle.hsms_joined.specs.declared.start.Start.{Start}
+use Rattle.hsms_joined.specs.Gathering.{AreBeginnings, Gathers}
+use Rattle.hsms_joined.specs.Joining.{IsStart}
+use Rattle.hsms_capture.specs.declared.telling.Happening.{Happening}
 use Rattle.hsms_accounts.specs.Pair.{IsOfPeer, turned}
 use Rattle.hsms_accounts.specs.declared.journal.Journal.{Journal}
 use Rattle.hsms_accounts.specs.declared.pair.Pair.{Pair}
@@ -22,13 +27,17 @@ use Rattle.hsms_wire.specs.declared.report.Report.{Report}
 use Rattle.hsms_wire.specs.declared.shortfall.Shortfall.{Shortfall}
 use Rattle.hsms_wire.specs.declared.table.Capture.{Capture}
 use Rattle.hsms_wire.specs.declared.table.Table.{Table}
-use Rattle.hsms_wire.specs.Connections.{Captured, Connection, Connections, EndsAll, IsOpen, IsReplaced, Starts, StartsAny, StartsOne, Packets, brought_at, connection_of, gathered, of_session, of_syn, pair_in, without}
+use Rattle.hsms_wire.specs.Connections.{BeginsBoth, Captured, Connection, Connections, EndsAll, IsOpen, IsReplaced, Starts, StartsAny, StartsOne, Packets, Session, brought_at, connection_of, gathered, of_session, of_syn, pair_in, without}
 use Rattle.hsms_wire.specs.Dealt.{CapturesFile, DealsEach, DealsUpTo, IsBlank, Wanted, none_yet}
 use Rattle.hsms_wire.specs.Way.{IsReport, Way, to_log, to_verdicts}
 use Rattle.hsms_wire.specs.Kept.{ConcludesAsDealt, FinishesAsDealt, IsReportOf, IsTable, IsTableOf, captured_of}
 use Rattle.hsms_wire.specs.Refused.{RefusedWith, RefusesFor, lack_at_end}
-use Rattle.hsms_wire.specs.Report.{missing_after}
-use Rattle.hsms_wire.specs.Running.{seen_brought}
+use Rattle.hsms_wire.specs.Report.{missing_after, session_of}
+use Rattle.hsms_wire.specs.Joined.{most_by, terms_by}
+use Rattle.hsms_wire.specs.Joining.{brought}
+use Rattle.hsms_wire.specs.RefusedSession.{IsRefusedWith, SessionRefused, ThroughRefused}
+use Rattle.hsms_wire.specs.Running.{Brought, Happens, counting, lack_within, logged_so_far, resets_of, seen_brought}
+use Rattle.hsms_wire.specs.Supposing.{whole_log}
 use Rattle.hsms_wire.specs.Segments.{body_in}
 use Rattle.hsms_wire.specs.Staged.{answered_by}
 use Rattle.hsms_wire.specs.Stop.{IsRefusal, IsRefused, TellsStop}
@@ -36,52 +45,82 @@ use Rattle.hsms_wire.specs.Tabled.{HasTime}
 
 -- ---- a connection by its packets
 
--- it lacks something that ends; of a session that was running before nothing is said of it
-abbrev pub EndRefused : Option Shortfall → Option Packets → Stop → Report → Report → Type 0
-EndRefused missing None st old new = ⊥
-EndRefused missing (Some (of_syn number seen)) st old new = RefusesFor (lack_at_end (answered_by number seen) number seen missing) st old new
-EndRefused missing (Some (gathered gs)) st old new = Unit {0}
-EndRefused missing (Some (of_session s)) st old new = Unit {0}
+-- a session that was running before: nothing of it was logged and it can't come up, or it lacks something
+abbrev pub RunningEndRefused : Way → Parameters → Pair → Option Shortfall → Session → Stop → Journal → Report → Report → Type 0
+RunningEndRefused how a pair missing s st j old new =
+    SessionRefused pair s.start (logged_so_far how a s.start s.packets s.happened) (whole_log (terms_by how a s.start) (counting s.start (resets_of s.packets) s.happened))
+    (lack_within (most_by how a) s.start s.active s.passive s.packets s.happened missing) st j old new
+
+-- as long as its packets are kept: with one of these, from where both of its directions begin, or behind all of them
+abbrev pub KeptEndRefused : Way → Parameters → Parameters → Pair → Option Shortfall → List Gathered → Stop → Journal → Report → Report → Type 0
+KeptEndRefused how a p pair missing gs st j old new =
+    (both : Beginnings) × AreBeginnings (session_of a) gs both × (start : Start) × IsStart both.active.number both.passive.number gs start
+    × (ThroughRefused how a p pair start both.active.number both.passive.number [] (map brought gs) st j old new
+    ⊎ ((hs : List Happening) × Happens both.active.number both.passive.number (map brought gs) hs
+    × SessionRefused pair start [] (whole_log (terms_by how a start) (counting start (resets_of (map brought gs)) hs))
+    (lack_within (most_by how a) start both.active.number both.passive.number (map brought gs) hs missing) st j old new))
+
+-- it lacks something that ends, or can't come up
+abbrev pub EndRefused : Parameters → Parameters → Pair → Option Shortfall → Option Packets → Stop → Report → Report → Type 0
+EndRefused a p pair missing None st old new = ⊥
+EndRefused a p pair missing (Some (of_syn number seen)) st old new = RefusesFor (lack_at_end (answered_by number seen) number seen missing) st old new
+EndRefused a p pair missing (Some (gathered gs)) st old new =
+    (j : Journal) × (old.manner ≡ Log j) × KeptEndRefused (to_log j.settings j.side) a p pair missing gs st j old new
+EndRefused a p pair missing (Some (of_session s)) st old new =
+    (j : Journal) × (old.manner ≡ Log j) × RunningEndRefused (to_log j.settings j.side) a pair missing s st j old new
 
 -- since another one replaces it
-abbrev pub LastRefused : Option Connection → Stop → Report → Report → Type 0
-LastRefused None st old new = ⊥
-LastRefused (Some one) st old new = EndRefused None one.packets st old new
+abbrev pub LastRefused : Parameters → Parameters → Pair → Option Connection → Stop → Report → Report → Type 0
+LastRefused a p pair None st old new = ⊥
+LastRefused a p pair (Some one) st old new = EndRefused a p pair None one.packets st old new
 
 -- the one before, whichever of the two ends connected
 abbrev pub StartRefused : Parameters → Parameters → Pair → Connections → Stop → Report → Report → Type 0
 StartRefused a p pair all st before after =
-    LastRefused (connection_of all (turned pair)) st before after
+    LastRefused a p (turned pair) (connection_of all (turned pair)) st before after
     ⊎ ((mid : Report) × IsReplaced a p (turned pair) (connection_of all (turned pair)) before mid
-    × LastRefused (connection_of (without (turned pair) all) pair) st mid after)
+    × LastRefused a p pair (connection_of (without (turned pair) all) pair) st mid after)
+
+-- a session that was running before: with one packet more both of its directions begin, and one of those that were kept is
+-- refused
+abbrev pub KeptRefused : Way → Parameters → Parameters → Pair → Brought → List Gathered → Stop → Journal → Report → Report → Type 0
+KeptRefused how a p pair g gs st j old new =
+    (all : List Gathered) × Gathers g.segment g.octets gs all × (both : Beginnings) × BeginsBoth a g.segment all both
+    × (start : Start) × IsStart both.active.number both.passive.number all start
+    × ThroughRefused how a p pair start both.active.number both.passive.number [] (map brought all) st j old new
 
 -- with one packet more
-abbrev pub MoreRefused : Option Packets → Pair → Seen → Stop → Report → Report → Type 0
-MoreRefused None pair s st old new = ⊥
-MoreRefused (Some (gathered gs)) pair s st old new = Unit {0}
-MoreRefused (Some (of_session r)) pair s st old new = Unit {0}
-MoreRefused (Some (of_syn number seen)) pair s st old new =
-    (j : Journal) × (old.manner ≡ Log j) × RefusedWith (answered_by number seen) (answered_by number (seen ++ s ∷ [])) j pair number seen s st old new
+abbrev pub MoreRefused : Parameters → Parameters → Option Packets → Pair → Brought → Stop → Report → Report → Type 0
+MoreRefused a p None pair g st old new = ⊥
+MoreRefused a p (Some (of_syn number seen)) pair g st old new =
+    (j : Journal) × (old.manner ≡ Log j)
+    × RefusedWith (answered_by number seen) (answered_by number (seen ++ seen_brought g ∷ [])) j pair number seen (seen_brought g) st old new
+MoreRefused a p (Some (gathered gs)) pair g st old new =
+    (j : Journal) × (old.manner ≡ Log j) × KeptRefused (to_log j.settings j.side) a p pair g gs st j old new
+MoreRefused a p (Some (of_session s)) pair g st old new =
+    (j : Journal) × (old.manner ≡ Log j)
+    × IsRefusedWith (to_log j.settings j.side) a p pair s.start s.active s.passive s.packets s.happened g
+    (logged_so_far (to_log j.settings j.side) a s.start s.packets s.happened) st j old new
 
-abbrev pub NextRefused : Option Connection → Pair → Seen → Stop → Report → Report → Type 0
-NextRefused None pair s st old new = ⊥
-NextRefused (Some one) pair s st old new = MoreRefused one.packets pair s st old new
+abbrev pub NextRefused : Parameters → Parameters → Option Connection → Pair → Brought → Stop → Report → Report → Type 0
+NextRefused a p None pair g st old new = ⊥
+NextRefused a p (Some one) pair g st old new = MoreRefused a p one.packets pair g st old new
 
 -- ---- a packet of the capture
 
 -- the connection before that which it begins refuses, that one, or another one whose next packet it is
-abbrev pub DealsRefused : Parameters → Parameters → Pair → Side → Segment → Seen → Connections → Stop → Report → Report → Type 0
-DealsRefused a p pair from segment s all st before after =
+abbrev pub DealsRefused : Parameters → Parameters → Pair → Side → Segment → Brought → Connections → Stop → Report → Report → Type 0
+DealsRefused a p pair from segment g all st before after =
     ((syn : Option ℕ) × Starts all pair from segment syn × StartRefused a p pair all st before after)
     ⊎ ((syn : Option ℕ) × (begun : Connections) × (ended : Report) × Starts all pair from segment syn
-    × StartsOne a p pair syn all begun before ended × NextRefused (connection_of begun pair) pair s st ended after)
-    ⊎ ((StartsAny all pair from segment → ⊥) × IsOpen all pair × NextRefused (connection_of all pair) pair s st before after)
+    × StartsOne a p pair syn all begun before ended × NextRefused a p (connection_of begun pair) pair g st ended after)
+    ⊎ ((StartsAny all pair from segment → ⊥) × IsOpen all pair × NextRefused a p (connection_of all pair) pair g st before after)
 
 abbrev pub DealsByRefused : Option IpAddr → Option (Pair × Side) → Parameters → Parameters → Segment → Captured → Connections → Stop → Report → Report → Type 0
 DealsByRefused peer None a p segment captured all st before after = ⊥
 DealsByRefused peer (Some found) a p segment captured all st before after =
     IsOfPeer peer found.0 × (time : ℕ) × HasTime captured.time time
-    × DealsRefused a p found.0 found.1 segment (seen_brought (brought_at found.1 segment captured time)) all st before after
+    × DealsRefused a p found.0 found.1 segment (brought_at found.1 segment captured time) all st before after
 
 abbrev pub DealsPacketRefused : ℕ → Option IpAddr → Parameters → Parameters → Segment → Captured → Connections → Stop → Report → Report → Type 0
 DealsPacketRefused port peer a p segment captured all st before after = DealsByRefused peer (pair_in port all segment) a p segment captured all st before after
@@ -90,7 +129,7 @@ DealsPacketRefused port peer a p segment captured all st before after = DealsByR
 abbrev pub EndsAllRefused : Parameters → Parameters → Option Shortfall → List (Pair × Connection) → Stop → Report → Report → Type 0
 EndsAllRefused a p missing known st old new =
     (front : List (Pair × Connection)) × (pair : Pair) × (one : Connection) × (rest : List (Pair × Connection)) × (mid : Report)
-    × (known ≡ front ++ (pair, one) ∷ rest) × EndsAll a p missing front old mid × EndRefused missing one.packets st mid new
+    × (known ≡ front ++ (pair, one) ∷ rest) × EndsAll a p missing front old mid × EndRefused a p pair missing one.packets st mid new
 
 -- ---- a packet of a file
 
@@ -165,7 +204,8 @@ RefusesFile w input out now fault = RefusesBy w.way w input out now fault
 abbrev pub TakesAsRefused : Segment → Capture → Table → Stop → Report → Report → Type 0
 TakesAsRefused segment capture table st before after =
     IsRefused st → (port : ℕ) (peer : Option IpAddr) (how : Way) (a p : Parameters) (last : ℕ) (all : Connections) → IsReport how a p before
-    → last < capture.packet → IsTable port peer how a p last table all → DealsPacketRefused port peer a p segment (captured_of capture) all st before after
+    → last < capture.packet → capture.packet + 3 < 2 ^ 64 → IsTable port peer how a p last table all
+    → DealsPacketRefused port peer a p segment (captured_of capture) all st before after
 
 abbrev pub EndsAsRefused : Option Shortfall → Table → Stop → Report → Report → Type 0
 EndsAsRefused missing table st old new =
@@ -174,13 +214,13 @@ EndsAsRefused missing table st old new =
 
 abbrev pub ShowsAsRefused : ℕ → Record → List ℕ → Table → Stop → Report → Report → Type 0
 ShowsAsRefused packet r octets table st before after =
-    IsRefused st → (w : Wanted) (last : ℕ) (all : Connections) → IsReportOf w before → last < packet → IsTableOf w last table all
+    IsRefused st → (w : Wanted) (last : ℕ) (all : Connections) → IsReportOf w before → last < packet → packet + 3 < 2 ^ 64 → IsTableOf w last table all
     → ShownRefused (segment_at r.link octets) w packet r.time octets all st before after
 
 -- and it is written what was on the page
 abbrev pub PutsAsRefused : ℕ → Record → List ℕ → Table → Report → Option (List ℕ) → Option (List ℕ) → ToolFault → Type 0
 PutsAsRefused packet r octets table before out now fault =
-    IsRefusal fault → (w : Wanted) (last : ℕ) (all : Connections) → IsReportOf w before → last < packet → IsTableOf w last table all
+    IsRefusal fault → (w : Wanted) (last : ℕ) (all : Connections) → IsReportOf w before → last < packet → packet + 3 < 2 ^ 64 → IsTableOf w last table all
     → (st : Stop) × (told : Report) × ShownRefused (segment_at r.link octets) w packet r.time octets all st before told × IsWritten st told out now fault
 
 unfoldable pub ReadsAsRefused : Reading → Option (List ℕ) → Table → Report → Option (List ℕ) → Option (List ℕ) → ToolFault → Type 0

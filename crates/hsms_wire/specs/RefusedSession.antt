@@ -1,29 +1,43 @@
 -- Where the log of one end is told: which refusal comes of a session that was running before the capture.
-use Rattle.std.specs.Prelude.{◌≡◌, ◌≢◌, ◌⊎◌, ◌<◌, ◌++◌, ◌∷◌, ℕ, true, false, List, [], length, Option, Some, None}
+use Rattle.std.specs.Prelude.{◌≡◌, ◌≢◌, ◌↔◌, ◌⊎◌, ◌<◌, ◌++◌, ◌∷◌, ℕ, Bool, true, false, List, [], length, map, Option, Some, None}
 use Rattle.hsms_frame.specs.declared.header.Header.{Header}
 use Rattle.hsms_machine.specs.Settings.{Parameters}
 use Rattle.hsms_capture.specs.declared.packet.Side.{Side}
 use Rattle.hsms_capture.specs.declared.telling.Happening.{Happening}
+use Rattle.hsms_capture.specs.Laws.{AreNumbered}
 use Rattle.hsms_accounts.specs.JournalLog.{Refuses}
 use Rattle.hsms_accounts.specs.declared.journal.Journal.{Journal}
 use Rattle.hsms_accounts.specs.declared.pair.Pair.{Pair}
 use Rattle.hsms_accounts.specs.declared.stop.Stop.{Stop}
+use Rattle.hsms_capture.specs.declared.packet.Segment.{Segment}
+use Rattle.hsms_joined.specs.declared.gathered.Gathered.{Gathered}
+use Rattle.hsms_joined.specs.declared.gathering.Beginnings.{Beginnings}
+use Rattle.hsms_joined.specs.declared.session.Session.{Session}
 use Rattle.hsms_joined.specs.declared.start.Start.{Start}
+use Rattle.hsms_joined.specs.Gathering.{AreBeginnings, AreSure, Gathers, IsDue}
+use Rattle.hsms_joined.specs.Joining.{IsStart}
 use Rattle.hsms_joined.specs.declared.supposed.Supposed.{Supposed}
 use Rattle.hsms_joined.specs.Supposed.{supposed_by}
-use Rattle.hsms_wire.specs.declared.course.Course.TheVariants as course
+use Rattle.hsms_wire.specs.declared.course.Course.{Course}
+use Rattle.hsms_wire.specs.declared.flow.Stage.{Stage}
+use Rattle.hsms_wire.specs.declared.flow.Stage.TheVariants as stage
 use Rattle.hsms_wire.specs.declared.joined.Joined.{Joined}
 use Rattle.hsms_wire.specs.declared.joined.Part.{Part}
 use Rattle.hsms_wire.specs.declared.joined.Part.TheVariants.{Message}
 use Rattle.hsms_wire.specs.declared.report.Report.{Report}
 use Rattle.hsms_wire.specs.declared.shortfall.Shortfall.{Shortfall}
-use Rattle.hsms_wire.specs.Followed.{came_up_by, is_up_event}
+use Rattle.hsms_wire.specs.declared.shortfall.Shortfall.TheVariants.{Full}
+use Rattle.hsms_wire.specs.declared.within.Within.{Within}
+use Rattle.hsms_wire.specs.Followed.{IsTooMuch, came_up_by, is_up_event}
 use Rattle.hsms_wire.specs.Items.{Item, LogsItems}
 use Rattle.hsms_wire.specs.Joined.{IsOverAs, IsTelling, IsWaiting, JoinedStands, most_by, spoken_behind, terms_by}
 use Rattle.hsms_wire.specs.Logged.{is_there}
 use Rattle.hsms_wire.specs.Refused.{InLog, RefusesFor}
 use Rattle.hsms_wire.specs.Said.{nothing_spoken, spoken_to}
 use Rattle.hsms_wire.specs.Supposing.{Before, before_of, looked_at, said_by, session_items, since, sure_log, whole_log}
+use Rattle.hsms_wire.specs.Running.{Brought, Happens, IsWithin, MayRunMore, counting, cut, lack_within, logged_so_far, resets_of, session_base, session_seen}
+use Rattle.hsms_wire.specs.Joining.{BeginsSo, IsLast, brought}
+use Rattle.hsms_wire.specs.Report.{session_of}
 use Rattle.hsms_wire.specs.Way.{IsReport, Way}
 
 -- it can't come up: the one that came up last in this log has other addresses, or is up; and the page is as it was
@@ -72,23 +86,23 @@ SettlesRefused pair joined st old new =
     → LogRefused pair start (sure_log (terms_by how a start) hs) (whole_log (terms_by how a start) hs) st j old new))
 
 -- a message waits which decides nothing
-abbrev pub WaitsRefused : Pair → Side → Header → Happening → Joined → Stop → Report → Report → Type 0
-WaitsRefused pair from message h joined st old new =
+abbrev pub UndecidedRefused : Pair → Side → Header → Happening → Joined → Stop → Report → Report → Type 0
+UndecidedRefused pair from message h joined st old new =
     InLog st old (λ j. (how : Way) (a p : Parameters) (start : Start) (hs : List Happening) → IsReport how a p old → joined.start ≡ start → length hs < looked_at
     → IsWaiting (most_by how a) hs joined → said_by (most_by how a) h.event ≡ Some (from, message)
     → supposed_by message (spoken_to from (spoken_behind (most_by how a) nothing_spoken hs)) ≡ None
     → LogRefused pair start (sure_log (terms_by how a start) hs) (sure_log (terms_by how a start) (hs ++ h ∷ [])) st j old new)
 
 -- what no end takes, or that it goes down, comes before anything decides what stood before
-abbrev pub EndRefused : Pair → Happening → Joined → Stop → Report → Report → Type 0
-EndRefused pair h joined st old new =
+abbrev pub SettlesAndTellsRefused : Pair → Happening → Joined → Stop → Report → Report → Type 0
+SettlesAndTellsRefused pair h joined st old new =
     InLog st old (λ j. (how : Way) (a p : Parameters) (start : Start) (hs : List Happening) → IsReport how a p old → joined.start ≡ start → length hs < looked_at
     → IsWaiting (most_by how a) hs joined → said_by (most_by how a) h.event ≡ None → is_up_event h.event ≡ false
     → LogRefused pair start (sure_log (terms_by how a start) hs) (sure_log (terms_by how a start) (hs ++ h ∷ [])) st j old new)
 
 -- one more that counts
-abbrev pub NextRefused : Pair → Happening → Joined → Stop → Report → Report → Type 0
-NextRefused pair h joined st old new =
+abbrev pub HearsNextRefused : Pair → Happening → Joined → Stop → Report → Report → Type 0
+HearsNextRefused pair h joined st old new =
     InLog st old (λ j. (how : Way) (a p : Parameters) (start : Start) (hs : List Happening) → IsReport how a p old → JoinedStands how a p start hs joined
     → is_up_event h.event ≡ false
     → LogRefused pair start (sure_log (terms_by how a start) hs) (sure_log (terms_by how a start) (hs ++ h ∷ [])) st j old new)
@@ -105,8 +119,9 @@ EachRefused pair ms joined st old new =
 pub record LackRefused (pair : Pair) (had has : List Item) (lack : Option Shortfall) (st : Stop) (j : Journal) (old new : Report) : Type 0 where
   pub more : List Item
   pub has_is : has ≡ had ++ more
+  pub course : Course
   pub mid : Report
-  pub logs : LogsItems pair course.Goes more j old mid
+  pub logs : LogsItems pair course more j old mid
   pub refuses : RefusesFor lack st mid new
 
 -- or it can't come up
@@ -117,11 +132,101 @@ pub record FinishRefused (pair : Pair) (joined : Joined) (lack : Option Shortfal
   pub ends : InLog st old (λ j. (how : Way) (a p : Parameters) (start : Start) (hs : List Happening) → IsReport how a p old → JoinedStands how a p start hs joined
       → SessionRefused pair start (sure_log (terms_by how a start) hs) (whole_log (terms_by how a start) hs) lack st j old new)
   pub over : InLog st old (λ j. (how : Way) (a p : Parameters) (start : Start) (hs : List Happening) (by : Option Shortfall) → IsReport how a p old
-      → IsOverAs how a p start (before_of (most_by how a) hs) by hs joined
-      → LackRefused pair (whole_log (terms_by how a start) hs) (whole_log (terms_by how a start) hs) lack st j old new)
+      → IsOverAs how a p start (before_of (most_by how a) hs) by hs joined → RefusesFor lack st old new)
 
 -- another connection replaces it
 abbrev pub ReplaceRefused : Pair → Joined → Stop → Report → Report → Type 0
 ReplaceRefused pair joined st old new =
     InLog st old (λ j. (how : Way) (a p : Parameters) (start : Start) (hs : List Happening) → IsReport how a p old → JoinedStands how a p start hs joined
     → LogRefused pair start (sure_log (terms_by how a start) hs) (whole_log (terms_by how a start) hs) st j old new)
+
+-- ---- by its packets
+
+-- it is refused with a packet with which too much would wait
+pub record GivesUpRefused (how : Way) (a p : Parameters) (pair : Pair) (start : Start) (active passive : ℕ) (gs : List Brought) (hs : List Happening) (g : Brought) (had : List Item) (st : Stop) (j : Journal) (old new : Report) : Type 0 where
+  pub happens : Happens active passive gs hs
+  pub more : MayRunMore (most_by how a) start active passive gs hs
+  pub full : IsTooMuch (session_base active passive) (session_seen active passive gs) (cut active passive g)
+  pub refuses : SessionRefused pair start had (whole_log (terms_by how a start) (counting start (resets_of gs) hs)) (Some (Full g.segment.packet)) st j old new
+
+-- by what is told of these packets: what is sure of it can't come up, or no more may be told of it
+abbrev pub ToldRefused : Way → Parameters → Parameters → Pair → Start → ℕ → ℕ → List Brought → List Happening → List Item → Stop → Journal → Report → Report → Type 0
+ToldRefused how a p pair start active passive gs hs had st j old new =
+    LogRefused pair start had (logged_so_far how a start gs hs) st j old new
+    ⊎ ((MayRunMore (most_by how a) start active passive gs hs → ⊥)
+    × SessionRefused pair start had (whole_log (terms_by how a start) (counting start (resets_of gs) hs)) (lack_within (most_by how a) start active passive gs hs None) st j old new)
+
+-- or by what is told with it
+abbrev pub IsRefusedWith : Way → Parameters → Parameters → Pair → Start → ℕ → ℕ → List Brought → List Happening → Brought → List Item → Stop → Journal → Report → Report → Type 0
+IsRefusedWith how a p pair start active passive gs hs g had st j old new =
+    ((told : List Happening) × Happens active passive (gs ++ g ∷ []) (hs ++ told)
+    × ToldRefused how a p pair start active passive (gs ++ g ∷ []) (hs ++ told) had st j old new)
+    ⊎ GivesUpRefused how a p pair start active passive gs hs g had st j old new
+
+abbrev pub PacketRefused : Pair → Brought → Within → Stop → Report → Report → Type 0
+PacketRefused pair g w st old new =
+    InLog st old (λ j. (how : Way) (a p : Parameters) (start : Start) (gs : List Brought) (hs : List Happening) → IsReport how a p old
+    → AreNumbered 0 (session_seen w.active w.passive (gs ++ g ∷ [])) → IsWithin how a p start gs hs w
+    → IsRefusedWith how a p pair start w.active w.passive gs hs g (logged_so_far how a start gs hs) st j old new)
+
+-- no packet follows
+abbrev pub WithinEndRefused : Pair → Option Shortfall → Within → Stop → Report → Report → Type 0
+WithinEndRefused pair missing w st old new =
+    InLog st old (λ j. (how : Way) (a p : Parameters) (start : Start) (gs : List Brought) (hs : List Happening) → IsReport how a p old
+    → AreNumbered 0 (session_seen w.active w.passive gs) → IsWithin how a p start gs hs w
+    → Happens w.active w.passive gs hs
+    × SessionRefused pair start (logged_so_far how a start gs hs) (whole_log (terms_by how a start) (counting start (resets_of gs) hs))
+    (lack_within (most_by how a) start w.active w.passive gs hs missing) st j old new)
+
+-- ---- of those that were kept
+
+-- one of several packets
+abbrev pub ThroughRefused : Way → Parameters → Parameters → Pair → Start → ℕ → ℕ → List Item → List Brought → Stop → Journal → Report → Report → Type 0
+ThroughRefused how a p pair start active passive had gs st j old new =
+    (front : List Brought) × (g : Brought) × (rest : List Brought) × (gs ≡ front ++ g ∷ rest)
+    × (hs : List Happening) × IsRefusedWith how a p pair start active passive front hs g had st j old new
+
+abbrev pub PacketsRefused : Pair → List Brought → Within → Stop → Report → Report → Type 0
+PacketsRefused pair ss w st old new =
+    InLog st old (λ j. (how : Way) (a p : Parameters) (start : Start) (gs : List Brought) (hs : List Happening) → IsReport how a p old
+    → AreNumbered 0 (session_seen w.active w.passive (gs ++ ss)) → IsWithin how a p start gs hs w
+    → ThroughRefused how a p pair start w.active w.passive (logged_so_far how a start gs hs) (gs ++ ss) st j old new)
+
+-- from where both directions begin
+abbrev pub FromRefused : Pair → List Gathered → Beginnings → Stop → Journal → Report → Report → Type 0
+FromRefused pair gs both st j old new =
+    (start : Start) × IsStart both.active.number both.passive.number gs start
+    × ((how : Way) (a p : Parameters) → IsReport how a p old → AreNumbered 0 (session_seen both.active.number both.passive.number (map brought gs))
+    → ThroughRefused how a p pair start both.active.number both.passive.number [] (map brought gs) st j old new)
+
+abbrev pub BeginRefused : Pair → Session → List Gathered → Bool → Stop → Journal → Report → Report → Type 0
+BeginRefused pair s gs last st j old new =
+    (both : Beginnings) × AreBeginnings s gs both × (last ≡ false → AreSure both) × FromRefused pair gs both st j old new
+
+-- with one packet more
+abbrev pub GatherRefused : Pair → Session → Segment → List ℕ → List Gathered → Stop → Journal → Report → Report → Type 0
+GatherRefused pair s segment octets gs st j old new =
+    (all : List Gathered) × Gathers segment octets gs all
+    × (last : Bool) × ((last ≡ true) ↔ IsLast segment all) × (last ≡ false → IsDue all) × BeginRefused pair s all last st j old new
+
+-- where no packet follows those that are kept
+abbrev pub EndGatheredRefused : Pair → Option Shortfall → List Gathered → Stop → Journal → Report → Report → Type 0
+EndGatheredRefused pair missing gs st j old new =
+    BeginRefused pair (session_of old.active) gs true st j old new
+    ⊎ ((w : Within) × (mid : Report) × BeginsSo pair (session_of old.active) gs true (Some w) old mid × WithinEndRefused pair missing w st mid new)
+
+-- ---- how far it is
+
+abbrev pub TakesJoinedRefused : Pair → Segment → List ℕ → Stage → Stop → Report → Report → Type 0
+TakesJoinedRefused pair segment octets (stage.Opening waiting) st old new = Unit {0}
+TakesJoinedRefused pair segment octets (stage.Open o) st old new = Unit {0}
+TakesJoinedRefused pair segment octets (stage.Joining gathering) st old new = InLog st old (λ j. GatherRefused pair (session_of old.active) segment octets gathering st j old new)
+TakesJoinedRefused pair segment octets (stage.Within w) st old new = PacketRefused pair (record { segment = segment; octets = octets }) w st old new
+TakesJoinedRefused pair segment octets stage.Over st old new = Unit {0}
+
+abbrev pub EndsJoinedRefused : Pair → Option Shortfall → Stage → Stop → Report → Report → Type 0
+EndsJoinedRefused pair missing (stage.Opening waiting) st old new = Unit {0}
+EndsJoinedRefused pair missing (stage.Open o) st old new = Unit {0}
+EndsJoinedRefused pair missing (stage.Joining gathering) st old new = InLog st old (λ j. EndGatheredRefused pair missing gathering st j old new)
+EndsJoinedRefused pair missing (stage.Within w) st old new = WithinEndRefused pair missing w st old new
+EndsJoinedRefused pair missing stage.Over st old new = Unit {0}

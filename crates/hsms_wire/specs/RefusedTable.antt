@@ -2,7 +2,6 @@
 use Rattle.std.specs.Prelude.{◌≡◌, ◌⊎◌, ◌++◌, ◌∷◌, ℕ, List, Option, Some, None}
 use Rattle.hsms_packets.specs.declared.segment.Segment.{Segment}
 use Rattle.hsms_capture.specs.declared.packet.Side.{Side}
-use Rattle.hsms_capture.specs.Wire.{Seen}
 use Rattle.hsms_accounts.specs.Pair.{turned}
 use Rattle.hsms_accounts.specs.declared.pair.Pair.{Pair}
 use Rattle.hsms_accounts.specs.declared.stop.Stop.{Stop}
@@ -13,12 +12,14 @@ use Rattle.hsms_wire.specs.declared.table.Capture.{Capture}
 use Rattle.hsms_wire.specs.declared.table.Table.{Table}
 use Rattle.hsms_wire.specs.Refused.{EndsRefused, TakesRefused}
 use Rattle.hsms_wire.specs.Stop.{IsRefused}
-use Rattle.hsms_wire.specs.Running.{seen_brought}
+use Rattle.hsms_wire.specs.RefusedSession.{EndsJoinedRefused, TakesJoinedRefused}
+use Rattle.hsms_wire.specs.Running.{Brought, seen_brought}
 use Rattle.hsms_wire.specs.Tabled.{Begins, BeginsFlow, BeginsWith, EndsFlows, HasTime, IsFollowed, ReplacesFlow, flow_of, brought_by}
 
 -- the one before, which ends since another one replaces it
 abbrev pub ReplacesRefused : Pair → Table → Stop → Report → Report → Type 0
-ReplacesRefused pair table st before after = (flow : Flow) × (flow_of table pair ≡ Some flow) × EndsRefused None flow.stage st before after
+ReplacesRefused pair table st before after =
+    (flow : Flow) × (flow_of table pair ≡ Some flow) × EndsRefused None flow.stage st before after × EndsJoinedRefused pair None flow.stage st before after
 
 -- whichever of the two ends connected before
 abbrev pub StartsRefused : Pair → Table → Stop → Report → Report → Type 0
@@ -27,24 +28,26 @@ StartsRefused pair table st before after =
     ⊎ ((between : Table) × (mid : Report) × ReplacesFlow (turned pair) table between before mid × ReplacesRefused pair between st mid after)
 
 -- the one that takes a packet
-abbrev pub FollowsFlowRefused : Pair → Seen → Table → Stop → Report → Report → Type 0
-FollowsFlowRefused pair s table st before after =
-    (flow : Flow) × (flow_of table pair ≡ Some flow) × TakesRefused pair flow.syn s flow.stage st before after
+abbrev pub FollowsFlowRefused : Pair → Brought → Table → Stop → Report → Report → Type 0
+FollowsFlowRefused pair g table st before after =
+    (flow : Flow) × (flow_of table pair ≡ Some flow) × TakesRefused pair flow.syn (seen_brought g) flow.stage st before after
+    × TakesJoinedRefused pair g.segment g.octets flow.stage st before after
 
 -- the one before that which a packet begins, that one, or another one that takes it
-abbrev pub TakesItRefused : Pair → Side → Segment → Seen → Table → Stop → Report → Report → Type 0
-TakesItRefused pair from segment s table st before after =
+abbrev pub TakesItRefused : Pair → Side → Segment → Brought → Table → Stop → Report → Report → Type 0
+TakesItRefused pair from segment g table st before after =
     ((syn : Option ℕ) × BeginsWith table pair from segment syn × StartsRefused pair table st before after)
     ⊎ ((syn : Option ℕ) × (begun : Table) × (ended : Report) × BeginsWith table pair from segment syn
-    × BeginsFlow pair syn table begun before ended × FollowsFlowRefused pair s begun st ended after)
-    ⊎ ((Begins table pair from segment → ⊥) × IsFollowed table pair × FollowsFlowRefused pair s table st before after)
+    × BeginsFlow pair syn table begun before ended × FollowsFlowRefused pair g begun st ended after)
+    ⊎ ((Begins table pair from segment → ⊥) × IsFollowed table pair × FollowsFlowRefused pair g table st before after)
 
 abbrev pub TakesOfRefused : Pair → Side → Segment → Capture → Table → Stop → Report → Report → Type 0
 TakesOfRefused pair from segment capture table st before after =
-    IsRefused st → (time : ℕ) × HasTime capture.time time × TakesItRefused pair from segment (seen_brought (brought_by from segment capture time)) table st before after
+    IsRefused st → (time : ℕ) × HasTime capture.time time × TakesItRefused pair from segment (brought_by from segment capture time) table st before after
 
--- the first one of those that are left that lacks something
+-- the first one of those that are left that lacks something, or can't come up
 abbrev pub EndsFlowsRefused : Option Shortfall → List (Pair × Flow) → Stop → Report → Report → Type 0
 EndsFlowsRefused missing flows st old new =
     (front : List (Pair × Flow)) × (pair : Pair) × (flow : Flow) × (rest : List (Pair × Flow)) × (mid : Report)
     × (flows ≡ front ++ (pair, flow) ∷ rest) × EndsFlows missing front old mid × EndsRefused missing flow.stage st mid new
+    × EndsJoinedRefused pair missing flow.stage st mid new

@@ -10,8 +10,9 @@ ghost use Rattle.hsms_wire.specs.Paged.{BeginsOnPage, DownsIf, EndsOnPage, Follo
 ghost use Rattle.hsms_wire.specs.Followed.{BeginsWith, DownBy, EndsOpen, Follows, FollowsAll, GoesOn, HearsThem, TakesSegment, seen_waiting};
 ghost use Rattle.hsms_wire.specs.Joining.{EndsGathered, KeepsStage, TakesStageWithin};
 ghost use Rattle.hsms_wire.specs.Logged.{is_there};
-ghost use Rattle.hsms_wire.specs.Refused.{BeginsRefused, EndsOpenRefused, FollowsAllRefused, FollowsRefused, HearsThemRefused, LacksRefused, WaitsRefused, lack_left};
-ghost use Rattle.hsms_wire.specs.Report.{StopsUnrefused, Tells};
+ghost use Rattle.hsms_wire.specs.Refused.{BeginsRefused, EndsOpenRefused, FollowsAllRefused, FollowsRefused, HearsThemRefused, InLog, LacksRefused, WaitsRefused, lack_left};
+ghost use Rattle.hsms_wire.specs.RefusedSession.{EndGatheredRefused, GatherRefused, PacketRefused};
+ghost use Rattle.hsms_wire.specs.Report.{StopsUnrefused, Tells, session_of};
 ghost use Rattle.hsms_wire.specs.Staged.{ToldUnanswered, WaitsOn, answers, first_shown, if_answered, lost_by, shows, stage_by};
 
 use crate::course::Course;
@@ -161,6 +162,7 @@ impl Stage {
     ghost use Rattle.hsms_wire.specs.Joining.{EndsJoined, TakesJoined};
     ghost use Rattle.hsms_wire.specs.Paged.{EndsStageOnPage, TakesOnPage};
     ghost use Rattle.hsms_wire.specs.Refused.{EndsRefused, TakesRefused};
+    ghost use Rattle.hsms_wire.specs.RefusedSession.{EndsJoinedRefused, TakesJoinedRefused};
     ghost use Rattle.hsms_wire.specs.Staged.{EndsStage, TakesStage};
 
     /// Takes a packet of a connection that begins with a SYN of this number, if it does with one.
@@ -184,6 +186,8 @@ impl Stage {
         ensures unrefused { IfErr result (StopsUnrefused report.old) }
         ensures refuses { IfErr result (λ stop.
             TakesRefused pair.now syn (seen_of segment octets.now) self stop report.old report.new) }
+        ensures refuses_joined { IfErr result (λ stop.
+            TakesJoinedRefused pair.now segment octets.now self stop report.old report.new) }
     {
         match self {
             Stage::Over => Ok(Stage::Over),
@@ -220,6 +224,8 @@ impl Stage {
         ensures joined { OnOk result (EndsJoined pair.now is_replaced missing self report.old report.new) }
         ensures unrefused { IfErr result (StopsUnrefused report.old) }
         ensures refuses { IfErr result (λ stop. EndsRefused missing self stop report.old report.new) }
+        ensures refuses_joined { IfErr result (λ stop.
+            EndsJoinedRefused pair.now missing self stop report.old report.new) }
     {
         match self {
             Stage::Over => Ok(()),
@@ -347,6 +353,8 @@ fn join(
     ensures keeps { IfOk result (λ stage.
         KeepsStage pair.now segment octets.now gathering stage report.old report.new) }
     ensures unrefused { IfErr result (StopsUnrefused report.old) }
+    ensures refuses { IfErr result (λ stop. InLog stop report.old (λ journal. GatherRefused pair.now
+        (session_of report.old.active) segment octets.now gathering stop journal report.old report.new)) }
 {
     match gather(alloc, report, pair, gathering, segment, octets)? {
         Joining::Gathers(gathering) => Ok(Stage::Joining(gathering)),
@@ -369,6 +377,8 @@ fn go_within(
     ensures takes { IfOk result (λ stage. TakesStageWithin pair.now (record { segment = segment; octets = octets.now })
         within stage report.old report.new) }
     ensures unrefused { IfErr result (StopsUnrefused report.old) }
+    ensures refuses { IfErr result (λ stop. PacketRefused pair.now (record { segment = segment; octets = octets.now })
+        within stop report.old report.new) }
 {
     match within.take(alloc, report, pair, segment, octets)? {
         Some(within) => Ok(Stage::Within(within)),
@@ -389,6 +399,8 @@ fn end_gathered(
     ensures told { OnOk result (Tells report.old report.new) }
     ensures ends { OnOk result (EndsGathered pair.now is_replaced missing gathering report.old report.new) }
     ensures unrefused { IfErr result (StopsUnrefused report.old) }
+    ensures refuses { IfErr result (λ stop. InLog stop report.old (λ journal.
+        EndGatheredRefused pair.now missing gathering stop journal report.old report.new)) }
 {
     match begin(alloc, report, pair, gathering, true)? {
         Joining::Gathers(_) => Ok(()),

@@ -95,7 +95,7 @@ impl Joined {
     ghost use Rattle.hsms_wire.specs.Paged.{CountsIf, GoesDown};
     ghost use Rattle.hsms_accounts.specs.Stop.{IsNoRefusal};
     ghost use Rattle.hsms_wire.specs.Refused.{HearsRefused, LacksRefused};
-    ghost use Rattle.hsms_wire.specs.RefusedSession.{ComesUpRefused, DecidesRefused, EachRefused, EndRefused, NextRefused, PartRefused, SettlesRefused, TellsRefused, WaitsRefused};
+    ghost use Rattle.hsms_wire.specs.RefusedSession.{ComesUpRefused, DecidesRefused, EachRefused, SettlesAndTellsRefused, HearsNextRefused, PartRefused, SettlesRefused, TellsRefused, UndecidedRefused};
     ghost use Rattle.hsms_wire.specs.Report.{StopsUnrefused, Tells, TellsBy};
     ghost use Rattle.hsms_wire.specs.Said.{KnowsBoth, Spoken, spoken_to, with_message};
     ghost use Rattle.hsms_wire.specs.Supposing.{asked_by, supposed_messages};
@@ -154,7 +154,7 @@ impl Joined {
         ensures quiet { OnOk result (IsQuiet self.old.is_up self.new.is_up report.old report.new) }
         ensures hears { IfOk result (λ course. HearsNext pair.now happening self.old report.old course self.new report.new) }
         ensures unrefused { IfErr result (StopsUnrefused report.old) }
-        ensures refuses { IfErr result (λ stop. NextRefused pair.now happening self.old stop report.old report.new) }
+        ensures refuses { IfErr result (λ stop. HearsNextRefused pair.now happening self.old stop report.old report.new) }
     {
         if self.is_decided {
             return self.tell(alloc, report, pair, happening);
@@ -199,7 +199,7 @@ impl Joined {
             Waits pair.now from message happening self.old report.old course self.new report.new) }
         ensures unrefused { IfErr result (StopsUnrefused report.old) }
         ensures refuses { IfErr result (λ stop.
-            WaitsRefused pair.now from message happening self.old stop report.old report.new) }
+            UndecidedRefused pair.now from message happening self.old stop report.old report.new) }
     {
         self.note(from, message)?;
         if self.waiting.push(happening).is_err() {
@@ -239,7 +239,7 @@ impl Joined {
         ensures tells { IfOk result (λ course.
             SettlesAndTells pair.now happening self.old report.old course self.new report.new) }
         ensures unrefused { IfErr result (StopsUnrefused report.old) }
-        ensures refuses { IfErr result (λ stop. EndRefused pair.now happening self.old stop report.old report.new) }
+        ensures refuses { IfErr result (λ stop. SettlesAndTellsRefused pair.now happening self.old stop report.old report.new) }
     {
         match self.settle(alloc, report, pair)? {
             Course::Goes => self.tell(alloc, report, pair, happening),

@@ -2,6 +2,8 @@
 
 ghost use Rattle.std.specs.Prelude.{IfErr, IfOk, OnOk};
 ghost use Rattle.hsms_wire.specs.Joining.{BeginsWith, GathersOn, TakesFrom};
+ghost use Rattle.hsms_wire.specs.Refused.{InLog};
+ghost use Rattle.hsms_wire.specs.RefusedSession.{BeginRefused, FromRefused, GatherRefused};
 ghost use Rattle.hsms_wire.specs.Report.{StopsUnrefused, Tells, session_of};
 
 use crate::report::Report;
@@ -33,6 +35,8 @@ pub fn gather(
     ensures gathers { IfOk result (λ joining. GathersOn pair.now (session_of report.old.active) segment octets.now
         gathering joining report.old report.new) }
     ensures unrefused { IfErr result (StopsUnrefused report.old) }
+    ensures refuses { IfErr result (λ stop. InLog stop report.old (λ journal. GatherRefused pair.now
+        (session_of report.old.active) segment octets.now gathering stop journal report.old report.new)) }
 {
     let mut gathering = gathering;
     gathering.take(alloc, segment, octets)?;
@@ -56,6 +60,8 @@ pub fn begin(
     ensures begins { IfOk result (λ joining. BeginsWith pair.now (session_of report.old.active) gathering is_last joining
         report.old report.new) }
     ensures unrefused { IfErr result (StopsUnrefused report.old) }
+    ensures refuses { IfErr result (λ stop. InLog stop report.old (λ journal. BeginRefused pair.now
+        (session_of report.old.active) gathering is_last stop journal report.old report.new)) }
 {
     let Some(beginnings) = gathering.beginnings(alloc, report.session(), is_last)? else {
         return Ok(Joining::Gathers(gathering));
@@ -78,6 +84,8 @@ fn take_from(
     ensures told { OnOk result (Tells report.old report.new) }
     ensures takes { IfOk result (λ left. TakesFrom pair.now gathering.now beginnings left report.old report.new) }
     ensures unrefused { IfErr result (StopsUnrefused report.old) }
+    ensures refuses { IfErr result (λ stop. InLog stop report.old (λ journal.
+        FromRefused pair.now gathering.now beginnings stop journal report.old report.new)) }
 {
     let packets = gathering.packets();
     let active = beginnings.active.number;

@@ -322,8 +322,8 @@ impl Table {
         ensures follows { OnOk result (FollowsFlow pair.now (record { segment = segment; octets = octets.now }) self.old self.new
             report.old report.new) }
         ensures unrefused { IfErr result (StopsUnrefused report.old) }
-        ensures refuses { IfErr result (λ stop. FollowsFlowRefused pair.now (seen_of segment octets.now) self.old stop
-            report.old report.new) }
+        ensures refuses { IfErr result (λ stop. FollowsFlowRefused pair.now
+            (record { segment = segment; octets = octets.now }) self.old stop report.old report.new) }
     {
         let Some(flow) = self.flows.get_mut(pair) else {
             return Ok(());

@@ -4,7 +4,7 @@ ghost use Rattle.std.specs.Prelude.{◌≡◌, ◌-◌, IfErr, IfOk, OnOk, map};
 ghost use Rattle.hsms_accounts.specs.declared.stop.Stop.TheVariants.{Memory};
 ghost use Rattle.hsms_wire.specs.Joined.{HearsEach, IsQuiet};
 ghost use Rattle.hsms_wire.specs.Joining.{TakesThrough, brought};
-ghost use Rattle.hsms_wire.specs.RefusedSession.{EachRefused, FinishRefused, ReplaceRefused};
+ghost use Rattle.hsms_wire.specs.RefusedSession.{EachRefused, FinishRefused, PacketRefused, PacketsRefused, ReplaceRefused, WithinEndRefused};
 ghost use Rattle.hsms_wire.specs.Report.{StopsUnrefused, Tells};
 ghost use Rattle.hsms_wire.specs.Running.{BeginsWithin, EndsWithin, Opens, TakesCut, TakesWithin, begin_at, cut_by, ending_in, over_as};
 ghost use Rattle.hsms_wire.specs.Session.{FinishesAs, ReplacedAs, in_capture, uncaptured};
@@ -99,6 +99,8 @@ impl Within {
         ensures takes { IfOk result (λ left.
             TakesWithin pair.now (record { segment = segment; octets = octets.now }) self left report.old report.new) }
         ensures unrefused { IfErr result (StopsUnrefused report.old) }
+        ensures refuses { IfErr result (λ stop. PacketRefused pair.now (record { segment = segment; octets = octets.now })
+            self stop report.old report.new) }
     {
         let begin = self.begin_of(segment.from);
         let Within {
@@ -141,6 +143,7 @@ impl Within {
         ensures told { OnOk result (Tells report.old report.new) }
         ensures ends { OnOk result (EndsWithin pair.now is_replaced missing self report.old report.new) }
         ensures unrefused { IfErr result (StopsUnrefused report.old) }
+        ensures refuses { IfErr result (λ stop. WithinEndRefused pair.now missing self stop report.old report.new) }
     {
         let Within {
             connection,
@@ -189,6 +192,8 @@ pub fn take_all(
     ensures takes { IfOk result (λ left.
         TakesThrough pair.now (map brought packets.now) within left report.old report.new) }
     ensures unrefused { IfErr result (StopsUnrefused report.old) }
+    ensures refuses { IfErr result (λ stop.
+        PacketsRefused pair.now (map brought packets.now) within stop report.old report.new) }
 {
     let mut left = Some(within);
     let mut rest = packets;

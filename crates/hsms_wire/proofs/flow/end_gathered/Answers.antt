@@ -2,6 +2,9 @@ use Rattle.std.proofs.Common.{true, subst}
 use Rattle.hsms_wire.specs.declared.joining.Joining.{Joining}
 use Rattle.hsms_wire.specs.Joining.{BeginsWith}
 use Rattle.hsms_wire.specs.Report.{session_of}
+use Rattle.std.proofs.lemmas.Result.{err_from_is_err_and}
+use Rattle.hsms_wire.proofs.PacketRefusals.{end_begin_refused, end_within_it}
+use Rattle.hsms_wire.proofs.Unrefused.{err_map}
 use Rattle.hsms_wire.proofs.SessionBegins.{left_kept, left_over, left_within}
 use Rattle.hsms_wire.proofs.flow.end_gathered.Goals as goal
 
@@ -28,3 +31,17 @@ returns-clause-ends c =
     let mid = c.begin.new.report in
     left_over pair c.args.is_replaced c.args.missing c.args.gathering old mid
     (subst (λ (j : Joining). BeginsWith pair (session_of old.active) c.args.gathering true j old mid) c.in-Over.is c.in_ok-begin.ensures.begins)
+
+pub returns-in_err-begin-clause-refuses : goal.returns-in_err-begin-clause-refuses
+returns-in_err-begin-clause-refuses c =
+    let p = err_from_is_err_and c.from_residual.result c.from_residual.ensures.1 in
+    rw (p.1, p.2) (end_begin_refused c.args.pair.now c.args.missing c.args.gathering _ c.args.report.now c.begin.new.report c.in_err-begin.ensures.refuses)
+
+pub returns-in-Within-clause-refuses : goal.returns-in-Within-clause-refuses
+returns-in-Within-clause-refuses c =
+    let pair = c.args.pair.now in
+    let old = c.args.report.now in
+    let mid = c.begin.new.report in
+    err_map c.end.result
+    (λ st. end_within_it pair c.args.missing c.args.gathering c.in-Within.within st old mid c.end.new.report
+    (subst (λ (j : Joining). BeginsWith pair (session_of old.active) c.args.gathering true j old mid) c.in-Within.is c.in_ok-begin.ensures.begins)) c.end.ensures.refuses

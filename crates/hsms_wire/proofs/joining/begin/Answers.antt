@@ -5,6 +5,8 @@ use Rattle.hsms_joined.specs.Gathering.{AreBeginnings, AreUnsure}
 use Rattle.hsms_wire.specs.declared.within.Within.{Within}
 use Rattle.hsms_wire.specs.Joining.{TakesFrom}
 use Rattle.hsms_wire.specs.Report.{session_of}
+use Rattle.std.proofs.lemmas.Result.{err_from_is_err_and}
+use Rattle.hsms_wire.proofs.PacketRefusals.{begin_refused}
 use Rattle.hsms_wire.proofs.SessionBegins.{begins_none, begins_over, begins_so, begins_within_it}
 use Rattle.hsms_wire.proofs.joining.begin.Goals as goal
 
@@ -36,3 +38,12 @@ returns-clause-begins c =
     (begins_so c.args.pair.now s gs c.args.is_last None found both c.args.report.now c.take_from.new.report c.in-Some.is
     (subst (λ (s : Session). IfSome found (AreBeginnings s gs)) c.session.ensures.by c.in_ok-beginnings.ensures.begin) c.in_ok-beginnings.ensures.sure
     (subst (λ (l : Option Within). TakesFrom c.args.pair.now gs both l c.args.report.now c.take_from.new.report) c.in-None.is c.in_ok-within.ensures.takes))
+
+pub returns-in_err-within-clause-refuses : goal.returns-in_err-within-clause-refuses
+returns-in_err-within-clause-refuses c =
+    let p = err_from_is_err_and c.from_residual-in_err-within.result c.from_residual-in_err-within.ensures.1 in
+    let gs = c.args.gathering in
+    let found = c.in_ok-beginnings.field-0 in
+    rw (p.1, p.2)
+    (begin_refused c.args.pair.now (session_of c.args.report.now.active) gs c.args.is_last found c.in-Some.beginnings _ c.args.report.now c.take_from.new.report c.in-Some.is
+    (subst (λ (s : Session). IfSome found (AreBeginnings s gs)) c.session.ensures.by c.in_ok-beginnings.ensures.begin) c.in_ok-beginnings.ensures.sure c.in_err-within.ensures.refuses)

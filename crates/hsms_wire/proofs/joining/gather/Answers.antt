@@ -3,6 +3,8 @@ use Rattle.std.specs.Prelude.{◌↔◌}
 use Rattle.hsms_joined.specs.Gathering.{IsDue}
 use Rattle.hsms_wire.specs.Joining.{IsLast}
 use Rattle.hsms_wire.specs.Report.{session_of}
+use Rattle.hsms_wire.proofs.PacketRefusals.{gather_refused}
+use Rattle.hsms_wire.proofs.Unrefused.{err_map}
 use Rattle.hsms_wire.proofs.SessionBegins.{gathers_on, keeps_on, last_full, last_reset}
 use Rattle.hsms_wire.proofs.Sessions.{ok_map}
 use Rattle.hsms_wire.proofs.joining.gather.Goals.{then-segment, else-segment, else-not-is_last-via-then-not-is_last+else-not-is_due, else-not-is_last-via-else-not-is_last}
@@ -35,3 +37,20 @@ returns-clause-gathers c =
     ok_map c.begin.result
     (λ joining begins. gathers_on c.args.pair.now (session_of c.args.report.now.active) c.args.segment c.args.octets.now c.args.gathering all c.if-segment.is_last joining c.args.report.now c.begin.new.report
     c.in_ok-take.ensures.ok is due begins) c.begin.ensures.begins
+
+pub returns-clause-refuses : goal.returns-clause-refuses
+returns-clause-refuses c =
+    let all = c.take.new.self in
+    let is : (c.if-segment.is_last ≡ true) ↔ IsLast c.args.segment all =
+    elim c.if-segment.branch [
+      | then-segment w ↦ last_reset c.if-segment.is_last c.args.segment all w.if-segment.true (w.is_last-is ∙ w.if-segment.true)
+      | else-segment w ↦ last_full c.if-segment.is_last c.args.segment all w.is_full-is_last.result w.if-segment.false w.is_last-is w.is_full-is_last.ensures
+    ] in
+    let due : c.if-segment.is_last ≡ false → IsDue all = λ more.
+    elim c.else-not-is_last.branch [
+      | else-not-is_last-via-then-not-is_last+else-not-is_due w ↦ search rules
+      | else-not-is_last-via-else-not-is_last w ↦ search rules
+    ] in
+    err_map c.begin.result
+    (λ st begins. gather_refused c.args.pair.now (session_of c.args.report.now.active) c.args.segment c.args.octets.now c.args.gathering all c.if-segment.is_last st c.args.report.now c.begin.new.report
+    c.in_ok-take.ensures.ok is due begins) c.begin.ensures.refuses

@@ -2,6 +2,10 @@ use Rattle.std.proofs.Common.{◌≡◌, List, false, map, subst}
 use Rattle.hsms_joined.specs.declared.gathered.Gathered.{Gathered}
 use Rattle.hsms_joined.specs.Joining.{IsStart, has_both}
 use Rattle.hsms_wire.specs.Joining.{TakesThrough, brought}
+use Rattle.std.proofs.lemmas.Result.{err_from_is_err_and}
+use Rattle.hsms_wire.specs.RefusedSession.{PacketsRefused}
+use Rattle.hsms_wire.proofs.PacketRefusals.{from_refused}
+use Rattle.hsms_wire.proofs.Unrefused.{err_map, is_memory_in_log}
 use Rattle.hsms_wire.proofs.SessionBegins.{takes_from, takes_none}
 use Rattle.hsms_wire.proofs.Sessions.{ok_map}
 use Rattle.hsms_wire.proofs.joining.take_from.Goals as goal
@@ -20,3 +24,17 @@ returns-clause-takes c =
     (λ left through. takes_from c.args.pair.now gs both c.in-Some.start c.in_ok-within.within left c.args.report.now c.take_all.new.report
     (subst (λ (gs : List Gathered). IsStart both.active.number both.passive.number gs c.in-Some.start) c.packets-packets.ensures c.in-Some.ensures.some) c.in_ok-within.ensures.begins
     (subst (λ (gs : List Gathered). TakesThrough c.args.pair.now (map brought gs) c.in_ok-within.within left c.args.report.now c.take_all.new.report) c.packets-packets.ensures through)) c.take_all.ensures.takes
+
+pub returns-in_err-within-clause-refuses : goal.returns-in_err-within-clause-refuses
+returns-in_err-within-clause-refuses c =
+    let p = err_from_is_err_and c.from_residual.result c.from_residual.ensures.1 in
+    rw (p.1, p.2) (is_memory_in_log _ c.args.report.now _ c.in_err-within.ensures.memory)
+
+pub returns-clause-refuses : goal.returns-clause-refuses
+returns-clause-refuses c =
+    let both = c.args.beginnings in
+    let gs = c.args.gathering.now in
+    err_map c.take_all.result
+    (λ st through. from_refused c.args.pair.now gs both c.in-Some.start c.in_ok-within.within st c.args.report.now c.take_all.new.report
+    (subst (λ (gs : List Gathered). IsStart both.active.number both.passive.number gs c.in-Some.start) c.packets-packets.ensures c.in-Some.ensures.some) c.in_ok-within.ensures.begins
+    (subst (λ (gs : List Gathered). PacketsRefused c.args.pair.now (map brought gs) c.in_ok-within.within st c.args.report.now c.take_all.new.report) c.packets-packets.ensures through)) c.take_all.ensures.refuses

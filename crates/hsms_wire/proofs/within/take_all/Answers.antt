@@ -4,6 +4,8 @@ use Rattle.hsms_joined.specs.declared.gathered.Gathered.{Gathered}
 use Rattle.hsms_wire.specs.declared.within.Within.{Within}
 use Rattle.hsms_wire.specs.Joining.{TakesThrough, brought}
 use Rattle.hsms_wire.specs.Running.{Brought, TakesWithin}
+use Rattle.std.proofs.lemmas.Result.{err_from_is_err_and}
+use Rattle.hsms_wire.proofs.PacketRefusals.{packets_refused_at}
 use Rattle.hsms_wire.proofs.SessionBegins.{through_none, through_over, through_then}
 use Rattle.hsms_wire.proofs.Tellings.{tells_nothing, tells_then}
 use Rattle.hsms_wire.proofs.within.take_all.Goals as goal
@@ -51,3 +53,17 @@ loop-packet-preserved c =
           (through_over pair (map brought inv.front) (brought g ∷ []) c.args.within c.args.report.now c.loop-packet.report
           (subst (λ (l : Option Within). TakesThrough pair (map brought inv.front) c.args.within l c.args.report.now c.loop-packet.report) c.in-None.is inv.takes));
     }
+
+pub returns-in_err-left-in-Some-left-clause-refuses : goal.returns-in_err-left-in-Some-left-clause-refuses
+returns-in_err-left-in-Some-left-clause-refuses c =
+    let p = err_from_is_err_and c.from_residual.result c.from_residual.ensures.1 in
+    let inv = c.loop-packet.invariant in
+    let pair = c.args.pair.now in
+    let g = c.in-Some.packet.now in
+    let w = c.in-Some-left.within in
+    let split : c.loop-packet.rest.now ≡ g ∷ c.in-Some.others.now = search rules in
+    let parts : c.args.packets.now ≡ inv.front ++ g ∷ c.in-Some.others.now = inv.parts ∙ ap (λ (gs : List Gathered). inv.front ++ gs) split in
+    rw (p.1, p.2)
+    (packets_refused_at pair c.args.packets.now inv.front g c.in-Some.others.now c.deref.result.now c.args.within w _ c.args.report.now c.loop-packet.report c.take.new.report parts
+    (subst (λ (l : Option Within). TakesThrough pair (map brought inv.front) c.args.within l c.args.report.now c.loop-packet.report) c.in-Some-left.is inv.takes) inv.told
+    c.deref.ensures.value c.in_err-left-in-Some-left.ensures.refuses)

@@ -40,4 +40,4 @@ returns-in_err-end-clause-refuses c =
     rw (p.1, p.2)
     (left_refused c.args.missing c.args.self _ first c.end.new.report (stops_then first c.loop-pair.report _ inv.told c.in_err-end.ensures.unrefused)
     (flows_refused c.args.missing c.args.self.flows.entries c.loop-pair.pair-iterator c.next.new.self c.in-Some.pair c.in-Some.flow _ first
-    c.loop-pair.report c.end.new.report inv.ends c.in-Some.ensures.steps c.in_err-end.ensures.refuses))
+    c.loop-pair.report c.end.new.report inv.ends c.in-Some.ensures.steps c.in_err-end.ensures.refuses c.in_err-end.ensures.refuses_joined))

@@ -8,6 +8,9 @@ use Rattle.hsms_wire.specs.Courses.{lack_behind}
 use Rattle.hsms_wire.specs.Joined.{HearsEach}
 use Rattle.hsms_wire.specs.Running.{EndsWithin}
 use Rattle.hsms_wire.specs.Session.{in_capture}
+use Rattle.std.proofs.lemmas.Result.{err_from_is_err_and}
+use Rattle.hsms_wire.proofs.PacketRefusals.{end_heard_refused, end_left_refused, end_over_refused, replaced_left}
+use Rattle.hsms_wire.proofs.Unrefused.{err_map}
 use Rattle.hsms_wire.proofs.SessionPackets.{left_finished, left_over, left_replaced, not_replaced}
 use Rattle.hsms_wire.proofs.Taking.{ok_of}
 use Rattle.hsms_wire.proofs.within.Within.end.Goals.{else-is_replaced-via-then-is_replaced+else-is_none, else-is_replaced-via-else-is_replaced}
@@ -53,3 +56,53 @@ returns-clause-ends c =
     ] in
     left_finished c.finish-2.result c.args.pair.now c.args.is_replaced c.args.missing lack told w c.deref.result.now c.in-Ok.ending joined c.args.report.now c.hear_all.new.report
     c.finish-2.new.report ends hears (c.behind-shortfall.ensures ∙ ap (λ (e : Ending). lack_behind e c.args.missing) c.in_capture.ensures) none c.finish-2.ensures.finishes
+
+pub returns-in_err-course-clause-refuses : goal.returns-in_err-course-clause-refuses
+returns-in_err-course-clause-refuses c =
+    let p = err_from_is_err_and c.from_residual.result c.from_residual.ensures.1 in
+    let w = c.args.self in
+    let told = c.end.new.told.items in
+    rw (p.1, p.2)
+    (end_heard_refused c.args.pair.now c.args.missing told w c.deref.result.now c.in-Ok.ending _ c.args.report.now c.hear_all.new.report
+    (subst (λ (hs : List Happening). EndsAs w.connection hs told c.in-Ok.ending) c.new-told.ensures.items c.in-Ok.ensures.told) c.in_err-course.ensures.refuses)
+
+pub returns-in-Over-clause-refuses : goal.returns-in-Over-clause-refuses
+returns-in-Over-clause-refuses c =
+    let w = c.args.self in
+    let told = c.end.new.told.items in
+    let joined = c.hear_all.new.joined in
+    let ends = subst (λ (hs : List Happening). EndsAs w.connection hs told c.in-Ok.ending) c.new-told.ensures.items c.in-Ok.ensures.told in
+    let hears = subst (λ (x : Course). HearsEach c.args.pair.now (map (in_capture c.deref.result.now) told) w.joined c.args.report.now x joined c.hear_all.new.report) c.in-Over.is
+    c.in_ok-course.ensures.hears in
+    err_map c.finish.result
+    (λ st refused. end_over_refused c.args.pair.now c.args.missing c.in-Over.shortfall told w c.deref.result.now c.in-Ok.ending joined st c.args.report.now c.hear_all.new.report
+    c.finish.new.report ends hears) c.finish.ensures.refuses
+
+pub returns-then-is_none-clause-refuses : goal.returns-then-is_none-clause-refuses
+returns-then-is_none-clause-refuses c =
+    let w = c.args.self in
+    let told = c.end.new.told.items in
+    let joined = c.hear_all.new.joined in
+    let lack = c.behind-shortfall.result in
+    let ends = subst (λ (hs : List Happening). EndsAs w.connection hs told c.in-Ok.ending) c.new-told.ensures.items c.in-Ok.ensures.told in
+    let hears = subst (λ (x : Course). HearsEach c.args.pair.now (map (in_capture c.deref.result.now) told) w.joined c.args.report.now x joined c.hear_all.new.report) c.in-Goes.is
+    c.in_ok-course.ensures.hears in
+    let lack_is = c.behind-shortfall.ensures ∙ ap (λ (e : Ending). lack_behind e c.args.missing) c.in_capture.ensures in
+    err_map c.replace.result
+    (λ st refused. end_left_refused c.args.pair.now c.args.missing lack told w c.deref.result.now c.in-Ok.ending joined st c.args.report.now c.hear_all.new.report c.replace.new.report
+    ends hears lack_is c.in_ok-course.ensures.told
+    (replaced_left c.args.pair.now lack joined st c.hear_all.new.report c.replace.new.report refused)) c.replace.ensures.refuses
+
+pub returns-clause-refuses : goal.returns-clause-refuses
+returns-clause-refuses c =
+    let w = c.args.self in
+    let told = c.end.new.told.items in
+    let joined = c.hear_all.new.joined in
+    let lack = c.behind-shortfall.result in
+    let ends = subst (λ (hs : List Happening). EndsAs w.connection hs told c.in-Ok.ending) c.new-told.ensures.items c.in-Ok.ensures.told in
+    let hears = subst (λ (x : Course). HearsEach c.args.pair.now (map (in_capture c.deref.result.now) told) w.joined c.args.report.now x joined c.hear_all.new.report) c.in-Goes.is
+    c.in_ok-course.ensures.hears in
+    let lack_is = c.behind-shortfall.ensures ∙ ap (λ (e : Ending). lack_behind e c.args.missing) c.in_capture.ensures in
+    err_map c.finish-2.result
+    (λ st refused. end_left_refused c.args.pair.now c.args.missing lack told w c.deref.result.now c.in-Ok.ending joined st c.args.report.now c.hear_all.new.report c.finish-2.new.report
+    ends hears lack_is c.in_ok-course.ensures.told refused.ends) c.finish-2.ensures.refuses
