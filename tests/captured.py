@@ -279,6 +279,26 @@ def comes_late(later: int) -> bytes:
     return talk.capture.octets
 
 
+def ack_behind_a_gap() -> bytes:
+    """A message isn't captured, and its end's next packet brings nothing."""
+    talk = selected()
+    talk.next[ACTIVE] += 14
+    talk.segment(ACTIVE, 0, ACK)
+    return talk.capture.octets
+
+
+def reply_behind(foreign: bytes) -> bytes:
+    """Octets of another protocol stand before a reply, and long after it the other end says something."""
+    talk = selected()
+    talk.say(3, ACTIVE, "00008101000000000002")
+    talk.at(4)
+    talk.segment(PASSIVE, 0, PUSH | ACK, foreign)
+    talk.next[PASSIVE] += len(foreign)
+    talk.say(5, PASSIVE, "00000102000000000002")
+    talk.say(100_000, ACTIVE, "ffff0000000500000003")
+    return talk.capture.octets
+
+
 def without_answer(later: int) -> bytes:
     """The SYN and ACK isn't captured, and so many packets follow the SYN."""
     capture = Capture()
@@ -379,6 +399,18 @@ def worked_cases() -> Iterator[Case]:
         "incomplete packet=6 pass entries=3 sent=1 taken=1"), "Length packet=6", 2
     yield "a length past the limit", captures.wrong_length("00000101" + "00" * 257).octets, Options(max=256), lines_of(
         "incomplete packet=6 pass entries=3 sent=1 taken=1"), "Length packet=6", 2
+    for name, data, is_told in (
+        ("of which the length alone is there", "00000009", True), ("of text at the port", b"HTTP/1.1 200".hex(), True),
+        ("that is one past what is held", "03fffffd", True), ("as great as is held", "03fffffc0000", False),
+    ):
+        front = "incomplete packet=6 " if is_told else ""
+        yield f"a length {name}", captures.wrong_length(data).octets, Options(), lines_of(
+            front + "pass entries=3 sent=1 taken=1"), "Length packet=6" if is_told else None, 2 if is_told else 0
+    yield "a pure ACK behind what was not captured", ack_behind_a_gap(), Options(), lines_of(
+        "incomplete packet=6 pass entries=3 sent=1 taken=1"), "Lost packet=6", 2
+    yield "a reply within a foreign length", reply_behind(b"GET / HTTP/1.1\r\n"), Options(), lines_of(
+        "incomplete packet=7 pass entries=4 sent=2 taken=1 discarded=0 expired=0 waiting=1",
+        "incomplete packet=7 pass entries=4 sent=1 taken=2"), "Length packet=7", 2
     for later, is_lost in ((4096, False), (4097, True)):
         verdict = "incomplete packet=6 pass entries=3 sent=1 taken=1" if is_lost else None
         lines = lines_of(verdict or "pass entries=4 sent=1 taken=2", verdict or "pass entries=4 sent=2 taken=1")

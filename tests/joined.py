@@ -22,7 +22,7 @@ from typing import List, Optional, Tuple
 sys.dont_write_bytecode = True
 
 from command import PROGRAM, TOP, Answer, answer_of
-from made_captures import ACTIVE, BEGIN, FIN, PASSIVE, PUSH, RST, SELECT, SYN, Capture, Talk
+from made_captures import ACK, ACTIVE, BEGIN, FIN, PASSIVE, PUSH, RST, SELECT, SYN, Capture, Talk, message
 from made_sessions import Session, captured_of, random_session
 from second_reading import joined
 from second_reading.capturing import Options
@@ -178,6 +178,56 @@ def wrong_with_left_out(program: Optional[str]) -> Optional[str]:
     return None
 
 
+def linktest_first() -> bytes:
+    """A Linktest.req, and then responses of both kinds with its system bytes."""
+    talk = Talk(Capture(), shakes_hands=False)
+    talk.say(1, ACTIVE, "ffff0000000500000007")
+    talk.say(2, PASSIVE, "ffff0000000200000007")
+    talk.say(3, PASSIVE, "ffff0000000600000007")
+    return talk.capture.octets
+
+
+def wrong_with_linktest_first(program: Optional[str]) -> Optional[str]:
+    """A Linktest.req doesn't ask for a Select.rsp: the Select.req stands before the capture."""
+    octets, options = linktest_first(), Options()
+    told = joined.told_of(seen_in(octets), options)
+    log = joined.log_of(told, ACTIVE, options).decode().splitlines()[1:]
+    lines = [line for line in log if not line.startswith("#")]
+    found = [f"{int(time) - BEGIN // 1000} {words}" for time, words in (line.split(" ", 1) for line in lines)]
+    wanted = ["1 up", "1 > ffff0000000100000007", "1 > ffff0000000500000007", "2 < ffff0000000200000007",
+              "3 < ffff0000000600000007"]
+    return differs(octets, told, options, program) if found == wanted else str(found)
+
+
+def forgotten(later: int) -> bytes:
+    """A connection between two ends of the port, so many later ones, and then what both say on another one."""
+    capture = Capture(ports=(PORT, PORT))
+    talk = Talk(capture)
+    talk.say(1, *SELECT[0])
+    talk.say(2, *SELECT[1])
+    talk.end(3)
+    for number in range(later):
+        capture.segment(talk.when, ACTIVE, 0, SYN, ports=(10000 + number, PORT))
+    for way, frame in ((ACTIVE, "00008101000000000008"), (PASSIVE, "00000102000000000008")):
+        first = 70000 if way == ACTIVE else 80000
+        data = message(frame)
+        capture.segment(talk.when, way, first, PUSH | ACK, data, 80000 if way == ACTIVE else 70014, hosts=(2, 1))
+    return capture.octets
+
+
+def wrong_with_forgotten(program: Optional[str]) -> Optional[str]:
+    """Where both ends have the port, a connection that is forgotten doesn't say any more which of them connected."""
+    first, second = "10.0.0.1:5000 10.0.0.2:5000", "10.0.0.2:5000 10.0.0.1:5000"
+    for later, names in ((4095, [first]), (4096, [first, second])) if program else ():
+        counts = {first: "entries=4 sent=1 taken=1", second: "entries=5 sent=2 taken=2"}
+        lines = [f"{name} {end}: pass {counts[name]} discarded=0 expired=0 waiting=0\n"
+                 for name in names for end in ("host active", "equipment passive")]
+        found = answer_of(["capture", "--joined"], forgotten(later), program)
+        if found != Answer(0, "".join(lines).encode(), b""):
+            return f"{later} later ones: {found}"
+    return None
+
+
 # Random sessions.
 
 
@@ -238,6 +288,8 @@ def main():
     wrong = [(f"joined-{name}", wrong_with_smallest(name, program)) for name in SMALLEST]
     wrong += [("replaced", wrong_with_replaced(program))]
     wrong += [("left out", wrong_with_left_out(program))]
+    wrong += [("a Linktest.req first", wrong_with_linktest_first(program))]
+    wrong += [("forgotten", wrong_with_forgotten(program))]
     wrong += [(seed, wrong_with(seed, program)) for seed in seeds]
     told = [f"{name}: {why}" for name, why in wrong if why]
     print("\n".join(told + [f"{len(wrong) - len(told)} passed, {len(told)} failed"]))

@@ -28,7 +28,7 @@ CONTROL_SESSION = 0xFFFF
 SUPPOSED_SYSTEM = "ffffffff"
 
 # Which requests a response answers: those of data, or those of control messages.
-ASKS = {"reply": "data", "select.rsp": "control", "linktest.rsp": "control"}
+ASKS = {"reply": "data", "select.rsp": "select.req", "linktest.rsp": "linktest.req"}
 
 
 # The place at which a direction begins.
@@ -212,7 +212,7 @@ def is_asked(frame: Frame, said: List[Frame]) -> bool:
 def asks(frame: Frame) -> Optional[str]:
     if frame.kind == "primary":
         return "data" if frame.wait else None
-    return "control" if frame.kind in ("select.req", "linktest.req") else None
+    return frame.kind if frame.kind in ("select.req", "linktest.req") else None
 
 
 def decided_by(frame: Frame, said: List[Frame]) -> Optional[Tuple[str, Optional[int]]]:

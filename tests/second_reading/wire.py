@@ -16,6 +16,9 @@ FARTHEST = 1 << 26
 # How many later packets of the connection may bring what is missing.
 LATER = 4096
 
+# The least length of a message, and the greatest of one that can be held.
+SHORTEST, LONGEST = 10, FARTHEST - 4
+
 # The cells of a stream: the SYN and the FIN have places as octets have.
 SYN, OCTET, FIN = 1, 2, 3
 
@@ -118,10 +121,12 @@ class Stream:
         self.end = len(self.kinds) if missing < 0 else missing
 
     def message_size(self, place: int, end: int) -> Optional[int]:
-        """How many cells the message at a place has, if it is there whole up to an end: it ends with a SYN or FIN."""
+        """How many cells the message at a place has, if it is there whole up to an end: it ends with a SYN or FIN, and
+        behind a length that no message has."""
         size = 4
         if self.kinds[place:min(place + 4, end)] == bytes([OCTET]) * 4:
-            size += int.from_bytes(self.values[place:place + 4], "big")
+            length = int.from_bytes(self.values[place:place + 4], "big")
+            size += length if SHORTEST <= length <= LONGEST else 0
         last = min(place + size, end)
         flags = [at for at in self.flags if place <= at < last and self.kinds[at] != OCTET]
         if flags:

@@ -37,7 +37,7 @@ pub enum Remark {
 /// the audit without being written. Contracts see the audit, which is gone where memory was refused.
 pub struct Account {
     auditor: Option<Auditor>,
-    // How many lines the log has at most.
+    // A bound of how many lines the log has: an octet counts as one.
     lines: u64,
     // The packet that a comment named last, and that of the line that fails.
     packet: u64,

@@ -245,7 +245,7 @@ fn taken(sent: Event) -> Event
     }
 }
 
-/// The logs of the ends of a connection, which don't stand apart any more.
+/// The logs of the ends of a connection, out of their box.
 pub fn unboxed(ends: Option<Box<Ends>>) -> Option<Ends>
     ensures { result ≡ option_map (λ ends. ends.value) ends }
 {

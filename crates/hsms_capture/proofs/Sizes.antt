@@ -1,7 +1,7 @@
 -- The size of a message is told by its own cells.
 use Rattle.std.proofs.Common.{◌≡◌, ◌<◌, ◌≤◌, ℕ, zero, suc, ◌+◌, ◌*◌, List, [], ◌∷◌, ◌++◌, length, Option, Some, None, refl, sym, ap, arith}
 use Rattle.hsms_capture.specs.Wire.{Cell, syn, octet, fin}
-use Rattle.hsms_capture.specs.Message.{one_more, cells_to, size_by, message_size}
+use Rattle.hsms_capture.specs.Message.{one_more, cells_to, octets_behind, size_by, message_size}
 use Rattle.hsms_capture.specs.Laws.{IsSize}
 
 of_more : (o : Option ℕ) (n : ℕ) → one_more o ≡ Some n → (m : ℕ) × (o ≡ Some m) × (n ≡ m + 1)
@@ -57,7 +57,7 @@ to_told (suc k) (octet a ∷ cs) more n e le =
 
 by_there : (k value : ℕ) (cs : List Cell) (n : ℕ) → size_by k value cs ≡ Some n → n ≤ length cs
 unfolding size_by
-by_there zero value cs n e = to_there value cs n e
+by_there zero value cs n e = to_there (octets_behind value) cs n e
 by_there (suc k) value [] n e = absurd cc
 by_there (suc k) value (syn ∷ cs) n e = let same : 1 ≡ n = cc in omega (arith, same)
 by_there (suc k) value (fin ∷ cs) n e = let same : 1 ≡ n = cc in omega (arith, same)
@@ -79,7 +79,7 @@ by_some k value (octet a ∷ cs) n e =
 
 by_stays : (k value : ℕ) (cs more : List Cell) (n : ℕ) → size_by k value cs ≡ Some n → size_by k value (cs ++ more) ≡ Some n
 unfolding size_by
-by_stays zero value cs more n e = to_stays value cs more n e
+by_stays zero value cs more n e = to_stays (octets_behind value) cs more n e
 by_stays (suc k) value [] more n e = absurd cc
 by_stays (suc k) value (syn ∷ cs) more n e = e
 by_stays (suc k) value (fin ∷ cs) more n e = e
@@ -89,7 +89,7 @@ by_stays (suc k) value (octet a ∷ cs) more n e =
 
 by_told : (k value : ℕ) (cs more : List Cell) (n : ℕ) → size_by k value (cs ++ more) ≡ Some n → n ≤ length cs → size_by k value cs ≡ Some n
 unfolding size_by
-by_told zero value cs more n e le = to_told value cs more n e le
+by_told zero value cs more n e le = to_told (octets_behind value) cs more n e le
 by_told (suc k) value [] more n e le = let lt = by_some k value more n e in absurd (omega (arith, lt, le))
 by_told (suc k) value (syn ∷ cs) more n e le = e
 by_told (suc k) value (fin ∷ cs) more n e le = e

@@ -13,7 +13,7 @@ use Rattle.hsms_capture.specs.declared.held.Cell.{Cell as HeldCell}
 use Rattle.hsms_capture.specs.declared.held.Cell.TheVariants as held
 use Rattle.hsms_capture.specs.Cells.{Kept, all_of, some_octets}
 use Rattle.hsms_capture.specs.Wire.{End, Cell, Placed, bound, cell_at, cells_up_to, end_of, stream_of}
-use Rattle.hsms_capture.specs.Message.{cells_to, message_size, one_more, size_by}
+use Rattle.hsms_capture.specs.Message.{cells_to, message_size, octets_behind, one_more, size_by}
 use Rattle.hsms_capture.specs.Held.{Store, IsFront, IsPiece, IsStoreOf, fitting, in_piece, piece_from, further, octet_in, wire_cell}
 
 pub piece_end : (ss : List (Option HeldCell)) (i : ℕ) → get_or ss i None ≡ None → in_piece (drop i ss) ≡ []
@@ -149,10 +149,11 @@ size_next index value n c ss w lt e f h =
     ∙ ap (λ (i : ℕ). further (index + 1) (size_by ((4 - index) - 1) (value * 256 + n) (in_piece (drop i ss)))) next
     ∙ ap (λ (k : ℕ). further (index + 1) (size_by k (value * 256 + n) (in_piece (drop (index + 1) ss)))) left) ∙ h
 
-pub size_done : (index value : ℕ) (ss : List (Option HeldCell)) (w : Option ℕ) → index ≡ 4
-    → further index (size_by (4 - index) value (in_piece (drop index ss))) ≡ w → further 4 (cells_to value (in_piece (drop 4 ss))) ≡ w
+pub size_done : (index value count : ℕ) (ss : List (Option HeldCell)) (w : Option ℕ) → index ≡ 4 → count ≡ octets_behind value
+    → further index (size_by (4 - index) value (in_piece (drop index ss))) ≡ w → further 4 (cells_to count (in_piece (drop 4 ss))) ≡ w
 unfolding size_by
-size_done index value ss w e h = sym (ap (λ (i : ℕ). further i (size_by (4 - i) value (in_piece (drop i ss)))) e) ∙ h
+size_done index value count ss w e same h =
+    ap (λ (n : ℕ). further 4 (cells_to n (in_piece (drop 4 ss)))) same ∙ sym (ap (λ (i : ℕ). further i (size_by (4 - i) value (in_piece (drop i ss)))) e) ∙ h
 
 none_further : (o : Option ℕ) → further 0 o ≡ o
 none_further None = refl

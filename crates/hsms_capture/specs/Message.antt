@@ -1,6 +1,7 @@
 -- The messages of HSMS in a stream of cells: four octets of a length, and as many octets as it says. A SYN and a FIN are
--- messages of their own. A FIN within a message ends it: what stands before it is none.
-use Rattle.std.specs.Prelude.{ℕ, zero, suc, ◌+◌, ◌*◌, Bool, if◌then◌else◌, List, [], ◌∷◌, ◌++◌, map, Option, Some, None}
+-- messages of their own. A FIN within a message ends it: what stands before it is none. Nor is a length alone that no message
+-- has, and where the next one begins nobody knows then.
+use Rattle.std.specs.Prelude.{ℕ, zero, suc, ◌+◌, ◌-◌, ◌*◌, ◌^◌, nat_lt, Bool, if◌then◌else◌, List, [], ◌∷◌, ◌++◌, map, Option, Some, None}
 use Rattle.hsms_capture.specs.Wire.{Cell, syn, octet, fin}
 
 -- what a segment brings
@@ -19,9 +20,13 @@ cells_to (suc k) (syn ∷ cs) = Some 1
 cells_to (suc k) (fin ∷ cs) = Some 1
 cells_to (suc k) (octet n ∷ cs) = one_more (cells_to k cs)
 
+-- how many octets follow a length: none where a message has more, ten at least, or would have more than are held
+abbrev pub octets_behind : ℕ → ℕ
+octets_behind value = if nat_lt value 10 then 0 else (if nat_lt (2 ^ 26 - 4) value then 0 else value)
+
 -- the same where this many octets of the length are still to come, and those before them say a value
 unfoldable pub size_by : ℕ → ℕ → List Cell → Option ℕ
-size_by zero value cs = cells_to value cs
+size_by zero value cs = cells_to (octets_behind value) cs
 size_by (suc k) value [] = None
 size_by (suc k) value (syn ∷ cs) = Some 1
 size_by (suc k) value (fin ∷ cs) = Some 1

@@ -3,7 +3,7 @@
 ghost use Rattle.std.specs.Prelude.{◌≡◌, ◌≤◌, ◌<◌, ◌+◌, ◌^◌, true, ◌-◌, max, take, false, [], IfSome, IfOk, None, OnOk, OnErr, drop, get_or, length};
 ghost use Rattle.hsms_capture.specs.Cells.{all_of};
 ghost use Rattle.hsms_capture.specs.Held.{IsLaid, differs, differs_at, flag_of, further, held_of, in_piece, is_another, laid_all, laid_at, octet_in, octets_of, wire_cell};
-ghost use Rattle.hsms_capture.specs.Message.{cells_to, message_size};
+ghost use Rattle.hsms_capture.specs.Message.{cells_to, message_size, octets_behind};
 ghost use Rattle.hsms_capture.specs.Plain.{HeadSays, IsLonger, flags_end};
 ghost use Rattle.hsms_capture.specs.Telling.{PieceTells};
 ghost use Rattle.hsms_capture.specs.Wire.{same_cell};
@@ -15,6 +15,11 @@ use std::marker::Model;
 
 // So many cells are held at most.
 const MOST: u64 = 1 << 26;
+
+// The least length of a message, that of a header, and the greatest one of a message that can be held whole.
+const SHORTEST: u64 = 10;
+
+const LONGEST: u64 = MOST - 4;
 
 /// A cell of a stream, which has a place of its own.
 #[derive(Clone, Copy, Debug, PartialEq, Eq)]
@@ -33,7 +38,7 @@ pub(crate) enum Piece {
 }
 
 // What the first four cells of a message say of its size: some are missing; one of them ends it; or it has so many octets
-// behind them.
+// behind them, none where no message has their length.
 #[derive(Clone, Copy)]
 enum Head {
     Missing,
@@ -596,7 +601,21 @@ fn head_of(cells: &Cells, first: u64) -> Head
         };
         value = value * 256 + u64::from(octet);
     }
-    Head::Length(value)
+    Head::Length(octets_behind(value))
+}
+
+// How many octets follow a length: none where no message has it.
+fn octets_behind(length: u64) -> u64
+    ensures value { result ≡ octets_behind length }
+    ensures bound { result ≤ length }
+{
+    if length < SHORTEST {
+        return 0;
+    }
+    if length > LONGEST {
+        return 0;
+    }
+    length
 }
 
 // How many cells stand before an index and, so many of them, behind it, up to one that is no octet.

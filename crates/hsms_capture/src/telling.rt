@@ -37,8 +37,8 @@ pub struct Happening {
     pub event: Event,
 }
 
-/// How far a connection has come: not up yet, with the packet of the last end before it came up; up, with the end that
-/// sent a Separate; or over.
+/// How far a connection has come: not up yet, with the packet of the last FIN or reset before it came up; up, with the
+/// end that sent a Separate, if one did; or over.
 #[derive(Clone, Copy)]
 pub(crate) enum Telling {
     Waiting(Option<u64>),

@@ -179,9 +179,9 @@ impl<D: TurnDesk> End<D> {
         }
     }
 
-    /// Time has gone on to this moment, in milliseconds, if it isn't past it. Each own primary that is overdue by T3 is
-    /// logged. Where T6, T7 or T8 has run out the connection is cut; else equipment tells of each expiry by S9F9 (SEMI
-    /// E37, section 10, parameters; SEMI E5, section 8, transactions).
+    /// The end's moment becomes this one, in milliseconds, unless it is later already. Each own primary that is overdue
+    /// by T3 is logged. Where T6, T7 or T8 has run out the connection is cut; else equipment tells of each expiry by
+    /// S9F9 (SEMI E37, section 10, parameters; SEMI E5, section 8, transactions).
     ///
     /// # Errors
     ///

@@ -111,7 +111,7 @@ impl State {
         Ok(())
     }
 
-    /// Time goes on to a moment, if it isn't past it, and what is overdue is logged.
+    /// The end's moment becomes this one, unless it is later already, and what is overdue is logged.
     pub fn tick(
         &mut self,
         alloc: Global,

@@ -1,10 +1,10 @@
-//! The two ends of an HSMS session (SEMI E37, E37.1): what an end logs, sends and answers.
+//! An end of an HSMS session (SEMI E37, E37.1): what it logs, sends and answers.
 //!
 //! An [`End`] is told what happens: the connection comes up, time goes on, octets come, a message is to be sent. It
 //! answers with the entries that its log goes on by; what it sent is among them. It reads no clock and opens no socket:
 //! moments, in milliseconds, and octets are handed in. The tracker of `hsms_machine` judges what it may log, so its log
-//! passes the audit. A [`Desk`], or one that does by turns, a [`TurnDesk`], answers the messages that it takes. [`drive`]
-//! tells an end a list of inputs.
+//! passes the audit. A [`Desk`] answers the messages that it takes, or a [`TurnDesk`], whose answer may depend on how
+//! often that stream and function was asked before. [`drive`] tells an end a list of inputs.
 //!
 //! An end is made with its settings, its desk and its first own system bytes. Then come `start`, once the connection is
 //! up, and after it `bytes` with what came, `tick` when the moment of `next_due` is past, and `send`, `linktest` and

@@ -21,7 +21,7 @@ pub struct State {
     pub moment: u64,
     /// The number from which own system bytes are tried.
     pub next: u32,
-    /// The moment at which an octet came last.
+    /// The moment at which an octet came last, in milliseconds.
     pub heard: u64,
     /// How often the desk was asked about messages of each stream and function.
     pub asked: Asked,

@@ -7,8 +7,8 @@ use thiserror::Error;
 #[error("LinkFault")]
 pub struct LinkFault;
 
-/// Why a connection was not served to its end. Where the link failed and then the connection can't be closed, it is the
-/// fault of closing.
+/// Why a connection was not served to its end. Where the link failed and then its end can't be logged, it is the fault
+/// of logging it.
 #[derive(Clone, Copy, Debug, PartialEq, Eq, Error)]
 pub enum ServeFault {
     /// The link failed. The log tells that the connection went down.

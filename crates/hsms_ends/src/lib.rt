@@ -1,7 +1,7 @@
 //! The two ends of an HSMS session (SEMI E37, E37.1): what an end logs, sends and answers, and what serves one
 //! connection.
 //!
-//! What one end is and does stands in `hsms_end`; this crate has all of it under its own name. [`serve`] serves a
+//! What one end is and does stands in `hsms_end`, all of which this crate exports too. [`serve`] serves a
 //! connection over a [`Link`] to the peer: a socket, or a [`Scripted`] one in memory.
 //!
 //! ```

@@ -19,11 +19,11 @@ use hsms_machine::{Entry, Phase};
 /// How far serving has come.
 #[derive(Clone, Copy, Debug)]
 pub struct Progress {
-    /// The steps that were taken or refused.
+    /// How many steps were taken or refused.
     pub place: usize,
-    /// The entries.
+    /// How many entries there are.
     pub entries: u64,
-    /// The steps that the end refused.
+    /// How many steps the end refused.
     pub refused: u64,
 }
 

@@ -30,8 +30,9 @@ const BLOCK: usize = 4096;
 /// log passes. Lines that the excerpt leaves out are judged and not told.
 ///
 /// The log is read once, to its end, in blocks. What is told of a block is written before the next read, which may
-/// wait, so that a line is told when it has come. Of the log no more is held than a block, a line that goes on and the
-/// octets of a frame; and of what is told, that of a block and of the line that ends in it.
+/// wait, so that a line is told when it has come. Of the log no more is held than a block, a line that goes on, the
+/// octets of a frame and the lines that the excerpt wants before a failure; and of what is told, that of a block and of
+/// the line that ends in it.
 ///
 /// # Errors
 ///

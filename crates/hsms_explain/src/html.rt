@@ -23,7 +23,7 @@ use hsms_options::sentence;
 use std::alloc::{AllocError, Global};
 use std::fmt;
 
-// What stands before the style, behind it, and before the lines.
+// What stands before the style, and what stands between it and the lines.
 const HEAD: &str = "<!DOCTYPE html>\n<html lang=\"en\"><head><meta charset=\"utf-8\">\
     <meta name=\"viewport\" content=\"width=device-width, initial-scale=1\"><title>hsms explain</title>\n<style>";
 
@@ -282,7 +282,8 @@ impl fmt::Display for Label {
     }
 }
 
-// Writes words, as what leads to a line where that is told, and as that to which a link to what closes a line leads.
+// Writes words, as a link to the line `to`, and with the id to which the link `reply` of the line `closed` leads, where
+// there are such lines.
 fn write_link<D: fmt::Display>(
     alloc: Global,
     page: &mut Page,

@@ -241,7 +241,7 @@ fn fate_by(header: Header) -> Fate {
 }
 
 impl Outcome {
-    /// Which way they went: `sent` or `received`.
+    /// Which way they went, `sent` or `received`: by the bit `RECEIVED`, and of those beyond `OTHERS` by the last bit.
     pub fn way(&self) -> &'static str {
         if self.kind % OTHERS / RECEIVED + self.kind / OTHERS * (self.kind % 2) == 0 {
             "sent"

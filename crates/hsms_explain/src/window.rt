@@ -268,7 +268,7 @@ impl Window {
         self.teller().gap(alloc, page, Gap { from, to })
     }
 
-    /// Tells that lines are left out behind the last one that was told, of so many lines, and that no line follows.
+    /// Tells that no line follows, and which are left out behind the last one that was told: the log has so many lines.
     pub fn finish(&self, alloc: Global, page: &mut Page, lines: u64) -> Result<(), AllocError>
         ensures { OnOk result (self.now.excerpt.form ≡ Text → AddsSome page.old page.new) }
     {
@@ -277,7 +277,7 @@ impl Window {
         Ok(())
     }
 
-    // Tells that lines are left out behind the last one that was told, of so many lines.
+    // Tells which lines are left out behind the last one that was told, where the log has so many.
     fn leave_rest(&self, alloc: Global, page: &mut Page, lines: u64) -> Result<(), AllocError>
         ensures { OnOk result (self.now.excerpt.form ≡ Text → AddsSome page.old page.new) }
     {
@@ -288,7 +288,7 @@ impl Window {
         self.teller().gap(alloc, page, Gap { from, to: lines })
     }
 
-    /// What links to the lines that were told may lead to.
+    /// The lines to which links may lead.
     pub fn links(&self) -> &Links {
         &self.links
     }

@@ -19,7 +19,7 @@ pub enum Tie {
 }
 
 impl Tie {
-    /// What an entry that says this is.
+    /// What an entry is to the one that it closes: a reject, an answer, or, as a `t3`, an expiry.
     pub fn of(what: What) -> Tie {
         match what {
             What::Frame(_, header) => {
@@ -34,7 +34,7 @@ impl Tie {
     }
 }
 
-/// The word for it.
+/// The word that tells what an entry is to the one that it closes.
 pub fn word_of(tie: Tie) -> &'static str
     ensures { result.now ≡ tie_word tie }
 {
@@ -151,7 +151,7 @@ impl fmt::Display for Unjudged {
     }
 }
 
-/// The name of the rule.
+/// The name of the rule that is broken, or `unreadable`.
 pub fn name_of(why: Why) -> &'static str
     ensures { result.now ≡ why_name why }
 {

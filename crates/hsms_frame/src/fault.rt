@@ -20,7 +20,7 @@ pub enum FrameFault {
     TooShort { length: u64 },
     /// The length field, in octets of header and text, is past the limit.
     TooLong { length: u64, header: Header },
-    /// There is no memory for the text.
+    /// There is no memory for the text, or for octets that are pushed or written.
     Memory,
 }
 
@@ -77,7 +77,8 @@ impl fmt::Display for ReadFault {
 
 impl Error for ReadFault {}
 
-/// Why no frame was written. Each is shown as its name and its length, as in `TooLong length=4294967296`.
+/// Why no frame was written. Each is shown as its name, and its length where it has one, as in
+/// `TooLong length=4294967296`.
 #[derive(Clone, Copy, Debug, PartialEq, Eq)]
 pub enum WriteFault {
     /// Header and text have more octets than a length field counts. Nothing was written.

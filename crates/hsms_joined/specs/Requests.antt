@@ -16,37 +16,46 @@ data_by _ wait = false
 abbrev pub asks_data : Header → Bool
 asks_data h = data_by (kind_of h) (wait_of h)
 
--- a Select.req or a Linktest.req asks for a control message
-abbrev pub control_by : Kind → Bool
-control_by SelectReq = true
-control_by LinktestReq = true
-control_by _ = false
+-- a Select.req asks for a Select.rsp, a Linktest.req for a Linktest.rsp
+abbrev pub select_by : Kind → Bool
+select_by SelectReq = true
+select_by _ = false
 
-abbrev pub asks_control : Header → Bool
-asks_control h = control_by (kind_of h)
+abbrev pub asks_select : Header → Bool
+asks_select h = select_by (kind_of h)
 
--- among these messages is one with these system bytes that asks for data, or for a control message
+abbrev pub linktest_by : Kind → Bool
+linktest_by LinktestReq = true
+linktest_by _ = false
+
+abbrev pub asks_linktest : Header → Bool
+asks_linktest h = linktest_by (kind_of h)
+
+-- among these messages is one with these system bytes that asks for data, for a Select.rsp, or for a Linktest.rsp
 abbrev pub has_primary : ℕ → List Header → Bool
 has_primary system said = list_any (λ h. asks_data h && (h.system == system)) said
 
-abbrev pub has_control : ℕ → List Header → Bool
-has_control system said = list_any (λ h. asks_control h && (h.system == system)) said
+abbrev pub has_select : ℕ → List Header → Bool
+has_select system said = list_any (λ h. asks_select h && (h.system == system)) said
+
+abbrev pub has_linktest : ℕ → List Header → Bool
+has_linktest system said = list_any (λ h. asks_linktest h && (h.system == system)) said
 
 abbrev pub asked_by : Kind → ℕ → List Header → Bool
 asked_by Reply system said = has_primary system said
-asked_by SelectRsp system said = has_control system said
-asked_by LinktestRsp system said = has_control system said
+asked_by SelectRsp system said = has_select system said
+asked_by LinktestRsp system said = has_linktest system said
 asked_by _ system said = false
 
--- among the messages that the other end sent is one that asks for this response: a reply is asked for by data, and the
--- others by a control message
+-- among the messages that the other end sent is one that asks for this response
 abbrev pub is_asked : Header → List Header → Bool
 is_asked response said = asked_by (kind_of response) response.system said
 
 -- requests are those of the messages that were sent
 pub record KnowsOf (said : List Header) (requests : Requests) : Type 0 where
   pub primaries : (system : ℕ) → contains nat_eq requests.primaries system ≡ has_primary system said
-  pub controls : (system : ℕ) → contains nat_eq requests.controls system ≡ has_control system said
+  pub selects : (system : ℕ) → contains nat_eq requests.selects system ≡ has_select system said
+  pub linktests : (system : ℕ) → contains nat_eq requests.linktests system ≡ has_linktest system said
 
 abbrev pub response_by : Kind → Bool
 response_by Reply = true

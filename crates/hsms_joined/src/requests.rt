@@ -1,17 +1,17 @@
 //! Requests that a capture has, and responses to others.
 
 ghost use Rattle.std.specs.Prelude.{◌≡◌};
-ghost use Rattle.hsms_joined.specs.Requests.{asks_control, asks_data, is_response};
+ghost use Rattle.hsms_joined.specs.Requests.{asks_data, asks_linktest, asks_select, is_response};
 
 use hsms_frame::{Header, Kind, kind};
 use indexmap::IndexSet;
 use std::alloc::{AllocError, Global};
 
-/// What one end has asked for since the capture began, by system bytes: those of data and those of control messages are
-/// told apart.
+/// What one end has asked for since the capture began, by system bytes, each kind of request by itself.
 pub struct Requests {
     primaries: IndexSet<u32>,
-    controls: IndexSet<u32>,
+    selects: IndexSet<u32>,
+    linktests: IndexSet<u32>,
 }
 
 // Written out: a proof over requests that are dropped then has one step for each set, not one for each of its parts.
@@ -19,10 +19,12 @@ impl Drop for Requests {
     fn drop(self) {
         let Requests {
             primaries,
-            controls,
+            selects,
+            linktests,
         } = self;
         drop(primaries);
-        drop(controls);
+        drop(selects);
+        drop(linktests);
     }
 }
 
@@ -37,7 +39,8 @@ impl Requests {
     {
         Requests {
             primaries: IndexSet::new(alloc),
-            controls: IndexSet::new(alloc),
+            selects: IndexSet::new(alloc),
+            linktests: IndexSet::new(alloc),
         }
     }
 
@@ -50,8 +53,11 @@ impl Requests {
         if asks_data(message) {
             self.primaries.insert(message.system)?;
         }
-        if asks_control(message) {
-            self.controls.insert(message.system)?;
+        if asks_select(message) {
+            self.selects.insert(message.system)?;
+        }
+        if asks_linktest(message) {
+            self.linktests.insert(message.system)?;
         }
         Ok(())
     }
@@ -62,7 +68,8 @@ impl Requests {
     {
         match kind(response) {
             Kind::Reply => self.primaries.contains(&response.system),
-            Kind::SelectRsp | Kind::LinktestRsp => self.controls.contains(&response.system),
+            Kind::SelectRsp => self.selects.contains(&response.system),
+            Kind::LinktestRsp => self.linktests.contains(&response.system),
             Kind::Primary
             | Kind::SelectReq
             | Kind::LinktestReq
@@ -109,12 +116,22 @@ fn asks_data(message: Header) -> bool
     }
 }
 
-// Whether a message asks for a control message.
-fn asks_control(message: Header) -> bool
-    ensures { result ≡ asks_control message }
+// Whether a message asks for a Select.rsp.
+fn asks_select(message: Header) -> bool
+    ensures { result ≡ asks_select message }
 {
     match kind(message) {
-        Kind::SelectReq | Kind::LinktestReq => true,
+        Kind::SelectReq => true,
+        _ => false,
+    }
+}
+
+// Whether a message asks for a Linktest.rsp.
+fn asks_linktest(message: Header) -> bool
+    ensures { result ≡ asks_linktest message }
+{
+    match kind(message) {
+        Kind::LinktestReq => true,
         _ => false,
     }
 }

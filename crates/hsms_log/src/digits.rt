@@ -25,7 +25,8 @@ pub fn decode(digits: &[u8], octets: &mut [u8]) -> bool
     are_small(greatest)
 }
 
-/// Reads the eight octets from this place on, if their sixteen digits are some, and gives what these stand for.
+/// Reads the eight octets from this place on, and gives the values of their sixteen digits: 16 or more where one is
+/// none.
 #[inline(always)]
 fn decode_at(digits: &[u8], octets: &mut [u8], place: usize) -> u8x16
     requires size { length digits.now ≡ 2 * length octets.old }

@@ -43,7 +43,7 @@ impl From<AllocError> for AuditFault {
 /// Why a line was not read.
 #[derive(Clone, Copy, Debug, PartialEq, Eq, Error)]
 pub enum LineFault {
-    /// The line spells nothing, or has more than `2 * max + 64` octets.
+    /// The line is no entry, comment or empty line, or has more than `2 * max + 64` octets.
     #[error("Unreadable")]
     Unreadable,
     /// A growth was refused.

@@ -22,7 +22,7 @@ pub struct Summary {
 /// Why a line fails.
 #[derive(Clone, Copy, Debug, PartialEq, Eq)]
 pub enum Why {
-    /// The line spells nothing, or is past its limit.
+    /// The line is no entry, comment or empty line, or is past its limit.
     Unreadable,
     /// The line's entry breaks this rule, and none before it.
     Broken(Rule),

@@ -9,7 +9,7 @@ use hsms_frame::Header;
 use std::alloc::{AllocError, Global};
 use std::marker::Model;
 
-/// A transaction: when it was opened, and the header of its request.
+/// A transaction: when it was opened, in milliseconds, and the header of its request.
 #[derive(Clone, Copy, Debug, PartialEq, Eq)]
 pub struct Transaction {
     pub time: u64,

@@ -12,6 +12,7 @@ use std::marker::Model;
 /// and say of an entry which place opened what it closes.
 #[derive(Debug)]
 pub struct Places {
+    // what is known of the log where each entry has the number of its line for a time
     view: View,
 }
 

@@ -56,7 +56,7 @@ impl Tracker {
         }
     }
 
-    /// The time of the last entry, or 0 where there is none. Takes no memory.
+    /// The time of the last entry, in milliseconds, or 0 where there is none. Takes no memory.
     pub fn last_time(&self) -> u64
         ensures { result ≡ self.now.last_time }
     {

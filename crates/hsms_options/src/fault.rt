@@ -65,7 +65,8 @@ pub fn refused(alloc: Global, words: &str) -> ToolFault
     }
 }
 
-/// The status with which the command ends: 0 where all is well, 1 where a log fails its audit, else the fault's.
+/// The status with which the command ends: 0 where all is well, 1 where it isn't, as where a log fails its audit, else
+/// the fault's.
 pub fn exit_status(answer: &Result<bool, ToolFault>) -> u8
     ensures { result ≡ exit_status_of answer.now }
 {

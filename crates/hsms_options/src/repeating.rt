@@ -14,7 +14,7 @@ use clap::ArgMatches;
 /// Whether connections are served one after the other, and which.
 #[derive(Clone, Copy, Debug)]
 pub struct Repeat {
-    /// Whether further connections follow the first one, in the same log. Else the others say nothing.
+    /// Whether further connections follow the first one, in the same log. Else the other fields are ignored.
     pub again: bool,
     /// Whether the script is taken in the first connection alone.
     pub once: bool,

@@ -45,7 +45,7 @@ pub struct Service {
     pub send: bool,
     /// Whether the messages of standard input that have an even function are replies of its desk.
     pub answer: bool,
-    /// Whether it isn't well where a step of the script was refused, or was left when the connection ended.
+    /// Whether status 1 follows where a step of the script was refused, or was left when the connection ended.
     pub all_sent: bool,
     /// Whether connections are served one after the other, and which.
     pub repeat: Repeat,

@@ -15,7 +15,8 @@ pub enum CaptureFault {
     /// The first octets are those of no format that is read.
     #[error("Unknown")]
     Unknown,
-    /// A record or block claims more octets than any has, or fewer than its own fields.
+    /// A record or block claims more octets than any has, or fewer than its own fields, or a block claims no whole
+    /// number of words.
     #[error("Length")]
     Length,
     /// A block's second length isn't its first.

@@ -107,8 +107,8 @@ fn later_steps<'a>(script: &'a [Step], once: bool) -> &'a [Step]
     if once { &script[..0] } else { script }
 }
 
-/// What came of serving connections one after the other, as the command tells it. Another one may be wanting. Where all is
-/// to be sent, it is well only where each connection was complete.
+/// What came of serving connections one after the other, as the command tells it, and why no further one was had, if
+/// one is wanting. Where all is to be sent, it is well only where each connection was complete.
 pub fn told_again(
     all_sent: bool,
     served: Result<ServedAgain, ServeFault>,

@@ -96,7 +96,7 @@ impl<'a, R: Clock + Net> Again for SocketsLink<'a, R> {
 ///
 /// # Errors
 ///
-/// What the system says, where it can't listen, or memory is wanting.
+/// What the system says, where it can't listen or accept a connection, or memory is wanting.
 pub fn connected_again<'a, R: Clock + Net>(
     rt: &'a R,
     service: &'a Service,

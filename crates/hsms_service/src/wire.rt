@@ -11,8 +11,7 @@ use std::time::{Clock, Duration, Instant};
 // How many octets are let go at a time.
 const ROOM: usize = 4096;
 
-// How much later than it is asked to the system may end a read, in milliseconds, besides an eighth of the time: two ticks
-// of at most 10 ms.
+// The system may end a read late: by an eighth of its time, and by so many milliseconds, two ticks of at most 10 ms.
 const LATE: u64 = 20;
 
 // How many milliseconds pass between two looks at what has come, where the system can't end a read in time.

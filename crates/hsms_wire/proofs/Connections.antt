@@ -15,7 +15,7 @@ use Rattle.hsms_capture.specs.Finished.{ended}
 use Rattle.hsms_capture.specs.Known.{bases}
 use Rattle.hsms_capture.specs.Laws.{AreNumbered}
 use Rattle.hsms_capture.specs.Standing.{EndsAs, Stands, TakesOn}
-use Rattle.hsms_capture.specs.Stopping.{StopsBy}
+use Rattle.hsms_capture.specs.Stopping.{GoesBy, StopsBy}
 use Rattle.hsms_capture.specs.Telling.{entry_as}
 use Rattle.hsms_capture.specs.Time.{AreTimed, EndsInTime, IsInTime, TakesInTime, time_at}
 use Rattle.hsms_capture.specs.Told.{Entry, tells}
@@ -37,7 +37,7 @@ use Rattle.hsms_wire.specs.declared.shortfall.Shortfall.{Shortfall}
 use Rattle.hsms_wire.specs.declared.shortfall.Shortfall.TheVariants as lacks
 use Rattle.hsms_wire.specs.Courses.{lack_behind}
 use Rattle.hsms_wire.specs.Logged.{Shown, TellsIf, TellsOf, ToldForGood, ToldOf, bare_of, bare_resets, came_up, clock_of, course_by, entries_logged, is_replaced_by, is_there}
-use Rattle.hsms_wire.specs.Followed.{BeginsWith, DownBy, MayTellMore, EndsHave, EndsOpen, Follows, FollowsAll, FollowsOn, FollowsThem, GivesUp, GoesOn, HearsThem, IsFollowed, IsTooMuch, Replaces, TakesSegment, WhenTold, came_up_by, course_by_events, hears_event, logged_by, seen_waiting, timed_by, unboxed_ends}
+use Rattle.hsms_wire.specs.Followed.{AllFit, BeginsWith, DownBy, MayTellMore, EndsHave, EndsOpen, Follows, FollowsAll, FollowsOn, FollowsThem, GivesUp, GoesOn, HearsThem, IsFollowed, IsTooMuch, Replaces, TakesSegment, WhenTold, came_up_by, course_by_events, hears_event, logged_by, seen_waiting, timed_by, unboxed_ends}
 use Rattle.hsms_wire.proofs.Lasting.{closed_never_up, lack_lasts, never_closes, times_last}
 use Rattle.hsms_wire.proofs.Logging.{all_logged, course_of_entries, times_stay}
 use Rattle.hsms_wire.proofs.Concluding.{ClosedBy, HeardAfter, all_heard, closed_by_next, ended_told, have_closed, heard_after, nothing_there, over_told, tells_if, there_same}
@@ -73,6 +73,18 @@ pub bares : (before : List Seen) (s : Seen) (old new : List ℕ) → new ≡ old
 bares before s old new is was =
     is ∙ ap (λ (ns : List ℕ). ns ++ bare_of s) was ∙ ap (λ (ns : List ℕ). bare_resets before ++ ns) (sym (append-nil (bare_of s)))
     ∙ sym (flat_map-append bare_of before (s ∷ []))
+
+-- with a segment that is taken, and with which it goes on, too much doesn't wait
+pub not_much : (c : Connection) (s : Seen) (told : List Happening) (base : End → ℕ) (before : List Seen) → GoesBy c [] s → c.ending ≡ None → Stands c told base before
+    → IsTooMuch base before s → ⊥
+not_much c s told base before goes none stands much =
+    let not = goes none base before told (subst (λ (hs : List Happening). Stands c hs base before) (sym (append-nil told)) stands) in
+    elim much [ inl far ↦ not.0 far | inr past ↦ not.1 past ]
+
+pub fits_next : (base : End → ℕ) (before ss : List Seen) (s : Seen) → AllFit base before ss → (IsTooMuch base (before ++ ss) s → ⊥) → AllFit base before (ss ++ s ∷ [])
+fits_next base before [] s fit not = (λ much. not (subst (λ (z : List Seen). IsTooMuch base z s) (sym (append-nil before)) much), tt)
+fits_next base before (x ∷ xs) s fit not =
+    (fit.0, fits_next base (before ++ x ∷ []) xs s fit.1 (λ much. not (subst (λ (z : List Seen). IsTooMuch base z s) (append_assoc before (x ∷ []) xs) much)))
 
 heard_next : (a p : Parameters) (base : End → ℕ) (before : List Seen) (s : Seen) (o : Open) (first logs : Logs) (now : List Happening) (c : Course)
     → (f : IsFollowed a p base before o) → with_bare o.logs first s → HearsThem a p first now c logs
@@ -119,8 +131,9 @@ follow_ended a p pair base before s o next ending first logs now lack old new nu
 
 pub follow_goes : (a p : Parameters) (base : End → ℕ) (before : List Seen) (s : Seen) (o : Open) (next : Connection) (first logs : Logs) (now : List Happening)
     → AreNumbered 0 (before ++ s ∷ []) → IsFollowed a p base before o → next.ending ≡ None → TakesOn o.connection s [] next now
-    → TakesInTime o.connection s [] next now → with_bare o.logs first s → HearsThem a p first now course.Goes logs → IsFollowed a p base (before ++ s ∷ []) (record { connection = next; logs = logs })
-follow_goes a p base before s o next first logs now numbered f open_still takes times notes hears =
+    → TakesInTime o.connection s [] next now → GoesBy o.connection [] s → with_bare o.logs first s → HearsThem a p first now course.Goes logs
+    → IsFollowed a p base (before ++ s ∷ []) (record { connection = next; logs = logs })
+follow_goes a p base before s o next first logs now numbered f open_still takes times goes notes hears =
     let seen = before ++ s ∷ [] in
     let all = f.told ++ now in
     let h = heard_next a p base before s o first logs now course.Goes f notes hears in
@@ -133,6 +146,7 @@ follow_goes a p base before s o next first logs now numbered f open_still takes 
       up = h.up ∙ ap came_up_by (all_logged (hears_event a.max) (λ h. h.packet) all h.course_is);
       bare = h.bare_is;
       ends = all_heard a p (bare_resets seen) all logs h;
+      fit = fits_next base [] before s f.fit (not_much o.connection s f.told base before goes f.unended f.stands);
     }
 
 -- behind these segments all is told that is known of it, and more may follow
@@ -145,6 +159,7 @@ unfolding MayTellMore
 tells_more a p base seen o numbered f = (
   ap (course_by a.max) (sym (told_now a p base seen o numbered f)) ∙ sym (course_of_entries a.max f.told) ∙ f.goes,
   sym (told_at_once o.connection f.told base seen f.stands numbered).1 ∙ ap is_some f.unended,
+  f.fit,
 )
 
 -- a segment is taken with which it is given up: nothing is told with it
@@ -188,7 +203,7 @@ pub follows : (c : Course) (t : Taken) (a p : Parameters) (pair : Pair) (s : See
     → (base : End → ℕ) (before : List Seen) → AreNumbered 0 (before ++ s ∷ []) → IsFollowed a p base before o → FollowsOn a p pair base before s left old new
 follows course.Goes (taken.Goes next) a p pair s o first logs now left old new takes notes hears goes base before numbered f =
     subst (λ (l : Option Open). FollowsOn a p pair base before s l old new) (sym goes.0)
-    (goes.1, follow_goes a p base before s o next first logs now numbered f takes.0 takes.1 takes.2 notes hears)
+    (goes.1, follow_goes a p base before s o next first logs now numbered f takes.0 takes.1 takes.2 takes.3 notes hears)
 follows course.Goes (taken.Ends lack) a p pair s o first logs now left old new takes notes hears goes base before numbered f =
     subst (λ (l : Option Open). FollowsOn a p pair base before s l old new) (sym goes.0)
     (elim takes [
@@ -354,6 +369,7 @@ begun_open a p x y c logs open_still stands timed none down bare = record {
   up = down;
   bare = bare;
   ends = subst (EndsHave a p []) (sym none) refl;
+  fit = tt;
 }
 
 -- ---- whether it goes down

@@ -1,7 +1,6 @@
 -- The connections that are kept are those of the definition.
 use Rattle.std.proofs.Common.{◌≡◌, ◌≤◌, ◌<◌, ◌+◌, ◌-◌, ◌%◌, ◌^◌, ◌==◌, ◌++◌, ◌∷◌, min, ℕ, Bool, true, false, cond, List, [], map, Option, Some, None, inl, inr, refl, sym, ap, subst, ◌∙◌, arith}
 use Rattle.std.specs.Prelude.{◌⊎◌, is_some, IfOk, IfSome, Result, Ok, Err}
-use Rattle.std.specs.Option.{option_map}
 use Rattle.std.specs.declared.net.ip_addr.IpAddr.{IpAddr}
 use Rattle.std.specs.Map.{lookup, remove_entry, set_value}
 use Rattle.hsms_machine.specs.Settings.{Parameters}
@@ -24,7 +23,7 @@ use Rattle.hsms_wire.specs.declared.report.Report.{Report}
 use Rattle.hsms_wire.specs.declared.shortfall.Shortfall.{Shortfall}
 use Rattle.hsms_wire.specs.declared.table.Capture.{Capture}
 use Rattle.hsms_wire.specs.declared.table.Table.{Table}
-use Rattle.hsms_wire.specs.Connections.{Connection, Connections, Deals, DealsBy, DealsOf, DealsPacket, EndsAll, EndsAs, EndsWith, Goes, GoesAs, GoesOfSyn, GoesToLog, GoesToVerdicts, GoesBy, GoesOn, Has, IsGone, IsOpen, IsOpenStill, IsReplaced, NothingIsLeft, Packets, Starts, StartsAny, StartsOne, connection_of, has_one, gathered, of_session, of_syn, pair_in, starting, without}
+use Rattle.hsms_wire.specs.Connections.{Connection, Connections, Deals, DealsBy, DealsOf, DealsPacket, EndsAll, EndsAs, EndsWith, Goes, GoesAs, GoesOfSyn, GoesToLog, GoesToVerdicts, GoesBy, GoesOn, Has, IsGone, HasOne as KnowsOne, IsOpen, IsOpenStill, IsReplaced, NothingIsLeft, Packets, Starts, StartsAny, StartsOne, connection_of, gathered, of_session, of_syn, starting, without}
 use Rattle.hsms_wire.specs.Followed.{seen_waiting}
 use Rattle.hsms_wire.specs.Joining.{EndsJoined, TakesJoined, brought}
 use Rattle.hsms_wire.specs.Kept.{AreSame, captured_of, IsFollowedAs, IsOne, IsTable, StageStands, TakesAsDealt, UpTo}
@@ -33,13 +32,13 @@ use Rattle.hsms_wire.specs.Paged.{EndsStageOnPage, LogsTo, Page, StageOnPage, Ta
 use Rattle.hsms_wire.specs.Report.{Tells}
 use Rattle.hsms_wire.specs.Running.{Brought, seen_brought}
 use Rattle.hsms_wire.specs.Staged.{EndsBy, EndsStage, IsBegun, IsForgotten, IsIdle, StageAs, StageGoes, TakesStage, answered_by, first_shown}
-use Rattle.hsms_wire.specs.Segments.{has_flow as has_flow_of, pair_among, pair_at}
+use Rattle.hsms_wire.specs.Segments.{IsAmong, IsPairAt}
 use Rattle.hsms_wire.proofs.Connections.{tells_more}
 use Rattle.hsms_wire.proofs.Paging.{page_more}
 use Rattle.hsms_wire.proofs.SessionDealt.{kept_ends, kept_takes, rise_later, running_ends, running_takes}
 use Rattle.hsms_wire.proofs.Staging.{to_nothing}
 use Rattle.hsms_wire.proofs.Stages.{answered_kept}
-use Rattle.hsms_wire.specs.Tabled.{Begins, BeginsFlow, BeginsWith, EndsBefore, EndsFlows, FollowsBy, FollowsFlow, HasFlow, IsFollowed, KeepsIf, KeepsOf, LeavesOut, LooksAt, ReplacesFlow, TakesBy, TakesIt, TakesOf, TakesPacket, flow_of, is_live, brought_by}
+use Rattle.hsms_wire.specs.Tabled.{Begins, BeginsFlow, BeginsWith, EndsBefore, EndsFlows, FollowsBy, FollowsFlow, HasFlow, HasOne, IsFollowed, KeepsIf, KeepsOf, LeavesOut, LooksAt, ReplacesFlow, TakesBy, TakesIt, TakesOf, TakesPacket, flow_of, is_live, brought_by}
 
 -- ---- numbers of packets
 
@@ -702,20 +701,25 @@ deals_of port peer how a p last pair from segment capture missing old new before
       | inr followed ↦ inr (is_open port peer how a p last pair old all is followed)
     ]
 
--- which pair has one
-both_some : (how : Way) (a p : Parameters) (last : ℕ) (f : Option Flow) (c : Option Connection) → AreBoth how a p last f c → is_some f ≡ is_some c
-both_some how a p last None None both = refl
-both_some how a p last None (Some one) both = absurd both
-both_some how a p last (Some flow) None both = absurd both
-both_some how a p last (Some flow) (Some one) both = refl
-
-pub pair_same : (port : ℕ) (peer : Option IpAddr) (how : Way) (a p : Parameters) (last : ℕ) (table : Table) (all : Connections) (segment : Segment) → IsTable port peer how a p last table all
-    → pair_at table.port table.flows segment ≡ pair_in port all segment
-pair_same port peer how a p last table all segment is =
-    ap (λ (n : ℕ). pair_at n table.flows segment) is.port_is ∙ (λ i. option_map (pair_among (λ q. has q i)) (pairs_at port segment))
+-- of which pair it is
+pub pair_same : (port : ℕ) (peer : Option IpAddr) (how : Way) (a p : Parameters) (last : ℕ) (table : Table) (all : Connections) (segment : Segment) (found : Option (Pair × Side))
+    → IsTable port peer how a p last table all → IsPairAt (HasOne table) table.port segment found → IsPairAt (KnowsOne all) port segment found
+pair_same port peer how a p last table all segment None is none = subst (λ (n : ℕ). pairs_at n segment ≡ None) is.port_is none
+pair_same port peer how a p last table all segment (Some found) is at =
+    (at.0, subst (λ (n : ℕ). pairs_at n segment ≡ Some at.0) is.port_is at.1, by_pairs at.0 at.2)
   where
-    has : (q : Pair) → has_flow_of table.flows q ≡ has_one all q
-    has q = both_some how a p last (flow_of table q) (connection_of all q) (both_of port peer how a p last table all q is)
+    known : (q : Pair) → HasOne table q → KnowsOne all q
+    known q h = flow_has port peer how a p last table all q (λ one. Unit {0}) (λ flow. Unit {0}) is (λ flow one both so. tt) h
+
+    followed : (q : Pair) → KnowsOne all q → HasOne table q
+    followed q h = has_flow port peer how a p last table all q (λ one. Unit {0}) (λ flow. Unit {0}) is (λ flow one both so. tt) h
+
+    by_pairs : (pairs : Pair × Side × Option Pair) → IsAmong (HasOne table) pairs found → IsAmong (KnowsOne all) pairs found
+    by_pairs (pair, side, None) among = among
+    by_pairs (pair, side, Some other) among = elim among [
+      | inl second ↦ inl (second.0, (λ h. second.1 (followed pair h)), known other second.2)
+      | inr first ↦ inr (first.0, elim first.1 [ inl one ↦ inl (known pair one) | inr none ↦ inr (λ h. none (followed other h)) ])
+    ]
 
 pub deals_packet : (port : ℕ) (peer : Option IpAddr) (how : Way) (a p : Parameters) (last : ℕ) (segment : Segment) (capture : Capture) (missing : Option Shortfall)
     (old new : Table) (before after : Report) (all : Connections) → IsReport how a p before → last < capture.packet → capture.packet + 3 < 2 ^ 64
@@ -730,20 +734,23 @@ deals_packet port peer how a p last segment capture missing old new before after
 
     by_found : (found : Option (Pair × Side)) → LooksAt old segment found → TakesBy found segment capture missing old new before after
         → (next : Connections) × DealsPacket port peer a p segment (captured_of capture) missing all next before after × IsTable port peer how a p capture.packet new next
-    by_found None none passed = (
+    by_found None (r, pair_is, none) passed = (
       all,
-      not_looked (pair_in port all segment)
-          (subst (λ (x : Option IpAddr). IfSome (pair_in port all segment) (λ found. IsOfPeer x found.0 → ⊥)) is.peer_is
-          (subst (λ (r : Option (Pair × Side)). IfSome r (λ found. IsOfPeer old.peer found.0 → ⊥)) (pair_same port peer how a p last old all segment is) none))
-          passed.0 passed.2,
+      (
+        r,
+        pair_same port peer how a p last old all segment r is pair_is,
+        not_looked r (subst (λ (x : Option IpAddr). IfSome r (λ found. IsOfPeer x found.0 → ⊥)) is.peer_is none) passed.0 passed.2,
+      ),
       later port peer how a p last capture.packet old new all is (omega arith) few passed.1,
     )
     by_found (Some found) looks dealt =
         let on = deals_of port peer how a p last found.0 found.1 segment capture missing old new before after all report past few is dealt in (
           on.0,
-          subst (λ (r : Option (Pair × Side)). DealsBy peer r a p segment (captured_of capture) missing all on.0 before after)
-              (sym looks.0 ∙ pair_same port peer how a p last old all segment is)
-              (inl (subst (λ (x : Option IpAddr). IsOfPeer x found.0) is.peer_is looks.1, on.1)),
+          (
+            Some found,
+            pair_same port peer how a p last old all segment (Some found) is looks.0,
+            inl (subst (λ (x : Option IpAddr). IsOfPeer x found.0) is.peer_is looks.1, on.1),
+          ),
           on.2,
         )
 

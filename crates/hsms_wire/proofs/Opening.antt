@@ -172,5 +172,6 @@ begins_within a p start first one two three bare j few fewer stands timed opens 
         timed = it.1.timed;
         bare = empty;
         heard = new_stands how x y start (counting start [] it.0) j new none;
+        fit = tt;
       };
     }

@@ -44,7 +44,7 @@ use Rattle.hsms_wire.specs.Logged.{and_goes, and_logged, bare_resets, came_up, c
 use Rattle.hsms_wire.specs.Followed.{MayTellMore, TakesSegment, came_up_by, course_by_events, hears_event, is_up_event, logged_by, timed_by, times}
 use Rattle.hsms_wire.specs.Paged.{CountsIf, DownsIf, EndsOnPage, EntriesOn, FollowsOnPage, GoesDown, GoesOnPage, HappensOn, IsOpenIn, IsOver, LeavesOpen, LogsAll, LogsOn, LogsThem, MayBeTold, OnPage, Page, begun_behind, down_if, front_behind, page_of, with_entry, with_note}
 use Rattle.hsms_wire.proofs.Concluding.{over_front}
-use Rattle.hsms_wire.proofs.Connections.{bares, in_time_next, stands_next, timed_now, with_bare}
+use Rattle.hsms_wire.proofs.Connections.{bares, fits_next, in_time_next, not_much, stands_next, timed_now, with_bare}
 use Rattle.hsms_wire.proofs.Following.{NextOf}
 use Rattle.hsms_wire.proofs.Lasting.{lack_lasts}
 use Rattle.hsms_wire.proofs.Logging.{all_logged, came_up_more, came_up_same, came_up_timed, clock_same, course_of_entries, course_timed, entries_of, goes_on, logged_timed, or_assoc, record_same, stops_there, timed_logged}
@@ -457,6 +457,7 @@ follows_page course.Goes (taken.Goes next) pair s o first logs now left j old mi
       goes = b.course_is;
       up = b.up ∙ ap came_up_by (all_logged (hears_event most) (λ h. h.packet) (f.told ++ now) b.course_is);
       bare = b.bare;
+      fit = fits_next base [] before s f.fit (not_much o.connection s f.told base before takes.3 f.unended f.stands);
     } in
     subst (λ (l : Option Open). LogsOn j pair base before s l old new) (sym goes.0)
     (logs_on j pair base before s next f.told now course.Goes logs old mid new (Some (record { connection = next; logs = logs })) b b.on (goes.1, still))
@@ -507,7 +508,7 @@ pub page_more : (a : Parameters) (base : End → ℕ) (seen : List Seen) (o : Op
 unfolding MayTellMore
 page_more a base seen o numbered f =
     let now = told_at_once o.connection f.told base seen f.stands numbered in
-    (ap (course_by a.max) (sym now.0) ∙ sym (course_of_entries a.max f.told) ∙ f.goes, sym now.1 ∙ ap is_some f.unended)
+    (ap (course_by a.max) (sym now.0) ∙ sym (course_of_entries a.max f.told) ∙ f.goes, sym now.1 ∙ ap is_some f.unended, f.fit)
 
 -- ---- no segment follows
 

@@ -36,17 +36,18 @@ use Rattle.hsms_wire.specs.declared.within.Followed.TheVariants as followed
 use Rattle.hsms_wire.specs.declared.within.Within.{Within}
 use Rattle.hsms_wire.specs.Courses.{lack_behind}
 use Rattle.hsms_wire.specs.Way.{IsReport, Way, to_log, to_verdicts}
-use Rattle.hsms_wire.specs.Followed.{course_by_events}
+use Rattle.hsms_wire.specs.Followed.{AllFit, course_by_events}
 use Rattle.hsms_wire.specs.Items.{Item, ItemsOn, LogsItems}
 use Rattle.hsms_wire.specs.Joined.{HearsEach, JoinedStands, LogsMore, StandsBy, most_by, terms_by}
 use Rattle.hsms_wire.specs.Logged.{and_course, bare_if, is_replaced_by, lack_by}
 use Rattle.hsms_wire.specs.Paged.{OnPage, Page, page_of}
 use Rattle.hsms_wire.specs.Session.{EndsSession, FinishesAs, ReplacedAs, TellsItems, and_down, in_capture}
 use Rattle.hsms_wire.specs.Said.{nothing_spoken}
-use Rattle.hsms_wire.specs.Running.{Brought, EndsWithin, GoesWithin, Happens, IsWithin, LogsFurther, MayRunMore, TakesCut, TakesWithin, TellsForGood, and_down_if, counting, course_within, cut, ending_in, over_as, resets_of, session_base, session_seen}
+use Rattle.hsms_wire.specs.Running.{Brought, EndsWithin, GoesWithin, Happens, IsWithin, LogsFurther, MayRunMore, TakesCut, TakesWithin, TellsForGood, and_down_if, counting, course_within, cut, ending_in, over_as, resets_of, session_base, session_seen, opening_seen}
 use Rattle.hsms_wire.specs.Supposing.{Terms, asked, before_of, behind_front, counts_by, session_items, since, supposed_items, sure_log, whole_log}
 use Rattle.hsms_wire.proofs.Closing.{takes_logs, takes_same}
 use Rattle.hsms_wire.proofs.Lasting.{lack_lasts}
+use Rattle.hsms_wire.proofs.Connections.{fits_next, not_much}
 use Rattle.hsms_wire.proofs.Running.{counting_later, counting_more, counting_then, seen_more, stands_goes}
 use Rattle.hsms_wire.proofs.Sessions.{before_stays, is_sure, over_decided, over_items, report_stays, sure_then}
 use Rattle.hsms_wire.proofs.Supposing.{items_none}
@@ -198,9 +199,12 @@ never_over how a p start xs old new by stands over =
 pub within_more : (how : Way) (a p : Parameters) (start : Start) (gs : List Brought) (hs : List Happening) (w : Within) → AreNumbered 0 (session_seen w.active w.passive gs)
     → IsWithin how a p start gs hs w → MayRunMore (most_by how a) start w.active w.passive gs hs
 within_more how a p start gs hs w numbered is = (
-  stands_goes how a p start (counting start (resets_of gs) hs) w.joined is.heard,
-  sym (told_at_once w.connection hs (session_base w.active w.passive) (session_seen w.active w.passive gs) is.stands numbered).1
-      ∙ ap (λ (o : Option Ending). is_some o) is.unended,
+  (
+    stands_goes how a p start (counting start (resets_of gs) hs) w.joined is.heard,
+    sym (told_at_once w.connection hs (session_base w.active w.passive) (session_seen w.active w.passive gs) is.stands numbered).1
+        ∙ ap (λ (o : Option Ending). is_some o) is.unended,
+  ),
+  is.fit,
 )
 
 pub goes_within : (how : Way) (a p : Parameters) (pair : Pair) (start : Start) (gs : List Brought) (hs : List Happening) (g : Brought) (w : Within) (c : Connection)
@@ -223,6 +227,10 @@ goes_within how a p pair start gs hs g w c bare joined told old new it resets ta
         timed = took.timed;
         bare = resets ∙ ap (λ (ns : List ℕ). ns ++ bare_if (g.segment.reset && is_none g.segment.acknowledged) g.segment.packet) it.is.bare ∙ sym (resets_one gs g);
         heard = on.1;
+        fit =
+            subst (AllFit (session_base w.active w.passive) (opening_seen w.active w.passive)) (sym (map-append (cut w.active w.passive) gs (g ∷ [])))
+            (fits_next (session_base w.active w.passive) (opening_seen w.active w.passive) (map (cut w.active w.passive) gs) (cut w.active w.passive g) it.is.fit
+            (not_much w.connection (cut w.active w.passive g) hs (session_base w.active w.passive) (session_seen w.active w.passive gs) takes.3 it.is.unended it.is.stands));
       },
       further how a p pair (sure_log t (counting start (resets_of gs) hs)) (sure_log t (counting start (resets_of (gs ++ g ∷ [])) (hs ++ told))) w.joined joined old new it.report on.0,
     )

@@ -175,6 +175,7 @@ page_begun most x y c logs open_still stands timed down bare = record {
   goes = refl;
   up = down;
   bare = bare;
+  fit = tt;
 }
 
 pub page_begins : {E : Type 0} (result : Result (Option Open) E) (pair : Pair) (x y : ℕ) (ss : List Seen) (s : Seen) (first o : Open) (kept : Option Open) (old mid new : Report)

@@ -23,10 +23,10 @@ use Rattle.hsms_wire.specs.declared.table.Table.{Table}
 use Rattle.hsms_wire.specs.declared.within.Within.{Within}
 use Rattle.hsms_wire.specs.Connections.{Connection, Connections, Packets, Session, connection_of, gathered, of_session, of_syn, without}
 use Rattle.hsms_wire.specs.Way.{IsReport, Way, to_log, to_verdicts}
-use Rattle.hsms_wire.specs.Kept.{AreSame, IsFollowedAs, IsOne, IsTable, RiseUpTo, StageStands, captured_of}
+use Rattle.hsms_wire.specs.Kept.{AreSame, IsFollowedAs, IsOne, IsTable, RiseUpTo, StageStands}
 use Rattle.hsms_wire.specs.Paged.{StageIn}
 use Rattle.hsms_wire.specs.Refused.{EndsRefused, InLog, TakesRefused}
-use Rattle.hsms_wire.specs.RefusedFile.{DealsByRefused, DealsRefused, EndRefused, EndsAsRefused, KeptEndRefused, KeptRefused, LastRefused, MoreRefused, NextRefused, RunningEndRefused, StartRefused, TakesAsRefused}
+use Rattle.hsms_wire.specs.RefusedFile.{DealsRefused, EndRefused, EndsAsRefused, KeptEndRefused, KeptRefused, LastRefused, MoreRefused, NextRefused, RunningEndRefused, StartRefused, TakesAsRefused}
 use Rattle.hsms_wire.specs.RefusedSession.{EndGatheredRefused, EndsJoinedRefused, GatherRefused, IsRefusedWith, PacketRefused, SessionRefused, TakesJoinedRefused, WithinEndRefused}
 use Rattle.hsms_wire.specs.Joined.{most_by, terms_by}
 use Rattle.hsms_wire.specs.Joining.{brought}
@@ -354,13 +354,15 @@ packet_refused : (pair : Pair) (from : Side) (segment : Segment) (capture : Capt
 packet_refused pair from segment capture table st before after looks stops takes refused port peer to_verdicts a p last all report past few is =
     absurd (never_in_verdicts a p before st report stops refused)
 packet_refused pair from segment capture table st before after looks stops takes refused port peer (to_log settings side) a p last all report past few is =
-    let on = takes refused in
-    subst (λ (r : Option (Pair × Side)). DealsByRefused peer r a p segment (captured_of capture) all st before after)
-    (sym looks.0 ∙ pair_same port peer (to_log settings side) a p last table all segment is) (
-      subst (λ (x : Option IpAddr). IsOfPeer x pair) is.peer_is looks.1,
-      on.0,
-      on.1,
-      deals_refused port peer settings side a p last pair from segment (brought_by from segment capture on.0) table all st before after refused report past few is on.2,
+    let on = takes refused in (
+      Some (pair, from),
+      pair_same port peer (to_log settings side) a p last table all segment (Some (pair, from)) is looks.0,
+      (
+        subst (λ (x : Option IpAddr). IsOfPeer x pair) is.peer_is looks.1,
+        on.0,
+        on.1,
+        deals_refused port peer settings side a p last pair from segment (brought_by from segment capture on.0) table all st before after refused report past few is on.2,
+      ),
     )
 
 pub packets_refused : {T : Type 0} (result : Result T Stop) (pair : Pair) (from : Side) (segment : Segment) (capture : Capture) (table : Table) (before after : Report)

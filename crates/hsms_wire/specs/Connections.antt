@@ -1,7 +1,6 @@
 -- The connections of a capture by their packets: which packets are those of each, and what is told of it.
 use Rattle.std.specs.Prelude.{◌≡◌, ◌↔◌, ◌⊎◌, ◌≤◌, ◌<◌, ◌+◌, ◌-◌, ◌^◌, ◌++◌, ◌∷◌, min, ℕ, Bool, true, false, List, [], length, map, Option, Some, None, is_some}
 use Rattle.std.specs.Map.{lookup, remove_entry, set_value}
-use Rattle.std.specs.Option.{option_map}
 use Rattle.std.specs.declared.net.ip_addr.IpAddr.{IpAddr}
 use Rattle.hsms_machine.specs.Settings.{Parameters}
 use Rattle.hsms_packets.specs.declared.segment.Segment.{Segment}
@@ -15,7 +14,7 @@ use Rattle.hsms_joined.specs.declared.gathering.Beginnings.{Beginnings}
 use Rattle.hsms_joined.specs.declared.start.Start.{Start}
 use Rattle.hsms_joined.specs.Gathering.{AreBeginnings, AreSilent, AreSure, AreUnsure, Gathers, IsDue}
 use Rattle.hsms_joined.specs.Joining.{IsStart}
-use Rattle.hsms_accounts.specs.Pair.{IsOfPeer, has_syn, pairs_at, turned}
+use Rattle.hsms_accounts.specs.Pair.{IsOfPeer, has_syn, turned}
 use Rattle.hsms_accounts.specs.declared.journal.Journal.{Journal}
 use Rattle.hsms_accounts.specs.declared.pair.Pair.{Pair}
 use Rattle.hsms_accounts.specs.contracts.pair.PairPartialEq.TheImpl as same_pair
@@ -24,7 +23,7 @@ use Rattle.hsms_wire.specs.declared.report.Manner.TheVariants.{Log, Verdicts}
 use Rattle.hsms_wire.specs.declared.report.Report.{Report}
 use Rattle.hsms_wire.specs.declared.shortfall.Shortfall.{Shortfall}
 use Rattle.hsms_wire.specs.declared.shortfall.Shortfall.TheVariants.{Time}
-use Rattle.hsms_wire.specs.Segments.{has_rst, pair_among, syn_by, taken_segment}
+use Rattle.hsms_wire.specs.Segments.{IsPairAt, has_rst, syn_by, taken_segment}
 use Rattle.hsms_wire.specs.Followed.{MayTellMore}
 use Rattle.hsms_wire.specs.Joined.{most_by}
 use Rattle.hsms_wire.specs.Joining.{EndsFrom, IsLast, IsOverFrom, brought}
@@ -85,6 +84,9 @@ connection_of all pair = lookup ((same_pair.ghosts).eq pair) all.known
 abbrev pub Has : Connections → Pair → (Connection → Type 0) → Type 0
 Has all pair IsSo = (one : Connection) × (connection_of all pair ≡ Some one) × (IsGone one all.begun → ⊥) × IsSo one
 
+abbrev pub HasOne : Connections → Pair → Type 0
+HasOne all pair = Has all pair (λ one. Unit {0})
+
 -- ---- one begins
 
 -- with a segment that tells the number of its SYN, where the pair's isn't the one with this number; or with one that is neither
@@ -92,7 +94,7 @@ Has all pair IsSo = (one : Connection) × (connection_of all pair ≡ Some one) 
 abbrev pub Starts : Connections → Pair → Side → Segment → Option ℕ → Type 0
 Starts all pair from segment (Some number) = (syn_by from segment ≡ Some number) × (Has all pair (λ one. one.syn ≡ Some number) → ⊥)
 Starts all pair from segment None =
-    (all.joined ≡ true) × (has_syn segment ≡ false) × (has_rst segment ≡ false) × (Has all pair (λ one. Unit {0}) → ⊥)
+    (all.joined ≡ true) × (has_syn segment ≡ false) × (has_rst segment ≡ false) × (HasOne all pair → ⊥)
 
 abbrev pub no_packets : Option ℕ → Packets
 no_packets (Some number) = of_syn number []
@@ -266,23 +268,17 @@ DealsOf a p pair from segment captured missing old new before after =
     × (StartsAny old pair from segment ⊎ IsOpen old pair))
     ⊎ ((missing ≡ None) × (new ≡ old) × (after ≡ before) × (StartsAny old pair from segment → ⊥) × (IsOpen old pair → ⊥))
 
--- of which pair it is, and which end sent it: by its ports, and where both are the port, by which pair has a connection
-abbrev pub has_one : Connections → Pair → Bool
-has_one all pair = is_some (connection_of all pair)
-
-abbrev pub pair_in : ℕ → Connections → Segment → Option (Pair × Side)
-pair_in port all segment = option_map (pair_among (has_one all)) (pairs_at port segment)
-
 abbrev pub DealsBy : Option IpAddr → Option (Pair × Side) → Parameters → Parameters → Segment → Captured → Option Shortfall → Connections → Connections → Report → Report → Type 0
 DealsBy peer None a p segment captured missing old new before after = (missing ≡ None) × (new ≡ old) × (after ≡ before)
 DealsBy peer (Some found) a p segment captured missing old new before after =
     (IsOfPeer peer found.0 × DealsOf a p found.0 found.1 segment captured missing old new before after)
     ⊎ ((IsOfPeer peer found.0 → ⊥) × (missing ≡ None) × (new ≡ old) × (after ≡ before))
 
--- a packet, where the passive ends have this port, and one end has this address, where one is asked for
+-- a packet, where the passive ends have this port, and one end has this address, where one is asked for: of which pair it is,
+-- and which end sent it, say its ports, and where both are the port, which pair has a connection
 abbrev pub DealsPacket : ℕ → Option IpAddr → Parameters → Parameters → Segment → Captured → Option Shortfall → Connections → Connections → Report → Report → Type 0
 DealsPacket port peer a p segment captured missing old new before after =
-    DealsBy peer (pair_in port old segment) a p segment captured missing old new before after
+    (found : Option (Pair × Side)) × IsPairAt (HasOne old) port segment found × DealsBy peer found a p segment captured missing old new before after
 
 -- ---- no packet follows
 

@@ -17,7 +17,7 @@ use Rattle.hsms_capture.specs.Finished.{is_known}
 use Rattle.hsms_capture.specs.Known.{bases, seen_of}
 use Rattle.hsms_capture.specs.Laws.{AreNumbered}
 use Rattle.hsms_capture.specs.Standing.{Stands, TakesOn}
-use Rattle.hsms_capture.specs.Stopping.{EndsPast, IsFar}
+use Rattle.hsms_capture.specs.Stopping.{EndsPast, GoesBy, IsFar}
 use Rattle.hsms_capture.specs.Told.{tells}
 use Rattle.hsms_capture.specs.Time.{IsInTime, TakesInTime}
 use Rattle.hsms_accounts.specs.Account.{HasLogged, Note}
@@ -167,8 +167,13 @@ DownBy true old new = (new.is_up ≡ old.is_up) × Replaces old.ends new.ends
 abbrev pub IsTooMuch : (End → ℕ) → List Seen → Seen → Type 0
 IsTooMuch base before s = IsFar (places base [] before) ⊎ EndsPast base (places base [] before) s
 
+-- behind some segments these are taken one after another, and with none of them too much waits
+abbrev pub AllFit : (End → ℕ) → List Seen → List Seen → Type 0
+AllFit base before [] = Unit {0}
+AllFit base before (s ∷ ss) = (IsTooMuch base before s → ⊥) × AllFit base (before ++ s ∷ []) ss
+
 abbrev pub TakesSegment : Connection → Seen → List Happening → List Happening → Taken → Type 0
-TakesSegment c s told later (taken.Goes next) = (next.ending ≡ None) × TakesOn c s told next later × TakesInTime c s told next later
+TakesSegment c s told later (taken.Goes next) = (next.ending ≡ None) × TakesOn c s told next later × TakesInTime c s told next later × GoesBy c told s
 TakesSegment c s told later (taken.Ends lack) =
     ((next : Connection) × (ending : Ending) × (next.ending ≡ Some ending) × (lack ≡ lack_behind ending None)
     × TakesOn c s told next later × TakesInTime c s told next later)
@@ -191,11 +196,13 @@ pub record IsFollowed (a p : Parameters) (base : End → ℕ) (seen : List Seen)
   pub up : o.logs.is_up ≡ came_up_by told
   pub bare : o.logs.bare_resets.items ≡ bare_resets seen
   pub ends : EndsHave a p told o.logs.ends
+  pub fit : AllFit base [] seen
 
--- Behind these segments more may be told of it, whatever was told, and it isn't known how that ends.
+-- Behind these segments more may be told of it, whatever was told, and it isn't known how that ends; and with none of them too
+-- much waits.
 unfoldable pub MayTellMore : Parameters → (End → ℕ) → List Seen → Type 0
 MayTellMore a base seen =
-    (course_by a.max (tells (places base [] seen)) ≡ course.Goes) × (is_known (places base [] seen) ≡ false)
+    (course_by a.max (tells (places base [] seen)) ≡ course.Goes) × (is_known (places base [] seen) ≡ false) × AllFit base [] seen
 
 -- it is given up with a segment, with which too much would wait: both logs end with what is told of those before it
 abbrev pub GivesUp : Parameters → Parameters → Pair → (End → ℕ) → List Seen → Seen → Report → Report → Type 0

@@ -31,7 +31,7 @@ use Rattle.hsms_wire.specs.declared.report.Report.{Report}
 use Rattle.hsms_wire.specs.declared.shortfall.Shortfall.{Shortfall}
 use Rattle.hsms_wire.specs.Courses.{lack_behind}
 use Rattle.hsms_wire.specs.Logged.{EntryIs, bare_resets, came_up, clock_of, course_by, entries_logged, lack_by}
-use Rattle.hsms_wire.specs.Followed.{came_up_by, course_by_events, logged_by, seen_waiting, times}
+use Rattle.hsms_wire.specs.Followed.{AllFit, came_up_by, course_by_events, logged_by, seen_waiting, times}
 use Rattle.hsms_wire.specs.Staged.{StageAs, answered_by, first_shown}
 
 -- what it has so far: the connection that came up last, the time of the last entry, and its text that isn't written yet
@@ -145,6 +145,7 @@ pub record IsOpenIn (most : ℕ) (base : End → ℕ) (seen : List Seen) (o : Op
   pub goes : course_by_events most told ≡ course.Goes
   pub up : o.logs.is_up ≡ came_up_by told
   pub bare : o.logs.bare_resets.items ≡ bare_resets seen
+  pub fit : AllFit base [] seen
 
 -- it goes on, or it is over, and lacks nothing
 abbrev pub GoesOnPage : Logs → Course → Taken → Option Open → Report → Report → Type 0

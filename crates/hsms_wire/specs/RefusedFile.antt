@@ -27,7 +27,7 @@ use Rattle.hsms_wire.specs.declared.report.Report.{Report}
 use Rattle.hsms_wire.specs.declared.shortfall.Shortfall.{Shortfall}
 use Rattle.hsms_wire.specs.declared.table.Capture.{Capture}
 use Rattle.hsms_wire.specs.declared.table.Table.{Table}
-use Rattle.hsms_wire.specs.Connections.{BeginsBoth, Captured, Connection, Connections, EndsAll, IsOpen, IsReplaced, Starts, StartsAny, StartsOne, Packets, Session, brought_at, connection_of, gathered, of_session, of_syn, pair_in, without}
+use Rattle.hsms_wire.specs.Connections.{BeginsBoth, Captured, Connection, Connections, EndsAll, HasOne, IsOpen, IsReplaced, Starts, StartsAny, StartsOne, Packets, Session, brought_at, connection_of, gathered, of_session, of_syn, without}
 use Rattle.hsms_wire.specs.Dealt.{CapturesFile, DealsEach, DealsUpTo, IsBlank, Wanted, none_yet}
 use Rattle.hsms_wire.specs.Way.{IsReport, Way, to_log, to_verdicts}
 use Rattle.hsms_wire.specs.Kept.{ConcludesAsDealt, FinishesAsDealt, IsReportOf, IsTable, IsTableOf, captured_of}
@@ -38,7 +38,7 @@ use Rattle.hsms_wire.specs.Joining.{brought}
 use Rattle.hsms_wire.specs.RefusedSession.{IsRefusedWith, SessionRefused, ThroughRefused}
 use Rattle.hsms_wire.specs.Running.{Brought, Happens, counting, lack_within, logged_so_far, resets_of, seen_brought}
 use Rattle.hsms_wire.specs.Supposing.{whole_log}
-use Rattle.hsms_wire.specs.Segments.{body_in}
+use Rattle.hsms_wire.specs.Segments.{IsPairAt, body_in}
 use Rattle.hsms_wire.specs.Staged.{answered_by}
 use Rattle.hsms_wire.specs.Stop.{IsRefusal, IsRefused, TellsStop}
 use Rattle.hsms_wire.specs.Tabled.{HasTime}
@@ -123,7 +123,8 @@ DealsByRefused peer (Some found) a p segment captured all st before after =
     × DealsRefused a p found.0 found.1 segment (brought_at found.1 segment captured time) all st before after
 
 abbrev pub DealsPacketRefused : ℕ → Option IpAddr → Parameters → Parameters → Segment → Captured → Connections → Stop → Report → Report → Type 0
-DealsPacketRefused port peer a p segment captured all st before after = DealsByRefused peer (pair_in port all segment) a p segment captured all st before after
+DealsPacketRefused port peer a p segment captured all st before after =
+    (found : Option (Pair × Side)) × IsPairAt (HasOne all) port segment found × DealsByRefused peer found a p segment captured all st before after
 
 -- no packet follows: the first one that lacks something
 abbrev pub EndsAllRefused : Parameters → Parameters → Option Shortfall → List (Pair × Connection) → Stop → Report → Report → Type 0

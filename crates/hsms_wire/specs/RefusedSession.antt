@@ -35,7 +35,7 @@ use Rattle.hsms_wire.specs.Logged.{is_there}
 use Rattle.hsms_wire.specs.Refused.{InLog, RefusesFor}
 use Rattle.hsms_wire.specs.Said.{nothing_spoken, spoken_to}
 use Rattle.hsms_wire.specs.Supposing.{Before, before_of, looked_at, said_by, session_items, since, sure_log, whole_log}
-use Rattle.hsms_wire.specs.Running.{Brought, Happens, IsWithin, MayRunMore, counting, cut, lack_within, logged_so_far, resets_of, session_base, session_seen}
+use Rattle.hsms_wire.specs.Running.{Brought, Happens, IsWithin, MayHappenMore, MayRunMore, counting, cut, lack_within, logged_so_far, resets_of, session_base, session_seen}
 use Rattle.hsms_wire.specs.Joining.{BeginsSo, IsLast, brought}
 use Rattle.hsms_wire.specs.Report.{session_of}
 use Rattle.hsms_wire.specs.Way.{IsReport, Way}
@@ -153,7 +153,7 @@ pub record GivesUpRefused (how : Way) (a p : Parameters) (pair : Pair) (start : 
 abbrev pub ToldRefused : Way → Parameters → Parameters → Pair → Start → ℕ → ℕ → List Brought → List Happening → List Item → Stop → Journal → Report → Report → Type 0
 ToldRefused how a p pair start active passive gs hs had st j old new =
     LogRefused pair start had (logged_so_far how a start gs hs) st j old new
-    ⊎ ((MayRunMore (most_by how a) start active passive gs hs → ⊥)
+    ⊎ ((MayHappenMore (most_by how a) start active passive gs hs → ⊥)
     × SessionRefused pair start had (whole_log (terms_by how a start) (counting start (resets_of gs) hs)) (lack_within (most_by how a) start active passive gs hs None) st j old new)
 
 -- or by what is told with it

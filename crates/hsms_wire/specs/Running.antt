@@ -14,6 +14,7 @@ use Rattle.hsms_capture.specs.Finished.{ended, is_known}
 use Rattle.hsms_capture.specs.Known.{bases, seen_of}
 use Rattle.hsms_capture.specs.Laws.{AreNumbered}
 use Rattle.hsms_capture.specs.Standing.{Stands, TakesOn}
+use Rattle.hsms_capture.specs.Stopping.{GoesBy}
 use Rattle.hsms_capture.specs.Telling.{entry_as}
 use Rattle.hsms_capture.specs.Time.{AreTimed, IsInTime, TakesInTime, time_at}
 use Rattle.hsms_capture.specs.Told.{tells}
@@ -33,7 +34,7 @@ use Rattle.hsms_wire.specs.declared.within.Followed.TheVariants as followed
 use Rattle.hsms_wire.specs.declared.within.Within.{Within}
 use Rattle.hsms_wire.specs.Courses.{lack_behind}
 use Rattle.hsms_wire.specs.Way.{IsReport, Way, to_log, to_verdicts}
-use Rattle.hsms_wire.specs.Followed.{IsTooMuch, course_by_events}
+use Rattle.hsms_wire.specs.Followed.{AllFit, IsTooMuch, course_by_events}
 use Rattle.hsms_wire.specs.Items.{Item, LogsItems}
 use Rattle.hsms_wire.specs.Joined.{JoinedStands, most_by, terms_by}
 use Rattle.hsms_wire.specs.Logged.{bare_if, is_replaced_by, lack_by}
@@ -96,7 +97,7 @@ ending_in (ending.Differs packet) = ending.Differs (packet - uncaptured)
 -- The connection takes that part of a packet: more may follow, or it is known how it ends, and what it lacks then, or too
 -- much would wait with it.
 abbrev pub TakesCut : Connection → Seen → ℕ → List Happening → List Happening → Followed → Type 0
-TakesCut c s packet told later (followed.Goes next) = (next.ending ≡ None) × TakesOn c s told next later × TakesInTime c s told next later
+TakesCut c s packet told later (followed.Goes next) = (next.ending ≡ None) × TakesOn c s told next later × TakesInTime c s told next later × GoesBy c told s
 TakesCut c s packet told later (followed.Ends lack) =
     ((next : Connection) × (e : Ending) × (next.ending ≡ Some e) × (lack ≡ lack_behind (ending_in e) None)
     × TakesOn c s told next later × TakesInTime c s told next later)
@@ -153,6 +154,7 @@ pub record IsWithin (how : Way) (a p : Parameters) (start : Start) (gs : List Br
   pub timed : IsInTime w.connection hs (session_base w.active w.passive) (session_seen w.active w.passive gs)
   pub bare : w.bare_resets.items ≡ resets_of gs
   pub heard : JoinedStands how a p start (counting start (resets_of gs) hs) w.joined
+  pub fit : AllFit (session_base w.active w.passive) (opening_seen w.active w.passive) (map (cut w.active w.passive) gs)
 
 -- nothing has happened that counts
 pub record BeginsWithin (active passive : ℕ) (start : Start) (w : Within) : Type 0 where
@@ -173,9 +175,14 @@ LogsFurther (to_log settings side) pair had has old new =
     (more : List Item) × (has ≡ had ++ more) × ((j : Journal) → old.manner ≡ Log j → LogsItems pair course.Goes more j old new)
 
 -- more may be told of it, and it isn't known how that ends
+abbrev pub MayHappenMore : ℕ → Start → ℕ → ℕ → List Brought → List Happening → Type 0
+MayHappenMore most start active passive gs hs =
+    (course_within most start gs hs ≡ course.Goes) × (is_known (places (session_base active passive) [] (session_seen active passive gs)) ≡ false)
+
+-- so it is followed, as long as too much waits with none of its packets
 abbrev pub MayRunMore : ℕ → Start → ℕ → ℕ → List Brought → List Happening → Type 0
 MayRunMore most start active passive gs hs =
-    (course_within most start gs hs ≡ course.Goes) × (is_known (places (session_base active passive) [] (session_seen active passive gs)) ≡ false)
+    MayHappenMore most start active passive gs hs × AllFit (session_base active passive) (opening_seen active passive) (map (cut active passive) gs)
 
 -- it is given up with a packet, with which too much would wait: what is told is that of the packets before it
 pub record GivesUpWithin (how : Way) (a p : Parameters) (pair : Pair) (start : Start) (active passive : ℕ) (gs : List Brought) (hs : List Happening) (g : Brought) (had : List Item) (old new : Report) : Type 0 where

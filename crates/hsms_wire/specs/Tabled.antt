@@ -19,7 +19,7 @@ use Rattle.hsms_wire.specs.Joining.{EndsJoined, TakesJoined}
 use Rattle.hsms_wire.specs.Paged.{EndsStageOnPage, TakesOnPage}
 use Rattle.hsms_wire.specs.Report.{Tells}
 use Rattle.hsms_wire.specs.Running.{Brought, seen_brought}
-use Rattle.hsms_wire.specs.Segments.{has_rst, pair_at, syn_by, taken_segment}
+use Rattle.hsms_wire.specs.Segments.{IsPairAt, has_rst, syn_by, taken_segment}
 use Rattle.hsms_wire.specs.Staged.{EndsStage, IsBegun, IsForgotten, TakesStage}
 
 abbrev pub flow_of : Table → Pair → Option Flow
@@ -28,6 +28,9 @@ flow_of table pair = get (same_pair.ghosts).eq table.flows pair
 -- the pair has a connection that is so, and isn't forgotten
 abbrev pub HasFlow : Table → Pair → (Flow → Type 0) → Type 0
 HasFlow table pair IsSo = (flow : Flow) × (flow_of table pair ≡ Some flow) × (IsForgotten flow table.begun → ⊥) × IsSo flow
+
+abbrev pub HasOne : Table → Pair → Type 0
+HasOne table pair = HasFlow table pair (λ flow. Unit {0})
 
 -- more may be told of it
 abbrev pub is_live : Stage → Bool
@@ -40,7 +43,7 @@ is_live stage.Over = false
 -- a segment is the first of a session that was running before the capture: neither a SYN nor a reset, of a pair without a
 -- connection
 abbrev pub Joins : Table → Pair → Segment → Type 0
-Joins table pair segment = (table.is_joined ≡ true) × (has_syn segment ≡ false) × (has_rst segment ≡ false) × (HasFlow table pair (λ flow. Unit {0}) → ⊥)
+Joins table pair segment = (table.is_joined ≡ true) × (has_syn segment ≡ false) × (has_rst segment ≡ false) × (HasOne table pair → ⊥)
 
 -- The connection of a pair takes a packet, if the pair has one, and no other one changes.
 abbrev pub FollowsBy : Option Flow → Pair → Brought → Table → Table → Report → Report → Type 0
@@ -139,8 +142,9 @@ TakesOf pair from segment capture missing old new before after =
 
 -- whether a segment is looked at, of which pair and end it is by its ports and by which connections are known
 abbrev pub LooksAt : Table → Segment → Option (Pair × Side) → Type 0
-LooksAt table segment (Some found) = (pair_at table.port table.flows segment ≡ Some found) × IsOfPeer table.peer found.0
-LooksAt table segment None = IfSome (pair_at table.port table.flows segment) (λ found. IsOfPeer table.peer found.0 → ⊥)
+LooksAt table segment (Some found) = IsPairAt (HasOne table) table.port segment (Some found) × IsOfPeer table.peer found.0
+LooksAt table segment None =
+    (found : Option (Pair × Side)) × IsPairAt (HasOne table) table.port segment found × IfSome found (λ one. IsOfPeer table.peer one.0 → ⊥)
 
 abbrev pub TakesBy : Option (Pair × Side) → Segment → Capture → Option Shortfall → Table → Table → Report → Report → Type 0
 TakesBy None segment capture missing old new before after = (missing ≡ None) × (new ≡ old) × (after ≡ before)

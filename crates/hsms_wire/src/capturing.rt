@@ -32,8 +32,8 @@ const MOST_STEPS: u64 = u64::MAX - 3;
 /// one is the first; or, where the options say so, it writes the log of one end, line by line. It says whether each log
 /// passes.
 ///
-/// Of the capture no more is held than a packet, what connections that are open wait for, and 4,096 others; and of what
-/// is told, that which is told with one packet.
+/// Of the capture no more is held than a packet, what connections that are open wait for, and at most 8,192 connections
+/// of which nothing is left to be told; and of what is told, that which is told with one packet.
 ///
 /// # Errors
 ///

@@ -68,8 +68,8 @@ pub struct Open {
 
 /// What was logged of a connection.
 struct Logs {
-    /// The logs of its ends, where they are audited and it came up. They stand apart, since a connection is moved with each
-    /// packet.
+    /// The logs of its ends, where they are audited and it came up. They stand in a box, since a connection is moved
+    /// with each packet.
     ends: Option<Box<Ends>>,
     is_up: bool,
     /// The numbers of its packets that reset it and acknowledge nothing.
@@ -260,7 +260,7 @@ impl Logs {
         }
     }
 
-    // Notes that it comes up.
+    // What happens at its time in the logs, which a `down` of a bare reset doesn't have. Notes that it comes up.
     fn timed(&mut self, happening: Happening) -> Happening
         ensures timed { result ≡ timed_by self.old.bare_resets.items happening }
         ensures same { self.new ≡ record self.old { is_up = self.old.is_up || is_up_event happening.event } }

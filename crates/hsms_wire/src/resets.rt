@@ -18,8 +18,8 @@ pub fn note_reset(bare_resets: &mut Vec<u64>, segment: &Segment) -> Result<(), A
     Ok(())
 }
 
-/// When something happens: a connection that such a packet ends goes down at the time of the entry before, for which 0
-/// stands.
+/// When something happens, in milliseconds: 0 where such a packet ends the connection. No entry is earlier than the one
+/// before it, so it goes down at that one's time.
 pub fn time_of(bare_resets: &[u64], happening: &Happening) -> u64
     ensures { result ≡ time_by happening.now.event (is_among bare_resets.now happening.now.packet) happening.now.time }
 {

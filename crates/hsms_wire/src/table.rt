@@ -64,9 +64,9 @@ impl Table {
     ghost use Rattle.hsms_wire.specs.RefusedTable.{FollowsFlowRefused, ReplacesRefused, StartsRefused, TakesOfRefused};
     ghost use Rattle.hsms_wire.specs.Stop.{IsRefused};
     ghost use Rattle.hsms_wire.specs.Report.{StopsUnrefused, Tells};
-    ghost use Rattle.hsms_wire.specs.Segments.{pair_at};
+    ghost use Rattle.hsms_wire.specs.Segments.{IsPairAt};
     ghost use Rattle.hsms_wire.specs.Staged.{IsForgotten};
-    ghost use Rattle.hsms_wire.specs.Tabled.{BeginsFlow, BeginsWith, EndsFlows, FollowsFlow, HasFlow, Joins, KeepsOf, ReplacesFlow, TakesOf, TakesPacket, is_live};
+    ghost use Rattle.hsms_wire.specs.Tabled.{BeginsFlow, BeginsWith, EndsFlows, FollowsFlow, HasFlow, HasOne, Joins, LooksAt, KeepsOf, ReplacesFlow, TakesOf, TakesPacket, is_live};
 
     /// No connection, at this port of passive ends, with an end of this address, where there is one; those that were
     /// running before the capture are looked at or not.
@@ -170,10 +170,7 @@ impl Table {
 
     // The pair of a segment, and the end that sent it, if it is one that is looked at.
     fn pair_of(&self, segment: &packets::Segment) -> Option<(Pair, Side)>
-        ensures peer { IfSome result (λ found. IsOfPeer self.now.peer found.0) }
-        ensures pair { IfSome result (λ found. pair_at self.now.port self.now.flows segment.now ≡ Some found) }
-        ensures none { IfNone result (IfSome (pair_at self.now.port self.now.flows segment.now)
-            (λ found. IsOfPeer self.now.peer found.0 → ⊥)) }
+        ensures looks { LooksAt self.now segment.now result }
     {
         let (pair, side) = self.pair_at_port(segment)?;
         if pair.is_of(&self.peer) {
@@ -185,18 +182,25 @@ impl Table {
 
     // The same, if it is one of the port.
     fn pair_at_port(&self, segment: &packets::Segment) -> Option<(Pair, Side)>
-        ensures { result ≡ pair_at self.now.port self.now.flows segment.now }
+        ensures { IsPairAt (HasOne self.now) self.now.port segment.now result }
     {
         match pairs_of(segment, self.port)? {
             (pair, side, None) => Some((pair, side)),
             (pair, side, Some(other)) => {
-                if self.flows.contains_key(&pair) || !self.flows.contains_key(&other) {
+                if self.has_one(&pair) || !self.has_one(&other) {
                     Some((pair, side))
                 } else {
                     Some((other, Side::Passive))
                 }
             }
         }
+    }
+
+    // Whether a pair has a connection.
+    fn has_one(&self, pair: &Pair) -> bool
+        ensures { IsTrue result ↔ HasOne self.now pair.now }
+    {
+        self.flow(pair).is_some()
     }
 
     // Whether the connection of a pair has this number of its SYN.
@@ -226,7 +230,7 @@ impl Table {
         ensures { IsTrue result ↔ Joins self.now pair.now segment.now }
     {
         let begins = !is_set(segment, SYN) && !is_set(segment, RST);
-        self.is_joined && begins && self.flow(pair).is_none()
+        self.is_joined && begins && !self.has_one(pair)
     }
 
     // Whether more may be told of the connection of a pair.
@@ -242,7 +246,7 @@ impl Table {
     // The connection of a pair, where it isn't forgotten.
     fn flow(&self, pair: &Pair) -> Option<&Flow>
         ensures there { IfSome result (λ flow. HasFlow self.now pair.now (λ it. it ≡ flow.now)) }
-        ensures none { IfNone result (HasFlow self.now pair.now (λ flow. Unit {0}) → ⊥) }
+        ensures none { IfNone result (HasOne self.now pair.now → ⊥) }
     {
         let flow = self.flows.get(pair)?;
         if is_forgotten(flow, self.begun) {

@@ -194,6 +194,7 @@ fn joined<V: Value + Drop>(alloc: Global, values: &[V]) -> Result<Vec<u8>, Alloc
     ensures octets { IfOk result (λ octets. octets.items ≡ flat_map V.octets_of values.now) }
     ensures in_range { AllByRecursion V.fits values.now }
 {
+    // (for its clause `in_range` alone)
     let _ = fits(values);
     let mut octets = Vec::new(alloc);
     for value in values {

@@ -14,12 +14,12 @@ use crate::part::read_part;
 /// How deep lists may be nested at most.
 pub const MAX_DEPTH: usize = 100;
 
-/// How deep they may be nested in most sessions. So few counts are cleared in line.
+/// How deep they may be nested in most sessions: an array of so few counts is cleared without a call.
 const USUAL_DEPTH: usize = 32;
 
 /// The place after the `count` elements of a list. Its body begins at `place`, and where its header stands lists may be
-/// nested `depth` deep. `counts` has, for each list around the innermost one, how many elements are still to come, at the
-/// place of how deep lists may be nested in it.
+/// nested `depth` deep. `counts[d]` says how many elements are still to come of that list around the innermost one in
+/// which lists may be nested `d` deep.
 fn end_of_elements<const N: usize>(
     octets: &[u8],
     place: usize,

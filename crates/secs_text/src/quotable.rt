@@ -17,8 +17,7 @@ fn others(octets: u8x16) -> u64
     (unprintable | octets.simd_eq(u8x16::splat(b'"'))).to_bitmask()
 }
 
-/// How many octets up to the last that may stand between quotes there are, if those before this place may: octets are
-/// looked at one by one.
+/// Where the octets end that may stand between quotes, from this place on: octets are looked at one by one.
 fn end_of_few(octets: &[u8], from: usize) -> usize
     requires { from ≤ length octets.now }
     ensures { result ≡ from + prefix_len is_quotable (drop from octets.now) }

@@ -3,6 +3,7 @@ use Rattle.hsms_capture.specs.declared.packet.Segment.{Segment}
 use Rattle.hsms_capture.specs.declared.ending.Ending.{Ending}
 use Rattle.hsms_capture.specs.Known.{seen_of}
 use Rattle.hsms_capture.specs.Standing.{TakesOn}
+use Rattle.hsms_capture.specs.Stopping.{GoesBy}
 use Rattle.hsms_capture.specs.Time.{TakesInTime}
 use Rattle.hsms_capture.specs.Wire.{Seen}
 use Rattle.hsms_joined.specs.Joining.{segment_by}
@@ -26,6 +27,7 @@ returns-in-None-clause-takes c =
       sym c.ending.ensures ∙ c.in-None.is,
       subst (λ (s : Seen). TakesOn c.args.connection s c.args.told.now.items c.in-Ok.connection c.take.new.told.items) cut c.in-Ok.ensures.told,
       subst (λ (s : Seen). TakesInTime c.args.connection s c.args.told.now.items c.in-Ok.connection c.take.new.told.items) cut c.in-Ok.ensures.times,
+      subst (λ (s : Seen). GoesBy c.args.connection c.args.told.now.items s) cut c.in-Ok.ensures.goes,
     )
 
 pub returns-in-Some-clause-takes : goal.returns-in-Some-clause-takes
