@@ -284,16 +284,25 @@ fn first_copies_of_octets(rt: std::rt::HostRuntime) -> Result<(), HeldFault> {
     Ok(())
 }
 
-// A SYN, and a message of a length of 2 whose last octet is captured later.
+// A SYN, and a message of a length of 10 whose last octet is captured later. Then lengths that no message has, 9 and
+// 2^26, and the greatest of one that can be held, of which the rest isn't there.
 const FRONTS: &[Look] = &[
-    Look::Put(0, OPENS, &[0, 0, 0, 2, 7]),
-    Look::Front(0, 6, Some(1)),
+    Look::Put(0, OPENS, &[0, 0, 0, 10, 1, 2, 3, 4, 5, 6, 7, 8, 9]),
+    Look::Front(0, 14, Some(1)),
     Look::Pass(1),
-    Look::Front(1, 7, None),
-    Look::Put(6, PUSHED, &[8]),
-    Look::Front(1, 6, None),
-    Look::Front(1, 7, Some(6)),
-    Look::Front(0, 7, None),
+    Look::Front(1, 15, None),
+    Look::Put(14, PUSHED, &[10]),
+    Look::Front(1, 14, None),
+    Look::Front(1, 15, Some(14)),
+    Look::Front(0, 15, None),
+    Look::Pass(15),
+    Look::Put(15, PUSHED, &[0, 0, 0, 9, 4, 0, 0, 0, 3, 255, 255, 252]),
+    Look::Front(15, 18, None),
+    Look::Front(15, 27, Some(4)),
+    Look::Pass(19),
+    Look::Front(19, 27, Some(4)),
+    Look::Pass(23),
+    Look::Front(23, 27, None),
 ];
 
 #[test]
