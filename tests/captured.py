@@ -279,6 +279,54 @@ def comes_late(later: int) -> bytes:
     return talk.capture.octets
 
 
+def probed() -> bytes:
+    """An end that has no room is asked with the next octet, takes it not, and is sent all of the message later."""
+    talk, data = selected(), message("00008101000000000002")
+    talk.at(3)
+    talk.segment(PASSIVE, 0, ACK, window=0)
+    talk.segment(ACTIVE, 0, ACK, data[:1])
+    talk.segment(PASSIVE, 0, ACK, window=0)
+    talk.at(9)
+    talk.segment(PASSIVE, 0, ACK)
+    talk.segment(ACTIVE, 0, PUSH | ACK, data)
+    return talk.capture.octets
+
+
+def cut_otherwise() -> bytes:
+    talk, data = selected(), message("00008101000000000002")
+    talk.at(3)
+    for begin, end in ((0, 6), (3, 10), (0, len(data))):
+        talk.segment(ACTIVE, begin, PUSH | ACK, data[begin:end])
+    return talk.capture.octets
+
+
+def without_fin(way: int) -> bytes:
+    talk = selected()
+    talk.next[way] += 1
+    talk.at(3)
+    talk.segment(1 - way, 0, ACK)
+    return talk.capture.octets
+
+
+def one_direction(way: int) -> bytes:
+    """A connection of which what one end sends is captured alone, its SYN first."""
+    capture = Capture()
+    talk = Talk(capture, shakes_hands=False)
+    talk.next[1 - way] += 1
+    talk.segment(way, 0, SYN if way == ACTIVE else SYN | ACK)
+    talk.next[way] += 1
+    talk.say(1, way, SELECT[way][1])
+    return capture.octets
+
+
+def reply_before_primary() -> bytes:
+    talk, data = selected(), message("00008101000000000002")
+    talk.next[ACTIVE] += len(data)
+    talk.say(4, PASSIVE, "00000102000000000002")
+    talk.segment(ACTIVE, -len(data), PUSH | ACK, data)
+    return talk.capture.octets
+
+
 def ack_behind_a_gap() -> bytes:
     """A message isn't captured, and its end's next packet brings nothing."""
     talk = selected()
@@ -406,6 +454,7 @@ def worked_cases() -> Iterator[Case]:
         front = "incomplete packet=6 " if is_told else ""
         yield f"a length {name}", captures.wrong_length(data).octets, Options(), lines_of(
             front + "pass entries=3 sent=1 taken=1"), "Length packet=6" if is_told else None, 2 if is_told else 0
+    yield from segment_cases()
     yield "a pure ACK behind what was not captured", ack_behind_a_gap(), Options(), lines_of(
         "incomplete packet=6 pass entries=3 sent=1 taken=1"), "Lost packet=6", 2
     yield "a reply within a foreign length", reply_behind(b"GET / HTTP/1.1\r\n"), Options(), lines_of(
@@ -423,6 +472,40 @@ def worked_cases() -> Iterator[Case]:
             end + "incomplete packet=2" for end in ENDS], "Lost packet=2", 2
     yield from wide_cases(log)
     yield from left_out_cases()
+
+
+def segment_cases() -> Iterator[Case]:
+    """Segments as TCP sends them in what seldom happens."""
+    whole = lines_of("pass entries=4 sent=2 taken=1 discarded=0 expired=0 waiting=1", "pass entries=4 sent=1 taken=2")
+    yield "a window of zero, and a probe", probed(), Options(), whole, None, 0
+    yield "cut otherwise when sent again", cut_otherwise(), Options(), whole, None, 0
+    for ends, verdict in ((ACTIVE, "incomplete packet=6 "), (PASSIVE, "incomplete packet=6 ")):
+        yield f"a FIN that was not captured, of {ends}", without_fin(ends), Options(), lines_of(
+            verdict + "pass entries=3 sent=1 taken=1"), "Lost packet=6", 2
+    for way, packet in ((ACTIVE, 2), (PASSIVE, 1)):
+        yield f"one direction alone, {way}", one_direction(way), Options(), [
+            f"{end}incomplete packet={packet}" for end in ENDS], f"Lost packet={packet}", 2
+    both = lines_of("pass entries=5 sent=2 taken=2")
+    yield "a reply before its primary", reply_before_primary(), Options(), both, None, 0
+    yield from header_cases()
+
+
+def header_cases() -> Iterator[Case]:
+    """Headers before the segment."""
+    short = lines_of("pass entries=3 sent=1 taken=1")
+    wide = [line.replace("10.0.0.1", "[fe80::1]").replace("10.0.0.2", "[fe80::2]") for line in short]
+    left_out = "# 5 packets left out: "
+    header, fragment = [left_out + "header 5"], [left_out + "fragment 5"]
+    for shape, lines in ((1, wide), (8, wide), ("routing", wide), (9, header), ("fragment", fragment)):
+        capture = Capture(is_ipv6=True)
+        capture.segment = partial(capture.segment, shape=shape)
+        fault = None if lines is wide else "NoConnection"
+        yield f"headers of IPv6 {shape}", selected(capture).capture.octets, Options(), lines, fault, 2 if fault else 0
+    for tags, lines in (("91000005", short), ("88a80001" * 16, short), ("81000001" * 17, header)):
+        capture = Capture()
+        capture.link_header = lambda tags=tags: bytes(12) + bytes.fromhex(tags) + b"\x08\x00"
+        octets, fault = selected(capture).capture.octets, None if lines is short else "NoConnection"
+        yield f"tags {tags[:8]}, {len(tags) // 8}", octets, Options(), lines, fault, 2 if fault else 0
 
 
 def wide_cases(log: List[str]) -> Iterator[Case]:

@@ -16,7 +16,7 @@ import sys
 # The modules below leave no compiled files in the repository.
 sys.dont_write_bytecode = True
 
-from command import answer_of
+from command import TOP, answer_of
 from made_captures import (
     ACK, ACTIVE, BEGIN, FIN, FORMS, LINKS, PASSIVE, PUSH, RST, SELECT, Capture, Talk, message, pieces,
 )
@@ -241,6 +241,13 @@ def two_connections():
     return capture
 
 
+def replaced():
+    capture = Capture()
+    with open(f"{TOP}/tests/captures/replaced.pcap", "rb") as file:
+        capture.octets = file.read()
+    return capture
+
+
 def half_a_packet():
     capture = two_connections()
     capture.octets = capture.octets[:-1]
@@ -321,6 +328,7 @@ CASES = [
      "pass entries=5 sent=1 taken=2 discarded=0 expired=0 waiting=0", 0, ""),
     (two_connections, HOST, ["0 up", *SELECTED, "3 down", *AGAIN, "1004 down"],
      "pass entries=8 sent=2 taken=2 discarded=0 expired=0 waiting=0", 0, ""),
+    (replaced, HOST, None, "pass entries=7 sent=2 taken=2 discarded=0 expired=0 waiting=0", 0, ""),
     (half_a_packet, HOST, ["0 up", *SELECTED, "3 down", *AGAIN],
      "pass entries=7 sent=2 taken=2 discarded=0 expired=0 waiting=0", 2, "hsms: CutOff\n"),
     (other_packets, HOST, ["0 up", *SELECTED], "pass entries=3 sent=1 taken=1 discarded=0 expired=0 waiting=0", 0, ""),

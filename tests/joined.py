@@ -16,6 +16,7 @@ import argparse
 import random
 import sys
 from dataclasses import replace
+from functools import partial
 from typing import List, Optional, Tuple
 
 # The modules below leave no compiled files in the repository.
@@ -34,13 +35,14 @@ PORT = 5000
 NAMES = "10.0.0.1:40000 10.0.0.2:5000"
 SIDES = ["active", "passive"]
 
-# What each end of the smallest captures says, and from which packet on something is missing.
+# What each end of the smallest captures says, how many replies it waits for, and from which packet on something is
+# missing.
 SMALLEST = {
-    "status-1": ("pass entries=7 sent=3 taken=3", "pass entries=7 sent=3 taken=3", None),
-    "linktest": ("pass entries=5 sent=2 taken=2", "pass entries=5 sent=2 taken=2", None),
-    "one-way": ("pass entries=4 sent=2 taken=1", "pass entries=4 sent=1 taken=2", 2),
-    "two-pieces": ("pass entries=6 sent=3 taken=2", "pass entries=6 sent=2 taken=3", None),
-    "false-front": ("pass entries=5 sent=1 taken=3", "pass entries=5 sent=3 taken=1", None),
+    "status-1": ("entries=7 sent=3 taken=3", 0, "entries=7 sent=3 taken=3", 0, None),
+    "linktest": ("entries=5 sent=2 taken=2", 0, "entries=5 sent=2 taken=2", 0, None),
+    "one-way": ("entries=4 sent=2 taken=1", 1, "entries=4 sent=1 taken=2", 0, 2),
+    "two-pieces": ("entries=6 sent=3 taken=2", 0, "entries=6 sent=2 taken=3", 0, None),
+    "false-front": ("entries=5 sent=1 taken=3", 0, "entries=5 sent=3 taken=1", 0, None),
 }
 
 
@@ -113,10 +115,12 @@ def wrong_with_smallest(name: str, program: Optional[str]) -> Optional[str]:
     with open(f"{TOP}/tests/captures/joined-{name}.pcap", "rb") as file:
         octets = file.read()
     told = joined.told_of(seen_in(octets), Options())
-    *wanted, missing = SMALLEST[name]
-    found = verdicts(told, Options())
+    *ends, missing = SMALLEST[name]
     lack = f"incomplete packet={missing} " if missing else ""
-    if not all(one.startswith(lack + front) for one, front in zip(found, wanted)):
+    each = zip(ends[::2], ends[1::2])
+    wanted = [f"{lack}pass {counts} discarded=0 expired=0 waiting={waiting}" for counts, waiting in each]
+    found = verdicts(told, Options())
+    if found != wanted:
         return f"{found}, missing from {told.missing} on"
     if program and answer_of(["capture"], octets, program) != Answer(2, b"", b"hsms: NoConnection\n"):
         return "without --joined it is passed over"
@@ -228,6 +232,31 @@ def wrong_with_forgotten(program: Optional[str]) -> Optional[str]:
     return None
 
 
+def two_at_once(hosts) -> bytes:
+    """Two sessions that were running, one captured behind the other, the second one between these hosts."""
+    capture = Capture()
+    segment = capture.segment
+    for ends, port in (((1, 2), 40000), (hosts, 40001)):
+        capture.ports, capture.segment = (port, PORT), partial(segment, hosts=ends)
+        talk = Talk(capture, shakes_hands=False)
+        for number in range(3):
+            talk.say(10 * number + 1, ACTIVE, f"000081010000{number:08x}")
+            talk.say(10 * number + 2, PASSIVE, f"000001020000{number:08x}")
+    return capture.octets
+
+
+def wrong_with_two_at_once(program: Optional[str]) -> Optional[str]:
+    """In one log the second session is refused where it would begin, behind all of the first one."""
+    for hosts, fault in (((1, 2), "Overlap"), ((3, 2), "Peer")) if program else ():
+        found = answer_of(["capture", "--joined", "--log", "host"], two_at_once(hosts), program)
+        lines = found.output.decode().splitlines()
+        if (found.status, found.error) != (2, f"hsms: {fault} packet=7\n".encode()) or len(lines) != 1 + 2 * (3 + 6):
+            return f"{fault}: {found}"
+        if lines[-2:] != ["# packet 6", f"{BEGIN // 1000 + 22} < 00000102000000000002"]:
+            return f"{fault}: {lines[-2:]}"
+    return None
+
+
 # Random sessions.
 
 
@@ -290,6 +319,7 @@ def main():
     wrong += [("left out", wrong_with_left_out(program))]
     wrong += [("a Linktest.req first", wrong_with_linktest_first(program))]
     wrong += [("forgotten", wrong_with_forgotten(program))]
+    wrong += [("two at once", wrong_with_two_at_once(program))]
     wrong += [(seed, wrong_with(seed, program)) for seed in seeds]
     told = [f"{name}: {why}" for name, why in wrong if why]
     print("\n".join(told + [f"{len(wrong) - len(told)} passed, {len(told)} failed"]))

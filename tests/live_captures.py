@@ -4,7 +4,8 @@
 What `hsms capture` writes as the log of an end has to hold the entries of the log that this end wrote, each within
 20 ms of its time there, counted from `up`; and its verdicts have to be those of `hsms audit` on the logs of both ends.
 The ends are of both roles, over IPv4 and IPv6, in one connection and in several; captures are of loopback and of any
-interface, and come in the forms that editcap, reordercap and mergecap write too.
+interface, and come in the forms that editcap, reordercap and mergecap write too. Through a pipe from tcpdump both
+verdicts are told while tcpdump goes on.
 
 Where one of these programs is missing, or may not capture, this says so and tries nothing. The last line is
 `N passed, M failed`.
@@ -203,6 +204,34 @@ def answers(way, room):
             yield name, str(why)[:2000]
 
 
+def told_through_a_pipe():
+    """What is wrong with what is told of a connection that has ended, while tcpdump goes on, or None."""
+    port = free_port()
+    words = ["tcpdump", "-i", "lo", "-U", "-s", "0", "-B", str(BUFFER), "-w", "-", f"tcp port {port}"]
+    captures = subprocess.Popen(words, stdin=subprocess.DEVNULL, stdout=subprocess.PIPE, stderr=subprocess.PIPE)
+    judging = [PROGRAM, "capture", "--port", str(port)]
+    judges = subprocess.Popen(judging, stdin=captures.stdout, stdout=subprocess.PIPE, stderr=subprocess.PIPE)
+    captures.stdout.close()
+    try:
+        while b"listening on" not in captures.stderr.readline():
+            if captures.poll() is not None:
+                raise PermissionError("tcpdump may not capture")
+        logs = served_logs(Way("host", HERE, 1, ()), port)
+        with ThreadPoolExecutor(1) as reader:
+            lines = reader.submit(lambda: [judges.stdout.readline().decode() for _ in range(2)]).result(SOON)
+        same([line.split(": ", 1)[-1] for line in lines], [audited(log) for log in logs])
+        same(captures.poll(), None)
+        captures.send_signal(signal.SIGINT)
+        same([text.decode() for text in judges.communicate(timeout=SOON)], ["", ""])
+        same(judges.returncode, 0)
+    except (AssertionError, TimeoutError, subprocess.TimeoutExpired) as why:
+        return str(why)[:2000] or type(why).__name__
+    finally:
+        for program in (captures, judges):
+            program.kill()
+    return None
+
+
 def untried(why):
     print(f"not tried: {why}\n0 passed, 0 failed")
     return 0
@@ -215,6 +244,7 @@ def main():
     try:
         with ThreadPoolExecutor(len(WAYS)) as pool:
             told = [answer for answers_of in pool.map(tried, WAYS) for answer in answers_of]
+        told.append(("through a pipe", told_through_a_pipe()))
     except PermissionError as why:
         return untried(why)
     finally:

@@ -74,9 +74,10 @@ class Capture:
         """Adds a segment that one end sends to the other."""
         ports = how.pop("ports", self.ports)
         hosts = how.pop("hosts", (1, 2))
+        window = how.pop("window", 65535)
         if way != ACTIVE:
             ports, hosts = ports[::-1], hosts[::-1]
-        tcp = struct.pack(">HHIIBBHHH", *ports, sequence % 2**32, acknowledged % 2**32, 8 << 4, flags, 65535, 0, 0)
+        tcp = struct.pack(">HHIIBBHHH", *ports, sequence % 2**32, acknowledged % 2**32, 8 << 4, flags, window, 0, 0)
         tcp += bytes([1] * 12) + data
         shape = how.pop("shape", None)
         ip = ipv6(hosts, tcp, shape) if self.is_ipv6 else ipv4(hosts, tcp, shape)
@@ -106,11 +107,14 @@ def ipv4(hosts, tcp, shape=None):
 
 
 def ipv6(hosts, tcp, shape=None):
-    """A packet of IPv6; `options` has a header of options before the segment, and `offload` doesn't tell its length."""
-    options = bytes([6, 0, 1, 4, 0, 0, 0, 0]) if shape == "options" else b""
+    """A packet of IPv6; `options` has a header of options before the segment, `routing` and `fragment` such a header, a
+    number so many headers of options, and `offload` doesn't tell its length."""
+    named = {"options": [60], "routing": [43], "fragment": [44]}
+    kinds = [60] * shape if isinstance(shape, int) else named.get(shape, [])
+    options = b"".join(bytes([after, 0, 1, 4, 0, 0, 0, 0]) for after in [*kinds[1:], 6][:len(kinds)])
     length = 0 if shape == "offload" else len(options) + len(tcp)
     addresses = b"".join(bytes([0xFE, 0x80]) + bytes(13) + bytes([host]) for host in hosts)
-    return struct.pack(">IHBB", 6 << 28, length, 60 if options else 6, 64) + addresses + options + tcp
+    return struct.pack(">IHBB", 6 << 28, length, kinds[0] if kinds else 6, 64) + addresses + options + tcp
 
 
 class Talk:

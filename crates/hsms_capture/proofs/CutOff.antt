@@ -64,7 +64,7 @@ none_or size cells more is e n f =
       | inr le ↦ let told = is.told cells more n f le in absurd cc
     ]
 
-cut_more : (size : List Cell → Option ℕ) → IsSize size → (j k upto : ℕ) (l : Left) (more : List Cell) → length l.cells ≤ j → length (l.cells ++ more) ≤ k → upto ≤ end_left l
+pub cut_more : (size : List Cell → Option ℕ) → IsSize size → (j k upto : ℕ) (l : Left) (more : List Cell) → length l.cells ≤ j → length (l.cells ++ more) ≤ k → upto ≤ end_left l
     → SameCut more (cut_off j size upto l) (cut_off k size upto (longer l more))
 unfolding cut_off
 cut_more size is zero zero upto l more short long within = (refl, refl)
@@ -122,7 +122,7 @@ with_longer : (more : End → List Cell) (b : Both) (d : End) (l : Left) → wit
 with_longer more b active l = refl
 with_longer more b passive l = refl
 
-with_ends : (last : End → ℕ) (b : Both) (o : End) (l : Left) → end_left l ≡ last o → ((d : End) → end_left (left_of b d) ≡ last d) → (d : End)
+pub with_ends : (last : End → ℕ) (b : Both) (o : End) (l : Left) → end_left l ≡ last o → ((d : End) → end_left (left_of b d) ≡ last d) → (d : End)
     → end_left (left_of (with_left b o l) d) ≡ last d
 with_ends last b active l e h active = e
 with_ends last b active l e h passive = h passive

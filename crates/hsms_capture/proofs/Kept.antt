@@ -113,17 +113,19 @@ breaks_by (Some j) None k (inr e) = absurd cc
 breaks_by (Some j) (Some i) k (inl e) = let same : j ≡ k = cc in (min j i, refl, omega (arith, same))
 breaks_by (Some j) (Some i) k (inr e) = let same : i ≡ k = cc in (min j i, refl, omega (arith, same))
 
-pub none_behind : (size : List Cell → Option ℕ) (ps : List Placed) (k : ℕ) → (loss [] ps ≡ Some k) ⊎ (difference [] ps ≡ Some k)
-    → EachShown (λ at. at.packet < k) (shows_of size ps)
-none_behind size ps k e =
+pub turns_before : (ps : List Placed) (k : ℕ) → (loss [] ps ≡ Some k) ⊎ (difference [] ps ≡ Some k) → Each (λ (t : Turn). t.at.packet < k) (told_turns ps)
+turns_before ps k e =
     let off = breaks_by (loss [] ps) (difference [] ps) k e in
     let le = off.2 in
     let kept = filter (is_before (breaks_off ps)) (turns [] ps) in
-    shows_each (λ at. at.packet < k) size ps
-    (reset_each (λ (t : Turn). t.at.packet < k) false kept
+    reset_each (λ (t : Turn). t.at.packet < k) false kept
     (weaken (λ (t : Turn). Unit {0} × (is_before (breaks_off ps) t ≡ true)) (λ (t : Turn). t.at.packet < k) kept
     (λ t f. let lt = ltb-true t.at.packet off.0 (subst (λ (o : Option ℕ). is_before o t ≡ true) off.1 f.1) in omega (arith, lt, le))
-    (each_filter (λ (t : Turn). Unit {0}) (is_before (breaks_off ps)) (turns [] ps) (everywhere (turns [] ps)))))
+    (each_filter (λ (t : Turn). Unit {0}) (is_before (breaks_off ps)) (turns [] ps) (everywhere (turns [] ps))))
+
+pub none_behind : (size : List Cell → Option ℕ) (ps : List Placed) (k : ℕ) → (loss [] ps ≡ Some k) ⊎ (difference [] ps ≡ Some k)
+    → EachShown (λ at. at.packet < k) (shows_of size ps)
+none_behind size ps k e = shows_each (λ at. at.packet < k) size ps (turns_before ps k e)
 
 pub kept : (size : List Cell → Option ℕ) (ps : List Placed) (d : End) → (rest : List Cell) × (stream_of ps d ≡ cells_shown d (shows_of size ps) ++ rest)
 kept size ps active = show_keeps size (flat_map deliveries (told_turns ps)) active (both_streams ps)

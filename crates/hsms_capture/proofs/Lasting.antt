@@ -95,19 +95,22 @@ at_up P (Some k) es f h = (
       (each_filter (λ (e : Entry). P e.packet) (λ (e : Entry). nat_le k e.packet) es h)),
 )
 
-pub told_at : (P : ℕ → Type 0) (ps : List Placed) → Each (λ (p : Placed). P p.packet) ps → AllAt P (tells ps)
-told_at P ps h =
-    let kept = filter (is_before (breaks_off ps)) (turns [] ps) in
+pub told_where : (P : ℕ → Type 0) (ps : List Placed) → TurnsAt P (told_turns ps) → AllAt P (tells ps)
+told_where P ps at_turns =
     let ts = told_turns ps in
     let es = shown_entries (shows_of message_size ps) in
-    let at_turns : TurnsAt P ts =
-    reset_each (λ (t : Turn). P t.at.packet) false kept
-    (weaken (λ (t : Turn). P t.at.packet × (is_before (breaks_off ps) t ≡ true)) (λ (t : Turn). P t.at.packet) kept (λ t x. x.0)
-    (each_filter (λ (t : Turn). P t.at.packet) (is_before (breaks_off ps)) (turns [] ps) (turns_each (λ (p : Placed). P p.packet) [] ps h))) in
     let at_messages = at_shown P (shows_of message_size ps) (shows_each (λ at. P at.packet) message_size ps at_turns) in
     at_up P (earlier (answered_at ts) (first_message es)) (es ++ reset_entries false ts)
     (λ k e. at_earlier P (answered_at ts) (first_message es) k e (λ j f. at_answer P ts j at_turns f) (λ j f. at_message P es j at_messages f))
     (each_append (λ (e : Entry). P e.packet) es (reset_entries false ts) at_messages (at_resets P false ts at_turns))
+
+pub told_at : (P : ℕ → Type 0) (ps : List Placed) → Each (λ (p : Placed). P p.packet) ps → AllAt P (tells ps)
+told_at P ps h =
+    let kept = filter (is_before (breaks_off ps)) (turns [] ps) in
+    told_where P ps
+    (reset_each (λ (t : Turn). P t.at.packet) false kept
+    (weaken (λ (t : Turn). P t.at.packet × (is_before (breaks_off ps) t ≡ true)) (λ (t : Turn). P t.at.packet) kept (λ t x. x.0)
+    (each_filter (λ (t : Turn). P t.at.packet) (is_before (breaks_off ps)) (turns [] ps) (turns_each (λ (p : Placed). P p.packet) [] ps h))))
 
 abbrev SeenAt : (ℕ → Type 0) → List Seen → Type 0
 SeenAt P ss = Each (λ (s : Seen). P s.packet) ss
@@ -140,7 +143,7 @@ seen_each (s ∷ ss) = (
       (λ x e. or_true (nat_eq s.packet x.packet) (list_any (λ (y : Seen). nat_eq y.packet x.packet) ss) e) (seen_each ss),
 )
 
-each_entry : (P : ℕ → Type 0) (es : List Entry) → AllAt P es → EachEntry P es
+pub each_entry : (P : ℕ → Type 0) (es : List Entry) → AllAt P es → EachEntry P es
 each_entry P [] h = tt
 each_entry P (e ∷ es) h = (h.0, each_entry P es h.1)
 

@@ -34,6 +34,8 @@ mod Stopped
 mod Sure
 pub mod Tells
 mod Timing
+mod ToldFronts
+mod ToldMessages
 mod Turned
 pub mod UpToDown
 mod Waited

@@ -23,16 +23,16 @@ use Rattle.hsms_capture.proofs.Turned.{Ordered, turns_ordered}
 
 -- ---- all that is heard, one after another: that the connection comes up, entries, and a reset
 
-signs : Bool → Both → List Turn → List Entry
+unfoldable pub signs : Bool → Both → List Turn → List Entry
 signs o b [] = []
 signs o b (t ∷ ts) =
     answer_entries (due_of t) ++ ((delivers (due_of t) b).entries
     ++ cond (resets o (due_of t)) (entry t.at.packet down ∷ []) (signs (o || opens (due_of t)) (delivers (due_of t) b).both ts))
 
-heard_told : (s : Telling) (xs ys : List Entry) → (hears s (xs ++ ys)).told ≡ (hears s xs).told ++ (hears (hears s xs).state ys).told
+pub heard_told : (s : Telling) (xs ys : List Entry) → (hears s (xs ++ ys)).told ≡ (hears s xs).told ++ (hears (hears s xs).state ys).told
 heard_told s xs ys = ap (λ (h : Heard). h.told) (hears_append s xs ys)
 
-told_signs : (s : Telling) (o : Bool) (b : Both) (ts : List Turn) → (tell_on s o b (map due_of ts)).told ≡ (hears s (signs o b ts)).told
+pub told_signs : (s : Telling) (o : Bool) (b : Both) (ts : List Turn) → (tell_on s o b (map due_of ts)).told ≡ (hears s (signs o b ts)).told
 unfolding tell_on hears signs
 told_signs s o b [] = refl
 told_signs s o b (t ∷ ts) =
@@ -247,11 +247,11 @@ signs_up o b (t ∷ ts) =
 
 -- ---- a reset is no message
 
-append_message : (xs ys : List Entry) → first_message ys ≡ None → first_message (xs ++ ys) ≡ first_message xs
+pub append_message : (xs ys : List Entry) → first_message ys ≡ None → first_message (xs ++ ys) ≡ first_message xs
 append_message [] ys e = e
 append_message (x ∷ xs) ys e = ap (λ (o : Option ℕ). cond (is_message x.told) (Some x.packet) o) (append_message xs ys e)
 
-no_message : (o : Bool) (ts : List Turn) → first_message (reset_entries o ts) ≡ None
+pub no_message : (o : Bool) (ts : List Turn) → first_message (reset_entries o ts) ≡ None
 no_message o [] = refl
 no_message o (t ∷ ts) = by_reset (t.own.reset && (o || is_open t)) (no_message (o || is_open t) ts)
   where

@@ -110,14 +110,19 @@ reset_more opened (t ∷ ts) us = by_reset (t.own.reset && (opened || is_open t)
     by_reset true later = ([], refl)
     by_reset false later = begins_cons t (up_to_reset (opened || is_open t) ts) (up_to_reset (opened || is_open t) (ts ++ us)) later
 
-pub told_more : (m : ℕ) (xs ys : List Placed) → Rising m (xs ++ ys) → Begins Turn (told_turns xs) (told_turns (xs ++ ys))
-told_more m xs ys h =
+pub kept_more : (m : ℕ) (xs ys : List Placed) → Rising m (xs ++ ys)
+    → Begins Turn (filter (is_before (breaks_off xs)) (turns [] xs)) (filter (is_before (breaks_off (xs ++ ys))) (turns [] (xs ++ ys)))
+kept_more m xs ys h =
     let passed : Each (λ (t : Turn). passes (breaks_off xs) t.at.packet ≡ true → passes (breaks_off (xs ++ ys)) t.at.packet ≡ true) (turns [] xs) =
     weaken (λ (t : Turn). Rising t.at.packet ys) (λ (t : Turn). passes (breaks_off xs) t.at.packet ≡ true → passes (breaks_off (xs ++ ys)) t.at.packet ≡ true) (turns [] xs)
     (λ t later e. breaks_more t.at.packet m xs ys h later e) (turns_each (λ (p : Placed). Rising p.packet ys) [] xs (before_later m xs ys h)) in
     let front = filter_front (breaks_off xs) (breaks_off (xs ++ ys)) (turns [] xs) (turns xs ys) (turns_ordered m [] xs (rising_front m xs ys h)) passed in
-    let whole = ap (λ (ts : List Turn). filter (is_before (breaks_off (xs ++ ys))) ts) (turns_more [] xs ys) ∙ front.1 in
-    subst (λ (ts : List Turn). Begins Turn (told_turns xs) (up_to_reset false ts)) (sym whole) (reset_more false (filter (is_before (breaks_off xs)) (turns [] xs)) front.0)
+    (front.0, ap (λ (ts : List Turn). filter (is_before (breaks_off (xs ++ ys))) ts) (turns_more [] xs ys) ∙ front.1)
+
+pub told_more : (m : ℕ) (xs ys : List Placed) → Rising m (xs ++ ys) → Begins Turn (told_turns xs) (told_turns (xs ++ ys))
+told_more m xs ys h =
+    let front = kept_more m xs ys h in
+    subst (λ (ts : List Turn). Begins Turn (told_turns xs) (up_to_reset false ts)) (sym front.1) (reset_more false (filter (is_before (breaks_off xs)) (turns [] xs)) front.0)
 
 -- ---- what is told lies within what is held
 

@@ -18,4 +18,5 @@ pub mod Held
 pub mod Cells
 pub mod Early
 pub mod Laws
+pub mod Entries
 pub mod Examples

@@ -1,6 +1,7 @@
 //! What holds of the definitions, whatever the code does.
 
 ghost use Rattle.hsms_capture.specs.Connected.{LogIsTold};
+ghost use Rattle.hsms_capture.specs.Entries.{FrontIsTold, MessagesAreKept, NothingToldBehindALoss};
 ghost use Rattle.hsms_capture.specs.Known.{TurnsGoOn};
 ghost use Rattle.hsms_capture.specs.Laws.{AbsorbGivesTheEnd, AllIsShown, AnySegmentsGiveTheSame, DownComesLast, EndGoesOn, EndIsEnd, FrontOfCapture, LossIsSure, MessagesHaveSizes, NearestIsFound, NearestIsNear, NothingBehindALoss, OneEnd, OnlyFirstIsUp, QueueGoesOn, QueueStays, QueueTakes, SettledIsSure, StreamsAreKept, ToldAtPackets, UpComesFirst};
 ghost use Rattle.hsms_capture.specs.Standing.{ClosedWhereDown, DownIsAll, DownIsClosed, EndingIsSure, ToldAtOnce, ToldIsSure};
@@ -95,6 +96,13 @@ pub fn streams_are_kept()
     ensures { StreamsAreKept }
 {}
 
+/// Of each end the messages that are told are the first ones that the wire shows of it, in their order, also where a
+/// Separate or the end of the connection leaves some out.
+#[tactic(auto, using(crate::proofs::ToldMessages::messages_kept))]
+pub fn told_messages_are_shown()
+    ensures { MessagesAreKept }
+{}
+
 /// Of a connection of which nothing is lost, no copy differs, and that no packet resets, each message is shown that a
 /// stream has whole. So however the same cells are cut into packets, repeated or swapped, a direction's messages are the
 /// same. That holds of messages whose own cells tell their size, as those of HSMS do.
@@ -108,6 +116,11 @@ pub fn nothing_behind_a_loss()
     ensures { NothingBehindALoss }
 {}
 
+/// Nothing is told there either, neither a message nor that the connection came up or went down.
+pub fn nothing_told_behind_a_loss()
+    ensures { NothingToldBehindALoss }
+{}
+
 /// The next 4,096 packets tell whether a packet is the loss. Whatever follows them changes nothing of it.
 pub fn a_loss_is_sure()
     ensures settled { SettledIsSure }
@@ -119,6 +132,12 @@ pub fn a_loss_is_sure()
 pub fn front_of_capture()
     ensures front { FrontOfCapture }
     ensures sizes { MessagesHaveSizes }
+{}
+
+/// A capture that is cut anywhere, where its packets are numbered in order, tells a front of what the whole one tells.
+#[tactic(auto, using(crate::proofs::ToldFronts::front_told))]
+pub fn front_is_told()
+    ensures { FrontIsTold }
 {}
 
 /// A place that is told by its number has the number and is near to the one that is known; and each that is so is told.
