@@ -53,6 +53,12 @@ pub streams_end : (ps : List Placed) (d : End) → end_left (left_of (both_strea
 streams_end ps active = let e = stream_length ps active in omega (arith, e)
 streams_end ps passive = let e = stream_length ps passive in omega (arith, e)
 
+-- more packets make the streams longer
+pub streams_more : (xs ys : List Placed) → both_streams (xs ++ ys) ≡ both_longer (λ d. (stream_more xs ys d).0) (both_streams xs)
+streams_more xs ys =
+    ap (λ (a : List Cell). both_of a (stream_of (xs ++ ys) passive)) (stream_more xs ys active).1
+    ∙ ap (λ (p : List Cell). both_of (stream_of xs active ++ (stream_more xs ys active).0) p) (stream_more xs ys passive).1
+
 pub shows_more : (size : List Cell → Option ℕ) → IsSize size → (m : ℕ) (xs ys : List Placed) → Rising m (xs ++ ys) → Rising m xs
     → Begins Shown (shows_of size xs) (shows_of size (xs ++ ys))
 shows_more size is m xs ys h front =
@@ -60,12 +66,9 @@ shows_more size is m xs ys h front =
     let told = told_more m xs ys h in
     let given : flat_map deliveries (told_turns (xs ++ ys)) ≡ flat_map deliveries (told_turns xs) ++ flat_map deliveries told.0 =
     ap (λ (ts : List Turn). flat_map deliveries ts) told.1 ∙ flat_map-append deliveries (told_turns xs) told.0 in
-    let streams : both_streams (xs ++ ys) ≡ both_longer more (both_streams xs) =
-    ap (λ (a : List Cell). both_of a (stream_of (xs ++ ys) passive)) (stream_more xs ys active).1
-    ∙ ap (λ (p : List Cell). both_of (stream_of xs active ++ more active) p) (stream_more xs ys passive).1 in
     let shown = show_more size is more (end_of xs) (both_streams xs) (flat_map deliveries (told_turns xs)) (flat_map deliveries told.0) (streams_end xs) (told_within m xs front) in (
       shown.0,
-      ap (λ (b : Both). show size b (flat_map deliveries (told_turns (xs ++ ys)))) streams
+      ap (λ (b : Both). show size b (flat_map deliveries (told_turns (xs ++ ys)))) (streams_more xs ys)
           ∙ ap (λ (ds : List Delivery). show size (both_longer more (both_streams xs)) ds) given ∙ shown.1,
     )
 

@@ -124,7 +124,7 @@ abbrev Shows : Both → Turn → List Delivery → Type 0
 Shows b t ds =
     shown_entries (show message_size b (deliveries t ++ ds)) ≡ (delivers (due_of t) b).entries ++ shown_entries (show message_size (delivers (due_of t) b).both ds)
 
-abbrev turn_by : Placed → Placed → End → Option ℕ → Turn
+abbrev pub turn_by : Placed → Placed → End → Option ℕ → Turn
 turn_by at own e a = record { at = at; own = record own { from = e; acknowledged = a } }
 
 abbrev delivery : End → ℕ → Placed → Delivery

@@ -3,7 +3,7 @@ use Rattle.std.proofs.Common.{◌≡◌, ◌≤◌, ◌++◌, ◌∷◌, ◌+◌
 use Rattle.std.proofs.lemmas.List.{append-nil, append_assoc}
 use Rattle.hsms_capture.specs.declared.telling.Telling.{Telling}
 use Rattle.hsms_capture.specs.declared.telling.Telling.TheVariants as telling
-use Rattle.hsms_capture.specs.Wire.{End, active, passive, Cell, Placed, Turn, Left, Both, left_of, with_left, Delivery, deliveries, is_before, breaks_off, turns, both_streams, stream_of, end_of, places}
+use Rattle.hsms_capture.specs.Wire.{End, active, passive, Cell, Placed, Turn, Left, Both, left_of, with_left, Delivery, deliveries, is_before, breaks_off, turns, both_streams, end_of, places}
 use Rattle.hsms_capture.specs.Message.{message_size}
 use Rattle.hsms_capture.specs.Told.{Entry, entry, entry_of, down, tells}
 use Rattle.hsms_capture.specs.Telling.{cut_entries, cut_to, hears}
@@ -12,13 +12,13 @@ use Rattle.hsms_capture.specs.Connected.{AreRising}
 use Rattle.hsms_capture.specs.Entries.{FrontIsTold}
 use Rattle.hsms_capture.proofs.Connecting.{all_rise}
 use Rattle.hsms_capture.proofs.CutOff.{both_longer, cut_end, cut_more, end_left, with_ends}
-use Rattle.hsms_capture.proofs.Fronts.{places_begin, places_more, places_rise, streams_end}
+use Rattle.hsms_capture.proofs.Fronts.{places_begin, places_more, places_rise, streams_end, streams_more}
 use Rattle.hsms_capture.proofs.Lasting.{numbered_front}
 use Rattle.hsms_capture.proofs.Lists.{Begins, Each, each_filter, weaken}
 use Rattle.hsms_capture.proofs.Longer.{stream_more}
 use Rattle.hsms_capture.proofs.Numbered.{Rising, rising_front}
 use Rattle.hsms_capture.proofs.Sizes.{is_size}
-use Rattle.hsms_capture.proofs.Tells.{heard_told, signs, tells_all, told_signs}
+use Rattle.hsms_capture.proofs.Tells.{heard_told, signs, tells_all, told_signs, turn_by}
 use Rattle.hsms_capture.proofs.Turned.{Within, each_within, kept_more}
 
 -- both streams end there
@@ -66,9 +66,6 @@ two_longer more last b d e m n at ends low high =
           ∙ ap (λ (z : Both). x ++ cut_entries e at (cut_to n (left_of z e))) one.1 ∙ ap (λ (es : List Entry). x ++ es) two.0,
       ap (λ (z : Both). behind z e n) one.1 ∙ two.1,
     )
-
-abbrev turn_by : Placed → Placed → End → Option ℕ → Turn
-turn_by at own e a = record { at = at; own = record own { from = e; acknowledged = a } }
 
 abbrev UpTo : (End → ℕ) → Turn → Type 0
 UpTo last t = Each (λ (x : Delivery). x.upto ≤ last x.of) (deliveries t)
@@ -135,15 +132,9 @@ kept ps = filter (is_before (breaks_off ps)) (turns [] ps)
 told_is : (ps : List Placed) → AreRising 0 ps → tells ps ≡ (hears (telling.Waiting None) (signs false (both_streams ps) (kept ps))).told
 told_is ps h = sym (tells_all ps h) ∙ told_signs (telling.Waiting None) false (both_streams ps) (kept ps)
 
-abbrev both_of : List Cell → List Cell → Both
-both_of a p = record { active = record { place = 0; cells = a }; passive = record { place = 0; cells = p } }
-
 told_more : (xs ys : List Placed) → Rising 0 (xs ++ ys) → AreRising 0 xs → AreRising 0 (xs ++ ys) → Begins Entry (tells xs) (tells (xs ++ ys))
 told_more xs ys rising rises rises_all =
     let more : End → List Cell = λ d. (stream_more xs ys d).0 in
-    let streams : both_streams (xs ++ ys) ≡ both_longer more (both_streams xs) =
-    ap (λ (a : List Cell). both_of a (stream_of (xs ++ ys) passive)) (stream_more xs ys active).1
-    ∙ ap (λ (p : List Cell). both_of (stream_of xs active ++ more active) p) (stream_more xs ys passive).1 in
     let turns_on = kept_more 0 xs ys rising in
     let within : Each (UpTo (end_of xs)) (kept xs) =
     weaken (λ (t : Turn). (is_before (breaks_off xs) t ≡ true → Each (Within xs) (deliveries t)) × (is_before (breaks_off xs) t ≡ true)) (UpTo (end_of xs)) (kept xs)
@@ -155,7 +146,7 @@ told_more xs ys rising rises rises_all =
     let first = signs false (both_streams xs) (kept xs) in (
       (hears (hears start first).state on.0).told,
       told_is (xs ++ ys) rises_all
-          ∙ ap (λ (b : Both). (hears start (signs false b (kept (xs ++ ys)))).told) streams
+          ∙ ap (λ (b : Both). (hears start (signs false b (kept (xs ++ ys)))).told) (streams_more xs ys)
           ∙ ap (λ (ts : List Turn). (hears start (signs false (both_longer more (both_streams xs)) ts)).told) turns_on.1
           ∙ ap (λ (es : List Entry). (hears start es).told) on.1 ∙ heard_told start first on.0
           ∙ ap (λ (es : List Entry). es ++ (hears (hears start first).state on.0).told) (sym (told_is xs rises)),

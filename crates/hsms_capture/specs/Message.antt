@@ -1,6 +1,6 @@
 -- The messages of HSMS in a stream of cells: four octets of a length, and as many octets as it says. A SYN and a FIN are
--- messages of their own. A FIN within a message ends it: what stands before it is none. Nor is a length alone that no message
--- has, and where the next one begins nobody knows then.
+-- messages of their own. A FIN within a message ends it: what stands before it is none. A length that no message has is cut
+-- off alone, since nobody knows where the next message begins.
 use Rattle.std.specs.Prelude.{ℕ, zero, suc, ◌+◌, ◌-◌, ◌*◌, ◌^◌, nat_lt, Bool, if◌then◌else◌, List, [], ◌∷◌, ◌++◌, map, Option, Some, None}
 use Rattle.hsms_capture.specs.Wire.{Cell, syn, octet, fin}
 
@@ -20,7 +20,8 @@ cells_to (suc k) (syn ∷ cs) = Some 1
 cells_to (suc k) (fin ∷ cs) = Some 1
 cells_to (suc k) (octet n ∷ cs) = one_more (cells_to k cs)
 
--- how many octets follow a length: none where a message has more, ten at least, or would have more than are held
+-- how many octets follow a length: as many as it says, but none where no message has it: that has ten at least, and no more
+-- than can be held with those of the length
 abbrev pub octets_behind : ℕ → ℕ
 octets_behind value = if nat_lt value 10 then 0 else (if nat_lt (2 ^ 26 - 4) value then 0 else value)
 

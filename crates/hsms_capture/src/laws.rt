@@ -116,7 +116,8 @@ pub fn nothing_behind_a_loss()
     ensures { NothingBehindALoss }
 {}
 
-/// Nothing is told there either, neither a message nor that the connection came up or went down.
+/// Nothing is told at the first loss, nor at the first copy that differs, nor behind them: neither a message, nor that the
+/// connection came up or went down.
 pub fn nothing_told_behind_a_loss()
     ensures { NothingToldBehindALoss }
 {}
