@@ -206,7 +206,10 @@ def contents(path: str) -> bytes:
 
 
 def selected(capture=None, **how) -> Talk:
-    talk = Talk(capture or Capture(), **how)
+    return selected_on(Talk(capture or Capture(), **how))
+
+
+def selected_on(talk: Talk) -> Talk:
     talk.say(1, *SELECT[0])
     talk.say(2, *SELECT[1])
     return talk
@@ -319,6 +322,29 @@ def one_direction(way: int) -> bytes:
     return capture.octets
 
 
+def answer_first(with_syn: bool) -> bytes:
+    """The SYN is captured behind the SYN and ACK, or not at all."""
+    talk = Talk(Capture(), shakes_hands=False)
+    talk.next[ACTIVE] += 1
+    talk.segment(PASSIVE, 0, SYN | ACK)
+    talk.next[PASSIVE] += 1
+    if with_syn:
+        talk.segment(ACTIVE, -1, SYN)
+    talk.segment(ACTIVE, 0, ACK)
+    return selected_on(talk).capture.octets
+
+
+def syn_with_octets() -> bytes:
+    """The SYN brings the Select.req."""
+    talk = Talk(Capture(), shakes_hands=False)
+    talk.segment(ACTIVE, 0, SYN, message(SELECT[ACTIVE][1]))
+    talk.next[ACTIVE] += 15
+    talk.segment(PASSIVE, 0, SYN | ACK)
+    talk.next[PASSIVE] += 1
+    talk.say(1, *SELECT[PASSIVE])
+    return talk.capture.octets
+
+
 def reply_before_primary() -> bytes:
     talk, data = selected(), message("00008101000000000002")
     talk.next[ACTIVE] += len(data)
@@ -327,11 +353,59 @@ def reply_before_primary() -> bytes:
     return talk.capture.octets
 
 
+def clock_set_back() -> bytes:
+    """A primary is captured behind its ACK, and the clock is set back between them, by an hour."""
+    talk, hour = selected(), 3_600_000
+    talk.next[PASSIVE] += 14
+    talk.at(60_000)
+    talk.segment(ACTIVE, 0, ACK)
+    talk.at(60_000 - hour)
+    talk.segment(PASSIVE, -14, PUSH | ACK, message("00008601000000000001"))
+    talk.say(61_000 - hour, ACTIVE, "00000602000000000001")
+    return talk.capture.octets
+
+
 def ack_behind_a_gap() -> bytes:
     """A message isn't captured, and its end's next packet brings nothing."""
     talk = selected()
     talk.next[ACTIVE] += 14
     talk.segment(ACTIVE, 0, ACK)
+    return talk.capture.octets
+
+
+def acknowledged_behind_a_gap(later: int) -> bytes:
+    """The same, and so many packets later the other end acknowledges the message."""
+    talk = selected()
+    talk.next[ACTIVE] += 14
+    for _ in range(later):
+        talk.segment(ACTIVE, 0, ACK)
+    talk.segment(PASSIVE, 0, ACK)
+    return talk.capture.octets
+
+
+def before_a_gap_is_acknowledged(frame: Optional[str]) -> bytes:
+    """The same, and before that the other end says something, or closes, without having the message."""
+    talk = selected()
+    talk.at(3)
+    talk.segment(ACTIVE, 14, ACK)
+    if frame:
+        talk.say(4, PASSIVE, frame)
+    else:
+        talk.end(4, PASSIVE)
+        talk.next[PASSIVE] += 1
+    talk.next[ACTIVE] += 14
+    talk.segment(PASSIVE, 0, ACK)
+    return talk.capture.octets
+
+
+def separate_not_captured() -> bytes:
+    """Behind a Separate it counts for nothing that the reply comes past T3."""
+    talk = selected()
+    talk.say(3, ACTIVE, "00008101000000000002")
+    talk.segment(ACTIVE, 14, ACK)
+    talk.say(50_000, PASSIVE, "00000102000000000002")
+    talk.next[ACTIVE] += 14
+    talk.segment(PASSIVE, 0, ACK)
     return talk.capture.octets
 
 
@@ -457,6 +531,18 @@ def worked_cases() -> Iterator[Case]:
     yield from segment_cases()
     yield "a pure ACK behind what was not captured", ack_behind_a_gap(), Options(), lines_of(
         "incomplete packet=6 pass entries=3 sent=1 taken=1"), "Lost packet=6", 2
+    behind = {
+        "that is acknowledged with the next packet": acknowledged_behind_a_gap(1),
+        "that is acknowledged 4,096 packets later": acknowledged_behind_a_gap(4096),
+        "and an event, before it is acknowledged": before_a_gap_is_acknowledged("0000060b000000000001"),
+        "and a FIN, before it is acknowledged": before_a_gap_is_acknowledged(None),
+    }
+    for name, octets in behind.items():
+        yield f"a gap {name}", octets, Options(), lines_of(
+            "incomplete packet=6 pass entries=3 sent=1 taken=1"), "Lost packet=6", 2
+    yield "a Separate that was not captured, and a late reply", separate_not_captured(), Options(), lines_of(
+        "incomplete packet=7 pass entries=4 sent=2 taken=1 discarded=0 expired=0 waiting=1",
+        "incomplete packet=7 pass entries=4 sent=1 taken=2"), "Lost packet=7", 2
     yield "a reply within a foreign length", reply_behind(b"GET / HTTP/1.1\r\n"), Options(), lines_of(
         "incomplete packet=7 pass entries=4 sent=2 taken=1 discarded=0 expired=0 waiting=1",
         "incomplete packet=7 pass entries=4 sent=1 taken=2"), "Length packet=7", 2
@@ -485,8 +571,15 @@ def segment_cases() -> Iterator[Case]:
     for way, packet in ((ACTIVE, 2), (PASSIVE, 1)):
         yield f"one direction alone, {way}", one_direction(way), Options(), [
             f"{end}incomplete packet={packet}" for end in ENDS], f"Lost packet={packet}", 2
+    yield "a SYN and ACK first, and then the SYN", answer_first(True), Options(), lines_of(
+        "pass entries=3 sent=1 taken=1"), None, 0
+    yield "a SYN and ACK first, and no SYN", answer_first(False), Options(), [
+        f"{end}incomplete packet=1" for end in ENDS], "Lost packet=1", 2
+    yield "a SYN with octets that are acknowledged with it", syn_with_octets(), Options(), [
+        f"{end}incomplete packet={packet}" for packet in (1, 2) for end in ENDS], "Lost packet=1", 2
     both = lines_of("pass entries=5 sent=2 taken=2")
     yield "a reply before its primary", reply_before_primary(), Options(), both, None, 0
+    yield "a primary behind its ACK, and a clock that is set back", clock_set_back(), Options(), both, None, 0
     yield from header_cases()
 
 

@@ -56,7 +56,6 @@ begun_by begun pair happens.Down = went_down begun
 -- a refusal in these words, or want of memory
 abbrev pub IsRefusalIn : List ℕ → Stop → Type 0
 IsRefusalIn words (stop.Refused told) = string_bytes told ≡ words
-IsRefusalIn words stop.Endless = ⊥
 IsRefusalIn words stop.Memory = Unit {0}
 
 -- a connection doesn't come up at this packet, where the one before has other addresses or is up; or memory is wanting
@@ -64,7 +63,6 @@ abbrev pub Refuses : Option Begun → Pair → ℕ → Stop → Type 0
 Refuses begun pair packet (stop.Refused told) =
     (HasOthers begun pair × (string_bytes told ≡ codes "Peer packet=" ++ decimal packet))
     ⊎ (IsStillUp begun pair × (string_bytes told ≡ codes "Overlap packet=" ++ decimal packet))
-Refuses begun pair packet stop.Endless = ⊥
 Refuses begun pair packet stop.Memory = Unit {0}
 
 -- only what comes up is refused
@@ -76,7 +74,6 @@ Stops begun pair packet happens.Down why = why ≡ stop.Memory
 -- what is refused leaves the connection that came up last as it was
 abbrev pub Leaves : Stop → Option Begun → Option Begun → Type 0
 Leaves (stop.Refused told) old new = new ≡ old
-Leaves stop.Endless old new = Unit {0}
 Leaves stop.Memory old new = Unit {0}
 
 -- ---- what is told

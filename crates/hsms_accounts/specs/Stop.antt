@@ -2,8 +2,7 @@
 use Rattle.hsms_accounts.specs.declared.stop.Stop.{Stop}
 use Rattle.hsms_accounts.specs.declared.stop.Stop.TheVariants as stop
 
--- nothing that comes is refused: a log is endless, or memory is wanting
+-- nothing that comes is refused: memory is wanting
 abbrev pub IsNoRefusal : Stop → Type 0
 IsNoRefusal (stop.Refused words) = ⊥
-IsNoRefusal stop.Endless = Unit {0}
 IsNoRefusal stop.Memory = Unit {0}

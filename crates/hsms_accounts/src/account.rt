@@ -108,7 +108,7 @@ impl Account {
     ///
     /// # Errors
     ///
-    /// `Memory`; `Endless` where the log may have more than 2^62 lines. Then it has no verdict, and nothing more is noted.
+    /// `Memory`, also where the log may have more than 2^62 lines. Then it has no verdict, and nothing more is noted.
     #[tactic(auto, using(crate::proofs::Logs::noted))]
     pub fn note(&mut self, alloc: Global, remark: Remark, entry: &Entry) -> Result<(), Stop>
         ensures added { OnOk result (Adds (record { remark = remark; entry = Some entry.now }) self.old self.new) }
@@ -179,7 +179,7 @@ impl Account {
         let mut text = Text::new(alloc);
         match lay_remark(&mut text, remark) {
             Ok(()) => self.hear(alloc, text.octets()),
-            Err(_) => Err(self.give_up(Stop::Memory)),
+            Err(_) => Err(self.give_up()),
         }
     }
 
@@ -196,7 +196,7 @@ impl Account {
         let mut text = Text::new(alloc);
         match lay_entry(&mut text, entry) {
             Ok(()) => self.hear(alloc, text.octets()),
-            Err(_) => Err(self.give_up(Stop::Memory)),
+            Err(_) => Err(self.give_up()),
         }
     }
 
@@ -229,7 +229,7 @@ impl Account {
         ensures unrefused { IfErr result IsNoRefusal }
     {
         if self.lines >= GREATEST {
-            return Err(self.give_up(Stop::Endless));
+            return Err(self.give_up());
         }
         let Some(auditor) = &mut self.auditor else {
             return Err(Stop::Memory);
@@ -249,7 +249,7 @@ impl Account {
         ensures unrefused { IfErr result IsNoRefusal }
     {
         if self.lines >= GREATEST {
-            return Err(self.give_up(Stop::Endless));
+            return Err(self.give_up());
         }
         let Some(auditor) = &mut self.auditor else {
             return Err(Stop::Memory);
@@ -279,7 +279,7 @@ impl Account {
         };
         let count = octets.len() as u64;
         if count > GREATEST - self.lines {
-            return Err(Stop::Endless);
+            return Err(Stop::Memory);
         }
         let next = hear(alloc, auditor, octets)?;
         self.failed = failed_by(self.failed, &next, self.packet);
@@ -289,12 +289,12 @@ impl Account {
     }
 
     // Nothing more is noted.
-    fn give_up(&mut self, stop: Stop) -> Stop
+    fn give_up(&mut self) -> Stop
         ensures gone { self.new.auditor ≡ None }
-        ensures same { result ≡ stop }
+        ensures memory { IsNoRefusal result }
     {
         self.auditor = None;
-        stop
+        Stop::Memory
     }
 }
 

@@ -10,9 +10,7 @@ use std::alloc::AllocError;
 pub enum Stop {
     /// What comes is refused, in these words.
     Refused(String),
-    /// A log may have more lines than are counted.
-    Endless,
-    /// Memory is wanting.
+    /// Memory is wanting, or a log may have more than 2^62 lines.
     Memory,
 }
 

@@ -1,6 +1,6 @@
 -- A file that is read in blocks: what a step tells is what was to be told.
 use Rattle.std.proofs.Common.{◌≡◌, inl, inr, min, ◌≤◌, ◌<◌, ◌+◌, ◌-◌, ◌++◌, ◌∙◌, ℕ, Bool, true, false, List, [], ◌∷◌, length, take, drop, Option, None, Some, Result, Ok, Err, refl, sym, ap, subst, arith}
-use Rattle.std.proofs.lemmas.List.{append-nil, append_cancel_left, drop-append-le, drop-take, length-take-le, take-take}
+use Rattle.std.proofs.lemmas.List.{append_assoc, take-append-drop, append-nil, append_cancel_left, drop-append-le, drop-take, length-take-le, take-take}
 use Rattle.hsms_frame.specs.Device.{WhereTold, IsAtEnd, Stays}
 use Rattle.hsms_packets.specs.declared.front.Front.{Front}
 use Rattle.hsms_packets.specs.declared.front.Front.TheVariants as front
@@ -15,7 +15,7 @@ use Rattle.hsms_packets.specs.declared.reader.Opening.{Opening}
 use Rattle.hsms_packets.specs.declared.reader.Opening.TheVariants as opening
 use Rattle.hsms_packets.specs.File.{State, Packet, Ending, complete, cut, faulty, EndsAs, Reads, ReadsBehind, ReadsFile, front_at, size_of, after, packets_in, greatest_count, new_state, opening_at}
 use Rattle.hsms_frame.specs.Ahead.{ReadsMore}
-use Rattle.hsms_packets.specs.Blocks.{CountsOn, IsOfDevice, ends_after_find, ends_after_open, Reading, ReadsOn, ReadsAll, ReadsFor, OpensFor, OpensAs, FindsFront, FindsOpening, EndsWith, StepIsWithin, StepsAs, Tells, front_told, is_more, is_unopened, opening_told, packet_of, step_of}
+use Rattle.hsms_packets.specs.Blocks.{CountsOn, IsOfDevice, ends_after_find, ends_after_open, Reading, ReadsOn, ReadsAll, ReadsFor, OpensFor, OpensAs, FindsFront, FindsOpening, EndsWith, StepIsWithin, StepsAs, TakesFront, TakesHeader, TakesOn, Tells, front_told, is_more, is_unopened, opening_told, packet_of, step_of}
 use Rattle.hsms_packets.proofs.Behaving.{IsSound, front_is_sound, size_is_within, open_is_short, opening_is_short, opening_is_there}
 use Rattle.hsms_packets.proofs.Staying.{found_stays, fault_stays, packets_stay, opening_keeps, Keeps}
 
@@ -364,3 +364,30 @@ counts_on s now f n told now_is n_is told_is =
     by_front (front.Described i size) is = inl is
     by_front (front.Passed true size) is = inr is
     by_front (front.Passed false size) is = inl is
+
+-- ---- what is passed
+
+pub takes_front : (was now : Reading) (before octets input : List ℕ) (n : ℕ) (left : Option (List ℕ)) → before ≡ was.ahead
+    → ReadsMore before input octets left → now.last ≡ take n octets → now.ahead ≡ drop n octets → 0 < n → n ≤ length octets
+    → TakesFront was input now left
+takes_front was now before octets input n left before_is (rest, told, same) last_is ahead_is some fits =
+    let cut = take-append-drop n octets in
+    let parts : octets ≡ now.last ++ now.ahead = sym cut ∙ ap (λ (l : List ℕ). l ++ drop n octets) (sym last_is) ∙ ap (λ (l : List ℕ). now.last ++ l) (sym ahead_is) in
+    let long : length now.last ≡ n = ap length last_is ∙ length-take-le n octets fits in (
+      rest,
+      told,
+      ap (λ (l : List ℕ). l ++ input) (sym before_is) ∙ same ∙ ap (λ (l : List ℕ). l ++ rest) parts ∙ append_assoc now.last now.ahead rest,
+      omega (arith, long, some),
+    )
+
+pub takes_on : (was now : Reading) (input : List ℕ) (left : Option (List ℕ)) (st : Step) → TakesFront was input now left → TakesOn was input now left st
+takes_on was now input left (step.Packet n r) takes = takes
+takes_on was now input left step.Passed takes = takes
+takes_on was now input left step.End takes = tt
+
+pub takes_header : (now : Reading) (octets input : List ℕ) (n : ℕ) (left : Option (List ℕ)) → ReadsMore [] input octets left → now.ahead ≡ drop n octets
+    → TakesHeader input left now
+takes_header now octets input n left (rest, told, same) ahead_is =
+    let cut = take-append-drop n octets in
+    (take n octets, rest, told, same ∙ ap (λ (l : List ℕ). l ++ rest) (sym cut) ∙ append_assoc (take n octets) (drop n octets) rest
+    ∙ ap (λ (l : List ℕ). take n octets ++ (l ++ rest)) (sym ahead_is))

@@ -78,6 +78,20 @@ CountsOn (step.Packet n r) old new = (n ≡ min (old + 1) (2 ^ 64 - 1)) × (new 
 CountsOn step.Passed old new = (new ≡ old) ⊎ (new ≡ min (old + 1) (2 ^ 64 - 1))
 CountsOn step.End old new = new ≡ old
 
+-- The octets that a step but the last passes stand at the front of what was read ahead and of the input, and there are some.
+abbrev pub TakesFront : Reading → List ℕ → Reading → Option (List ℕ) → Type 0
+TakesFront was input now left =
+    (rest : List ℕ) × (left ≡ Some rest) × (was.ahead ++ input ≡ now.last ++ (now.ahead ++ rest)) × (0 < length now.last)
+
+abbrev pub TakesOn : Reading → List ℕ → Reading → Option (List ℕ) → Step → Type 0
+TakesOn was input now left (step.Packet n r) = TakesFront was input now left
+TakesOn was input now left step.Passed = TakesFront was input now left
+TakesOn was input now left step.End = Unit {0}
+
+-- octets at the front of the input were passed, and what is ahead of the file that was opened stands behind them
+abbrev pub TakesHeader : List ℕ → Option (List ℕ) → Reading → Type 0
+TakesHeader input left now = (header rest : List ℕ) × (left ≡ Some rest) × (input ≡ header ++ (now.ahead ++ rest))
+
 -- a part of an input was taken
 abbrev pub LeavesRest : List ℕ → Option (List ℕ) → Type 0
 LeavesRest input left = (taken rest : List ℕ) × (input ≡ taken ++ rest) × (left ≡ Some rest)

@@ -49,13 +49,15 @@ impl Model for Packets {
 impl Packets {
     ghost use Rattle.std.specs.Prelude.{◌≡◌, ◌≤◌, ◌+◌, IfOk, OnErr, length};
     ghost use Rattle.hsms_frame.specs.Device.{WhereTold};
-    ghost use Rattle.hsms_packets.specs.Blocks.{CountsOn, OpensAs, PassesOn, StepIsWithin, StepsAs, ends_after_open, ends_after_step, failures_after, greatest_ahead};
+    ghost use Rattle.hsms_packets.specs.Blocks.{CountsOn, OpensAs, PassesOn, StepIsWithin, StepsAs, TakesHeader, TakesOn, ends_after_open, ends_after_step, failures_after, greatest_ahead};
 
     /// Opens a file: reads until its format and its header are there. Where that stops, the octets that were read are
     /// lost.
     pub fn open<R: Source>(alloc: Global, source: &mut R) -> Result<Packets, FileFault>
         ensures opened { WhereTold (R.state source.old).left (λ input. OpensAs input result (R.state source.new).left) }
         ensures count { IfOk result (λ packets. packets.state.packets ≡ 0) }
+        ensures takes { WhereTold (R.state source.old).left (λ input.
+            IfOk result (TakesHeader input (R.state source.new).left)) }
         ensures ends { (R.state source.new).ends ≡ ends_after_open result (R.state source.old).ends }
         ensures failures { (R.state source.new).failures ≡ failures_after result (R.state source.old).failures }
     {
@@ -92,6 +94,8 @@ impl Packets {
     pub fn next<R: Source>(&mut self, source: &mut R) -> Result<Step, FileFault>
         ensures step { WhereTold (R.state source.old).left (λ input. StepsAs self.old input result self.new (R.state source.new).left) }
         ensures there { IfOk result (StepIsWithin (length self.new.last)) }
+        ensures takes { WhereTold (R.state source.old).left (λ input.
+            IfOk result (TakesOn self.old input self.new (R.state source.new).left)) }
         ensures onward { IfOk result (λ step. PassesOn step self.old.state.place self.new.state.place) }
         ensures counts { IfOk result (λ step. CountsOn step self.old.state.packets self.new.state.packets) }
         ensures err { OnErr result (self.new.state ≡ self.old.state) }

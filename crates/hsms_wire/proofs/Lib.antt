@@ -2,6 +2,7 @@ mod Counted
 mod Tellings
 mod Unrefused
 mod Written
+mod Passed
 mod Quiet
 mod Logging
 mod Following

@@ -28,7 +28,6 @@ use Rattle.hsms_wire.proofs.Tellings.{ends_with}
 
 pub none_refused : (st : Stop) → IsNoRefusal st → IsRefused st → ⊥
 none_refused (stop.Refused words) none refused = none
-none_refused stop.Endless none refused = refused
 none_refused stop.Memory none refused = refused
 
 pub memory_refuses : (st : Stop) (P : Type 0) → st ≡ stop.Memory → IsRefused st → P
@@ -49,9 +48,6 @@ err_holds (Err st) P holds = λ refused. holds
 -- a refusal is told as one, and nothing else is
 pub told_refused : (st : Stop) (fault : ToolFault) → TellsStop st fault → IsRefusal fault → IsRefused st
 told_refused (stop.Refused words) fault tells refusal = tt
-told_refused stop.Endless (tool.Device word) tells refusal = refusal
-told_refused stop.Endless (tool.Refused words) tells refusal = tells
-told_refused stop.Endless tool.Memory tells refusal = tells
 told_refused stop.Memory fault tells refusal = let none : ⊥ = subst IsRefusal tells refusal in absurd none
 
 -- ---- before the end
@@ -107,7 +103,6 @@ concludes_refused missing table old noted mid new (Err st) is ends finishes page
 
 answers_refused : (found : Found) (st : Stop) (fault : ToolFault) → Finishes found (Err st) → TellsStop st fault → IsRefusal fault → Answers found (Err fault)
 answers_refused found (stop.Refused words) fault finishes tells refusal = subst (λ (f : ToolFault). Answers found (Err f)) (sym tells) finishes
-answers_refused found stop.Endless fault finishes tells refusal = absurd finishes
 answers_refused found stop.Memory fault finishes tells refusal = let none : ⊥ = subst IsRefusal tells refusal in absurd none
 
 pub finishes_refused : (missing : Option Shortfall) (table : Table) (old mid : Report) (out now : Option (List ℕ)) (st : Stop) (fault : ToolFault)

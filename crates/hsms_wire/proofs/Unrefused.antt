@@ -66,7 +66,6 @@ is_memory_in_log st old IsSo is refused = let none : ⊥ = subst IsRefused is re
 pub quiet_in_log : (st : Stop) (old : Report) (IsSo : Journal → Type 0) → IsNoRefusal st → InLog st old IsSo
 unfolding InLog
 quiet_in_log (stop.Refused words) old IsSo none refused = absurd none
-quiet_in_log stop.Endless old IsSo none refused = absurd refused
 quiet_in_log stop.Memory old IsSo none refused = absurd refused
 
 pub verdicts_in_log : (st : Stop) (old : Report) (IsSo : Journal → Type 0) → old.manner ≡ Verdicts → InLog st old IsSo

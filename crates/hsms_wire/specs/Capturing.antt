@@ -1,5 +1,5 @@
 -- What a call of `hsms capture` answers of its devices.
-use Rattle.std.specs.Prelude.{◌≡◌, ◌⊎◌, ◌+◌, ◌-◌, ◌^◌, ◌++◌, min, List, ℕ, Bool, Option, Some, codes, Result, Ok, Err}
+use Rattle.std.specs.Prelude.{◌≡◌, ◌≤◌, ◌+◌, ◌-◌, ◌^◌, ◌++◌, length, min, List, ℕ, Bool, Option, Some, codes, Result, Ok, Err}
 use Rattle.hsms_frame.specs.Device.{Grows, WhereTold}
 use Rattle.hsms_options.specs.declared.fault.ToolFault.{ToolFault}
 use Rattle.hsms_options.specs.declared.fault.ToolFault.TheVariants as tool
@@ -25,11 +25,20 @@ CapturesTo active passive before after result =
     × Grows before after (lines_of active passive (reading ++ ending) ++ line_of left_out)
     × Answers (found_behind (found_with (found_behind nothing_found reading) missing) ending) result
 
--- where a device is named, writing failed, or a log is endless
-abbrev pub IsWriteOrEndless : ToolFault → Type 0
-IsWriteOrEndless (tool.Device word) = (word.now ≡ codes "Write") ⊎ (word.now ≡ codes "Endless")
-IsWriteOrEndless (tool.Refused words) = Unit {0}
-IsWriteOrEndless tool.Memory = Unit {0}
+-- it is told that there is more than the command counts
+abbrev pub IsEndless : ToolFault → Type 0
+IsEndless (tool.Device word) = word.now ≡ codes "Endless"
+IsEndless (tool.Refused words) = ⊥
+IsEndless tool.Memory = ⊥
+
+-- so many octets or more: a capture is read in so many steps, and each passes one or more
+abbrev pub HasMany : List ℕ → Type 0
+HasMany input = 2 ^ 64 - 4 ≤ length input
+
+-- so many octets or more were passed between these
+abbrev pub HasPassed : ℕ → List ℕ → Option (List ℕ) → List ℕ → Option (List ℕ) → Type 0
+HasPassed n ahead from now left =
+    WhereTold from (λ input. (rest : List ℕ) × (left ≡ Some rest) × (n + (length now + length rest) ≤ length ahead + length input))
 
 -- why a file isn't read on behind so many packets is told by the word of its device, as want of memory, or as what is
 -- missing from the next packet on

@@ -134,7 +134,6 @@ RefusesWith found words =
 abbrev pub Finishes : Found → Result Bool Stop → Type 0
 Finishes found (Ok well) = AnswersWell found well
 Finishes found (Err (stop.Refused words)) = (found.failed ≡ false) × RefusesWith found (string_bytes words)
-Finishes found (Err stop.Endless) = ⊥
 Finishes found (Err stop.Memory) = Unit {0}
 
 -- the same, as the command answers it

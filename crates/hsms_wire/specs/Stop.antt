@@ -1,5 +1,5 @@
 -- How the command tells why nothing more is told of a capture.
-use Rattle.std.specs.Prelude.{◌≡◌, ℕ, List, codes, string_bytes}
+use Rattle.std.specs.Prelude.{◌≡◌, ℕ, List, string_bytes}
 use Rattle.hsms_frame.specs.Device.{WhereTold}
 use Rattle.hsms_options.specs.declared.fault.ToolFault.{ToolFault}
 use Rattle.hsms_options.specs.declared.fault.ToolFault.TheVariants as tool
@@ -8,12 +8,9 @@ use Rattle.hsms_wire.specs.declared.shortfall.Shortfall.{Shortfall}
 use Rattle.hsms_accounts.specs.declared.stop.Stop.{Stop}
 use Rattle.hsms_accounts.specs.declared.stop.Stop.TheVariants as stop
 
--- in the same words, or by the word of its name
+-- in the same words
 abbrev pub TellsStop : Stop → ToolFault → Type 0
 TellsStop (stop.Refused words) fault = fault ≡ tool.Refused words
-TellsStop stop.Endless (tool.Device word) = word.now ≡ codes "Endless"
-TellsStop stop.Endless (tool.Refused words) = ⊥
-TellsStop stop.Endless tool.Memory = ⊥
 TellsStop stop.Memory fault = fault ≡ tool.Memory
 
 -- these words tell what is missing; those for a fault of the file aren't said here
@@ -23,13 +20,11 @@ TellsShortfall shortfall words = WhereTold (shortfall_words shortfall) (λ text.
 -- a refusal for what is missing, or want of memory for its words
 abbrev pub IsRefusalOf : Shortfall → Stop → Type 0
 IsRefusalOf shortfall (stop.Refused words) = TellsShortfall shortfall (string_bytes words)
-IsRefusalOf shortfall stop.Endless = ⊥
 IsRefusalOf shortfall stop.Memory = Unit {0}
 
 -- what comes is refused
 abbrev pub IsRefused : Stop → Type 0
 IsRefused (stop.Refused words) = Unit {0}
-IsRefused stop.Endless = ⊥
 IsRefused stop.Memory = ⊥
 
 -- as the command tells it

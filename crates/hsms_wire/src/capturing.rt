@@ -1,9 +1,9 @@
 //! `hsms capture`: a capture, read once.
 
-ghost use Rattle.std.specs.Prelude.{◌≡◌, [], IfErr, IfOk, OnOk, Ok, Err, None, codes};
+ghost use Rattle.std.specs.Prelude.{◌≡◌, ◌++◌, [], IfErr, IfOk, OnOk, Ok, Err, None, codes};
 ghost use Rattle.hsms_frame.specs.Device.{WhereTold};
-ghost use Rattle.hsms_lines.specs.Devices.{CountsFailure, IsReadWriteOrEndless};
-ghost use Rattle.hsms_wire.specs.Capturing.{CapturesTo, GrowsBySome, IsMissingBy, IsWriteOrEndless};
+ghost use Rattle.hsms_lines.specs.Devices.{CountsFailure, HasWord, IsReadWriteOrEndless};
+ghost use Rattle.hsms_wire.specs.Capturing.{CapturesTo, GrowsBySome, HasMany, IsEndless, IsMissingBy};
 ghost use Rattle.hsms_wire.specs.Dealt.{CapturesFile};
 ghost use Rattle.hsms_wire.specs.Kept.{ConcludesAsDealt, FinishesAsDealt, PutsAsDealt, ReadsAsDealt, ShowsAsDealt, wanted_of};
 ghost use Rattle.hsms_wire.specs.RefusedFile.{ConcludesAsRefused, FinishesAsRefused, PutsAsRefused, ReadsAsRefused, RefusesFile, ShowsAsRefused};
@@ -40,9 +40,8 @@ const MOST_STEPS: u64 = u64::MAX - 3;
 /// - `Refused`: where what is told is incomplete and no log fails, by what was missing first; where no connection came
 ///   up; and where the log of an end would be one of two connections at once, or of other addresses. What is sure was
 ///   written before.
-/// - `Device`: `Read` or `Write`, where a device failed, and `Endless`, where a log may have more than 2^62 lines, or the
-///   capture has 2^64 - 4 blocks or more.
-/// - `Memory`.
+/// - `Device`: `Read` or `Write`, where a device failed, and `Endless`, where the capture has 2^64 - 4 blocks or more.
+/// - `Memory`, also where a log may have more than 2^62 lines.
 #[tactic(auto, using(crate::proofs::Written::none_more, crate::proofs::Written::some_more))]
 pub fn capture_to<R: Source, W: Sink>(
     alloc: Global,
@@ -51,6 +50,7 @@ pub fn capture_to<R: Source, W: Sink>(
     sink: &mut W,
 ) -> Result<bool, ToolFault>
     ensures word { IfErr result IsReadWriteOrEndless }
+    ensures endless { IfErr result (λ fault. IsEndless fault → WhereTold (R.state source.old).left HasMany) }
     ensures reads { CountsFailure (codes "Read") result (R.state source.old).failures (R.state source.new).failures }
     ensures writes { CountsFailure (codes "Write") result (W.state sink.old).failures (W.state sink.new).failures }
     ensures some { GrowsBySome (W.state sink.old).written (W.state sink.new).written }
@@ -88,6 +88,8 @@ fn read_all<R: Source, W: Sink>(
     report: &mut Report,
 ) -> Result<Option<Shortfall>, ToolFault>
     ensures word { IfErr result IsReadWriteOrEndless }
+    ensures endless { IfErr result (λ fault. IsEndless fault → WhereTold (R.state source.old).left (λ input.
+        HasMany (packets.old.ahead ++ input))) }
     ensures reads { CountsFailure (codes "Read") result (R.state source.old).failures (R.state source.new).failures }
     ensures writes { CountsFailure (codes "Write") result (W.state sink.old).failures (W.state sink.new).failures }
     ensures some { GrowsBySome (W.state sink.old).written (W.state sink.new).written }
@@ -130,7 +132,7 @@ fn take<W: Sink>(
     record: &Record,
     octets: &[u8],
 ) -> Result<Option<Shortfall>, ToolFault>
-    ensures word { IfErr result IsWriteOrEndless }
+    ensures word { IfErr result (HasWord (codes "Write")) }
     ensures writes { CountsFailure (codes "Write") result (W.state sink.old).failures (W.state sink.new).failures }
     ensures some { GrowsBySome (W.state sink.old).written (W.state sink.new).written }
     ensures lines { OnOk result (Writes report.old (W.state sink.old).written report.new (W.state sink.new).written) }
@@ -213,7 +215,7 @@ fn finish<W: Sink>(
     mut report: Report,
     missing: Option<Shortfall>,
 ) -> Result<bool, ToolFault>
-    ensures word { IfErr result IsWriteOrEndless }
+    ensures word { IfErr result (HasWord (codes "Write")) }
     ensures writes { CountsFailure (codes "Write") result (W.state sink.old).failures (W.state sink.new).failures }
     ensures some { GrowsBySome (W.state sink.old).written (W.state sink.new).written }
     ensures lines { IfOk result (λ well. EndsWith missing report (W.state sink.old).written (W.state sink.new).written (Ok well)) }

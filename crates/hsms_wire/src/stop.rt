@@ -11,7 +11,6 @@ pub fn fault_of(stop: Stop) -> ToolFault
 {
     match stop {
         Stop::Refused(words) => ToolFault::Refused(words),
-        Stop::Endless => ToolFault::Device("Endless"),
         Stop::Memory => ToolFault::Memory,
     }
 }

@@ -2,6 +2,7 @@ use Rattle.std.proofs.Common.{Some}
 use Rattle.std.proofs.lemmas.Result.{err_from_is_err_and}
 use Rattle.hsms_wire.specs.Kept.{FinishesAsDealt}
 use Rattle.hsms_wire.proofs.FileRefusals.{file_refused, missing_refuses, refuses_none, refuses_opened, refuses_reading}
+use Rattle.hsms_wire.proofs.Passed.{many_in, missing_ends, never_endless}
 use Rattle.hsms_wire.proofs.Refusing.{fails_file, missing_fails, ok_file}
 use Rattle.hsms_wire.proofs.Tellings.{captures, captures_told, writes_nothing}
 use Rattle.hsms_wire.proofs.Whole.{captures_none, captures_opened, is_blank}
@@ -104,3 +105,19 @@ pub returns-in_err-missing-in-Err-clause-refused : goal.returns-in_err-missing-i
 returns-in_err-missing-in-Err-clause-refused g c =
     let p = err_from_is_err_and c.from_residual-in_err-missing-in-Err.result c.from_residual-in_err-missing-in-Err.ensures.1 in
     rw (p.1, p.2) (λ refusal. absurd (missing_refuses c.in-Err.fault 0 _ c.in_err-missing-in-Err.ensures refusal))
+
+pub returns-in_ok-missing-in-Ok-clause-endless : goal.returns-in_ok-missing-in-Ok-clause-endless
+returns-in_ok-missing-in-Ok-clause-endless g c = never_endless c.finish.result _ c.finish.ensures.word
+
+pub returns-in_ok-missing-in-Err-clause-endless : goal.returns-in_ok-missing-in-Err-clause-endless
+returns-in_ok-missing-in-Err-clause-endless g c = never_endless c.finish-in-Err.result _ c.finish-in-Err.ensures.word
+
+pub returns-in_err-missing-in-Ok-clause-endless : goal.returns-in_err-missing-in-Ok-clause-endless
+returns-in_err-missing-in-Ok-clause-endless g c =
+    let p = err_from_is_err_and c.from_residual.result c.from_residual.ensures.1 in
+    rw (p.1, p.2) (λ endless. many_in c.in-Ok.packets _ _ c.in-Ok.ensures.takes (c.in_err-missing-in-Ok.ensures.endless endless))
+
+pub returns-in_err-missing-in-Err-clause-endless : goal.returns-in_err-missing-in-Err-clause-endless
+returns-in_err-missing-in-Err-clause-endless g c =
+    let p = err_from_is_err_and c.from_residual-in_err-missing-in-Err.result c.from_residual-in_err-missing-in-Err.ensures.1 in
+    rw (p.1, p.2) (missing_ends c.in-Err.fault 0 _ _ c.in_err-missing-in-Err.ensures)

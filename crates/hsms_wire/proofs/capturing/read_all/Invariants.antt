@@ -1,5 +1,5 @@
 use Rattle.std.proofs.Common.{◌≡◌, ◌≤◌, ◌+◌}
-use Rattle.hsms_wire.specs.Capturing.{GrowsBySome}
+use Rattle.hsms_wire.specs.Capturing.{GrowsBySome, HasPassed}
 use Rattle.hsms_wire.specs.Report.{Writes}
 use Rattle.hsms_wire.proofs.Whole.{IsSoFar}
 use Rattle.hsms_wire.proofs.capturing.read_all.Given as goal
@@ -12,5 +12,6 @@ invariant-loop g l =
     × Writes l.initial.report (g.W.Sink.state l.initial.sink).written l.report (g.W.Sink.state l.sink).written
     × GrowsBySome (g.W.Sink.state l.initial.sink).written (g.W.Sink.state l.sink).written
     × (l.packets.state.packets ≤ l.initial.packets.state.packets + l.counter)
+    × HasPassed l.counter l.initial.packets.ahead (g.R.Source.state l.initial.source).left l.packets.ahead (g.R.Source.state l.source).left
     × IsSoFar l.initial.packets (g.R.Source.state l.initial.source).left l.initial.table l.initial.report (g.W.Sink.state l.initial.sink).written
     l.packets (g.R.Source.state l.source).left l.table l.report (g.W.Sink.state l.sink).written

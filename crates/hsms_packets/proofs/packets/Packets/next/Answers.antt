@@ -1,9 +1,9 @@
-use Rattle.std.proofs.Common.{ℕ, refl, ap, subst, ◌∙◌}
+use Rattle.std.proofs.Common.{ℕ, ◌<◌, refl, sym, ap, subst, ◌∙◌}
 use Rattle.std.proofs.lemmas.Result.{err_from_is_err_and}
 use Rattle.hsms_packets.specs.declared.fault.FileFault.TheVariants as stop
 use Rattle.hsms_packets.specs.Blocks.{CountsOn, Reading}
 use Rattle.hsms_packets.specs.contracts.packets.Packets.{the_view}
-use Rattle.hsms_packets.proofs.Stepping.{counts_on, end_step, err_step, pass_step, size_fits, step_is_within}
+use Rattle.hsms_packets.proofs.Stepping.{counts_on, end_step, err_step, pass_step, size_fits, step_is_within, takes_front, takes_on}
 use Rattle.hsms_packets.proofs.packets.Packets.next.Goals as goal
 
 pub returns-in_err-front-clause-step : goal.returns-in_err-front-clause-step
@@ -56,3 +56,15 @@ pub returns-clause-counts : goal.returns-clause-counts
 returns-clause-counts g c =
     subst (λ (n : ℕ). CountsOn c.told_step.result n c.pass-2.new.self.packets) (ap (λ (r : Reading). r.state.packets) c.self.view_is)
     (counts_on c.self.inside.reader c.pass-2.new.self c.in-Some.front c.packets.result c.told_step.result c.in-Ok.ensures.ok c.packets.ensures c.told_step.ensures)
+
+pub returns-clause-takes : goal.returns-clause-takes
+returns-clause-takes g c = λ input told.
+    let read = rw c.in-Some.is at c.in_ok-front.ensures.read in
+    let found = rw c.in-Some.is at c.in_ok-front.ensures.found in
+    let before_is = c.pass.ensures ∙ ap (λ (r : Reading). r.ahead) c.self.view_is in
+    let now = the_view (record { reader = c.pass-2.new.self; ahead = c.next_front.new.ahead; last = c.in-Ok.size }) in
+    let left = (g.R.Source.state c.next_front.new.source).left in
+    takes_on c.args.self.now now input left c.told_step.result
+    (takes_front c.args.self.now now c.pass.new.self c.next_front.new.ahead input c.in-Ok.size left before_is (read input told) refl refl
+    (subst (λ (n : ℕ). 0 < n) (sym c.in-Ok.ensures.size) found.1)
+    (size_fits c.self.inside.reader c.next_front.new.ahead c.in-Some.front c.in-Ok.size found c.in-Ok.ensures.size))

@@ -5,7 +5,7 @@ use Rattle.hsms_frame.specs.Ahead.{ReadsMore}
 use Rattle.hsms_packets.specs.Blocks.{OpensFor}
 use Rattle.hsms_packets.specs.contracts.packets.Packets.{the_view}
 use Rattle.hsms_packets.proofs.Behaving.{opening_is_there}
-use Rattle.hsms_packets.proofs.Stepping.{not_opened, opened}
+use Rattle.hsms_packets.proofs.Stepping.{not_opened, opened, takes_header}
 use Rattle.hsms_packets.proofs.packets.Packets.open.Goals as goal
 
 pub returns-in_err-format-clause-opened : goal.returns-in_err-format-clause-opened
@@ -25,3 +25,10 @@ returns-clause-opened g c = λ input told.
     opened (the_view (record { reader = c.new-2.result; ahead = c.pass.new.self; last = 0 })) input c.opening.new.ahead c.in_ok-format.format c.in_ok-format.size left
     (subst (λ (l : List ℕ). ReadsMore l input c.opening.new.ahead left) c.in_ok-ahead.ensures (c.in_ok-format.ensures.read input told))
     c.in_ok-format.ensures.found c.new-2.ensures c.pass.ensures
+
+pub returns-clause-takes : goal.returns-clause-takes
+returns-clause-takes g c = λ input told.
+    let left = (g.R.Source.state c.opening.new.source).left in
+    takes_header (the_view (record { reader = c.new-2.result; ahead = c.pass.new.self; last = 0 })) c.opening.new.ahead input c.in_ok-format.size left
+    (subst (λ (l : List ℕ). ReadsMore l input c.opening.new.ahead left) c.in_ok-ahead.ensures (c.in_ok-format.ensures.read input told))
+    c.pass.ensures
