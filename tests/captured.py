@@ -497,8 +497,10 @@ def worked_cases() -> Iterator[Case]:
     yield "a header alone", front[:24], Options(), [], "NoConnection", 2
     yield "a header alone, of which a log is asked", front[:24], Options(log="host"), [], "NoConnection", 2
     yield "a log", b"hsms-log 2 host", Options(), [], "Capture Unknown octet=0", 2
-    yield "gzip", gzip.compress(late), Options(), [], "Capture Unknown octet=0", 2
-    yield "zstd", bytes.fromhex("28b52ffd") + late, Options(log="host"), [], "Capture Unknown octet=0", 2
+    yield "gzip", gzip.compress(late), Options(), [], "Capture Gzip octet=0", 2
+    yield "zstd", bytes.fromhex("28b52ffd") + late, Options(log="host"), [], "Capture Zstd octet=0", 2
+    yield "almost zstd", bytes.fromhex("28b52ffc") + late, Options(), [], "Capture Unknown octet=0", 2
+    yield "almost gzip", bytes.fromhex("1f8a0800") + late, Options(), [], "Capture Unknown octet=0", 2
     yield "another port", late, Options(port=5001), [], "NoConnection", 2
     yield "another link", of_link(147), Options(), ["# 14 packets left out: link 14"], "NoConnection", 2
     yield "cut within a packet", front[:-1], Options(), lines_of(

@@ -65,7 +65,8 @@ def read_file(octets: bytes) -> File:
         elif front == SECTION:
             read_pcapng(file, octets)
         else:
-            raise Stopped("Capture Unknown octet=0")
+            packed = {b"\x1f\x8b": "Gzip", b"\x28\xb5": "Zstd" if front[2:] == b"\x2f\xfd" else "Unknown"}
+            raise Stopped(f"Capture {packed.get(front[:2], 'Unknown')} octet=0")
     except Stopped as why:
         file.fault = str(why)
     return file

@@ -388,6 +388,10 @@ takes_on was now input left step.End takes = tt
 pub takes_header : (now : Reading) (octets input : List ℕ) (n : ℕ) (left : Option (List ℕ)) → ReadsMore [] input octets left → now.ahead ≡ drop n octets
     → TakesHeader input left now
 takes_header now octets input n left (rest, told, same) ahead_is =
-    let cut = take-append-drop n octets in
-    (take n octets, rest, told, same ∙ ap (λ (l : List ℕ). l ++ rest) (sym cut) ∙ append_assoc (take n octets) (drop n octets) rest
-    ∙ ap (λ (l : List ℕ). take n octets ++ (l ++ rest)) (sym ahead_is))
+    let cut = take-append-drop n octets in (
+      take n octets,
+      rest,
+      told,
+      same ∙ ap (λ (l : List ℕ). l ++ rest) (sym cut) ∙ append_assoc (take n octets) (drop n octets) rest
+          ∙ ap (λ (l : List ℕ). take n octets ++ (l ++ rest)) (sym ahead_is),
+    )

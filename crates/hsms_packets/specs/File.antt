@@ -1,5 +1,5 @@
 -- The packets of a capture file.
-use Rattle.std.specs.Prelude.{◌≡◌, ◌≤◌, ◌<◌, ◌+◌, ◌-◌, ◌%◌, ◌^◌, ◌==◌, ℕ, Bool, min, nat_lt, if◌then◌else◌, List, [], ◌∷◌, ◌++◌, length, take, drop, Option, Result, Ok, Err}
+use Rattle.std.specs.Prelude.{◌≡◌, ◌≤◌, ◌<◌, ◌+◌, ◌-◌, ◌%◌, ◌/◌, ◌^◌, ◌==◌, ℕ, Bool, min, nat_lt, if◌then◌else◌, List, [], ◌∷◌, ◌++◌, length, take, drop, Option, Result, Ok, Err}
 use Rattle.hsms_packets.specs.declared.number.Order.{Order}
 use Rattle.hsms_packets.specs.declared.number.Order.TheVariants as order
 use Rattle.hsms_packets.specs.declared.front.Front.{Front}
@@ -23,6 +23,12 @@ pcap_opening_at o parts octets =
     if nat_lt (length octets) 24 then opening.More else
     opening.Opened (format.Pcap o parts (number_in o 4 (drop 20 octets) % 65536)) 24
 
+-- a file that is none is refused by what it is, where its first four octets tell that
+abbrev pub no_capture : ℕ → CaptureFault
+no_capture magic =
+    if magic == 0x28b52ffd then fault.Zstd else
+    (if magic / 65536 == 0x1f8b then fault.Gzip else fault.Unknown)
+
 -- A file of pcap begins with its magic number, in the order of all its numbers, with micro- or nanoseconds; one of pcapng
 -- with a section's header, which tells the order.
 unfoldable pub opening_at : List ℕ → Result Opening CaptureFault
@@ -33,7 +39,7 @@ opening_at octets =
     (if number_in order.Big 4 octets == 0xa1b23c4d then Ok (pcap_opening_at order.Big 1000000 octets) else
     (if number_in order.Big 4 octets == 0x4d3cb2a1 then Ok (pcap_opening_at order.Little 1000000 octets) else
     (if number_in order.Big 4 octets == 0x0a0d0d0a then Ok (opening.Opened (format.Pcapng order.Little) 0) else
-    Err fault.Unknown)))))
+    Err (no_capture (number_in order.Big 4 octets)))))))
 
 -- ---- what comes behind
 

@@ -1,7 +1,7 @@
 //! A capture file, a record or block at a time.
 
 ghost use Rattle.std.specs.Prelude.{◌≡◌, ◌≤◌, ◌<◌, ◌+◌, IfOk, length, take, drop};
-ghost use Rattle.hsms_packets.specs.File.{HasOpened, opening_at, pcap_opening_at};
+ghost use Rattle.hsms_packets.specs.File.{HasOpened, no_capture, opening_at, pcap_opening_at};
 ghost use Rattle.hsms_packets.specs.Number.{number_in};
 
 use crate::fault::CaptureFault;
@@ -149,8 +149,21 @@ pub fn format_of(octets: &[u8]) -> Result<Opening, CaptureFault>
             },
             0,
         )),
-        _ => Err(CaptureFault::Unknown),
+        other => Err(no_capture(other)),
     }
+}
+
+// What a file is that is none, by its first four octets.
+fn no_capture(magic: u32) -> CaptureFault
+    ensures { result ≡ no_capture magic }
+{
+    if magic == 0x28b52ffd {
+        return CaptureFault::Zstd;
+    }
+    if magic >> 16 == 0x1f8b {
+        return CaptureFault::Gzip;
+    }
+    CaptureFault::Unknown
 }
 
 // The header of a pcap file, of whose link type the lowest 16 bits count.

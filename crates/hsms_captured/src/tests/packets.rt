@@ -243,7 +243,9 @@ fn is_like(segment: &Segment, other: &Segment) -> bool {
 #[test]
 fn files_that_are_none(rt: std::rt::HostRuntime) {
     let zipped = format_of(b"\x1f\x8b\x08\x00".as_slice());
-    assert_so(&rt, matches!(zipped, Err(CaptureFault::Unknown)), "gzip");
+    assert_so(&rt, matches!(zipped, Err(CaptureFault::Gzip)), "gzip");
+    let packed = format_of(b"\x28\xb5\x2f\xfd".as_slice());
+    assert_so(&rt, matches!(packed, Err(CaptureFault::Zstd)), "zstd");
     let text = format_of(b"hsms-log 1".as_slice());
     assert_so(&rt, matches!(text, Err(CaptureFault::Unknown)), "a log");
     let part = format_of(b"\x0a\x0d".as_slice());
