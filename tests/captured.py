@@ -171,7 +171,7 @@ SMALLEST = {
         "incomplete packet=9 pass entries=4 sent=2 taken=1 discarded=0 expired=0 waiting=1",
         "incomplete packet=9 pass entries=4 sent=1 taken=2", "Lost packet=9",
     ),
-    "span-and-loss": ("incomplete packet=7 pass entries=3 sent=1 taken=1", None, "Lost packet=7"),
+    "span-and-loss": ("incomplete packet=8 pass entries=3 sent=1 taken=1", None, "Lost packet=8"),
     "own-order": ("pass entries=5 sent=2 taken=2", None, None),
     "stale-ack": ("pass entries=3 sent=1 taken=1", None, None),
     "gap-at-end": ("incomplete packet=7 pass entries=3 sent=1 taken=1", None, "Lost packet=7"),
@@ -533,18 +533,19 @@ def worked_cases() -> Iterator[Case]:
     yield from segment_cases()
     yield "a pure ACK behind what was not captured", ack_behind_a_gap(), Options(), lines_of(
         "incomplete packet=6 pass entries=3 sent=1 taken=1"), "Lost packet=6", 2
-    behind = {
-        "that is acknowledged with the next packet": acknowledged_behind_a_gap(1),
-        "that is acknowledged 4,096 packets later": acknowledged_behind_a_gap(4096),
-        "and an event, before it is acknowledged": before_a_gap_is_acknowledged("0000060b000000000001"),
-        "and a FIN, before it is acknowledged": before_a_gap_is_acknowledged(None),
-    }
-    for name, octets in behind.items():
+    behind = (
+        ("that is acknowledged with the next packet", acknowledged_behind_a_gap(1), 7),
+        ("that is acknowledged 4,096 packets later", acknowledged_behind_a_gap(4096), 4102),
+        ("that is acknowledged 4,097 packets later", acknowledged_behind_a_gap(4097), 6),
+        ("and an event, before it is acknowledged", before_a_gap_is_acknowledged("0000060b000000000001"), 8),
+        ("and a FIN, before it is acknowledged", before_a_gap_is_acknowledged(None), 8),
+    )
+    for name, octets, packet in behind:
         yield f"a gap {name}", octets, Options(), lines_of(
-            "incomplete packet=6 pass entries=3 sent=1 taken=1"), "Lost packet=6", 2
+            f"incomplete packet={packet} pass entries=3 sent=1 taken=1"), f"Lost packet={packet}", 2
     yield "a Separate that was not captured, and a late reply", separate_not_captured(), Options(), lines_of(
-        "incomplete packet=7 pass entries=4 sent=2 taken=1 discarded=0 expired=0 waiting=1",
-        "incomplete packet=7 pass entries=4 sent=1 taken=2"), "Lost packet=7", 2
+        "incomplete packet=9 pass entries=4 sent=2 taken=1 discarded=0 expired=0 waiting=1",
+        "incomplete packet=9 pass entries=4 sent=1 taken=2"), "Lost packet=9", 2
     yield "a reply within a foreign length", reply_behind(b"GET / HTTP/1.1\r\n"), Options(), lines_of(
         "incomplete packet=7 pass entries=4 sent=2 taken=1 discarded=0 expired=0 waiting=1",
         "incomplete packet=7 pass entries=4 sent=1 taken=2"), "Length packet=7", 2

@@ -312,7 +312,7 @@ CASES = [
      "pass entries=6 sent=2 taken=2 discarded=0 expired=0 waiting=0", 0, ""),
     (joined, [*HOST, "--joined", "--port", "5001"], [], "", 2, "hsms: NoConnection\n"),
     (gap, HOST, ["0 up", *SELECTED, "3 < 0000060b000000000001"],
-     "pass entries=4 sent=1 taken=2 discarded=0 expired=0 waiting=0", 2, "hsms: Lost packet=7\n"),
+     "pass entries=4 sent=1 taken=2 discarded=0 expired=0 waiting=0", 2, "hsms: Lost packet=8\n"),
     (cut_short, HOST, ["0 up", *SELECTED],
      "pass entries=3 sent=1 taken=1 discarded=0 expired=0 waiting=0", 2, "hsms: Lost packet=7\n"),
     (wrong_length, HOST, ["0 up", *SELECTED],

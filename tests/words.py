@@ -162,7 +162,7 @@ def cases_of_captures():
     yield Case(["capture"], 2, "NoConnection", [none], captures.no_connection().octets)
     yield Case(["capture", "--port", "5001"], 2, "NoConnection", [none], captures.late_reply().octets)
     lost = "octets are missing from this packet on: capture again at the end itself, whole packets (-s 0), and none dropped"
-    yield Case(["capture"], 2, "Lost packet=7", [lost], captures.gap().octets)
+    yield Case(["capture"], 2, "Lost packet=8", [lost], captures.gap().octets)
     length = "a message is shorter than 10 octets or longer than --max: is this the port of HSMS? Else give a greater --max"
     yield Case(["capture"], 2, "Length packet=6", [length], captures.wrong_length().octets)
     differs = "what this packet brings again isn't what came first: capture nearer to the end, where one device alone sends it"

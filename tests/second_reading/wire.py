@@ -207,6 +207,15 @@ class Wire:
             found.append(first if first < len(self.placed) else None)
         return found
 
+    def shown(self, loss: int) -> int:
+        """The number of the packet that shows a loss: the first one, of it and the next packets, that acknowledges what
+        none of these brings; or its own."""
+        last = min(loss + LATER, len(self.placed) - 1)
+        for packet in self.placed[loss:last + 1]:
+            if packet.acknowledged > self.ends[1 - packet.end][last]:
+                return packet.packet
+        return self.placed[loss].packet
+
     def told(self) -> Told:
         """What is told where no packet follows."""
         settled = self.settled()
@@ -223,7 +232,8 @@ class Wire:
         elif self.reset_at is not None:
             told.over = self.placed[self.reset_at].packet
         elif limit < len(self.placed):
-            told.fault = ("Lost" if limit == loss and limit != difference else "Differs", self.placed[limit].packet)
+            is_lost = limit == loss and limit != difference
+            told.fault = ("Lost", self.shown(limit)) if is_lost else ("Differs", self.placed[limit].packet)
             sure = max(limit, latest) if limit == difference else limit + LATER
             told.over = self.placed[sure].packet if sure < len(self.placed) else None
         return told

@@ -18,17 +18,20 @@ use Rattle.hsms_capture.specs.Wire.{End, active, passive, other, Seen, Placed, p
 use Rattle.hsms_capture.specs.Held.{Store, IsStoreOf}
 use Rattle.hsms_capture.specs.Known.{GoesOn, Known, end_at, known, packet_of, placed_as, placed_behind, seen_of}
 use Rattle.hsms_capture.specs.Laws.{AreNumbered}
-use Rattle.hsms_capture.specs.Losses.{TellsLoss, Watches, first_of, side_of}
+use Rattle.hsms_capture.specs.Losses.{TellsLoss, Watches, ends_of, first_of, shown_of, side_of}
 use Rattle.hsms_capture.specs.Told.{Entry, tells}
 use Rattle.hsms_capture.specs.Telling.{entry_as}
 use Rattle.hsms_capture.specs.Turning.{Log, is_over, left_behind, tell_on}
 use Rattle.hsms_capture.specs.Drained.{IsHeldBack}
 use Rattle.hsms_capture.specs.Connected.{AreRising, AreStreamsOf, Waits, lefts, log_of, told_dues}
-use Rattle.hsms_capture.specs.Finished.{BreaksAt, Finishes, IsEnded, broken, ended, is_known}
+use Rattle.hsms_capture.specs.Finished.{BreaksAt, EndsSo, Finishes, IsEnded, IsShownEnded, broken, ended, ended_at, is_known, shown_by}
 use Rattle.hsms_capture.specs.Arrived.{BringsCells, HoldsFrom, IsArrival, IsReading, Outcome, Reacts, breaks_sure, own_packet}
 use Rattle.hsms_capture.specs.Standing.{EndsAs, Followed, StandsAs, TakesOn, ToldAtOnce, ToldIsSure, of_side}
 use Rattle.hsms_capture.proofs.Fronts.{places_begin, places_more, places_rise}
 use Rattle.hsms_capture.proofs.Stepped.{one_more}
+use Rattle.std.specs.Option.{option_map}
+use Rattle.hsms_capture.proofs.Evidence.{shown_at_end, shown_ended}
+use Rattle.hsms_capture.proofs.Watched.{watched_more}
 use Rattle.hsms_capture.proofs.Sure.{known_more, log_now, nothing_follows, unknown_yet}
 use Rattle.hsms_capture.proofs.Tells.{tells_all}
 
@@ -57,10 +60,16 @@ placed_none acked s (Some place) ack e = absurd cc
 pub all_rise : (base : End → ℕ) (seen : List Seen) → AreNumbered 0 seen → AreRising 0 (places base [] seen)
 all_rise base seen h = let r = places_rise base [] 0 seen h in subst (AreRising 0) (sym r.1) r.2
 
-stands_by : (end : Option Ending) (turns : Known) (r : Reading) (told : List Happening) (base : End → ℕ) (seen : List Seen) → turns ≡ known base (places base [] seen)
-    → Outcome r (places base [] seen) told end → StandsAs end turns r told base seen
-stands_by None turns r told base seen e h = (e, h)
-stands_by (Some x) turns r told base seen e h = h
+stands_by : (end : Option Ending) (turns : Known) (r : Reading) (ends : BothEnds) (told : List Happening) (base : End → ℕ) (seen : List Seen)
+    → turns ≡ known base (places base [] seen) → ends ≡ ends_of (places base [] seen) → AreRising 0 (places base [] seen)
+    → Outcome r (places base [] seen) told end → StandsAs (option_map (shown_by (shown_of ends r.losses)) end) turns r told base seen
+stands_by None turns r ends told base seen e f rises h = (e, h)
+stands_by (Some x) turns r ends told base seen e f rises h =
+    let ps = places base [] seen in (
+      subst (λ (b : BothEnds). IsShownEnded true ps told (shown_by (shown_of b r.losses) x)) (sym f) (shown_ended r.losses ps told x rises h.0 h.1 h.2),
+      h.1,
+      (x, h.0),
+    )
 
 pub followed_none : (old new : Known) (r : Reading) (segment : Segment) (octets : List ℕ) (told : List Happening) (freed : List Packet)
     → GoesOn old [] (seen_of segment octets) new freed None → Followed old r segment octets told new r told None
@@ -87,7 +96,7 @@ pub followed_some : (old new : Known) (r next : Reading) (segment : Segment) (oc
     (before_received ends behind : BothEnds) (end : Option Ending) → GoesOn old [] (seen_of segment octets) new freed (Some packet) → before_received ≡ received_by old
     → acked ≡ of_side before_received segment.from → ends ≡ ends_by new → behind ≡ received_by new
     → Reacts (record { from = segment.from; flags = segment.flags; packet = packet; acknowledged = acked; ends = ends; received = behind }) octets freed r told next later end
-    → Followed old r segment octets told new next later end
+    → Followed old r segment octets told new next later (option_map (shown_by (shown_of ends next.losses)) end)
 followed_some old new r next segment octets told later freed packet acked before_received ends behind end goes was acks ends_are received_are reacts base before away numbered stands =
     let s = seen_of segment octets in
     let ps = places base [] before in
@@ -108,13 +117,19 @@ followed_some old new r next segment octets told later freed packet acked before
       received_are ∙ ap received_by knows,
     ) in
     let rises : AreRising 0 (ps ++ p ∷ []) = subst (AreRising 0) now (all_rise base (before ++ s ∷ []) numbered) in
-    stands_by end new next (away ++ later) base (before ++ s ∷ []) g.0
+    stands_by end new next ends (away ++ later) base (before ++ s ∷ []) g.0 (ends_are ∙ ap ends_by knows ∙ ap ends_of (sym now)) (all_rise base (before ++ s ∷ []) numbered)
     (subst (λ (z : List Placed). Outcome next z (away ++ later) end) (sym now) (reacts away ps p arrival rises stands.1))
 
 -- ---- one that has ended stays so
 
 ended_more : (ps qs : List Placed) (told : List Happening) (e : Ending) → IsEnded true ps told e → IsEnded true (ps ++ qs) told e
 ended_more ps qs told e h later rises =
+    let whole : (ps ++ qs) ++ later ≡ ps ++ (qs ++ later) = append_assoc ps qs later in
+    let r = h (qs ++ later) (subst (AreRising 0) whole rises) in
+    (r.0 ∙ ap (λ (z : List Placed). (log_of z).told) (sym whole), r.1 ∙ ap ended_at (sym whole))
+
+shown_more : (ps qs : List Placed) (told : List Happening) (e : Ending) → IsShownEnded true ps told e → IsShownEnded true (ps ++ qs) told e
+shown_more ps qs told e h later rises =
     let whole : (ps ++ qs) ++ later ≡ ps ++ (qs ++ later) = append_assoc ps qs later in
     let r = h (qs ++ later) (subst (AreRising 0) whole rises) in
     (r.0 ∙ ap (λ (z : List Placed). (log_of z).told) (sym whole), r.1 ∙ ap ended (sym whole))
@@ -126,8 +141,8 @@ stays_by (Some x) turns r told base before s e numbered h =
     let ps = places base [] before in
     let qs = placed_behind base ps s in
     let rises = subst (AreRising 0) (one_more base before s) (all_rise base (before ++ s ∷ []) numbered) in
-    subst (λ (z : List Placed). IsEnded true z told x × (is_known z ≡ true)) (sym (one_more base before s))
-    (ended_more ps qs told x h.0, known_more ps qs told x rises h.0 h.1)
+    subst (λ (z : List Placed). IsShownEnded true z told x × (is_known z ≡ true) × EndsSo true z told) (sym (one_more base before s))
+    (shown_more ps qs told x h.0, known_more ps qs told h.2.0 rises h.2.1 h.1, (h.2.0, ended_more ps qs told h.2.0 h.2.1))
 
 pub stays : (c : Connection) (s : Seen) (told : List Happening) → is_some c.ending ≡ true → TakesOn c s told c told
 stays c s told e base before away numbered stands = stays_by c.ending c.turns c.reading (away ++ told) base before s e numbered stands
@@ -152,7 +167,7 @@ at_end ps told e rises h =
 pub ends_before : (c : Connection) (told : List Happening) (e : Ending) → c.ending ≡ Some e → EndsAs c told told e
 ends_before c told e is base seen away numbered stands =
     let ps = places base [] seen in
-    let h : IsEnded true ps (away ++ told) e = (subst (λ (o : Option Ending). StandsAs o c.turns c.reading (away ++ told) base seen) is stands).0 in
+    let h : IsShownEnded true ps (away ++ told) e = (subst (λ (o : Option Ending). StandsAs o c.turns c.reading (away ++ told) base seen) is stands).0 in
     at_end ps (away ++ told) e (all_rise base seen numbered) (h [] (nothing_follows ps (all_rise base seen numbered)))
 
 breaks_here : (first d : Option ℕ) (ps : List Placed) → first ≡ loss [] ps → difference [] ps ≡ d → BreaksAt false (earlier first d) (broken first d) ps
@@ -168,16 +183,22 @@ waits_end t queue ps told rises w =
     let none : (later : List Placed) → later ≡ [] → AreRising 0 (ps ++ later) = λ later h. subst (λ (z : List Placed). AreRising 0 (ps ++ z)) (sym h) (nothing_follows ps rises) in
     (w.0, w.1, w.2, w.3, λ later h. w.4 later (none later h), λ later h. w.5 later (none later h))
 
-pub ends_now : (c : Connection) (first : Option ℕ) (told later : List Happening) (e : Ending) → c.ending ≡ None → TellsLoss c.reading.losses first
-    → Finishes first c.reading.differs c.reading.teller c.reading.due.items told later e → EndsAs c told later e
-ends_now c first told later e is tells finishes base seen away numbered stands =
+pub ends_now : (c : Connection) (first : Option ℕ) (ends : BothEnds) (told later : List Happening) (e : Ending) → c.ending ≡ None → TellsLoss c.reading.losses first
+    → Finishes first c.reading.differs c.reading.teller c.reading.due.items told later e → ends ≡ ends_by c.turns
+    → EndsAs c told later (shown_by (shown_of ends c.reading.losses) e)
+ends_now c first ends told later e is tells finishes ends_are base seen away numbered stands =
     let ps = places base [] seen in
     let rises = all_rise base seen numbered in
     let h = subst (λ (o : Option Ending). StandsAs o c.turns c.reading (away ++ told) base seen) is stands in
     let r = h.1.0 in
-    at_end ps (away ++ later) e rises
-    (finishes away false ps rises refl r.2 (breaks_here first c.reading.differs ps (tells ps r.0) r.1)
-    (waits_end c.reading.teller c.reading.due.items ps (away ++ told) rises r.3) [] refl)
+    let all =
+    finishes away false ps rises refl r.2 (breaks_here first c.reading.differs ps (tells ps r.0) r.1)
+    (waits_end c.reading.teller c.reading.due.items ps (away ++ told) rises r.3) [] refl in
+    let ends_here : ends ≡ ends_of ps = ends_are ∙ ap ends_by h.0 in (
+      all.0 ∙ ap (λ (z : List Placed). (log_of z).told) (append-nil ps) ∙ tells_all ps rises,
+      ap (λ (b : BothEnds). shown_by (shown_of b c.reading.losses) e) ends_here
+          ∙ shown_at_end c.reading.losses ps e rises (all.1 ∙ ap ended_at (append-nil ps)) (watched_more c.reading.losses ps r.0),
+    )
 
 -- ---- the beginning
 

@@ -6,12 +6,12 @@ use Rattle.std.specs.List.{list_any}
 use Rattle.hsms_capture.specs.declared.ending.Ending.{Ending}
 use Rattle.hsms_capture.specs.declared.ending.Ending.TheVariants as ending
 use Rattle.hsms_capture.specs.declared.telling.Happening.{Happening}
-use Rattle.hsms_capture.specs.Wire.{End, passive, other, Placed, Seen, Shown, Turn, ack_place, acknowledges, breaks_off, earlier, end_of, is_before, is_open, place_of, placed_at, places, received, shows_of, timed, told_turns, turns}
+use Rattle.hsms_capture.specs.Wire.{End, passive, other, Placed, Seen, Shown, Turn, ack_place, acknowledges, breaks_off, earlier, end_of, is_before, is_open, place_of, placed_at, places, received, shows_of, timed, told_turns, turns, loss_shown}
 use Rattle.hsms_capture.specs.Message.{message_size}
 use Rattle.hsms_capture.specs.Told.{Told, up, message, down, Entry, entry, entry_of, and_later, answered_at, behind_up, first_message, is_left_out, is_message, is_separate, reset_entries, separated_by, shown_entries, tells, up_to_down}
 use Rattle.hsms_capture.specs.Laws.{AreNumbered, EachEntry, EachShown, ToldAtPackets}
 use Rattle.hsms_capture.specs.Connected.{AreRising, log_of}
-use Rattle.hsms_capture.specs.Finished.{IsEnded, ended, ends_for_good, is_known}
+use Rattle.hsms_capture.specs.Finished.{EndsSo, IsShownEnded, ended, ended_at, ends_for_good, is_known, shown_by}
 use Rattle.hsms_capture.specs.Standing.{EndingIsSure, StandsAs}
 use Rattle.hsms_capture.proofs.Lists.{Each, each_append, each_filter, weaken}
 use Rattle.hsms_capture.proofs.Fronts.{places_begin, places_more}
@@ -155,10 +155,17 @@ told_at_packets base seen =
 
 -- ---- one that ended stays so
 
-never_complete : (ps : List Placed) (told : List Happening) (e : Ending) → AreRising 0 ps → IsEnded true ps told e → is_known ps ≡ true → e ≡ ending.Complete → ⊥
+shown_complete : (o : Option ℕ) (e : Ending) → shown_by o e ≡ ending.Complete → ending.Complete ≡ e
+shown_complete o ending.Closed is = absurd cc
+shown_complete o ending.Complete is = refl
+shown_complete None (ending.Lost k) is = absurd cc
+shown_complete (Some n) (ending.Lost k) is = absurd cc
+shown_complete o (ending.Differs k) is = absurd cc
+
+never_complete : (ps : List Placed) (told : List Happening) (e : Ending) → AreRising 0 ps → IsShownEnded true ps told e → is_known ps ≡ true → e ≡ ending.Complete → ⊥
 never_complete ps told e rises ends known is =
     let now : ending.Complete ≡ ended ps = sym is ∙ (ends [] (nothing_follows ps rises)).1 ∙ ap ended (append-nil ps) in
-    let no : false ≡ true = ap (λ (x : Ending). ends_for_good x ps) now ∙ known in
+    let no : false ≡ true = ap (λ (x : Ending). ends_for_good x ps) (shown_complete (loss_shown [] ps) (ended_at ps) (sym now)) ∙ known in
     cc
 
 pub numbered_front : (last : ℕ) (xs ys : List Seen) → AreNumbered last (xs ++ ys) → AreNumbered last xs
@@ -171,7 +178,7 @@ ending_sure c told e base seen later is stands numbered =
     let split = places_begin base ps later in
     let whole : places base [] (seen ++ later) ≡ ps ++ split.0 = places_more base [] seen later ∙ split.1 in
     let all_rise_here = all_rise base (seen ++ later) numbered in
-    let h : IsEnded true ps told e × (is_known ps ≡ true) = subst (λ (o : Option Ending). StandsAs o c.turns c.reading told base seen) is stands in
+    let h : IsShownEnded true ps told e × (is_known ps ≡ true) × EndsSo true ps told = subst (λ (o : Option Ending). StandsAs o c.turns c.reading told base seen) is stands in
     let r = h.0 split.0 (subst (AreRising 0) whole all_rise_here) in (
       r.0 ∙ ap (λ (z : List Placed). (log_of z).told) (sym whole) ∙ tells_all (places base [] (seen ++ later)) all_rise_here,
       r.1 ∙ ap ended (sym whole),

@@ -32,6 +32,7 @@ mod SmallCaptures
 mod Stepped
 mod Stopped
 mod Sure
+mod Evidence
 pub mod Tells
 mod Timing
 mod ToldFronts

@@ -1,10 +1,10 @@
 -- The small captures, by computing.
 use Rattle.std.proofs.Common.{refl}
-use Rattle.hsms_capture.specs.Wire.{bound, cell_at, cells_up_to, cut_off, difference, loss, places, run, show, turns}
+use Rattle.hsms_capture.specs.Wire.{bound, cell_at, cells_up_to, cut_off, difference, loss, loss_shown, places, run, show, turns}
 use Rattle.hsms_capture.specs.Message.{cells_to, size_by}
 use Rattle.hsms_capture.specs.Telling.{hears}
 use Rattle.hsms_capture.specs.Turning.{tell_on}
-use Rattle.hsms_capture.specs.Examples.{Asked, EarlyReply, FinWithin, GapAtEnd, HalfOpen, LostReply, OtherCopy, OverUntold, Refused, RefusedOnce, ResetBetween, SeparateCrossed, UpLate}
+use Rattle.hsms_capture.specs.Examples.{Asked, EarlyReply, FinWithin, GapAtEnd, HalfOpen, LostMessage, LostReply, OtherCopy, OverUntold, Refused, RefusedOnce, ResetBetween, SeparateCrossed, UpLate}
 
 pub lost_reply : LostReply
 unfolding bound cell_at cells_up_to cut_off difference loss places run show turns
@@ -23,8 +23,12 @@ unfolding bound cell_at cells_up_to cut_off difference loss places run show turn
 other_copy = (refl, refl)
 
 pub gap_at_end : GapAtEnd
-unfolding bound cell_at cells_up_to cut_off difference loss places run show turns
-gap_at_end = (refl, refl)
+unfolding bound cell_at cells_up_to cut_off difference loss loss_shown places run show turns
+gap_at_end = (refl, refl, refl)
+
+pub lost_message : LostMessage
+unfolding bound cell_at cells_up_to cut_off difference loss loss_shown places run show turns
+lost_message = (refl, refl, refl)
 
 pub refused : Refused
 unfolding bound cell_at cells_to cells_up_to cut_off difference loss places run show size_by turns

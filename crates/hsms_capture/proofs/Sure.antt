@@ -15,20 +15,20 @@ use Rattle.hsms_capture.specs.declared.streams.Stream.{Stream}
 use Rattle.hsms_capture.specs.declared.teller.Teller.{Teller}
 use Rattle.hsms_capture.specs.declared.telling.Happening.{Happening}
 use Rattle.hsms_capture.specs.Wire.{End, active, passive, Placed, Turn, Both, both_streams, received, turns, loss, difference, earlier, breaks_off, contradicts, is_behind}
-use Rattle.hsms_capture.specs.Losses.{FindsLoss, IsLoss, IsNext, Watches, WatchesOn, first_of, need_at}
+use Rattle.hsms_capture.specs.Losses.{FindsLoss, IsLoss, IsNext, IsWatched, Watches, WatchesOn, first_of, need_at}
 use Rattle.hsms_capture.specs.Told.{Entry}
 use Rattle.hsms_capture.specs.Telling.{entry_as}
 use Rattle.hsms_capture.specs.Turning.{Log, and_log, due_of, is_over, left_behind, tell_on}
 use Rattle.hsms_capture.specs.Drained.{IsHeldBack, is_sure}
 use Rattle.hsms_capture.specs.Connected.{AreRising, AreStreamsOf, HasPassed, IsClosed, IsLimit, IsStreamOf, TellsBefore, Waits, lefts, log_of, told_dues, untold}
-use Rattle.hsms_capture.specs.Finished.{BreaksAt, Finishes, IsEnded, broken, ended, ended_by, ends_for_good, is_known, packets_behind, EachBehind}
+use Rattle.hsms_capture.specs.Finished.{BreaksAt, Finishes, IsEnded, broken, ended_at, ended_by, ends_for_good, is_known, packets_behind, EachBehind}
 use Rattle.hsms_capture.specs.Arrived.{Arrives, GoesOn, IsReading, MayLose, PassesBoth, PassesTo, Reacts, TellsIfSure, TellsSure, breaks_sure, is_first}
 use Rattle.hsms_capture.proofs.Lists.{Each, weaken}
 use Rattle.hsms_capture.proofs.Numbered.{before_later, difference_more, later_packets, loss_past, passes, passes_both, passes_earlier, rising_behind, rising_front, rising_lower}
 use Rattle.hsms_capture.proofs.Turned.{Ordered, turns_each, turns_ordered}
 use Rattle.hsms_capture.proofs.Awaited.{due_each, sure_kept}
 use Rattle.hsms_capture.proofs.Finishing.{behind_each, held_back, none_kept, ordered_back}
-use Rattle.hsms_capture.proofs.Watched.{tells_loss}
+use Rattle.hsms_capture.proofs.Watched.{tells_loss, watched_more}
 
 -- ---- what stands before the first packet that lacks something
 
@@ -120,12 +120,12 @@ closed_known ps told rises closed =
     ap (λ (l : Log). ends_for_good (ended_by l.closed ps) ps) log
 
 pub sure_closed : (acked : BothEnds) (old new : Reading) (next : Teller) (left : List Due) (told later : List Happening) (first limit : Option ℕ) → first ≡ first_of old.losses
-    → limit ≡ earlier first old.differs → TellsBefore limit old.teller old.due.items told next left later true → TellsIfSure acked old told new later (Some ending.Closed)
-sure_closed acked old new next left told later first limit e f tells unbroken away ps rises acks r =
+    → limit ≡ earlier first old.differs → TellsBefore limit old.teller old.due.items told next left later true → new.losses ≡ old.losses → TellsIfSure acked old told new later (Some ending.Closed)
+sure_closed acked old new next left told later first limit e f tells losses unbroken away ps rises acks r =
     let is : limit ≡ earlier (first_of old.losses) old.differs = f ∙ ap (λ (o : Option ℕ). earlier o old.differs) e in
     let sound = subst (λ (o : Option ℕ). IsLimit true o ps) (sym is) (sure_limit old.losses ps old.differs r.0 r.1) in
     let closed = (tells away true ps rises (nothing_follows ps rises) r.2 sound r.3).1 in
-    (closed_all ps (away ++ later) closed, closed_known ps (away ++ later) rises closed)
+    (closed_all ps (away ++ later) closed, closed_known ps (away ++ later) rises closed, subst (λ (ns : List Need). IsWatched 4097 ns ps) (sym losses) (watched_more old.losses ps r.0))
 
 pub sure_open : (acked : BothEnds) (old new : Reading) (next : Teller) (left : List Due) (told later : List Happening) (first limit : Option ℕ) → first ≡ first_of old.losses
     → limit ≡ earlier first old.differs → TellsBefore limit old.teller old.due.items told next left later false → PassesBoth next.streams acked new.teller.streams
@@ -166,7 +166,7 @@ behind_all : (k m : ℕ) (ps : List Placed) → k ≤ m → AreRising m ps → p
 behind_all k m [] le h = refl
 behind_all k m (p ∷ ps) le h = rw (lt-ltb k p.packet (omega (arith, le, h.0))) (ap (λ (n : ℕ). suc n) (behind_all k p.packet ps (omega (arith, le, h.0)) h.1))
 
-behind_one : (n : ℕ) (settled : List Placed) (q : Placed) (next : List Placed) → AreRising n (settled ++ q ∷ next) → packets_behind q.packet (settled ++ q ∷ next) ≡ length next
+pub behind_one : (n : ℕ) (settled : List Placed) (q : Placed) (next : List Placed) → AreRising n (settled ++ q ∷ next) → packets_behind q.packet (settled ++ q ∷ next) ≡ length next
 behind_one n [] q next h = rw (le-ltb q.packet q.packet (omega arith)) (behind_all q.packet q.packet next (omega arith) h.1)
 behind_one n (s ∷ ss) q next h =
     let later = (rising_behind s.packet ss (q ∷ next) h.1).0 in
@@ -236,7 +236,7 @@ good_more (ending.Differs k) ps qs h = refl
 -- where it ended it stays known
 pub known_more : (ps qs : List Placed) (told : List Happening) (e : Ending) → AreRising 0 (ps ++ qs) → IsEnded true ps told e → is_known ps ≡ true → is_known (ps ++ qs) ≡ true
 known_more ps qs told e rises h known =
-    let here : e ≡ ended ps = (h [] (nothing_follows ps (rising_front 0 ps qs rises))).1 ∙ ap ended (append-nil ps) in
+    let here : e ≡ ended_at ps = (h [] (nothing_follows ps (rising_front 0 ps qs rises))).1 ∙ ap ended_at (append-nil ps) in
     subst (λ (x : Ending). ends_for_good x (ps ++ qs) ≡ true) (h qs rises).1 (good_more e ps qs (subst (λ (x : Ending). ends_for_good x ps ≡ true) (sym here) known))
 
 -- what was told is all that these packets tell, and nothing has ended it
@@ -314,14 +314,16 @@ lost_breaks k d ps lost differs later h =
     (ap (λ (l : Option ℕ). earlier l o) (lost later) ∙ by.0, by.1 ∙ ap (λ (l : Option ℕ). broken l o) (sym (lost later)), behind)
 
 pub lost_ends : (k : ℕ) (lost : Option ℕ) (acked : BothEnds) (old new : Reading) (told later : List Happening) (e : Ending) → lost ≡ Some k
-    → Finishes (Some k) old.differs old.teller old.due.items told later e → GoesOn lost acked old told new later (Some e)
-lost_ends k lost acked old new told later e is finishes away ps rises acks may differs streams waits =
-    let sure : IsLoss k ps = subst (λ (o : Option ℕ). MayLose o old.losses ps) is may in
+    → Finishes (Some k) old.differs old.teller old.due.items told later e → new.losses ≡ old.losses → GoesOn lost acked old told new later (Some e)
+lost_ends k lost acked old new told later e is finishes losses away ps rises acks may differs streams waits =
+    let both : IsLoss k ps × IsWatched 4097 old.losses ps = subst (λ (o : Option ℕ). MayLose o old.losses ps) is may in
+    let sure = both.0 in
     let here : loss [] ps ≡ Some k = ap (loss []) (sym (append-nil ps)) ∙ sure.6 [] in (
       finishes away true ps rises (nothing_follows ps rises) streams (lost_breaks k old.differs ps sure.6 differs) waits,
       known_by (log_of ps).closed ps
           (ap (λ (o : Option ℕ). ends_for_good (broken o (difference [] ps)) ps) here ∙ ap (λ (o : Option ℕ). ends_for_good (broken (Some k) o) ps) differs
           ∙ lost_known k old.differs ps (behind_loss k ps sure rises)),
+      subst (λ (ns : List Need). IsWatched 4097 ns ps) (sym losses) both.1,
     )
 
 pub none_lost : (lost : Option ℕ) (acked : BothEnds) (old new : Reading) (told later : List Happening) (r : Option Ending) → lost ≡ None
@@ -383,10 +385,12 @@ differs_breaks needs k ps w differs e later h =
     )
 
 pub differs_ends : (first : Option ℕ) (acked : BothEnds) (old new : Reading) (told later : List Happening) (e : Ending) → first ≡ first_of old.losses
-    → breaks_sure first old.differs ≡ true → Finishes first old.differs old.teller old.due.items told later e → TellsSure acked old told new later (Some e)
-differs_ends first acked old new told later e is sure finishes away ps rises acks r = by_differs old.differs refl sure
+    → breaks_sure first old.differs ≡ true → Finishes first old.differs old.teller old.due.items told later e → new.losses ≡ old.losses
+    → TellsSure acked old told new later (Some e)
+differs_ends first acked old new told later e is sure finishes losses away ps rises acks r = by_differs old.differs refl sure
   where
-    by_differs : (o : Option ℕ) → old.differs ≡ o → breaks_sure first o ≡ true → IsEnded true ps (away ++ later) e × (is_known ps ≡ true)
+    by_differs : (o : Option ℕ) → old.differs ≡ o → breaks_sure first o ≡ true
+        → IsEnded true ps (away ++ later) e × (is_known ps ≡ true) × IsWatched 4097 new.losses ps
     by_differs None f g = absurd cc
     by_differs (Some k) f g =
         let before = subst (λ (o : Option ℕ). is_first o k ≡ true) is g in
@@ -398,19 +402,20 @@ differs_ends first acked old new told later e is sure finishes away ps rises ack
               (ap (λ (o : Option ℕ). ends_for_good (broken o (difference [] ps)) ps) (sym (tells_loss old.losses ps r.0))
               ∙ ap (λ (o : Option ℕ). ends_for_good (broken (first_of old.losses) o) ps) (r.1 ∙ f)
               ∙ ap (λ (x : Ending). ends_for_good x ps) (first_least (first_of old.losses) k before).1),
+          subst (λ (ns : List Need). IsWatched 4097 ns ps) (sym losses) (watched_more old.losses ps r.0),
         )
 
 -- ---- a packet comes
 
 may_lose : {E : Type 0} (r : Result (Option ℕ) E) (o : Option ℕ) (from : Side) (packet : Packet) (ends : BothEnds) (old new : List Need) (ps : List Placed) (p : Placed) → r ≡ Ok o
-    → (r ≡ Ok None → WatchesOn old from packet ends new) → ((k : ℕ) → r ≡ Ok (Some k) → FindsLoss old from packet ends k) → Watches old ps
+    → (r ≡ Ok None → WatchesOn old from packet ends new) → ((k : ℕ) → r ≡ Ok (Some k) → FindsLoss old from packet ends k new) → Watches old ps
     → IsNext from packet ends ps p → MayLose o new (ps ++ p ∷ [])
 may_lose r None from packet ends old new ps p is none lost w next = none is ps p w next
 may_lose r (Some k) from packet ends old new ps p is none lost w next = lost k is ps p w next
 
 pub reacts : {E : Type 0} (r : Result (Option ℕ) E) (a : Arrival) (octets : List ℕ) (freed : List Packet) (old mid some new : Reading) (told later : List Happening) (lost : Option ℕ)
     (end : Option Ending) → Arrives a octets freed old mid → r ≡ Ok lost → (r ≡ Ok None → WatchesOn mid.losses a.from a.packet a.ends some.losses)
-    → ((k : ℕ) → r ≡ Ok (Some k) → FindsLoss mid.losses a.from a.packet a.ends k) → some.differs ≡ mid.differs → some.teller ≡ mid.teller → some.due.items ≡ mid.due.items
+    → ((k : ℕ) → r ≡ Ok (Some k) → FindsLoss mid.losses a.from a.packet a.ends k some.losses) → some.differs ≡ mid.differs → some.teller ≡ mid.teller → some.due.items ≡ mid.due.items
     → GoesOn lost a.received some told new later end → Reacts a octets freed old told new later end
 reacts r a octets freed old mid some new told later lost end arrives is none found differs teller queue goes away ps p arrival rises reading =
     let knows = reading.0 in

@@ -2,12 +2,13 @@
 use Rattle.std.proofs.Common.{◌≡◌, ◌⊎◌, ◌++◌, ◌∷◌, ◌||◌, inl, inr, ℕ, Bool, true, false, cond, nat_le, nat_lt, List, [], filter, map, Option, Some, None, refl, sym, ap, subst, ◌∙◌}
 use Rattle.std.proofs.lemmas.List.{append-nil, append_assoc}
 use Rattle.std.specs.Option.{option_map}
+use Rattle.hsms_capture.specs.declared.ending.Ending.{Ending}
 use Rattle.hsms_capture.specs.declared.ending.Ending.TheVariants as ending
 use Rattle.hsms_capture.specs.declared.packet.Side.{Side}
 use Rattle.hsms_capture.specs.declared.streams.Due.{Due}
 use Rattle.hsms_capture.specs.declared.telling.Telling.{Telling}
 use Rattle.hsms_capture.specs.declared.telling.Telling.TheVariants as telling
-use Rattle.hsms_capture.specs.Wire.{End, Placed, Both, both_streams, difference, earlier, loss, places, shows_of, told_turns, turns}
+use Rattle.hsms_capture.specs.Wire.{End, Placed, Both, both_streams, difference, earlier, loss, places, shows_of, told_turns, turns, loss_shown}
 use Rattle.hsms_capture.specs.Message.{message_size}
 use Rattle.hsms_capture.specs.Told.{Told, up, message, down, Entry, entry, and_later, answered_at, behind_up, ends_down, first_message, has_up, is_down, is_left_out, is_separate, is_up, reset_entries, separated_by, shown_entries, tells, up_to_down}
 use Rattle.hsms_capture.specs.Known.{end_at}
@@ -16,7 +17,7 @@ use Rattle.hsms_capture.specs.Losses.{side_of}
 use Rattle.hsms_capture.specs.Telling.{Heard, and_heard, comes_up, entry_as, goes_down, hear, hears, is_at, says, separated_side}
 use Rattle.hsms_capture.specs.Turning.{Log, and_log, answer_entries, delivers, entries_at, is_over, opens, resets, tell_on}
 use Rattle.hsms_capture.specs.Connected.{AreRising, log_of, told_dues}
-use Rattle.hsms_capture.specs.Finished.{broken, ended, ended_by}
+use Rattle.hsms_capture.specs.Finished.{broken, ended, ended_at, ended_by, shown_by}
 use Rattle.hsms_capture.specs.Standing.{ClosedWhereDown, DownIsAll, DownIsClosed}
 use Rattle.hsms_capture.proofs.Connecting.{all_rise, told_sure}
 use Rattle.hsms_capture.proofs.Onward.{tell_first, told_then}
@@ -270,7 +271,7 @@ pub down_is_closed : DownIsClosed
 down_is_closed ps rises e =
     elim (closed_where_down ps rises) [
       | inl none ↦ absurd (let f : ends_down (tells ps) ≡ false = ap ends_down none in cc)
-      | inr is ↦ ap (λ (b : Bool). ended_by b ps) (is ∙ e)
+      | inr is ↦ ap (λ (b : Bool). shown_by (loss_shown [] ps) (ended_by b ps)) (is ∙ e)
     ]
 
 ended_closes : (closed : Bool) (ps : List Placed) → ended_by closed ps ≡ ending.Closed → closed ≡ true
@@ -287,12 +288,19 @@ ended_closes false ps e = by_breaks (loss [] ps) (difference [] ps) e
         by_first true e = absurd cc
         by_first false e = absurd cc
 
+shown_closed : (o : Option ℕ) (e : Ending) → shown_by o e ≡ ending.Closed → e ≡ ending.Closed
+shown_closed o ending.Closed is = refl
+shown_closed o ending.Complete is = absurd cc
+shown_closed None (ending.Lost k) is = absurd cc
+shown_closed (Some n) (ending.Lost k) is = absurd cc
+shown_closed o (ending.Differs k) is = absurd cc
+
 -- one that is over tells nothing, or that it went down
 pub closed_tells : (ps : List Placed) → AreRising 0 ps → ended ps ≡ ending.Closed → (tells ps ≡ []) ⊎ (ends_down (tells ps) ≡ true)
 closed_tells ps rises e =
     elim (closed_where_down ps rises) [
       | inl none ↦ inl none
-      | inr is ↦ inr (sym is ∙ ended_closes (log_of ps).closed ps e)
+      | inr is ↦ inr (sym is ∙ ended_closes (log_of ps).closed ps (shown_closed (loss_shown [] ps) (ended_at ps) e))
     ]
 
 -- ---- once a down was told

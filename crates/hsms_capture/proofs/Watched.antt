@@ -3,12 +3,13 @@ use Rattle.std.proofs.Common.{◌≡◌, ◌<◌, ◌≤◌, ◌++◌, ◌||◌,
 use Rattle.std.proofs.lemmas.Bool.{le-ltb}
 use Rattle.std.proofs.lemmas.List.{append-nil, append_assoc, take_all, map-append}
 use Rattle.std.specs.List.{slice_index_or}
+use Rattle.std.specs.Option.{unwrap_or}
 use Rattle.hsms_capture.specs.declared.losses.BothEnds.{BothEnds}
 use Rattle.hsms_capture.specs.declared.losses.Need.{Need}
 use Rattle.hsms_capture.specs.declared.packet.Packet.{Packet}
 use Rattle.hsms_capture.specs.declared.packet.Side.{Side}
-use Rattle.hsms_capture.specs.Wire.{End, active, passive, Placed, end_of, is_behind, loss}
-use Rattle.hsms_capture.specs.Losses.{ends_of, side_of, is_lacking, needs_of, unsettled, IsUnsettled, need_at, HeadLacks, IsWatched, Watches, IsNext, WatchesOn, IsLoss, FindsLoss, TellsLoss, first_of}
+use Rattle.hsms_capture.specs.Wire.{End, active, passive, Placed, end_of, is_past, is_behind, loss}
+use Rattle.hsms_capture.specs.Losses.{ends_of, side_of, is_lacking, needs_of, unsettled, IsUnsettled, need_at, other_end, past_of, HeadLacks, IsWatched, Watches, IsNext, WatchesOn, IsLoss, FindsLoss, TellsLoss, first_of}
 use Rattle.hsms_capture.proofs.Numbered.{loss_sure, settled_sure, where_true}
 
 -- ---- the front of what is needed
@@ -39,6 +40,17 @@ lacks_by all active None p = none_lacks (end_of all passive) (nat_lt (end_of all
 lacks_by all active (Some n) p = refl
 lacks_by all passive None p = none_lacks (end_of all active) (nat_lt (end_of all passive) p.place)
 lacks_by all passive (Some n) p = refl
+
+past_by : (all : List Placed) (e : End) (a : Option ℕ) (p : Placed)
+    → nat_lt (other_end (ends_of all) (side_of e)) (unwrap_or a 0) ≡ is_past all (record p { from = e; acknowledged = a })
+past_by all active None p = le-ltb (end_of all passive) 0 (omega arith)
+past_by all active (Some n) p = refl
+past_by all passive None p = le-ltb (end_of all active) 0 (omega arith)
+past_by all passive (Some n) p = refl
+
+-- the same of what it acknowledges alone
+pub past_is : (all : List Placed) (p : Placed) → nat_lt (other_end (ends_of all) (need_at p).from) (need_at p).acknowledged ≡ is_past all p
+past_is all p = past_by all p.from p.acknowledged p
 
 lacks_is : (all : List Placed) (p : Placed) → is_lacking (ends_of all) (need_at p) ≡ is_behind all p
 lacks_is all p = lacks_by all p.from p.acknowledged p
@@ -79,6 +91,9 @@ watched old s packet ends new e before p w n =
     ap (unsettled (ends_of all)) queue ∙ ap (λ (z : Need). unsettled (ends_of all) (old ++ (z ∷ []))) (sym one) ∙ ap (λ (z : BothEnds). unsettled z (old ++ (needs_of s packet ∷ []))) (sym n.2) ∙ sym e in
     subst (λ (ns : List Need). IsWatched 4097 ns all) needs went
 
+pub watched_more : (needs : List Need) (all : List Placed) → Watches needs all → IsWatched 4097 needs all
+watched_more needs all (settled, rest, whole, same, more, lacks, most) = (settled, rest, whole, same, more, lacks, omega (arith, most))
+
 length_map : (qs : List Placed) → length (map need_at qs) ≡ length qs
 length_map [] = refl
 length_map (q ∷ qs) = ap (λ (n : ℕ). suc n) (length_map qs)
@@ -101,10 +116,10 @@ is_loss settled (q ∷ next) all new k whole same lacks most lt first f =
     (settled, q, next, whole, cc, many, λ later. f later ∙ loss_sure settled q next later many behind ∙ found)
 
 finds_loss : (old : List Need) (s : Side) (packet : Packet) (ends : BothEnds) (new : List Need) (k : ℕ) → new ≡ unsettled ends (old ++ needs_of s packet ∷ []) → 4096 < length new
-    → first_of new ≡ Some k → FindsLoss old s packet ends k
+    → first_of new ≡ Some k → FindsLoss old s packet ends k new
 finds_loss old s packet ends new k e lt first before p w n =
     let found = watched old s packet ends new e before p w n in
-    is_loss found.0 found.1 (before ++ (p ∷ [])) new k found.2 found.3 found.5 found.6 lt first found.4
+    (is_loss found.0 found.1 (before ++ (p ∷ [])) new k found.2 found.3 found.5 found.6 lt first found.4, found)
 
 tells_by : (settled rest all : List Placed) (new : List Need) → all ≡ settled ++ rest → new ≡ map need_at rest → HeadLacks all rest → length rest ≤ 4096
     → first_of new ≡ loss settled rest
@@ -145,5 +160,24 @@ pub took_none : {E : Type 0} (old : List Need) (s : Side) (packet : Packet) (end
 took_none old s packet ends new r f lt e = let none : r ≡ None = cc in none_there old s packet ends new lt (sym f ∙ none)
 
 pub took_some : {E : Type 0} (old : List Need) (s : Side) (packet : Packet) (ends : BothEnds) (new : List Need) (k : ℕ) (r : Option ℕ) → r ≡ first_of new → 4096 < length new
-    → new ≡ unsettled ends (old ++ needs_of s packet ∷ []) → ◌≡◌ {A = Result (Option ℕ) E} (Ok r) (Ok (Some k)) → FindsLoss old s packet ends k
+    → new ≡ unsettled ends (old ++ needs_of s packet ∷ []) → ◌≡◌ {A = Result (Option ℕ) E} (Ok r) (Ok (Some k)) → FindsLoss old s packet ends k new
 took_some old s packet ends new k r f lt is e = let some : r ≡ Some k = cc in finds_loss old s packet ends new k is lt (sym f ∙ some)
+
+-- ---- the packet that shows it
+
+pub past_here : (e : BothEnds) (n : Need) (all left rest : List Need) (b : Bool) → past_of e all ≡ past_of e left → left ≡ n ∷ rest → b ≡ nat_lt (other_end e n.from) n.acknowledged
+    → b ≡ true → Some n.packet ≡ past_of e all
+past_here e n all left rest b so is lacks t =
+    let here : nat_lt (other_end e n.from) n.acknowledged ≡ true = sym lacks ∙ t in
+    let one : past_of e (n ∷ rest) ≡ Some n.packet = rw here refl in
+    sym (so ∙ ap (past_of e) is ∙ one)
+
+pub past_behind : (e : BothEnds) (n : Need) (all left rest : List Need) (b : Bool) → past_of e all ≡ past_of e left → left ≡ n ∷ rest → b ≡ nat_lt (other_end e n.from) n.acknowledged
+    → b ≡ false → past_of e all ≡ past_of e rest
+past_behind e n all left rest b so is lacks f =
+    let here : nat_lt (other_end e n.from) n.acknowledged ≡ false = sym lacks ∙ f in
+    let one : past_of e (n ∷ rest) ≡ past_of e rest = rw here refl in
+    so ∙ ap (past_of e) is ∙ one
+
+pub past_none : (e : BothEnds) (all left : List Need) → past_of e all ≡ past_of e left → left ≡ [] → None ≡ past_of e all
+past_none e all left so is = sym (so ∙ ap (past_of e) is)

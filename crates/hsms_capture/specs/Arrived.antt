@@ -14,7 +14,7 @@ use Rattle.hsms_capture.specs.declared.telling.Happening.{Happening}
 use Rattle.hsms_capture.specs.Wire.{End, active, passive, Cell, Placed, Turn, received, turns, contradicts, difference, earlier}
 use Rattle.hsms_capture.specs.Held.{Store, IsStoreOf}
 use Rattle.hsms_capture.specs.Known.{packet_of}
-use Rattle.hsms_capture.specs.Losses.{IsLoss, Watches, ends_of, first_of, side_of}
+use Rattle.hsms_capture.specs.Losses.{IsLoss, IsWatched, Watches, ends_of, first_of, side_of}
 use Rattle.hsms_capture.specs.Message.{cells_of}
 use Rattle.hsms_capture.specs.Turning.{is_over}
 use Rattle.hsms_capture.specs.Connected.{AreRising, AreStreamsOf, Waits, first_kept}
@@ -109,7 +109,7 @@ IsReading r ps told = IsKnown r ps told × IsPrompt r × HoldsFrom r.teller.stre
 -- it goes on, or it ended, since that is known
 abbrev pub Outcome : Reading → List Placed → List Happening → Option Ending → Type 0
 Outcome r ps told None = IsReading r ps told
-Outcome r ps told (Some e) = IsEnded true ps told e × (is_known ps ≡ true)
+Outcome r ps told (Some e) = IsEnded true ps told e × (is_known ps ≡ true) × IsWatched 4097 r.losses ps
 
 -- what is sure is told, behind what was taken away
 abbrev pub TellsSure : BothEnds → Reading → List Happening → Reading → List Happening → Option Ending → Type 0
@@ -131,7 +131,7 @@ PassesBoth old acked new = PassesTo old.active acked.active new.active × Passes
 -- what is known where a packet may be lost
 abbrev pub MayLose : Option ℕ → List Need → List Placed → Type 0
 MayLose None needs ps = Watches needs ps
-MayLose (Some k) needs ps = IsLoss k ps
+MayLose (Some k) needs ps = IsLoss k ps × IsWatched 4097 needs ps
 
 abbrev pub GoesOn : Option ℕ → BothEnds → Reading → List Happening → Reading → List Happening → Option Ending → Type 0
 GoesOn lost acked old told new later r =

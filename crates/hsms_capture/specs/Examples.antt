@@ -1,6 +1,6 @@
 -- Small captures, and what the definitions say of them. Each message has one cell here.
 use Rattle.std.specs.Prelude.{◌≡◌, ℕ, true, false, List, [], ◌∷◌, map, Option, None, Some}
-use Rattle.hsms_capture.specs.Wire.{End, active, passive, Cell, syn, octet, Seen, places, loss, difference, wire_shows}
+use Rattle.hsms_capture.specs.Wire.{End, active, passive, Cell, syn, octet, Seen, places, loss, loss_shown, difference, wire_shows}
 use Rattle.hsms_capture.specs.Message.{cells_of}
 use Rattle.hsms_capture.specs.Told.{up, message, down, Entry, entry, tells}
 use Rattle.hsms_capture.specs.Connected.{log_of}
@@ -47,6 +47,10 @@ other_copy = sent active 3 1001 (Some 1001) (octet 7 ∷ []) ∷ (sent active 4 
 abbrev pub gap_at_end : List Seen
 gap_at_end = sent active 3 1001 (Some 1001) (octet 7 ∷ []) ∷ (sent active 4 1003 (Some 1001) (octet 8 ∷ []) ∷ [])
 
+-- the message that packet 4 answers is missing, and packet 3, which stands behind it, is captured before the reply
+abbrev pub lost_message : List Seen
+lost_message = sent active 3 1002 (Some 1002) [] ∷ (sent passive 4 1001 (Some 1002) (octet 9 ∷ []) ∷ [])
+
 abbrev pub LostReply : Type 0
 LostReply = (loss [] (places base [] (connected lost_reply)) ≡ Some 4) × (packets lost_reply ≡ 1 ∷ (2 ∷ (3 ∷ [])))
 
@@ -62,7 +66,14 @@ abbrev pub OtherCopy : Type 0
 OtherCopy = (difference [] (places base [] (connected other_copy)) ≡ Some 4) × (packets other_copy ≡ 1 ∷ (2 ∷ (3 ∷ [])))
 
 abbrev pub GapAtEnd : Type 0
-GapAtEnd = (loss [] (places base [] (connected gap_at_end)) ≡ Some 4) × (packets gap_at_end ≡ 1 ∷ (2 ∷ (3 ∷ [])))
+GapAtEnd =
+    (loss [] (places base [] (connected gap_at_end)) ≡ Some 4) × (loss_shown [] (places base [] (connected gap_at_end)) ≡ Some 4)
+    × (packets gap_at_end ≡ 1 ∷ (2 ∷ (3 ∷ [])))
+
+abbrev pub LostMessage : Type 0
+LostMessage =
+    (loss [] (places base [] (connected lost_message)) ≡ Some 3) × (loss_shown [] (places base [] (connected lost_message)) ≡ Some 4)
+    × (packets lost_message ≡ 1 ∷ (2 ∷ []))
 
 -- ---- what a log tells of small captures
 

@@ -5,7 +5,7 @@ use Rattle.hsms_capture.specs.declared.ending.Ending.TheVariants as ending
 use Rattle.hsms_capture.specs.declared.streams.Due.{Due}
 use Rattle.hsms_capture.specs.declared.teller.Teller.{Teller}
 use Rattle.hsms_capture.specs.declared.telling.Happening.{Happening}
-use Rattle.hsms_capture.specs.Wire.{Placed, Turn, turns, loss, difference, earlier, breaks_off}
+use Rattle.hsms_capture.specs.Wire.{Placed, Turn, turns, loss, loss_shown, difference, earlier, breaks_off}
 use Rattle.hsms_capture.specs.Telling.{entry_as}
 use Rattle.hsms_capture.specs.Drained.{is_sure}
 use Rattle.hsms_capture.specs.Connected.{AreRising, AreStreamsOf, MayFollow, Waits, log_of}
@@ -22,8 +22,19 @@ abbrev pub ended_by : Bool → List Placed → Ending
 ended_by true ps = ending.Closed
 ended_by false ps = broken (loss [] ps) (difference [] ps)
 
+abbrev pub ended_at : List Placed → Ending
+ended_at ps = ended_by (log_of ps).closed ps
+
+-- a loss is told by the packet that shows it
+abbrev pub shown_by : Option ℕ → Ending → Ending
+shown_by shown ending.Closed = ending.Closed
+shown_by shown ending.Complete = ending.Complete
+shown_by None (ending.Lost packet) = ending.Lost packet
+shown_by (Some n) (ending.Lost packet) = ending.Lost n
+shown_by shown (ending.Differs packet) = ending.Differs packet
+
 abbrev pub ended : List Placed → Ending
-ended ps = ended_by (log_of ps).closed ps
+ended ps = shown_by (loss_shown [] ps) (ended_at ps)
 
 -- ---- whether that is known, whatever follows
 
@@ -39,7 +50,7 @@ ends_for_good (ending.Lost packet) ps = nat_le 4096 (packets_behind packet ps)
 ends_for_good (ending.Differs packet) ps = true
 
 abbrev pub is_known : List Placed → Bool
-is_known ps = ends_for_good (ended ps) ps
+is_known ps = ends_for_good (ended_at ps) ps
 
 -- ---- what code does
 
@@ -56,6 +67,14 @@ BreaksAt more limit e ps =
 -- whatever follows, this is all that is told, and how it ends
 abbrev pub IsEnded : Bool → List Placed → List Happening → Ending → Type 0
 IsEnded more ps told e =
+    (later : List Placed) → MayFollow more ps later → (map entry_as told ≡ (log_of (ps ++ later)).told) × (e ≡ ended_at (ps ++ later))
+
+abbrev pub EndsSo : Bool → List Placed → List Happening → Type 0
+EndsSo more ps told = (e : Ending) × IsEnded more ps told e
+
+-- the same, by the packet that shows a loss
+abbrev pub IsShownEnded : Bool → List Placed → List Happening → Ending → Type 0
+IsShownEnded more ps told e =
     (later : List Placed) → MayFollow more ps later → (map entry_as told ≡ (log_of (ps ++ later)).told) × (e ≡ ended (ps ++ later))
 
 -- where it breaks off by a loss and a copy, all before that is told, behind what was taken away

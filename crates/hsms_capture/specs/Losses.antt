@@ -6,7 +6,7 @@ use Rattle.hsms_capture.specs.declared.losses.Need.{Need}
 use Rattle.hsms_capture.specs.declared.packet.Packet.{Packet}
 use Rattle.hsms_capture.specs.declared.packet.Side.{Side}
 use Rattle.hsms_capture.specs.declared.packet.Side.TheVariants as side
-use Rattle.hsms_capture.specs.Wire.{End, active, passive, Placed, end_of, is_behind, loss}
+use Rattle.hsms_capture.specs.Wire.{End, active, passive, Placed, or_else, end_of, is_behind, loss}
 use Rattle.hsms_capture.specs.Known.{packet_of}
 
 abbrev pub side_of : End → Side
@@ -65,6 +65,14 @@ IsWatched most needs all =
 abbrev pub Watches : List Need → List Placed → Type 0
 Watches needs all = IsWatched 4096 needs all
 
+-- the first of these needs for which something that it acknowledges is lacking; or the first of all
+abbrev pub past_of : BothEnds → List Need → Option ℕ
+past_of e [] = None
+past_of e (n ∷ ns) = if nat_lt (other_end e n.from) n.acknowledged then Some n.packet else past_of e ns
+
+abbrev pub shown_of : BothEnds → List Need → Option ℕ
+shown_of e needs = or_else (past_of e needs) (first_of needs)
+
 -- one packet more
 abbrev pub IsNext : Side → Packet → BothEnds → List Placed → Placed → Type 0
 IsNext s packet ends before p = (s ≡ side_of p.from) × (packet ≡ packet_of p) × (ends ≡ ends_of (before ++ p ∷ []))
@@ -78,8 +86,9 @@ IsLoss k all =
     (before : List Placed) × (p : Placed) × (rest : List Placed) × (all ≡ before ++ p ∷ rest) × (p.packet ≡ k) × (length rest ≡ 4096)
     × ((later : List Placed) → loss [] (all ++ later) ≡ Some k)
 
-abbrev pub FindsLoss : List Need → Side → Packet → BothEnds → ℕ → Type 0
-FindsLoss old s packet ends k = (before : List Placed) (p : Placed) → Watches old before → IsNext s packet ends before p → IsLoss k (before ++ p ∷ [])
+abbrev pub FindsLoss : List Need → Side → Packet → BothEnds → ℕ → List Need → Type 0
+FindsLoss old s packet ends k new =
+    (before : List Placed) (p : Placed) → Watches old before → IsNext s packet ends before p → IsLoss k (before ++ p ∷ []) × IsWatched 4097 new (before ++ p ∷ [])
 
 -- it is the loss, if nothing follows
 abbrev pub TellsLoss : List Need → Option ℕ → Type 0

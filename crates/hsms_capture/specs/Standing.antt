@@ -16,7 +16,7 @@ use Rattle.hsms_capture.specs.Laws.{AreNumbered}
 use Rattle.hsms_capture.specs.Telling.{entry_as}
 use Rattle.hsms_capture.specs.Told.{Entry, ends_down, tells}
 use Rattle.hsms_capture.specs.Connected.{AreRising, log_of}
-use Rattle.hsms_capture.specs.Finished.{IsEnded, ended, is_known}
+use Rattle.hsms_capture.specs.Finished.{EndsSo, IsShownEnded, ended, is_known}
 use Rattle.hsms_capture.specs.Arrived.{IsReading}
 
 abbrev pub of_side : BothEnds → Side → ℕ
@@ -26,7 +26,8 @@ of_side b side.Passive = b.passive
 -- behind these segments: it is known what follows from them, or how it ended, since that is known whatever follows
 abbrev pub StandsAs : Option Ending → Known → Reading → List Happening → (End → ℕ) → List Seen → Type 0
 StandsAs None turns reading told base seen = (turns ≡ known base (places base [] seen)) × IsReading reading (places base [] seen) told
-StandsAs (Some e) turns reading told base seen = IsEnded true (places base [] seen) told e × (is_known (places base [] seen) ≡ true)
+StandsAs (Some e) turns reading told base seen =
+    IsShownEnded true (places base [] seen) told e × (is_known (places base [] seen) ≡ true) × EndsSo true (places base [] seen) told
 
 abbrev pub Stands : Connection → List Happening → (End → ℕ) → List Seen → Type 0
 Stands c told base seen = StandsAs c.ending c.turns c.reading told base seen

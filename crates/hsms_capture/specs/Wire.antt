@@ -209,6 +209,19 @@ unfoldable pub loss : List Placed → List Placed → Option ℕ
 loss before [] = None
 loss before (p ∷ ps) = if is_behind (before ++ (p ∷ take 4096 ps)) p then Some p.packet else loss (before ++ (p ∷ [])) ps
 
+-- the first of these packets that acknowledges what isn't held, where these are known
+abbrev pub first_past : List Placed → List Placed → Option ℕ
+first_past known [] = None
+first_past known (q ∷ qs) = if is_past known q then Some q.packet else first_past known qs
+
+-- A loss is told by the packet that shows it: the first one, of that packet and the next 4,096, that acknowledges what
+-- none of these and of those before holds; or by the packet itself, where none does.
+unfoldable pub loss_shown : List Placed → List Placed → Option ℕ
+loss_shown before [] = None
+loss_shown before (p ∷ ps) =
+    if is_behind (before ++ (p ∷ take 4096 ps)) p then or_else (first_past (before ++ (p ∷ take 4096 ps)) (p ∷ take 4096 ps)) (Some p.packet) else
+    loss_shown (before ++ (p ∷ [])) ps
+
 -- ---- copies that differ
 
 abbrev pub is_other : Cell → Option Cell → Bool

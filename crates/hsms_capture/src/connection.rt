@@ -3,6 +3,9 @@
 ghost use Rattle.std.specs.Prelude.{◌≡◌, IfErr, IfOk, OnOk};
 ghost use Rattle.hsms_capture.specs.declared.connection.ConnectionFault.TheVariants.{Memory};
 ghost use Rattle.hsms_capture.specs.Standing.{Followed, of_side};
+ghost use Rattle.std.specs.Option.{option_map};
+ghost use Rattle.hsms_capture.specs.Finished.{shown_by};
+ghost use Rattle.hsms_capture.specs.Losses.{shown_of};
 ghost use Rattle.hsms_capture.specs.Stopping.{GoesAt, StopsAt};
 ghost use Rattle.hsms_capture.specs.Time.{FollowsInTime};
 
@@ -188,16 +191,18 @@ impl Connection {
         if let Some(ending) = connection.ending {
             return Ok(ending);
         }
+        let ends = connection.turns.ends();
         let reading = &mut connection.reading;
         let lost = reading.losses.first();
-        Ok(finish(
+        let ending = finish(
             alloc,
             &mut reading.teller,
             &mut reading.due,
             lost,
             reading.differs,
             told,
-        )?)
+        )?;
+        Ok(shown(ending, &reading.losses, ends))
     }
 }
 
@@ -208,6 +213,26 @@ fn of_side(both: BothEnds, side: Side) -> u64
     match side {
         Side::Active => both.active,
         Side::Passive => both.passive,
+    }
+}
+
+// How what is told ends, by the packet that shows a loss.
+fn shown(ending: Ending, losses: &Losses, ends: BothEnds) -> Ending
+    ensures { result ≡ shown_by (shown_of ends losses.now) ending }
+{
+    match ending {
+        Ending::Lost(packet) => Ending::Lost(losses.shown(ends).unwrap_or(packet)),
+        Ending::Closed | Ending::Complete | Ending::Differs(_) => ending,
+    }
+}
+
+// The same, where it ends.
+fn shown_if(ending: Option<Ending>, losses: &Losses, ends: BothEnds) -> Option<Ending>
+    ensures { result ≡ option_map (shown_by (shown_of ends losses.now)) ending }
+{
+    match ending {
+        Some(ending) => Some(shown(ending, losses, ends)),
+        None => None,
     }
 }
 
@@ -239,5 +264,6 @@ fn follow(
         ends: turns.ends(),
         received: turns.received(),
     };
-    Ok(react(alloc, reading, arrival, octets, &freed, told)?)
+    let ending = react(alloc, reading, arrival, octets, &freed, told)?;
+    Ok(shown_if(ending, &reading.losses, arrival.ends))
 }

@@ -18,7 +18,8 @@ pub enum Ending {
     Closed,
     /// All that its packets show was told, and more may follow.
     Complete,
-    /// The capture lost something: from the packet with this number on nothing is told.
+    /// The capture lost something, as the packet with this number shows: it acknowledges what isn't there, or, where none
+    /// does that, stands behind it. Nothing is told from it on, nor from the first packet on that lacks something.
     Lost(u64),
     /// The packet with this number brings other octets than an earlier one: from it on nothing is told.
     Differs(u64),

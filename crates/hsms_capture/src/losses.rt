@@ -1,8 +1,8 @@
 //! Packets that lack something: octets that they acknowledge, or that stand before theirs, and weren't captured so far.
 
-ghost use Rattle.std.specs.Prelude.{◌≡◌, ◌+◌, ◌++◌, ◌∷◌, [], false, IfSome, IfNone, OnOk, OnErr};
+ghost use Rattle.std.specs.Prelude.{◌≡◌, ◌+◌, ◌++◌, ◌∷◌, [], false, nat_lt, IfSome, IfNone, OnOk, OnErr};
 ghost use Rattle.std.specs.VecDeque.{deque_len};
-ghost use Rattle.hsms_capture.specs.Losses.{is_lacking, needs_of, unsettled, IsUnsettled, first_of};
+ghost use Rattle.hsms_capture.specs.Losses.{is_lacking, needs_of, other_end, past_of, unsettled, IsUnsettled, first_of};
 
 use crate::packet::{Packet, Side};
 use std::alloc::{AllocError, Global};
@@ -46,7 +46,7 @@ impl Model for Losses {
 
 impl Losses {
     ghost use Rattle.std.specs.Prelude.{◌≡◌, ℕ, [], Ok, Some, None, OnErr};
-    ghost use Rattle.hsms_capture.specs.Losses.{FindsLoss, TellsLoss, Watches, WatchesOn, first_of};
+    ghost use Rattle.hsms_capture.specs.Losses.{FindsLoss, TellsLoss, Watches, WatchesOn, first_of, shown_of};
 
     /// No packet yet. Takes no memory.
     #[tactic(auto, using(crate::proofs::Watched::watches_none))]
@@ -68,7 +68,7 @@ impl Losses {
         ends: BothEnds,
     ) -> Result<Option<u64>, AllocError>
         ensures none { result ≡ Ok None → WatchesOn self.old from packet ends self.new }
-        ensures lost { (k : ℕ) → result ≡ Ok (Some k) → FindsLoss self.old from packet ends k }
+        ensures lost { (k : ℕ) → result ≡ Ok (Some k) → FindsLoss self.old from packet ends k self.new }
         ensures err { OnErr result (self.new ≡ self.old) }
     {
         watch(&mut self.needs, from, packet, ends)?;
@@ -76,6 +76,14 @@ impl Losses {
             return Ok(None);
         }
         Ok(self.first())
+    }
+
+    /// The packet that shows the loss, where the first one that lacks something is it: the first that acknowledges what
+    /// isn't there, by these ends of both directions; or that one.
+    pub fn shown(&self, ends: BothEnds) -> Option<u64>
+        ensures { result ≡ shown_of ends self.now }
+    {
+        past_packet(&self.needs, ends).or(first_packet(&self.needs))
     }
 
     /// The packet that is the loss, where no packet follows.
@@ -96,6 +104,29 @@ fn first_packet(needs: &VecDeque<Need>) -> Option<u64>
     match needs.front() {
         Some(need) => Some(need.packet),
         None => None,
+    }
+}
+
+// The packet of the first need of which something that it acknowledges is lacking.
+#[tactic(auto, using(crate::proofs::Watched::past_here, crate::proofs::Watched::past_behind, crate::proofs::Watched::past_none))]
+fn past_packet(needs: &VecDeque<Need>, ends: BothEnds) -> Option<u64>
+    ensures { result ≡ past_of ends needs.now.items }
+{
+    for need in needs {
+        if is_past(ends, *need) {
+            return Some(need.packet);
+        }
+    }
+    None
+}
+
+// Whether something that a packet acknowledges is lacking.
+fn is_past(ends: BothEnds, need: Need) -> bool
+    ensures { result ≡ nat_lt (other_end ends need.from) need.acknowledged }
+{
+    match need.from {
+        Side::Active => ends.passive < need.acknowledged,
+        Side::Passive => ends.active < need.acknowledged,
     }
 }
 
@@ -154,12 +185,9 @@ fn take_settled(needs: &mut VecDeque<Need>, ends: BothEnds) -> Option<Need>
 fn lacks_some(ends: BothEnds, need: Need) -> bool
     ensures { result ≡ is_lacking ends need }
 {
-    let (own, other) = match need.from {
-        Side::Active => (ends.active, ends.passive),
-        Side::Passive => (ends.passive, ends.active),
+    let own = match need.from {
+        Side::Active => ends.active,
+        Side::Passive => ends.passive,
     };
-    if other < need.acknowledged {
-        return true;
-    }
-    own < need.place
+    is_past(ends, need) || own < need.place
 }

@@ -1,14 +1,15 @@
 //! Small captures, and what the definitions say of them.
 
-ghost use Rattle.hsms_capture.specs.Examples.{Asked, EarlyReply, FinWithin, GapAtEnd, HalfOpen, LostReply, OtherCopy, OverUntold, Refused, RefusedOnce, ResetBetween, SeparateCrossed, UpLate};
+ghost use Rattle.hsms_capture.specs.Examples.{Asked, EarlyReply, FinWithin, GapAtEnd, HalfOpen, LostMessage, LostReply, OtherCopy, OverUntold, Refused, RefusedOnce, ResetBetween, SeparateCrossed, UpLate};
 
-/// Of five captures the definitions tell the loss, the order of cause, or the copy that differs.
+/// Of six captures the definitions tell the loss and what shows it, the order of cause, or the copy that differs.
 pub fn small_captures()
     ensures lost { LostReply }
     ensures early { EarlyReply }
     ensures asked { Asked }
     ensures other { OtherCopy }
     ensures gap { GapAtEnd }
+    ensures message { LostMessage }
 {}
 
 /// Of eight captures the definitions tell what a log has: nothing where the connection never came up, also where a reset

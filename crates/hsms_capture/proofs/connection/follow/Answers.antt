@@ -1,5 +1,7 @@
 use Rattle.std.proofs.lemmas.Result.{err_from_is_err_and}
-use Rattle.std.proofs.Common.{◌≡◌, List, [], Option, Some, None, refl, subst}
+use Rattle.std.proofs.Common.{◌≡◌, List, [], Option, Some, None, refl, sym, subst}
+use Rattle.hsms_capture.specs.declared.ending.Ending.{Ending}
+use Rattle.hsms_capture.specs.Standing.{Followed}
 use Rattle.hsms_capture.specs.declared.packet.Packet.{Packet}
 use Rattle.hsms_capture.specs.Arrived.{Reacts}
 use Rattle.hsms_capture.specs.Known.{GoesOn, seen_of}
@@ -22,8 +24,10 @@ returns-clause-told c =
     let s = seen_of c.args.segment c.args.octets.now in
     let freed = c.take.new.told.items in
     let some : c.in_ok-packet.field-0 ≡ Some c.in-Some.packet = (let e = c.in-Some.is in cc) in
-    followed_some c.args.turns.now c.take.new.self c.args.reading.now c.react.new.reading c.args.segment c.args.octets.now c.args.told.now.items c.react.new.told.items freed
-    c.in-Some.packet c.of_side-acknowledged.result c.received.result c.ends.result c.received-2.result c.in_ok-react.field-0
+    subst (λ (r : Option Ending). Followed c.args.turns.now c.args.reading.now c.args.segment c.args.octets.now c.args.told.now.items c.take.new.self c.react.new.reading
+    c.react.new.told.items r) (sym c.shown_if.ensures)
+    (followed_some c.args.turns.now c.take.new.self c.args.reading.now c.react.new.reading c.args.segment c.args.octets.now c.args.told.now.items c.react.new.told.items freed
+    c.in-Some.packet c.of_side-acknowledged.result c.received.result c.ends.result c.received-2.result c.in_ok-ending.ending
     (subst (λ (o : Option Packet). GoesOn c.args.turns.now [] s c.take.new.self freed o) some
     (subst (λ (ps : List Packet). GoesOn c.args.turns.now ps s c.take.new.self freed c.in_ok-packet.field-0) c.new-freed.ensures.items c.in_ok-packet.ensures.ok))
     c.received.ensures c.of_side-acknowledged.ensures c.ends.ensures c.received-2.ensures
@@ -34,8 +38,8 @@ returns-clause-told c =
       acknowledged = c.of_side-acknowledged.result;
       ends = c.ends.result;
       received = c.received-2.result;
-    }) c.args.octets.now ps c.args.reading.now c.args.told.now.items c.react.new.reading c.react.new.told.items c.in_ok-react.field-0)
-    (let e = c.deref.ensures.value in cc) c.in_ok-react.ensures.told)
+    }) c.args.octets.now ps c.args.reading.now c.args.told.now.items c.react.new.reading c.react.new.told.items c.in_ok-ending.ending)
+    (let e = c.deref.ensures.value in cc) c.in_ok-ending.ensures.told))
 
 pub returns-in_default-clause-times : goal.returns-in_default-clause-times
 returns-in_default-clause-times c = followed_in_none c.args.turns.now c.args.reading.now c.args.segment c.args.octets.now c.args.told.now.items
@@ -49,7 +53,7 @@ returns-clause-times c =
     c.in-Some.packet
     (subst (λ (o : Option Packet). GoesOn c.args.turns.now [] s c.take.new.self freed o) some
     (subst (λ (ps : List Packet). GoesOn c.args.turns.now ps s c.take.new.self freed c.in_ok-packet.field-0) c.new-freed.ensures.items c.in_ok-packet.ensures.ok))
-    c.in_ok-react.ensures.times
+    c.in_ok-ending.ensures.times
 
 pub returns-in_default-clause-goes : goal.returns-in_default-clause-goes
 returns-in_default-clause-goes c =
@@ -69,16 +73,16 @@ returns-clause-goes c =
     (c.take.ensures.near (let e = c.in_ok-packet.was in rw e refl))
     (subst (λ (o : Option Packet). GoesOn c.args.turns.now [] s c.take.new.self freed o) some
     (subst (λ (ps : List Packet). GoesOn c.args.turns.now ps s c.take.new.self freed c.in_ok-packet.field-0) c.new-freed.ensures.items c.in_ok-packet.ensures.ok))
-    c.in_ok-react.ensures.near
+    c.in_ok-ending.ensures.near
 
-pub returns-in_err-react-clause-stops : goal.returns-in_err-react-clause-stops
-returns-in_err-react-clause-stops c =
+pub returns-in_err-ending-clause-stops : goal.returns-in_err-ending-clause-stops
+returns-in_err-ending-clause-stops c =
     let s = seen_of c.args.segment c.args.octets.now in
     let freed = c.take.new.told.items in
     let some : c.in_ok-packet.field-0 ≡ Some c.in-Some.packet = (let e = c.in-Some.is in cc) in
-    let p = err_from_is_err_and c.from_residual-in_err-react.result c.from_residual-in_err-react.ensures.1 in
+    let p = err_from_is_err_and c.from_residual-in_err-ending.result c.from_residual-in_err-ending.ensures.1 in
     rw (p.1, p.2)
-    (stops_full c.in_err-react.field-0.0 c.args.turns.now c.take.new.self c.args.reading.now c.args.segment c.args.octets.now c.args.told.now.items freed c.in-Some.packet
+    (stops_full c.in_err-ending.field-0.0 c.args.turns.now c.take.new.self c.args.reading.now c.args.segment c.args.octets.now c.args.told.now.items freed c.in-Some.packet
     (subst (λ (o : Option Packet). GoesOn c.args.turns.now [] s c.take.new.self freed o) some
     (subst (λ (ps : List Packet). GoesOn c.args.turns.now ps s c.take.new.self freed c.in_ok-packet.field-0) c.new-freed.ensures.items c.in_ok-packet.ensures.ok))
-    c.in_err-react.ensures.full)
+    c.in_err-ending.ensures.full)

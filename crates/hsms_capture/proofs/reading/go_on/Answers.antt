@@ -1,3 +1,4 @@
+use Rattle.std.proofs.Common.{refl}
 use Rattle.hsms_capture.specs.declared.reading.Reading.{Reading}
 use Rattle.hsms_capture.proofs.Arriving.{ok_weaker}
 use Rattle.hsms_capture.proofs.Sure.{lost_ends, none_lost}
@@ -13,4 +14,4 @@ pub returns-clause-told : goal.returns-clause-told
 returns-clause-told c =
     let old = c.args.reading.now in
     let new : Reading = record { losses = old.losses; teller = c.finish.new.teller; due = c.finish.new.due; differs = old.differs } in
-    lost_ends c.in-Some.packet c.args.lost c.args.received old new c.args.told.now.items c.finish.new.told.items c.in_ok-ending.ending (let e = c.in-Some.is in cc) c.in_ok-ending.ensures.told
+    lost_ends c.in-Some.packet c.args.lost c.args.received old new c.args.told.now.items c.finish.new.told.items c.in_ok-ending.ending (let e = c.in-Some.is in cc) c.in_ok-ending.ensures.told refl

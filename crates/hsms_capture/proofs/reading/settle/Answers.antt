@@ -1,5 +1,5 @@
 use Rattle.hsms_capture.specs.declared.reading.Reading.{Reading}
-use Rattle.std.proofs.Common.{◌≡◌, false}
+use Rattle.std.proofs.Common.{◌≡◌, false, refl}
 use Rattle.hsms_capture.specs.Arrived.{breaks_sure}
 use Rattle.hsms_capture.specs.Losses.{first_of}
 use Rattle.hsms_capture.proofs.Arriving.{ok_weaker}
@@ -11,7 +11,7 @@ returns-then-breaks_surely-clause-told c =
     let old = c.args.reading.now in
     let new : Reading = record { losses = old.losses; teller = c.finish.new.teller; due = c.finish.new.due; differs = old.differs } in
     differs_ends c.first-first.result c.args.received old new c.args.told.now.items c.finish.new.told.items c.in_ok-ending.ending c.first-first.ensures.first
-    (let e = c.breaks_surely.ensures in let f = c.if-breaks_surely.true in cc) c.in_ok-ending.ensures.told
+    (let e = c.breaks_surely.ensures in let f = c.if-breaks_surely.true in cc) c.in_ok-ending.ensures.told refl
 
 pub returns-clause-told : goal.returns-clause-told
 returns-clause-told c =

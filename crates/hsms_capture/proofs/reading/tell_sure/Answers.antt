@@ -14,7 +14,7 @@ returns-then-branch-clause-told c =
     sure_closed c.args.received old new next c.tell_before.new.due.items c.args.told.now.items c.tell_before.new.told.items c.first.result c.least-limit.result
     c.first.ensures.first c.least-limit.ensures
     (subst (λ (b : Bool). TellsBefore c.least-limit.result old.teller old.due.items c.args.told.now.items next c.tell_before.new.due.items c.tell_before.new.told.items b)
-    is c.in_ok-tell_before.ensures.told)
+    is c.in_ok-tell_before.ensures.told) refl
 
 pub returns-clause-told : goal.returns-clause-told
 returns-clause-told c =

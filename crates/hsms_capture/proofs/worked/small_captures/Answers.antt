@@ -1,4 +1,4 @@
-use Rattle.hsms_capture.proofs.SmallCaptures.{asked, early_reply, gap_at_end, lost_reply, other_copy}
+use Rattle.hsms_capture.proofs.SmallCaptures.{asked, early_reply, gap_at_end, lost_message, lost_reply, other_copy}
 use Rattle.hsms_capture.proofs.worked.small_captures.Goals as goal
 
 pub returns-clause-lost : goal.returns-clause-lost
@@ -15,3 +15,6 @@ returns-clause-other c = other_copy
 
 pub returns-clause-gap : goal.returns-clause-gap
 returns-clause-gap c = gap_at_end
+
+pub returns-clause-message : goal.returns-clause-message
+returns-clause-message c = lost_message

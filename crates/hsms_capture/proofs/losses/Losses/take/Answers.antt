@@ -8,5 +8,5 @@ pub returns-clause-lost : goal.returns-clause-lost
 returns-clause-lost c =
     let new = c.watch.new.needs.items in
     let many : 4096 < length new = omega (arith, c.len.ensures, c.if-len-le-WINDOW.false, c.watch.new.needs.ok.0) in
-    λ k e. subst (λ (ns : List Need). FindsLoss ns c.args.from c.args.packet c.args.ends k) c.self.view_is
+    λ k e. subst (λ (ns : List Need). FindsLoss ns c.args.from c.args.packet c.args.ends k new) c.self.view_is
     (took_some c.self.inside.needs.items c.args.from c.args.packet c.args.ends new k c.first.result c.first.ensures.first many c.in_ok-watch.ensures.ok e)
