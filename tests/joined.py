@@ -35,7 +35,7 @@ PORT = 5000
 NAMES = "10.0.0.1:40000 10.0.0.2:5000"
 SIDES = ["active", "passive"]
 
-# What each end of the smallest captures says, how many replies it waits for, and from which packet on something is
+# What each end of the smallest captures says, how many replies it waits for, and which packet is named where something is
 # missing.
 SMALLEST = {
     "status-1": ("entries=7 sent=3 taken=3", 0, "entries=7 sent=3 taken=3", 0, None),
@@ -121,7 +121,7 @@ def wrong_with_smallest(name: str, program: Optional[str]) -> Optional[str]:
     wanted = [f"{lack}pass {counts} discarded=0 expired=0 waiting={waiting}" for counts, waiting in each]
     found = verdicts(told, Options())
     if found != wanted:
-        return f"{found}, missing from {told.missing} on"
+        return f"{found}, incomplete by {told.missing}"
     if program and answer_of(["capture"], octets, program) != Answer(2, b"", b"hsms: NoConnection\n"):
         return "without --joined it is passed over"
     return differs(octets, told, Options(), program)

@@ -161,7 +161,7 @@ def cases_of_captures():
     none = "no connection came up at --port: is this the port of HSMS, and does the capture begin before the connection does, or is --joined given?"
     yield Case(["capture"], 2, "NoConnection", [none], captures.no_connection().octets)
     yield Case(["capture", "--port", "5001"], 2, "NoConnection", [none], captures.late_reply().octets)
-    lost = "octets are missing from this packet on: capture again at the end itself, whole packets (-s 0), and none dropped"
+    lost = "this packet shows that octets are missing: capture again at the end itself, whole packets (-s 0), and none dropped"
     yield Case(["capture"], 2, "Lost packet=8", [lost], captures.gap().octets)
     length = "a message is shorter than 10 octets or longer than --max: is this the port of HSMS? Else give a greater --max"
     yield Case(["capture"], 2, "Length packet=6", [length], captures.wrong_length().octets)

@@ -138,7 +138,7 @@ class Line:
 
 @dataclass
 class Told:
-    """What is told of a connection, and the fault and packet from which on something is missing."""
+    """What is told of a connection, and the fault with the packet that is named for it."""
 
     lines: List[Line] = field(default_factory=list)
     fault: Optional[Tuple[str, int]] = None

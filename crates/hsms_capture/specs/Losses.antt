@@ -65,11 +65,12 @@ IsWatched most needs all =
 abbrev pub Watches : List Need → List Placed → Type 0
 Watches needs all = IsWatched 4096 needs all
 
--- the first of these needs for which something that it acknowledges is lacking; or the first of all
+-- the first of these needs for which something that it acknowledges is lacking
 abbrev pub past_of : BothEnds → List Need → Option ℕ
 past_of e [] = None
 past_of e (n ∷ ns) = if nat_lt (other_end e n.from) n.acknowledged then Some n.packet else past_of e ns
 
+-- the same, or the first of all where there is none
 abbrev pub shown_of : BothEnds → List Need → Option ℕ
 shown_of e needs = or_else (past_of e needs) (first_of needs)
 

@@ -18,8 +18,9 @@ pub enum Ending {
     Closed,
     /// All that its packets show was told, and more may follow.
     Complete,
-    /// The capture lost something, as the packet with this number shows: it acknowledges what isn't there, or, where none
-    /// does that, stands behind it. Nothing is told from it on, nor from the first packet on that lacks something.
+    /// The capture lost something, as the packet with this number shows: it acknowledges what isn't there, or, where no
+    /// packet does that, stands behind it. Nothing is told from the first packet on that lacks something, and that may
+    /// come before this one.
     Lost(u64),
     /// The packet with this number brings other octets than an earlier one: from it on nothing is told.
     Differs(u64),

@@ -78,8 +78,8 @@ impl Losses {
         Ok(self.first())
     }
 
-    /// The packet that shows the loss, where the first one that lacks something is it: the first that acknowledges what
-    /// isn't there, by these ends of both directions; or that one.
+    /// The packet that shows the loss, where the first packet that lacks something is the loss: the first that
+    /// acknowledges what isn't there, by these ends of both directions; or the loss itself, where none does.
     pub fn shown(&self, ends: BothEnds) -> Option<u64>
         ensures { result ≡ shown_of ends self.now }
     {
@@ -107,7 +107,7 @@ fn first_packet(needs: &VecDeque<Need>) -> Option<u64>
     }
 }
 
-// The packet of the first need of which something that it acknowledges is lacking.
+// The packet of the first need that acknowledges what is lacking.
 #[tactic(auto, using(crate::proofs::Watched::past_here, crate::proofs::Watched::past_behind, crate::proofs::Watched::past_none))]
 fn past_packet(needs: &VecDeque<Need>, ends: BothEnds) -> Option<u64>
     ensures { result ≡ past_of ends needs.now.items }

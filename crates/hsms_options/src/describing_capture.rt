@@ -13,8 +13,8 @@ pub const CAPTURE_USAGE: &str = "hsms capture [OPTIONS] < CAPTURE";
 pub const CAPTURE_HELP: &str =
     "It reads a file of pcap or pcapng once. For each TCP connection at the port it tells two lines, of the end that\n\
     connects and of the one that listens: both addresses, what the end is, and the verdict of `hsms audit` on its log,\n\
-    with the packet of a failing line. From a packet on that shows a loss nothing is judged, and a line says `incomplete`\n\
-    and that packet.\n\n\
+    with the packet of a failing line. Where something is missing nothing behind it is judged, and a line says\n\
+    `incomplete` and the packet that shows it.\n\n\
     With --log it writes the log of one role instead, of all connections between two addresses, in version 2. A comment\n\
     above each line names its packet.\n\n\
     Example: hsms capture < tool.pcap\n\
@@ -22,8 +22,8 @@ pub const CAPTURE_HELP: &str =
     Statuses: 0 each log passes, and nothing is missing; 1 a log fails; 2 the command line is refused, or the capture:\n\
     something is missing in it (Lost, Length, Differs, Full, CutOff), it can't be read (Capture, Time), nothing came up\n\
     (NoConnection), or with --log there are several at once or other addresses (Overlap, Peer); 3 standard input can't\n\
-    be read (Read), the output can't be written (Write), or memory is wanting (Memory). What was told before a fault\n\
-    stays told.\n\n\
+    be read (Read), the output can't be written (Write), there are 2^64 - 4 blocks or more (Endless), or memory is\n\
+    wanting (Memory). What was told before a fault stays told.\n\n\
     With -v a fault is told in words too.";
 
 static CAPTURE_OPTIONS: [Described; 12] = [

@@ -78,7 +78,7 @@ CountsOn (step.Packet n r) old new = (n ≡ min (old + 1) (2 ^ 64 - 1)) × (new 
 CountsOn step.Passed old new = (new ≡ old) ⊎ (new ≡ min (old + 1) (2 ^ 64 - 1))
 CountsOn step.End old new = new ≡ old
 
--- The octets that a step but the last passes stand at the front of what was read ahead and of the input, and there are some.
+-- The octets that each step but the last passes, one at least, stand at the front of what was ahead and of the input.
 abbrev pub TakesFront : Reading → List ℕ → Reading → Option (List ℕ) → Type 0
 TakesFront was input now left =
     (rest : List ℕ) × (left ≡ Some rest) × (was.ahead ++ input ≡ now.last ++ (now.ahead ++ rest)) × (0 < length now.last)

@@ -23,7 +23,7 @@ pcap_opening_at o parts octets =
     if nat_lt (length octets) 24 then opening.More else
     opening.Opened (format.Pcap o parts (number_in o 4 (drop 20 octets) % 65536)) 24
 
--- a file that is none is refused by what it is, where its first four octets tell that
+-- a file that is no capture is refused by what it is, where its first four octets tell that
 abbrev pub no_capture : ℕ → CaptureFault
 no_capture magic =
     if magic == 0x28b52ffd then fault.Zstd else

@@ -15,10 +15,10 @@ pub enum CaptureFault {
     /// The first octets are those of no format that is read.
     #[error("Unknown")]
     Unknown,
-    /// They are those of a file that gzip packed.
+    /// The first octets are those of a file that gzip packed.
     #[error("Gzip")]
     Gzip,
-    /// They are those of a file that zstd packed.
+    /// The first octets are those of a file that zstd packed.
     #[error("Zstd")]
     Zstd,
     /// A record or block claims more octets than any has, or fewer than its own fields, or a block claims no whole

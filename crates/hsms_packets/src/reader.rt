@@ -153,7 +153,7 @@ pub fn format_of(octets: &[u8]) -> Result<Opening, CaptureFault>
     }
 }
 
-// What a file is that is none, by its first four octets.
+// How a file that is no capture is refused, by its first four octets.
 fn no_capture(magic: u32) -> CaptureFault
     ensures { result ≡ no_capture magic }
 {

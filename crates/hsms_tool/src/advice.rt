@@ -223,7 +223,7 @@ const SENTENCES: [(&str, &str); 19] = [
 const CAPTURE_SENTENCES: [(&str, &str); 10] = [
     (
         "Lost",
-        "octets are missing from this packet on: capture again at the end itself, whole packets (-s 0), and none dropped",
+        "this packet shows that octets are missing: capture again at the end itself, whole packets (-s 0), and none dropped",
     ),
     (
         "Length",

@@ -29,7 +29,7 @@ front_of pair role side =
     address_text pair.active ++ codes " " ++ address_text pair.passive ++ codes " " ++ role_word role ++ codes " " ++ side_word side
     ++ codes ":"
 
--- the packet from which on something is missing
+-- the packet that is named where something is missing
 abbrev pub packet_of : Shortfall → ℕ
 packet_of (Lost packet) = packet
 packet_of (Differs packet) = packet

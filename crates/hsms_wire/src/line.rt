@@ -72,7 +72,7 @@ fn word_of_side(side: Side) -> &'static str
     }
 }
 
-// Adds the packet from which on something is missing.
+// Adds the packet that is named where something is missing.
 fn push_lack(line: &mut String, shortfall: Option<Shortfall>) -> Result<(), AllocError>
     ensures { OnOk result (string_bytes line.new ≡ string_bytes line.old ++ lack_words shortfall) }
 {

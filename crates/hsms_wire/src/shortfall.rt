@@ -6,7 +6,8 @@ use hsms_packets::FileFault;
 use std::alloc::Global;
 use std::fmt;
 
-/// Why what is told of connections is incomplete, with the number of the packet from which on it isn't told.
+/// Why what is told of connections is incomplete, with the number of the packet that is named for it: of a loss the one
+/// that shows it, else the one from which on nothing is told.
 #[derive(Clone, Copy)]
 pub enum Shortfall {
     /// The capture lost something.
