@@ -24,7 +24,7 @@ use Rattle.hsms_capture.specs.Telling.{entry_as}
 use Rattle.hsms_capture.specs.Turning.{Log, is_over, left_behind, tell_on}
 use Rattle.hsms_capture.specs.Drained.{IsHeldBack}
 use Rattle.hsms_capture.specs.Connected.{AreRising, AreStreamsOf, Waits, lefts, log_of, told_dues}
-use Rattle.hsms_capture.specs.Finished.{BreaksAt, EndsSo, Finishes, IsEnded, IsShownEnded, broken, ended, ended_at, is_known, shown_by}
+use Rattle.hsms_capture.specs.Finished.{BreaksAt, EndsSo, Finishes, IsShownEnded, broken, ended, ended_at, is_known, shown_by}
 use Rattle.hsms_capture.specs.Arrived.{BringsCells, HoldsFrom, IsArrival, IsReading, Outcome, Reacts, breaks_sure, own_packet}
 use Rattle.hsms_capture.specs.Standing.{EndsAs, Followed, StandsAs, TakesOn, ToldAtOnce, ToldIsSure, of_side}
 use Rattle.hsms_capture.proofs.Fronts.{places_begin, places_more, places_rise}
@@ -122,17 +122,14 @@ followed_some old new r next segment octets told later freed packet acked before
 
 -- ---- one that has ended stays so
 
-ended_more : (ps qs : List Placed) (told : List Happening) (e : Ending) → IsEnded true ps told e → IsEnded true (ps ++ qs) told e
-ended_more ps qs told e h later rises =
+-- however its end is told
+ends_more : (told_end : List Placed → Ending) (ps qs : List Placed) (told : List Happening) (e : Ending)
+    → ((later : List Placed) → AreRising 0 (ps ++ later) → (map entry_as told ≡ (log_of (ps ++ later)).told) × (e ≡ told_end (ps ++ later)))
+    → (later : List Placed) → AreRising 0 ((ps ++ qs) ++ later) → (map entry_as told ≡ (log_of ((ps ++ qs) ++ later)).told) × (e ≡ told_end ((ps ++ qs) ++ later))
+ends_more told_end ps qs told e h later rises =
     let whole : (ps ++ qs) ++ later ≡ ps ++ (qs ++ later) = append_assoc ps qs later in
     let r = h (qs ++ later) (subst (AreRising 0) whole rises) in
-    (r.0 ∙ ap (λ (z : List Placed). (log_of z).told) (sym whole), r.1 ∙ ap ended_at (sym whole))
-
-shown_more : (ps qs : List Placed) (told : List Happening) (e : Ending) → IsShownEnded true ps told e → IsShownEnded true (ps ++ qs) told e
-shown_more ps qs told e h later rises =
-    let whole : (ps ++ qs) ++ later ≡ ps ++ (qs ++ later) = append_assoc ps qs later in
-    let r = h (qs ++ later) (subst (AreRising 0) whole rises) in
-    (r.0 ∙ ap (λ (z : List Placed). (log_of z).told) (sym whole), r.1 ∙ ap ended (sym whole))
+    (r.0 ∙ ap (λ (z : List Placed). (log_of z).told) (sym whole), r.1 ∙ ap told_end (sym whole))
 
 stays_by : (end : Option Ending) (turns : Known) (r : Reading) (told : List Happening) (base : End → ℕ) (before : List Seen) (s : Seen) → is_some end ≡ true
     → AreNumbered 0 (before ++ s ∷ []) → StandsAs end turns r told base before → StandsAs end turns r told base (before ++ s ∷ [])
@@ -142,7 +139,7 @@ stays_by (Some x) turns r told base before s e numbered h =
     let qs = placed_behind base ps s in
     let rises = subst (AreRising 0) (one_more base before s) (all_rise base (before ++ s ∷ []) numbered) in
     subst (λ (z : List Placed). IsShownEnded true z told x × (is_known z ≡ true) × EndsSo true z told) (sym (one_more base before s))
-    (shown_more ps qs told x h.0, known_more ps qs told h.2.0 rises h.2.1 h.1, (h.2.0, ended_more ps qs told h.2.0 h.2.1))
+    (ends_more ended ps qs told x h.0, known_more ps qs told h.2.0 rises h.2.1 h.1, (h.2.0, ends_more ended_at ps qs told h.2.0 h.2.1))
 
 pub stays : (c : Connection) (s : Seen) (told : List Happening) → is_some c.ending ≡ true → TakesOn c s told c told
 stays c s told e base before away numbered stands = stays_by c.ending c.turns c.reading (away ++ told) base before s e numbered stands

@@ -114,6 +114,14 @@ shown_same x y ending.Complete same = refl
 shown_same x y (ending.Lost k) same = ap (λ (o : Option ℕ). shown_by o (ending.Lost k)) (same k refl)
 shown_same x y (ending.Differs k) same = refl
 
+-- an ending that is no loss is told as it is
+pub told_as_it_is : (o : Option ℕ) (e x : Ending) → shown_by o e ≡ x → ((k : ℕ) → x ≡ ending.Lost k → ⊥) → e ≡ x
+told_as_it_is o ending.Closed x is none = is
+told_as_it_is o ending.Complete x is none = is
+told_as_it_is None (ending.Lost k) x is none = is
+told_as_it_is (Some n) (ending.Lost k) x is none = absurd (none n (sym is))
+told_as_it_is o (ending.Differs k) x is none = is
+
 broken_lost : (a b : Option ℕ) (k : ℕ) → broken a b ≡ ending.Lost k → a ≡ Some k
 broken_lost None None k e = absurd cc
 broken_lost (Some j) None k e = cc

@@ -11,8 +11,9 @@ use Rattle.hsms_capture.specs.Message.{message_size}
 use Rattle.hsms_capture.specs.Told.{Told, up, message, down, Entry, entry, entry_of, and_later, answered_at, behind_up, first_message, is_left_out, is_message, is_separate, reset_entries, separated_by, shown_entries, tells, up_to_down}
 use Rattle.hsms_capture.specs.Laws.{AreNumbered, EachEntry, EachShown, ToldAtPackets}
 use Rattle.hsms_capture.specs.Connected.{AreRising, log_of}
-use Rattle.hsms_capture.specs.Finished.{EndsSo, IsShownEnded, ended, ended_at, ends_for_good, is_known, shown_by}
+use Rattle.hsms_capture.specs.Finished.{EndsSo, IsShownEnded, ended, ended_at, ends_for_good, is_known}
 use Rattle.hsms_capture.specs.Standing.{EndingIsSure, StandsAs}
+use Rattle.hsms_capture.proofs.Evidence.{told_as_it_is}
 use Rattle.hsms_capture.proofs.Lists.{Each, each_append, each_filter, weaken}
 use Rattle.hsms_capture.proofs.Fronts.{places_begin, places_more}
 use Rattle.hsms_capture.proofs.Kept.{shows_each}
@@ -155,17 +156,10 @@ told_at_packets base seen =
 
 -- ---- one that ended stays so
 
-shown_complete : (o : Option ℕ) (e : Ending) → shown_by o e ≡ ending.Complete → ending.Complete ≡ e
-shown_complete o ending.Closed is = absurd cc
-shown_complete o ending.Complete is = refl
-shown_complete None (ending.Lost k) is = absurd cc
-shown_complete (Some n) (ending.Lost k) is = absurd cc
-shown_complete o (ending.Differs k) is = absurd cc
-
 never_complete : (ps : List Placed) (told : List Happening) (e : Ending) → AreRising 0 ps → IsShownEnded true ps told e → is_known ps ≡ true → e ≡ ending.Complete → ⊥
 never_complete ps told e rises ends known is =
     let now : ending.Complete ≡ ended ps = sym is ∙ (ends [] (nothing_follows ps rises)).1 ∙ ap ended (append-nil ps) in
-    let no : false ≡ true = ap (λ (x : Ending). ends_for_good x ps) (shown_complete (loss_shown [] ps) (ended_at ps) (sym now)) ∙ known in
+    let no : false ≡ true = ap (λ (x : Ending). ends_for_good x ps) (sym (told_as_it_is (loss_shown [] ps) (ended_at ps) ending.Complete (sym now) (λ k no. cc))) ∙ known in
     cc
 
 pub numbered_front : (last : ℕ) (xs ys : List Seen) → AreNumbered last (xs ++ ys) → AreNumbered last xs

@@ -2,7 +2,6 @@
 use Rattle.std.proofs.Common.{◌≡◌, ◌⊎◌, ◌++◌, ◌∷◌, ◌||◌, inl, inr, ℕ, Bool, true, false, cond, nat_le, nat_lt, List, [], filter, map, Option, Some, None, refl, sym, ap, subst, ◌∙◌}
 use Rattle.std.proofs.lemmas.List.{append-nil, append_assoc}
 use Rattle.std.specs.Option.{option_map}
-use Rattle.hsms_capture.specs.declared.ending.Ending.{Ending}
 use Rattle.hsms_capture.specs.declared.ending.Ending.TheVariants as ending
 use Rattle.hsms_capture.specs.declared.packet.Side.{Side}
 use Rattle.hsms_capture.specs.declared.streams.Due.{Due}
@@ -19,6 +18,7 @@ use Rattle.hsms_capture.specs.Turning.{Log, and_log, answer_entries, delivers, e
 use Rattle.hsms_capture.specs.Connected.{AreRising, log_of, told_dues}
 use Rattle.hsms_capture.specs.Finished.{broken, ended, ended_at, ended_by, shown_by}
 use Rattle.hsms_capture.specs.Standing.{ClosedWhereDown, DownIsAll, DownIsClosed}
+use Rattle.hsms_capture.proofs.Evidence.{told_as_it_is}
 use Rattle.hsms_capture.proofs.Connecting.{all_rise, told_sure}
 use Rattle.hsms_capture.proofs.Onward.{tell_first, told_then}
 use Rattle.hsms_capture.proofs.Slicing.{hears_append}
@@ -288,19 +288,12 @@ ended_closes false ps e = by_breaks (loss [] ps) (difference [] ps) e
         by_first true e = absurd cc
         by_first false e = absurd cc
 
-shown_closed : (o : Option ℕ) (e : Ending) → shown_by o e ≡ ending.Closed → e ≡ ending.Closed
-shown_closed o ending.Closed is = refl
-shown_closed o ending.Complete is = absurd cc
-shown_closed None (ending.Lost k) is = absurd cc
-shown_closed (Some n) (ending.Lost k) is = absurd cc
-shown_closed o (ending.Differs k) is = absurd cc
-
 -- one that is over tells nothing, or that it went down
 pub closed_tells : (ps : List Placed) → AreRising 0 ps → ended ps ≡ ending.Closed → (tells ps ≡ []) ⊎ (ends_down (tells ps) ≡ true)
 closed_tells ps rises e =
     elim (closed_where_down ps rises) [
       | inl none ↦ inl none
-      | inr is ↦ inr (sym is ∙ ended_closes (log_of ps).closed ps (shown_closed (loss_shown [] ps) (ended_at ps) e))
+      | inr is ↦ inr (sym is ∙ ended_closes (log_of ps).closed ps (told_as_it_is (loss_shown [] ps) (ended_at ps) ending.Closed e (λ k no. cc)))
     ]
 
 -- ---- once a down was told

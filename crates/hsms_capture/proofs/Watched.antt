@@ -9,7 +9,7 @@ use Rattle.hsms_capture.specs.declared.losses.Need.{Need}
 use Rattle.hsms_capture.specs.declared.packet.Packet.{Packet}
 use Rattle.hsms_capture.specs.declared.packet.Side.{Side}
 use Rattle.hsms_capture.specs.Wire.{End, active, passive, Placed, end_of, is_past, is_behind, loss}
-use Rattle.hsms_capture.specs.Losses.{ends_of, side_of, is_lacking, needs_of, unsettled, IsUnsettled, need_at, other_end, past_of, HeadLacks, IsWatched, Watches, IsNext, WatchesOn, IsLoss, FindsLoss, TellsLoss, first_of}
+use Rattle.hsms_capture.specs.Losses.{ends_of, side_of, is_lacking, needs_of, unsettled, IsUnsettled, need_at, other_end, own_end, past_of, HeadLacks, IsWatched, Watches, IsNext, WatchesOn, IsLoss, FindsLoss, TellsLoss, first_of}
 use Rattle.hsms_capture.proofs.Numbered.{loss_sure, settled_sure, where_true}
 
 -- ---- the front of what is needed
@@ -31,16 +31,6 @@ settles_all e ns first h kept = sym (stays_unsettled e ns h) ∙ kept
 
 -- ---- a packet lacks what the definition says
 
-none_lacks : (x : ℕ) (b : Bool) → (nat_lt x 0 || b) ≡ b
-none_lacks x b = rw (le-ltb x 0 (omega arith)) refl
-
-lacks_by : (all : List Placed) (e : End) (a : Option ℕ) (p : Placed)
-    → is_lacking (ends_of all) (need_at (record p { from = e; acknowledged = a })) ≡ is_behind all (record p { from = e; acknowledged = a })
-lacks_by all active None p = none_lacks (end_of all passive) (nat_lt (end_of all active) p.place)
-lacks_by all active (Some n) p = refl
-lacks_by all passive None p = none_lacks (end_of all active) (nat_lt (end_of all passive) p.place)
-lacks_by all passive (Some n) p = refl
-
 past_by : (all : List Placed) (e : End) (a : Option ℕ) (p : Placed)
     → nat_lt (other_end (ends_of all) (side_of e)) (unwrap_or a 0) ≡ is_past all (record p { from = e; acknowledged = a })
 past_by all active None p = le-ltb (end_of all passive) 0 (omega arith)
@@ -52,8 +42,14 @@ past_by all passive (Some n) p = refl
 pub past_is : (all : List Placed) (p : Placed) → nat_lt (other_end (ends_of all) (need_at p).from) (need_at p).acknowledged ≡ is_past all p
 past_is all p = past_by all p.from p.acknowledged p
 
+own_is : (all : List Placed) (e : End) → own_end (ends_of all) (side_of e) ≡ end_of all e
+own_is all active = refl
+own_is all passive = refl
+
 lacks_is : (all : List Placed) (p : Placed) → is_lacking (ends_of all) (need_at p) ≡ is_behind all p
-lacks_is all p = lacks_by all p.from p.acknowledged p
+lacks_is all p =
+    ap (λ (b : Bool). b || nat_lt (own_end (ends_of all) (side_of p.from)) p.place) (past_is all p)
+    ∙ ap (λ (n : ℕ). is_past all p || nat_lt n p.place) (own_is all p.from)
 
 -- ---- the packets that are settled go
 
