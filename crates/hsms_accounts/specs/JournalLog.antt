@@ -53,11 +53,6 @@ begun_by begun pair happens.Down = went_down begun
 
 -- ---- what stops a log
 
--- a refusal in these words, or want of memory
-abbrev pub IsRefusalIn : List ℕ → Stop → Type 0
-IsRefusalIn words (stop.Refused told) = string_bytes told ≡ words
-IsRefusalIn words stop.Memory = Unit {0}
-
 -- a connection doesn't come up at this packet, where the one before has other addresses or is up; or memory is wanting
 abbrev pub Refuses : Option Begun → Pair → ℕ → Stop → Type 0
 Refuses begun pair packet (stop.Refused told) =

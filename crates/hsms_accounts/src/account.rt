@@ -1,11 +1,14 @@
 //! The log of one end of a connection, and what the audit says of it.
 
-ghost use Rattle.std.specs.Prelude.{◌≡◌, ◌+◌, ◌++◌, [], ◌∷◌, ℕ, List, IfOk, OnErr, OnOk, Some, codes, decimal, is_some, length};
-ghost use Rattle.hsms_log.specs.Auditor.{HasAtMost, HasHeard, HasRoom};
-ghost use Rattle.hsms_log.specs.Spelling.{entry_line, settings_line};
-ghost use Rattle.hsms_accounts.specs.Account.{failed_by, note_text, packet_named, remark_text};
+ghost use Rattle.std.specs.Prelude.{◌≡◌, ◌+◌, ◌++◌, [], ◌∷◌, ℕ, List, IfOk, OnErr, OnOk, Some, codes, decimal, is_some, length, ◌≤◌, ◌^◌, IfSome, IfErr, IsTrue, IsSome, None};
+ghost use Rattle.hsms_log.specs.Auditor.{HasAtMost, HasHeard, HasRoom, CanHear, IsBetween};
+ghost use Rattle.hsms_log.specs.Spelling.{entry_line, settings_line, IsComment};
+ghost use Rattle.hsms_accounts.specs.Account.{failed_by, note_text, packet_named, remark_text, Standing, HasLogged, Hears, Note, SaysOf};
 ghost use Rattle.hsms_accounts.specs.Text.{Leads};
 ghost use Rattle.hsms_accounts.specs.declared.account.Remark.TheVariants.{LeftOut};
+ghost use Rattle.hsms_machine.specs.Settings.{Parameters};
+ghost use Rattle.hsms_accounts.specs.Ends.{Adds, remark_alone};
+ghost use Rattle.hsms_accounts.specs.Stop.{IsNoRefusal};
 
 use crate::stop::Stop;
 use crate::text::Text;
@@ -58,10 +61,6 @@ impl Drop for Account {
 }
 
 impl Model for Account {
-    ghost use Rattle.std.specs.Prelude.{◌≤◌, ◌^◌, IfSome};
-    ghost use Rattle.hsms_log.specs.Auditor.{HasAtMost};
-    ghost use Rattle.hsms_accounts.specs.Account.{Standing};
-
     ghost Value = { Standing };
 
     ghost view = { λ a. record { auditor = a.auditor; lines = a.lines; packet = a.packet; failed = a.failed } };
@@ -70,14 +69,6 @@ impl Model for Account {
 }
 
 impl Account {
-    ghost use Rattle.std.specs.Prelude.{◌≡◌, ◌≤◌, ◌++◌, [], ◌∷◌, List, ℕ, IfErr, IfOk, IfSome, IsTrue, OnOk, OnErr, IsSome, None, Some};
-    ghost use Rattle.hsms_log.specs.Auditor.{CanHear, IsBetween};
-    ghost use Rattle.hsms_log.specs.Spelling.{IsComment, entry_line};
-    ghost use Rattle.hsms_machine.specs.Settings.{Parameters};
-    ghost use Rattle.hsms_accounts.specs.Account.{HasLogged, Hears, Note, SaysOf, remark_text};
-    ghost use Rattle.hsms_accounts.specs.Ends.{Adds, remark_alone};
-    ghost use Rattle.hsms_accounts.specs.Stop.{IsNoRefusal};
-
     /// The log of an end with these settings, without an entry.
     ///
     /// # Errors

@@ -1,12 +1,16 @@
 //! The logs of both ends of a connection.
 
-ghost use Rattle.std.specs.Prelude.{◌≡◌, ◌<◌, ◌≤◌, ◌+◌, ◌⊎◌, IfErr, IfOk, IfSome, OnOk, None, Some, length, drop};
+ghost use Rattle.std.specs.Prelude.{◌≡◌, ◌<◌, ◌≤◌, ◌+◌, ◌⊎◌, IfErr, IfOk, IfSome, OnOk, None, Some, length, drop, [], List, max};
 ghost use Rattle.std.specs.Option.{option_map};
 ghost use Rattle.hsms_frame.specs.Frame.{Frame as Message};
-ghost use Rattle.hsms_machine.specs.declared.entry.Event.TheVariants.{Sent, Taken};
-ghost use Rattle.hsms_accounts.specs.Ends.{Adds, note_of};
+ghost use Rattle.hsms_machine.specs.declared.entry.Event.TheVariants.{Sent, Taken, Down, Up};
+ghost use Rattle.hsms_accounts.specs.Ends.{Adds, note_of, HearsAs, event_of, heard_of, remark_alone};
 ghost use Rattle.hsms_accounts.specs.Stop.{IsNoRefusal};
 ghost use Rattle.hsms_log.specs.Spelling.{message_octets};
+ghost use Rattle.hsms_capture.specs.declared.packet.Side.TheVariants.{Active, Passive};
+ghost use Rattle.hsms_machine.specs.Settings.{Parameters};
+ghost use Rattle.hsms_accounts.specs.Account.{HasLogged, Note, SaysOf};
+ghost use Rattle.hsms_accounts.specs.declared.account.Remark.TheVariants.{LeftOut, Replaced, Supposed};
 
 use crate::account::{Account, Remark, Told};
 use crate::entries::{LENGTH, frame_of};
@@ -51,15 +55,6 @@ pub enum Heard {
 }
 
 impl Ends {
-    ghost use Rattle.std.specs.Prelude.{◌≡◌, ◌++◌, [], ◌∷◌, List, IfErr, IfOk, OnOk, max};
-    ghost use Rattle.hsms_capture.specs.declared.packet.Side.TheVariants.{Active, Passive};
-    ghost use Rattle.hsms_machine.specs.Settings.{Parameters};
-    ghost use Rattle.hsms_accounts.specs.Account.{HasLogged, Note, SaysOf};
-    ghost use Rattle.hsms_machine.specs.declared.entry.Event.TheVariants.{Down, Up};
-    ghost use Rattle.hsms_accounts.specs.declared.account.Remark.TheVariants.{LeftOut, Replaced, Supposed};
-    ghost use Rattle.hsms_accounts.specs.Stop.{IsNoRefusal};
-    ghost use Rattle.hsms_accounts.specs.Ends.{Adds, HearsAs, event_of, heard_of, note_of, remark_alone};
-
     /// The logs of ends with these settings, without an entry.
     pub fn new(alloc: Global, active: &Settings, passive: &Settings) -> Result<Ends, Stop>
         ensures active { IfOk result (λ ends. HasLogged active.now [] ends.active) }
@@ -236,12 +231,7 @@ fn taken(sent: Event) -> Event
 {
     match sent {
         Event::Sent(frame) => Event::Taken(frame),
-        Event::Up => Event::Up,
-        Event::Taken(frame) => Event::Taken(frame),
-        Event::Discarded(frame) => Event::Discarded(frame),
-        Event::T3(system) => Event::T3(system),
-        Event::Cut(cause) => Event::Cut(cause),
-        Event::Down => Event::Down,
+        other => other,
     }
 }
 
@@ -249,10 +239,7 @@ fn taken(sent: Event) -> Event
 pub fn unboxed(ends: Option<Box<Ends>>) -> Option<Ends>
     ensures { result ≡ option_map (λ ends. ends.value) ends }
 {
-    match ends {
-        Some(ends) => Some(Box::into_inner(ends)),
-        None => None,
-    }
+    Some(Box::into_inner(ends?))
 }
 
 /// The message of these octets, those of its length first, where header and text have from ten octets up to so many.

@@ -1,7 +1,13 @@
 //! The log of one end, of one connection after another.
 
-ghost use Rattle.std.specs.Prelude.{◌≡◌, ◌++◌, codes, decimal};
-ghost use Rattle.hsms_accounts.specs.JournalLog.{IsRefusalIn};
+ghost use Rattle.std.specs.Prelude.{◌≡◌, IfErr, OnOk, Some, ◌++◌, IfOk, None, OnErr, max};
+ghost use Rattle.hsms_accounts.specs.JournalLog.{MayComeUp, Refuses, Leaves, MayHappen, Stops, TellsAs, begun_by, came_up, front_of, went_down};
+ghost use Rattle.hsms_machine.specs.declared.entry.Event.TheVariants.{Down, Up};
+ghost use Rattle.hsms_accounts.specs.declared.account.Remark.TheVariants.{LeftOut, Packet, Replaced, Supposed};
+ghost use Rattle.hsms_accounts.specs.declared.stop.Stop.TheVariants.{Memory};
+ghost use Rattle.hsms_accounts.specs.Account.{note_text, remark_text};
+ghost use Rattle.hsms_accounts.specs.Ends.{event_of, heard_of, note_of};
+ghost use Rattle.hsms_accounts.specs.Text.{Leads};
 
 use crate::account::{Remark, lay_note, lay_remark, lay_settings};
 use crate::ends::{Heard, frame_within};
@@ -31,35 +37,22 @@ struct Begun {
 }
 
 impl Begun {
-    ghost use Rattle.std.specs.Prelude.{◌≡◌, IfErr, OnOk, Some};
-    ghost use Rattle.hsms_accounts.specs.JournalLog.{MayComeUp, Refuses};
-
     // Whether another connection may come up behind it.
     fn may_follow(&self, alloc: Global, pair: &Pair, packet: u64) -> Result<(), Stop>
         ensures may { OnOk result (MayComeUp (Some self.now) pair.now) }
         ensures refused { IfErr result (λ stop. Refuses (Some self.now) pair.now packet stop) }
     {
         if !self.pair.has_addresses_of(pair) {
-            return Err(other_peer(alloc, packet));
+            return Err(Stop::Refused(format!(in alloc; "Peer packet={packet}")?));
         }
         if self.is_up {
-            return Err(overlap(alloc, packet));
+            return Err(Stop::Refused(format!(in alloc; "Overlap packet={packet}")?));
         }
         Ok(())
     }
 }
 
 impl Journal {
-    ghost use Rattle.std.specs.Prelude.{◌≡◌, ◌++◌, IfErr, IfOk, None, OnErr, OnOk, Some, max};
-    ghost use Rattle.hsms_machine.specs.declared.entry.Event.TheVariants.{Down, Up};
-    ghost use Rattle.hsms_accounts.specs.declared.account.Remark.TheVariants.{LeftOut, Packet, Replaced, Supposed};
-    ghost use Rattle.hsms_accounts.specs.declared.stop.Stop.TheVariants.{Memory};
-    ghost use Rattle.hsms_accounts.specs.Account.{note_text, remark_text};
-    ghost use Rattle.hsms_accounts.specs.Ends.{event_of, heard_of, note_of};
-    ghost use Rattle.hsms_accounts.specs.JournalLog.{Leaves, MayComeUp, MayHappen, Refuses, Stops, TellsAs};
-    ghost use Rattle.hsms_accounts.specs.JournalLog.{begun_by, came_up, front_of, went_down};
-    ghost use Rattle.hsms_accounts.specs.Text.{Leads};
-
     /// A log of which nothing is told.
     pub fn new(settings: Settings, side: Side) -> Journal
         ensures settings { result.settings ≡ settings }
@@ -139,24 +132,22 @@ impl Journal {
         let remark = Remark::Packet(happening.packet);
         self.time = self.time.max(happening.time);
         match happening.event {
-            Happens::Up => match self.come_up(alloc, page, pair, happening.packet, remark) {
-                Ok(()) => Ok(Heard::Goes),
-                Err(stop) => Err(stop),
-            },
+            Happens::Up => {
+                self.come_up(alloc, page, pair, happening.packet, remark)?;
+                Ok(Heard::Goes)
+            }
             Happens::Down => {
                 self.go_down();
-                match self.write(page, remark, Event::Down) {
-                    Ok(()) => Ok(Heard::Down),
-                    Err(stop) => Err(stop),
-                }
+                self.write(page, remark, Event::Down)?;
+                Ok(Heard::Down)
             }
-            Happens::Message { from, octets } => match frame_within(self.settings.max(), octets) {
-                Some(frame) => match self.write(page, remark, self.event_of(from, frame)) {
-                    Ok(()) => Ok(Heard::Goes),
-                    Err(stop) => Err(stop),
-                },
-                None => Ok(Heard::Length),
-            },
+            Happens::Message { from, octets } => {
+                let Some(frame) = frame_within(self.settings.max(), octets) else {
+                    return Ok(Heard::Length);
+                };
+                self.write(page, remark, self.event_of(from, frame))?;
+                Ok(Heard::Goes)
+            }
         }
     }
 
@@ -288,16 +279,12 @@ impl Journal {
         ensures same { (self.new.settings ≡ self.old.settings) × (self.new.side ≡ self.old.side)
             × (self.new.time ≡ self.old.time) }
     {
-        match self.begin(alloc, page, pair, packet) {
-            Ok(()) => {
-                self.begun = Some(Begun {
-                    pair: *pair,
-                    is_up: true,
-                });
-                self.write(page, remark, Event::Up)
-            }
-            Err(stop) => Err(stop),
-        }
+        self.begin(alloc, page, pair, packet)?;
+        self.begun = Some(Begun {
+            pair: *pair,
+            is_up: true,
+        });
+        self.write(page, remark, Event::Up)
     }
 
     // The front of the log, where the connection is the first one; and whether it may come up.
@@ -310,10 +297,7 @@ impl Journal {
         ensures kept { OnErr result (Leads page.old.octets page.new.octets) }
     {
         match &self.begun {
-            None => match lay_settings(page, &self.settings) {
-                Ok(()) => Ok(()),
-                Err(_) => Err(Stop::Memory),
-            },
+            None => Ok(lay_settings(page, &self.settings)?),
             Some(begun) => begun.may_follow(alloc, pair, packet),
         }
     }
@@ -333,15 +317,10 @@ impl Journal {
     fn event_of(&self, from: Side, frame: Frame) -> Event
         ensures { result ≡ event_of self.now.side from frame }
     {
-        match self.side {
-            Side::Active => match from {
-                Side::Active => Event::Sent(frame),
-                Side::Passive => Event::Taken(frame),
-            },
-            Side::Passive => match from {
-                Side::Active => Event::Taken(frame),
-                Side::Passive => Event::Sent(frame),
-            },
+        if self.side == from {
+            Event::Sent(frame)
+        } else {
+            Event::Taken(frame)
         }
     }
 
@@ -356,29 +335,6 @@ impl Journal {
             time: self.time,
             event,
         };
-        match lay_note(page, remark, &entry) {
-            Ok(()) => Ok(()),
-            Err(_) => Err(Stop::Memory),
-        }
-    }
-}
-
-// The refusal of a connection with other addresses, which comes up at a packet.
-fn other_peer(alloc: Global, packet: u64) -> Stop
-    ensures { IsRefusalIn (codes "Peer packet=" ++ decimal packet) result }
-{
-    match format!(in alloc; "Peer packet={packet}") {
-        Ok(words) => Stop::Refused(words),
-        Err(_) => Stop::Memory,
-    }
-}
-
-// The refusal of a connection that comes up at a packet while another one is up.
-fn overlap(alloc: Global, packet: u64) -> Stop
-    ensures { IsRefusalIn (codes "Overlap packet=" ++ decimal packet) result }
-{
-    match format!(in alloc; "Overlap packet={packet}") {
-        Ok(words) => Stop::Refused(words),
-        Err(_) => Stop::Memory,
+        Ok(lay_note(page, remark, &entry)?)
     }
 }

@@ -1,7 +1,7 @@
 //! Text in memory, as what octets are written to.
 
-ghost use Rattle.std.specs.Prelude.{◌≡◌, [], Some};
-ghost use Rattle.hsms_accounts.specs.Text.{sink_of};
+ghost use Rattle.std.specs.Prelude.{◌≡◌, [], ◌++◌, OnErr, OnOk, take};
+ghost use Rattle.hsms_accounts.specs.Text.{sink_of, Kept};
 
 use hsms_frame::{Failed, Sink};
 use std::alloc::{AllocError, Global};
@@ -16,16 +16,12 @@ pub struct Text {
 }
 
 impl Model for Text {
-    ghost use Rattle.hsms_accounts.specs.Text.{Kept};
-
     ghost Value = { Kept };
 
     ghost view = { λ t. record { octets = t.octets.items; calls = t.calls; failures = t.failures } };
 }
 
 impl Text {
-    ghost use Rattle.std.specs.Prelude.{◌≡◌, ◌++◌, [], OnErr, OnOk, take};
-
     /// No octets.
     pub fn new(alloc: Global) -> Text
         ensures { result.octets ≡ [] }

@@ -1,8 +1,7 @@
 -- Spans in the order of their places, and the end of what they cover.
 use Rattle.std.proofs.Common.{◌≡◌, ◌<◌, ◌≤◌, ◌⊎◌, ℕ, max, List, [], ◌∷◌, refl, sym, subst, arith, inl, inr}
 use Rattle.std.proofs.lemmas.Bool.{le-leb, lt-leb, cases_lt}
-use Rattle.hsms_capture.specs.declared.waiting.Span.{Span}
-use Rattle.hsms_capture.specs.Laws.{Covers, IsOrdered, absorb, IsEnd}
+use Rattle.hsms_capture.specs.Laws.{Span, Covers, IsOrdered, absorb, IsEnd}
 
 pub none_waits : (end : ℕ) → absorb end [] ≡ end
 unfolding absorb

@@ -3,8 +3,7 @@ use Rattle.std.proofs.Common.{◌≡◌, ◌<◌, ◌≤◌, ◌⊎◌, ◌-◌,
 use Rattle.std.proofs.lemmas.Bool.{le-leb, leb-true, cases_lt}
 use Rattle.std.proofs.lemmas.Option.{slice_get_cases}
 use Rattle.hsms_capture.specs.Wire.{End, active, passive, same_end, Cell, Placed, or_else, cell_in, cell_at, run, bound, end_of}
-use Rattle.hsms_capture.specs.declared.waiting.Span.{Span}
-use Rattle.hsms_capture.specs.Laws.{Covers, IsOrdered, absorb, IsEnd, IsHeld}
+use Rattle.hsms_capture.specs.Laws.{Span, Covers, IsOrdered, absorb, IsEnd, IsHeld}
 use Rattle.hsms_capture.proofs.Absorbed.{alike, absorb_end, one_end}
 
 in_cells : (cells : List Cell) (i : ℕ) → i < length cells → is_some (slice_get cells i) ≡ true

@@ -2,9 +2,8 @@
 use Rattle.std.proofs.Common.{◌≡◌, ◌<◌, ◌≤◌, ◌+◌, ◌-◌, ◌++◌, ◌&&◌, inl, inr, ℕ, max, Bool, true, false, cond, nat_le, nat_lt, List, [], ◌∷◌, length, map, filter, slice_get, None, is_some, refl, sym, ap, subst, arith}
 use Rattle.std.proofs.lemmas.Bool.{le-leb, lt-leb, lt-ltb, cases_lt}
 use Rattle.hsms_capture.specs.declared.packet.Packet.{Packet}
-use Rattle.hsms_capture.specs.declared.waiting.Span.{Span}
 use Rattle.hsms_capture.specs.Wire.{End, same_end, Placed, cell_in, cell_at, end_of, insert_by_place, in_order}
-use Rattle.hsms_capture.specs.Laws.{Covers, IsOrdered, IsHeld, absorb, insert_behind, reached, left_waiting, waits, waiting_in}
+use Rattle.hsms_capture.specs.Laws.{Span, Covers, IsOrdered, IsHeld, absorb, insert_behind, reached, left_waiting, waits, waiting_in}
 use Rattle.hsms_capture.specs.Early.{Drained, and_told, put_behind, drained}
 use Rattle.hsms_capture.specs.Known.{packet_of}
 use Rattle.hsms_capture.proofs.Absorbed.{absorbed, none_waits, stopped}

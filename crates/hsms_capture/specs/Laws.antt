@@ -1,12 +1,16 @@
 -- What holds of the wire, whatever the code does.
 use Rattle.std.specs.Prelude.{◌%◌, ◌^◌, ◌+◌, ◌≡◌, ◌<◌, ◌≤◌, ◌⊎◌, ◌&&◌, ℕ, zero, suc, max, nat_eq, nat_le, nat_lt, if◌then◌else◌, Bool, List, [], ◌∷◌, ◌++◌, length, take, drop, map, filter, Option, Some, None, is_some, true, false}
 use Rattle.std.specs.List.{list_any}
-use Rattle.hsms_capture.specs.declared.waiting.Span.{Span}
 use Rattle.hsms_capture.specs.Message.{message_size}
 use Rattle.hsms_capture.specs.Told.{up, down, Entry, entry, has_up, tells}
 use Rattle.hsms_capture.specs.Wire.{End, other, Cell, cell_at, end_of, in_order, turns_at, Seen, Placed, Shown, same_end, stream_of, is_behind, loss, difference, nearest, places, shows_of, wire_shows}
 
 -- ---- the end of what is there, by the spans that wait in the order of their places
+
+-- octets that wait: from a place up to another
+pub record Span : Type 0 where
+  pub from : ℕ
+  pub to : ℕ
 
 abbrev pub Covers : List Span → ℕ → Type 0
 Covers [] n = ⊥

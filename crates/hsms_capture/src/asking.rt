@@ -18,17 +18,5 @@ pub struct Flags {
 pub fn only_asks(acknowledged: u64, place: u64, flags: Flags, octets: &[u8]) -> bool
     ensures { result ≡ asks_only acknowledged place flags.pushed (cells_of flags.syn octets.now flags.fin) }
 {
-    if octets.len() != 1 {
-        return false;
-    }
-    if flags.syn {
-        return false;
-    }
-    if flags.fin {
-        return false;
-    }
-    if flags.pushed {
-        return false;
-    }
-    place < acknowledged
+    octets.len() == 1 && !flags.syn && !flags.fin && !flags.pushed && place < acknowledged
 }

@@ -1,8 +1,8 @@
 //! Cells one behind another, of which the octets at the front stand in one piece.
 
-ghost use Rattle.std.specs.Prelude.{◌≡◌, ◌≤◌, ◌<◌, ◌∷◌, ◌⊎◌, List, OnOk, OnErr, IfSome, drop, get_or, slice_set, vec_len, None, Option, Some};
-ghost use Rattle.std.specs.VecDeque.{deque_len, deque_capacity};
-ghost use Rattle.hsms_capture.specs.Cells.{Joins};
+ghost use Rattle.std.specs.Prelude.{◌≡◌, ◌≤◌, ◌<◌, ◌∷◌, ◌⊎◌, List, OnOk, OnErr, IfSome, drop, get_or, slice_set, vec_len, None, Option, Some, ◌+◌, ◌++◌, max, [], length, true};
+ghost use Rattle.std.specs.VecDeque.{deque_len};
+ghost use Rattle.hsms_capture.specs.Cells.{Joins, Kept, all_of};
 ghost use Rattle.hsms_capture.specs.Held.{SameCells};
 ghost use Rattle.hsms_capture.specs.Wire.{or_else};
 ghost use Rattle.hsms_capture.specs.declared.held.Cell.TheVariants.{Octet};
@@ -23,9 +23,6 @@ pub(crate) struct Cells {
 }
 
 impl Model for Cells {
-    ghost use Rattle.std.specs.Prelude.{◌≤◌, drop, vec_len};
-    ghost use Rattle.hsms_capture.specs.Cells.{Kept};
-
     ghost Value = { Kept };
 
     ghost view = { λ c. record { octets = drop c.gone c.octets.items; others = c.others.items } };
@@ -34,11 +31,6 @@ impl Model for Cells {
 }
 
 impl Cells {
-    ghost use Rattle.std.specs.Prelude.{◌≡◌, ◌≤◌, ◌<◌, ◌+◌, ◌++◌, max, [], OnOk, OnErr, drop, get_or, slice_set, length, true, None, Some};
-    ghost use Rattle.hsms_capture.specs.Cells.{all_of};
-    ghost use Rattle.hsms_capture.specs.Held.{SameCells};
-    ghost use Rattle.hsms_capture.specs.Wire.{or_else};
-
     /// No cells. Takes no memory.
     pub fn new(alloc: Global) -> Cells
         ensures { result ≡ record { octets = []; others = [] } }
@@ -215,9 +207,6 @@ fn first_octet(cells: &VecDeque<Option<Cell>>) -> Option<u8>
 {
     match cells.front() {
         Some(Some(Cell::Octet(octet))) => Some(*octet),
-        Some(Some(Cell::Syn)) => None,
-        Some(Some(Cell::Fin)) => None,
-        Some(None) => None,
-        None => None,
+        Some(Some(Cell::Syn | Cell::Fin)) | Some(None) | None => None,
     }
 }

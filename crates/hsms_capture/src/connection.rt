@@ -1,13 +1,14 @@
 //! One connection: its segments are taken one after another, and what happens on it is told.
 
-ghost use Rattle.std.specs.Prelude.{◌≡◌, IfErr, IfOk, OnOk};
+ghost use Rattle.std.specs.Prelude.{◌≡◌, IfErr, IfOk, OnOk, []};
 ghost use Rattle.hsms_capture.specs.declared.connection.ConnectionFault.TheVariants.{Memory};
-ghost use Rattle.hsms_capture.specs.Standing.{Followed, of_side};
+ghost use Rattle.hsms_capture.specs.Standing.{Followed, of_side, EndsAs, Stands, TakesOn};
 ghost use Rattle.std.specs.Option.{option_map};
 ghost use Rattle.hsms_capture.specs.Finished.{shown_by};
 ghost use Rattle.hsms_capture.specs.Losses.{shown_of};
-ghost use Rattle.hsms_capture.specs.Stopping.{GoesAt, StopsAt};
-ghost use Rattle.hsms_capture.specs.Time.{FollowsInTime};
+ghost use Rattle.hsms_capture.specs.Stopping.{GoesAt, StopsAt, of_turns, of_held, GoesBy, StopsBy};
+ghost use Rattle.hsms_capture.specs.Time.{FollowsInTime, EndsInTime, IsInTime, TakesInTime};
+ghost use Rattle.hsms_capture.specs.Known.{bases, seen_of};
 
 use crate::ending::{Ending, finish};
 use crate::held::{Held, HeldFault};
@@ -33,9 +34,6 @@ pub enum ConnectionFault {
 }
 
 impl From<AllocError> for ConnectionFault {
-    ghost use Rattle.std.specs.Prelude.{◌≡◌};
-    ghost use Rattle.hsms_capture.specs.declared.connection.ConnectionFault.TheVariants.{Memory};
-
     ghost from_gives = { λ _ f. f ≡ Memory };
 
     fn from(_: AllocError) -> ConnectionFault {
@@ -44,9 +42,6 @@ impl From<AllocError> for ConnectionFault {
 }
 
 impl From<TurnsFault> for ConnectionFault {
-    ghost use Rattle.std.specs.Prelude.{◌≡◌};
-    ghost use Rattle.hsms_capture.specs.Stopping.{of_turns};
-
     ghost from_gives = { λ fault f. f ≡ of_turns fault };
 
     fn from(fault: TurnsFault) -> ConnectionFault {
@@ -58,9 +53,6 @@ impl From<TurnsFault> for ConnectionFault {
 }
 
 impl From<HeldFault> for ConnectionFault {
-    ghost use Rattle.std.specs.Prelude.{◌≡◌};
-    ghost use Rattle.hsms_capture.specs.Stopping.{of_held};
-
     ghost from_gives = { λ fault f. f ≡ of_held fault };
 
     fn from(fault: HeldFault) -> ConnectionFault {
@@ -93,13 +85,6 @@ impl Drop for Connection {
 }
 
 impl Connection {
-    ghost use Rattle.std.specs.Prelude.{◌≡◌, [], IfErr, IfOk, OnOk};
-    ghost use Rattle.hsms_capture.specs.declared.connection.ConnectionFault.TheVariants.{Memory};
-    ghost use Rattle.hsms_capture.specs.Standing.{EndsAs, Stands, TakesOn};
-    ghost use Rattle.hsms_capture.specs.Known.{bases, seen_of};
-    ghost use Rattle.hsms_capture.specs.Stopping.{GoesBy, StopsBy};
-    ghost use Rattle.hsms_capture.specs.Time.{EndsInTime, IsInTime, TakesInTime};
-
     /// A connection of which nothing is read yet, by the numbers of both SYNs. Takes no memory.
     pub fn new(alloc: Global, active: u32, passive: u32) -> Connection
         ensures told { Stands result [] (bases active passive) [] }

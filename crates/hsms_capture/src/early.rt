@@ -42,14 +42,10 @@ fn take_reached(queue: &mut VecDeque<Packet>, end: u64) -> Option<Packet>
     ensures none { IfNone result ((queue.new.items ≡ queue.old.items) × IsStopped end queue.old.items) }
     ensures len { IfSome result (λ packet. deque_len queue.old ≡ deque_len queue.new + 1) }
 {
-    let is_reached = match queue.front() {
-        Some(packet) => packet.from <= end,
-        None => false,
-    };
-    if is_reached {
-        return queue.pop_front();
+    if queue.front()?.from > end {
+        return None;
     }
-    None
+    queue.pop_front()
 }
 
 // Takes the packets from the front that an end reaches as it goes on, and tells them. Gives where the end comes to, and

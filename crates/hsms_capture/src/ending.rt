@@ -30,12 +30,10 @@ pub enum Ending {
 pub(crate) fn least(one: Option<u64>, other: Option<u64>) -> Option<u64>
     ensures { result ≡ earlier one other }
 {
-    match one {
-        Some(first) => match other {
-            Some(second) => Some(first.min(second)),
-            None => Some(first),
-        },
-        None => other,
+    match (one, other) {
+        (Some(one), Some(other)) => Some(one.min(other)),
+        (one, None) => one,
+        (None, other) => other,
     }
 }
 
@@ -43,26 +41,18 @@ pub(crate) fn least(one: Option<u64>, other: Option<u64>) -> Option<u64>
 fn broken(lost: Option<u64>, differs: Option<u64>) -> Ending
     ensures { result ≡ broken lost differs }
 {
-    match lost {
-        Some(packet) => match differs {
-            Some(other) => first_of(packet, other),
-            None => Ending::Lost(packet),
-        },
-        None => match differs {
-            Some(other) => Ending::Differs(other),
-            None => Ending::Complete,
-        },
+    match (lost, differs) {
+        (Some(lost), Some(differs)) => {
+            if lost < differs {
+                Ending::Lost(lost)
+            } else {
+                Ending::Differs(differs)
+            }
+        }
+        (Some(lost), None) => Ending::Lost(lost),
+        (None, Some(differs)) => Ending::Differs(differs),
+        (None, None) => Ending::Complete,
     }
-}
-
-// The same where there are both.
-fn first_of(lost: u64, differs: u64) -> Ending
-    ensures { result ≡ broken (Some lost) (Some differs) }
-{
-    if lost < differs {
-        return Ending::Lost(lost);
-    }
-    Ending::Differs(differs)
 }
 
 /// Tells what is left to be told before a loss and a copy that differs, and how it ends.

@@ -1,12 +1,14 @@
 //! The cells of one direction by their places.
 
-ghost use Rattle.std.specs.Prelude.{◌≡◌, ◌≤◌, ◌<◌, ◌+◌, ◌^◌, true, ◌-◌, max, take, false, [], IfSome, IfOk, None, OnOk, OnErr, drop, get_or, length};
+ghost use Rattle.std.specs.Prelude.{◌≡◌, ◌≤◌, ◌<◌, ◌+◌, ◌^◌, true, ◌-◌, max, take, false, [], IfSome, IfOk, None, OnOk, OnErr, drop, get_or, length, List, Err};
 ghost use Rattle.hsms_capture.specs.Cells.{all_of};
-ghost use Rattle.hsms_capture.specs.Held.{IsLaid, differs, differs_at, flag_of, further, held_of, in_piece, is_another, laid_all, laid_at, octet_in, octets_of, wire_cell};
-ghost use Rattle.hsms_capture.specs.Message.{cells_to, message_size, octets_behind};
-ghost use Rattle.hsms_capture.specs.Plain.{HeadSays, IsLonger, flags_end};
-ghost use Rattle.hsms_capture.specs.Telling.{PieceTells};
-ghost use Rattle.hsms_capture.specs.Wire.{same_cell};
+ghost use Rattle.hsms_capture.specs.Held.{IsLaid, differs, differs_at, flag_of, further, held_of, in_piece, is_another, laid_all, laid_at, octet_in, octets_of, Store, CellIs, EndsFar, IsFront, IsPiece, IsStoreOf, PutsIn, TellsOther};
+ghost use Rattle.hsms_capture.specs.Message.{cells_to, message_size, octets_behind, cells_of};
+ghost use Rattle.hsms_capture.specs.Plain.{HeadSays, IsLonger, flags_end, AreOctetsFrom};
+ghost use Rattle.hsms_capture.specs.Telling.{PieceTells, Tells};
+ghost use Rattle.hsms_capture.specs.Wire.{End, Placed};
+ghost use Rattle.hsms_capture.specs.declared.held.HeldFault.TheVariants.{Memory, Full};
+ghost use Rattle.hsms_capture.specs.Near.{StaysNear};
 
 use crate::asking::Flags;
 use crate::cells::Cells;
@@ -56,9 +58,6 @@ pub enum HeldFault {
 }
 
 impl From<AllocError> for HeldFault {
-    ghost use Rattle.std.specs.Prelude.{◌≡◌};
-    ghost use Rattle.hsms_capture.specs.declared.held.HeldFault.TheVariants.{Memory};
-
     ghost from_gives = { λ _ f. f ≡ Memory };
 
     fn from(_: AllocError) -> HeldFault {
@@ -77,10 +76,6 @@ pub struct Held {
 }
 
 impl Model for Held {
-    ghost use Rattle.hsms_capture.specs.Held.{Store};
-    ghost use Rattle.hsms_capture.specs.Cells.{all_of};
-    ghost use Rattle.hsms_capture.specs.Plain.{AreOctetsFrom};
-
     ghost Value = { Store };
 
     ghost view = { λ h. record { place = h.place; cells = all_of h.cells } };
@@ -89,14 +84,6 @@ impl Model for Held {
 }
 
 impl Held {
-    ghost use Rattle.std.specs.Prelude.{◌≡◌, ◌<◌, ◌≤◌, ◌+◌, ◌-◌, ◌^◌, List, [], max, Err, IfOk, IfSome, OnOk, OnErr, length};
-    ghost use Rattle.hsms_capture.specs.Held.{CellIs, EndsFar, IsFront, IsPiece, IsStoreOf, PutsIn, TellsOther};
-    ghost use Rattle.hsms_capture.specs.Near.{StaysNear};
-    ghost use Rattle.hsms_capture.specs.Telling.{Tells};
-    ghost use Rattle.hsms_capture.specs.Wire.{End, Placed};
-    ghost use Rattle.hsms_capture.specs.Message.{cells_of};
-    ghost use Rattle.hsms_capture.specs.declared.held.HeldFault.TheVariants.{Full};
-
     /// Nothing is held yet. Takes no memory.
     #[tactic(auto, using(crate::proofs::Laid::holds_none))]
     pub fn new(alloc: Global) -> Held
@@ -182,9 +169,7 @@ impl Held {
         ensures piece { IsPiece self.now place upto result }
         ensures fits { IfSome result (λ count. (0 < count) × (place + count ≤ upto)) }
     {
-        let Some(first) = place.checked_sub(self.place) else {
-            return None;
-        };
+        let first = place.checked_sub(self.place)?;
         let head = head_of(&self.cells, first);
         let room = upto.saturating_sub(place);
         if self.octets_from <= place && is_longer(head, room) {
@@ -234,9 +219,7 @@ fn octets_at(octets: &[u8], first: u64, count: u64) -> Option<&[u8]>
     ensures octets { IfSome result (λ found. found.now ≡ take count (drop first octets.now)) }
     ensures there { IfSome result (λ found. first + count ≤ length octets.now) }
 {
-    let Some(end) = first.checked_add(count) else {
-        return None;
-    };
+    let end = first.checked_add(count)?;
     if end > octets.len() as u64 {
         return None;
     }
@@ -401,13 +384,9 @@ fn differs_in(
 {
     let first = place + u64::from(flags.syn);
     let behind = first + octets.len() as u64;
-    if flag_differs(cells, base, acknowledged, place, flags.syn, Cell::Syn) {
-        return true;
-    }
-    if octets_differ(cells, base, acknowledged, first, octets) {
-        return true;
-    }
-    flag_differs(cells, base, acknowledged, behind, flags.fin, Cell::Fin)
+    flag_differs(cells, base, acknowledged, place, flags.syn, Cell::Syn)
+        || octets_differ(cells, base, acknowledged, first, octets)
+        || flag_differs(cells, base, acknowledged, behind, flags.fin, Cell::Fin)
 }
 
 // Whether a cell differs, if it is there.
@@ -422,10 +401,7 @@ fn flag_differs(
 ) -> bool
     ensures { result ≡ differs base acknowledged place (flag_of is_set cell) (all_of cells.now) }
 {
-    if is_set {
-        return cell_differs(cells, base, acknowledged, place, cell);
-    }
-    false
+    is_set && cell_differs(cells, base, acknowledged, place, cell)
 }
 
 // Whether some octet differs.
@@ -506,31 +482,8 @@ fn is_another(cell: Cell, held: Option<Cell>) -> bool
     ensures { result ≡ is_another cell held }
 {
     match held {
-        Some(other) => !is_same(cell, other),
+        Some(other) => cell != other,
         None => false,
-    }
-}
-
-// Whether two cells are the same.
-fn is_same(one: Cell, other: Cell) -> bool
-    ensures { result ≡ same_cell (wire_cell one) (wire_cell other) }
-{
-    match one {
-        Cell::Syn => match other {
-            Cell::Syn => true,
-            Cell::Octet(_) => false,
-            Cell::Fin => false,
-        },
-        Cell::Octet(octet) => match other {
-            Cell::Syn => false,
-            Cell::Octet(copy) => octet == copy,
-            Cell::Fin => false,
-        },
-        Cell::Fin => match other {
-            Cell::Syn => false,
-            Cell::Octet(_) => false,
-            Cell::Fin => true,
-        },
     }
 }
 
@@ -628,9 +581,7 @@ fn size_behind(cells: &Cells, first: u64, index: u64, count: u64) -> Option<u64>
     let mut index = index;
     let mut left = count;
     while left > 0 {
-        let Some(cell) = cell_behind(cells, first, index) else {
-            return None;
-        };
+        let cell = cell_behind(cells, first, index)?;
         index += 1;
         let Some(_) = octet_of(cell) else {
             return Some(index);

@@ -8,7 +8,7 @@
 //! where the capture lost something, by places and the ends behind each, and on [`Held`], which holds the cells of a
 //! direction by their places, of two copies the first, and tells a later copy that differs and the message in a place.
 //! Turns stand on the places of octets ([`numbered_place`], [`acknowledged_place`]) and on octets that hold nothing
-//! ([`only_asks`]); [`end_behind`] is the end of what is there without a gap, where octets wait.
+//! ([`only_asks`]).
 #![tactic(auto)]
 
 mod asking;
@@ -27,7 +27,6 @@ mod streams;
 mod teller;
 mod telling;
 mod turns;
-mod waiting;
 pub mod worked;
 
 pub use asking::{Flags, only_asks};
@@ -39,4 +38,3 @@ pub use packet::{Packet, Segment, Side};
 pub use place::{acknowledged_place, nearest_place, numbered_place};
 pub use telling::{Event, Happening};
 pub use turns::{Turns, TurnsFault};
-pub use waiting::{Span, end_behind};

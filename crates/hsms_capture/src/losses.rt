@@ -101,10 +101,7 @@ impl Losses {
 fn first_packet(needs: &VecDeque<Need>) -> Option<u64>
     ensures { result ≡ first_of needs.now.items }
 {
-    match needs.front() {
-        Some(need) => Some(need.packet),
-        None => None,
-    }
+    Some(needs.front()?.packet)
 }
 
 // The packet of the first need that acknowledges what is lacking.
@@ -171,11 +168,7 @@ fn take_settled(needs: &mut VecDeque<Need>, ends: BothEnds) -> Option<Need>
     ensures none { IfNone result ((needs.new.items ≡ needs.old.items) × IsUnsettled ends needs.old.items) }
     ensures len { IfSome result (λ need. deque_len needs.old ≡ deque_len needs.new + 1) }
 {
-    let lacks = match needs.front() {
-        Some(need) => lacks_some(ends, *need),
-        None => true,
-    };
-    if lacks {
+    if lacks_some(ends, *needs.front()?) {
         return None;
     }
     needs.pop_front()

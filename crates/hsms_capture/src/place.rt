@@ -38,8 +38,5 @@ pub fn acknowledged_place(base: u32, known: u64, acknowledged: Option<u32>) -> O
     requires { known < 2 ^ 63 }
     ensures { result ≡ acknowledged_at known base acknowledged }
 {
-    match acknowledged {
-        Some(number) => numbered_place(base, known, number),
-        None => None,
-    }
+    numbered_place(base, known, acknowledged?)
 }

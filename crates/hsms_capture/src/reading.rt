@@ -94,13 +94,7 @@ fn bring_to(streams: &mut Streams, arrival: Arrival, octets: &[u8]) -> Result<bo
 fn first_different(known: Option<u64>, differs: bool, packet: u64) -> Option<u64>
     ensures { result ≡ or_differs known differs packet }
 {
-    if known.is_some() {
-        return known;
-    }
-    if differs {
-        return Some(packet);
-    }
-    None
+    known.or(differs.then_some(packet))
 }
 
 // Puts the packets whose turn is at a packet, and at its time, behind the others.

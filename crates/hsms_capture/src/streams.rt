@@ -48,16 +48,10 @@ pub(crate) fn other_side(side: Side) -> Side
 fn acked_by(side: Side, due: Due) -> u64
     ensures { result ≡ acked_by side due }
 {
-    match side {
-        Side::Active => match due.from {
-            Side::Active => 0,
-            Side::Passive => due.packet.acknowledged.unwrap_or(0),
-        },
-        Side::Passive => match due.from {
-            Side::Active => due.packet.acknowledged.unwrap_or(0),
-            Side::Passive => 0,
-        },
+    if side == due.from {
+        return 0;
     }
+    due.packet.acknowledged.unwrap_or(0)
 }
 
 // Whether it acknowledges the SYN of the passive end.
@@ -71,26 +65,14 @@ fn answers(due: Due) -> bool
 pub(crate) fn opens(due: Due) -> bool
     ensures { result ≡ opens due }
 {
-    if answers(due) {
-        return true;
-    }
-    if 2 <= acked_by(Side::Active, due) {
-        return true;
-    }
-    2 <= due.packet.to
+    answers(due) || 2 <= acked_by(Side::Active, due) || 2 <= due.packet.to
 }
 
 // Whether it resets the connection.
 pub(crate) fn resets(opened: bool, due: Due) -> bool
     ensures { result ≡ resets opened due }
 {
-    if !due.packet.reset {
-        return false;
-    }
-    if opened {
-        return true;
-    }
-    opens(due)
+    due.packet.reset && (opened || opens(due))
 }
 
 // Tells that the connection comes up, if it acknowledges the SYN of the passive end.

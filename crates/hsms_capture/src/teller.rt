@@ -51,14 +51,10 @@ fn take_sure(due: &mut VecDeque<Due>, limit: Option<u64>) -> Option<Due>
     ensures none { IfNone result ((due.new.items ≡ due.old.items) × IsHeldBack limit due.old.items) }
     ensures len { IfSome result (λ first. deque_len due.old ≡ deque_len due.new + 1) }
 {
-    let is_first = match due.front() {
-        Some(first) => is_sure(limit, first.at),
-        None => false,
-    };
-    if is_first {
-        return due.pop_front();
+    if !is_sure(limit, due.front()?.at) {
+        return None;
     }
-    None
+    due.pop_front()
 }
 
 // Whether a packet stands before a limit.
@@ -97,11 +93,7 @@ pub(crate) fn drain(
 fn is_over(telling: Telling) -> bool
     ensures { result ≡ is_over telling }
 {
-    match telling {
-        Telling::Waiting(_) => false,
-        Telling::Running(_) => false,
-        Telling::Over => true,
-    }
+    matches!(telling, Telling::Over)
 }
 
 /// Tells the turns that are at packets before a limit, up to the end of the connection. Gives whether that came.

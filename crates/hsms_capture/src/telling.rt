@@ -1,10 +1,11 @@
 //! What happens on a connection, entry by entry.
 
-ghost use Rattle.std.specs.Prelude.{◌≡◌, get_or};
-ghost use Rattle.hsms_capture.specs.Telling.{separated_side};
+ghost use Rattle.std.specs.Prelude.{◌≡◌, get_or, OnOk};
+ghost use Rattle.hsms_capture.specs.Telling.{separated_side, Hears, comes_up, goes_down, says, says_first};
 ghost use Rattle.hsms_capture.specs.Told.{is_left_out, is_separate};
 ghost use Rattle.hsms_capture.specs.Known.{end_at};
 ghost use Rattle.std.specs.Option.{option_map};
+ghost use Rattle.hsms_capture.specs.Time.{KeepsTimes};
 
 use crate::packet::Side;
 use std::alloc::AllocError;
@@ -47,10 +48,6 @@ pub(crate) enum Telling {
 }
 
 impl Telling {
-    ghost use Rattle.std.specs.Prelude.{OnOk};
-    ghost use Rattle.hsms_capture.specs.Telling.{Hears, comes_up, goes_down, says, says_first};
-    ghost use Rattle.hsms_capture.specs.Time.{KeepsTimes};
-
     // The SYN of the passive end is acknowledged at a packet, or the first message is there.
     #[tactic(auto, using(crate::proofs::Timing::keeps_none, crate::proofs::Timing::keeps_one, crate::proofs::Timing::keeps_both))]
     pub(crate) fn come_up(
@@ -163,14 +160,7 @@ fn leaves_out(separated: Option<Side>, from: Side) -> bool
     ensures { result ≡ is_left_out (option_map end_at separated) (end_at from) }
 {
     match separated {
-        Some(Side::Active) => match from {
-            Side::Active => false,
-            Side::Passive => true,
-        },
-        Some(Side::Passive) => match from {
-            Side::Active => true,
-            Side::Passive => false,
-        },
+        Some(side) => side != from,
         None => false,
     }
 }
@@ -179,13 +169,7 @@ fn leaves_out(separated: Option<Side>, from: Side) -> bool
 fn separated_by(separated: Option<Side>, from: Side, octets: &[u8]) -> Option<Side>
     ensures { result ≡ separated_side separated from (is_separate octets.now) }
 {
-    if separated.is_some() {
-        return separated;
-    }
-    if separates(octets) {
-        return Some(from);
-    }
-    None
+    separated.or(separates(octets).then_some(from))
 }
 
 // Whether a message is a Separate.

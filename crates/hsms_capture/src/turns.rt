@@ -1,7 +1,8 @@
 //! Packets of one connection by their places, and the turn of each.
 
-ghost use Rattle.std.specs.Prelude.{◌≡◌, ◌≤◌, ◌<◌, ◌+◌, ◌^◌, ◌++◌, IfOk, OnOk, OnErr, None, length, max};
-ghost use Rattle.hsms_capture.specs.Known.{Step, latest_behind, packet_of, placed_as, seen_of, step, step_by};
+ghost use Rattle.std.specs.Prelude.{◌≡◌, ◌≤◌, ◌<◌, ◌+◌, ◌^◌, ◌++◌, IfOk, OnOk, OnErr, None, length, max, [], Err, IsOk};
+ghost use Rattle.hsms_capture.specs.Known.{latest_behind, packet_of, placed_as, seen_of, step, step_by, Flow, Known, GoesOn, bases, known};
+ghost use Rattle.hsms_capture.specs.declared.turns.TurnsFault.TheVariants.{Memory, Far};
 
 use crate::asking::only_asks;
 use crate::early::{free, put};
@@ -25,9 +26,6 @@ pub enum TurnsFault {
 }
 
 impl From<AllocError> for TurnsFault {
-    ghost use Rattle.std.specs.Prelude.{◌≡◌};
-    ghost use Rattle.hsms_capture.specs.declared.turns.TurnsFault.TheVariants.{Memory};
-
     ghost from_gives = { λ _ f. f ≡ Memory };
 
     fn from(_: AllocError) -> TurnsFault {
@@ -45,8 +43,6 @@ struct Direction {
 }
 
 impl Model for Direction {
-    ghost use Rattle.hsms_capture.specs.Known.{Flow};
-
     ghost Value = { Flow };
 
     ghost view = { λ d. record {
@@ -58,8 +54,6 @@ impl Model for Direction {
 }
 
 impl Direction {
-    ghost use Rattle.std.specs.Prelude.{◌≡◌, []};
-
     // Nothing is there.
     fn new(alloc: Global, base: u32) -> Direction
         ensures { result ≡ record { base = base; end = 0; acknowledged = 0; waiting = [] } }
@@ -84,18 +78,12 @@ pub struct Turns {
 }
 
 impl Model for Turns {
-    ghost use Rattle.hsms_capture.specs.Known.{Known};
-
     ghost Value = { Known };
 
     ghost view = { λ t. record { active = t.active; passive = t.passive; latest = t.latest } };
 }
 
 impl Turns {
-    ghost use Rattle.std.specs.Prelude.{◌≡◌, ◌≤◌, ◌<◌, ◌^◌, [], max, Err, IfOk, IsOk, OnErr};
-    ghost use Rattle.hsms_capture.specs.declared.turns.TurnsFault.TheVariants.{Far};
-    ghost use Rattle.hsms_capture.specs.Known.{GoesOn, bases, known, seen_of};
-
     /// A connection of which nothing is read yet, by the numbers of both SYNs. Takes no memory.
     pub fn new(alloc: Global, active: u32, passive: u32) -> Turns
         ensures { result ≡ known (bases active passive) [] }

@@ -6,7 +6,6 @@ use Rattle.hsms_machine.specs.declared.entry.Event.TheVariants.{Down}
 use Rattle.hsms_machine.specs.declared.view.View.{View}
 use Rattle.hsms_machine.specs.View.{own_open_of}
 use Rattle.hsms_end.specs.declared.state.State.{State}
-use Rattle.hsms_end.specs.declared.fault.EndFault.TheVariants.{Spent, NotUp, Full}
 use Rattle.hsms_end.specs.Answer.{Answered}
 use Rattle.hsms_end.specs.Frame.{linktest_req, separate_req}
 use Rattle.hsms_end.specs.Act.{Act, Acts, logs, asks}
@@ -23,10 +22,6 @@ acts_of end end' acts entries h = subst (λ es. Acts (known end) acts es (known 
 pub run_of : (end end' : State) (acts : List Act) (entries : List Entry) → Performs end [] acts end' entries → Extends end.tracker entries end'.tracker
 run_of end end' acts entries h = subst (λ es. Extends end.tracker es end'.tracker) (sym h.added) h.run
 
-pub meets_spent : (spent : Bool) (end : State) (input : Told) → spent ≡ true → Meets (known_of end spent) input (Some Spent)
-unfolding Meets
-meets_spent spent end input e = inl (e, refl)
-
 pub not_spent : (spent : Bool) → spent ≡ false → spent ≡ true → ⊥
 not_spent spent f t = let d : true ≡ false = sym t ∙ f in cc
 
@@ -35,32 +30,15 @@ up_is_up up t f = let d : true ≡ false = sym t ∙ f in cc
 
 -- ---- lost, separate and linktest
 
-pub lost_not_up : (spent : Bool) (end : State) → spent ≡ false → is_up end.tracker.phase ≡ false → Meets (known_of end spent) lost (Some NotUp)
-unfolding Meets
-lost_not_up spent end s u = inr (not_spent spent s, inl (u, refl))
-
 pub lost_meets : (spent : Bool) (end : State) → spent ≡ false → is_up end.tracker.phase ≡ true → Meets (known_of end spent) lost None
 unfolding Meets
 lost_meets spent end s u =
     inr (not_spent spent s, inr (up_is_up (is_up end.tracker.phase) u, inr ((λ b. b), inr ((λ b. b), inr ((λ b. b), inr ((λ b. let d : false ≡ true = b.0 in cc), inr ((λ b. b), inr ((λ b. b), refl))))))))
 
-pub separate_not_up : (spent : Bool) (end : State) → spent ≡ false → is_up end.tracker.phase ≡ false → Meets (known_of end spent) separate (Some NotUp)
-unfolding Meets
-separate_not_up spent end s u = inr (not_spent spent s, inl (u, refl))
-
 pub separate_meets : (spent : Bool) (end : State) → spent ≡ false → is_up end.tracker.phase ≡ true → Meets (known_of end spent) separate None
 unfolding Meets
 separate_meets spent end s u =
     inr (not_spent spent s, inr (up_is_up (is_up end.tracker.phase) u, inr ((λ b. b), inr ((λ b. b), inr ((λ b. b), inr ((λ b. let d : false ≡ true = b.0 in cc), inr ((λ b. b), inr ((λ b. b), refl))))))))
-
-pub linktest_not_up : (spent : Bool) (end : State) → spent ≡ false → is_up end.tracker.phase ≡ false → Meets (known_of end spent) linktest (Some NotUp)
-unfolding Meets
-linktest_not_up spent end s u = inr (not_spent spent s, inl (u, refl))
-
-pub linktest_full : (spent : Bool) (end : State) → spent ≡ false → is_up end.tracker.phase ≡ true → 64 ≤ own_open_of end.tracker → Meets (known_of end spent) linktest (Some Full)
-unfolding Meets
-linktest_full spent end s u full =
-    inr (not_spent spent s, inr (up_is_up (is_up end.tracker.phase) u, inr ((λ b. b), inr ((λ b. b), inr ((λ b. b), inl ((refl, full), refl))))))
 
 pub linktest_meets : (spent : Bool) (end : State) → spent ≡ false → is_up end.tracker.phase ≡ true → own_open_of end.tracker < 64 → Meets (known_of end spent) linktest None
 unfolding Meets
@@ -86,10 +64,6 @@ accepted {D} answers desk end from end' spent at input acts first entries fresh 
     (subst (λ (v : View). Extends v entries end'.tracker) same (run_of from end' acts entries done))
 
 -- ---- start
-
-pub start_not_up : (spent : Bool) (end : State) (now : ℕ) → spent ≡ false → is_before end.tracker.phase ≡ false → Meets (known_of end spent) (start now) (Some NotUp)
-unfolding Meets
-start_not_up spent end now s u = inr (not_spent spent s, inl (u, refl))
 
 pub start_meets : (spent : Bool) (end : State) (now : ℕ) → spent ≡ false → is_before end.tracker.phase ≡ true → Meets (known_of end spent) (start now) None
 unfolding Meets

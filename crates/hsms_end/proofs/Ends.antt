@@ -19,10 +19,6 @@ not_true b f t = let d : true ≡ false = sym t ∙ f in cc
 not_false : (b : Bool) → b ≡ true → b ≡ false → ⊥
 not_false b t f = let d : true ≡ false = sym t ∙ f in cc
 
-pub tick_not_up : (spent : Bool) (end : State) (now : ℕ) → spent ≡ false → is_up end.tracker.phase ≡ false → Meets (known_of end spent) (tick now) (Some NotUp)
-unfolding Meets
-tick_not_up spent end now s u = inr (not_true spent s, inl (u, refl))
-
 pub tick_meets : (spent : Bool) (end : State) (now : ℕ) → spent ≡ false → is_up end.tracker.phase ≡ true → Meets (known_of end spent) (tick now) None
 unfolding Meets
 tick_meets spent end now s u =

@@ -38,10 +38,6 @@ heard_sound end end' octets is sound =
 pub heard_all : (desk : ℕ → Content → Answered) (start mid end : State) (before entries : List Entry) → mid ≡ start → HasReceivedAll desk mid before end entries → HasReceivedAll desk start before end entries
 heard_all desk start mid end before entries is h = subst (λ (s : State). HasReceivedAll desk s before end entries) is h
 
-pub bytes_not_up : (spent : Bool) (end : State) (octets : List ℕ) → spent ≡ false → is_up end.tracker.phase ≡ false → Meets (known_of end spent) (bytes octets) (Some NotUp)
-unfolding Meets
-bytes_not_up spent end octets s u = inr (not_spent spent s, inl (u, refl))
-
 pub bytes_meets : (spent : Bool) (end : State) (octets : List ℕ) → spent ≡ false → is_up end.tracker.phase ≡ true → Meets (known_of end spent) (bytes octets) None
 unfolding Meets
 bytes_meets spent end octets s u =

@@ -83,10 +83,6 @@ not_memory end message fault e is =
     never_memory (not (is_selected end.tracker.phase)) (message.function % 2 == 0) (message.stream == 9) (message.wait && nat_le 64 (own_open_of end.tracker)) (not (is_within_depth end.settings.depth message.item))
     (e ∙ ap (λ (f : EndFault). Some f) is)
 
-pub send_not_up : (spent : Bool) (end : State) (message : Content) → spent ≡ false → is_up end.tracker.phase ≡ false → Meets (known_of end spent) (send message) (Some NotUp)
-unfolding Meets
-send_not_up spent end message s u = inr ((λ t. true_false spent t s), inl (u, refl))
-
 module _ (spent : Bool) (end : State) (message : Content) (s : spent ≡ false) (u : is_up end.tracker.phase ≡ true) where
   pub hindered : (fault : EndFault) → hindrance_of end message ≡ Some fault → Meets (known_of end spent) (send message) (Some fault)
   unfolding Meets

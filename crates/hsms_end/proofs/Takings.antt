@@ -6,7 +6,7 @@ use Rattle.hsms_frame.specs.declared.header.Header.{Header}
 use Rattle.hsms_frame.specs.Frame.{Frame}
 use Rattle.hsms_frame.specs.declared.kinds.Kind.{Kind}
 use Rattle.hsms_frame.specs.declared.kinds.Kind.TheVariants.{Primary, Reply, SelectReq, SelectRsp, LinktestReq, LinktestRsp, Reject, Separate, OtherSType, OtherPType}
-use Rattle.hsms_frame.specs.Header.{kind_of, stream_of, wait_of}
+use Rattle.hsms_frame.specs.Header.{kind_of, stream_of, function_of, wait_of}
 use Rattle.hsms_machine.specs.declared.entry.Entry.{Entry}
 use Rattle.hsms_machine.specs.declared.entry.Event.TheVariants.{Taken, Discarded, Down}
 use Rattle.hsms_machine.specs.declared.phase.Phase.{Phase}
@@ -25,7 +25,7 @@ use Rattle.hsms_machine.specs.Step.{facts_of, phase_after, is_selected, is_gone,
 use Rattle.hsms_end.specs.declared.state.State.{State}
 use Rattle.hsms_end.specs.Answer.{Answered, quiet}
 use Rattle.hsms_end.specs.Act.{Act, logs}
-use Rattle.hsms_end.specs.Asked.{name_in, times, once_more}
+use Rattle.hsms_end.specs.Asked.{name_of, name_in, times, once_more}
 use Rattle.hsms_end.specs.Inside.{after_event, after_asking}
 use Rattle.hsms_end.specs.Reaction.{reaction, answers_taken, answers_discarded}
 use Rattle.hsms_end.specs.Turn.{is_up, BreaksAsTaken, received_as, IsAnswerOf, asked_with}
@@ -229,6 +229,12 @@ can_take_asked end frame asked can =
       lawful = can.lawful;
       broken = can.broken;
     }
+
+-- the desk was asked about a primary of this header
+pub counted : (end : State) (header : Header) (stream function : ℕ) (asked : List (ℕ × ℕ)) → stream ≡ stream_of header → function ≡ function_of header → asked ≡ once_more (name_of stream function) end.asked → record end { asked = asked } ≡ after_asking end header
+counted end header stream function asked is_stream is_function more =
+    ap (λ (a : List (ℕ × ℕ)). record end { asked = a })
+    (more ∙ ap (λ (s : ℕ). once_more (name_of s function) end.asked) is_stream ∙ ap (λ (f : ℕ). once_more (name_of (stream_of header) f) end.asked) is_function)
 
 pub can_take_later : (end mid : State) (frame : Frame) (header : Header) → mid ≡ after_asking end header → CanTake end frame → CanTake mid frame
 can_take_later end mid frame header is can =

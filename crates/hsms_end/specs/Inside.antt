@@ -1,5 +1,5 @@
 -- What is inside an end, beside its desk. Private functions alone speak of this.
-use Rattle.std.specs.Prelude.{ℕ, ◌+◌, ◌^◌, ◌%◌, ◌++◌, Bool, false, List, max}
+use Rattle.std.specs.Prelude.{◌≡◌, ℕ, ◌+◌, ◌^◌, ◌%◌, ◌++◌, Bool, true, false, List, max}
 use Rattle.hsms_frame.specs.declared.header.Header.{Header}
 use Rattle.hsms_frame.specs.Frame.{Frame}
 use Rattle.hsms_machine.specs.declared.entry.Entry.{Entry}
@@ -9,6 +9,8 @@ use Rattle.hsms_machine.specs.Step.{view_after}
 use Rattle.hsms_end.specs.declared.state.State.{State}
 use Rattle.hsms_end.specs.Asked.{name_in, once_more}
 use Rattle.hsms_end.specs.EndState.{EndState}
+use Rattle.hsms_end.specs.declared.fault.EndFault.{EndFault}
+use Rattle.hsms_end.specs.declared.fault.EndFault.TheVariants.{Spent, NotUp}
 use Rattle.hsms_end.specs.Turn.{heard_at}
 
 -- what it is known by
@@ -26,6 +28,12 @@ known_of end spent = record {
 
 abbrev pub known : State → EndState
 known end = known_of end false
+
+-- why a call that needs a connection is refused at once, by whether the end is spent and whether its connection is up
+abbrev pub IsRefusedAs : Bool → Bool → EndFault → Type 0
+IsRefusedAs spent up Spent = spent ≡ true
+IsRefusedAs spent up NotUp = (spent ≡ false) × (up ≡ false)
+IsRefusedAs spent up fault = ⊥
 
 abbrev pub entry_of : State → Event → Entry
 entry_of end event = record { time = end.moment; event = event }

@@ -1,6 +1,6 @@
 //! A whole connection from a list of inputs.
 
-ghost use Rattle.std.specs.Prelude.{◌≡◌, map, IfOk, MatchResult};
+ghost use Rattle.std.specs.Prelude.{map, IfOk, MatchResult};
 ghost use Rattle.hsms_machine.specs.Run.{IsRun};
 ghost use Rattle.hsms_end.specs.EndState.{untold};
 ghost use Rattle.hsms_end.specs.End.{Accepts, Refuses};

@@ -1,14 +1,13 @@
 //! When a timer runs out, and when the link is to be tested.
 
 ghost use Rattle.std.specs.Prelude.{◌≡◌};
+ghost use Rattle.hsms_end.specs.Inside.{known};
+ghost use Rattle.hsms_end.specs.Due.{octets_due, next_due, may_test, test_due};
 
 use crate::state::State;
 use hsms_machine::earlier;
 
 impl State {
-    ghost use Rattle.hsms_end.specs.Inside.{known};
-    ghost use Rattle.hsms_end.specs.Due.{octets_due, next_due, may_test, test_due};
-
     /// The least moment at which a timer runs out while the connection is up. Moments past
     /// 18,446,744,073,709,551,615 are left out.
     pub fn next_due(&self) -> Option<u64>

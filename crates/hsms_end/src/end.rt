@@ -170,13 +170,9 @@ impl<D: TurnDesk> End<D> {
         let alloc = self.alloc;
         let mut entries = Vec::new(alloc);
         let moment = self.state.moment.max(now);
-        match self.state.start(alloc, &mut entries, moment) {
-            Ok(()) => {
-                self.spent = false;
-                Ok(entries)
-            }
-            Err(_) => Err(EndFault::Memory),
-        }
+        self.state.start(alloc, &mut entries, moment)?;
+        self.spent = false;
+        Ok(entries)
     }
 
     /// The end's moment becomes this one, in milliseconds, unless it is later already. Each own primary that is overdue
@@ -192,22 +188,13 @@ impl<D: TurnDesk> End<D> {
             (λ entries. Accepts D.answers_after self.old (tick now) entries.items self.new)
             (λ fault. Refuses self.old (tick now) fault self.new) }
     {
-        if self.spent {
-            return Err(EndFault::Spent);
-        }
-        if !self.state.is_up() {
-            return Err(EndFault::NotUp);
-        }
+        self.state.ready(self.spent)?;
         self.spent = true;
         let alloc = self.alloc;
         let mut entries = Vec::new(alloc);
-        match self.state.tick(alloc, &mut entries, now) {
-            Ok(()) => {
-                self.spent = false;
-                Ok(entries)
-            }
-            Err(_) => Err(EndFault::Memory),
-        }
+        self.state.tick(alloc, &mut entries, now)?;
+        self.spent = false;
+        Ok(entries)
     }
 
     /// Sends a primary (SEMI E37, section 7, data procedure) with own system bytes.
@@ -221,34 +208,20 @@ impl<D: TurnDesk> End<D> {
             (λ entries. Accepts D.answers_after self.old (send (content message.now)) entries.items self.new)
             (λ fault. Refuses self.old (send (content message.now)) fault self.new) }
     {
-        if self.spent {
-            return Err(EndFault::Spent);
-        }
-        if !self.state.is_up() {
-            return Err(EndFault::NotUp);
-        }
+        self.state.ready(self.spent)?;
         if let Some(fault) = self.state.hindrance(message) {
             return Err(fault);
         }
+        self.spent = true;
         let alloc = self.alloc;
-        match self.state.fitting_text(alloc, message.item()) {
-            Ok(Some(text)) => {
-                self.spent = true;
-                let mut entries = Vec::new(alloc);
-                match self.state.send(&mut entries, message, text) {
-                    Ok(()) => {
-                        self.spent = false;
-                        Ok(entries)
-                    }
-                    Err(_) => Err(EndFault::Memory),
-                }
-            }
-            Ok(None) => Err(EndFault::TooLong),
-            Err(_) => {
-                self.spent = true;
-                Err(EndFault::Memory)
-            }
-        }
+        let Some(text) = self.state.fitting_text(alloc, message.item())? else {
+            self.spent = false;
+            return Err(EndFault::TooLong);
+        };
+        let mut entries = Vec::new(alloc);
+        self.state.send(&mut entries, message, text)?;
+        self.spent = false;
+        Ok(entries)
     }
 
     /// The connection was lost.
@@ -262,21 +235,12 @@ impl<D: TurnDesk> End<D> {
             (λ entries. Accepts D.answers_after self.old lost entries.items self.new)
             (λ fault. Refuses self.old lost fault self.new) }
     {
-        if self.spent {
-            return Err(EndFault::Spent);
-        }
-        if !self.state.is_up() {
-            return Err(EndFault::NotUp);
-        }
+        self.state.ready(self.spent)?;
         self.spent = true;
         let mut entries = Vec::new(self.alloc);
-        match self.state.lose(&mut entries) {
-            Ok(()) => {
-                self.spent = false;
-                Ok(entries)
-            }
-            Err(_) => Err(EndFault::Memory),
-        }
+        self.state.lose(&mut entries)?;
+        self.spent = false;
+        Ok(entries)
     }
 
     /// Ends the session by Separate.req (SEMI E37, section 7, separate procedure), and the connection.
@@ -290,22 +254,13 @@ impl<D: TurnDesk> End<D> {
             (λ entries. Accepts D.answers_after self.old separate entries.items self.new)
             (λ fault. Refuses self.old separate fault self.new) }
     {
-        if self.spent {
-            return Err(EndFault::Spent);
-        }
-        if !self.state.is_up() {
-            return Err(EndFault::NotUp);
-        }
+        self.state.ready(self.spent)?;
         self.spent = true;
         let alloc = self.alloc;
         let mut entries = Vec::new(alloc);
-        match self.state.separate(alloc, &mut entries) {
-            Ok(()) => {
-                self.spent = false;
-                Ok(entries)
-            }
-            Err(_) => Err(EndFault::Memory),
-        }
+        self.state.separate(alloc, &mut entries)?;
+        self.spent = false;
+        Ok(entries)
     }
 
     /// Asks by Linktest.req (SEMI E37, section 7, linktest procedure) whether the other end is still there.
@@ -319,25 +274,16 @@ impl<D: TurnDesk> End<D> {
             (λ entries. Accepts D.answers_after self.old linktest entries.items self.new)
             (λ fault. Refuses self.old linktest fault self.new) }
     {
-        if self.spent {
-            return Err(EndFault::Spent);
-        }
-        if !self.state.is_up() {
-            return Err(EndFault::NotUp);
-        }
+        self.state.ready(self.spent)?;
         if self.state.tracker.own_open() >= 64 {
             return Err(EndFault::Full);
         }
         self.spent = true;
         let alloc = self.alloc;
         let mut entries = Vec::new(alloc);
-        match self.state.test_link(alloc, &mut entries) {
-            Ok(()) => {
-                self.spent = false;
-                Ok(entries)
-            }
-            Err(_) => Err(EndFault::Memory),
-        }
+        self.state.test_link(alloc, &mut entries)?;
+        self.spent = false;
+        Ok(entries)
     }
 
     /// Octets came, any number of them. Each message that they complete is logged, as taken where it breaks no rule and
@@ -353,21 +299,12 @@ impl<D: TurnDesk> End<D> {
             (λ entries. Accepts D.answers_after self.old (bytes octets.now) entries.items self.new)
             (λ fault. Refuses self.old (bytes octets.now) fault self.new) }
     {
-        if self.spent {
-            return Err(EndFault::Spent);
-        }
-        if !self.state.is_up() {
-            return Err(EndFault::NotUp);
-        }
+        self.state.ready(self.spent)?;
         self.spent = true;
         let alloc = self.alloc;
         let mut entries = Vec::new(alloc);
-        match self.state.hear(alloc, &self.desk, &mut entries, octets) {
-            Ok(()) => {
-                self.spent = false;
-                Ok(entries)
-            }
-            Err(_) => Err(EndFault::Memory),
-        }
+        self.state.hear(alloc, &self.desk, &mut entries, octets)?;
+        self.spent = false;
+        Ok(entries)
     }
 }

@@ -1,23 +1,19 @@
 //! What is logged because a timer ran out.
 
-ghost use Rattle.std.specs.Prelude.{◌≡◌};
-ghost use Rattle.hsms_end.specs.Expiring.{overdue_of};
+ghost use Rattle.std.specs.Prelude.{◌≡◌, true, false, Some, OnOk, IfOk};
+ghost use Rattle.hsms_machine.specs.View.{oldest_of};
+ghost use Rattle.hsms_end.specs.Turn.{is_up as is_connection_up, is_t6_overdue, is_t7_overdue, is_t8_overdue, overdue_cause, expiries, cut_by};
+ghost use Rattle.hsms_end.specs.Performing.{Performs};
+ghost use Rattle.hsms_end.specs.Sound.{IsSound};
+ghost use Rattle.hsms_end.specs.Expiring.{IsLate, HasExpired, MayWarn, is_data_overdue, overdue_of, warnings_of};
+ghost use Rattle.hsms_end.specs.Inside.{known, at_later};
 
 use crate::state::State;
 use hsms_frame::Header;
-use hsms_machine::{Cause, Entry, Event, Role};
+use hsms_machine::{Cause, Entry, Event};
 use std::alloc::{AllocError, Global};
 
 impl State {
-    ghost use Rattle.std.specs.Prelude.{true, false, map, Some, max, OnOk, IfOk};
-    ghost use Rattle.hsms_machine.specs.declared.settings.Role.TheVariants.{Equipment};
-    ghost use Rattle.hsms_machine.specs.View.{oldest_of};
-    ghost use Rattle.hsms_end.specs.Turn.{is_up as is_connection_up, is_t6_overdue, is_t7_overdue, is_t8_overdue, overdue_cause, expiries, cut_by};
-    ghost use Rattle.hsms_end.specs.Performing.{Performs};
-    ghost use Rattle.hsms_end.specs.Sound.{IsSound};
-    ghost use Rattle.hsms_end.specs.Expiring.{IsLate, HasExpired, MayWarn, is_data_overdue, warns_of, warnings_of};
-    ghost use Rattle.hsms_end.specs.Inside.{known, at_later};
-
     /// Logs the expiry of each own primary that is overdue, in order of opening. Gives their headers.
     pub fn expire_data(
         &mut self,
@@ -111,7 +107,8 @@ impl State {
         Ok(())
     }
 
-    /// The end's moment becomes this one, unless it is later already, and what is overdue is logged.
+    /// The end's moment becomes this one, unless it is later already, and what is overdue is logged: own primaries, then a
+    /// cut, or where there is none the warnings of equipment.
     pub fn tick(
         &mut self,
         alloc: Global,
@@ -125,15 +122,6 @@ impl State {
     {
         self.tracker.keeps_order();
         self.moment = self.moment.max(now);
-        self.expire(alloc, entries)
-    }
-
-    /// Logs what is overdue: own primaries, then a cut, or where there is none the warnings of equipment.
-    fn expire(&mut self, alloc: Global, entries: &mut Vec<Entry>) -> Result<(), AllocError>
-        requires { IsLate self.old }
-        ensures does { OnOk result (Performs self.old entries.old.items (expiries (known self.old)) self.new entries.new.items) }
-        ensures sound { OnOk result (IsSound self.new) }
-    {
         let expired = self.expire_data(alloc, entries)?;
         match self.overdue_cause() {
             Some(cause) => self.cut_overdue(entries, cause),
@@ -141,7 +129,7 @@ impl State {
         }
     }
 
-    /// Equipment tells of each primary that expired.
+    /// Tells of each primary that expired, if the end is equipment.
     fn warn_expired(
         &mut self,
         alloc: Global,
@@ -151,24 +139,6 @@ impl State {
         requires sound { IsSound self.old }
         requires selected { MayWarn self.old.tracker.phase expired.now }
         ensures does { OnOk result (Performs self.old entries.old.items (warnings_of self.old.settings expired.now) self.new entries.new.items) }
-        ensures sound { OnOk result (IsSound self.new) }
-    {
-        match self.settings.role() {
-            Role::Equipment => self.warn_of_all(alloc, entries, expired),
-            Role::Host => Ok(()),
-        }
-    }
-
-    fn warn_of_all(
-        &mut self,
-        alloc: Global,
-        entries: &mut Vec<Entry>,
-        expired: &[Header],
-    ) -> Result<(), AllocError>
-        requires sound { IsSound self.old }
-        requires equipment { self.old.settings.role ≡ Equipment }
-        requires selected { MayWarn self.old.tracker.phase expired.now }
-        ensures does { OnOk result (Performs self.old entries.old.items (map (warns_of self.old.settings) expired.now) self.new entries.new.items) }
         ensures sound { OnOk result (IsSound self.new) }
     {
         for header in expired {
@@ -182,14 +152,10 @@ impl State {
 fn overdue(oldest: Option<(u64, Header)>, moment: u64, limit: u32) -> Option<Header>
     ensures { result ≡ overdue_of limit moment oldest }
 {
-    match oldest {
-        Some((time, header)) => {
-            if u64::from(limit) < moment.saturating_sub(time) {
-                Some(header)
-            } else {
-                None
-            }
-        }
-        None => None,
+    let (time, header) = oldest?;
+    if u64::from(limit) < moment.saturating_sub(time) {
+        Some(header)
+    } else {
+        None
     }
 }

@@ -1,9 +1,21 @@
 //! A received frame: its entry, and its reaction at once.
 
-ghost use Rattle.std.specs.Prelude.{◌≡◌, ◌∷◌, true};
+ghost use Rattle.std.specs.Prelude.{◌≡◌, ℕ, [], true, ◌&&◌, OnOk, IfOk, if◌then◌else◌};
+ghost use Rattle.secs_text.specs.Content.{Content};
+ghost use Rattle.secs_item.specs.Spelling.{IsText};
 ghost use Rattle.hsms_frame.specs.Header.{kind_of};
+ghost use Rattle.hsms_frame.specs.declared.kinds.Kind.TheVariants.{Primary, SelectReq, LinktestReq, Separate};
+ghost use Rattle.hsms_machine.specs.declared.phase.Phase.TheVariants.{Selected};
+ghost use Rattle.hsms_machine.specs.declared.rule.Rule.TheVariants.{Text};
 ghost use Rattle.hsms_machine.specs.Message.{is_data as is_data_of, is_data_kind};
-ghost use Rattle.hsms_end.specs.Reaction.{is_control_response as is_control_response_of};
+ghost use Rattle.hsms_machine.specs.Step.{is_selected as is_selected_phase};
+ghost use Rattle.hsms_end.specs.Answer.{Answered, answered};
+ghost use Rattle.hsms_end.specs.Asked.{name_in, times};
+ghost use Rattle.hsms_end.specs.Reaction.{rejects, warns, answers_discarded, is_control_response as is_control_response_of};
+ghost use Rattle.hsms_end.specs.Performing.{Performs};
+ghost use Rattle.hsms_end.specs.Sound.{IsSound};
+ghost use Rattle.hsms_end.specs.Receiving.{HasHandled};
+ghost use Rattle.hsms_end.specs.AwaitingReply.{PeerAwaits, IsSame, CanTake, CanDiscard, IsAnsweredBy, is_silent};
 
 use crate::answer::{Answer, TurnDesk};
 use crate::state::State;
@@ -14,24 +26,6 @@ use secs_text::Message;
 use std::alloc::{AllocError, Global};
 
 impl State {
-    ghost use Rattle.std.specs.Prelude.{ℕ, ◌++◌, [], ◌&&◌, OnOk, IfOk, if◌then◌else◌};
-    ghost use Rattle.secs_text.specs.Content.{Content};
-    ghost use Rattle.secs_item.specs.Spelling.{IsText};
-    ghost use Rattle.hsms_frame.specs.declared.kinds.Kind.TheVariants.{Primary, SelectReq, LinktestReq, Separate};
-    ghost use Rattle.hsms_machine.specs.declared.entry.Event.TheVariants.{Taken, Down};
-    ghost use Rattle.hsms_machine.specs.declared.phase.Phase.TheVariants.{Selected};
-    ghost use Rattle.hsms_machine.specs.declared.rule.Rule.TheVariants.{Text};
-    ghost use Rattle.hsms_machine.specs.Step.{is_selected as is_selected_phase};
-    ghost use Rattle.hsms_end.specs.Answer.{Answered, answered};
-    ghost use Rattle.hsms_end.specs.Asked.{name_in, times};
-    ghost use Rattle.hsms_end.specs.Inside.{after_asking};
-    ghost use Rattle.hsms_end.specs.Act.{logs};
-    ghost use Rattle.hsms_end.specs.Reaction.{rejects, warns, answers_discarded};
-    ghost use Rattle.hsms_end.specs.Performing.{Performs};
-    ghost use Rattle.hsms_end.specs.Sound.{IsSound};
-    ghost use Rattle.hsms_end.specs.Receiving.{HasHandled};
-    ghost use Rattle.hsms_end.specs.AwaitingReply.{PeerAwaits, IsSame, CanTake, CanDiscard, IsAnsweredBy, is_silent};
-
     /// The desk's answer to a primary. Its text is readable, since it was taken.
     fn ask<D: TurnDesk>(&self, alloc: Global, desk: &D, frame: &Frame) -> Result<Answer, AllocError>
         requires { ¬ ¬ IsText self.now.settings.depth frame.now.text }
@@ -54,14 +48,6 @@ impl State {
         }
     }
 
-    /// Counts a primary that the desk was asked about.
-    fn count(&mut self, header: Header) -> Result<(), AllocError>
-        ensures { OnOk result (self.new ≡ after_asking self.old header) }
-    {
-        self.asked.count(header.stream(), header.function())?;
-        Ok(())
-    }
-
     /// Takes a primary, and answers it as the desk says.
     fn take_primary<D: TurnDesk>(
         &mut self,
@@ -78,7 +64,7 @@ impl State {
     {
         let header = frame.header;
         let answer = self.ask(alloc, desk, &frame)?;
-        self.count(header)?;
+        self.asked.count(header.stream(), header.function())?;
         self.log(entries, Event::Taken(frame))?;
         self.answer_primary(alloc, entries, header, answer)?;
         Ok(())
@@ -219,23 +205,6 @@ impl State {
         Ok(())
     }
 
-    /// Tells of data that can't be read, if the end is equipment.
-    fn warn_unreadable(
-        &mut self,
-        alloc: Global,
-        entries: &mut Vec<Entry>,
-        header: Header,
-    ) -> Result<(), AllocError>
-        requires awaits { PeerAwaits self.old [] [] }
-        requires selected { self.old.tracker.phase ≡ Selected }
-        ensures does { OnOk result (Performs self.old entries.old.items (warns self.old.settings 7 header) self.new entries.new.items) }
-        ensures awaits { OnOk result (PeerAwaits self.new [] []) }
-        ensures same { OnOk result (IsSame self.old self.new) }
-    {
-        self.warn(alloc, entries, 7, header)?;
-        Ok(())
-    }
-
     /// Reacts to a frame that was discarded, by the rule that it breaks.
     fn answer_discarded(
         &mut self,
@@ -258,7 +227,7 @@ impl State {
             Rule::NotSelected => self.reject(alloc, entries, header, 4),
             Rule::NoTransaction => self.reject_response(alloc, entries, header),
             Rule::Session => self.warn_of_session(alloc, entries, header, selected),
-            Rule::Text => self.warn_unreadable(alloc, entries, header),
+            Rule::Text => self.warn(alloc, entries, 7, header),
             Rule::Backwards
             | Rule::NotUp
             | Rule::Ended
@@ -300,32 +269,12 @@ impl State {
 fn is_control_response(header: Header) -> bool
     ensures { result ≡ is_control_response_of (kind_of header) }
 {
-    match kind(header) {
-        Kind::SelectRsp | Kind::LinktestRsp => true,
-        Kind::Primary
-        | Kind::Reply
-        | Kind::SelectReq
-        | Kind::LinktestReq
-        | Kind::Reject
-        | Kind::Separate
-        | Kind::OtherSType
-        | Kind::OtherPType => false,
-    }
+    matches!(kind(header), Kind::SelectRsp | Kind::LinktestRsp)
 }
 
 /// Whether a message is data.
 fn is_data(header: Header) -> bool
     ensures { result ≡ is_data_kind (kind_of header) }
 {
-    match kind(header) {
-        Kind::Primary | Kind::Reply => true,
-        Kind::SelectReq
-        | Kind::SelectRsp
-        | Kind::LinktestReq
-        | Kind::LinktestRsp
-        | Kind::Reject
-        | Kind::Separate
-        | Kind::OtherSType
-        | Kind::OtherPType => false,
-    }
+    matches!(kind(header), Kind::Primary | Kind::Reply)
 }

@@ -1,21 +1,17 @@
 //! Octets from the peer.
 
-ghost use Rattle.std.specs.Prelude.{◌≡◌};
+ghost use Rattle.std.specs.Prelude.{◌≡◌, OnOk};
+ghost use Rattle.hsms_end.specs.Turn.{heard_at as heard_after};
+ghost use Rattle.hsms_end.specs.Inside.{after_octets};
+ghost use Rattle.hsms_end.specs.Sound.{IsSound};
+ghost use Rattle.hsms_end.specs.Receiving.{HasReceivedAll};
 
 use crate::answer::TurnDesk;
-use crate::fault::EndFault;
 use crate::state::State;
 use hsms_machine::Entry;
 use std::alloc::{AllocError, Global};
 
 impl State {
-    ghost use Rattle.std.specs.Prelude.{OnOk, IfErr};
-    ghost use Rattle.hsms_end.specs.declared.fault.EndFault.TheVariants.{Memory};
-    ghost use Rattle.hsms_end.specs.Turn.{heard_at as heard_after};
-    ghost use Rattle.hsms_end.specs.Inside.{after_octets};
-    ghost use Rattle.hsms_end.specs.Sound.{IsSound};
-    ghost use Rattle.hsms_end.specs.Receiving.{HasReceivedAll};
-
     /// The moment at which an octet came last, with these octets.
     fn heard_at(&self, octets: &[u8]) -> u64
         ensures { result ≡ heard_after octets.now self.now.moment self.now.heard }
@@ -47,11 +43,10 @@ impl State {
         desk: &D,
         entries: &mut Vec<Entry>,
         octets: &[u8],
-    ) -> Result<(), EndFault>
+    ) -> Result<(), AllocError>
         requires { IsSound self.old }
         ensures received { OnOk result (HasReceivedAll (D.answers_after desk.now) (after_octets self.old octets.now) entries.old.items self.new entries.new.items) }
         ensures sound { OnOk result (IsSound self.new) }
-        ensures memory { IfErr result (λ fault. fault ≡ Memory) }
     {
         self.take_in(octets)?;
         self.receive_all(alloc, desk, entries)?;

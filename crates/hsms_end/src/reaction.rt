@@ -1,9 +1,21 @@
 //! What an end sends at once after a received frame.
 
-ghost use Rattle.std.specs.Prelude.{◌≡◌, ◌<◌, ◌∷◌, IfOk, option_map};
-ghost use Rattle.secs_item.specs.Item.{view};
-ghost use Rattle.hsms_end.specs.declared.answer.Answer.TheVariants.{Reply};
+ghost use Rattle.std.specs.Prelude.{◌≡◌, ◌<◌, ◌==◌, ◌%◌, ◌&&◌, ◌++◌, [], ◌∷◌, true, List, OnOk, IfOk, option_map, if◌then◌else◌};
 ghost use Rattle.std.specs.List.{AllByRecursion};
+ghost use Rattle.secs_item.specs.Item.{view};
+ghost use Rattle.hsms_frame.specs.Header.{header_octets};
+ghost use Rattle.hsms_machine.specs.declared.entry.Event.TheVariants.{Sent};
+ghost use Rattle.hsms_machine.specs.declared.open.Transaction.{Transaction};
+ghost use Rattle.hsms_machine.specs.declared.phase.Phase.TheVariants.{Selected};
+ghost use Rattle.hsms_machine.specs.Settings.{IsWithinLimits};
+ghost use Rattle.hsms_machine.specs.Step.{is_selected as is_selected_phase};
+ghost use Rattle.hsms_end.specs.declared.answer.Answer.TheVariants.{Reply};
+ghost use Rattle.hsms_end.specs.Act.{logs};
+ghost use Rattle.hsms_end.specs.Answer.{answered};
+ghost use Rattle.hsms_end.specs.Frame.{warning, select_rsp as select_rsp_of, linktest_rsp as linktest_rsp_of, abort_of, reply_of};
+ghost use Rattle.hsms_end.specs.Reaction.{warns, rejects, aborts, answers_primary};
+ghost use Rattle.hsms_end.specs.Performing.{Performs};
+ghost use Rattle.hsms_end.specs.AwaitingReply.{PeerAwaits, IsSame, IsAskedToSelect, IsAskedForLink, IsAsked, IsReplyTo};
 
 use crate::answer::Answer;
 use crate::state::{State, bare};
@@ -13,26 +25,11 @@ use secs_item::Item;
 use std::alloc::{AllocError, Global};
 
 impl State {
-    ghost use Rattle.std.specs.Prelude.{◌++◌, ◌==◌, ◌%◌, ◌&&◌, [], true, List, OnOk, if◌then◌else◌};
-    ghost use Rattle.hsms_frame.specs.Header.{header_octets};
-    ghost use Rattle.hsms_machine.specs.declared.open.Transaction.{Transaction};
-    ghost use Rattle.hsms_machine.specs.declared.phase.Phase.TheVariants.{Selected};
-    ghost use Rattle.hsms_machine.specs.Step.{is_selected as is_selected_phase};
-    ghost use Rattle.hsms_machine.specs.declared.entry.Event.TheVariants.{Sent};
-    ghost use Rattle.hsms_end.specs.Frame.{warning, select_rsp as select_rsp_of, linktest_rsp as linktest_rsp_of};
-    ghost use Rattle.hsms_end.specs.Act.{logs};
-    ghost use Rattle.hsms_end.specs.Reaction.{warns, rejects};
-    ghost use Rattle.hsms_end.specs.Performing.{Performs};
-    ghost use Rattle.hsms_end.specs.AwaitingReply.{PeerAwaits, IsSame, IsAskedToSelect, IsAskedForLink};
-
     /// Whether the session is selected.
     pub fn is_selected(&self) -> bool
         ensures { result ≡ is_selected_phase self.now.tracker.phase }
     {
-        match self.tracker.phase() {
-            Phase::Selected => true,
-            Phase::Before | Phase::NotSelected | Phase::Over | Phase::Gone => false,
-        }
+        matches!(self.tracker.phase(), Phase::Selected)
     }
 
     /// Whether S9F11 is to tell of a message that is too long and has this header.
@@ -143,16 +140,6 @@ impl State {
         self.log(entries, Event::Sent(bare(alloc, linktest_rsp(header))))?;
         Ok(())
     }
-}
-
-impl State {
-    ghost use Rattle.std.specs.Prelude.{◌++◌, ◌+◌, ◌≤◌, ◌%◌, ◌==◌, [], true, length, OnOk};
-    ghost use Rattle.hsms_machine.specs.Settings.{IsWithinLimits};
-    ghost use Rattle.hsms_end.specs.Answer.{answered};
-    ghost use Rattle.hsms_end.specs.Frame.{abort_of, reply_of};
-    ghost use Rattle.hsms_end.specs.Reaction.{aborts, warns, answers_primary};
-    ghost use Rattle.hsms_end.specs.Performing.{Performs};
-    ghost use Rattle.hsms_end.specs.AwaitingReply.{PeerAwaits, IsAsked, IsReplyTo};
 
     /// SxF0, which aborts a primary.
     fn abort_frame(&self, alloc: Global, header: Header) -> Frame

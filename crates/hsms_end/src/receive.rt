@@ -1,38 +1,32 @@
 //! What received octets lead to.
 
-ghost use Rattle.std.specs.Prelude.{◌≡◌};
+ghost use Rattle.std.specs.Prelude.{◌≡◌, ◌++◌, true, OnOk};
+ghost use Rattle.hsms_frame.specs.Framing.{FramesAs};
+ghost use Rattle.hsms_machine.specs.declared.entry.Cause.TheVariants.{Length};
 ghost use Rattle.hsms_machine.specs.declared.entry.Event.TheVariants.{Taken};
+ghost use Rattle.hsms_end.specs.Turn.{is_up as is_connection_up, cut_by, warns_too_long, BreaksAsTaken, received_as};
+ghost use Rattle.hsms_end.specs.Inside.{known};
+ghost use Rattle.hsms_end.specs.Performing.{Performs, IsLawful};
+ghost use Rattle.hsms_end.specs.Sound.{IsSound};
+ghost use Rattle.hsms_end.specs.Receiving.{HasHandled, HasReceivedAll};
 
 use crate::answer::TurnDesk;
-use crate::fault::EndFault;
 use crate::state::State;
 use hsms_frame::{Frame, FrameFault, Header};
 use hsms_machine::{Cause, Entry, EntryRef, Event, Mark, Rule};
-use std::alloc::Global;
+use std::alloc::{AllocError, Global};
 
 impl State {
-    ghost use Rattle.std.specs.Prelude.{◌≡◌, ◌++◌, [], ◌∷◌, true, OnOk, IfOk, IfErr};
-    ghost use Rattle.hsms_frame.specs.Framing.{FramesAs};
-    ghost use Rattle.hsms_end.specs.declared.fault.EndFault.TheVariants.{Memory};
-    ghost use Rattle.hsms_end.specs.Act.{logs, asks};
-    ghost use Rattle.hsms_end.specs.Turn.{is_up as is_connection_up, cut_by, warns_too_long, BreaksAsTaken, received_as};
-    ghost use Rattle.hsms_machine.specs.declared.entry.Cause.TheVariants.{Length};
-    ghost use Rattle.hsms_end.specs.Inside.{known};
-    ghost use Rattle.hsms_end.specs.Performing.{Performs, IsLawful};
-    ghost use Rattle.hsms_end.specs.Sound.{IsSound};
-    ghost use Rattle.hsms_end.specs.Receiving.{HasHandled, HasReceivedAll};
-
     /// Receives the messages at the front of the pending octets, one after the other, while the connection is up.
     pub fn receive_all<D: TurnDesk>(
         &mut self,
         alloc: Global,
         desk: &D,
         entries: &mut Vec<Entry>,
-    ) -> Result<(), EndFault>
+    ) -> Result<(), AllocError>
         requires { IsSound self.old }
         ensures received { OnOk result (HasReceivedAll (D.answers_after desk.now) self.old entries.old.items self.new entries.new.items) }
         ensures sound { OnOk result (IsSound self.new) }
-        ensures memory { IfErr result (λ fault. fault ≡ Memory) }
     {
         'messages: while self.is_up() {
             match self.next_message() {
@@ -42,7 +36,7 @@ impl State {
                 Err(FrameFault::TooLong { header, .. }) => {
                     return self.cut_too_long(alloc, entries, header);
                 }
-                Err(FrameFault::Memory) => return Err(EndFault::Memory),
+                Err(FrameFault::Memory) => return Err(AllocError),
             }
         }
         Ok(())
@@ -73,13 +67,12 @@ impl State {
         desk: &D,
         entries: &mut Vec<Entry>,
         frame: Frame,
-    ) -> Result<(), EndFault>
+    ) -> Result<(), AllocError>
         requires sound { IsSound self.old }
         requires up { is_connection_up self.old.tracker.phase ≡ true }
         ensures handled { OnOk result (HasHandled (D.answers_after desk.now) self.old entries.old.items frame self.new entries.new.items) }
         ensures sound { OnOk result (IsSound self.new) }
         ensures octets { OnOk result (self.new.framer ≡ self.old.framer) }
-        ensures memory { IfErr result (λ fault. fault ≡ Memory) }
     {
         match self.judge(&frame) {
             None => self.take(alloc, desk, entries, frame)?,
@@ -89,12 +82,11 @@ impl State {
     }
 
     /// Cuts the connection, since octets are no message.
-    fn cut(&mut self, entries: &mut Vec<Entry>) -> Result<(), EndFault>
+    fn cut(&mut self, entries: &mut Vec<Entry>) -> Result<(), AllocError>
         requires sound { IsSound self.old }
         requires up { is_connection_up self.old.tracker.phase ≡ true }
         ensures does { OnOk result (Performs self.old entries.old.items (cut_by Length) self.new entries.new.items) }
         ensures sound { OnOk result (IsSound self.new) }
-        ensures memory { IfErr result (λ fault. fault ≡ Memory) }
     {
         self.log(entries, Event::Cut(Cause::Length))?;
         self.log(entries, Event::Down)?;
@@ -107,12 +99,11 @@ impl State {
         alloc: Global,
         entries: &mut Vec<Entry>,
         header: Header,
-    ) -> Result<(), EndFault>
+    ) -> Result<(), AllocError>
         requires sound { IsSound self.old }
         requires up { is_connection_up self.old.tracker.phase ≡ true }
         ensures does { OnOk result (Performs self.old entries.old.items (warns_too_long (known self.old) header ++ cut_by Length) self.new entries.new.items) }
         ensures sound { OnOk result (IsSound self.new) }
-        ensures memory { IfErr result (λ fault. fault ≡ Memory) }
     {
         if self.is_warned(header) {
             self.warn(alloc, entries, 11, header)?;

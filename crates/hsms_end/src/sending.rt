@@ -1,9 +1,14 @@
 //! Messages that are sent.
 
-ghost use Rattle.std.specs.Prelude.{◌≡◌, option_map, IfOk, IfSome};
+ghost use Rattle.std.specs.Prelude.{◌≡◌, ◌<◌, ◌+◌, ◌≤◌, length, Some, None, [], ◌∷◌, option_map, OnOk, IfOk, IfSome};
 ghost use Rattle.secs_item.specs.Item.{view};
-ghost use Rattle.hsms_end.specs.Frame.{text_of as text_of_item};
-ghost use Rattle.hsms_end.specs.Sending.{IsSpelt};
+ghost use Rattle.secs_item.specs.Spelling.{IsText};
+ghost use Rattle.secs_text.specs.View.{content};
+ghost use Rattle.hsms_end.specs.Act.{asks};
+ghost use Rattle.hsms_end.specs.Frame.{text_of as text_of_item, is_within_depth as is_item_within_depth, fitting_text as fitting_text_of, message_frame as message_frame_of};
+ghost use Rattle.hsms_end.specs.Performing.{Performs};
+ghost use Rattle.hsms_end.specs.Sound.{IsSound};
+ghost use Rattle.hsms_end.specs.Sending.{IsSpelt, hindrance_of};
 
 use crate::fault::EndFault;
 use crate::state::State;
@@ -14,15 +19,6 @@ use secs_text::Message;
 use std::alloc::{AllocError, Global};
 
 impl State {
-    ghost use Rattle.std.specs.Prelude.{◌<◌, ◌+◌, ◌≤◌, length, Some, None, [], ◌∷◌, OnOk};
-    ghost use Rattle.secs_item.specs.Spelling.{IsText};
-    ghost use Rattle.secs_text.specs.View.{content};
-    ghost use Rattle.hsms_end.specs.Act.{asks};
-    ghost use Rattle.hsms_end.specs.Frame.{is_within_depth as is_item_within_depth, fitting_text as fitting_text_of, message_frame as message_frame_of};
-    ghost use Rattle.hsms_end.specs.Performing.{Performs};
-    ghost use Rattle.hsms_end.specs.Sound.{IsSound};
-    ghost use Rattle.hsms_end.specs.Sending.{hindrance_of};
-
     /// The first fault for which a message isn't sent, but for a text that is too long.
     pub fn hindrance(&self, message: &Message) -> Option<EndFault>
         ensures { result ≡ hindrance_of self.now (content message.now) }

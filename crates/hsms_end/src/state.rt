@@ -4,6 +4,7 @@ ghost use Rattle.std.specs.Prelude.{◌≡◌};
 ghost use Rattle.hsms_end.specs.Frame.{bare as bare_frame};
 
 use crate::asked::Asked;
+use crate::fault::EndFault;
 use hsms_frame::{Frame, Framer, Header, linktest_req, select_req, separate as separate_req};
 use hsms_machine::{Entry, Event, Phase, Settings, Side, Tracker};
 use std::alloc::{AllocError, Global};
@@ -28,14 +29,13 @@ pub struct State {
 }
 
 impl State {
-    ghost use Rattle.std.specs.Prelude.{◌≤◌, ◌<◌, ℕ, true, [], ◌∷◌, OnOk};
+    ghost use Rattle.std.specs.Prelude.{◌≤◌, ◌<◌, ℕ, true, false, [], ◌∷◌, OnOk, IfErr};
     ghost use Rattle.hsms_frame.specs.Frame.{Frame as FrameValue};
-    ghost use Rattle.hsms_machine.specs.declared.entry.Event.TheVariants.{Sent};
+    ghost use Rattle.hsms_machine.specs.declared.entry.Event.TheVariants.{Sent, Down};
     ghost use Rattle.hsms_machine.specs.View.{own_open_of};
     ghost use Rattle.hsms_end.specs.Act.{logs, asks};
-    ghost use Rattle.hsms_end.specs.Inside.{after_event, after_number};
+    ghost use Rattle.hsms_end.specs.Inside.{after_event, after_number, IsRefusedAs};
     ghost use Rattle.hsms_end.specs.Fault.{is_before};
-    ghost use Rattle.hsms_machine.specs.declared.entry.Event.TheVariants.{Down};
     ghost use Rattle.hsms_end.specs.Frame.{linktest_req as linktest_req_of, separate_req as separate_req_of};
     ghost use Rattle.hsms_end.specs.Turn.{opening_of, is_up as is_connection_up};
     ghost use Rattle.hsms_end.specs.Sound.{IsSound};
@@ -79,9 +79,21 @@ impl State {
     pub fn is_up(&self) -> bool
         ensures { result ≡ is_connection_up self.now.tracker.phase }
     {
-        match self.tracker.phase() {
-            Phase::NotSelected | Phase::Selected => true,
-            Phase::Before | Phase::Over | Phase::Gone => false,
+        matches!(self.tracker.phase(), Phase::NotSelected | Phase::Selected)
+    }
+
+    /// Refuses a call that needs a connection, where the end is spent or it isn't up.
+    pub fn ready(&self, spent: bool) -> Result<(), EndFault>
+        ensures fresh { OnOk result (spent ≡ false) }
+        ensures up { OnOk result (is_connection_up self.now.tracker.phase ≡ true) }
+        ensures refused { IfErr result (λ fault. IsRefusedAs spent (is_connection_up self.now.tracker.phase) fault) }
+    {
+        if spent {
+            Err(EndFault::Spent)
+        } else if self.is_up() {
+            Ok(())
+        } else {
+            Err(EndFault::NotUp)
         }
     }
 
@@ -89,10 +101,7 @@ impl State {
     pub fn is_new(&self) -> bool
         ensures { result ≡ is_before self.now.tracker.phase }
     {
-        match self.tracker.phase() {
-            Phase::Before => true,
-            Phase::NotSelected | Phase::Selected | Phase::Over | Phase::Gone => false,
-        }
+        matches!(self.tracker.phase(), Phase::Before)
     }
 
     /// Logs that the connection came up. An active end then asks for a session.

@@ -18,14 +18,14 @@ use Rattle.hsms_ends.specs.declared.link.Got.{Got}
 use Rattle.hsms_ends.specs.declared.link.Got.TheVariants as got
 use Rattle.hsms_ends.specs.declared.output.Stop.{Stop}
 use Rattle.hsms_ends.specs.declared.output.Stop.TheVariants.{Link, Log, Memory}
-use Rattle.hsms_ends.specs.Link.{Told, Heard, Hears, both, nothing_heard, moment_heard, octets_heard, quiet_heard, closed_heard, got_heard}
+use Rattle.hsms_ends.specs.Link.{Told, Heard, Hears, Asks, both, nothing_heard, moment_heard, octets_heard, quiet_heard, closed_heard, got_heard}
 use Rattle.hsms_ends.specs.Turning.{Refused, Ticked, Done, Rest, Nothing, Stepped, Declined, Tested, Quiet, Octets, Closed, Untaken, Ticks, HasNotGone, has_gone, is_step_due, MustWait, MustTest, Continues, IsTurn, entries_after, entries_rest, entries_turn, entries_turns, last_after, last_rest, last_turn, moment_after, heard_rest, heard_turn, heard_turns, refused_turn, refused_turns, input_of}
 use Rattle.hsms_ends.specs.PutOut.{IsEnding}
 use Rattle.hsms_ends.specs.Outcome.{is_cut, Leads, Takes, Counts, Yields, Handed, Followed, Heeded, Continued, TurnTaken, TurnsSoFar, TurnsTaken}
 use Rattle.hsms_ends.proofs.Hearing.{both_nothing}
 use Rattle.hsms_ends.proofs.Puttings.{puts_fault}
 use Rattle.hsms_ends.proofs.TurnLists.{heard_snoc, entries_snoc, refused_snoc, turns_snoc, length_snoc}
-use Rattle.hsms_ends.proofs.Yielding.{ending_none, counts_none, counts_then, yields_then, yields_along, yields_last, yields_left, yields_before, yields_whole, yields_heard, yields_memory, yields_nothing}
+use Rattle.hsms_ends.proofs.Yielding.{ending_none, counts_none, counts_then, yields_then, yields_along, yields_last, yields_left, yields_before, yields_whole, yields_heard, yields_memory, yields_nothing, yields_asked}
 use Rattle.std.proofs.lemmas.List.Elements.{All-nil}
 use Rattle.hsms_log.specs.Spelling.{IsEntry}
 
@@ -63,6 +63,17 @@ module _ {D : Type 0} (answers : D → ℕ → Content → Answered) where
   takes_by (Err Link) end input entries end' h = h
   takes_by (Err Log) end input entries end' h = h
   takes_by (Err Memory) end input entries end' h = inl h
+
+  -- the moment was asked for before the end was told
+  pub handed_asked : (r : Result (Unit {0}) Stop) (end : EndOf D) (input : Input) (end' : EndOf D) (log log' : SinkState) (link mid link' : Told) (n n' now : ℕ)
+      → Asks link mid now → Handed answers r end input end' log log' mid link' nothing_heard n n' → Handed answers r end input end' log log' link link' (moment_heard now) n n'
+  handed_asked r end input end' log log' link mid link' n n' now asks h = record {
+    entries = h.entries;
+    end' = h.end';
+    takes = h.takes;
+    leads = h.leads;
+    yields = yields_asked r log log' link mid link' n n' now h.entries h.entries asks h.yields;
+  }
 
   -- the tick ended the connection
   pub followed_gone : (now : ℕ) (end : EndOf D) (input : Input) (mid : EndOf D) (log log' : SinkState) (link link' : Told) (n n' : ℕ)

@@ -95,8 +95,3 @@ pub yields_asked : (r : Result (Unit {0}) Stop) (log log' : SinkState) (link mid
 unfolding asked_then puts_then
 yields_asked r log log' link mid link' n n' now a last asks yields =
     record { puts = asked_then r log log' link mid link' now a asks yields.puts; ends = yields.ends; counted = yields.counted; in_range = yields.in_range }
-
--- a moment was asked for, and memory was wanting
-pub yields_asked_alone : (log : SinkState) (link link' : Told) (n now : ℕ) → Asks link link' now → Yields (Err Memory) log log link link' n n [] [] (moment_heard now)
-yields_asked_alone log link link' n now asks =
-    yields_memory log log link link' n n [] [] (moment_heard now) (yields_heard log link link' n (moment_heard now) asks.heard asks.taken asks.failures)

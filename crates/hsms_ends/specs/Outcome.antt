@@ -8,8 +8,10 @@ use Rattle.hsms_machine.specs.View.{HasView}
 use Rattle.hsms_log.specs.Spelling.{IsEntry}
 use Rattle.hsms_end.specs.Answer.{Answered}
 use Rattle.hsms_end.specs.EndState.{EndOf}
-use Rattle.hsms_end.specs.Turn.{Told as Input, bytes, lost}
+use Rattle.hsms_end.specs.Turn.{Told as Input, start, tick, bytes, linktest, lost}
 use Rattle.hsms_end.specs.End.{Accepts}
+use Rattle.hsms_ends.specs.declared.call.Call.{Call}
+use Rattle.hsms_ends.specs.declared.call.Call.TheVariants.{Start, Tick, Bytes, Linktest, Lost}
 use Rattle.hsms_ends.specs.declared.step.Step.{Step}
 use Rattle.hsms_ends.specs.declared.link.Got.{Got}
 use Rattle.hsms_ends.specs.declared.link.Got.TheVariants.{Octets, Quiet, Closed}
@@ -22,6 +24,14 @@ use Rattle.hsms_ends.specs.Link.{Told, Heard, both, Hears, nothing_heard, moment
 use Rattle.hsms_ends.specs.PutOut.{PutsOut, LogGrows, LogStops, LogFailsIn, IsEnding, log_lines, sent_octets}
 use Rattle.hsms_ends.specs.Turning.{After, Rest, Turn, has_gone, Heeds, Continues, IsTurn, AreTurns, entries_after, entries_rest, entries_turn, entries_turns, last_after, last_rest, last_turn, moment_after, heard_rest, heard_turn, heard_turns, refused_rest, refused_turn, refused_turns}
 use Rattle.hsms_ends.specs.Serving.{Story, IsStory, IsLost, IsWhole, IsStarted, has_lost, entries_of, heard_of, refused_of, turns_begun, whole_turns, entries_cut, heard_cut, refused_cut, begun_cut, lost_entries, last_cut, last_call, count_after, steps_of, LeavesSteps, MayHaveFailed, LinkTook, failures_after}
+
+-- what a call tells the end
+abbrev pub called : Call → Input
+called (Start now) = start now
+called (Tick now) = tick now
+called (Bytes octets) = bytes octets.now
+called Linktest = linktest
+called Lost = lost
 
 -- some log is a run that has the end's view, and the settings are within their limits
 pub record IsReady {D : Type 0} (end : EndOf D) : Type 0 where

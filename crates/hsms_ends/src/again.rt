@@ -1,8 +1,7 @@
 //! Connection after connection, served in one log.
 
-ghost use Rattle.std.specs.Prelude.{◌≡◌, ◌==◌, ◌&&◌, if◌then◌else◌};
+ghost use Rattle.std.specs.Prelude.{◌≡◌, ◌&&◌};
 ghost use Rattle.hsms_machine.specs.Settings.{IsWithinLimits, several_of};
-ghost use Rattle.hsms_ends.specs.declared.fault.ServeFault.{ServeFault};
 ghost use Rattle.hsms_ends.specs.Again.{ServesAgain};
 ghost use Rattle.hsms_ends.specs.Onward.{Onward, NextServed, ServedEach, script_at};
 

@@ -14,6 +14,7 @@
 #![tactic(auto)]
 
 mod again;
+mod call;
 mod fault;
 pub mod laws;
 mod link;

@@ -73,12 +73,12 @@ fn send_event<L: Link>(link: &mut L, event: &Event) -> Result<(), LinkFault>
 {
     match event {
         Event::Sent(frame) => send_frame(link, frame),
-        Event::Up => Ok(()),
-        Event::Taken(_) => Ok(()),
-        Event::Discarded(_) => Ok(()),
-        Event::T3(_) => Ok(()),
-        Event::Cut(_) => Ok(()),
-        Event::Down => Ok(()),
+        Event::Up
+        | Event::Taken(_)
+        | Event::Discarded(_)
+        | Event::T3(_)
+        | Event::Cut(_)
+        | Event::Down => Ok(()),
     }
 }
 

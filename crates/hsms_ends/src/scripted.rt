@@ -114,7 +114,7 @@ impl Scripted {
 }
 
 impl Link for Scripted {
-    ghost use Rattle.std.specs.Prelude.{◌≡◌, ◌<◌, ◌≤◌, ◌⊎◌, ◌↔◌, length, min, take, drop, IsErr, IfOk, OnErr};
+    ghost use Rattle.std.specs.Prelude.{◌≡◌, ◌<◌, ◌≤◌, ◌⊎◌, ◌↔◌, length, min, drop, IsErr, IfOk, OnErr};
     ghost use Rattle.hsms_frame.specs.Count.{next_count};
     ghost use Rattle.hsms_ends.specs.Link.{Asks, Waits, Sends};
     ghost use Rattle.hsms_ends.specs.Script.{told_of, moment_at, pass_over, Answers};

@@ -7,12 +7,13 @@ ghost use Rattle.hsms_ends.specs.Link.{moment_heard};
 ghost use Rattle.hsms_ends.specs.Serving.{Serves, ServesTesting};
 ghost use Rattle.hsms_ends.specs.Outcome.{IsReady, Handed, Ran, ServesEnd, ClosedLink, RestClosed, StoppedAs};
 
+use crate::call::Call;
 use crate::fault::ServeFault;
 use crate::link::Link;
 use crate::output::{Stop, log_all};
 use crate::range::entries_are_in_range;
 use crate::step::Step;
-use crate::turns::{Progress, deliver, has_gone, now, take_turns};
+use crate::turns::{Progress, hand, has_gone, now, take_turns};
 use hsms_end::{End, TurnDesk};
 use hsms_frame::Sink;
 use hsms_log::write_settings;
@@ -198,11 +199,7 @@ fn begin<L: Link, W: Sink, D: TurnDesk>(
         (L.told link.old) (L.told link.new) (moment_heard now) count.old count.new }
 {
     let now = now(link);
-    let answer = end.start(now);
-    match answer {
-        Ok(entries) => deliver(link, log, &entries, count),
-        Err(_) => Err(Stop::Memory),
-    }
+    hand(link, log, end, Call::Start(now), count)
 }
 
 /// What is answered after a fault. After a link fault the end is closed first.

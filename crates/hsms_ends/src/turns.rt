@@ -1,13 +1,14 @@
 //! The turns of a served connection.
 
 ghost use Rattle.std.specs.Prelude.{◌≡◌, ◌<◌, ℕ, List, Option, drop, length, true, MatchResult};
-ghost use Rattle.hsms_end.specs.Turn.{tick as ticks, bytes, linktest, lost};
+ghost use Rattle.hsms_end.specs.Turn.{tick as ticks};
 ghost use Rattle.hsms_end.specs.End.{Accepts, Refuses};
 ghost use Rattle.hsms_ends.specs.Link.{Asks, IsGot, moment_heard, nothing_heard};
 ghost use Rattle.hsms_ends.specs.PutOut.{AllFitLengthField};
-ghost use Rattle.hsms_ends.specs.Turning.{HasNotGone, MustWait, MustTest, has_gone as is_down, is_idle as is_free, is_step_due as step_due, input_of, is_test_due as test_due, test_moment as moment_of_test};
-ghost use Rattle.hsms_ends.specs.Outcome.{IsReady, Yields, Handed, Followed, Heeded, Continued, TurnTaken, TurnsTaken};
+ghost use Rattle.hsms_ends.specs.Turning.{HasNotGone, MustWait, has_gone as is_down, is_idle as is_free, is_step_due as step_due, input_of, is_test_due as test_due, test_moment as moment_of_test};
+ghost use Rattle.hsms_ends.specs.Outcome.{called, IsReady, Yields, Handed, Followed, Heeded, Continued, TurnTaken, TurnsTaken};
 
+use crate::call::Call;
 use crate::link::{Got, Link};
 use crate::output::{Stop, put_out};
 use crate::range::entries_are_in_range;
@@ -31,24 +32,18 @@ pub struct Progress {
 pub fn has_gone<D: TurnDesk>(end: &End<D>) -> bool
     ensures { result ≡ is_down end.now }
 {
-    match end.phase() {
-        Phase::Gone => true,
-        Phase::Before | Phase::NotSelected | Phase::Selected | Phase::Over => false,
-    }
+    matches!(end.phase(), Phase::Gone)
 }
 
 /// Whether the end is selected and has no own open transaction.
 fn is_idle<D: TurnDesk>(end: &End<D>) -> bool
     ensures { result ≡ is_free end.now }
 {
-    match end.phase() {
-        Phase::Selected => end.own_open() == 0,
-        Phase::Before | Phase::NotSelected | Phase::Over | Phase::Gone => false,
-    }
+    matches!(end.phase(), Phase::Selected) && end.own_open() == 0
 }
 
 /// Counts the entries of a call, and puts them out.
-pub fn deliver<L: Link, W: Sink>(
+fn deliver<L: Link, W: Sink>(
     link: &mut L,
     log: &mut W,
     entries: &[Entry],
@@ -61,6 +56,40 @@ pub fn deliver<L: Link, W: Sink>(
     entries_are_in_range(entries);
     *count = count.saturating_add(entries.len() as u64);
     put_out(link, log, entries)
+}
+
+/// Makes a call of the end.
+fn make<D: TurnDesk>(end: &mut End<D>, call: Call<'_>) -> Result<Vec<Entry>, EndFault>
+    ensures { MatchResult result
+        (λ entries. Accepts D.answers_after end.old (called call.entry) entries.items end.new)
+        (λ fault. Refuses end.old (called call.entry) fault end.new) }
+{
+    match call {
+        Call::Start(now) => end.start(now),
+        Call::Tick(now) => end.tick(now),
+        Call::Bytes(octets) => end.bytes(octets),
+        Call::Linktest => end.linktest(),
+        Call::Lost => end.lost(),
+    }
+}
+
+/// Makes a call of the end, and puts out what it gave.
+pub fn hand<L: Link, W: Sink, D: TurnDesk>(
+    link: &mut L,
+    log: &mut W,
+    end: &mut End<D>,
+    call: Call<'_>,
+    count: &mut u64,
+) -> Result<(), Stop>
+    requires { IsReady end.old }
+    ensures { Handed D.answers_after result end.old (called call.entry) end.new (W.state log.old) (W.state log.new)
+        (L.told link.old) (L.told link.new) nothing_heard count.old count.new }
+{
+    let answer = make(end, call);
+    match answer {
+        Ok(entries) => deliver(link, log, &entries, count),
+        Err(_) => Err(Stop::Memory),
+    }
 }
 
 /// Asks the clock: the link's moment.
@@ -82,66 +111,7 @@ fn tick<L: Link, W: Sink, D: TurnDesk>(
         (L.told link.old) (L.told link.new) (moment_heard now) count.old count.new }
 {
     let now = now(link);
-    let answer = end.tick(now);
-    match answer {
-        Ok(entries) => deliver(link, log, &entries, count),
-        Err(_) => Err(Stop::Memory),
-    }
-}
-
-/// Tells the end the octets that came.
-fn hand_octets<L: Link, W: Sink, D: TurnDesk>(
-    link: &mut L,
-    log: &mut W,
-    end: &mut End<D>,
-    octets: &[u8],
-    count: &mut u64,
-) -> Result<(), Stop>
-    requires { IsReady end.old }
-    ensures { Handed D.answers_after result end.old (bytes octets.now) end.new (W.state log.old) (W.state log.new)
-        (L.told link.old) (L.told link.new) nothing_heard count.old count.new }
-{
-    let answer = end.bytes(octets);
-    match answer {
-        Ok(entries) => deliver(link, log, &entries, count),
-        Err(_) => Err(Stop::Memory),
-    }
-}
-
-/// Tells the end that the connection was lost.
-fn hand_lost<L: Link, W: Sink, D: TurnDesk>(
-    link: &mut L,
-    log: &mut W,
-    end: &mut End<D>,
-    count: &mut u64,
-) -> Result<(), Stop>
-    requires { IsReady end.old }
-    ensures { Handed D.answers_after result end.old lost end.new (W.state log.old) (W.state log.new)
-        (L.told link.old) (L.told link.new) nothing_heard count.old count.new }
-{
-    let answer = end.lost();
-    match answer {
-        Ok(entries) => deliver(link, log, &entries, count),
-        Err(_) => Err(Stop::Memory),
-    }
-}
-
-/// Asks by Linktest.req whether the other end is still there.
-fn hand_linktest<L: Link, W: Sink, D: TurnDesk>(
-    link: &mut L,
-    log: &mut W,
-    end: &mut End<D>,
-    count: &mut u64,
-) -> Result<(), Stop>
-    requires { IsReady end.old }
-    ensures { Handed D.answers_after result end.old linktest end.new (W.state log.old) (W.state log.new)
-        (L.told link.old) (L.told link.new) nothing_heard count.old count.new }
-{
-    let answer = end.linktest();
-    match answer {
-        Ok(entries) => deliver(link, log, &entries, count),
-        Err(_) => Err(Stop::Memory),
-    }
+    hand(link, log, end, Call::Tick(now), count)
 }
 
 /// Tells the end a step.
@@ -193,16 +163,16 @@ fn take_step<L: Link, W: Sink, D: TurnDesk>(
     }
 }
 
-/// Tells the end the moment, and then, unless that ended the connection, the octets that came.
-fn hear_octets<L: Link, W: Sink, D: TurnDesk>(
+/// Tells the end the moment, and then, unless that ended the connection, what a wait answered.
+fn hear<L: Link, W: Sink, D: TurnDesk>(
     link: &mut L,
     log: &mut W,
     end: &mut End<D>,
-    octets: &[u8],
+    call: Call<'_>,
     count: &mut u64,
 ) -> Result<(), Stop>
     requires { IsReady end.old }
-    ensures { Followed D.answers_after result end.old (bytes octets.now) end.new (W.state log.old) (W.state log.new)
+    ensures { Followed D.answers_after result end.old (called call.entry) end.new (W.state log.old) (W.state log.new)
         (L.told link.old) (L.told link.new) count.old count.new }
 {
     match tick(link, log, end, count) {
@@ -210,30 +180,7 @@ fn hear_octets<L: Link, W: Sink, D: TurnDesk>(
             if has_gone(end) {
                 Ok(())
             } else {
-                hand_octets(link, log, end, octets, count)
-            }
-        }
-        Err(stop) => Err(stop),
-    }
-}
-
-/// Tells the end the moment, and then, unless that ended the connection, that it was lost.
-fn hear_closed<L: Link, W: Sink, D: TurnDesk>(
-    link: &mut L,
-    log: &mut W,
-    end: &mut End<D>,
-    count: &mut u64,
-) -> Result<(), Stop>
-    requires { IsReady end.old }
-    ensures { Followed D.answers_after result end.old lost end.new (W.state log.old) (W.state log.new)
-        (L.told link.old) (L.told link.new) count.old count.new }
-{
-    match tick(link, log, end, count) {
-        Ok(()) => {
-            if has_gone(end) {
-                Ok(())
-            } else {
-                hand_lost(link, log, end, count)
+                hand(link, log, end, call, count)
             }
         }
         Err(stop) => Err(stop),
@@ -279,8 +226,8 @@ fn heed<L: Link, W: Sink, D: TurnDesk>(
 {
     match got {
         Got::Quiet => Ok(()),
-        Got::Octets(length) => hear_octets(link, log, end, &into[..length], count),
-        Got::Closed => hear_closed(link, log, end, count),
+        Got::Octets(length) => hear(link, log, end, Call::Bytes(&into[..length]), count),
+        Got::Closed => hear(link, log, end, Call::Lost, count),
     }
 }
 
@@ -347,7 +294,7 @@ fn continue_turn<L: Link, W: Sink, D: TurnDesk>(
     if step_is_due(end, script, progress.place) {
         take_step(link, log, end, script, progress)
     } else if test_is_due(end, pause) {
-        hand_linktest(link, log, end, &mut progress.entries)
+        hand(link, log, end, Call::Linktest, &mut progress.entries)
     } else {
         wait_once(link, log, end, pause, into, &mut progress.entries)
     }

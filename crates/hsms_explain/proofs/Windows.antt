@@ -1,5 +1,5 @@
 -- Which lines come to the page.
-use Rattle.std.proofs.Common.{◌≡◌, ◌≤◌, ◌<◌, ◌+◌, ◌++◌, ℕ, Bool, true, false, List, [], refl, sym, append_assoc}
+use Rattle.std.proofs.Common.{◌≡◌, ◌≤◌, ◌<◌, ◌+◌, ◌-◌, ◌++◌, ◌∙◌, ℕ, zero, suc, Bool, true, false, List, [], refl, sym, ap, arith, append_assoc}
 use Rattle.std.proofs.lemmas.Bool.{lt-ltb, le-ltb}
 use Rattle.hsms_explain.specs.declared.note.Note.{Note}
 use Rattle.hsms_explain.specs.declared.page.Page.{Page}
@@ -20,6 +20,17 @@ follows page last number le = adds_is page page [] _ (sym (none_left last number
 
 pub leaves_out : (old new : Page) (last number : ℕ) → last + 1 < number → Adds old new gap_text → Adds old new (left_out last number)
 leaves_out old new last number lt adds = adds_is old new gap_text _ (sym (some_left last number lt)) adds
+
+-- up to the line before a line, of which 0 has none
+number_after : (last number : ℕ) → left_out last (number - 1 + 1) ≡ left_out last number
+number_after last zero = rw (le-ltb (last + 1) 1 (omega arith), le-ltb (last + 1) 0 (omega arith)) refl
+number_after last (suc number) =
+    let same : suc number - 1 + 1 ≡ suc number = omega arith in
+    ap (λ n. left_out last n) same
+
+pub left_before : (old new : Page) (last number to : ℕ) → to ≡ number - 1 → Adds old new (left_out last (to + 1)) → Adds old new (left_out last number)
+left_before old new last number to is adds =
+    adds_is old new (left_out last (to + 1)) _ (ap (λ n. left_out last (n + 1)) is ∙ number_after last number) adds
 
 pub next_told : (old mid new : Page) (last : ℕ) (told : Told) (notes : List Note) → Adds old mid (left_out last told.number)
     → (words : List ℕ) × LineTold told notes words × Adds mid new words → TellsNext last old new told notes

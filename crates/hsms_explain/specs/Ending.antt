@@ -1,13 +1,13 @@
 -- The verdict, as the last thing that is told.
 use Rattle.std.specs.Prelude.{ℕ, List, ◌++◌, codes, decimal}
 use Rattle.hsms_log.specs.declared.verdict.Summary.{Summary}
-use Rattle.hsms_log.specs.declared.verdict.Why.TheVariants.{Unreadable, Broken}
+use Rattle.hsms_log.specs.declared.verdict.Why.{Why}
 use Rattle.hsms_log.specs.declared.verdict.Verdict.{Verdict}
 use Rattle.hsms_log.specs.declared.verdict.Verdict.TheVariants.{Pass, Fail}
-use Rattle.hsms_machine.specs.declared.rule.Rule.{Rule}
 use Rattle.hsms_options.specs.declared.excerpt.Telling.{Telling}
 use Rattle.hsms_options.specs.declared.excerpt.Telling.TheVariants.{Text, Json, Html}
-use Rattle.hsms_lines.specs.Verdict.{rule_name, verdict_line_of}
+use Rattle.hsms_lines.specs.Verdict.{verdict_line_of}
+use Rattle.hsms_explain.specs.Words.{why_name}
 
 -- ---- as an object of JSON (RFC 8259), in a line
 
@@ -28,22 +28,15 @@ pass_object_of s =
     codes "{\"type\":\"verdict\",\"verdict\":\"pass\"" ++ flow_members_of s ++ loss_members_of s
     ++ member_of (codes ",\"waiting\":") s.waiting ++ codes "}\n"
 
--- the log fails at a line that can't be read
-abbrev pub unreadable_object_of : ℕ → List ℕ
-unreadable_object_of line =
+-- the log fails at a line, which breaks this rule or can't be read
+abbrev pub fail_object_of : ℕ → Why → List ℕ
+fail_object_of line why =
     codes "{\"type\":\"verdict\",\"verdict\":\"fail\"" ++ member_of (codes ",\"line\":") line
-    ++ codes ",\"rule\":\"unreadable\"}\n"
-
--- the log fails at a line that breaks a rule
-abbrev pub broken_object_of : ℕ → Rule → List ℕ
-broken_object_of line rule =
-    codes "{\"type\":\"verdict\",\"verdict\":\"fail\"" ++ member_of (codes ",\"line\":") line
-    ++ codes ",\"rule\":\"" ++ rule_name rule ++ codes "\"}\n"
+    ++ codes ",\"rule\":\"" ++ why_name why ++ codes "\"}\n"
 
 abbrev pub verdict_object_of : Verdict → List ℕ
 verdict_object_of (Pass summary) = pass_object_of summary
-verdict_object_of (Fail line Unreadable) = unreadable_object_of line
-verdict_object_of (Fail line (Broken rule)) = broken_object_of line rule
+verdict_object_of (Fail line why) = fail_object_of line why
 
 -- ---- as a paragraph of HTML, in which the page ends
 

@@ -62,13 +62,12 @@ impl Model for Course {
 }
 
 impl Course {
-    ghost use Rattle.std.specs.Prelude.{◌≡◌, ◌+◌, ◌-◌, ◌^◌, min, [], Some, None, IfOk, OnOk, IfSome, IfNone, IsSome, length};
+    ghost use Rattle.std.specs.Prelude.{◌≡◌, ◌+◌, ◌-◌, ◌^◌, min, [], Some, None, IfOk, OnOk, IfSome, IfNone, IsSome};
     ghost use Rattle.hsms_machine.specs.declared.entry.Event.{Event};
     ghost use Rattle.hsms_machine.specs.declared.rule.Rule.{Rule};
     ghost use Rattle.hsms_machine.specs.declared.rule.Rule.TheVariants.{SystemInUse, T3Overdue};
     ghost use Rattle.hsms_machine.specs.View.{IsBrokenAfter, IfLawful, waiting_of};
     ghost use Rattle.hsms_machine.specs.Placed.{IsNotInUse};
-    ghost use Rattle.hsms_machine.specs.Repair.{remedy_of};
     ghost use Rattle.hsms_explain.specs.Course.{HasCourse, CourseLeadsTo, Closes, Concerns, JudgesAs};
 
     /// The course of a log of which the first line was read.

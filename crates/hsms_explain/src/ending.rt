@@ -1,11 +1,11 @@
 //! The verdict, as the last thing that is told.
 
 ghost use Rattle.std.specs.Prelude.{◌≡◌, ◌++◌, IfOk, OnOk, string_bytes};
-ghost use Rattle.hsms_explain.specs.Ending.{broken_object_of, ending_of, flow_members_of, loss_members_of, mark_of, member_of, page_end_of, pass_object_of, unreadable_object_of, verdict_object_of};
+ghost use Rattle.hsms_explain.specs.Ending.{ending_of, fail_object_of, flow_members_of, loss_members_of, mark_of, member_of, page_end_of, pass_object_of, verdict_object_of};
 
-use hsms_lines::{rule_name, verdict_line};
+use crate::words::name_of;
+use hsms_lines::verdict_line;
 use hsms_log::{Summary, Verdict, Why};
-use hsms_machine::Rule;
 use hsms_options::Telling;
 use std::alloc::{AllocError, Global};
 
@@ -26,14 +26,7 @@ fn verdict_object(alloc: Global, verdict: Verdict) -> Result<String, AllocError>
 {
     match verdict {
         Verdict::Pass(summary) => pass_object(alloc, summary),
-        Verdict::Fail {
-            line,
-            why: Why::Unreadable,
-        } => unreadable_object(alloc, line),
-        Verdict::Fail {
-            line,
-            why: Why::Broken(rule),
-        } => broken_object(alloc, line, rule),
+        Verdict::Fail { line, why } => fail_object(alloc, line, why),
     }
 }
 
@@ -65,22 +58,13 @@ fn push_losses(object: &mut String, summary: Summary) -> Result<(), AllocError>
     Ok(())
 }
 
-fn unreadable_object(alloc: Global, line: u64) -> Result<String, AllocError>
-    ensures { IfOk result (λ object. string_bytes object ≡ unreadable_object_of line) }
-{
-    let mut object = String::from_str(alloc, "{\"type\":\"verdict\",\"verdict\":\"fail\"")?;
-    push_member(&mut object, ",\"line\":", line)?;
-    object.push_str(",\"rule\":\"unreadable\"}\n")?;
-    Ok(object)
-}
-
-fn broken_object(alloc: Global, line: u64, rule: Rule) -> Result<String, AllocError>
-    ensures { IfOk result (λ object. string_bytes object ≡ broken_object_of line rule) }
+fn fail_object(alloc: Global, line: u64, why: Why) -> Result<String, AllocError>
+    ensures { IfOk result (λ object. string_bytes object ≡ fail_object_of line why) }
 {
     let mut object = String::from_str(alloc, "{\"type\":\"verdict\",\"verdict\":\"fail\"")?;
     push_member(&mut object, ",\"line\":", line)?;
     object.push_str(",\"rule\":\"")?;
-    object.push_str(rule_name(rule))?;
+    object.push_str(name_of(why))?;
     object.push_str("\"}\n")?;
     Ok(object)
 }

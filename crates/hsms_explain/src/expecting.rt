@@ -17,7 +17,8 @@ pub struct Function {
 }
 
 impl Function {
-    fn of(header: Header) -> Function {
+    /// Those of a data message.
+    pub fn of(header: Header) -> Function {
         Function {
             stream: header.stream(),
             function: header.function(),
@@ -93,7 +94,7 @@ impl Expected {
 /// What is known of why a step breaks a rule, whose frame has this text.
 pub fn expected_of(known: &Known, step: Step, text: &[u8], rule: Rule) -> Option<Expected> {
     if rule == Rule::Ended {
-        return over_since(known.past.over);
+        return known.past.over.map(|line| Expected::Over(line));
     }
     let What::Frame(mark, header) = step.what else {
         return None;
@@ -104,13 +105,6 @@ pub fn expected_of(known: &Known, step: Step, text: &[u8], rule: Rule) -> Option
         Rule::Text => text_fault(known.settings, text),
         Rule::NoTransaction => transaction(known, mark, header),
         _ => None,
-    }
-}
-
-fn over_since(over: Option<u64>) -> Option<Expected> {
-    match over {
-        Some(line) => Some(Expected::Over(line)),
-        None => None,
     }
 }
 

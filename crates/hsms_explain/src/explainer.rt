@@ -13,7 +13,7 @@ pub struct Explainer {
     held: Vec<u8>,
     stage: Stage,
     octets: Vec<u8>,
-    report: Report,
+    pub report: Report,
 }
 
 // Written out: a proof over one that is dropped has one step for it, not one for each of its parts.
@@ -38,8 +38,7 @@ impl Explainer {
     ghost use Rattle.hsms_log.specs.Verdict.{Judges, LinesJudged};
     ghost use Rattle.hsms_options.specs.declared.excerpt.Telling.TheVariants.{Text};
     ghost use Rattle.hsms_explain.specs.First.{IsOfFirst, KeepsShown, ShowsWith};
-    ghost use Rattle.hsms_explain.specs.Heard.{HasHeard, ToldAfter, limit_at};
-    ghost use Rattle.hsms_explain.specs.Page.{HasTold};
+    ghost use Rattle.hsms_explain.specs.Heard.{HasHeard, ToldAfter};
 
     /// What is told of a log of which nothing was read: nothing.
     pub fn new(alloc: Global, excerpt: Excerpt) -> Result<Explainer, AllocError>
@@ -159,43 +158,8 @@ impl Explainer {
             → IsOfFirst result self.now.report.tally.first }
     {
         match &self.stage {
-            Stage::Unjudged(_) => self.report.unjudged_verdict(),
-            Stage::Judged(known) => self.report.verdict(known.course.waiting() as u64),
+            Stage::Unjudged(_) => self.report.tally.unjudged_verdict(),
+            Stage::Judged(known) => self.report.tally.verdict(known.course.waiting() as u64),
         }
-    }
-
-    /// Puts what is told together, so that it can be written.
-    pub fn gather(&mut self)
-        ensures gathered { self.new.report.page.block ≡ [] }
-        ensures page { (text : List ℕ) → HasTold self.old.report.page text → HasTold self.new.report.page text }
-        ensures window { self.new.report.window ≡ self.old.report.window }
-        ensures groups { self.new.report.groups ≡ self.old.report.groups }
-        ensures tally { self.new.report.tally ≡ self.old.report.tally }
-        ensures heard { (text : List ℕ) → HasHeard self.old text → HasHeard self.new text }
-    {
-        self.report.gather();
-    }
-
-    /// What was gathered and not let go.
-    ///
-    /// # Errors
-    ///
-    /// Where memory was refused to it.
-    pub fn told(&self) -> Result<&[u8], AllocError>
-        ensures { IfOk result (λ octets. (text : List ℕ) → self.now.report.page.block ≡ [] → HasTold self.now.report.page text
-            → octets.now ≡ text) }
-    {
-        self.report.told()
-    }
-
-    /// Lets go what is told.
-    pub fn let_go(&mut self)
-        ensures page { self.old.report.page.block ≡ [] → HasTold self.new.report.page [] }
-        ensures window { self.new.report.window ≡ self.old.report.window }
-        ensures groups { self.new.report.groups ≡ self.old.report.groups }
-        ensures tally { self.new.report.tally ≡ self.old.report.tally }
-        ensures heard { (text : List ℕ) → HasHeard self.old text → HasHeard self.new text }
-    {
-        self.report.let_go();
     }
 }

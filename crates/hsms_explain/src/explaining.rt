@@ -115,9 +115,9 @@ fn write_told<W: Sink>(sink: &mut W, explainer: &mut Explainer) -> Result<(), To
     ensures fault { IfErr result IsOfTelling }
     ensures writes { CountsFailure (codes "Write") result (W.state sink.old).failures (W.state sink.new).failures }
 {
-    explainer.gather();
-    let told = explainer.told()?;
+    explainer.report.page.gather();
+    let told = explainer.report.page.octets()?;
     put(sink, told)?;
-    explainer.let_go();
+    explainer.report.page.clear();
     Ok(())
 }

@@ -5,7 +5,7 @@
 
 use crate::alike::{Group, Groups, MOST};
 use crate::escaping::{lay_octets, lay_text, lay_words};
-use crate::expecting::{Expected, Function};
+use crate::expecting::Function;
 use crate::links::Links;
 use crate::moment::Moment;
 use crate::note::{Failing, Note, UNREADABLE};
@@ -15,7 +15,7 @@ use crate::style::STYLE;
 use crate::tally::Tally;
 use crate::text::behind_time;
 use crate::told::{Carried, Told};
-use crate::words::{Alike, Closing, Concern, Gap, GoingOn, Unjudged, name_of};
+use crate::words::{Alike, Concern, Gap, System, Unjudged, name_of};
 use hsms_frame::{Header, Kind, kind};
 use hsms_log::{Step, What, Why};
 use hsms_machine::{GREATEST_DEPTH, Mark, Remedy, Role, Rule, Settings};
@@ -38,19 +38,23 @@ fn put(page: &mut Page, markup: &str) {
     page.lay(markup.as_bytes());
 }
 
+// Writes markup, and a number behind it.
+fn put_number(page: &mut Page, markup: &str, number: u64) {
+    put(page, markup);
+    page.lay_number(number, 0);
+}
+
 /// Writes the head of the page, and begins the lines.
 pub fn begin(page: &mut Page, utc: bool) {
     put(page, HEAD);
     put(page, STYLE);
     put(page, BODY);
-    put(
-        page,
-        if utc {
-            "<main class=\"utc\">\n"
-        } else {
-            "<main>\n"
-        },
-    );
+    let main = if utc {
+        "<main class=\"utc\">\n"
+    } else {
+        "<main>\n"
+    };
+    put(page, main);
 }
 
 /// Writes above the ladder which ends these are: left the one whose log it is.
@@ -93,24 +97,13 @@ pub fn write_line(
 fn begin_row(page: &mut Page, told: Told<'_, '_>, notes: &[Note]) {
     put(page, "<div class=\"row ");
     put(page, class_of(told.carried));
-    if notes.iter().any(is_failure) {
+    if notes.iter().any(|note| !matches!(note, Note::Closes(_))) {
         put(page, " bad");
     }
-    put(page, "\" id=\"l");
-    page.lay_number(told.number, 0);
-    put(page, "\"><a class=\"n\" href=\"#l");
-    page.lay_number(told.number, 0);
-    put(page, "\">");
-    page.lay_number(told.number, 0);
+    put_number(page, "\" id=\"l", told.number);
+    put_number(page, "\"><a class=\"n\" href=\"#l", told.number);
+    put_number(page, "\">", told.number);
     put(page, "</a>");
-}
-
-// Whether a note is that of a failure, told whole or by another one.
-fn is_failure(note: &Note) -> bool {
-    match note {
-        Note::Fails(_) | Note::FailsAlike(_) => true,
-        Note::Closes(_) => false,
-    }
 }
 
 // How the row of a line is drawn.
@@ -154,14 +147,7 @@ fn write_said(
 ) -> Result<(), AllocError> {
     match told.carried {
         Carried::Entry(step, text) => {
-            write_time(
-                alloc,
-                page,
-                Moment {
-                    time: step.time,
-                    utc,
-                },
-            )?;
+            write_time(alloc, page, step.time, utc)?;
             write_entry(alloc, page, told, step, text)
         }
         Carried::Nothing | Carried::Unreadable => {
@@ -170,9 +156,9 @@ fn write_said(
     }
 }
 
-fn write_time(alloc: Global, page: &mut Page, moment: Moment) -> Result<(), AllocError> {
+fn write_time(alloc: Global, page: &mut Page, time: u64, utc: bool) -> Result<(), AllocError> {
     put(page, "<span>");
-    lay_words(alloc, page, &moment)?;
+    lay_words(alloc, page, &Moment { time, utc })?;
     put(page, "</span>");
     Ok(())
 }
@@ -235,76 +221,61 @@ fn write_label(
     header: Header,
     line: &str,
 ) -> Result<(), AllocError> {
-    let system = header.system;
     put(page, "<b>");
     if is_data(header) {
-        lay_words(alloc, page, &Label { header })?;
+        write_data(alloc, page, header)?;
     } else {
         write_control(page, line);
     }
     put(page, "</b> <i>");
-    let system = format!(in alloc; "{system:08x}")?;
-    lay_text(page, system.as_bytes());
+    lay_words(alloc, page, &System(header.system))?;
     put(page, "</i>");
+    Ok(())
+}
+
+// Writes the stream and the function of data, and whether it asks for a reply.
+fn write_data(alloc: Global, page: &mut Page, header: Header) -> Result<(), AllocError> {
+    lay_words(alloc, page, &Function::of(header))?;
+    if header.wait() {
+        put(page, " W");
+    }
     Ok(())
 }
 
 // Writes what a control message is: the first word of its line, and what stands behind its system bytes.
 fn write_control(page: &mut Page, line: &str) {
-    for (place, word) in line.split(' ').take(4).enumerate() {
-        if place == 0 {
-            lay_text(page, word.as_bytes());
-        }
-        if place == 3 {
-            put(page, " ");
-            lay_text(page, word.as_bytes());
-        }
+    let mut words = line.split(' ');
+    lay_text(page, words.next().unwrap_or("").as_bytes());
+    if let Some(word) = words.nth(2) {
+        put(page, " ");
+        lay_text(page, word.as_bytes());
     }
 }
 
-// The stream and the function of data, and whether it asks for a reply.
-#[derive(Clone, Copy)]
-struct Label {
-    header: Header,
-}
-
-impl fmt::Display for Label {
-    fn fmt<W: fmt::Write>(&self, f: &mut fmt::Formatter<W>) -> fmt::Result {
-        let function = Function {
-            stream: self.header.stream(),
-            function: self.header.function(),
-        };
-        if self.header.wait() {
-            write!(f, "{function} W")
-        } else {
-            write!(f, "{function}")
-        }
-    }
-}
-
-// Writes words, as a link to the line `to`, and with the id to which the link `reply` of the line `closed` leads, where
-// there are such lines.
+// Writes words in a paragraph behind its front, as a link to the line `to`, and with the id to which the link `reply` of
+// the line `closed` leads, where there are such lines.
 fn write_link<D: fmt::Display>(
     alloc: Global,
     page: &mut Page,
+    front: &str,
     to: Option<u64>,
     closed: Option<u64>,
     words: &D,
 ) -> Result<(), AllocError> {
+    put(page, front);
     put(page, "<a");
-    write_place(page, " id=\"r", closed);
-    write_place(page, " href=\"#l", to);
+    write_line_number(page, " id=\"r", closed);
+    write_line_number(page, " href=\"#l", to);
     put(page, ">");
     lay_words(alloc, page, words)?;
-    put(page, "</a>");
+    put(page, "</a></p>");
     Ok(())
 }
 
 // Writes an attribute that ends with the number of a line, if there is one.
-fn write_place(page: &mut Page, front: &str, line: Option<u64>) {
+fn write_line_number(page: &mut Page, front: &str, line: Option<u64>) {
     if let Some(line) = line {
-        put(page, front);
-        page.lay_number(line, 0);
+        put_number(page, front, line);
         put(page, "\"");
     }
 }
@@ -318,22 +289,11 @@ fn write_closings(
 ) -> Result<(), AllocError> {
     for note in notes {
         if let Note::Closes(closing) = note {
-            write_closing(alloc, page, links, *closing)?;
+            let closed = links.close(closing.line);
+            let to = links.told(closing.line);
+            write_link(alloc, page, "<p class=\"at\">", to, closed, closing)?;
         }
     }
-    Ok(())
-}
-
-fn write_closing(
-    alloc: Global,
-    page: &mut Page,
-    links: &mut Links,
-    closing: Closing,
-) -> Result<(), AllocError> {
-    let closed = links.close(closing.line);
-    put(page, "<p class=\"at\">");
-    write_link(alloc, page, links.told(closing.line), closed, &closing)?;
-    put(page, "</p>");
     Ok(())
 }
 
@@ -346,8 +306,8 @@ fn write_ahead(
 ) -> Result<(), AllocError> {
     if let Carried::Entry(step, _) = told.carried {
         if opens(step.what, notes) && links.open(told.number)? {
-            write_place(page, "<p class=\"at\"><a href=\"#r", Some(told.number));
-            put(page, ">reply</a></p>");
+            put_number(page, "<p class=\"at\"><a href=\"#r", told.number);
+            put(page, "\">reply</a></p>");
         }
         if matches!(step.what, What::Up) {
             write_open(page, links);
@@ -398,10 +358,9 @@ fn write_open(page: &mut Page, links: &Links) {
     }
     put(page, "<p class=\"open\">Not closed by a line here:");
     for line in lines {
-        write_place(page, " <a id=\"r", Some(*line));
-        write_place(page, " href=\"#l", links.told(*line));
-        put(page, ">");
-        page.lay_number(*line, 0);
+        write_line_number(page, " <a id=\"r", Some(*line));
+        write_line_number(page, " href=\"#l", links.told(*line));
+        put_number(page, ">", *line);
         put(page, "</a>");
     }
     put(page, "</p>\n");
@@ -427,9 +386,9 @@ fn write_alike(
     links: &Links,
     alike: &Alike,
 ) -> Result<(), AllocError> {
-    put(page, "<div class=\"f\"><p>");
-    write_link(alloc, page, links.told(alike.line), None, alike)?;
-    put(page, "</p></div>");
+    let to = links.told(alike.line);
+    write_link(alloc, page, "<div class=\"f\"><p>", to, None, alike)?;
+    put(page, "</div>");
     Ok(())
 }
 
@@ -443,11 +402,12 @@ fn write_failing(
     write_rule(page, name_of(failing.why), failing.sentence);
     write_concern(alloc, page, links, failing)?;
     if let Some(expected) = failing.expected {
-        write_expected(alloc, page, links, expected)?;
+        let to = failing.expected_line().and_then(|line| links.told(line));
+        write_link(alloc, page, "<p>", to, None, &expected)?;
     }
-    if let Some(remedy) = failing.remedy {
+    if let Some(going_on) = failing.going_on(utc) {
         put(page, "<p>");
-        lay_words(alloc, page, &GoingOn { remedy, utc })?;
+        lay_words(alloc, page, &going_on)?;
         put(page, "</p>");
     }
     put(page, "</div>");
@@ -476,39 +436,19 @@ fn write_concern(
         Some(Remedy::ExpireFirst(_, _)) => links.close(line),
         _ => None,
     };
-    put(page, "<p>");
-    write_link(alloc, page, links.told(line), closed, &Concern { line })?;
-    put(page, "</p>");
-    Ok(())
-}
-
-fn write_expected(
-    alloc: Global,
-    page: &mut Page,
-    links: &Links,
-    expected: Expected,
-) -> Result<(), AllocError> {
-    let to = match expected.line() {
-        Some(line) => links.told(line),
-        None => None,
-    };
-    put(page, "<p>");
-    write_link(alloc, page, to, None, &expected)?;
-    put(page, "</p>");
-    Ok(())
+    let to = links.told(line);
+    write_link(alloc, page, "<p>", to, closed, &Concern { line })
 }
 
 /// Writes that lines are left out.
 pub fn write_gap(page: &mut Page, gap: Gap) {
     put(page, "<div class=\"gap\">");
     if gap.from < gap.to {
-        put(page, "lines ");
-        page.lay_number(gap.from, 0);
-        put(page, " to ");
+        put_number(page, "lines ", gap.from);
+        put_number(page, " to ", gap.to);
     } else {
-        put(page, "line ");
+        put_number(page, "line ", gap.to);
     }
-    page.lay_number(gap.to, 0);
     put(page, " left out</div>\n");
 }
 
@@ -542,19 +482,15 @@ pub fn write_groups(page: &mut Page, groups: &Groups) {
 }
 
 fn write_group(page: &mut Page, group: Group) {
-    put(page, "<li><a href=\"#l");
-    page.lay_number(group.first, 0);
+    put_number(page, "<li><a href=\"#l", group.first);
     put(page, "\"><b>");
     put(page, name_of(group.why));
-    put(page, "</b> line ");
-    page.lay_number(group.first, 0);
+    put_number(page, "</b> line ", group.first);
     put(page, "</a>: ");
     lay_text(page, matter_of(group.why).as_bytes());
     if group.count > 1 {
-        put(page, "; ");
-        page.lay_number(group.count - 1, 0);
-        put(page, " more like it, up to line ");
-        page.lay_number(group.last, 0);
+        put_number(page, "; ", group.count - 1);
+        put_number(page, " more like it, up to line ", group.last);
     }
     put(page, "</li>\n");
 }
@@ -570,9 +506,8 @@ fn matter_of(why: Why) -> &'static str {
 
 /// Writes how often each rule was broken.
 pub fn write_failures(alloc: Global, page: &mut Page, tally: &Tally) -> Result<(), AllocError> {
-    let words = tally.words(alloc)?;
     put(page, "<p class=\"counts\">");
-    lay_text(page, words.as_bytes());
+    lay_words(alloc, page, tally)?;
     put(page, "</p>\n");
     Ok(())
 }
@@ -611,8 +546,7 @@ fn write_outcome(
     }
     put(page, " W ");
     put(page, outcome.way());
-    put(page, "</td><td>");
-    page.lay_number(outcome.counts.opened, 0);
+    put_number(page, "</td><td>", outcome.counts.opened);
     put(page, "</td>");
     write_counts(page, outcome);
     match outcome.times {
@@ -624,19 +558,10 @@ fn write_outcome(
 }
 
 fn write_counts(page: &mut Page, outcome: Outcome) {
-    let counts = outcome.counts;
-    let cells = [
-        counts.answered,
-        counts.aborted,
-        counts.expired,
-        counts.rejected,
-        outcome.ended(),
-        outcome.waiting,
-    ];
-    for cell in cells {
+    for (_, count) in outcome.fates() {
         put(page, "<td>");
-        if cell > 0 {
-            page.lay_number(cell, 0);
+        if count > 0 {
+            page.lay_number(count, 0);
         }
         put(page, "</td>");
     }
@@ -644,15 +569,12 @@ fn write_counts(page: &mut Page, outcome: Outcome) {
 
 fn write_times(page: &mut Page, links: &Links, times: Times) {
     for time in [times.least, times.median, times.most] {
-        put(page, "<td>");
-        page.lay_number(time, 0);
+        put_number(page, "<td>", time);
         put(page, "</td>");
     }
-    put(page, "<td>");
-    page.lay_number(times.greatest, 0);
+    put_number(page, "<td>", times.greatest);
     put(page, " (<a");
-    write_place(page, " href=\"#l", links.told(times.line));
-    put(page, ">line ");
-    page.lay_number(times.line, 0);
+    write_line_number(page, " href=\"#l", links.told(times.line));
+    put_number(page, ">line ", times.line);
     put(page, "</a>)</td>");
 }

@@ -1,18 +1,18 @@
 //! What is told, as JSON (RFC 8259): an object a line.
 
-use crate::alike::Groups;
-use crate::expecting::{Expected, Function};
+use crate::expecting::Expected;
 use crate::moment::Moment;
 use crate::note::{Failing, Note};
 use crate::page::Page;
-use crate::primaries::{Outcome, Primaries, Times};
-use crate::replies::Counts;
+use crate::primaries::Outcome;
 use crate::tally::Tally;
 use crate::told::{Carried, Told};
-use crate::words::{Alike, Closing, Gap, GoingOn, Put, Rest, Unjudged, name_of, word, word_of};
+use crate::words::{
+    Alike, Closing, Gap, GoingOn, Put, Rest, System, Unjudged, name_of, word, word_of,
+};
 use hsms_frame::{Header, Kind, kind};
 use hsms_log::{Step, What};
-use hsms_machine::{Cause, GREATEST_DEPTH, Mark, Remedy};
+use hsms_machine::{Cause, GREATEST_DEPTH, Mark};
 use serde::{Described, Serialize, Serializer};
 use std::alloc::{AllocError, Global};
 use std::fmt;
@@ -29,10 +29,9 @@ enum Member<'a> {
     Number(u64),
     Truth(bool),
     Text(&'a str),
-    Expected(Expected),
-    Remedy(GoingOn),
-    Put(Put),
-    Unjudged(Unjudged),
+    Expected(Option<Expected>),
+    Remedy(Option<GoingOn>),
+    Put(Option<Put>),
     Rules(&'a Tally),
 }
 
@@ -74,7 +73,6 @@ impl Member<'_> {
             Member::Expected(words) => send_words(out, name, words),
             Member::Remedy(words) => send_words(out, name, words),
             Member::Put(words) => send_words(out, name, words),
-            Member::Unjudged(words) => send_words(out, name, words),
             Member::Rules(tally) => send_rules(out, name, tally),
         }
     }
@@ -82,20 +80,17 @@ impl Member<'_> {
 
 // A line of the log, with what is noted of it.
 #[derive(Clone, Copy)]
-struct LineObject<'s, 'n> {
-    number: u64,
-    entry: Option<Step>,
+struct LineObject<'a> {
+    told: Told<'a, 'a>,
     // Of a frame the line in which `hsms show` shows it, of a line that carries no entry its text.
-    shown: &'s str,
-    // Whether its frame has a text.
-    has_text: bool,
-    notes: &'n [Note],
+    shown: &'a str,
+    notes: &'a [Note],
     utc: bool,
 }
 
-impl Described for LineObject<'_, '_> {}
+impl Described for LineObject<'_> {}
 
-impl Serialize for LineObject<'_, '_> {
+impl Serialize for LineObject<'_> {
     fn serialize<S: Serializer>(&self, out: &mut S) -> Result<(), S::Error> {
         out.begin_map(None)?;
         self.send_line(out)?;
@@ -104,22 +99,26 @@ impl Serialize for LineObject<'_, '_> {
     }
 }
 
-impl LineObject<'_, '_> {
+impl LineObject<'_> {
     // Sends what the line is, and what it says.
     fn send_line<S: Serializer>(&self, out: &mut S) -> Result<(), S::Error> {
         send_text(out, "type", "line")?;
-        send_number(out, "line", self.number)?;
-        match self.entry {
-            Some(step) => self.send_entry(out, step),
-            None => send_text(out, "text", self.shown),
+        send_number(out, "line", self.told.number)?;
+        match self.told.carried {
+            Carried::Entry(step, text) => self.send_entry(out, step, text),
+            Carried::Nothing | Carried::Unreadable => send_text(out, "text", self.shown),
         }
     }
 
-    fn send_entry<S: Serializer>(&self, out: &mut S, step: Step) -> Result<(), S::Error> {
-        let Step { time, what } = step;
-        send_time(out, time, self.utc)?;
-        match what {
-            What::Frame(mark, header) => self.send_frame(out, mark, header),
+    fn send_entry<S: Serializer>(
+        &self,
+        out: &mut S,
+        step: Step,
+        text: &[u8],
+    ) -> Result<(), S::Error> {
+        send_time(out, step.time, self.utc)?;
+        match step.what {
+            What::Frame(mark, header) => self.send_frame(out, mark, header, text),
             What::Up => send_text(out, "kind", "up"),
             What::T3(system) => send_expiry(out, system),
             What::Cut(cause) => send_cut(out, cause),
@@ -133,6 +132,7 @@ impl LineObject<'_, '_> {
         out: &mut S,
         mark: Mark,
         header: Header,
+        text: &[u8],
     ) -> Result<(), S::Error> {
         send_text(out, "mark", mark_word(mark))?;
         let mut words = self.shown.splitn(4, ' ');
@@ -142,22 +142,16 @@ impl LineObject<'_, '_> {
         let rest = words.next().unwrap_or("");
         match kind(header) {
             Kind::Primary | Kind::Reply => send_data(out, header, rest),
-            _ => self.send_control(out, header, rest),
+            _ if text.is_empty() => send_numbers(out, header),
+            _ => send_control(out, header, rest),
         }
     }
+}
 
-    fn send_control<S: Serializer>(
-        &self,
-        out: &mut S,
-        header: Header,
-        rest: &str,
-    ) -> Result<(), S::Error> {
-        send_numbers(out, header)?;
-        if !self.has_text {
-            return Ok(());
-        }
-        send_text(out, "octets", rest.rsplit(' ').next().unwrap_or(""))
-    }
+// Sends what a control message that has a text says behind its system bytes.
+fn send_control<S: Serializer>(out: &mut S, header: Header, rest: &str) -> Result<(), S::Error> {
+    send_numbers(out, header)?;
+    send_text(out, "octets", rest.rsplit(' ').next().unwrap_or(""))
 }
 
 fn send_text<S: Serializer>(out: &mut S, name: &str, text: &str) -> Result<(), S::Error> {
@@ -175,13 +169,19 @@ fn send_truth<S: Serializer>(out: &mut S, name: &str, truth: bool) -> Result<(),
     out.bool(truth)
 }
 
+// Sends words, if there are such.
 fn send_words<S: Serializer, D: fmt::Display>(
     out: &mut S,
     name: &str,
-    words: &D,
+    words: &Option<D>,
 ) -> Result<(), S::Error> {
-    out.key(name)?;
-    out.collect_str(words)
+    match words {
+        Some(words) => {
+            out.key(name)?;
+            out.collect_str(words)
+        }
+        None => Ok(()),
+    }
 }
 
 // Sends how often each rule was broken, as an object: by the name of the rule.
@@ -197,19 +197,12 @@ fn send_rules<S: Serializer>(out: &mut S, name: &str, tally: &Tally) -> Result<(
 // Sends the time of an entry, and with `utc` its date.
 fn send_time<S: Serializer>(out: &mut S, time: u64, utc: bool) -> Result<(), S::Error> {
     send_number(out, "time", time)?;
-    match (Moment { time, utc }).date() {
-        Some(date) => {
-            out.key("utc")?;
-            out.collect_str(&date)
-        }
-        None => Ok(()),
-    }
+    send_words(out, "utc", &Moment { time, utc }.date())
 }
 
 fn send_expiry<S: Serializer>(out: &mut S, system: u32) -> Result<(), S::Error> {
     send_text(out, "kind", "t3")?;
-    out.key("system")?;
-    out.collect_str(&System { system })
+    send_words(out, "system", &Some(System(system)))
 }
 
 fn send_cut<S: Serializer>(out: &mut S, cause: Cause) -> Result<(), S::Error> {
@@ -266,19 +259,6 @@ fn send_closing<S: Serializer>(out: &mut S, closing: Closing) -> Result<(), S::E
     send_number(out, "after", after)
 }
 
-// System bytes, as a log has them.
-#[derive(Clone, Copy)]
-struct System {
-    system: u32,
-}
-
-impl fmt::Display for System {
-    fn fmt<W: fmt::Write>(&self, f: &mut fmt::Formatter<W>) -> fmt::Result {
-        let system = self.system;
-        write!(f, "{system:08x}")
-    }
-}
-
 // The failures among the notes of a line.
 #[derive(Clone, Copy)]
 struct Failures<'a> {
@@ -304,58 +284,26 @@ impl Serialize for Failures<'_> {
 
 // Sends a failure that is told whole.
 fn send_failing<S: Serializer>(out: &mut S, failing: &Failing, utc: bool) -> Result<(), S::Error> {
-    Object(&told_whole(failing, utc)).serialize(out)
+    let members = [
+        ("rule", Member::Text(name_of(failing.why))),
+        ("sentence", Member::Text(failing.sentence)),
+        ("concerns", Member::of(failing.concerns)),
+        ("expected", Member::Expected(failing.expected)),
+        ("expected_line", Member::of(failing.expected_line())),
+        ("remedy", Member::Remedy(failing.going_on(utc))),
+        ("put", Member::Put(failing.put())),
+    ];
+    Object(&members).serialize(out)
 }
 
 // Sends a failure that is told by the line of one.
 fn send_alike<S: Serializer>(out: &mut S, alike: &Alike) -> Result<(), S::Error> {
-    Object(&told_alike(alike)).serialize(out)
-}
-
-// A failure that is told whole.
-fn told_whole(failing: &Failing, utc: bool) -> [(&'static str, Member<'static>); 7] {
-    [
-        ("rule", Member::Text(name_of(failing.why))),
-        ("sentence", Member::Text(failing.sentence)),
-        ("concerns", Member::of(failing.concerns)),
-        ("expected", told_expected(failing.expected)),
-        (
-            "expected_line",
-            Member::of(failing.expected.and_then(Expected::line)),
-        ),
-        ("remedy", told_remedy(failing.remedy, utc)),
-        ("put", told_put(failing.remedy)),
-    ]
-}
-
-fn told_expected(expected: Option<Expected>) -> Member<'static> {
-    match expected {
-        Some(expected) => Member::Expected(expected),
-        None => Member::Nothing,
-    }
-}
-
-fn told_remedy(remedy: Option<Remedy>, utc: bool) -> Member<'static> {
-    match remedy {
-        Some(remedy) => Member::Remedy(GoingOn { remedy, utc }),
-        None => Member::Nothing,
-    }
-}
-
-fn told_put(remedy: Option<Remedy>) -> Member<'static> {
-    match remedy.and_then(Put::of) {
-        Some(put) => Member::Put(put),
-        None => Member::Nothing,
-    }
-}
-
-// A failure that is told by the line of one.
-fn told_alike(alike: &Alike) -> [(&'static str, Member<'static>); 3] {
-    [
+    let members = [
         ("rule", Member::Text(name_of(alike.why))),
         ("like", Member::Number(alike.line)),
         ("times", Member::Number(alike.times)),
-    ]
+    ];
+    Object(&members).serialize(out)
 }
 
 fn mark_word(mark: Mark) -> &'static str {
@@ -366,8 +314,12 @@ fn mark_word(mark: Mark) -> &'static str {
     }
 }
 
-// Writes an object in a line.
-fn write<T: Serialize>(alloc: Global, page: &mut Page, object: &T) -> Result<(), AllocError> {
+/// Writes an object in a line.
+pub fn write_object<T: Serialize>(
+    alloc: Global,
+    page: &mut Page,
+    object: &T,
+) -> Result<(), AllocError> {
     match serde_json::to_vec(alloc, object) {
         Ok(octets) => {
             page.lay(&octets);
@@ -376,14 +328,6 @@ fn write<T: Serialize>(alloc: Global, page: &mut Page, object: &T) -> Result<(),
         }
         Err(_) => Err(AllocError),
     }
-}
-
-fn write_object(
-    alloc: Global,
-    page: &mut Page,
-    members: &[(&'static str, Member<'_>)],
-) -> Result<(), AllocError> {
-    write(alloc, page, &Object(members))
 }
 
 /// Writes a line of the log and its notes: with `utc` the date of its time besides. What isn't UTF-8 in a line that
@@ -395,20 +339,14 @@ pub fn write_line(
     notes: &[Note],
     utc: bool,
 ) -> Result<(), AllocError> {
-    let (entry, has_text) = match told.carried {
-        Carried::Entry(step, text) => (Some(step), !text.is_empty()),
-        Carried::Nothing | Carried::Unreadable => (None, false),
-    };
     let shown = shown(alloc, page, told)?;
     let object = LineObject {
-        number: told.number,
-        entry,
+        told,
         shown: shown.as_str(),
-        has_text,
         notes,
         utc,
     };
-    write(alloc, page, &object)
+    write_object(alloc, page, &object)
 }
 
 // The line in which `hsms show` shows a frame, without its end, and of another line its octets.
@@ -422,153 +360,97 @@ fn shown(alloc: Global, page: &mut Page, told: Told<'_, '_>) -> Result<String, A
     String::from_utf8_lossy(alloc, told.shown())
 }
 
-/// Writes that lines are left out.
-pub fn write_gap(alloc: Global, page: &mut Page, gap: Gap) -> Result<(), AllocError> {
-    let Gap { from, to } = gap;
-    write_object(
-        alloc,
-        page,
-        &[
+// That lines are left out.
+impl Described for Gap {}
+
+impl Serialize for Gap {
+    fn serialize<S: Serializer>(&self, out: &mut S) -> Result<(), S::Error> {
+        let members = [
             ("type", Member::Text("gap")),
-            ("from", Member::Number(from)),
-            ("to", Member::Number(to)),
-        ],
-    )
+            ("from", Member::Number(self.from)),
+            ("to", Member::Number(self.to)),
+        ];
+        Object(&members).serialize(out)
+    }
 }
 
-/// Writes that nothing was judged.
-pub fn write_unjudged(
-    alloc: Global,
-    page: &mut Page,
-    unjudged: Unjudged,
-) -> Result<(), AllocError> {
-    write_object(
-        alloc,
-        page,
-        &[
+// That nothing was judged.
+impl Described for Unjudged {}
+
+impl Serialize for Unjudged {
+    fn serialize<S: Serializer>(&self, out: &mut S) -> Result<(), S::Error> {
+        let members = [
             ("type", Member::Text("unjudged")),
-            ("text", Member::Unjudged(unjudged)),
-        ],
-    )
-}
-
-/// Writes of each group how many failures weren't told whole.
-pub fn write_rests(alloc: Global, page: &mut Page, groups: &Groups) -> Result<(), AllocError> {
-    for group in groups.iter() {
-        if let Some(rest) = group.rest() {
-            write_rest(alloc, page, rest)?;
-        }
+            ("text", Member::Text(self.words())),
+        ];
+        Object(&members).serialize(out)
     }
-    Ok(())
 }
 
-// Writes how many failures of a group weren't told whole.
-fn write_rest(alloc: Global, page: &mut Page, rest: Rest) -> Result<(), AllocError> {
-    write_object(
-        alloc,
-        page,
-        &[
+// How many failures of a group weren't told whole.
+impl Described for Rest {}
+
+impl Serialize for Rest {
+    fn serialize<S: Serializer>(&self, out: &mut S) -> Result<(), S::Error> {
+        let members = [
             ("type", Member::Text("rest")),
-            ("rule", Member::Text(name_of(rest.why))),
-            ("count", Member::Number(rest.count)),
-            ("like", Member::Number(rest.line)),
-            ("last", Member::Number(rest.last)),
-        ],
-    )
+            ("rule", Member::Text(name_of(self.why))),
+            ("count", Member::Number(self.count)),
+            ("like", Member::Number(self.line)),
+            ("last", Member::Number(self.last)),
+        ];
+        Object(&members).serialize(out)
+    }
 }
 
-/// Writes how often each rule was broken.
-pub fn write_failures(alloc: Global, page: &mut Page, tally: &Tally) -> Result<(), AllocError> {
-    write_object(
-        alloc,
-        page,
-        &[
+// How often each rule was broken.
+impl Described for Tally {}
+
+impl Serialize for Tally {
+    fn serialize<S: Serializer>(&self, out: &mut S) -> Result<(), S::Error> {
+        let members = [
             ("type", Member::Text("failures")),
-            ("count", Member::Number(tally.all())),
-            ("rules", Member::Rules(tally)),
-        ],
-    )
+            ("count", Member::Number(self.all())),
+            ("rules", Member::Rules(self)),
+        ];
+        Object(&members).serialize(out)
+    }
 }
 
-/// Writes of each kind of primaries what became of them.
-pub fn write_primaries(
-    alloc: Global,
-    page: &mut Page,
-    primaries: &Primaries,
-) -> Result<(), AllocError> {
-    for place in 0..primaries.len() {
-        if let Some(outcome) = primaries.outcome(place) {
-            write_outcome(alloc, page, outcome)?;
+// What became of the primaries of a kind.
+impl Described for Outcome {}
+
+impl Serialize for Outcome {
+    fn serialize<S: Serializer>(&self, out: &mut S) -> Result<(), S::Error> {
+        out.begin_map(None)?;
+        send_kind(out, self)?;
+        send_named(out, &self.fates())?;
+        if let Some(times) = self.times {
+            send_named(out, &times.named())?;
         }
+        out.end_map()
+    }
+}
+
+// Sends of which kind primaries are, and how many there are.
+fn send_kind<S: Serializer>(out: &mut S, outcome: &Outcome) -> Result<(), S::Error> {
+    let function = outcome.function();
+    let stream = function.map(|it| u64::from(it.stream));
+    let function = function.map(|it| u64::from(it.function));
+    let members = [
+        ("type", Member::Text("primaries")),
+        ("stream", Member::of(stream)),
+        ("function", Member::of(function)),
+        ("direction", Member::Text(outcome.way())),
+        ("opened", Member::Number(outcome.counts.opened)),
+    ];
+    send_members(out, &members)
+}
+
+// Sends numbers by their names.
+fn send_named<S: Serializer>(out: &mut S, numbers: &[(&'static str, u64)]) -> Result<(), S::Error> {
+    for (name, number) in numbers {
+        send_number(out, name, *number)?;
     }
     Ok(())
-}
-
-// Writes what became of the primaries of a kind.
-fn write_outcome(alloc: Global, page: &mut Page, outcome: Outcome) -> Result<(), AllocError> {
-    let [stream, function] = function_members(outcome.function());
-    let [least, median, most, greatest, line] = time_members(outcome.times);
-    let Counts {
-        opened,
-        answered,
-        aborted,
-        expired,
-        rejected,
-        ..
-    } = outcome.counts;
-    write_object(
-        alloc,
-        page,
-        &[
-            ("type", Member::Text("primaries")),
-            ("stream", stream),
-            ("function", function),
-            ("direction", Member::Text(outcome.way())),
-            ("opened", Member::Number(opened)),
-            ("answered", Member::Number(answered)),
-            ("aborted", Member::Number(aborted)),
-            ("expired", Member::Number(expired)),
-            ("rejected", Member::Number(rejected)),
-            ("ended", Member::Number(outcome.ended())),
-            ("waiting", Member::Number(outcome.waiting)),
-            ("least", least),
-            ("median", median),
-            ("p99", most),
-            ("greatest", greatest),
-            ("line", line),
-        ],
-    )
-}
-
-// The stream and the function of a kind, if it has one.
-fn function_members(function: Option<Function>) -> [Member<'static>; 2] {
-    match function {
-        Some(Function { stream, function }) => [
-            Member::Number(u64::from(stream)),
-            Member::Number(u64::from(function)),
-        ],
-        None => [Member::Nothing; 2],
-    }
-}
-
-// The times of replies, if there are any: the least, the median, what 99 of 100 don't exceed, the greatest, and its line.
-fn time_members(times: Option<Times>) -> [Member<'static>; 5] {
-    match times {
-        Some(
-            Times {
-                least,
-                median,
-                most,
-                greatest,
-                line,
-            },
-        ) => [
-            Member::Number(least),
-            Member::Number(median),
-            Member::Number(most),
-            Member::Number(greatest),
-            Member::Number(line),
-        ],
-        None => [Member::Nothing; 5],
-    }
 }

@@ -1,8 +1,7 @@
 //! A line of a log, judged and told.
 
-ghost use Rattle.std.specs.Prelude.{◌≡◌, ◌<◌, ◌++◌, ◌∷◌, [], ℕ, List, OnOk, IfOk};
-ghost use Rattle.hsms_machine.specs.Settings.{Parameters};
-ghost use Rattle.hsms_log.specs.Spelling.{SpellsSettings, line_limit, settings_limit};
+ghost use Rattle.std.specs.Prelude.{◌<◌, ◌++◌, ◌∷◌, [], ℕ, List, OnOk, IfOk};
+ghost use Rattle.hsms_log.specs.Spelling.{line_limit, settings_limit};
 ghost use Rattle.hsms_explain.specs.First.{KeepsShown};
 ghost use Rattle.hsms_explain.specs.Heard.{IsShown, KnownAfter, ToldAfter, UnjudgedAfter, limit_at};
 
@@ -11,7 +10,6 @@ use crate::report::Report;
 use crate::stage::Stage;
 use crate::told::{Told, carried_by, limit_of};
 use hsms_log::read_settings;
-use hsms_machine::Settings;
 use std::alloc::{AllocError, Global};
 
 /// Tells a line, of which as much is given as is told. `octets` is memory for the octets of its frame, used again from
@@ -66,7 +64,7 @@ fn further_line(
     ensures shown { OnOk result (KeepsShown report.old report.new) }
 {
     let number = so_far.saturating_add(1);
-    report.clear_notes();
+    report.notes.clear();
     report.tell(alloc, Told::plain(number, line), 0)?;
     Ok(Stage::Unjudged(number))
 }
@@ -77,40 +75,19 @@ fn first_line(alloc: Global, report: &mut Report, line: &[u8]) -> Result<Stage, 
         → UnjudgedAfter 0 report.old.tally before → ToldAfter stage report.new.tally (before ++ real ∷ [])) }
     ensures shown { OnOk result (KeepsShown report.old report.new) }
 {
-    report.clear_notes();
+    report.notes.clear();
     match read_settings(line) {
-        Some(settings) => settings_line(alloc, report, line, settings),
-        None => unreadable_first(alloc, report, line),
+        Some(settings) => {
+            report.tell_ends(settings);
+            report.tell(alloc, Told::plain(1, line), 0)?;
+            Ok(Stage::Judged(Known::new(alloc, settings)))
+        }
+        None => {
+            report.note_unreadable()?;
+            report.tell(alloc, Told::plain(1, line), 0)?;
+            Ok(Stage::Unjudged(1))
+        }
     }
-}
-
-// Tells the first line, of which nothing is noted, and which spells the settings.
-fn settings_line(
-    alloc: Global,
-    report: &mut Report,
-    line: &[u8],
-    settings: Settings,
-) -> Result<Stage, AllocError>
-    ensures told { IfOk result (λ stage. (before : List (List ℕ)) (real : List ℕ) → IsShown settings_limit real line.now
-        → SpellsSettings line.now settings → report.old.notes.items ≡ []
-        → UnjudgedAfter 0 report.old.tally before → ToldAfter stage report.new.tally (before ++ real ∷ [])) }
-    ensures shown { OnOk result (KeepsShown report.old report.new) }
-{
-    report.tell_ends(settings);
-    report.tell(alloc, Told::plain(1, line), 0)?;
-    Ok(Stage::Judged(Known::new(alloc, settings)))
-}
-
-// Tells the first line, of which nothing is noted yet, and which can't be read.
-fn unreadable_first(alloc: Global, report: &mut Report, line: &[u8]) -> Result<Stage, AllocError>
-    ensures told { IfOk result (λ stage. (before : List (List ℕ)) (real : List ℕ) → IsShown settings_limit real line.now
-        → ((settings : Parameters) → SpellsSettings line.now settings → ⊥) → report.old.notes.items ≡ []
-        → UnjudgedAfter 0 report.old.tally before → ToldAfter stage report.new.tally (before ++ real ∷ [])) }
-    ensures shown { OnOk result (KeepsShown report.old report.new) }
-{
-    report.note_unreadable()?;
-    report.tell(alloc, Told::plain(1, line), 0)?;
-    Ok(Stage::Unjudged(1))
 }
 
 // Tells a line that isn't the first.

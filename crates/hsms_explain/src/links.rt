@@ -59,15 +59,9 @@ impl Links {
 
     /// The line, if it is known to be told.
     pub fn told(&self, line: u64) -> Option<u64> {
-        if self
-            .runs
-            .iter()
-            .any(|run| run.from <= line && line <= run.to)
-        {
-            Some(line)
-        } else {
-            None
-        }
+        let mut runs = self.runs.iter();
+        runs.any(|run| run.from <= line && line <= run.to)
+            .then_some(line)
     }
 
     /// Notes that a line may be closed, where there is room for it. It says whether there is.

@@ -1,6 +1,6 @@
 //! What is told of a line besides what it says.
 
-ghost use Rattle.std.specs.Prelude.{◌≡◌, ◌≤◌, ◌∷◌, ◌++◌, [], ℕ, List, IfOk, IfSome, OnOk, codes, true};
+ghost use Rattle.std.specs.Prelude.{◌≡◌, ◌≤◌, ◌∷◌, [], List, IfOk, IfSome, OnOk, codes, true};
 ghost use Rattle.std.specs.List.{list_any};
 ghost use Rattle.indexmap.specs.IndexMap.{index_map_len};
 ghost use Rattle.hsms_log.specs.declared.verdict.Why.TheVariants.{Unreadable};
@@ -11,7 +11,7 @@ ghost use Rattle.hsms_explain.specs.Noted.{first_why};
 use crate::alike::Groups;
 use crate::expecting::Expected;
 use crate::sort::UNREADABLE_SORT;
-use crate::words::{Alike, Closing};
+use crate::words::{Alike, Closing, GoingOn, Put};
 use hsms_log::Why;
 use hsms_machine::Remedy;
 use std::alloc::AllocError;
@@ -68,6 +68,21 @@ impl Failing {
             expected: None,
             remedy: None,
         }
+    }
+
+    /// How the log is gone on with, where with `utc` times are told as dates.
+    pub fn going_on(&self, utc: bool) -> Option<GoingOn> {
+        self.remedy.map(|remedy| GoingOn { remedy, utc })
+    }
+
+    /// The line that what would have been right names.
+    pub fn expected_line(&self) -> Option<u64> {
+        self.expected?.line()
+    }
+
+    /// What is put before the line, to go on with the log.
+    pub fn put(&self) -> Option<Put> {
+        Put::of(self.remedy?)
     }
 
     // The failure as it is told: whole, or by this line.

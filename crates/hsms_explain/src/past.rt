@@ -79,35 +79,22 @@ impl Requests {
 
     /// The last request with these system bytes, if it is kept.
     pub fn last_of(&self, system: u32) -> Option<Request> {
-        let mut found = None;
-        for request in self.opened.iter() {
-            if request.header.system == system {
-                found = Some(*request);
-            }
-        }
-        found
+        let mut requests = self.opened.iter().rev().copied();
+        requests.find(|request| request.header.system == system)
     }
 
     /// The request that opened a transaction at this line, if it is kept.
     pub fn opened_at(&self, line: u64) -> Option<Request> {
-        let mut found = None;
-        for request in self.opened.iter() {
-            if request.line == line && !request.is_discarded {
-                found = Some(*request);
-            }
-        }
-        found
+        let mut requests = self.opened.iter().rev().copied();
+        requests.find(|request| request.line == line && !request.is_discarded)
     }
 
     /// What closed the transaction that the request opened, if it is kept.
     pub fn closing_of(&self, request: Request) -> Option<Closed> {
-        let mut found = None;
-        for closed in self.closed.iter() {
-            if closed.system == request.header.system && closed.line > request.line {
-                found = Some(*closed);
-            }
-        }
-        found
+        let mut closings = self.closed.iter().rev().copied();
+        closings.find(|closed| {
+            closed.system == request.header.system && closed.line > request.line
+        })
     }
 }
 

@@ -31,11 +31,8 @@ impl Direction {
     }
 }
 
-// The kinds of received primaries are those of sent ones and this.
-const RECEIVED: u32 = 1 << 15;
-
-// The kind of sent primaries beyond those that are kept apart. Behind it stands that of received ones.
-const OTHERS: u32 = 1 << 16;
+// The number of the messages beyond those that are kept apart. That of a stream and a function is less.
+const OTHERS: u16 = 1 << 15;
 
 /// What became of the primaries of each kind, and the times of the replies.
 pub struct Primaries {
@@ -66,25 +63,29 @@ pub struct Times {
 
 impl Times {
     fn of(counts: Counts, histogram: &Histogram) -> Times {
-        let Counts {
-            answered,
-            least,
-            greatest,
-            line,
-            ..
-        } = counts;
-        let most = if answered < 100 {
-            greatest
+        let most = if counts.answered < 100 {
+            counts.greatest
         } else {
-            histogram.most().max(least)
+            histogram.most().max(counts.least)
         };
         Times {
-            least,
-            median: histogram.median().max(least),
+            least: counts.least,
+            median: histogram.median().max(counts.least),
             most,
-            greatest,
-            line,
+            greatest: counts.greatest,
+            line: counts.line,
         }
+    }
+
+    /// The same, each with its name.
+    pub fn named(&self) -> [(&'static str, u64); 5] {
+        [
+            ("least", self.least),
+            ("median", self.median),
+            ("p99", self.most),
+            ("greatest", self.greatest),
+            ("line", self.line),
+        ]
     }
 }
 
@@ -148,11 +149,9 @@ impl Primaries {
     }
 
     fn open(&mut self, direction: Direction, header: Header) -> Result<(), AllocError> {
-        let way = direction.number();
-        let message = u32::from(header.stream()) * 256 + u32::from(header.function());
-        let kind = self
-            .replies
-            .kept_kind(way * RECEIVED + message, OTHERS + way);
+        let message = u16::from_be_bytes([header.stream(), header.function()]);
+        let others = kind_of(OTHERS, direction);
+        let kind = self.replies.kept_kind(kind_of(message, direction), others);
         self.replies
             .note_opened(key(direction, header.system), kind)
     }
@@ -196,10 +195,10 @@ impl Primaries {
     pub fn outcome(&self, place: usize) -> Option<Outcome> {
         let (kind, counts) = self.replies.at(place)?;
         let waiting = self.replies.waiting(kind) as u64;
-        let times = match self.times.get(&kind) {
-            Some(histogram) => Some(Times::of(counts, histogram)),
-            None => None,
-        };
+        let times = self
+            .times
+            .get(&kind)
+            .map(|histogram| Times::of(counts, histogram));
         Some(Outcome {
             kind,
             counts,
@@ -207,6 +206,11 @@ impl Primaries {
             times,
         })
     }
+}
+
+// The kind of the primaries of a message that went in a direction: twice its number, and one more if they were received.
+fn kind_of(message: u16, direction: Direction) -> u32 {
+    u32::from(message) * 2 + direction.number()
 }
 
 // The direction and the system bytes of a primary.
@@ -241,9 +245,9 @@ fn fate_by(header: Header) -> Fate {
 }
 
 impl Outcome {
-    /// Which way they went, `sent` or `received`: by the bit `RECEIVED`, and of those beyond `OTHERS` by the last bit.
+    /// Which way they went: `sent` or `received`.
     pub fn way(&self) -> &'static str {
-        if self.kind % OTHERS / RECEIVED + self.kind / OTHERS * (self.kind % 2) == 0 {
+        if self.kind % 2 == 0 {
             "sent"
         } else {
             "received"
@@ -252,32 +256,31 @@ impl Outcome {
 
     /// Their stream and function, where they are of one kind and not those beyond the kinds that are kept apart.
     pub fn function(&self) -> Option<Function> {
-        if self.kind >= OTHERS {
+        let message = self.kind / 2;
+        if message >= u32::from(OTHERS) {
             return None;
         }
-        Some(Function {
-            stream: (self.kind / 256 % 128) as u8,
-            function: (self.kind % 256) as u8,
-        })
+        let [_, _, stream, function] = message.to_be_bytes();
+        Some(Function { stream, function })
     }
 
     /// Those that the end of their connection left open.
     pub fn ended(&self) -> u64 {
-        let Counts {
-            opened,
-            answered,
-            aborted,
-            expired,
-            rejected,
-            ..
-        } = self.counts;
-        [answered, aborted, expired, rejected, self.waiting]
+        let counts = self.counts;
+        let closed = [
+            counts.answered,
+            counts.aborted,
+            counts.expired,
+            counts.rejected,
+        ];
+        let left = closed
             .iter()
-            .fold(opened, |left, count| left.saturating_sub(*count))
+            .fold(counts.opened, |left, count| left.saturating_sub(*count));
+        left.saturating_sub(self.waiting)
     }
 
-    // What became of them, and how many became so.
-    fn fates(&self) -> [(&'static str, u64); 6] {
+    /// What became of them, and how many became so.
+    pub fn fates(&self) -> [(&'static str, u64); 6] {
         [
             ("answered", self.counts.answered),
             ("aborted", self.counts.aborted),
@@ -287,9 +290,7 @@ impl Outcome {
             ("waiting", self.waiting),
         ]
     }
-}
 
-impl Outcome {
     // The stream and the function, and how many went in which direction.
     fn write_kind<W: fmt::Write>(&self, f: &mut fmt::Formatter<W>) -> fmt::Result {
         let way = self.way();
@@ -301,15 +302,13 @@ impl Outcome {
     }
 }
 
-// How many there are of each, where there are any.
-fn write_counts<W: fmt::Write>(
+// Writes numbers behind their names.
+fn write_named<W: fmt::Write>(
     f: &mut fmt::Formatter<W>,
-    counts: [(&'static str, u64); 6],
+    numbers: &[(&'static str, u64)],
 ) -> fmt::Result {
-    for (name, count) in counts {
-        if count > 0 {
-            write!(f, " {name}={count}")?;
-        }
+    for (name, number) in numbers {
+        write!(f, " {name}={number}")?;
     }
     Ok(())
 }
@@ -317,24 +316,14 @@ fn write_counts<W: fmt::Write>(
 impl fmt::Display for Outcome {
     fn fmt<W: fmt::Write>(&self, f: &mut fmt::Formatter<W>) -> fmt::Result {
         self.write_kind(f)?;
-        write_counts(f, self.fates())?;
+        for fate in self.fates() {
+            if fate.1 > 0 {
+                write_named(f, &[fate])?;
+            }
+        }
         match self.times {
-            Some(times) => write_times(f, times),
+            Some(times) => write_named(f, &times.named()),
             None => Ok(()),
         }
     }
-}
-
-fn write_times<W: fmt::Write>(f: &mut fmt::Formatter<W>, times: Times) -> fmt::Result {
-    let Times {
-        least,
-        median,
-        most,
-        greatest,
-        line,
-    } = times;
-    write!(
-        f,
-        " least={least} median={median} p99={most} greatest={greatest} line={line}"
-    )
 }

@@ -1,14 +1,14 @@
 //! What is told of a log, and what is noted of the line at hand.
 
-ghost use Rattle.std.specs.Prelude.{◌≡◌, ℕ, List, [], OnOk, IfOk, Some, None};
+ghost use Rattle.std.specs.Prelude.{◌≡◌, [], OnOk, IfOk, Some, None};
 ghost use Rattle.hsms_log.specs.declared.verdict.Why.TheVariants.{Unreadable};
 ghost use Rattle.hsms_options.specs.declared.excerpt.Telling.TheVariants.{Text};
 ghost use Rattle.hsms_explain.specs.Counting.{counts_of};
 ghost use Rattle.hsms_explain.specs.First.{KeepsShown, ShowsWith};
-ghost use Rattle.hsms_explain.specs.Failing.{failed_at, verdict_by, unjudged_by};
+ghost use Rattle.hsms_explain.specs.Failing.{failed_at};
 ghost use Rattle.hsms_explain.specs.Gone.{LineMends, NotesUnreadable};
 ghost use Rattle.hsms_explain.specs.Noted.{either, first_why, with_carried, LineFailsBy};
-ghost use Rattle.hsms_explain.specs.Page.{AddsSome, HasTold};
+ghost use Rattle.hsms_explain.specs.Page.{AddsSome};
 ghost use Rattle.hsms_explain.specs.Shown.{NoneBefore, TellsFirst};
 
 use crate::alike::Groups;
@@ -21,7 +21,6 @@ use crate::tally::Tally;
 use crate::told::{Carried, Told};
 use crate::window::Window;
 use crate::words::Unjudged;
-use hsms_log::Verdict;
 use hsms_machine::Settings;
 use hsms_options::Excerpt;
 use std::alloc::{AllocError, Global};
@@ -29,11 +28,11 @@ use std::alloc::{AllocError, Global};
 /// What is told, which lines are, the failures so far, and what is noted of the line at hand, also as it is told.
 #[derive(Drop)]
 pub struct Report {
-    page: Page,
-    tally: Tally,
+    pub page: Page,
+    pub tally: Tally,
     window: Window,
     groups: Groups,
-    notes: Vec<Note>,
+    pub notes: Vec<Note>,
     grouped: Vec<Note>,
 }
 
@@ -111,20 +110,6 @@ impl Report {
         Ok(())
     }
 
-    /// The verdict at the end, where so many primaries wait, or that of the first failure.
-    pub fn verdict(&self, waiting: u64) -> Verdict
-        ensures { result ≡ verdict_by self.now.tally.first self.now.tally.entries waiting }
-    {
-        self.tally.verdict(waiting)
-    }
-
-    /// The verdict where nothing was judged.
-    pub fn unjudged_verdict(&self) -> Verdict
-        ensures { result ≡ unjudged_by self.now.tally.first }
-    {
-        self.tally.unjudged_verdict()
-    }
-
     /// Tells a line, and what is noted of it, in a log whose frames have at most so many octets. Its failures are counted.
     pub fn tell(&mut self, alloc: Global, told: Told<'_, '_>, max: u32) -> Result<(), AllocError>
         ensures first { OnOk result (self.new.tally.first ≡ either self.old.tally.first (failed_at told.entry.number (first_why self.old.notes.items))) }
@@ -180,17 +165,6 @@ impl Report {
         }
     }
 
-    /// Forgets what is noted of the line before.
-    pub fn clear_notes(&mut self)
-        ensures notes { self.new.notes.items ≡ [] }
-        ensures tally { self.new.tally ≡ self.old.tally }
-        ensures groups { self.new.groups ≡ self.old.groups }
-        ensures window { self.new.window ≡ self.old.window }
-        ensures page { self.new.page ≡ self.old.page }
-    {
-        self.notes.clear();
-    }
-
     /// Notes that a line can't be read.
     pub fn note_unreadable(&mut self) -> Result<(), AllocError>
         ensures notes { OnOk result (first_why self.new.notes.items ≡ either (first_why self.old.notes.items) (Some Unreadable)) }
@@ -202,37 +176,5 @@ impl Report {
     {
         self.notes.push(Note::Fails(Failing::unreadable()))?;
         Ok(())
-    }
-
-    /// Puts what is told together, so that it can be written.
-    pub fn gather(&mut self)
-        ensures page { (text : List ℕ) → HasTold self.old.page text → HasTold self.new.page text }
-        ensures gathered { self.new.page.block ≡ [] }
-        ensures tally { self.new.tally ≡ self.old.tally }
-        ensures groups { self.new.groups ≡ self.old.groups }
-        ensures window { self.new.window ≡ self.old.window }
-    {
-        self.page.gather();
-    }
-
-    /// What was gathered and not let go.
-    ///
-    /// # Errors
-    ///
-    /// Where memory was refused to it.
-    pub fn told(&self) -> Result<&[u8], AllocError>
-        ensures { IfOk result (λ octets. (text : List ℕ) → self.now.page.block ≡ [] → HasTold self.now.page text → octets.now ≡ text) }
-    {
-        self.page.octets()
-    }
-
-    /// Lets go what is told.
-    pub fn let_go(&mut self)
-        ensures page { self.old.page.block ≡ [] → HasTold self.new.page [] }
-        ensures tally { self.new.tally ≡ self.old.tally }
-        ensures groups { self.new.groups ≡ self.old.groups }
-        ensures window { self.new.window ≡ self.old.window }
-    {
-        self.page.clear();
     }
 }

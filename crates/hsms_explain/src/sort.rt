@@ -1,11 +1,11 @@
 //! What is alike in failures.
 
 ghost use Rattle.std.specs.Prelude.{◌≡◌, ◌<◌, ◌^◌};
-ghost use Rattle.hsms_explain.specs.Sort.{cut_number as number_of_cut, event_number as number_of_event, frame_number as number_of_frame, mark_number as number_of_mark, sort_number};
+ghost use Rattle.hsms_explain.specs.Sort.{event_number as number_of_event, frame_number as number_of_frame, sort_number};
 
 use hsms_frame::{Header, Kind, kind};
 use hsms_log::What;
-use hsms_machine::{Cause, Mark, Rule};
+use hsms_machine::Rule;
 
 /// The sort of lines that can't be read. No other failure has it.
 pub const UNREADABLE_SORT: u64 = 0;
@@ -30,34 +30,11 @@ fn event_number(what: What) -> u64
     ensures range { result < 10 }
 {
     match what {
-        What::Frame(mark, _) => mark_number(mark),
+        What::Frame(mark, _) => mark as u64,
         What::Up => 3,
         What::T3(_) => 4,
-        What::Cut(cause) => cut_number(cause),
+        What::Cut(cause) => 5 + cause as u64,
         What::Down => 9,
-    }
-}
-
-fn mark_number(mark: Mark) -> u64
-    ensures number { result ≡ number_of_mark mark }
-    ensures range { result < 3 }
-{
-    match mark {
-        Mark::Sent => 0,
-        Mark::Taken => 1,
-        Mark::Discarded => 2,
-    }
-}
-
-fn cut_number(cause: Cause) -> u64
-    ensures number { result ≡ number_of_cut cause }
-    ensures range { result < 9 }
-{
-    match cause {
-        Cause::T6 => 5,
-        Cause::T7 => 6,
-        Cause::T8 => 7,
-        Cause::Length => 8,
     }
 }
 

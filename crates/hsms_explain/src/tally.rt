@@ -14,6 +14,7 @@ use crate::words::name_of;
 use hsms_log::{Summary, Verdict, What, Why};
 use hsms_machine::Mark;
 use std::alloc::{AllocError, Global};
+use std::fmt;
 
 /// A failure: the number of its line, from 1, and why it fails.
 #[derive(Clone, Copy)]
@@ -67,7 +68,25 @@ impl Tally {
         ensures entries { (time : ℕ) (text : List ℕ) → self.new.entries ≡ with_entry self.old.entries (entry_of_what time what text) }
         ensures first { self.new.first ≡ self.old.first }
     {
-        self.entries = with(self.entries, what);
+        self.entries.entries = self.entries.entries.saturating_add(1);
+        match what {
+            What::Frame(mark, _) => self.count_frame(mark),
+            What::T3(_) => self.entries.expired = self.entries.expired.saturating_add(1),
+            What::Up | What::Cut(_) | What::Down => {}
+        }
+    }
+
+    // One more frame of this mark, which is counted as an entry already.
+    fn count_frame(&mut self, mark: Mark)
+        ensures entries { (time : ℕ) (header : Header) (text : List ℕ) → self.new.entries ≡ with_kind self.old.entries (frame_entry time mark header text) }
+        ensures first { self.new.first ≡ self.old.first }
+    {
+        let counts = self.entries;
+        match mark {
+            Mark::Sent => self.entries.sent = counts.sent.saturating_add(1),
+            Mark::Taken => self.entries.taken = counts.taken.saturating_add(1),
+            Mark::Discarded => self.entries.discarded = counts.discarded.saturating_add(1),
+        }
     }
 
     /// The failures of a line by its notes.
@@ -133,22 +152,20 @@ impl Tally {
 
     /// How often it failed.
     pub fn all(&self) -> u64 {
-        let mut all = 0u64;
-        for (_, count) in self.failures.iter() {
-            all = all.saturating_add(*count);
-        }
-        all
+        let counts = self.failures.iter().map(|(_, count)| *count);
+        counts.fold(0u64, |all, count| all.saturating_add(count))
     }
+}
 
-    /// The words of the failures.
-    pub fn words(&self, alloc: Global) -> Result<String, AllocError> {
-        let mut words = String::new(alloc);
+impl fmt::Display for Tally {
+    fn fmt<W: fmt::Write>(&self, f: &mut fmt::Formatter<W>) -> fmt::Result {
         let all = self.all();
+        write!(f, "failures={all}")?;
         for (why, count) in self.failures.iter() {
             let name = name_of(*why);
-            write!(words, " {name}={count}")?;
+            write!(f, " {name}={count}")?;
         }
-        format!(in alloc; "failures={all}{words}")
+        Ok(())
     }
 }
 
@@ -162,43 +179,4 @@ fn count_why(failures: &mut Vec<(Why, u64)>, why: Why) -> Result<(), AllocError>
     }
     failures.push((why, 1))?;
     Ok(())
-}
-
-// The counts with one entry more.
-fn with(counts: Summary, what: What) -> Summary
-    ensures { (time : ℕ) (text : List ℕ) → result ≡ with_entry counts (entry_of_what time what text) }
-{
-    let entries = counts.entries.saturating_add(1);
-    let counts = Summary { entries, ..counts };
-    match what {
-        What::Frame(mark, _) => with_frame(counts, mark),
-        What::T3(_) => {
-            let expired = counts.expired.saturating_add(1);
-            Summary { expired, ..counts }
-        }
-        What::Up | What::Cut(_) | What::Down => counts,
-    }
-}
-
-// The counts with one frame more of this mark.
-fn with_frame(counts: Summary, mark: Mark) -> Summary
-    ensures { (time : ℕ) (header : Header) (text : List ℕ) → result ≡ with_kind counts (frame_entry time mark header text) }
-{
-    match mark {
-        Mark::Sent => {
-            let sent = counts.sent.saturating_add(1);
-            Summary { sent, ..counts }
-        }
-        Mark::Taken => {
-            let taken = counts.taken.saturating_add(1);
-            Summary { taken, ..counts }
-        }
-        Mark::Discarded => {
-            let discarded = counts.discarded.saturating_add(1);
-            Summary {
-                discarded,
-                ..counts
-            }
-        }
-    }
 }

@@ -16,7 +16,9 @@ use crate::words::{Gap, Unjudged};
 use crate::{html, json, text};
 use hsms_machine::Settings;
 use hsms_options::{Excerpt, Telling};
+use serde::Serialize;
 use std::alloc::{AllocError, Global};
+use std::fmt;
 
 /// Writes what is told in the form that is asked for, with times as they are or as dates.
 #[derive(Clone, Copy)]
@@ -94,7 +96,7 @@ impl Teller {
                 text::write_gap(page);
                 Ok(())
             }
-            Telling::Json => json::write_gap(alloc, page, gap),
+            Telling::Json => json::write_object(alloc, page, &gap),
             Telling::Html => {
                 html::write_gap(page, gap);
                 Ok(())
@@ -112,9 +114,8 @@ impl Teller {
         ensures { OnOk result (self.form ≡ Text → AddsSome page.old page.new) }
     {
         match self.form {
-            Telling::Text => text::write_words(alloc, page, &unjudged),
-            Telling::Json => json::write_unjudged(alloc, page, unjudged),
             Telling::Html => html::write_unjudged(alloc, page, unjudged),
+            Telling::Text | Telling::Json => self.remark(alloc, page, &unjudged),
         }
     }
 
@@ -123,13 +124,22 @@ impl Teller {
         ensures { OnOk result (self.form ≡ Text → AddsSome page.old page.new) }
     {
         match self.form {
-            Telling::Text => text::write_rests(alloc, page, groups),
-            Telling::Json => json::write_rests(alloc, page, groups),
             Telling::Html => {
                 html::write_groups(page, groups);
                 Ok(())
             }
+            Telling::Text | Telling::Json => self.rests(alloc, page, groups),
         }
+    }
+
+    // Writes of each group how many failures weren't told whole.
+    fn rests(self, alloc: Global, page: &mut Page, groups: &Groups) -> Result<(), AllocError>
+        ensures { OnOk result (self.form ≡ Text → AddsSome page.old page.new) }
+    {
+        for group in groups.iter() {
+            self.optional(alloc, page, group.rest())?;
+        }
+        Ok(())
     }
 
     /// Writes how often each rule was broken.
@@ -137,9 +147,8 @@ impl Teller {
         ensures { OnOk result (self.form ≡ Text → AddsSome page.old page.new) }
     {
         match self.form {
-            Telling::Text => text::write_failures(alloc, page, tally),
-            Telling::Json => json::write_failures(alloc, page, tally),
             Telling::Html => html::write_failures(alloc, page, tally),
+            Telling::Text | Telling::Json => self.remark(alloc, page, tally),
         }
     }
 
@@ -154,9 +163,53 @@ impl Teller {
         ensures { OnOk result (self.form ≡ Text → AddsSome page.old page.new) }
     {
         match self.form {
-            Telling::Text => text::write_primaries(alloc, page, primaries),
-            Telling::Json => json::write_primaries(alloc, page, primaries),
             Telling::Html => html::write_primaries(alloc, page, links, primaries),
+            Telling::Text | Telling::Json => self.outcomes(alloc, page, primaries),
+        }
+    }
+
+    fn outcomes(
+        self,
+        alloc: Global,
+        page: &mut Page,
+        primaries: &Primaries,
+    ) -> Result<(), AllocError>
+        ensures { OnOk result (self.form ≡ Text → AddsSome page.old page.new) }
+    {
+        for place in 0..primaries.len() {
+            self.optional(alloc, page, primaries.outcome(place))?;
+        }
+        Ok(())
+    }
+
+    // Writes a remark, if there is one.
+    fn optional<T: fmt::Display + Serialize + Drop>(
+        self,
+        alloc: Global,
+        page: &mut Page,
+        remark: Option<T>,
+    ) -> Result<(), AllocError>
+        ensures { OnOk result (self.form ≡ Text → AddsSome page.old page.new) }
+    {
+        match remark {
+            Some(remark) => self.remark(alloc, page, &remark),
+            None => Ok(()),
+        }
+    }
+
+    // Writes what stands in a line of its own, as text or as an object.
+    fn remark<T: fmt::Display + Serialize>(
+        self,
+        alloc: Global,
+        page: &mut Page,
+        remark: &T,
+    ) -> Result<(), AllocError>
+        ensures { OnOk result (self.form ≡ Text → AddsSome page.old page.new) }
+    {
+        match self.form {
+            Telling::Text => text::write_words(alloc, page, remark),
+            Telling::Json => json::write_object(alloc, page, remark),
+            Telling::Html => Ok(()),
         }
     }
 }

@@ -5,17 +5,13 @@ ghost use Rattle.hsms_explain.specs.Page.{Adds, AddsSome};
 ghost use Rattle.hsms_explain.specs.Words.{why_name};
 ghost use Rattle.hsms_explain.specs.Written.{CarriedSaid, LineSaid, LineTold, NoteTold, WhatSaid, below, gap_text, mark_text, rule_words};
 
-use crate::alike::{Group, Groups};
-use crate::expecting::Expected;
 use crate::moment::Moment;
 use crate::note::{Failing, Note};
 use crate::page::Page;
-use crate::primaries::Primaries;
-use crate::tally::Tally;
 use crate::told::{Carried, Told};
-use crate::words::{Concern, GoingOn, name_of};
+use crate::words::{Concern, name_of};
 use hsms_log::{Step, What, split_at_first};
-use hsms_machine::{GREATEST_DEPTH, Mark, Remedy};
+use hsms_machine::{GREATEST_DEPTH, Mark};
 use std::alloc::{AllocError, Global};
 use std::fmt;
 
@@ -64,63 +60,6 @@ pub fn write_words<D: fmt::Display>(
         × Adds page.old page.new (said ++ codes "\n")) }
 {
     let words = words.to_string(alloc)?;
-    page.lay(words.as_bytes());
-    page.lay(b"\n");
-    Ok(())
-}
-
-/// Writes of each group how many failures weren't told whole.
-pub fn write_rests(alloc: Global, page: &mut Page, groups: &Groups) -> Result<(), AllocError>
-    ensures { OnOk result (AddsSome page.old page.new) }
-{
-    for group in groups.iter() {
-        write_group(alloc, page, *group)?;
-    }
-    Ok(())
-}
-
-fn write_group(alloc: Global, page: &mut Page, group: Group) -> Result<(), AllocError>
-    ensures { OnOk result (AddsSome page.old page.new) }
-{
-    match group.rest() {
-        Some(rest) => write_words(alloc, page, &rest),
-        None => Ok(()),
-    }
-}
-
-/// Writes of each kind of primaries what became of them.
-pub fn write_primaries(
-    alloc: Global,
-    page: &mut Page,
-    primaries: &Primaries,
-) -> Result<(), AllocError>
-    ensures { OnOk result (AddsSome page.old page.new) }
-{
-    for place in 0..primaries.len() {
-        write_outcome(alloc, page, primaries, place)?;
-    }
-    Ok(())
-}
-
-fn write_outcome(
-    alloc: Global,
-    page: &mut Page,
-    primaries: &Primaries,
-    place: usize,
-) -> Result<(), AllocError>
-    ensures { OnOk result (AddsSome page.old page.new) }
-{
-    match primaries.outcome(place) {
-        Some(outcome) => write_words(alloc, page, &outcome),
-        None => Ok(()),
-    }
-}
-
-/// Writes how often each rule was broken.
-pub fn write_failures(alloc: Global, page: &mut Page, tally: &Tally) -> Result<(), AllocError>
-    ensures { OnOk result (AddsSome page.old page.new) }
-{
-    let words = tally.words(alloc)?;
     page.lay(words.as_bytes());
     page.lay(b"\n");
     Ok(())
@@ -262,48 +201,9 @@ fn write_failing(
         × Adds page.old page.new (rule_words (why_name failing.now.why) failing.now.sentence.now ++ further)) }
 {
     write_rule(page, name_of(failing.why), failing.sentence);
-    write_concern(alloc, page, failing.concerns)?;
-    write_expected(alloc, page, failing.expected)?;
-    write_remedy(alloc, page, failing.remedy, utc)
-}
-
-// Writes which line a failure concerns, where it does one.
-fn write_concern(alloc: Global, page: &mut Page, concerns: Option<u64>) -> Result<(), AllocError>
-    ensures { OnOk result (AddsSome page.old page.new) }
-{
-    match concerns {
-        Some(line) => write_further(alloc, page, &Concern { line }),
-        None => Ok(()),
-    }
-}
-
-// Writes what would have been right, where it is known.
-fn write_expected(
-    alloc: Global,
-    page: &mut Page,
-    expected: Option<Expected>,
-) -> Result<(), AllocError>
-    ensures { OnOk result (AddsSome page.old page.new) }
-{
-    match expected {
-        Some(expected) => write_further(alloc, page, &expected),
-        None => Ok(()),
-    }
-}
-
-// Writes how the log is gone on with, where the line can be read.
-fn write_remedy(
-    alloc: Global,
-    page: &mut Page,
-    remedy: Option<Remedy>,
-    utc: bool,
-) -> Result<(), AllocError>
-    ensures { OnOk result (AddsSome page.old page.new) }
-{
-    match remedy {
-        Some(remedy) => write_further(alloc, page, &GoingOn { remedy, utc }),
-        None => Ok(()),
-    }
+    write_further(alloc, page, failing.concerns.map(|line| Concern { line }))?;
+    write_further(alloc, page, failing.expected)?;
+    write_further(alloc, page, failing.going_on(utc))
 }
 
 fn write_rule(page: &mut Page, name: &str, sentence: &str)
@@ -326,14 +226,19 @@ fn write_below<D: fmt::Display>(alloc: Global, page: &mut Page, words: &D) -> Re
     write_words(alloc, page, words)
 }
 
-// Writes words below those of a failure.
-fn write_further<D: fmt::Display>(
+// Writes words below those of a failure, where there are such.
+fn write_further<D: fmt::Display + Drop>(
     alloc: Global,
     page: &mut Page,
-    words: &D,
+    words: Option<D>,
 ) -> Result<(), AllocError>
     ensures { OnOk result (AddsSome page.old page.new) }
 {
-    page.lay(b"     ");
-    write_below(alloc, page, words)
+    match words {
+        Some(words) => {
+            page.lay(b"     ");
+            write_below(alloc, page, &words)
+        }
+        None => Ok(()),
+    }
 }

@@ -70,7 +70,7 @@ impl Held {
 }
 
 impl Window {
-    ghost use Rattle.std.specs.Prelude.{◌≡◌, ◌-◌, ◌||◌, [], OnOk, nat_lt, if◌then◌else◌};
+    ghost use Rattle.std.specs.Prelude.{◌≡◌, ◌+◌, ◌-◌, ◌||◌, [], OnOk, nat_lt, if◌then◌else◌};
     ghost use Rattle.std.specs.List.{list_any};
     ghost use Rattle.hsms_options.specs.Excerpt.{is_between};
     ghost use Rattle.hsms_options.specs.declared.excerpt.Telling.TheVariants.{Text};
@@ -259,12 +259,20 @@ impl Window {
         ensures excerpt { self.new.excerpt ≡ self.old.excerpt }
         ensures held { self.new.held ≡ self.old.held }
     {
-        let from = self.last.saturating_add(1);
+        let told = self.leave_out(alloc, page, number.saturating_sub(1));
         self.last = number;
-        if number <= from {
+        told
+    }
+
+    // Tells which lines are left out behind the last one that was told, up to this one.
+    fn leave_out(&self, alloc: Global, page: &mut Page, to: u64) -> Result<(), AllocError>
+        ensures { OnOk result (self.now.excerpt.form ≡ Text
+            → Adds page.old page.new (left_out self.now.last (to + 1))) }
+    {
+        if to <= self.last {
             return Ok(());
         }
-        let to = number - 1;
+        let from = self.last + 1;
         self.teller().gap(alloc, page, Gap { from, to })
     }
 
@@ -272,20 +280,9 @@ impl Window {
     pub fn finish(&self, alloc: Global, page: &mut Page, lines: u64) -> Result<(), AllocError>
         ensures { OnOk result (self.now.excerpt.form ≡ Text → AddsSome page.old page.new) }
     {
-        self.leave_rest(alloc, page, lines)?;
+        self.leave_out(alloc, page, lines)?;
         self.teller().end_lines(page, &self.links);
         Ok(())
-    }
-
-    // Tells which lines are left out behind the last one that was told, where the log has so many.
-    fn leave_rest(&self, alloc: Global, page: &mut Page, lines: u64) -> Result<(), AllocError>
-        ensures { OnOk result (self.now.excerpt.form ≡ Text → AddsSome page.old page.new) }
-    {
-        if lines <= self.last {
-            return Ok(());
-        }
-        let from = self.last + 1;
-        self.teller().gap(alloc, page, Gap { from, to: lines })
     }
 
     /// The lines to which links may lead.

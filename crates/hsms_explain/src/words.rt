@@ -1,6 +1,6 @@
 //! The words that stand below a line.
 
-ghost use Rattle.std.specs.Prelude.{◌≡◌, Some, codes};
+ghost use Rattle.std.specs.Prelude.{◌≡◌, Some};
 ghost use Rattle.hsms_explain.specs.Words.{alike_text, cause_word, closing_text, concern_text, rest_text, tie_word, why_name};
 
 use crate::moment::Moment;
@@ -142,12 +142,31 @@ pub enum Unjudged {
     NoEntry,
 }
 
+impl Unjudged {
+    /// The same in words.
+    pub fn words(self) -> &'static str {
+        match self {
+            Unjudged::Unreadable => "nothing was judged: line 1 can't be read",
+            Unjudged::NoEntry => "nothing was judged: the log has no entry",
+        }
+    }
+}
+
 impl fmt::Display for Unjudged {
     fn fmt<W: fmt::Write>(&self, f: &mut fmt::Formatter<W>) -> fmt::Result {
-        match self {
-            Unjudged::Unreadable => write!(f, "nothing was judged: line 1 can't be read"),
-            Unjudged::NoEntry => write!(f, "nothing was judged: the log has no entry"),
-        }
+        let words = self.words();
+        write!(f, "{words}")
+    }
+}
+
+/// System bytes, as a log has them.
+#[derive(Clone, Copy)]
+pub struct System(pub u32);
+
+impl fmt::Display for System {
+    fn fmt<W: fmt::Write>(&self, f: &mut fmt::Formatter<W>) -> fmt::Result {
+        let system = self.0;
+        write!(f, "{system:08x}")
     }
 }
 
@@ -170,42 +189,33 @@ pub struct GoingOn {
 
 /// An entry that is put before a line, as it would stand in the log.
 #[derive(Clone, Copy)]
-pub struct Put {
-    time: u64,
-    what: Missing,
-}
-
-// What is missing.
-#[derive(Clone, Copy)]
-enum Missing {
-    T3(u32),
-    Cut(Cause),
-    Down,
+pub enum Put {
+    T3(u64, u32),
+    Cut(u64, Cause),
+    Down(u64),
 }
 
 impl Put {
     /// What the remedy puts before the line, if it does that.
     pub fn of(remedy: Remedy) -> Option<Put> {
-        let (time, what) = match remedy {
-            Remedy::ExpireFirst(time, system) => (time, Missing::T3(system)),
-            Remedy::CutFirst(time, cause) => (time, Missing::Cut(cause)),
-            Remedy::DownFirst(time) => (time, Missing::Down),
-            Remedy::Raise(_) | Remedy::Discard | Remedy::LeaveOut => return None,
-        };
-        Some(Put { time, what })
+        match remedy {
+            Remedy::ExpireFirst(time, system) => Some(Put::T3(time, system)),
+            Remedy::CutFirst(time, cause) => Some(Put::Cut(time, cause)),
+            Remedy::DownFirst(time) => Some(Put::Down(time)),
+            Remedy::Raise(_) | Remedy::Discard | Remedy::LeaveOut => None,
+        }
     }
 }
 
 impl fmt::Display for Put {
     fn fmt<W: fmt::Write>(&self, f: &mut fmt::Formatter<W>) -> fmt::Result {
-        let time = self.time;
-        match self.what {
-            Missing::T3(system) => write!(f, "{time} t3 {system:08x}"),
-            Missing::Cut(cause) => {
+        match *self {
+            Put::T3(time, system) => write!(f, "{time} t3 {system:08x}"),
+            Put::Cut(time, cause) => {
                 let cause = word(cause);
                 write!(f, "{time} cut {cause}")
             }
-            Missing::Down => write!(f, "{time} down"),
+            Put::Down(time) => write!(f, "{time} down"),
         }
     }
 }

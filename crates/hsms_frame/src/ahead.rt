@@ -4,7 +4,7 @@ ghost use Rattle.std.specs.Prelude.{◌≡◌, ◌≤◌, ◌<◌, ◌+◌, ◌-
 ghost use Rattle.std.specs.List.{slice_range};
 ghost use Rattle.hsms_frame.specs.Ahead.{ReadsMore, ends_after_more, failures_after_more, most_ahead};
 ghost use Rattle.hsms_frame.specs.Count.{next_count};
-ghost use Rattle.hsms_frame.specs.Device.{WhereTold, IsAtEnd, Stays, Takes, ends_after};
+ghost use Rattle.hsms_frame.specs.Device.{WhereTold, IsAtEnd, Stays};
 
 use crate::device::Source;
 use crate::fault::AheadFault;
@@ -27,7 +27,7 @@ pub struct Ahead {
 }
 
 impl Model for Ahead {
-    ghost use Rattle.std.specs.Prelude.{◌≡◌, ◌≤◌, List, ℕ, vec_len};
+    ghost use Rattle.std.specs.Prelude.{◌≤◌, List, ℕ, vec_len};
     ghost use Rattle.std.specs.List.{slice_range};
 
     ghost Value = { List ℕ };
@@ -142,22 +142,5 @@ fn read_behind<R: Source>(
     ensures ends_stay { OnErr result ((R.state source.new).ends ≡ (R.state source.old).ends) }
     ensures failures { (R.state source.new).failures ≡ failures_after_more result (R.state source.old).failures }
 {
-    let tail = &mut octets[end..most];
-    let count = pull(source, tail)?;
-    Ok(count)
-}
-
-// Reads some octets to the front of a slice, and says how many.
-fn pull<R: Source>(source: &mut R, into: &mut [u8]) -> Result<usize, AheadFault>
-    ensures len { length into.new ≡ length into.old }
-    ensures bound { IfOk result (λ n. n ≤ length into.new) }
-    ensures octets { IfOk result (λ n. Takes (R.state source.old).left (R.state source.new).left n into.new) }
-    ensures end { IfOk result (λ n. n ≡ 0 → 0 < length into.new → IsAtEnd (R.state source.old).left) }
-    ensures ends { IfOk result (λ n. (R.state source.new).ends
-        ≡ ends_after (length into.new) (Ok n) (R.state source.old).ends) }
-    ensures ends_stay { OnErr result ((R.state source.new).ends ≡ (R.state source.old).ends) }
-    ensures none_lost { OnErr result (Stays (R.state source.old).left (R.state source.new).left) }
-    ensures failures { (R.state source.new).failures ≡ failures_after_more result (R.state source.old).failures }
-{
-    Ok(source.pull(into)?)
+    Ok(source.pull(&mut octets[end..most])?)
 }

@@ -1,6 +1,6 @@
 //! Messages from octets that come in pieces.
 
-ghost use Rattle.std.specs.Prelude.{◌≡◌, ◌≤◌, ◌<◌, ◌+◌, [], ◌++◌, ◌⊎◌, drop, length, vec_len, IfOk, IfSome, OnOk, OnErr, IsOkUnless, Err};
+ghost use Rattle.std.specs.Prelude.{◌≡◌, ◌≤◌, ◌<◌, ◌+◌, [], ◌⊎◌, drop, length, vec_len, IfOk, IfSome, OnOk, OnErr, IsOkUnless, Err};
 ghost use Rattle.hsms_frame.specs.Framing.{FramesAs, FrontAs, IsPushed, rest_after};
 
 use crate::fault::FrameFault;

@@ -88,8 +88,7 @@ impl Source for Feed {
         let is_spent = self.tally.calls >= self.fuse;
         self.tally.count(into.is_empty());
         if is_spent {
-            self.tally.fail();
-            return Err(Failed);
+            return Err(self.tally.fail());
         }
         let count = copy_front(&self.octets[self.place..], into, self.piece);
         if count == 0 && !into.is_empty() {
@@ -173,8 +172,7 @@ impl Sink for Store {
         let is_spent = self.tally.calls >= self.fuse;
         self.tally.count(from.is_empty());
         if is_spent || self.place == self.room.len() {
-            self.tally.fail();
-            return Err(Failed);
+            return Err(self.tally.fail());
         }
         let count = overwrite(&mut self.room, self.place, from, self.piece);
         self.place += count;

@@ -1,7 +1,7 @@
 //! The readers and writers of std as devices: each counts the calls, and every error of std is a failure at once, with
 //! no second try.
 
-ghost use Rattle.std.specs.Prelude.{◌≡◌, Some};
+ghost use Rattle.std.specs.Prelude.{◌≡◌};
 
 use crate::device::{Failed, Sink, Source};
 use crate::tally::Tally;
@@ -38,18 +38,13 @@ impl<R: Read> Source for Reader<R> {
 
     fn pull(&mut self, into: &mut [u8]) -> Result<usize, Failed> {
         self.tally.count(into.is_empty());
-        match self.inner.read(into) {
-            Ok(count) => {
-                if count == 0 && !into.is_empty() {
-                    self.tally.end();
-                }
-                Ok(count)
-            }
-            Err(_) => {
-                self.tally.fail();
-                Err(Failed)
-            }
+        let Ok(count) = self.inner.read(into) else {
+            return Err(self.tally.fail());
+        };
+        if count == 0 && !into.is_empty() {
+            self.tally.end();
         }
+        Ok(count)
     }
 }
 
@@ -61,6 +56,9 @@ pub struct Writer<W> {
 }
 
 impl<W: Write> Writer<W> {
+    ghost use Rattle.hsms_frame.specs.Count.{count_failure};
+    ghost use Rattle.hsms_frame.specs.Device.{Stays};
+
     /// A sink that adds to what the writer holds.
     pub fn new(inner: W) -> Writer<W>
         ensures { ⟦<Writer<W> as Sink>⟧.state result ≡ record { written = W.contents inner; gives = 0; failures = 0 } }
@@ -70,11 +68,6 @@ impl<W: Write> Writer<W> {
             tally: Tally::new(),
         }
     }
-}
-
-impl<W: Write> Writer<W> {
-    ghost use Rattle.hsms_frame.specs.Count.{count_failure};
-    ghost use Rattle.hsms_frame.specs.Device.{Stays};
 
     /// Has the writer put out what it holds back, as a buffered one does. To contracts that writes nothing more.
     pub fn flush(&mut self) -> Result<(), Failed>
@@ -86,10 +79,7 @@ impl<W: Write> Writer<W> {
     {
         match self.inner.flush() {
             Ok(()) => Ok(()),
-            Err(_) => {
-                self.tally.fail();
-                Err(Failed)
-            }
+            Err(_) => Err(self.tally.fail()),
         }
     }
 }
@@ -100,15 +90,8 @@ impl<W: Write> Sink for Writer<W> {
     fn give(&mut self, from: &[u8]) -> Result<usize, Failed> {
         self.tally.count(from.is_empty());
         match self.inner.write(from) {
-            Ok(0) if !from.is_empty() => {
-                self.tally.fail();
-                Err(Failed)
-            }
-            Ok(count) => Ok(count),
-            Err(_) => {
-                self.tally.fail();
-                Err(Failed)
-            }
+            Ok(count) if count > 0 || from.is_empty() => Ok(count),
+            _ => Err(self.tally.fail()),
         }
     }
 }

@@ -3,6 +3,8 @@
 ghost use Rattle.std.specs.Prelude.{◌≡◌, if◌then◌else◌};
 ghost use Rattle.hsms_frame.specs.Count.{next_count};
 
+use crate::device::Failed;
+
 /// How often a device was called, was called with an empty slice, found its end, and failed.
 #[derive(Clone, Copy)]
 pub struct Tally {
@@ -44,10 +46,11 @@ impl Tally {
         self.ends = self.ends.saturating_add(1);
     }
 
-    /// Counts a failure.
-    pub fn fail(&mut self)
+    /// Counts a failure, and gives it.
+    pub fn fail(&mut self) -> Failed
         ensures { self.new ≡ record self.old { failures = next_count self.old.failures } }
     {
         self.failures = self.failures.saturating_add(1);
+        Failed
     }
 }

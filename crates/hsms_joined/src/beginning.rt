@@ -111,12 +111,7 @@ pub(crate) fn is_sure(session: Session, octets: &[u8]) -> bool
     ensures { IsSureBy session octets.now result }
 {
     match row(session, octets, MOST) {
-        Some(count) => {
-            if count == MOST {
-                return true;
-            }
-            false
-        }
+        Some(count) => count == MOST,
         None => false,
     }
 }

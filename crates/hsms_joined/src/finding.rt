@@ -130,8 +130,6 @@ fn octet_in(cell: Option<Cell>) -> Option<u8>
 {
     match cell {
         Some(Cell::Octet(octet)) => Some(octet),
-        Some(Cell::Syn) => None,
-        Some(Cell::Fin) => None,
-        None => None,
+        Some(Cell::Syn | Cell::Fin) | None => None,
     }
 }

@@ -5,7 +5,6 @@ ghost use Rattle.hsms_joined.specs.Joining.{IsStart, has_both, opening_as, openi
 
 use crate::gathered::Gathered;
 use crate::numbers::{is_from, number_behind, number_from, reaches};
-use crate::pieces::is_same;
 use crate::start::Start;
 use hsms_capture::{Flags, Segment, Side};
 
@@ -58,7 +57,7 @@ fn are_both(active: bool, passive: bool) -> bool
 fn shows(packet: &Gathered, side: Side, begin: u32) -> bool
     ensures { result ≡ shows side begin packet.now }
 {
-    if is_same(packet.segment.from, side) {
+    if packet.segment.from == side {
         return reaches(begin, packet.segment.number, packet.octets.len());
     }
     match packet.segment.acknowledged {

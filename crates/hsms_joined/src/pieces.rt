@@ -33,26 +33,10 @@ pub(crate) fn first_number(packets: &[Gathered], side: Side) -> u32
 fn number_told(packet: &Gathered, side: Side) -> Option<u32>
     ensures { result ≡ number_told side packet.now }
 {
-    if is_same(packet.segment.from, side) {
+    if packet.segment.from == side {
         Some(packet.segment.number)
     } else {
         packet.segment.acknowledged
-    }
-}
-
-/// Whether two sides are the same.
-pub(crate) fn is_same(one: Side, other: Side) -> bool
-    ensures { result ≡ is_same one other }
-{
-    match one {
-        Side::Active => match other {
-            Side::Active => true,
-            Side::Passive => false,
-        },
-        Side::Passive => match other {
-            Side::Active => false,
-            Side::Passive => true,
-        },
     }
 }
 
@@ -84,9 +68,8 @@ pub(crate) fn pieces_of(
     let mut acknowledged = 0;
     let mut rest = packets;
     while let Some((packet, others)) = rest.split_first() {
-        match piece_of(alloc, packet, side, first, acknowledged)? {
-            Some(piece) => pieces.push(piece)?,
-            None => {}
+        if let Some(piece) = piece_of(alloc, packet, side, first, acknowledged)? {
+            pieces.push(piece)?;
         }
         acknowledged = acknowledged_after(packet, side, first, acknowledged);
         rest = others;
@@ -104,7 +87,7 @@ fn piece_of(
 ) -> Result<Option<Piece>, AllocError>
     ensures { IfOk result (λ piece. placed_of side piece ≡ piece_of side first acknowledged packet.now) }
 {
-    if !is_same(packet.segment.from, side) {
+    if packet.segment.from != side {
         return Ok(None);
     }
     let place = place_by(first, packet.segment.number);
@@ -140,7 +123,7 @@ fn counts(packet: &Gathered, place: u32, acknowledged: u32) -> bool
 fn acknowledged_after(packet: &Gathered, side: Side, first: u32, before: u32) -> u32
     ensures { result ≡ acknowledged_after side first before packet.now }
 {
-    if is_same(packet.segment.from, side) {
+    if packet.segment.from == side {
         return before;
     }
     match packet.segment.acknowledged {

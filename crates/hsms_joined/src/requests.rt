@@ -1,7 +1,7 @@
 //! Requests that a capture has, and responses to others.
 
 ghost use Rattle.std.specs.Prelude.{◌≡◌};
-ghost use Rattle.hsms_joined.specs.Requests.{asks_data, asks_linktest, asks_select, is_response};
+ghost use Rattle.hsms_joined.specs.Requests.{is_response};
 
 use hsms_frame::{Header, Kind, kind};
 use indexmap::IndexSet;
@@ -50,14 +50,25 @@ impl Requests {
             → OnOk result (KnowsOf (said ++ message ∷ []) self.new) }
         ensures err { (said : List Header) → KnowsOf said self.old → OnErr result (KnowsOf said self.new) }
     {
-        if asks_data(message) {
-            self.primaries.insert(message.system)?;
-        }
-        if asks_select(message) {
-            self.selects.insert(message.system)?;
-        }
-        if asks_linktest(message) {
-            self.linktests.insert(message.system)?;
+        match kind(message) {
+            Kind::Primary => {
+                if message.wait() {
+                    self.primaries.insert(message.system)?;
+                }
+            }
+            Kind::SelectReq => {
+                self.selects.insert(message.system)?;
+            }
+            Kind::LinktestReq => {
+                self.linktests.insert(message.system)?;
+            }
+            Kind::Reply => {}
+            Kind::SelectRsp => {}
+            Kind::LinktestRsp => {}
+            Kind::Reject => {}
+            Kind::Separate => {}
+            Kind::OtherSType => {}
+            Kind::OtherPType => {}
         }
         Ok(())
     }
@@ -70,13 +81,7 @@ impl Requests {
             Kind::Reply => self.primaries.contains(&response.system),
             Kind::SelectRsp => self.selects.contains(&response.system),
             Kind::LinktestRsp => self.linktests.contains(&response.system),
-            Kind::Primary
-            | Kind::SelectReq
-            | Kind::LinktestReq
-            | Kind::Reject
-            | Kind::Separate
-            | Kind::OtherSType
-            | Kind::OtherPType => false,
+            _ => false,
         }
     }
 
@@ -86,13 +91,9 @@ impl Requests {
     pub fn leaves_out(&self, message: Header, begun: u64, t3: u32, time: u64) -> bool
         ensures { (said : List Header) → KnowsOf said self.now → result ≡ is_left_out message said begun t3 time }
     {
-        if !is_response(message) {
-            return false;
-        }
-        if self.has_asked_for(message) {
-            return false;
-        }
-        time.saturating_sub(begun) <= u64::from(t3)
+        is_response(message)
+            && !self.has_asked_for(message)
+            && time.saturating_sub(begun) <= u64::from(t3)
     }
 }
 
@@ -100,38 +101,8 @@ impl Requests {
 fn is_response(message: Header) -> bool
     ensures { result ≡ is_response message }
 {
-    match kind(message) {
-        Kind::Reply | Kind::SelectRsp | Kind::LinktestRsp => true,
-        _ => false,
-    }
-}
-
-// Whether a message asks for data.
-fn asks_data(message: Header) -> bool
-    ensures { result ≡ asks_data message }
-{
-    match kind(message) {
-        Kind::Primary => message.wait(),
-        _ => false,
-    }
-}
-
-// Whether a message asks for a Select.rsp.
-fn asks_select(message: Header) -> bool
-    ensures { result ≡ asks_select message }
-{
-    match kind(message) {
-        Kind::SelectReq => true,
-        _ => false,
-    }
-}
-
-// Whether a message asks for a Linktest.rsp.
-fn asks_linktest(message: Header) -> bool
-    ensures { result ≡ asks_linktest message }
-{
-    match kind(message) {
-        Kind::LinktestReq => true,
-        _ => false,
-    }
+    matches!(
+        kind(message),
+        Kind::Reply | Kind::SelectRsp | Kind::LinktestRsp
+    )
 }

@@ -21,13 +21,7 @@ pub(crate) fn is_of(session: Session, header: Header, length: u32) -> bool
     ensures value { result ≡ is_of session header length }
     ensures least { result ≡ true → 10 ≤ length }
 {
-    if length < HEADER_LENGTH as u32 {
-        return false;
-    }
-    if length > session.max {
-        return false;
-    }
-    has_kind(session, header, length)
+    HEADER_LENGTH as u32 <= length && length <= session.max && has_kind(session, header, length)
 }
 
 // The same by its kind alone.

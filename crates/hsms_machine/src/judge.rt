@@ -13,7 +13,7 @@ use hsms_frame::{HEADER_LENGTH, Kind};
 use secs_item::measure_text;
 
 impl View {
-    ghost use Rattle.std.specs.Prelude.{◌≡◌, ◌↔◌, ◌+◌, ◌<◌, ◌++◌, [], ◌∷◌, length, IsTrue};
+    ghost use Rattle.std.specs.Prelude.{◌↔◌, ◌+◌, ◌<◌, ◌++◌, [], ◌∷◌, length, IsTrue};
     ghost use Rattle.hsms_machine.specs.declared.entry.Event.{Event};
     ghost use Rattle.hsms_machine.specs.declared.rule.Rule.{Rule};
     ghost use Rattle.secs_item.specs.Spelling.{IsText};

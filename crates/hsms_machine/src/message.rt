@@ -1,6 +1,6 @@
 //! What the rules ask of a header.
 
-ghost use Rattle.std.specs.Prelude.{◌≡◌, ◌==◌, ◌&&◌, ◌||◌};
+ghost use Rattle.std.specs.Prelude.{◌≡◌};
 ghost use Rattle.hsms_machine.specs.Message.{is_data_request as opens_data_transaction, is_control_request as opens_control_transaction, establishes as is_establishment, separates as is_separation, is_data as carries_data, is_control as is_control_message, is_response as is_response_message, may_conclude as is_of_conclusive_kind, has_session as is_session_right, has_direction as is_direction_right, has_wait as is_wait_right, is_from_active as comes_from_active, is_from_equipment as comes_from_equipment};
 ghost use Rattle.hsms_machine.specs.Transaction.{answers as is_answer, is_reply_to as is_reply, concludes as is_conclusion, rejects as is_reject};
 
@@ -69,10 +69,7 @@ impl Message {
 pub fn is_data_request(message: Message) -> bool
     ensures { result ≡ opens_data_transaction message }
 {
-    match message.kind() {
-        Kind::Primary => message.header().wait(),
-        _ => false,
-    }
+    matches!(message.kind(), Kind::Primary) && message.header().wait()
 }
 
 /// Whether the message is a Select.req or a Linktest.req.
@@ -80,10 +77,7 @@ pub fn is_data_request(message: Message) -> bool
 pub fn is_control_request(message: Message) -> bool
     ensures { result ≡ opens_control_transaction message }
 {
-    match message.kind() {
-        Kind::SelectReq | Kind::LinktestReq => true,
-        _ => false,
-    }
+    matches!(message.kind(), Kind::SelectReq | Kind::LinktestReq)
 }
 
 fn is_reply_to(primary: Header, reply: Header) -> bool
@@ -162,10 +156,10 @@ pub fn is_data(message: Message) -> bool
 pub fn is_control(message: Message) -> bool
     ensures { result ≡ is_control_message message }
 {
-    match message.kind() {
-        Kind::Primary | Kind::Reply | Kind::OtherSType | Kind::OtherPType => false,
-        _ => true,
-    }
+    !matches!(
+        message.kind(),
+        Kind::Primary | Kind::Reply | Kind::OtherSType | Kind::OtherPType
+    )
 }
 
 #[tactic(auto, unfolding(crate::specs::Message::is_response))]
@@ -193,19 +187,19 @@ pub fn has_session(settings: Settings, message: Message) -> bool
 fn is_from_active(link: Side, flow: Flow) -> bool
     ensures { result ≡ comes_from_active link flow }
 {
-    match (link, flow) {
-        (Side::Active, Flow::Outgoing) | (Side::Passive, Flow::Incoming) => true,
-        _ => false,
-    }
+    matches!(
+        (link, flow),
+        (Side::Active, Flow::Outgoing) | (Side::Passive, Flow::Incoming)
+    )
 }
 
 fn is_from_equipment(role: Role, flow: Flow) -> bool
     ensures { result ≡ comes_from_equipment role flow }
 {
-    match (role, flow) {
-        (Role::Equipment, Flow::Outgoing) | (Role::Host, Flow::Incoming) => true,
-        _ => false,
-    }
+    matches!(
+        (role, flow),
+        (Role::Equipment, Flow::Outgoing) | (Role::Host, Flow::Incoming)
+    )
 }
 
 /// Whether the end from which the message comes may send it.

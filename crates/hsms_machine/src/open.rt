@@ -54,7 +54,7 @@ impl Transactions {
     ghost use Rattle.hsms_machine.specs.Timer.{least_in, due_times, due_at};
     ghost use Rattle.hsms_machine.specs.Transaction.{answers as is_answer, concludes as is_conclusion};
     ghost use Rattle.hsms_machine.specs.View.{oldest_of};
-    ghost use Rattle.hsms_machine.specs.Ordered.{AreInOrder, AreApart, AreListed, AreUntil, uses, first_of};
+    ghost use Rattle.hsms_machine.specs.Ordered.{AreInOrder, AreApart, AreUntil, uses, first_of};
 
     /// No transaction.
     pub fn new(alloc: Global) -> Self
@@ -100,10 +100,8 @@ impl Transactions {
     pub fn oldest(&self) -> Option<(u64, Header)>
         ensures { result ≡ oldest_of self.now }
     {
-        match self.first() {
-            Some(opened) => Some((opened.time, opened.header)),
-            None => None,
-        }
+        let opened = self.first()?;
+        Some((opened.time, opened.header))
     }
 
     /// The transaction of these system bytes.
@@ -124,10 +122,8 @@ impl Transactions {
         ensures time { IfSome result (λ time. list_any (λ opened. (opened.header.system == message.system) && (opened.time == time)) self.now ≡ true) }
         ensures none { IfNone result (uses message.system self.now ≡ false) }
     {
-        match self.get(message.header().system) {
-            Some(opened) => Some(opened.time),
-            None => None,
-        }
+        let opened = self.get(message.header().system)?;
+        Some(opened.time)
     }
 
     /// Puts a transaction at the end.
@@ -230,10 +226,8 @@ impl Transactions {
     pub fn first_due(&self, limit: u32) -> Option<u64>
         ensures { result ≡ least_in (due_times limit self.now) }
     {
-        match self.first() {
-            Some(opened) => Self::due_at(opened.time, limit),
-            None => None,
-        }
+        let opened = self.first()?;
+        Self::due_at(opened.time, limit)
     }
 
     /// The moment at which the limit has passed since a time.
@@ -248,15 +242,11 @@ impl Transactions {
         ensures time { IfSome result (λ time. list_any (λ opened. is_conclusion opened.header other && (opened.time == time)) self.now ≡ true) }
         ensures none { IfNone result (list_any (λ opened. is_conclusion opened.header other) self.now ≡ false) }
     {
-        match self.get(other.header().system) {
-            Some(opened) => {
-                if concludes(opened.header, other) {
-                    Some(opened.time)
-                } else {
-                    None
-                }
-            }
-            None => None,
+        let opened = self.get(other.header().system)?;
+        if concludes(opened.header, other) {
+            Some(opened.time)
+        } else {
+            None
         }
     }
 

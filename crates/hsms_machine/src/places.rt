@@ -65,15 +65,6 @@ impl Places {
         ensures err { OnErr result (self.new ≡ self.old) }
         ensures last { self.new.last_time ≤ place }
     {
-        self.take_in(place, entry)
-    }
-
-    fn take_in(&mut self, place: u64, entry: &EntryRef<'_>) -> Result<(), AllocError>
-        requires rising { self.old.last_time ≤ place }
-        ensures next { OnOk result (PlacesLeadTo self.old place entry.now self.new) }
-        ensures err { OnErr result (self.new ≡ self.old) }
-        ensures last { self.new.last_time ≤ place }
-    {
         let (_, act, _) = entry.parts();
         if self.is_fresh(act) {
             self.view.take_in(place, act)?;
@@ -110,10 +101,7 @@ impl Places {
             Act::Taken(message) => {
                 Self::concluded(&self.view.sent_data, &self.view.sent_control, *message)
             }
-            Act::T3(system) => match self.view.sent_data.get(*system) {
-                Some(opened) => Some(opened.time),
-                None => None,
-            },
+            Act::T3(system) => Some(self.view.sent_data.get(*system)?.time),
             Act::Up | Act::Discarded(_) | Act::Cut(_) | Act::Down => None,
         }
     }
@@ -124,10 +112,8 @@ impl Places {
         ensures place { IfSome result (IsPlaceOfOldest self.now) }
         ensures none { IfNone result (NoPrimaryIsOpen self.now) }
     {
-        match self.view.sent_data.first() {
-            Some(opened) => Some(opened.time),
-            None => None,
-        }
+        let opened = self.view.sent_data.first()?;
+        Some(opened.time)
     }
 
     /// The place of the open transaction that has the direction and the system bytes of this sent or taken frame, which a

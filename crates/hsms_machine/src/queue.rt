@@ -79,10 +79,8 @@ impl Queue {
         ensures first { result ≡ first_of self.now }
         ensures in_order { AreInOrder self.now }
     {
-        match self.items.get_index(self.closed) {
-            Some((_, opened)) => Some(*opened),
-            None => None,
-        }
+        let (_, opened) = self.items.get_index(self.closed)?;
+        Some(*opened)
     }
 
     /// The transaction of these system bytes, and its place. The oldest is looked at first, without a hash: mostly
@@ -93,15 +91,11 @@ impl Queue {
         ensures place { IfSome result (λ x. remove self.now x.0 ≡ filter (λ opened. not (opened.header.system == system)) self.now) }
         ensures apart { AreApart self.now }
     {
-        let Some((_, oldest)) = self.items.get_index(self.closed) else {
-            return None;
-        };
+        let (_, oldest) = self.items.get_index(self.closed)?;
         if oldest.header.system == system {
             return Some((0, *oldest));
         }
-        let Some((place, _, opened)) = self.items.get_full(&system) else {
-            return None;
-        };
+        let (place, _, opened) = self.items.get_full(&system)?;
         if place < self.closed {
             return None;
         }
@@ -114,10 +108,8 @@ impl Queue {
         ensures found { result ≡ find (λ opened. opened.header.system == system) self.now }
         ensures apart { AreApart self.now }
     {
-        match self.found(system) {
-            Some((_, opened)) => Some(opened),
-            None => None,
-        }
+        let (_, opened) = self.found(system)?;
+        Some(opened)
     }
 
     /// Puts a transaction at the end.
@@ -169,15 +161,11 @@ impl Queue {
         ensures none { IfNone result (list_any (λ opened. is_conclusion opened.header other) self.now ≡ false) }
         ensures place { IfSome result (λ place. remove self.now place ≡ filter (λ opened. not (is_conclusion opened.header other)) self.now) }
     {
-        match self.found(other.header().system) {
-            Some((place, opened)) => {
-                if concludes(opened.header, other) {
-                    Some(place)
-                } else {
-                    None
-                }
-            }
-            None => None,
+        let (place, opened) = self.found(other.header().system)?;
+        if concludes(opened.header, other) {
+            Some(place)
+        } else {
+            None
         }
     }
 

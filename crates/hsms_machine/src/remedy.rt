@@ -23,7 +23,7 @@ pub enum Remedy {
 }
 
 impl View {
-    ghost use Rattle.std.specs.Prelude.{◌≡◌, ◌+◌, min, []};
+    ghost use Rattle.std.specs.Prelude.{◌≡◌, []};
     ghost use Rattle.hsms_machine.specs.Act.{event_of, entry_of};
     ghost use Rattle.hsms_machine.specs.Ordered.{first_of};
     ghost use Rattle.hsms_machine.specs.Step.{is_connected as is_phase_connected};
@@ -79,10 +79,7 @@ impl View {
     fn is_connected(&self) -> bool
         ensures { result ≡ is_phase_connected self.now.phase }
     {
-        match self.phase {
-            Phase::Before | Phase::Gone => false,
-            Phase::NotSelected | Phase::Selected | Phase::Over => true,
-        }
+        !matches!(self.phase, Phase::Before | Phase::Gone)
     }
 
     fn expire_first(&self, time: u64) -> Remedy
@@ -126,17 +123,9 @@ impl View {
     fn expiry(&self, now: u64, since: u64, limit: u32) -> u64
         ensures { result ≡ expiry_of self.now now since limit }
     {
-        let due = Self::passed(since, limit, now);
-        if self.last_time < due {
-            due
-        } else {
-            self.last_time
-        }
-    }
-
-    fn passed(since: u64, limit: u32, now: u64) -> u64
-        ensures { result ≡ min (since + limit) now }
-    {
-        since.saturating_add(u64::from(limit)).min(now)
+        since
+            .saturating_add(u64::from(limit))
+            .min(now)
+            .max(self.last_time)
     }
 }

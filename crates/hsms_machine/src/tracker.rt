@@ -143,7 +143,7 @@ impl Tracker {
     pub fn own_open(&self) -> usize
         ensures { result ≡ own_open_of self.now }
     {
-        self.view.own_open()
+        self.view.sent_control.len() + self.view.sent_data.len()
     }
 
     /// The least moment, in the milliseconds of the entries, at which a timer runs out while the session is

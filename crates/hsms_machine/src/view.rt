@@ -23,11 +23,11 @@ pub struct View {
 }
 
 impl View {
-    ghost use Rattle.std.specs.Prelude.{◌≡◌, ◌++◌, [], None, false, not, filter, IsTrue, OnOk, OnErr, option_to_list};
+    ghost use Rattle.std.specs.Prelude.{◌≡◌, ◌++◌, [], false, not, filter, IsTrue, OnOk, OnErr, option_to_list};
     ghost use Rattle.hsms_machine.specs.Message.{is_request, is_data_request as opens_data_transaction, is_control_request as opens_control_transaction};
     ghost use Rattle.hsms_machine.specs.Transaction.{opens, opened_by, concludes as is_conclusion, SentData, SentControl, TakenData, TakenControl};
     ghost use Rattle.hsms_machine.specs.Session.{ends_session as is_end_of_session, selects as is_selection};
-    ghost use Rattle.hsms_machine.specs.View.{view_of, own_open_of, next_due_of};
+    ghost use Rattle.hsms_machine.specs.View.{view_of, next_due_of};
     ghost use Rattle.hsms_machine.specs.Act.{event_of, entry_of};
     ghost use Rattle.hsms_machine.specs.Step.{view_after, pool_after, phase_after, IsUntil, IsFresh};
     ghost use Rattle.hsms_machine.specs.Ordered.{AreUntil, uses};
@@ -47,13 +47,6 @@ impl View {
             taken_data: Transactions::new(alloc),
             taken_control: Transactions::new(alloc),
         }
-    }
-
-    /// How many sent requests are open.
-    pub fn own_open(&self) -> usize
-        ensures { result ≡ own_open_of self.now }
-    {
-        self.sent_data.len() + self.sent_control.len()
     }
 
     /// The least moment at which a timer runs out.

@@ -1,5 +1,5 @@
 -- What the words of a command line ask for.
-use Rattle.std.proofs.Common.{◌≡◌, ◌≢◌, ◌<◌, ◌≤◌, ◌^◌, ◌&&◌, ◌⊎◌, ℕ, Bool, true, false, List, [], ◌∷◌, Some, None, Ok, Err, refl, sym, ◌∙◌, ap, subst, inl, inr, codes, arith}
+use Rattle.std.proofs.Common.{◌≡◌, ◌≢◌, ◌<◌, ◌≤◌, ◌^◌, ◌&&◌, ◌⊎◌, ℕ, Bool, true, false, List, [], ◌∷◌, Some, None, Ok, Err, refl, sym, ◌∙◌, ap, subst, inl, inr, arith}
 use Rattle.std.specs.Prelude.{Option, Result, IfOk, IfErr, if◌then◌else◌, nat_le, string_bytes}
 use Rattle.std.specs.Str.Parse.{ParsesUnsigned, digits_value, without_leading_plus}
 use Rattle.std.proofs.lemmas.Bool.Decides.{nat_tests}
@@ -21,7 +21,7 @@ use Rattle.hsms_options.specs.declared.options.Task.TheVariants as asked
 use Rattle.hsms_options.specs.declared.repeating.Repeat.{Repeat}
 use Rattle.hsms_options.specs.declared.service.Service.{Service}
 use Rattle.hsms_options.specs.Number.{Number, number_between, number_in}
-use Rattle.hsms_options.specs.Options.{AsksBy, AsksFor, CallsForText, IsHelp, Spells, SpellsNothing, SpellsWork, command_line, request_to_serve}
+use Rattle.hsms_options.specs.Options.{AsksBy, CallsForText, IsHelp, Spells, SpellsNothing, SpellsWork, command_line}
 use Rattle.hsms_machine.specs.Settings.{Parameters}
 use Rattle.hsms_options.specs.Service.{AsksToServe, HasTerms}
 use Rattle.hsms_options.specs.Status.{IsRefusedAs, IsRefusedFor}
@@ -80,12 +80,6 @@ number_read {E} gives n found r parses few none value = go (one_of n.name (rows_
     go (Some t) is = rw (sym (sym is ∙ one_text-rows found n.name)) (tried gives n t r parses few (value t is))
 
 -- ---- serving
-
--- the name is that of serving, and this is what it asks for
-pub service_asked : (name : Text) (rows : List Row) (r : Result Service ToolFault) → name ≡ codes "serve"
-    → IfOk r (AsksToServe rows) → IfOk (request_to_serve r) (AsksFor name rows)
-service_asked name rows (Ok service) is asks = (is, asks)
-service_asked name rows (Err fault) is asks = tt
 
 -- what has to be given isn't there
 pub no_terms : (rows : List Row) (text : List ℕ) (fault : ToolFault)

@@ -1,21 +1,17 @@
 -- Options and subcommands as they are described to `clap`.
 use Rattle.std.specs.Prelude.{◌++◌, List, [], ◌∷◌, map}
-use Rattle.clap.specs.Words.{App, Rule, Shape, Text, new_app, with_subcommand}
+use Rattle.clap.specs.Words.{App, Rule, Shape, new_app, with_subcommand}
 use Rattle.hsms_options.specs.declared.describing.Subcommand.{Subcommand}
 use Rattle.hsms_options.specs.declared.describing_options.Described.{Described}
-use Rattle.hsms_options.specs.declared.describing_options.Takes.{Takes}
-use Rattle.hsms_options.specs.declared.describing_options.Takes.TheVariants.{Nothing, Word, Number}
-use Rattle.hsms_options.specs.Number.{flag_option, ranged_option, text_option}
-
--- the option of a name, by what stands behind it
-abbrev pub rule_taking : Takes → Text → Rule
-rule_taking Nothing name = flag_option name
-rule_taking (Word _) name = text_option name
-rule_taking (Number _ least greatest) name = ranged_option name least greatest
+use Rattle.hsms_options.specs.declared.describing_options.Described.TheVariants.{Flag, Word, Needed, Number}
+use Rattle.hsms_options.specs.Number.{flag_option, needed_option, number_told, option_of, text_option}
 
 -- the option that is described
 abbrev pub rule_described : Described → Rule
-rule_described option = record (rule_taking option.takes option.name.now) { required = option.is_needed }
+rule_described (Flag name help) = flag_option name.now
+rule_described (Word name value help) = text_option name.now
+rule_described (Needed name value help) = needed_option name.now
+rule_described (Number number help) = option_of (number_told number)
 
 -- the subcommand that is described
 abbrev pub shape_described : Subcommand → Shape

@@ -1,5 +1,5 @@
 -- Options with numbers, and flags, by the way in which `clap` reads them.
-use Rattle.std.specs.Prelude.{◌≡◌, ℕ, Bool, false, true, not, is_some, pos, List, codes, Option, Some, None, if◌then◌else◌}
+use Rattle.std.specs.Prelude.{◌≡◌, ◌≤◌, ℕ, Bool, false, true, not, is_some, pos, List, codes, Option, Some, None, if◌then◌else◌}
 use Rattle.std.specs.Option.{option_map_or}
 use Rattle.std.specs.Str.{bytes_eq}
 use Rattle.std.specs.Str.Parse.{digits_value, without_leading_plus}
@@ -7,6 +7,7 @@ use Rattle.clap.specs.ValueTests.{is_unsigned_in}
 use Rattle.clap.specs.Words.{Row, Rule, Text, first_of, new_rule, one_of}
 use Rattle.clap.specs.declared.builder.action.ArgAction.TheVariants.{SetTrue}
 use Rattle.clap.specs.declared.builder.value_parser.ValueParser.TheVariants.{Signed}
+use Rattle.hsms_options.specs.declared.limits.Numbered.{Numbered}
 
 -- an option with a number: its name, between which numbers it is, and what it is where it is left out, if it may be
 pub record Number : Type 0 where
@@ -14,6 +15,14 @@ pub record Number : Type 0 where
   pub least : ℕ
   pub greatest : ℕ
   pub left_out : Option ℕ
+
+-- the number of an option that is told
+abbrev pub number_told : Numbered → Number
+number_told n = record { name = n.0.now; least = n.2; greatest = n.3; left_out = n.4 }
+
+-- one of the numbers that an option may have
+abbrev pub IsOf : Number → ℕ → Type 0
+IsOf n number = (n.least ≤ number) × (number ≤ n.greatest)
 
 -- octets of header and text
 abbrev pub max_number : Number

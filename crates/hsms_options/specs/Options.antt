@@ -1,16 +1,14 @@
 -- What the words of a command line ask for, by the way in which `clap` reads them.
-use Rattle.std.specs.Prelude.{◌≡◌, ◌≢◌, ◌≤◌, ◌⊎◌, true, false, List, [], ◌∷◌, codes, Bool, Option, Some, None, Result, Ok, Err}
+use Rattle.std.specs.Prelude.{◌≡◌, ◌≢◌, ◌≤◌, ◌⊎◌, true, false, List, [], ◌∷◌, codes, Bool, Option, Some, None}
 use Rattle.clap.specs.Words.{App, IsAmong, Row, Shape, Text, fault_of, new_app, subcommand_of}
 use Rattle.clap.specs.declared.error.kind.ErrorKind.{ErrorKind}
 use Rattle.clap.specs.declared.error.kind.ErrorKind.TheVariants.{DisplayHelp, DisplayVersion}
-use Rattle.hsms_options.specs.declared.fault.ToolFault.{ToolFault}
 use Rattle.hsms_options.specs.declared.options.Form.{Form}
 use Rattle.hsms_options.specs.declared.options.Form.TheVariants as form
 use Rattle.hsms_options.specs.declared.options.Request.{Request}
 use Rattle.hsms_options.specs.declared.options.Request.TheVariants as request
 use Rattle.hsms_options.specs.declared.options.Task.{Task}
 use Rattle.hsms_options.specs.declared.options.Task.TheVariants as asked
-use Rattle.hsms_options.specs.declared.service.Service.{Service}
 use Rattle.hsms_options.specs.Capturing.{HasCapturing, IsCapturingWithinLimits, capture_rules}
 use Rattle.hsms_options.specs.Number.{IsFlag, depth_number, device_number, flag_in, flag_option, max_number, number_in, option_of, system_number}
 use Rattle.hsms_options.specs.Excerpt.{HasExcerpt, IsExcerptWithinLimits, explain_rules}
@@ -86,11 +84,6 @@ AsksFor name rows (request.Task task) = AsksForTask name rows task
 AsksFor name rows (request.Explain excerpt) = (name ≡ codes "explain") × HasExcerpt rows excerpt
 AsksFor name rows (request.Capture capturing) = (name ≡ codes "capture") × HasCapturing rows capturing
 AsksFor name rows (request.Serve service) = (name ≡ codes "serve") × AsksToServe rows service
-
--- the request to serve what is asked for
-abbrev pub request_to_serve : Result Service ToolFault → Result Request ToolFault
-request_to_serve (Ok service) = Ok (request.Serve service)
-request_to_serve (Err fault) = Err fault
 
 -- what the matches of a parse ask for
 abbrev pub AsksBy : Option (Text × List Row) → Request → Type 0

@@ -1,18 +1,17 @@
 //! The options of `hsms capture`: which connections of a capture are looked at, and what is told of them.
 
-ghost use Rattle.std.specs.Prelude.{◌≡◌, ◌≤◌, Option, IfSome, None, codes};
+ghost use Rattle.std.specs.Prelude.{◌≡◌, Option, IfSome, None, codes};
 ghost use Rattle.std.specs.declared.net.ip_addr.IpAddr.{IpAddr};
 ghost use Rattle.clap.specs.Words.{first_of, found_of, rows_of};
 ghost use Rattle.hsms_machine.specs.Settings.{Parameters};
 ghost use Rattle.hsms_machine.specs.declared.settings.Role.{Role};
-ghost use Rattle.hsms_options.specs.Capturing.{HasActive, HasCapturing, HasEnd, HasPeer, IsCapturingWithinLimits, captured_number, log_word, other_role};
-ghost use Rattle.hsms_options.specs.Number.{number_in};
+ghost use Rattle.hsms_options.specs.Capturing.{HasCapturing, HasEnd, HasPeer, IsCapturingWithinLimits, log_word, other_role};
 ghost use Rattle.hsms_options.specs.Service.{HasNumbers};
 ghost use Rattle.hsms_options.specs.declared.capturing.Capturing.{Capturing};
 
-use crate::limits::{DEFAULT_PORT, GREATEST_PORT, LEAST_PORT};
+use crate::limits::CAPTURED_PORT;
 use crate::service::{role_named, settings_with};
-use crate::values::{flag_of, number_of, text_of};
+use crate::values::{flag_of, short_of, text_of, text_or};
 use clap::ArgMatches;
 use hsms_machine::{Role, Settings, Side};
 use std::net::IpAddr;
@@ -41,10 +40,10 @@ pub fn capturing_of(options: &ArgMatches<'_>) -> Option<Capturing>
     ensures none { result ≡ None → (capturing : Capturing)
         → HasCapturing (rows_of (found_of options.now)) capturing → ⊥ }
 {
-    let port = captured_port_of(options)?;
+    let port = short_of(options, CAPTURED_PORT)?;
     let peer = peer_of(options)?;
     let log = log_of(options)?;
-    let role = active_of(options)?;
+    let role = role_named(text_or(options, "active", "host"))?;
     let active = end_of(options, role, Side::Active)?;
     let passive = end_of(options, other_role(role), Side::Passive)?;
     Some(Capturing {
@@ -57,31 +56,13 @@ pub fn capturing_of(options: &ArgMatches<'_>) -> Option<Capturing>
     })
 }
 
-fn captured_port_of(options: &ArgMatches<'_>) -> Option<u16>
-    ensures value { result ≡ number_in captured_number (rows_of (found_of options.now)) }
-    ensures within { IfSome result (λ port. (1 ≤ port) × (port ≤ 65535)) }
-{
-    let greatest = u32::from(GREATEST_PORT);
-    let port = number_of(
-        options,
-        "port",
-        u32::from(LEAST_PORT),
-        greatest,
-        Some(DEFAULT_PORT),
-    )?;
-    Some(port as u16)
-}
-
 // The address that one end is to have, if one is given. None where the option has a text that is none.
 fn peer_of(options: &ArgMatches<'_>) -> Option<Option<IpAddr>>
     ensures some { IfSome result (HasPeer (rows_of (found_of options.now))) }
     ensures none { result ≡ None → (peer : Option IpAddr) → HasPeer (rows_of (found_of options.now)) peer → ⊥ }
 {
     match text_of(options, "with") {
-        Some(text) => {
-            let address = text.parse::<IpAddr>().ok()?;
-            Some(Some(address))
-        }
+        Some(text) => Some(Some(text.parse::<IpAddr>().ok()?)),
         None => Some(None),
     }
 }
@@ -93,22 +74,8 @@ fn log_of(options: &ArgMatches<'_>) -> Option<Option<Role>>
         → first_of (codes "log") (rows_of (found_of options.now)) ≡ log_word log → ⊥ }
 {
     match text_of(options, "log") {
-        Some(text) => {
-            let role = role_named(text)?;
-            Some(Some(role))
-        }
+        Some(text) => Some(Some(role_named(text)?)),
         None => Some(None),
-    }
-}
-
-// What the end that connects is.
-fn active_of(options: &ArgMatches<'_>) -> Option<Role>
-    ensures some { IfSome result (HasActive (rows_of (found_of options.now))) }
-    ensures none { result ≡ None → (role : Role) → HasActive (rows_of (found_of options.now)) role → ⊥ }
-{
-    match text_of(options, "active") {
-        Some(text) => role_named(text),
-        None => Some(Role::Host),
     }
 }
 

@@ -7,9 +7,9 @@ ghost use Rattle.hsms_options.specs.Excerpt.{explain_rules};
 ghost use Rattle.hsms_options.specs.Options.{command_line, encode_command, show_command};
 
 use crate::describing_capture::{CAPTURE_HELP, CAPTURE_USAGE, capture_options};
-use crate::describing_options::{DEPTH, DEVICE, Described, MAX, Takes, with_options};
+use crate::describing_options::{DEPTH_OPTION, DEVICE_OPTION, Described, MAX_OPTION, with_options};
 use crate::describing_serve::{SERVE_HELP, SERVE_USAGE, serve_options};
-use crate::limits::{FIRST_LINE, GREATEST_AROUND, LAST_LINE};
+use crate::limits::{AROUND, FROM, SYSTEM, TO};
 use clap::Command;
 use std::alloc::{AllocError, Global};
 
@@ -85,77 +85,53 @@ pub struct Subcommand {
 }
 
 static SHOW_OPTIONS: [Described; 4] = [
-    MAX,
-    DEPTH,
-    Described {
-        name: "hex",
-        takes: Takes::Nothing,
-        is_needed: false,
-        help: "Read each message from a line of hexadecimal",
-    },
-    Described {
-        name: "bare",
-        takes: Takes::Nothing,
-        is_needed: false,
-        help: "With --hex: lines of header and text alone, as the hexadecimal of a log's lines",
-    },
+    MAX_OPTION,
+    DEPTH_OPTION,
+    Described::Flag("hex", "Read each message from a line of hexadecimal"),
+    Described::Flag(
+        "bare",
+        "With --hex: lines of header and text alone, as the hexadecimal of a log's lines",
+    ),
 ];
 
 static EXPLAIN_OPTIONS: [Described; 6] = [
-    Described {
-        name: "only",
-        takes: Takes::Word("failures"),
-        is_needed: false,
-        help: "Tell only the lines that fail, and those around them",
-    },
-    Described {
-        name: "around",
-        takes: Takes::Number("N", 0, GREATEST_AROUND),
-        is_needed: false,
-        help: "With --only: lines told before each of them, and behind it: 0 to 1000 [default: 5]",
-    },
-    Described {
-        name: "from",
-        takes: Takes::Number("N", FIRST_LINE, LAST_LINE),
-        is_needed: false,
-        help: "First line that is told; the log is judged from line 1 on [default: 1]",
-    },
-    Described {
-        name: "to",
-        takes: Takes::Number("N", FIRST_LINE, LAST_LINE),
-        is_needed: false,
-        help: "Last line that is told; the log is judged to its end [default: the last one]",
-    },
-    Described {
-        name: "form",
-        takes: Takes::Word("FORM"),
-        is_needed: false,
-        help: "Tell it as text; as json, an object a line; or as html, a page [default: text]",
-    },
-    Described {
-        name: "utc",
-        takes: Takes::Nothing,
-        is_needed: false,
-        help: "Tell times as dates, where the log has them in milliseconds since 1970",
-    },
+    Described::Word(
+        "only",
+        "failures",
+        "Tell only the lines that fail, and those around them",
+    ),
+    Described::Number(
+        AROUND,
+        "With --only: lines told before each of them, and behind it: 0 to 1000 [default: 5]",
+    ),
+    Described::Number(
+        FROM,
+        "First line that is told; the log is judged from line 1 on [default: 1]",
+    ),
+    Described::Number(
+        TO,
+        "Last line that is told; the log is judged to its end [default: the last one]",
+    ),
+    Described::Word(
+        "form",
+        "FORM",
+        "Tell it as text; as json, an object a line; or as html, a page [default: text]",
+    ),
+    Described::Flag(
+        "utc",
+        "Tell times as dates, where the log has them in milliseconds since 1970",
+    ),
 ];
 
 static ENCODE_OPTIONS: [Described; 5] = [
-    DEVICE,
-    Described {
-        name: "system",
-        takes: Takes::Number("N", 0, u32::MAX),
-        is_needed: false,
-        help: "System bytes of the first message, from which they are counted up: 0 to 4294967295 [default: 1]",
-    },
-    MAX,
-    DEPTH,
-    Described {
-        name: "hex",
-        takes: Takes::Nothing,
-        is_needed: false,
-        help: "Write each message as a line of hexadecimal",
-    },
+    DEVICE_OPTION,
+    Described::Number(
+        SYSTEM,
+        "System bytes of the first message, from which they are counted up: 0 to 4294967295 [default: 1]",
+    ),
+    MAX_OPTION,
+    DEPTH_OPTION,
+    Described::Flag("hex", "Write each message as a line of hexadecimal"),
 ];
 
 fn show_options() -> &'static [Described]

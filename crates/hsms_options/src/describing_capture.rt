@@ -4,9 +4,9 @@ ghost use Rattle.std.specs.Prelude.{◌≡◌, map};
 ghost use Rattle.hsms_options.specs.Capturing.{capture_rules};
 ghost use Rattle.hsms_options.specs.Described.{rule_described};
 
-use crate::describing_options::{DEPTH, DEVICE, Described, MAX, Takes};
-use crate::describing_serve::{T3, T6, T7, T8};
-use crate::limits::{GREATEST_PORT, LEAST_PORT};
+use crate::describing_options::{DEPTH_OPTION, DEVICE_OPTION, Described, MAX_OPTION};
+use crate::describing_serve::{T3_OPTION, T6_OPTION, T7_OPTION, T8_OPTION};
+use crate::limits::CAPTURED_PORT;
 
 pub const CAPTURE_USAGE: &str = "hsms capture [OPTIONS] < CAPTURE";
 
@@ -27,43 +27,36 @@ pub const CAPTURE_HELP: &str =
     With -v a fault is told in words too.";
 
 static CAPTURE_OPTIONS: [Described; 12] = [
-    Described {
-        name: "port",
-        takes: Takes::Number("N", LEAST_PORT as u32, GREATEST_PORT as u32),
-        is_needed: false,
-        help: "TCP port of the ends that listen: 1 to 65535 [default: 5000]",
-    },
-    Described {
-        name: "with",
-        takes: Takes::Word("ADDRESS"),
-        is_needed: false,
-        help: "IP address of one end of each connection that is looked at; others at the port are passed over",
-    },
-    Described {
-        name: "active",
-        takes: Takes::Word("ROLE"),
-        is_needed: false,
-        help: "What the end that connects is, host or equipment; the other end is the other [default: host]",
-    },
-    Described {
-        name: "log",
-        takes: Takes::Word("ROLE"),
-        is_needed: false,
-        help: "Write the log of this end, host or equipment, and judge nothing",
-    },
-    Described {
-        name: "joined",
-        takes: Takes::Nothing,
-        is_needed: false,
-        help: "Judge sessions too that were running before the capture; what stood before is supposed",
-    },
-    DEVICE,
-    T3,
-    T6,
-    T7,
-    T8,
-    MAX,
-    DEPTH,
+    Described::Number(
+        CAPTURED_PORT,
+        "TCP port of the ends that listen: 1 to 65535 [default: 5000]",
+    ),
+    Described::Word(
+        "with",
+        "ADDRESS",
+        "IP address of one end of each connection that is looked at; others at the port are passed over",
+    ),
+    Described::Word(
+        "active",
+        "ROLE",
+        "What the end that connects is, host or equipment; the other end is the other [default: host]",
+    ),
+    Described::Word(
+        "log",
+        "ROLE",
+        "Write the log of this end, host or equipment, and judge nothing",
+    ),
+    Described::Flag(
+        "joined",
+        "Judge sessions too that were running before the capture; what stood before is supposed",
+    ),
+    DEVICE_OPTION,
+    T3_OPTION,
+    T6_OPTION,
+    T7_OPTION,
+    T8_OPTION,
+    MAX_OPTION,
+    DEPTH_OPTION,
 ];
 
 /// The options of `hsms capture`.

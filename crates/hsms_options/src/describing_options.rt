@@ -5,54 +5,37 @@ ghost use Rattle.clap.specs.Words.{app_of, rule_of};
 ghost use Rattle.hsms_options.specs.Described.{rule_described, with_rules};
 ghost use Rattle.hsms_options.specs.Number.{flag_option, ranged_option, text_option};
 
+use crate::limits::{DEPTH, DEVICE, MAX, Numbered};
 use clap::{Arg, ArgAction, Command, value_parser};
-use hsms_machine::{GREATEST_DEPTH, GREATEST_DEVICE, GREATEST_MAX, LEAST_DEPTH, LEAST_MAX};
 use std::alloc::{AllocError, Global};
 
-/// An option of a subcommand.
+/// An option of a subcommand: its name, which stands behind two dashes, and last what its help says of it.
 #[derive(Clone, Copy)]
-pub struct Described {
-    /// Its name, which stands behind two dashes.
-    pub name: &'static str,
-    /// What stands behind its name.
-    pub takes: Takes,
-    /// Whether it has to be given.
-    pub is_needed: bool,
-    /// What the help says of it.
-    pub help: &'static str,
+pub enum Described {
+    /// A flag.
+    Flag(&'static str, &'static str),
+    /// An option with a text, which the help calls by the second word.
+    Word(&'static str, &'static str, &'static str),
+    /// The same, where the option has to be given.
+    Needed(&'static str, &'static str, &'static str),
+    /// An option with a number.
+    Number(Numbered, &'static str),
 }
 
-/// What stands behind the name of an option.
-#[derive(Clone, Copy)]
-pub enum Takes {
-    /// Nothing: the option is a flag.
-    Nothing,
-    /// A text, which the help calls so.
-    Word(&'static str),
-    /// A number in decimal, which the help calls so, from one to another.
-    Number(&'static str, u32, u32),
-}
+pub const MAX_OPTION: Described = Described::Number(
+    MAX,
+    "Longest header and text of a message, in octets: 256 to 33554432 [default: 1048576]",
+);
 
-pub const MAX: Described = Described {
-    name: "max",
-    takes: Takes::Number("N", LEAST_MAX, GREATEST_MAX),
-    is_needed: false,
-    help: "Longest header and text of a message, in octets: 256 to 33554432 [default: 1048576]",
-};
+pub const DEPTH_OPTION: Described = Described::Number(
+    DEPTH,
+    "Deepest nesting of lists: 1 to 100 [default: 32]",
+);
 
-pub const DEPTH: Described = Described {
-    name: "depth",
-    takes: Takes::Number("N", LEAST_DEPTH as u32, GREATEST_DEPTH as u32),
-    is_needed: false,
-    help: "Deepest nesting of lists: 1 to 100 [default: 32]",
-};
-
-pub const DEVICE: Described = Described {
-    name: "device",
-    takes: Takes::Number("N", 0, GREATEST_DEVICE as u32),
-    is_needed: false,
-    help: "Device, the session ID of the messages: 0 to 32767 [default: 0]",
-};
+pub const DEVICE_OPTION: Described = Described::Number(
+    DEVICE,
+    "Device, the session ID of the messages: 0 to 32767 [default: 0]",
+);
 
 /// A command with these options more.
 pub fn with_options<'a>(
@@ -74,30 +57,26 @@ impl Described {
         ensures rule { rule_of result ≡ rule_described self }
         ensures local { result.global ≡ false }
     {
-        let arg = match self.takes {
-            Takes::Nothing => flag(alloc, self.name, self.help),
-            Takes::Word(value) => word_option(alloc, self.name, value, self.help),
-            Takes::Number(value, least, greatest) => {
-                number_option(alloc, self.name, value, least, greatest, self.help)
+        match self {
+            Described::Flag(name, help) => flag(alloc, name, help),
+            Described::Word(name, value, help) => word_option(alloc, name, value, help),
+            Described::Needed(name, value, help) => {
+                word_option(alloc, name, value, help).required(true)
             }
-        };
-        arg.required(self.is_needed)
+            Described::Number(number, help) => {
+                number_option(alloc, number, help).required(number.4.is_none())
+            }
+        }
     }
 }
 
-// An option with a number in decimal, from `least` to `greatest`.
+// An option with a number in decimal.
 #[tactic(auto, using(crate::proofs::Ranges::narrowed))]
-fn number_option<'a>(
-    alloc: Global,
-    name: &'a str,
-    value: &'a str,
-    least: u32,
-    greatest: u32,
-    help: &'a str,
-) -> Arg<'a>
-    ensures rule { rule_of result ≡ ranged_option name.entry.now least greatest }
+fn number_option<'a>(alloc: Global, number: Numbered, help: &'a str) -> Arg<'a>
+    ensures rule { rule_of result ≡ ranged_option number.0.now number.2 number.3 }
     ensures local { result.global ≡ false }
 {
+    let Numbered(name, value, least, greatest, _) = number;
     word_option(alloc, name, value, help).value_parser(value_parser!(u32).range(
         i64::from(least)..=i64::from(greatest),
     ))

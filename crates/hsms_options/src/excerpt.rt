@@ -2,13 +2,13 @@
 
 ghost use Rattle.std.specs.Prelude.{◌≡◌, IfSome, Some, None, codes};
 ghost use Rattle.clap.specs.Words.{first_of, found_of, rows_of};
-ghost use Rattle.hsms_options.specs.Excerpt.{HasExcerpt, HasTelling, IsExcerptWithinLimits, only_word, telling_word};
+ghost use Rattle.hsms_options.specs.Excerpt.{HasExcerpt, IsExcerptWithinLimits, only_word, telling_word};
 ghost use Rattle.hsms_options.specs.declared.excerpt.Excerpt.{Excerpt};
 ghost use Rattle.hsms_options.specs.declared.excerpt.Lines.{Lines};
 ghost use Rattle.hsms_options.specs.declared.excerpt.Telling.{Telling};
 
-use crate::limits::{DEFAULT_AROUND, FIRST_LINE, GREATEST_AROUND, LAST_LINE};
-use crate::values::{flag_of, number_of, text_of};
+use crate::limits::{AROUND, FROM, LAST_LINE, TO};
+use crate::values::{flag_of, number_of, text_of, text_or};
 use clap::ArgMatches;
 
 /// Which kind of lines is told.
@@ -66,19 +66,13 @@ pub fn excerpt_of(options: &ArgMatches<'_>) -> Option<Excerpt>
     ensures within { IfSome result IsExcerptWithinLimits }
     ensures none { result ≡ None → (excerpt : Excerpt) → HasExcerpt (rows_of (found_of options.now)) excerpt → ⊥ }
 {
-    let lines = lines_of(options)?;
-    let around = number_of(options, "around", 0, GREATEST_AROUND, Some(DEFAULT_AROUND))?;
-    let from = number_of(options, "from", FIRST_LINE, LAST_LINE, Some(FIRST_LINE))?;
-    let to = number_of(options, "to", FIRST_LINE, LAST_LINE, Some(LAST_LINE))?;
-    let form = telling_of(options)?;
-    let utc = flag_of(options, "utc");
     Some(Excerpt {
-        lines,
-        around,
-        from,
-        to,
-        form,
-        utc,
+        lines: lines_of(options)?,
+        around: number_of(options, AROUND)?,
+        from: number_of(options, FROM)?,
+        to: number_of(options, TO)?,
+        form: telling_named(text_or(options, "form", "text"))?,
+        utc: flag_of(options, "utc"),
     })
 }
 
@@ -91,17 +85,6 @@ fn lines_of(options: &ArgMatches<'_>) -> Option<Lines>
         Some("failures") => Some(Lines::Failures),
         Some(_) => None,
         None => Some(Lines::All),
-    }
-}
-
-// The form that the option asks for: text where it is left out. None where it has another text.
-fn telling_of(options: &ArgMatches<'_>) -> Option<Telling>
-    ensures some { IfSome result (HasTelling (rows_of (found_of options.now))) }
-    ensures none { result ≡ None → (telling : Telling) → HasTelling (rows_of (found_of options.now)) telling → ⊥ }
-{
-    match text_of(options, "form") {
-        Some(text) => telling_named(text),
-        None => Some(Telling::Text),
     }
 }
 

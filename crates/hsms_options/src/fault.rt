@@ -1,6 +1,6 @@
 //! Why the command ends before its work is done.
 
-ghost use Rattle.std.specs.Prelude.{◌≡◌, Some, codes};
+ghost use Rattle.std.specs.Prelude.{◌≡◌, MatchResult, Some, codes};
 ghost use Rattle.hsms_options.specs.Status.{IsRefusedAs, exit_status_of, fault_text};
 ghost use Rattle.hsms_options.specs.declared.fault.ToolFault.TheVariants.{Memory};
 
@@ -59,7 +59,14 @@ impl From<AllocError> for ToolFault {
 pub fn refused(alloc: Global, words: &str) -> ToolFault
     ensures { IsRefusedAs words.now result }
 {
-    match String::from_str(alloc, words) {
+    refusal(String::from_str(alloc, words))
+}
+
+/// The refusal of an input in words that were made, or `Memory` where they weren't.
+pub fn refusal(words: Result<String, AllocError>) -> ToolFault
+    ensures { MatchResult words (λ given. result ≡ ToolFault.Refused given) (λ _. result ≡ ToolFault.Memory) }
+{
+    match words {
         Ok(words) => ToolFault::Refused(words),
         Err(_) => ToolFault::Memory,
     }

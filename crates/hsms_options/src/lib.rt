@@ -28,7 +28,7 @@ mod values;
 pub use capturing::Capturing;
 pub use describing::command;
 pub use excerpt::{Excerpt, Lines, Telling};
-pub use fault::{ToolFault, exit_status, no_request, refused};
+pub use fault::{ToolFault, exit_status, no_request, refusal, refused};
 pub use options::{Encoding, Form, Request, Showing, Task, parse};
 pub use repeating::Repeat;
 pub use sentences::sentence;

@@ -1,20 +1,20 @@
 //! What the command line asks for. It is looked at before anything is read.
 
-ghost use Rattle.std.specs.Prelude.{◌≡◌, ◌≢◌, IfOk, IfErr, IfSome, IsErrAnd, Ok, None, codes, map, string_bytes};
+ghost use Rattle.std.specs.Prelude.{◌≡◌, ◌≢◌, IfOk, IfErr, IfSome, None, Some, codes, map, string_bytes};
 ghost use Rattle.clap.specs.Words.{found_of, kind_of, rows_of, subcommand_rows_of};
 ghost use Rattle.clap.specs.declared.error.kind.ErrorKind.TheVariants.{OutOfMemory};
-ghost use Rattle.hsms_options.specs.Options.{AsksBy, AsksFor, AsksForTask, CallsForText, IsHelp, IsTaskWithinLimits, IsWithinLimits, Spells, SpellsNothing, form_in, request_to_serve};
+ghost use Rattle.hsms_options.specs.Options.{AsksBy, AsksFor, AsksForTask, CallsForText, IsHelp, IsTaskWithinLimits, IsWithinLimits, Spells, SpellsNothing, form_in};
 ghost use Rattle.hsms_options.specs.Status.{IsRefusedAs, IsRefusedFor};
 ghost use Rattle.hsms_options.specs.declared.options.Request.{Request};
-ghost use Rattle.hsms_options.specs.declared.options.Request.TheVariants as request;
 ghost use Rattle.hsms_options.specs.declared.options.Task.{Task};
 
 use crate::capturing::{Capturing, capturing_of};
 use crate::describing::command;
 use crate::excerpt::{Excerpt, excerpt_of};
 use crate::fault::{ToolFault, no_request};
+use crate::limits::{DEVICE, MAX, SYSTEM};
 use crate::service::{Service, asked_to_serve};
-use crate::values::{depth_of, device_of, flag_of, max_of, system_of};
+use crate::values::{depth_of, flag_of, number_of, short_of};
 use clap::error::ErrorKind;
 use clap::{ArgMatches, Error};
 use std::alloc::Global;
@@ -114,51 +114,22 @@ fn asked_by(alloc: Global, name: &str, options: &ArgMatches<'_>) -> Result<Reque
 {
     match name {
         "audit" => Ok(Request::Task(Task::Audit)),
-        "explain" => of_excerpt(alloc, excerpt_of(options)),
-        "capture" => of_capturing(alloc, capturing_of(options)),
-        "show" => of_task(alloc, asked_to_show(options)),
-        "encode" => of_task(alloc, asked_to_encode(options)),
-        "serve" => of_service(asked_to_serve(alloc, options)),
+        "explain" => Ok(Request::Explain(if_asked(alloc, excerpt_of(options))?)),
+        "capture" => Ok(Request::Capture(if_asked(alloc, capturing_of(options))?)),
+        "show" => Ok(Request::Task(if_asked(alloc, asked_to_show(options))?)),
+        "encode" => Ok(Request::Task(if_asked(alloc, asked_to_encode(options))?)),
+        "serve" => Ok(Request::Serve(asked_to_serve(alloc, options)?)),
         _ => Err(no_request(alloc)),
     }
 }
 
-fn of_task(alloc: Global, asked: Option<Task>) -> Result<Request, ToolFault>
-    ensures some { IfSome asked (λ task. result ≡ Ok (request.Task task)) }
-    ensures none { asked ≡ None → IsErrAnd result (IsRefusedAs (codes "command line")) }
+fn if_asked<T>(alloc: Global, asked: Option<T>) -> Result<T, ToolFault>
+    ensures ok { IfOk result (λ it. asked ≡ Some it) }
+    ensures err { IfErr result (λ fault. (asked ≡ None) × IsRefusedAs (codes "command line") fault) }
 {
     match asked {
-        Some(task) => Ok(Request::Task(task)),
+        Some(it) => Ok(it),
         None => Err(no_request(alloc)),
-    }
-}
-
-fn of_excerpt(alloc: Global, asked: Option<Excerpt>) -> Result<Request, ToolFault>
-    ensures some { IfSome asked (λ excerpt. result ≡ Ok (request.Explain excerpt)) }
-    ensures none { asked ≡ None → IsErrAnd result (IsRefusedAs (codes "command line")) }
-{
-    match asked {
-        Some(excerpt) => Ok(Request::Explain(excerpt)),
-        None => Err(no_request(alloc)),
-    }
-}
-
-fn of_capturing(alloc: Global, asked: Option<Capturing>) -> Result<Request, ToolFault>
-    ensures some { IfSome asked (λ capturing. result ≡ Ok (request.Capture capturing)) }
-    ensures none { asked ≡ None → IsErrAnd result (IsRefusedAs (codes "command line")) }
-{
-    match asked {
-        Some(capturing) => Ok(Request::Capture(capturing)),
-        None => Err(no_request(alloc)),
-    }
-}
-
-fn of_service(asked: Result<Service, ToolFault>) -> Result<Request, ToolFault>
-    ensures { result ≡ request_to_serve asked }
-{
-    match asked {
-        Ok(service) => Ok(Request::Serve(service)),
-        Err(fault) => Err(fault),
     }
 }
 
@@ -168,10 +139,11 @@ fn asked_to_show(options: &ArgMatches<'_>) -> Option<Task>
     ensures none { result ≡ None → (task : Task)
         → AsksForTask (codes "show") (rows_of (found_of options.now)) task → ⊥ }
 {
-    let max = max_of(options)?;
-    let depth = depth_of(options)?;
-    let form = form_of(options)?;
-    Some(Task::Show(Showing { max, depth, form }))
+    Some(Task::Show(Showing {
+        max: number_of(options, MAX)?,
+        depth: depth_of(options)?,
+        form: form_of(options)?,
+    }))
 }
 
 fn form_of(options: &ArgMatches<'_>) -> Option<Form>
@@ -192,9 +164,9 @@ fn asked_to_encode(options: &ArgMatches<'_>) -> Option<Task>
         → AsksForTask (codes "encode") (rows_of (found_of options.now)) task → ⊥ }
 {
     Some(Task::Encode(Encoding {
-        device: device_of(options)?,
-        system: system_of(options)?,
-        max: max_of(options)?,
+        device: short_of(options, DEVICE)?,
+        system: number_of(options, SYSTEM)?,
+        max: number_of(options, MAX)?,
         depth: depth_of(options)?,
         hex: flag_of(options, "hex"),
     }))

@@ -6,8 +6,7 @@ ghost use Rattle.hsms_machine.specs.Settings.{IsTimeLimit};
 ghost use Rattle.hsms_options.specs.Service.{HasRepeat};
 ghost use Rattle.hsms_options.specs.declared.repeating.Repeat.{Repeat};
 
-use crate::limits::{DEFAULT_CONNECTIONS, DEFAULT_T5};
-use crate::service::time_of;
+use crate::limits::{CONNECTIONS, T5};
 use crate::values::{flag_of, number_of};
 use clap::ArgMatches;
 
@@ -30,18 +29,10 @@ pub fn repeat_of(options: &ArgMatches<'_>) -> Option<Repeat>
     ensures within { IfSome result (λ repeat. (1 ≤ repeat.connections) × IsTimeLimit repeat.t5) }
     ensures none { result ≡ None → (repeat : Repeat) → HasRepeat (rows_of (found_of options.now)) repeat → ⊥ }
 {
-    let connections = number_of(
-        options,
-        "connections",
-        1,
-        u32::MAX,
-        Some(DEFAULT_CONNECTIONS),
-    )?;
-    let t5 = time_of(options, "t5", DEFAULT_T5)?;
     Some(Repeat {
         again: flag_of(options, "again"),
         once: flag_of(options, "once"),
-        connections,
-        t5,
+        connections: number_of(options, CONNECTIONS)?,
+        t5: number_of(options, T5)?,
     })
 }

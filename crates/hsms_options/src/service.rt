@@ -1,25 +1,21 @@
 //! The options of `hsms serve`: which connection is to be served, and how.
 
-ghost use Rattle.std.specs.Prelude.{◌≡◌, ◌≤◌, ℕ, List, IfOk, IfErr, IfSome, Some, None, codes};
-ghost use Rattle.clap.specs.Words.{first_of, found_of, rows_of};
-ghost use Rattle.hsms_machine.specs.Settings.{IsTimeLimit, Parameters};
+ghost use Rattle.std.specs.Prelude.{◌≡◌, ◌≤◌, ℕ, List, IfOk, IfErr, IfSome, None, codes};
+ghost use Rattle.clap.specs.Words.{found_of, rows_of};
+ghost use Rattle.hsms_machine.specs.Settings.{Parameters};
 ghost use Rattle.hsms_machine.specs.declared.settings.Role.{Role};
 ghost use Rattle.hsms_machine.specs.declared.settings.Side.{Side};
-ghost use Rattle.hsms_options.specs.Number.{number_in};
-ghost use Rattle.hsms_options.specs.Service.{AsksToServe, HasNumbers, HasSettings, HasTerms, HasTimes, port_number, role_word, side_word, text_in, time_number};
+ghost use Rattle.hsms_options.specs.Service.{AsksToServe, HasNumbers, HasSettings, HasTerms, role_word, side_word};
 ghost use Rattle.hsms_options.specs.Status.{IsRefusedFor};
 ghost use Rattle.hsms_options.specs.declared.repeating.Repeat.{Repeat};
 ghost use Rattle.hsms_options.specs.declared.service.Service.{Service};
 
 use crate::fault::{ToolFault, no_request};
-use crate::limits::{
-    DEFAULT_LINKTEST, DEFAULT_SYSTEM, DEFAULT_T3, DEFAULT_T6, DEFAULT_T7, DEFAULT_T8,
-    DEFAULT_TURNS, GREATEST_PORT, LEAST_PORT,
-};
+use crate::limits::{DEVICE, FIRST_SYSTEM, LINKTEST, MAX, PORT, T3, T6, T7, T8, TURNS};
 use crate::repeating::{Repeat, repeat_of};
-use crate::values::{depth_of, device_of, flag_of, max_of, number_of, text_of};
+use crate::values::{depth_of, flag_of, number_of, short_of, text_of, text_or};
 use clap::ArgMatches;
-use hsms_machine::{GREATEST_TIME, LEAST_TIME, Role, Settings, Side};
+use hsms_machine::{Role, Settings, Side};
 use std::alloc::Global;
 
 /// A connection that is to be served.
@@ -63,15 +59,6 @@ struct Terms<'a> {
     repeat: Repeat,
 }
 
-/// The times of an end, in milliseconds.
-#[derive(Clone, Copy, Debug)]
-struct Times {
-    t3: u32,
-    t6: u32,
-    t7: u32,
-    t8: u32,
-}
-
 /// What the options of `hsms serve` ask for.
 ///
 /// # Errors
@@ -91,8 +78,8 @@ pub fn asked_to_serve(alloc: Global, options: &ArgMatches<'_>) -> Result<Service
             first_system: terms.first_system,
             turns: terms.turns,
             linktest: terms.linktest,
-            mdln: String::from_str(alloc, text_or_none(options, "mdln"))?,
-            softrev: String::from_str(alloc, text_or_none(options, "softrev"))?,
+            mdln: String::from_str(alloc, text_or(options, "mdln", ""))?,
+            softrev: String::from_str(alloc, text_or(options, "softrev", ""))?,
             send: flag_of(options, "send"),
             answer: flag_of(options, "answer"),
             all_sent: flag_of(options, "all-sent"),
@@ -111,27 +98,14 @@ fn terms_of<'a>(options: &ArgMatches<'a>) -> Option<Terms<'a>>
         (repeat : Repeat)
         → HasTerms (rows_of (found_of options.now)) settings address port first_system turns linktest repeat → ⊥ }
 {
-    let settings = settings_of(options)?;
-    let address = text_of(options, "address")?;
-    let port = port_of(options)?;
-    let first_system = number_of(options, "first-system", 0, u32::MAX, Some(DEFAULT_SYSTEM))?;
-    let turns = number_of(options, "turns", 0, u32::MAX, Some(DEFAULT_TURNS))?;
-    let linktest = number_of(
-        options,
-        "linktest",
-        0,
-        GREATEST_TIME,
-        Some(DEFAULT_LINKTEST),
-    )?;
-    let repeat = repeat_of(options)?;
     Some(Terms {
-        settings,
-        address,
-        port,
-        first_system,
-        turns,
-        linktest,
-        repeat,
+        settings: settings_of(options)?,
+        address: text_of(options, "address")?,
+        port: short_of(options, PORT)?,
+        first_system: number_of(options, FIRST_SYSTEM)?,
+        turns: number_of(options, TURNS)?,
+        linktest: number_of(options, LINKTEST)?,
+        repeat: repeat_of(options)?,
     })
 }
 
@@ -139,8 +113,8 @@ fn settings_of(options: &ArgMatches<'_>) -> Option<Settings>
     ensures asks { IfSome result (λ settings. HasSettings (rows_of (found_of options.now)) settings) }
     ensures none { result ≡ None → (settings : Parameters) → HasSettings (rows_of (found_of options.now)) settings → ⊥ }
 {
-    let role = role_of(options)?;
-    let link = side_of(options)?;
+    let role = role_named(text_of(options, "role")?)?;
+    let link = side_named(text_of(options, "link")?)?;
     settings_with(options, role, link)
 }
 
@@ -150,52 +124,14 @@ pub fn settings_with(options: &ArgMatches<'_>, role: Role, link: Side) -> Option
     ensures asks { IfSome result (HasNumbers (rows_of (found_of options.now))) }
     ensures none { result ≡ None → (settings : Parameters) → HasNumbers (rows_of (found_of options.now)) settings → ⊥ }
 {
-    let device = device_of(options)?;
-    let times = times_of(options)?;
-    let max = max_of(options)?;
+    let device = short_of(options, DEVICE)?;
+    let t3 = number_of(options, T3)?;
+    let t6 = number_of(options, T6)?;
+    let t7 = number_of(options, T7)?;
+    let t8 = number_of(options, T8)?;
+    let max = number_of(options, MAX)?;
     let depth = depth_of(options)?;
-    Settings::new(
-        role, link, device, times.t3, times.t6, times.t7, times.t8, max, depth,
-    )
-}
-
-fn times_of(options: &ArgMatches<'_>) -> Option<Times>
-    ensures asks { IfSome result (λ times. HasTimes (rows_of (found_of options.now)) times.t3 times.t6 times.t7 times.t8) }
-    ensures within { IfSome result (λ times.
-        IsTimeLimit times.t3 × IsTimeLimit times.t6 × IsTimeLimit times.t7 × IsTimeLimit times.t8) }
-    ensures none { result ≡ None → (t3 t6 t7 t8 : ℕ) → HasTimes (rows_of (found_of options.now)) t3 t6 t7 t8 → ⊥ }
-{
-    let t3 = time_of(options, "t3", DEFAULT_T3)?;
-    let t6 = time_of(options, "t6", DEFAULT_T6)?;
-    let t7 = time_of(options, "t7", DEFAULT_T7)?;
-    let t8 = time_of(options, "t8", DEFAULT_T8)?;
-    Some(Times { t3, t6, t7, t8 })
-}
-
-/// The time of an option, in milliseconds.
-pub fn time_of(options: &ArgMatches<'_>, name: &str, left_out: u32) -> Option<u32>
-    requires { IsTimeLimit left_out }
-    ensures value { result ≡ number_in (time_number name.now left_out) (rows_of (found_of options.now)) }
-    ensures within { IfSome result IsTimeLimit }
-{
-    number_of(options, name, LEAST_TIME, GREATEST_TIME, Some(left_out))
-}
-
-fn port_of(options: &ArgMatches<'_>) -> Option<u16>
-    ensures value { result ≡ number_in port_number (rows_of (found_of options.now)) }
-    ensures within { IfSome result (λ port. (1 ≤ port) × (port ≤ 65535)) }
-{
-    let greatest = u32::from(GREATEST_PORT);
-    let port = number_of(options, "port", u32::from(LEAST_PORT), greatest, None)?;
-    Some(port as u16)
-}
-
-fn role_of(options: &ArgMatches<'_>) -> Option<Role>
-    ensures some { IfSome result (λ role. first_of (codes "role") (rows_of (found_of options.now)) ≡ Some (role_word role)) }
-    ensures none { result ≡ None → (role : Role)
-        → first_of (codes "role") (rows_of (found_of options.now)) ≡ Some (role_word role) → ⊥ }
-{
-    role_named(text_of(options, "role")?)
+    Settings::new(role, link, device, t3, t6, t7, t8, max, depth)
 }
 
 /// The role of this name.
@@ -210,24 +146,14 @@ pub fn role_named(name: &str) -> Option<Role>
     }
 }
 
-fn side_of(options: &ArgMatches<'_>) -> Option<Side>
-    ensures some { IfSome result (λ side. first_of (codes "link") (rows_of (found_of options.now)) ≡ Some (side_word side)) }
-    ensures none { result ≡ None → (side : Side)
-        → first_of (codes "link") (rows_of (found_of options.now)) ≡ Some (side_word side) → ⊥ }
+// The side of this name.
+fn side_named(name: &str) -> Option<Side>
+    ensures some { IfSome result (λ side. name.now ≡ side_word side) }
+    ensures none { result ≡ None → (side : Side) → name.now ≡ side_word side → ⊥ }
 {
-    match text_of(options, "link")? {
+    match name {
         "active" => Some(Side::Active),
         "passive" => Some(Side::Passive),
         _ => None,
-    }
-}
-
-// The text of an option, which is empty where it isn't given.
-fn text_or_none<'a>(options: &ArgMatches<'a>, name: &str) -> &'a str
-    ensures { result.now ≡ text_in name.now (rows_of (found_of options.now)) }
-{
-    match text_of(options, name) {
-        Some(text) => text,
-        None => "",
     }
 }

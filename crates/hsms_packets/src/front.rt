@@ -103,10 +103,9 @@ pub fn pcapng_front(
     if word_at(Order::Big, octets, 0) == 0x0a0d0d0a {
         return section_front(octets);
     }
-    match block_size(order, octets) {
-        Ok(None) => Ok(Front::More),
-        Ok(Some(size)) => block_front(order, interfaces, size, octets),
-        Err(fault) => Err(fault),
+    match block_size(order, octets)? {
+        None => Ok(Front::More),
+        Some(size) => block_front(order, interfaces, size, octets),
     }
 }
 
@@ -121,10 +120,9 @@ fn section_front(octets: &[u8]) -> Result<Front, CaptureFault>
         0x4d3c2b1a => Order::Little,
         _ => return Err(CaptureFault::Order),
     };
-    match block_size(order, octets) {
-        Ok(None) => Ok(Front::More),
-        Ok(Some(size)) => Ok(Front::Begun(order, size)),
-        Err(fault) => Err(fault),
+    match block_size(order, octets)? {
+        None => Ok(Front::More),
+        Some(size) => Ok(Front::Begun(order, size)),
     }
 }
 
@@ -139,13 +137,7 @@ fn block_size(order: Order, octets: &[u8]) -> Result<Option<usize>, CaptureFault
         return Ok(None);
     }
     let size = word_at(order, octets, 4) as usize;
-    if size < 12 {
-        return Err(CaptureFault::Length);
-    }
-    if size > GREATEST {
-        return Err(CaptureFault::Length);
-    }
-    if size % 4 != 0 {
+    if size < 12 || size > GREATEST || size % 4 != 0 {
         return Err(CaptureFault::Length);
     }
     if octets.len() < size {
@@ -170,32 +162,19 @@ fn block_front(
     ensures front { result ≡ block_of order interfaces.now (number_in order 4 octets.now) size octets.now }
     ensures within { IfOk result (IsWithin (length octets.now)) }
 {
-    let kind = word_at(order, octets, 0);
-    if kind == 1 {
-        return interface_front(order, size, octets);
+    match word_at(order, octets, 0) {
+        1 => interface_front(order, size, octets),
+        2 => {
+            let which = usize::from(short_at(order, octets, 8));
+            timed_front(order, interfaces, which, size, octets)
+        }
+        3 => untimed_front(order, interfaces, size, octets),
+        6 => {
+            let which = word_at(order, octets, 8) as usize;
+            timed_front(order, interfaces, which, size, octets)
+        }
+        kind => Ok(Front::Passed(kind == 0xbad || kind == 0x40000bad, size)),
     }
-    if kind == 6 {
-        return timed_front(
-            order,
-            interfaces,
-            word_at(order, octets, 8) as usize,
-            size,
-            octets,
-        );
-    }
-    if kind == 2 {
-        return timed_front(
-            order,
-            interfaces,
-            usize::from(short_at(order, octets, 8)),
-            size,
-            octets,
-        );
-    }
-    if kind == 3 {
-        return untimed_front(order, interfaces, size, octets);
-    }
-    Ok(Front::Passed(kind == 0xbad || kind == 0x40000bad, size))
 }
 
 // An enhanced or old packet block.

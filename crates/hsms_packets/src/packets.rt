@@ -1,10 +1,10 @@
 //! A capture file that is read in blocks, a packet at a time.
 
-ghost use Rattle.std.specs.Prelude.{◌≡◌, ◌≤◌, ◌<◌, Ok, true, false, length, IfErr, IfOk, OnErr};
+ghost use Rattle.std.specs.Prelude.{◌≡◌, ◌≤◌, ◌<◌, Ok, true, false, length, IfErr, IfOk, OnErr, drop, take, ◌+◌};
 ghost use Rattle.hsms_frame.specs.Ahead.{ReadsMore, ends_after_more};
 ghost use Rattle.hsms_frame.specs.Device.{WhereTold, IsAtEnd, Stays};
 ghost use Rattle.hsms_packets.specs.File.{HasParts};
-ghost use Rattle.hsms_packets.specs.Blocks.{EndsWith, FindsFront, FindsOpening, IsOfDevice, OpensFor, ReadsFor, ends_after_find, ends_after_open, failures_after, front_told, greatest_ahead, is_more, is_unopened, opening_told, step_of};
+ghost use Rattle.hsms_packets.specs.Blocks.{EndsWith, FindsFront, FindsOpening, IsOfDevice, OpensFor, ReadsFor, ends_after_find, ends_after_open, failures_after, front_told, greatest_ahead, is_more, is_unopened, opening_told, step_of, Reading, CountsOn, OpensAs, PassesOn, StepIsWithin, StepsAs, TakesHeader, TakesOn, ends_after_step};
 
 use crate::fault::{CaptureFault, FileFault};
 use crate::front::{Front, Record};
@@ -36,9 +36,6 @@ pub struct Packets {
 }
 
 impl Model for Packets {
-    ghost use Rattle.std.specs.Prelude.{◌≤◌, length, drop, take};
-    ghost use Rattle.hsms_packets.specs.Blocks.{Reading, greatest_ahead};
-
     ghost Value = { Reading };
 
     ghost view = { λ p. record { state = p.reader; last = take p.last p.ahead; ahead = drop p.last p.ahead } };
@@ -47,10 +44,6 @@ impl Model for Packets {
 }
 
 impl Packets {
-    ghost use Rattle.std.specs.Prelude.{◌≡◌, ◌≤◌, ◌+◌, IfOk, OnErr, length};
-    ghost use Rattle.hsms_frame.specs.Device.{WhereTold};
-    ghost use Rattle.hsms_packets.specs.Blocks.{CountsOn, OpensAs, PassesOn, StepIsWithin, StepsAs, TakesHeader, TakesOn, ends_after_open, ends_after_step, failures_after, greatest_ahead};
-
     /// Opens a file: reads until its format and its header are there. Where that stops, the octets that were read are
     /// lost.
     pub fn open<R: Source>(alloc: Global, source: &mut R) -> Result<Packets, FileFault>

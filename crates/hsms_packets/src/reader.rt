@@ -1,8 +1,7 @@
 //! A capture file, a record or block at a time.
 
-ghost use Rattle.std.specs.Prelude.{◌≡◌, ◌≤◌, ◌<◌, ◌+◌, IfOk, length, take, drop};
-ghost use Rattle.hsms_packets.specs.File.{HasOpened, no_capture, opening_at, pcap_opening_at};
-ghost use Rattle.hsms_packets.specs.Number.{number_in};
+ghost use Rattle.std.specs.Prelude.{◌≡◌, ◌≤◌, ◌<◌, ◌+◌, IfOk, length, take, drop, OnErr};
+ghost use Rattle.hsms_packets.specs.File.{HasOpened, no_capture, opening_at, pcap_opening_at, State, HasParts, IsWithin, after, front_at, new_state, size_of};
 
 use crate::fault::CaptureFault;
 use crate::front::{Front, Interface, Record, pcap_front, pcapng_front};
@@ -39,8 +38,6 @@ pub struct Reader {
 }
 
 impl Model for Reader {
-    ghost use Rattle.hsms_packets.specs.File.{State, HasParts};
-
     ghost Value = { State };
 
     ghost view = { λ r. record {
@@ -54,9 +51,6 @@ impl Model for Reader {
 }
 
 impl Reader {
-    ghost use Rattle.std.specs.Prelude.{◌≡◌, ◌<◌, ◌+◌, ◌^◌, length, IfOk, OnErr};
-    ghost use Rattle.hsms_packets.specs.File.{HasParts, IsWithin, after, front_at, new_state, size_of};
-
     /// A reader at the place behind the header of a file. Takes no memory.
     pub fn new(alloc: Global, format: Format, size: usize) -> Reader
         requires { HasParts format }

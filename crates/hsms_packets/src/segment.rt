@@ -58,22 +58,14 @@ pub enum Shown {
 pub fn segment_of(link: u32, packet: &[u8]) -> Shown
     ensures { result ≡ segment_at link packet.now }
 {
-    if link == 1 {
-        return framed(14, 12, packet);
+    match link {
+        1 => framed(14, 12, packet),
+        113 => framed(16, 14, packet),
+        276 => framed(20, 0, packet),
+        _ if without_header(link) => raw(0, packet),
+        _ if with_family(link) => raw(4, packet),
+        _ => Shown::LeftOut(Reason::Link),
     }
-    if link == 113 {
-        return framed(16, 14, packet);
-    }
-    if link == 276 {
-        return framed(20, 0, packet);
-    }
-    if without_header(link) {
-        return raw(0, packet);
-    }
-    if with_family(link) {
-        return raw(4, packet);
-    }
-    Shown::LeftOut(Reason::Link)
 }
 
 fn without_header(link: u32) -> bool
@@ -119,14 +111,11 @@ fn raw(at: usize, packet: &[u8]) -> Shown
     if packet.len() < at + 1 {
         return Shown::LeftOut(Reason::Short);
     }
-    let version = packet[at] / 16;
-    if version == 4 {
-        return v4(packet, at);
+    match packet[at] / 16 {
+        4 => v4(packet, at),
+        6 => v6(packet, at),
+        _ => Shown::Other,
     }
-    if version == 6 {
-        return v6(packet, at);
-    }
-    Shown::Other
 }
 
 // Behind VLAN tags.
@@ -156,13 +145,11 @@ fn untagged(protocol: u16, packet: &[u8], at: usize) -> Shown
     requires within { at ≤ length packet.now }
     ensures { result ≡ untagged_at protocol packet.now at }
 {
-    if protocol == 0x0800 {
-        return v4(packet, at);
+    match protocol {
+        0x0800 => v4(packet, at),
+        0x86dd => v6(packet, at),
+        _ => Shown::Other,
     }
-    if protocol == 0x86dd {
-        return v6(packet, at);
-    }
-    Shown::Other
 }
 
 // IPv4.
@@ -284,13 +271,11 @@ fn inside(
     requires near { from ≤ length packet.now + 4096 }
     ensures { result ≡ inside_at source target next packet.now from end }
 {
-    if next == 44 {
-        return Shown::LeftOut(Reason::Fragment);
+    match next {
+        6 => tcp(source, target, packet, from, end),
+        44 => Shown::LeftOut(Reason::Fragment),
+        _ => Shown::Other,
     }
-    if next != 6 {
-        return Shown::Other;
-    }
-    tcp(source, target, packet, from, end)
 }
 
 // TCP.
@@ -314,11 +299,7 @@ fn tcp(source: Address, target: Address, packet: &[u8], from: usize, end: usize)
     }
     let bits = packet[from + 13];
     let number = word_at(Order::Big, packet, from + 8);
-    let acknowledged = if bits / 16 % 2 == 0 {
-        None
-    } else {
-        Some(number)
-    };
+    let acknowledged = (bits / 16 % 2 != 0).then_some(number);
     Shown::Segment(Segment {
         source,
         source_port: short_at(Order::Big, packet, from),

@@ -1,6 +1,6 @@
 //! The counts that a link keeps of its calls.
 
-ghost use Rattle.std.specs.Prelude.{◌≡◌, ◌≤◌, ◌<◌, IsErr, length, false};
+ghost use Rattle.std.specs.Prelude.{◌≡◌, ◌<◌, IsErr, false};
 ghost use Rattle.hsms_ends.specs.Link.{IsGot, Sends, Waits};
 ghost use Rattle.hsms_service.specs.Counters.{told_of};
 
@@ -35,16 +35,11 @@ impl Counters {
         ensures { Waits (told_of self.old) (told_of self.new) into.now result }
     {
         self.waits = self.waits.saturating_add(1);
-        self.is_closed = false;
-        match got {
-            Got::Octets(count) => Ok(Got::Octets(count)),
-            Got::Quiet => Ok(Got::Quiet),
-            Got::Closed => {
-                self.closes = self.closes.saturating_add(1);
-                self.is_closed = true;
-                Ok(Got::Closed)
-            }
+        self.is_closed = matches!(got, Got::Closed);
+        if self.is_closed {
+            self.closes = self.closes.saturating_add(1);
         }
+        Ok(got)
     }
 
     /// Counts a wait that fails.

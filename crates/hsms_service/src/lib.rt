@@ -1,8 +1,8 @@
 //! What `hsms serve` asks for: the script and the desk of the end that is served, its connections as links, and how what
 //! came of it is told.
 //!
-//! [`serve_to`] and [`serve_again_to`] serve any link. [`connected`] and [`connected_again`] make links of TCP connections,
-//! with a clock, and [`Lines`] puts each line of a log out as a whole.
+//! [`serve_to`] and [`serve_again_to`] serve any link. [`connected`] makes one of TCP connections, with a clock, and
+//! [`Lines`] puts each line of a log out as a whole.
 #![tactic(auto)]
 
 mod counters;
@@ -11,7 +11,6 @@ mod lines;
 mod script;
 mod serving;
 mod socket;
-mod sockets;
 mod wire;
 
 pub use counters::Counters;
@@ -20,4 +19,3 @@ pub use lines::Lines;
 pub use script::{Script, read_script};
 pub use serving::{fault_told, serve_again_to, serve_to, told, told_again};
 pub use socket::{SocketLink, connected, unconnected};
-pub use sockets::{SocketsLink, connected_again};

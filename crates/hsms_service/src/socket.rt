@@ -1,40 +1,57 @@
-//! A TCP connection as a link.
+//! TCP connections, one after the other, as a link.
 
+ghost use Rattle.std.specs.Prelude.{◌≡◌};
 ghost use Rattle.hsms_service.specs.Counters.{told_of};
 
 use crate::counters::Counters;
 use crate::wire::{Wire, is_quiet};
-use hsms_ends::{Got, Link, LinkFault, ServeFault};
+use hsms_ends::{Again, Got, Link, LinkFault, ServeFault};
 use hsms_machine::Side;
 use hsms_options::Service;
 use std::io;
 use std::io::{ErrorKind, Read, Write};
 use std::net::{Net, OpenListener, OpenStream, TcpListener, TcpStream};
+use std::thread::sleep;
 use std::time::{Clock, Duration};
 
-/// A TCP connection with its clock, and the counts of its calls.
+/// TCP connections, one after the other, with one clock and the counts of all their calls.
 #[derive(Drop)]
-pub struct SocketLink<'a, C: Clock, S: Read + Write + OpenStream + Drop> {
-    pub(crate) wire: Wire<'a, C, S>,
-    pub counters: Counters,
+pub struct SocketLink<'a, R: Clock + Net> {
+    rt: &'a R,
+    service: &'a Service,
+    // Where further connections are listened for.
+    listener: Option<R::Listener>,
+    wire: Wire<'a, R, R::Stream>,
+    counters: Counters,
+    // How often the link had failed when the connection was made.
+    failures: u64,
+    // Whether the connection is the first one, which no end was served with yet.
+    is_new: bool,
+    // Why there is no further connection, as the system says.
+    fault: Option<ErrorKind>,
 }
 
-impl<'a, C: Clock, S: Read + Write + OpenStream + Drop> SocketLink<'a, C, S> {
-    /// A link over a stream that was connected just now.
-    pub fn new(clock: &'a C, stream: S) -> SocketLink<'a, C, S> {
-        SocketLink {
-            wire: Wire::new(clock, stream),
-            counters: Counters::new(),
+impl<'a, R: Clock + Net> SocketLink<'a, R> {
+    /// What served the connections has ended: the last one is closed, and the answer is why there is no further one,
+    /// where one was asked for.
+    pub fn end(mut self) -> Option<ErrorKind> {
+        if self.fault.is_none() {
+            self.hang_up();
+        }
+        self.fault
+    }
+
+    // Closes the connection once the peer has closed it too, or T8 is over; at once where the link failed.
+    fn hang_up(&mut self)
+        ensures { told_of self.new.counters ≡ told_of self.old.counters }
+    {
+        if self.counters.failures == self.failures {
+            self.wire.hang_up(u64::from(self.service.settings.t8()));
         }
     }
-
-    /// Closes the connection once the peer has closed it too, or so many milliseconds are over.
-    pub fn hang_up(mut self, longest: u64) {
-        self.wire.hang_up(longest);
-    }
 }
 
-impl<'a, C: Clock, S: Read + Write + OpenStream + Drop> Link for SocketLink<'a, C, S> {
+impl<'a, R: Clock + Net> Link for SocketLink<'a, R> {
     ghost told = { λ s. told_of s.counters };
 
     fn now(&mut self) -> u64 {
@@ -64,17 +81,65 @@ impl<'a, C: Clock, S: Read + Write + OpenStream + Drop> Link for SocketLink<'a, 
     }
 }
 
-/// The connection of a service: one that is made, or the first that is listened for.
+/// A passive end listens on. An active one connects again after T5, and between attempts that fail.
+impl<'a, R: Clock + Net> Again for SocketLink<'a, R> {
+    fn again(&mut self) -> bool {
+        if self.is_new {
+            self.is_new = false;
+            return true;
+        }
+        self.hang_up();
+        let rt = self.rt;
+        let service = self.service;
+        if self.listener.is_none() {
+            pause(rt, service);
+        }
+        match next_stream(rt, service, &self.listener) {
+            Ok(stream) => {
+                self.failures = self.counters.failures;
+                self.wire.go_over(stream);
+                true
+            }
+            Err(error) => {
+                self.fault = Some(error.kind());
+                false
+            }
+        }
+    }
+}
+
+/// The connection of a service, or the first one of a service that goes on after it: one that is made, or the first
+/// that is listened for.
 ///
 /// # Errors
 ///
-/// What the system says, where none could be had.
+/// What the system says, where there is none. A service that goes on tries again: an active end wherever memory isn't
+/// wanting, and a passive one where the peer gave the connection up or a signal came.
 pub fn connected<'a, R: Clock + Net>(
     rt: &'a R,
-    service: &Service,
-) -> io::Result<SocketLink<'a, R, R::Stream>> {
-    let stream = stream_of(rt, service)?;
-    Ok(SocketLink::new(rt, stream))
+    service: &'a Service,
+) -> io::Result<SocketLink<'a, R>> {
+    let mut listener = match service.settings.link() {
+        Side::Active => None,
+        Side::Passive => Some(TcpListener::bind(rt, (service.address.as_str(), service.port))?),
+    };
+    let stream = if service.repeat.again {
+        next_stream(rt, service, &listener)?
+    } else {
+        let stream = stream_of(rt, service, &listener)?;
+        listener = None;
+        stream
+    };
+    Ok(SocketLink {
+        rt,
+        service,
+        listener,
+        wire: Wire::new(rt, stream),
+        counters: Counters::new(),
+        failures: 0,
+        is_new: true,
+        fault: None,
+    })
 }
 
 /// The fault where there is no connection: `Link`, or `Memory` where that is wanting for it.
@@ -86,32 +151,52 @@ pub fn unconnected(kind: ErrorKind) -> ServeFault {
     }
 }
 
-fn stream_of<R: Net>(rt: &R, service: &Service) -> io::Result<R::Stream> {
-    match service.settings.link() {
-        Side::Active => dialled(rt, service),
-        Side::Passive => accepted::<R>(&listening(rt, service)?, service),
+// The next connection of a service that goes on.
+fn next_stream<R: Clock + Net>(
+    rt: &R,
+    service: &Service,
+    listener: &Option<R::Listener>,
+) -> io::Result<R::Stream> {
+    for _ in 0..u64::MAX {
+        match stream_of(rt, service, listener) {
+            Ok(stream) => return Ok(stream),
+            Err(error) => {
+                if !is_passing(error.kind(), listener.is_some()) {
+                    return Err(error);
+                }
+            }
+        }
+        if listener.is_none() {
+            pause(rt, service);
+        }
+    }
+    Err(io::Error::from(ErrorKind::TimedOut))
+}
+
+// Whether the next connection may be had, though one wasn't.
+fn is_passing(kind: ErrorKind, is_listening: bool) -> bool {
+    if is_listening {
+        matches!(kind, ErrorKind::ConnectionAborted | ErrorKind::Interrupted)
+    } else {
+        kind != ErrorKind::OutOfMemory
     }
 }
 
-/// A connection that is made.
-pub fn dialled<R: Net>(rt: &R, service: &Service) -> io::Result<R::Stream> {
-    let stream = TcpStream::connect(rt, (service.address.as_str(), service.port))?;
-    prepared::<R>(stream, service)
+fn pause<R: Clock>(rt: &R, service: &Service) {
+    sleep(rt, Duration::from_millis(u64::from(service.repeat.t5)));
 }
 
-/// What is listened at.
-pub fn listening<R: Net>(rt: &R, service: &Service) -> io::Result<R::Listener> {
-    TcpListener::bind(rt, (service.address.as_str(), service.port))
-}
-
-/// The next connection that is listened for.
-pub fn accepted<R: Net>(listener: &R::Listener, service: &Service) -> io::Result<R::Stream> {
-    let (stream, _) = listener.accept()?;
-    prepared::<R>(stream, service)
-}
-
-// A small message waits for no other one, and octets that the peer doesn't take wait no longer than T8.
-fn prepared<R: Net>(stream: R::Stream, service: &Service) -> io::Result<R::Stream> {
+// A connection: the next one that is listened for, or one that is made. A small message waits for no other one, and
+// octets that the peer doesn't take wait no longer than T8.
+fn stream_of<R: Net>(
+    rt: &R,
+    service: &Service,
+    listener: &Option<R::Listener>,
+) -> io::Result<R::Stream> {
+    let stream = match listener {
+        Some(listener) => listener.accept()?.0,
+        None => TcpStream::connect(rt, (service.address.as_str(), service.port))?,
+    };
     stream.set_nodelay(true)?;
     let t8 = u64::from(service.settings.t8());
     stream.set_write_timeout(Some(Duration::from_millis(t8)))?;

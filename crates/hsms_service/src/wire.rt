@@ -181,13 +181,7 @@ fn is_late(kind: ErrorKind) -> bool {
 fn part_of(left: u64, limit: Option<u64>) -> u64 {
     let most = left.saturating_sub(left / 8).saturating_sub(LATE);
     match limit {
-        Some(limit) => {
-            if limit <= most && limit >= most / 16 {
-                limit
-            } else {
-                most
-            }
-        }
-        None => most,
+        Some(limit) if limit <= most && limit >= most / 16 => limit,
+        _ => most,
     }
 }

@@ -44,37 +44,17 @@ pub fn next_end<R: Source, W: Sink>(
     ensures writes { CountsFailure (codes "Write") result (W.state sink.old).failures (W.state sink.new).failures }
 {
     match end_in(ahead.as_slice(), 0, max) {
-        LineEnd::Open => put_out_and_read(source, sink, ahead, held, max),
+        LineEnd::Open => match put_out(sink, held) {
+            Ok(()) => read_to_end(source, ahead, held, max),
+            Err(fault) => Err(fault),
+        },
         LineEnd::Feed(place) => Ok(LineEnd::Feed(place)),
         LineEnd::TooFar => Ok(LineEnd::TooFar),
     }
 }
 
-// Writes what is held, and reads more until the line ends.
-#[inline(never)]
-fn put_out_and_read<R: Source, W: Sink>(
-    source: &mut R,
-    sink: &mut W,
-    ahead: &mut Ahead,
-    held: &mut Block,
-    max: u32,
-) -> Result<LineEnd, ToolFault>
-    ensures end { WhereTold (R.state source.old).left (λ rest. FindsEndHolding max (ahead.old ++ rest) result ahead.new
-        (R.state source.new).left (W.state sink.old).written held.old (W.state sink.new).written held.new) }
-    ensures placed { IfOk result (IsPlaced max ahead.new) }
-    ensures ends { IfOk result (λ end. (R.state source.new).ends
-        ≡ (if is_open end then next_count (R.state source.old).ends else (R.state source.old).ends)) }
-    ensures word { IfErr result IsReadOrWrite }
-    ensures reads { CountsFailure (codes "Read") result (R.state source.old).failures (R.state source.new).failures }
-    ensures writes { CountsFailure (codes "Write") result (W.state sink.old).failures (W.state sink.new).failures }
-{
-    match put_out(sink, held) {
-        Ok(()) => read_to_end(source, ahead, held, max),
-        Err(fault) => Err(fault),
-    }
-}
-
 // Reads more until the line ends. What was there before isn't looked at again.
+#[inline(never)]
 fn read_to_end<R: Source>(
     source: &mut R,
     ahead: &mut Ahead,

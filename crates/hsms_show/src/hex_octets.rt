@@ -1,11 +1,9 @@
 //! The octets that a line of hexadecimal spells, and their message.
 
-ghost use Rattle.std.specs.Prelude.{◌≡◌, ◌∷◌, ◌^◌, ◌<◌, ◌≤◌, ◌++◌, ℕ, List, IfOk, IfNone, IfSome, None, Ok, Some, length, option_map, true};
+ghost use Rattle.std.specs.Prelude.{◌≡◌, ◌∷◌, ◌^◌, ◌<◌, ◌++◌, ℕ, List, IfOk, IfSome, None, Ok, Some, length, option_map, true};
 ghost use Rattle.std.specs.Int.{w32, to_be_bytes};
 ghost use Rattle.hex.specs.Hex.{hex_digit_value};
 ghost use Rattle.hsms_frame.specs.Frame.{Frame};
-ghost use Rattle.hsms_frame.specs.Header.{IsHeader, header_octets};
-ghost use Rattle.hsms_frame.specs.declared.header.Header.{Header as Head};
 ghost use Rattle.hsms_options.specs.Options.{is_bare};
 ghost use Rattle.hsms_show.specs.ShowHex.{IsMessageOf, is_blank, octet_of, octets_spelled};
 

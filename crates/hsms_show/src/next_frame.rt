@@ -1,6 +1,6 @@
 //! The next message of an input that is read ahead.
 
-ghost use Rattle.std.specs.Prelude.{◌≡◌, ◌≤◌, ◌<◌, ◌++◌, ℕ, [], Ok, true, false, codes, drop, is_some, length, take, if◌then◌else◌, IfOk, IfErr, IfSome, OnOk, OnErr, ◌⊎◌};
+ghost use Rattle.std.specs.Prelude.{◌≡◌, ◌<◌, ◌++◌, ℕ, [], Ok, true, false, codes, is_some, length, if◌then◌else◌, IfOk, IfErr, IfSome, OnOk, OnErr, ◌⊎◌};
 ghost use Rattle.hsms_frame.specs.Count.{next_count};
 ghost use Rattle.hsms_frame.specs.Ahead.{ReadsMore};
 ghost use Rattle.hsms_frame.specs.Device.{WhereTold, IsAtEnd};
@@ -10,7 +10,7 @@ ghost use Rattle.hsms_lines.specs.Devices.{CountsFailure, HasWord, IsReadOrWrite
 
 use hsms_frame::{Ahead, AheadFault, FrameFault, Header, Sink, Source, front};
 use hsms_lines::put_out;
-use hsms_options::{ToolFault, refused};
+use hsms_options::{ToolFault, refusal, refused};
 use secs_text::Block;
 use std::alloc::Global;
 
@@ -153,10 +153,7 @@ fn told(alloc: Global, fault: FrameFault) -> ToolFault
     match fault {
         FrameFault::Memory => ToolFault::Memory,
         FrameFault::TooShort { .. } | FrameFault::TooLong { .. } => {
-            match fault.to_string(alloc) {
-                Ok(words) => ToolFault::Refused(words),
-                Err(_) => ToolFault::Memory,
-            }
+            refusal(fault.to_string(alloc))
         }
     }
 }

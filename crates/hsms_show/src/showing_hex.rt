@@ -14,7 +14,7 @@ use crate::hex_octets::{message_of, octets_in};
 use crate::next_frame::read_more;
 use hsms_frame::{Ahead, Sink, Source};
 use hsms_lines::{lay_line, put_out};
-use hsms_options::{Showing, ToolFault};
+use hsms_options::{Showing, ToolFault, refusal};
 use secs_text::Block;
 use std::alloc::Global;
 
@@ -119,7 +119,7 @@ fn show_next<R: Source, W: Sink>(
             put_out(sink, held)?;
             Ok(false)
         }
-        LineEnd::TooFar => Err(stop(sink, held, refusal(alloc, "NoMessage", number))),
+        LineEnd::TooFar => Err(stop(sink, held, line_refusal(alloc, "NoMessage", number))),
     }
 }
 
@@ -166,7 +166,7 @@ fn lay_octets<W: Sink>(
     }
     match message_of(octets, showing.max, showing.form) {
         Some((header, text)) => lay_line(sink, held, header, text, showing.depth),
-        None => Err(stop(sink, held, refusal(alloc, "NoMessage", number))),
+        None => Err(stop(sink, held, line_refusal(alloc, "NoMessage", number))),
     }
 }
 
@@ -194,17 +194,14 @@ fn octets_of_line(alloc: Global, line: &[u8], number: u32) -> Result<Vec<u8>, To
         _ => line,
     };
     let Some(octets) = octets_in(alloc, text)? else {
-        return Err(refusal(alloc, "NoHex", number));
+        return Err(line_refusal(alloc, "NoHex", number));
     };
     Ok(octets)
 }
 
 // The refusal of a line, or want of memory for its words.
-fn refusal(alloc: Global, word: &str, number: u32) -> ToolFault
+fn line_refusal(alloc: Global, word: &str, number: u32) -> ToolFault
     ensures { IsRefusedAs (at_line word.now number) result }
 {
-    match format!(in alloc; "{word} line={number}") {
-        Ok(words) => ToolFault::Refused(words),
-        Err(_) => ToolFault::Memory,
-    }
+    refusal(format!(in alloc; "{word} line={number}"))
 }

@@ -1,6 +1,6 @@
 //! `hsms encode`: messages in notation, as octets.
 
-ghost use Rattle.std.specs.Prelude.{◌≡◌, ◌≤◌, List, false, IfOk, IfErr, OnOk, MatchResult, codes};
+ghost use Rattle.std.specs.Prelude.{◌≡◌, ◌≤◌, List, false, IfOk, IfErr, OnOk, codes};
 ghost use Rattle.secs_text.specs.Content.{Content, AllWithin};
 ghost use Rattle.secs_text.specs.Notation.{Notations};
 ghost use Rattle.secs_text.specs.View.{contents};
@@ -13,9 +13,9 @@ use crate::frames::Frames;
 use crate::input::read_whole;
 use crate::writing::put_frames;
 use hsms_frame::{Sink, Source};
-use hsms_options::{Encoding, ToolFault};
+use hsms_options::{Encoding, ToolFault, refusal};
 use secs_text::{Message, TextFault, read_all, spell_all};
-use std::alloc::{AllocError, Global};
+use std::alloc::Global;
 
 /// The longest input, in octets.
 pub const INPUT_LIMIT: usize = 67_108_864;
@@ -60,28 +60,9 @@ pub fn encode_all<R: Source, W: Sink>(
         depth,
         hex,
     };
-    encode_to(alloc, source, sink, encoding)
-}
-
-/// The same, with the options as one value.
-pub fn encode_to<R: Source, W: Sink>(
-    alloc: Global,
-    source: &mut R,
-    sink: &mut W,
-    encoding: Encoding,
-) -> Result<(), ToolFault>
-    requires { encoding.depth ≤ 100 }
-    ensures frames { WhereTold (R.state source.old).left
-        (λ input. EncodesAll encoding.device encoding.max encoding.depth encoding.hex encoding.system input result
-        (R.state source.new).left (W.state sink.old).written (W.state sink.new).written) }
-    ensures end { OnOk result ((R.state source.new).ends ≡ next_count (R.state source.old).ends) }
-    ensures word { IfErr result IsReadOrWrite }
-    ensures reads { CountsFailure (codes "Read") result (R.state source.old).failures (R.state source.new).failures }
-    ensures writes { CountsFailure (codes "Write") result (W.state sink.old).failures (W.state sink.new).failures }
-{
     let input = read_whole(alloc, source, INPUT_LIMIT)?;
     let octets = encoded(alloc, &input, encoding)?;
-    put_frames(alloc, sink, &octets, encoding.hex)
+    put_frames(alloc, sink, &octets, hex)
 }
 
 /// The messages that an input is the notation of.
@@ -120,15 +101,5 @@ fn not_read(alloc: Global, fault: TextFault) -> ToolFault
         TextFault::Count { at } => refusal(format!(in alloc; "Count at={at}")),
         TextFault::Deep { at } => refusal(format!(in alloc; "Deep at={at}")),
         TextFault::Memory => ToolFault::Memory,
-    }
-}
-
-// A refusal in words, or want of memory for them.
-fn refusal(words: Result<String, AllocError>) -> ToolFault
-    ensures { MatchResult words (λ given. result ≡ ToolFault.Refused given) (λ _. result ≡ ToolFault.Memory) }
-{
-    match words {
-        Ok(words) => ToolFault::Refused(words),
-        Err(_) => ToolFault::Memory,
     }
 }

@@ -1,13 +1,12 @@
 //! The octets of the frames of messages, one behind another.
 
 ghost use Rattle.std.specs.Prelude.{◌≡◌, ◌<◌, ◌+◌, ◌^◌, ◌++◌, [], length, OnOk, IfOk, IfErr, None};
-ghost use Rattle.secs_text.specs.Content.{Content};
 ghost use Rattle.hsms_frame.specs.Frame.{frame_octets};
 ghost use Rattle.hsms_tasks.specs.Encode.{HasRefused};
 
 use crate::refusal::Refusal;
 use hsms_frame::{Header, data_header, front_octets};
-use hsms_options::{Encoding, ToolFault, refused};
+use hsms_options::{Encoding, ToolFault, refusal, refused};
 use secs_text::{Head, Receiver};
 use std::alloc::{AllocError, Global};
 
@@ -104,10 +103,7 @@ impl Frames {
             None => Ok(self.output),
             Some(Refusal::TooLarge) => Err(refused(self.alloc, "TooLarge")),
             Some(Refusal::TooLong(length)) => {
-                match format!(in self.alloc; "TooLong length={length}") {
-                    Ok(words) => Err(ToolFault::Refused(words)),
-                    Err(_) => Err(ToolFault::Memory),
-                }
+                Err(refusal(format!(in self.alloc; "TooLong length={length}")))
             }
         }
     }

@@ -1,10 +1,9 @@
 //! Words for people: what a fault says, and what to do about it.
 
-use crate::front::FRONT;
-use crate::place::{column_of, line_of, underlined};
+use crate::place::place_in;
 use hsms_options::ToolFault;
 use std::alloc::{AllocError, Global};
-use std::io::ErrorKind;
+use std::io::{BufRead, ErrorKind};
 
 /// What is known of a fault besides its name.
 #[derive(Debug, Drop)]
@@ -13,11 +12,8 @@ pub enum Known {
     Nothing,
     /// What is wrong with the command line, in a sentence.
     Line(String),
-    /// So many of the first octets of the input, which isn't notation.
-    Octets {
-        octets: [u8; FRONT],
-        count: usize,
-    },
+    /// The input begins as a file of packets does, and isn't to be one.
+    Packets,
     /// The input, which is to be notation.
     Notation(Vec<u8>),
     /// The input is to be a capture of packets.
@@ -53,7 +49,7 @@ impl From<AllocError> for Failure {
 }
 
 // The file of a packet capture begins so: pcap in either order of octets, in micro- and nanoseconds, and pcapng.
-const CAPTURES: [[u8; FRONT]; 5] = [
+const CAPTURES: [[u8; 4]; 5] = [
     [0xd4, 0xc3, 0xb2, 0xa1],
     [0xa1, 0xb2, 0xc3, 0xd4],
     [0x4d, 0x3c, 0xb2, 0xa1],
@@ -65,40 +61,40 @@ const CAPTURES: [[u8; FRONT]; 5] = [
 pub fn words_for(alloc: Global, failure: &Failure) -> Result<String, AllocError> {
     let name = failure.fault.to_string(alloc)?;
     match &failure.known {
-        Known::Line(sentence) => format!(in alloc; "{sentence}"),
+        Known::Line(sentence) => String::from_str(alloc, sentence.as_str()),
         Known::Link {
             address,
             port,
             kind,
         } => link_words(alloc, address.as_str(), *port, *kind),
         Known::Notation(input) => notation_words(alloc, name.as_str(), input),
-        Known::Octets { octets, count } => {
-            let words = if *count == FRONT && is_capture(octets) {
-                "this is a pcap file, a capture of packets: hsms capture reads it, and docs/CAPTURES.md tells more"
-            } else {
-                sentence(name.as_str())
-            };
-            String::from_str(alloc, words)
-        }
+        Known::Packets => String::from_str(
+            alloc,
+            "this is a pcap file, a capture of packets: hsms capture reads it, and docs/CAPTURES.md tells more",
+        ),
         Known::Capture => String::from_str(alloc, capture_sentence(name.as_str())),
         Known::Nothing => String::from_str(alloc, sentence(name.as_str())),
     }
 }
 
-// Whether a file of packets begins with these octets.
-fn is_capture(octets: &[u8; FRONT]) -> bool {
-    CAPTURES.iter().any(|mark| mark == octets)
+/// Whether a file of packets begins as this input does, of which nothing was read yet.
+pub fn begins_as_capture<R: BufRead>(input: &mut R) -> bool {
+    match input.fill_buf() {
+        Ok(octets) => CAPTURES.iter().any(|mark| octets.starts_with(mark)),
+        Err(_) => false,
+    }
 }
 
 // The words for a fault of a notation: with the place, where the fault has one, the line and the column, and the line
 // itself with a mark below the place.
 fn notation_words(alloc: Global, name: &str, input: &[u8]) -> Result<String, AllocError> {
     let what = sentence(name);
-    match place_in(name) {
+    match told_place(name) {
         Some(at) => {
-            let line = line_of(input, at);
-            let column = column_of(input, at);
-            let shown = underlined(alloc, input, at)?;
+            let place = place_in(input, at);
+            let line = place.line;
+            let column = place.column();
+            let shown = place.underlined(alloc)?;
             format!(in alloc; "line {line}, column {column}: {what}\n{shown}")
         }
         None => String::from_str(alloc, what),
@@ -106,7 +102,7 @@ fn notation_words(alloc: Global, name: &str, input: &[u8]) -> Result<String, All
 }
 
 // The place that a fault of a notation has.
-fn place_in(name: &str) -> Option<usize> {
+fn told_place(name: &str) -> Option<usize> {
     let (_, number) = name.split_once(" at=")?;
     number.parse().ok()
 }
@@ -143,153 +139,62 @@ fn link_words(
 }
 
 // What a fault of a name says, and what to do. It is the one table of these words.
-const SENTENCES: [(&str, &str); 19] = [
-    ("command", "see hsms --help, and --help behind a command"),
-    (
-        "TooShort",
-        "a message's length is below 10, so these aren't HSMS messages, or some octets are missing before it",
-    ),
-    (
-        "TooLong",
-        "a message is longer than --max: give a greater one, or see whether the input is what it should be",
-    ),
-    (
-        "CutOff",
-        "the input ends within a message: its last octets are missing",
-    ),
-    (
-        "NoHex",
-        "this line isn't octets in hexadecimal digits: without --hex the input is read as octets",
-    ),
-    (
-        "NoMessage",
-        "this line isn't one message within --max: lines of a log have no length, and ask for --bare too",
-    ),
-    (
-        "Input",
-        "the input is longer than 67108864 octets: give it in parts",
-    ),
-    (
-        "Syntax",
-        "this can't stand here; a message is S1F1 W <A \"text\"> ., its end is a full stop",
-    ),
-    (
-        "Number",
-        "this is no value of its type, or out of its range",
-    ),
-    (
-        "Count",
-        "the number in these brackets isn't how many values follow",
-    ),
-    (
-        "Deep",
-        "lists are nested deeper here than --depth: give a greater one, or fewer lists",
-    ),
-    (
-        "TooLarge",
-        "a value or a list of a message has more than 16777215 octets or elements",
-    ),
-    (
-        "Endless",
-        "there is more than the command counts: give the input in parts",
-    ),
-    (
-        "Read",
-        "standard input can't be read: see that it is open, and no folder",
-    ),
-    (
-        "Write",
-        "standard output can't be written: see that the disk isn't full, and that its reader goes on",
-    ),
-    (
-        "Log",
-        "the log can't be written: see that standard output is open, the disk isn't full, and its reader goes on",
-    ),
-    (
-        "Link",
-        "the connection broke: the other end reset it, or took nothing for T8. The log tells how far it came",
-    ),
-    (
-        "Turns",
-        "all turns are used, and the connection was up: give more --turns",
-    ),
-    (
-        "Memory",
-        "memory is wanting: give the command more, or a smaller input",
-    ),
-];
+const SENTENCES: &str = "\
+    command: see hsms --help, and --help behind a command\n\
+    TooShort: a message's length is below 10, so these aren't HSMS messages, or some octets are missing before it\n\
+    TooLong: a message is longer than --max: give a greater one, or see whether the input is what it should be\n\
+    CutOff: the input ends within a message: its last octets are missing\n\
+    NoHex: this line isn't octets in hexadecimal digits: without --hex the input is read as octets\n\
+    NoMessage: this line isn't one message within --max: lines of a log have no length, and ask for --bare too\n\
+    Input: the input is longer than 67108864 octets: give it in parts\n\
+    Syntax: this can't stand here; a message is S1F1 W <A \"text\"> ., its end is a full stop\n\
+    Number: this is no value of its type, or out of its range\n\
+    Count: the number in these brackets isn't how many values follow\n\
+    Deep: lists are nested deeper here than --depth: give a greater one, or fewer lists\n\
+    TooLarge: a value or a list of a message has more than 16777215 octets or elements\n\
+    Endless: there is more than the command counts: give the input in parts\n\
+    Read: standard input can't be read: see that it is open, and no folder\n\
+    Write: standard output can't be written: see that the disk isn't full, and that its reader goes on\n\
+    Log: the log can't be written: see that standard output is open, the disk isn't full, and its reader goes on\n\
+    Link: the connection broke: the other end reset it, or took nothing for T8. The log tells how far it came\n\
+    Turns: all turns are used, and the connection was up: give more --turns\n\
+    Memory: memory is wanting: give the command more, or a smaller input";
 
 // The same of the faults of a capture, whose words are other ones.
-const CAPTURE_SENTENCES: [(&str, &str); 10] = [
-    (
-        "Lost",
-        "this packet shows that octets are missing: capture again at the end itself, whole packets (-s 0), and none dropped",
-    ),
-    (
-        "Length",
-        "a message is shorter than 10 octets or longer than --max: is this the port of HSMS? Else give a greater --max",
-    ),
-    (
-        "Differs",
-        "what this packet brings again isn't what came first: capture nearer to the end, where one device alone sends it",
-    ),
-    (
-        "Full",
-        "too much waits for octets that are missing: capture again at the end itself, whole packets and none dropped",
-    ),
-    (
-        "CutOff",
-        "the capture ends within a packet, or is empty: end the program that writes it first, or see what cut it off",
-    ),
-    (
-        "Capture",
-        "here the file isn't one of pcap or pcapng: give the one that tcpdump, tshark or Wireshark wrote, unpacked",
-    ),
-    (
-        "Time",
-        "this packet has no time, or none that a log can have: capture again with times, or leave the packet out",
-    ),
-    (
-        "Overlap",
-        "here a connection comes up while another one is up, and a log has one at a time: without --log each is judged",
-    ),
-    (
-        "Peer",
-        "this connection is one of other addresses, and a log is of two: say by --with which peer is meant",
-    ),
-    (
-        "NoConnection",
-        "no connection came up at --port: is this the port of HSMS, and does the capture begin before the connection does, or is --joined given?",
-    ),
-];
+const CAPTURE_SENTENCES: &str = "\
+    Lost: this packet shows that octets are missing: capture again at the end itself, whole packets (-s 0), and none dropped\n\
+    Length: a message is shorter than 10 octets or longer than --max: is this the port of HSMS? Else give a greater --max\n\
+    Differs: what this packet brings again isn't what came first: capture nearer to the end, where one device alone sends it\n\
+    Full: too much waits for octets that are missing: capture again at the end itself, whole packets and none dropped\n\
+    CutOff: the capture ends within a packet, or is empty: end the program that writes it first, or see what cut it off\n\
+    Capture: here the file isn't one of pcap or pcapng: give the one that tcpdump, tshark or Wireshark wrote, unpacked\n\
+    Time: this packet has no time, or none that a log can have: capture again with times, or leave the packet out\n\
+    Overlap: here a connection comes up while another one is up, and a log has one at a time: without --log each is judged\n\
+    Peer: this connection is one of other addresses, and a log is of two: say by --with which peer is meant\n\
+    NoConnection: no connection came up at --port: is this the port of HSMS, and does the capture begin before the connection does, or is --joined given?";
 
-/// What a fault of a capture says, and what to do.
+// What a fault of a capture says, and what to do.
 fn capture_sentence(name: &str) -> &'static str {
-    match said_of(first_word(name), &CAPTURE_SENTENCES) {
+    match said_of(name, CAPTURE_SENTENCES) {
         Some(said) => said,
         None => sentence(name),
     }
 }
 
-/// What a fault of this name says, and what to do.
+// What a fault of this name says, and what to do.
 fn sentence(name: &str) -> &'static str {
-    said_of(first_word(name), &SENTENCES).unwrap_or("see docs/FORMATS.md")
+    said_of(name, SENTENCES).unwrap_or("see docs/FORMATS.md")
 }
 
-// What a table says of a word.
-fn said_of(word: &str, table: &[(&'static str, &'static str)]) -> Option<&'static str> {
-    for (name, said) in table {
-        if *name == word {
-            return Some(said);
+// What a table says of the first word of a fault, which may have its place behind that.
+fn said_of(name: &str, table: &'static str) -> Option<&'static str> {
+    let (word, _) = name.split_once(' ').unwrap_or((name, ""));
+    for line in table.lines() {
+        if let Some((listed, said)) = line.split_once(": ") {
+            if listed == word {
+                return Some(said);
+            }
         }
     }
     None
-}
-
-// The word of a fault, without its place.
-fn first_word(name: &str) -> &str {
-    match name.split_once(' ') {
-        Some((word, _)) => word,
-        None => name,
-    }
 }

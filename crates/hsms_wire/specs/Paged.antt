@@ -20,8 +20,8 @@ use Rattle.hsms_accounts.specs.declared.journal.Journal.{Journal}
 use Rattle.hsms_accounts.specs.declared.pair.Pair.{Pair}
 use Rattle.hsms_wire.specs.declared.course.Course.{Course}
 use Rattle.hsms_wire.specs.declared.course.Course.TheVariants as course
-use Rattle.hsms_wire.specs.declared.flow.Followed.{Followed as Taken}
-use Rattle.hsms_wire.specs.declared.flow.Followed.TheVariants as taken
+use Rattle.hsms_wire.specs.declared.course.Followed.{Followed as Taken}
+use Rattle.hsms_wire.specs.declared.course.Followed.TheVariants as taken
 use Rattle.hsms_wire.specs.declared.flow.Logs.{Logs}
 use Rattle.hsms_wire.specs.declared.flow.Open.{Open}
 use Rattle.hsms_wire.specs.declared.flow.Stage.{Stage}

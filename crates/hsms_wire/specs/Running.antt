@@ -29,8 +29,8 @@ use Rattle.hsms_wire.specs.declared.shortfall.Shortfall.{Shortfall}
 use Rattle.hsms_wire.specs.declared.shortfall.Shortfall.TheVariants as lacks
 use Rattle.hsms_wire.specs.declared.report.Manner.TheVariants.{Log}
 use Rattle.hsms_wire.specs.declared.report.Report.{Report}
-use Rattle.hsms_wire.specs.declared.within.Followed.{Followed}
-use Rattle.hsms_wire.specs.declared.within.Followed.TheVariants as followed
+use Rattle.hsms_wire.specs.declared.course.Followed.{Followed}
+use Rattle.hsms_wire.specs.declared.course.Followed.TheVariants as followed
 use Rattle.hsms_wire.specs.declared.within.Within.{Within}
 use Rattle.hsms_wire.specs.Courses.{lack_behind}
 use Rattle.hsms_wire.specs.Way.{IsReport, Way, to_log, to_verdicts}

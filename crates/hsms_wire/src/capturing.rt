@@ -187,10 +187,7 @@ fn take_packet(
 fn body_of<'a>(segment: &Segment, octets: &'a [u8]) -> &'a [u8]
     ensures { result.now ≡ body_in segment.now octets.now }
 {
-    match octets.get(segment.body..segment.end) {
-        Some(body) => body,
-        None => &[],
-    }
+    octets.get(segment.body..segment.end).unwrap_or(&[])
 }
 
 // What a fault of a file behind so many packets leaves out, where it isn't one of the device.

@@ -1,21 +1,22 @@
 //! A connection of a capture, from its first SYN on, or from the first packet of a session that was running before.
 
-ghost use Rattle.std.specs.Prelude.{◌≡◌, ◌&&◌, ◌||◌, ◌++◌, [], ◌∷◌, IfErr, IfOk, OnOk, is_some, map};
+ghost use Rattle.std.specs.Prelude.{◌≡◌, ◌&&◌, ◌||◌, ◌++◌, [], ◌∷◌, IfErr, IfOk, OnOk, is_some, map, ◌↔◌, IsTrue, false, None};
 ghost use Rattle.hsms_accounts.specs.Stop.{IsNoRefusal};
 ghost use Rattle.hsms_accounts.specs.declared.stop.Stop.TheVariants.{Memory};
 ghost use Rattle.hsms_capture.specs.Known.{seen_of};
 ghost use Rattle.hsms_accounts.specs.declared.journal.Journal.{Journal};
 ghost use Rattle.hsms_wire.specs.declared.report.Manner.TheVariants.{Log, Verdicts};
-ghost use Rattle.hsms_wire.specs.Paged.{BeginsOnPage, DownsIf, EndsOnPage, FollowsAllOnPage, FollowsOnPage, GoesOnPage, LogsAll, WaitsOnPage};
-ghost use Rattle.hsms_wire.specs.Followed.{BeginsWith, DownBy, EndsOpen, Follows, FollowsAll, GoesOn, HearsThem, TakesSegment, seen_waiting};
-ghost use Rattle.hsms_wire.specs.Joining.{EndsGathered, KeepsStage, TakesStageWithin};
+ghost use Rattle.hsms_wire.specs.Paged.{BeginsOnPage, DownsIf, EndsOnPage, FollowsAllOnPage, FollowsOnPage, GoesOnPage, LogsAll, WaitsOnPage, EndsStageOnPage, TakesOnPage, CountsIf};
+ghost use Rattle.hsms_wire.specs.Followed.{BeginsWith, DownBy, EndsOpen, Follows, FollowsAll, GoesOn, HearsThem, TakesSegment, seen_waiting, WhenTold, is_up_event, timed_by, unboxed_ends};
+ghost use Rattle.hsms_wire.specs.Joining.{EndsGathered, KeepsStage, TakesStageWithin, EndsJoined, TakesJoined};
 ghost use Rattle.hsms_wire.specs.Logged.{is_there};
-ghost use Rattle.hsms_wire.specs.Refused.{BeginsRefused, EndsOpenRefused, FollowsAllRefused, FollowsRefused, HearsThemRefused, InLog, LacksRefused, WaitsRefused, lack_left};
-ghost use Rattle.hsms_wire.specs.RefusedSession.{EndGatheredRefused, GatherRefused, PacketRefused};
+ghost use Rattle.hsms_wire.specs.Refused.{BeginsRefused, EndsOpenRefused, FollowsAllRefused, FollowsRefused, HearsThemRefused, InLog, LacksRefused, WaitsRefused, lack_left, EndsRefused, TakesRefused};
+ghost use Rattle.hsms_wire.specs.RefusedSession.{EndGatheredRefused, GatherRefused, PacketRefused, EndsJoinedRefused, TakesJoinedRefused};
 ghost use Rattle.hsms_wire.specs.Report.{StopsUnrefused, Tells, session_of};
-ghost use Rattle.hsms_wire.specs.Staged.{ToldUnanswered, WaitsOn, answers, first_shown, if_answered, lost_by, shows, stage_by};
+ghost use Rattle.hsms_wire.specs.Staged.{ToldUnanswered, WaitsOn, answers, first_shown, if_answered, lost_by, shows, stage_by, IsBegun, IsIdle, EndsStage, TakesStage};
+ghost use Rattle.hsms_wire.specs.Tabled.{is_live};
 
-use crate::course::Course;
+use crate::course::{Course, Followed};
 use crate::joining::{Joining, begin, gather};
 use crate::report::Report;
 use crate::resets::{note_reset, time_of};
@@ -89,18 +90,7 @@ impl Drop for Logs {
     }
 }
 
-// What a connection has come to with a packet: more may follow, or it has ended, and may lack something.
-#[derive(Drop)]
-enum Followed {
-    Goes(Connection),
-    Ends(Option<Shortfall>),
-}
-
 impl Flow {
-    ghost use Rattle.std.specs.Prelude.{◌≡◌, ◌↔◌, IsTrue};
-    ghost use Rattle.hsms_wire.specs.Staged.{IsBegun, IsIdle};
-    ghost use Rattle.hsms_wire.specs.Tabled.{is_live};
-
     /// A connection that begins with a SYN of this number, or a session that was running before the capture.
     pub fn new(alloc: Global, syn: Option<u32>, born: u64) -> Flow
         ensures { IsBegun syn born result }
@@ -123,10 +113,7 @@ impl Flow {
     pub fn is_live(&self) -> bool
         ensures { result ≡ is_live self.now.stage }
     {
-        match self.stage {
-            Stage::Opening(_) | Stage::Open(_) | Stage::Joining(_) | Stage::Within(_) => true,
-            Stage::Over => false,
-        }
+        !matches!(self.stage, Stage::Over)
     }
 
     /// Whether nothing is left to be told of it, unless more of its packets come.
@@ -156,15 +143,6 @@ impl Drop for Stage {
 }
 
 impl Stage {
-    ghost use Rattle.std.specs.Prelude.{IfErr, IfOk, OnOk};
-    ghost use Rattle.hsms_capture.specs.Known.{seen_of};
-    ghost use Rattle.hsms_wire.specs.Report.{StopsUnrefused, Tells};
-    ghost use Rattle.hsms_wire.specs.Joining.{EndsJoined, TakesJoined};
-    ghost use Rattle.hsms_wire.specs.Paged.{EndsStageOnPage, TakesOnPage};
-    ghost use Rattle.hsms_wire.specs.Refused.{EndsRefused, TakesRefused};
-    ghost use Rattle.hsms_wire.specs.RefusedSession.{EndsJoinedRefused, TakesJoinedRefused};
-    ghost use Rattle.hsms_wire.specs.Staged.{EndsStage, TakesStage};
-
     /// Takes a packet of a connection that begins with a SYN of this number, if it does with one.
     #[tactic(auto, using(crate::proofs::Unrefused::telling_steps))]
     pub fn take(
@@ -240,14 +218,6 @@ impl Stage {
 }
 
 impl Logs {
-    ghost use Rattle.std.specs.Prelude.{◌≡◌, ◌||◌, [], false, IfErr, OnOk, None, is_some};
-    ghost use Rattle.hsms_accounts.specs.declared.journal.Journal.{Journal};
-    ghost use Rattle.hsms_wire.specs.declared.report.Manner.TheVariants.{Log, Verdicts};
-    ghost use Rattle.hsms_wire.specs.Paged.{CountsIf};
-    ghost use Rattle.hsms_wire.specs.Refused.{LacksRefused};
-    ghost use Rattle.hsms_wire.specs.Followed.{WhenTold, is_up_event, timed_by, unboxed_ends};
-    ghost use Rattle.hsms_wire.specs.Report.{StopsUnrefused, Tells};
-
     fn new(alloc: Global) -> Logs
         ensures ends { result.ends ≡ None }
         ensures up { result.is_up ≡ false }
@@ -470,11 +440,7 @@ fn answered(syn: Option<u32>, segment: &Segment) -> Option<u32>
     ensures { result ≡ if_answered syn segment.now }
 {
     let syn = syn?;
-    if is_answer(segment, syn) {
-        Some(syn)
-    } else {
-        None
-    }
+    is_answer(segment, syn).then_some(syn)
 }
 
 // Whether a segment is the SYN of the passive end that acknowledges this number of the active end's.

@@ -176,10 +176,7 @@ impl Joined {
         ensures { (said : Said) (spoken : Spoken) → self.now.said ≡ Some said → KnowsBoth spoken said
             → result ≡ supposed_by message (spoken_to from spoken) }
     {
-        match &self.said {
-            Some(said) => said.decided_by(from, message),
-            None => None,
-        }
+        self.said.as_ref()?.decided_by(from, message)
     }
 
     // A message waits, or too many do.
@@ -644,10 +641,7 @@ fn message_of(happening: &Happening, max: u32) -> Option<(Side, Header)>
     ensures { result ≡ said_by max happening.now.event }
 {
     match &happening.event {
-        Event::Message { from, octets } => match header_at(octets.as_slice(), max) {
-            Some(message) => Some((*from, message)),
-            None => None,
-        },
+        Event::Message { from, octets } => Some((*from, header_at(octets.as_slice(), max)?)),
         Event::Up | Event::Down => None,
     }
 }

@@ -1,7 +1,7 @@
 //! Packets that are left out.
 
 ghost use Rattle.std.specs.Prelude.{◌≡◌, ◌++◌, IfOk, OnOk, string_bytes};
-ghost use Rattle.hsms_wire.specs.LeftOut.{packets_words, with_kind};
+ghost use Rattle.hsms_wire.specs.LeftOut.{packets_words, with_kind, all_of, kinds_of, left_out_after, line_of, none_left_out};
 
 use hsms_packets::Reason;
 use std::alloc::{AllocError, Global};
@@ -17,9 +17,6 @@ pub struct LeftOut {
 }
 
 impl LeftOut {
-    ghost use Rattle.std.specs.Prelude.{◌≡◌, IfOk, string_bytes};
-    ghost use Rattle.hsms_wire.specs.LeftOut.{all_of, kinds_of, left_out_after, line_of, none_left_out};
-
     /// None.
     pub fn new() -> LeftOut
         ensures { result ≡ none_left_out }

@@ -2,8 +2,7 @@
 
 ghost use Rattle.std.specs.Prelude.{◌≡◌, ◌++◌, IfOk, OnOk, string_bytes};
 ghost use Rattle.hsms_log.specs.Spelling.{role_word};
-ghost use Rattle.hsms_lines.specs.Verdict.{verdict_line_of};
-ghost use Rattle.hsms_wire.specs.Line.{address_text, end_line_of, front_of, lack_words, side_word, told_words, verdict_line_at, verdict_line_by};
+ghost use Rattle.hsms_wire.specs.Line.{address_text, end_line_of, front_of, lack_words, side_word, told_words, verdict_line_by};
 
 use crate::shortfall::Shortfall;
 use hsms_accounts::{Pair, Told};
@@ -98,7 +97,7 @@ fn push_told(alloc: Global, line: &mut String, told: Option<Told>) -> Result<(),
     }
 }
 
-// Adds a verdict, with the packet of the line that fails, and the line's end.
+// Adds a verdict, with the packet of the line that fails if it is a failure of one, and the line's end.
 fn push_verdict(
     alloc: Global,
     line: &mut String,
@@ -107,39 +106,12 @@ fn push_verdict(
 ) -> Result<(), AllocError>
     ensures { OnOk result (string_bytes line.new ≡ string_bytes line.old ++ verdict_line_by verdict packet) }
 {
-    match packet {
-        Some(packet) => push_verdict_at(alloc, line, verdict, packet),
-        None => push_plain(alloc, line, verdict),
-    }
-}
-
-// Adds a verdict as it is told without a capture.
-fn push_plain(alloc: Global, line: &mut String, verdict: Verdict) -> Result<(), AllocError>
-    ensures { OnOk result (string_bytes line.new ≡ string_bytes line.old ++ verdict_line_of verdict) }
-{
-    let words = verdict_line(alloc, verdict)?;
-    line.push_str(words.as_str())
-}
-
-// Adds a verdict, which fails at a line of this packet if it is a failure.
-fn push_verdict_at(
-    alloc: Global,
-    line: &mut String,
-    verdict: Verdict,
-    packet: u64,
-) -> Result<(), AllocError>
-    ensures { OnOk result (string_bytes line.new ≡ string_bytes line.old ++ verdict_line_at verdict packet) }
-{
-    match verdict {
-        Verdict::Pass(_) => push_plain(alloc, line, verdict),
-        Verdict::Fail {
-            line: number,
-            why: Why::Unreadable,
-        } => write!(line, "fail line={number} packet={packet} unreadable\n"),
-        Verdict::Fail {
-            line: number,
-            why: Why::Broken(rule),
-        } => {
+    let (Verdict::Fail { line: number, why }, Some(packet)) = (verdict, packet) else {
+        return line.push_str(verdict_line(alloc, verdict)?.as_str());
+    };
+    match why {
+        Why::Unreadable => write!(line, "fail line={number} packet={packet} unreadable\n"),
+        Why::Broken(rule) => {
             let name = rule_name(rule);
             write!(line, "fail line={number} packet={packet} rule={name}\n")
         }

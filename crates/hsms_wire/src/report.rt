@@ -339,7 +339,7 @@ impl Report {
     {
         match (&self.manner, ends) {
             (Manner::Verdicts, Some(ends)) => self.tell_verdicts(alloc, pair, ends, shortfall),
-            (Manner::Verdicts, None) => self.tell_missing(alloc, pair, shortfall),
+            (Manner::Verdicts, None) => self.tell_ends(alloc, pair, shortfall, None, None),
             (Manner::Log(_), _) => Ok(()),
         }
     }
@@ -377,20 +377,6 @@ impl Report {
     {
         let (active, passive) = ends.verdicts(alloc)?;
         self.tell_ends(alloc, pair, shortfall, Some(active), Some(passive))
-    }
-
-    // Tells that a connection never came up, and lacks something.
-    fn tell_missing(
-        &mut self,
-        alloc: Global,
-        pair: &Pair,
-        shortfall: Option<Shortfall>,
-    ) -> Result<(), Stop>
-        ensures lines { OnOk result (TellsVerdicts pair.now shortfall None self.old self.new) }
-        ensures same { OnOk result (self.new ≡ record self.old { has_failed = self.new.has_failed; page = self.new.page }) }
-        ensures memory { IfErr result (λ stop. stop ≡ Memory) }
-    {
-        self.tell_ends(alloc, pair, shortfall, None, None)
     }
 
     // Tells the lines of both ends.

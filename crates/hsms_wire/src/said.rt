@@ -1,5 +1,10 @@
 //! What both ends have asked for.
 
+ghost use Rattle.std.specs.Prelude.{◌≡◌, OnOk};
+ghost use Rattle.hsms_joined.specs.Requests.{is_left_out};
+ghost use Rattle.hsms_joined.specs.Supposed.{supposed_by};
+ghost use Rattle.hsms_wire.specs.Said.{KnowsBoth, Spoken, nothing_spoken, spoken_to, with_message};
+
 use hsms_capture::Side;
 use hsms_frame::Header;
 use hsms_joined::{Requests, Supposed, supposed_by};
@@ -13,11 +18,6 @@ pub struct Said {
 }
 
 impl Said {
-    ghost use Rattle.std.specs.Prelude.{◌≡◌, OnOk};
-    ghost use Rattle.hsms_joined.specs.Requests.{is_left_out};
-    ghost use Rattle.hsms_joined.specs.Supposed.{supposed_by};
-    ghost use Rattle.hsms_wire.specs.Said.{KnowsBoth, Spoken, nothing_spoken, spoken_to, with_message};
-
     /// Nothing so far.
     pub fn new(alloc: Global) -> Said
         ensures { KnowsBoth nothing_spoken result }

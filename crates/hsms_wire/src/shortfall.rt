@@ -1,5 +1,10 @@
 //! Why what is told is incomplete.
 
+ghost use Rattle.std.specs.Prelude.{◌≡◌};
+ghost use Rattle.hsms_wire.specs.Courses.{lack_behind};
+ghost use Rattle.hsms_wire.specs.Line.{packet_of, shortfall_words};
+ghost use Rattle.hsms_wire.specs.Stop.{IsRefusalOf};
+
 use hsms_accounts::Stop;
 use hsms_capture::Ending;
 use hsms_packets::FileFault;
@@ -25,11 +30,6 @@ pub enum Shortfall {
 }
 
 impl Shortfall {
-    ghost use Rattle.std.specs.Prelude.{◌≡◌};
-    ghost use Rattle.hsms_wire.specs.Courses.{lack_behind};
-    ghost use Rattle.hsms_wire.specs.Line.{packet_of};
-    ghost use Rattle.hsms_wire.specs.Stop.{IsRefusalOf};
-
     /// The number of the packet.
     pub fn packet(self) -> u64
         ensures { result ≡ packet_of self }
@@ -68,8 +68,6 @@ impl Shortfall {
 }
 
 impl fmt::Display for Shortfall {
-    ghost use Rattle.hsms_wire.specs.Line.{shortfall_words};
-
     ghost output = { λ shortfall. shortfall_words shortfall };
 
     fn fmt<W: fmt::Write>(&self, f: &mut fmt::Formatter<W>) -> fmt::Result {

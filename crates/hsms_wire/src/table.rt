@@ -1,9 +1,14 @@
 //! The connections of a capture at a port.
 
-ghost use Rattle.std.specs.Prelude.{◌≡◌, ◌↔◌, ◌<◌, ℕ, IfNone, IfSome, IsTrue};
-ghost use Rattle.hsms_wire.specs.Segments.{has_flag, taken_segment, syn_by};
+ghost use Rattle.std.specs.Prelude.{◌≡◌, ◌↔◌, ◌<◌, ℕ, IfNone, IfSome, IsTrue, [], true, false, IfErr, IfOk, OnOk, Some};
+ghost use Rattle.hsms_wire.specs.Segments.{has_flag, taken_segment, syn_by, IsPairAt};
 ghost use Rattle.hsms_wire.specs.Staged.{IsForgotten};
-ghost use Rattle.hsms_wire.specs.Tabled.{HasTime};
+ghost use Rattle.hsms_wire.specs.Tabled.{HasTime, BeginsFlow, BeginsWith, EndsFlows, FollowsFlow, HasFlow, HasOne, Joins, LooksAt, KeepsOf, ReplacesFlow, TakesOf, TakesPacket, is_live};
+ghost use Rattle.hsms_wire.specs.Kept.{EndsAsDealt, TakesAsDealt};
+ghost use Rattle.hsms_wire.specs.RefusedFile.{EndsAsRefused, TakesAsRefused};
+ghost use Rattle.hsms_wire.specs.RefusedTable.{FollowsFlowRefused, ReplacesRefused, StartsRefused, TakesOfRefused};
+ghost use Rattle.hsms_wire.specs.Stop.{IsRefused};
+ghost use Rattle.hsms_wire.specs.Report.{StopsUnrefused, Tells};
 
 use crate::flow::{Flow, Stage};
 use crate::report::Report;
@@ -56,18 +61,6 @@ impl Drop for Table {
 }
 
 impl Table {
-    ghost use Rattle.std.specs.Prelude.{◌≡◌, ◌↔◌, ℕ, [], true, false, IfErr, IfOk, OnOk, IfNone, IfSome, IsTrue, Some};
-    ghost use Rattle.hsms_capture.specs.Known.{seen_of};
-    ghost use Rattle.hsms_accounts.specs.Pair.{IsOfPeer};
-    ghost use Rattle.hsms_wire.specs.Kept.{EndsAsDealt, TakesAsDealt};
-    ghost use Rattle.hsms_wire.specs.RefusedFile.{EndsAsRefused, TakesAsRefused};
-    ghost use Rattle.hsms_wire.specs.RefusedTable.{FollowsFlowRefused, ReplacesRefused, StartsRefused, TakesOfRefused};
-    ghost use Rattle.hsms_wire.specs.Stop.{IsRefused};
-    ghost use Rattle.hsms_wire.specs.Report.{StopsUnrefused, Tells};
-    ghost use Rattle.hsms_wire.specs.Segments.{IsPairAt};
-    ghost use Rattle.hsms_wire.specs.Staged.{IsForgotten};
-    ghost use Rattle.hsms_wire.specs.Tabled.{BeginsFlow, BeginsWith, EndsFlows, FollowsFlow, HasFlow, HasOne, Joins, LooksAt, KeepsOf, ReplacesFlow, TakesOf, TakesPacket, is_live};
-
     /// No connection, at this port of passive ends, with an end of this address, where there is one; those that were
     /// running before the capture are looked at or not.
     pub fn new(alloc: Global, port: u16, peer: Option<IpAddr>, is_joined: bool) -> Table
@@ -173,11 +166,7 @@ impl Table {
         ensures looks { LooksAt self.now segment.now result }
     {
         let (pair, side) = self.pair_at_port(segment)?;
-        if pair.is_of(&self.peer) {
-            Some((pair, side))
-        } else {
-            None
-        }
+        pair.is_of(&self.peer).then_some((pair, side))
     }
 
     // The same, if it is one of the port.
@@ -207,10 +196,7 @@ impl Table {
     fn has(&self, pair: &Pair, syn: u32) -> bool
         ensures { IsTrue result ↔ HasFlow self.now pair.now (λ flow. flow.syn ≡ Some syn) }
     {
-        match self.flow(pair) {
-            Some(flow) => flow.syn == Some(syn),
-            None => false,
-        }
+        self.flow(pair).is_some_and(|flow| flow.syn == Some(syn))
     }
 
     // The number of a SYN with which a segment begins a connection of a pair, if it does so with one.
@@ -237,10 +223,7 @@ impl Table {
     fn is_live(&self, pair: &Pair) -> bool
         ensures { IsTrue result ↔ HasFlow self.now pair.now (λ flow. is_live flow.stage ≡ true) }
     {
-        match self.flow(pair) {
-            Some(flow) => flow.is_live(),
-            None => false,
-        }
+        self.flow(pair).is_some_and(|flow| flow.is_live())
     }
 
     // The connection of a pair, where it isn't forgotten.

@@ -9,7 +9,7 @@ ghost use Rattle.hsms_wire.specs.Report.{StopsUnrefused, Tells};
 ghost use Rattle.hsms_wire.specs.Running.{BeginsWithin, EndsWithin, Opens, TakesCut, TakesWithin, begin_at, cut_by, ending_in, over_as};
 ghost use Rattle.hsms_wire.specs.Session.{FinishesAs, ReplacedAs, in_capture, uncaptured};
 
-use crate::course::Course;
+use crate::course::{Course, Followed};
 use crate::joined::Joined;
 use crate::report::Report;
 use crate::resets::{note_reset, time_of};
@@ -47,13 +47,6 @@ impl Drop for Within {
         drop(bare_resets);
         drop(joined);
     }
-}
-
-// What a connection has come to with a packet: more may follow, or it has ended, and may lack something.
-#[derive(Drop)]
-enum Followed {
-    Goes(Connection),
-    Ends(Option<Shortfall>),
 }
 
 impl Within {
@@ -160,7 +153,7 @@ impl Within {
         let course = hear_all(alloc, report, pair, &bare_resets, &mut joined, told)?;
         let shortfall = match course {
             Course::Over(shortfall) => return finish(alloc, report, pair, joined, shortfall),
-            Course::Goes => Shortfall::behind(in_capture(ending), missing),
+            Course::Goes => Shortfall::behind(ending_in(ending), missing),
         };
         if is_replaced && shortfall.is_none() {
             return replace(alloc, report, pair, joined);
@@ -241,7 +234,7 @@ fn take_segment(
     match connection.take(alloc, counted, kept, told) {
         Ok(connection) => match connection.ending() {
             None => Ok(Followed::Goes(connection)),
-            Some(ending) => Ok(Followed::Ends(Shortfall::behind(in_capture(ending), None))),
+            Some(ending) => Ok(Followed::Ends(Shortfall::behind(ending_in(ending), None))),
         },
         Err(ConnectionFault::Memory) => Err(Stop::Memory),
         Err(_) => Ok(Followed::Ends(Some(Shortfall::Full(segment.packet)))),
@@ -249,7 +242,7 @@ fn take_segment(
 }
 
 // How it ends, at a packet of the capture.
-fn in_capture(ending: Ending) -> Ending
+fn ending_in(ending: Ending) -> Ending
     ensures { result ≡ ending_in ending }
 {
     match ending {
@@ -296,7 +289,7 @@ fn hear_all(
         joined.old stop report.old report.new) }
 {
     for happening in told {
-        let happening = timed(bare_resets, happening);
+        let happening = in_capture(bare_resets, happening);
         match joined.hear(alloc, report, pair, happening)? {
             Course::Goes => {}
             Course::Over(shortfall) => return Ok(Course::Over(shortfall)),
@@ -306,7 +299,7 @@ fn hear_all(
 }
 
 // What happens, at its packet of the capture.
-fn timed(bare_resets: &[u64], happening: Happening) -> Happening
+fn in_capture(bare_resets: &[u64], happening: Happening) -> Happening
     ensures { result ≡ in_capture bare_resets.now happening }
 {
     let packet = captured(happening.packet);
@@ -324,7 +317,7 @@ fn finish(
     alloc: Global,
     report: &mut Report,
     pair: &Pair,
-    joined: Joined,
+    mut joined: Joined,
     shortfall: Option<Shortfall>,
 ) -> Result<(), Stop>
     ensures told { OnOk result (Tells report.old report.new) }
@@ -332,7 +325,6 @@ fn finish(
     ensures unrefused { IfErr result (StopsUnrefused report.old) }
     ensures refuses { IfErr result (λ stop. FinishRefused pair.now joined shortfall stop report.old report.new) }
 {
-    let mut joined = joined;
     match joined.settle(alloc, report, pair)? {
         Course::Goes => joined.conclude(alloc, report, pair, shortfall),
         Course::Over(other) => joined.conclude(alloc, report, pair, other.or(shortfall)),
@@ -341,13 +333,12 @@ fn finish(
 
 // It is over since a later one replaces it, and lacks nothing. What waits is told before.
 #[tactic(auto, using(crate::proofs::Unrefused::telling_steps))]
-fn replace(alloc: Global, report: &mut Report, pair: &Pair, joined: Joined) -> Result<(), Stop>
+fn replace(alloc: Global, report: &mut Report, pair: &Pair, mut joined: Joined) -> Result<(), Stop>
     ensures told { OnOk result (Tells report.old report.new) }
     ensures replaced { OnOk result (ReplacedAs pair.now joined report.old report.new) }
     ensures unrefused { IfErr result (StopsUnrefused report.old) }
     ensures refuses { IfErr result (λ stop. ReplaceRefused pair.now joined stop report.old report.new) }
 {
-    let mut joined = joined;
     match joined.settle(alloc, report, pair)? {
         Course::Goes => {
             joined.replace(alloc, report)?;

@@ -22,12 +22,10 @@ fn push_header(octets: &mut Vec<u8>, format: Format, number: usize) -> Result<()
     ensures { OnOk result (octets.new.items ≡ octets.old.items ++ header format (field_of number) number) }
 {
     if number <= 0xff {
-        octets.extend_from_slice(&header_octets(format, 1, number)[..2])?;
-        return Ok(());
+        return octets.extend_from_slice(&header_octets(format, 1, number)[..2]);
     }
     let field = if number <= 0xffff { 2 } else { 3 };
-    octets.extend_from_slice(&header_octets(format, field, number)[..1 + field])?;
-    Ok(())
+    octets.extend_from_slice(&header_octets(format, field, number)[..1 + field])
 }
 
 /// Adds the header and the body of an item with these values.

@@ -3,7 +3,7 @@
 ghost use Rattle.std.specs.Prelude.{◌≡◌};
 ghost use Rattle.secs_item.specs.declared.fault.ItemFault.TheVariants.{Memory};
 
-use std::alloc::{AllocError, AllocFailed};
+use std::alloc::AllocError;
 use thiserror::Error;
 
 /// Why octets are no item, or an item has no octets.
@@ -44,14 +44,6 @@ impl From<AllocError> for ItemFault {
     ghost from_gives = { λ _ f. f ≡ Memory };
 
     fn from(_: AllocError) -> ItemFault {
-        ItemFault::Memory
-    }
-}
-
-impl<T: Drop> From<AllocFailed<T>> for ItemFault {
-    ghost from_gives = { λ _ f. f ≡ Memory };
-
-    fn from(_: AllocFailed<T>) -> ItemFault {
         ItemFault::Memory
     }
 }

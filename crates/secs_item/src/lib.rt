@@ -30,7 +30,7 @@ mod patch;
 mod value;
 
 pub use decode::{decode_front, decode_text, item_of_values};
-pub use encoding::{MAX_LENGTH, body_octets, encode};
+pub use encoding::{body_octets, encode};
 pub use fault::ItemFault;
 pub use format::Format;
 pub use header::{Header, read_header};

@@ -1,6 +1,6 @@
 //! Values and their octets, of the formats whose values aren't octets as they stand.
 
-ghost use Rattle.std.specs.Prelude.{◌≡◌, ◌≤◌, ◌++◌, ◌<◌, ◌^◌, ℕ, List, length, OnOk, FitsSigned};
+ghost use Rattle.std.specs.Prelude.{◌≡◌, ◌++◌, ◌<◌, ◌^◌, ℕ, List, length, OnOk, FitsSigned};
 ghost use Rattle.std.specs.List.{AllByRecursion};
 
 use byteorder::{BigEndian, ByteOrder};
@@ -106,10 +106,7 @@ impl Value for i16 {
     }
 
     fn push_octets(self, octets: &mut Vec<u8>) -> Result<(), AllocError> {
-        let mut number = [0; 2];
-        BigEndian::write_i16(&mut number, self);
-        octets.extend_from_slice(&number)?;
-        Ok(())
+        octets.extend_from_slice(&self.to_be_bytes())
     }
 
     fn known(self) {}
@@ -135,10 +132,7 @@ impl Value for i32 {
     }
 
     fn push_octets(self, octets: &mut Vec<u8>) -> Result<(), AllocError> {
-        let mut number = [0; 4];
-        BigEndian::write_i32(&mut number, self);
-        octets.extend_from_slice(&number)?;
-        Ok(())
+        octets.extend_from_slice(&self.to_be_bytes())
     }
 
     fn known(self) {}
@@ -164,18 +158,14 @@ impl Value for i64 {
     }
 
     fn push_octets(self, octets: &mut Vec<u8>) -> Result<(), AllocError> {
-        let mut number = [0; 8];
-        BigEndian::write_i64(&mut number, self);
-        octets.extend_from_slice(&number)?;
-        Ok(())
+        octets.extend_from_slice(&self.to_be_bytes())
     }
 
     fn known(self) {}
 }
 
 impl Value for u16 {
-    ghost use Rattle.byteorder.specs.Endian.{big_number};
-    ghost use Rattle.byteorder.specs.Endian.{big_bytes};
+    ghost use Rattle.byteorder.specs.Endian.{big_bytes, big_number};
 
     ghost SIZE = { 2 };
 
@@ -192,18 +182,14 @@ impl Value for u16 {
     }
 
     fn push_octets(self, octets: &mut Vec<u8>) -> Result<(), AllocError> {
-        let mut number = [0; 2];
-        BigEndian::write_u16(&mut number, self);
-        octets.extend_from_slice(&number)?;
-        Ok(())
+        octets.extend_from_slice(&self.to_be_bytes())
     }
 
     fn known(self) {}
 }
 
 impl Value for u32 {
-    ghost use Rattle.byteorder.specs.Endian.{big_number};
-    ghost use Rattle.byteorder.specs.Endian.{big_bytes};
+    ghost use Rattle.byteorder.specs.Endian.{big_bytes, big_number};
 
     ghost SIZE = { 4 };
 
@@ -220,18 +206,14 @@ impl Value for u32 {
     }
 
     fn push_octets(self, octets: &mut Vec<u8>) -> Result<(), AllocError> {
-        let mut number = [0; 4];
-        BigEndian::write_u32(&mut number, self);
-        octets.extend_from_slice(&number)?;
-        Ok(())
+        octets.extend_from_slice(&self.to_be_bytes())
     }
 
     fn known(self) {}
 }
 
 impl Value for u64 {
-    ghost use Rattle.byteorder.specs.Endian.{big_number};
-    ghost use Rattle.byteorder.specs.Endian.{big_bytes};
+    ghost use Rattle.byteorder.specs.Endian.{big_bytes, big_number};
 
     ghost SIZE = { 8 };
 
@@ -248,10 +230,7 @@ impl Value for u64 {
     }
 
     fn push_octets(self, octets: &mut Vec<u8>) -> Result<(), AllocError> {
-        let mut number = [0; 8];
-        BigEndian::write_u64(&mut number, self);
-        octets.extend_from_slice(&number)?;
-        Ok(())
+        octets.extend_from_slice(&self.to_be_bytes())
     }
 
     fn known(self) {}
@@ -278,8 +257,7 @@ impl<const N: usize> Value for [u8; N] {
     }
 
     fn push_octets(self, octets: &mut Vec<u8>) -> Result<(), AllocError> {
-        octets.extend_from_slice(&self)?;
-        Ok(())
+        octets.extend_from_slice(&self)
     }
 
     fn known(self) {

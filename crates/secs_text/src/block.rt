@@ -48,7 +48,7 @@ impl Block {
     pub fn new(alloc: Global) -> Result<Block, AllocError>
         ensures { IfOk result (λ block. block ≡ []) }
     {
-        let octets = blank(alloc)?;
+        let octets = vec![in alloc; 0u8; SIZE]?;
         Ok(Block { octets, used: 0 })
     }
 
@@ -108,14 +108,6 @@ impl Block {
         out.give(&self.octets[..self.used]);
         self.clear();
     }
-}
-
-/// As many octets as a block holds.
-fn blank(alloc: Global) -> Result<Vec<u8>, AllocError>
-    ensures { IfOk result (λ octets. length octets.items ≡ 65536) }
-{
-    let octets = vec![in alloc; 0u8; SIZE]?;
-    Ok(octets)
 }
 
 /// Gives an output what stands in a block up to a place.

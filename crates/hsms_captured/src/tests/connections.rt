@@ -5,8 +5,8 @@ ghost use Rattle.std.specs.Prelude.{◌<◌, ◌^◌};
 use super::assert_so;
 use hsms_capture::{
     BothEnds, Cell, Connection, ConnectionFault, Ending, Event, Flags, Happening, Held, HeldFault,
-    Losses, Packet, Segment, Side, Span, Turns, TurnsFault, acknowledged_place, end_behind,
-    nearest_place, numbered_place, only_asks,
+    Losses, Packet, Segment, Side, Turns, TurnsFault, acknowledged_place, nearest_place,
+    numbered_place, only_asks,
 };
 use std::alloc::{AllocError, Global};
 use std::process::Abort;
@@ -25,19 +25,6 @@ fn numbers_that_begin_again(rt: std::rt::HostRuntime) {
     assert_nearest(&rt, 4294967300, 4294967290, Some(4294967290));
     assert_nearest(&rt, 5, 4294967290, None);
     assert_nearest(&rt, 0, 2147483648, None);
-}
-
-const WAITING: &[Span] = &[
-    Span { from: 5, to: 9 },
-    Span { from: 9, to: 12 },
-    Span { from: 14, to: 20 },
-];
-
-#[test]
-fn gaps_that_are_filled(rt: std::rt::HostRuntime) {
-    for (place, end) in [(4, 4), (7, 12), (13, 13), (14, 20)] {
-        assert_so(&rt, end_behind(place, WAITING) == end, "an end");
-    }
 }
 
 // The number of a SYN, that of an octet, and its place.
@@ -162,6 +149,35 @@ fn turns_of_packets(rt: std::rt::HostRuntime) -> Result<(), TurnsFault> {
     let mut told = Vec::new(rt.alloc());
     take_turns(&mut turns, &mut told)?;
     assert_so(&rt, are_numbered(&told, &[1, 2, 5, 6, 4, 3]), "whose turn");
+    Ok(())
+}
+
+const WAITING: &[Sent] = &[
+    (Side::Active, 1, 1, 1005, None, &[7; 4]),
+    (Side::Active, 2, 2, 1009, None, &[7; 3]),
+    (Side::Active, 3, 3, 1014, None, &[7; 6]),
+];
+
+const SEVENS: &[u8] = &[7; 20];
+
+// Behind octets that wait come those before so many places: where the end is then.
+fn end_behind(alloc: Global, place: usize) -> Result<u64, TurnsFault> {
+    let mut turns = Turns::new(alloc, 1000, 1000);
+    let mut told = Vec::new(alloc);
+    for sent in WAITING {
+        turns.take(segment_of(sent, 0), sent.5, &mut told)?;
+    }
+    let octets = SEVENS.get(..place).unwrap_or(b"");
+    let first = (Side::Active, 4, 4, 1000, None, octets);
+    turns.take(segment_of(&first, 0), octets, &mut told)?;
+    Ok(turns.ends().active)
+}
+
+#[test]
+fn gaps_that_are_filled(rt: std::rt::HostRuntime) -> Result<(), TurnsFault> {
+    for (place, end) in [(3, 4), (6, 12), (12, 13), (13, 20)] {
+        assert_so(&rt, end_behind(rt.alloc(), place)? == end, "an end");
+    }
     Ok(())
 }
 

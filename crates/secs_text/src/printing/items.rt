@@ -8,7 +8,7 @@ ghost use Rattle.secs_item.specs.Item.{Value, Elements};
 ghost use Rattle.secs_item.specs.Reading.{item_at, elements_by, values_of};
 ghost use Rattle.secs_text.specs.Body.{body_of};
 ghost use Rattle.secs_text.specs.Laid.{Laid, Puts, opening_of, words_of};
-ghost use Rattle.secs_text.specs.Printed.{printed_elements, printed_item, printed_text, printed_values};
+ghost use Rattle.secs_text.specs.Printed.{printed_elements, printed_item, printed_values};
 ghost use Rattle.secs_text.specs.Widths.{is_width};
 
 use crate::block::{Output, room};
@@ -96,19 +96,6 @@ fn put_item_of_words<const N: usize, W: WordFormat<N>, O: Output>(
     put_end(out, block, at)
 }
 
-/// Puts an item of text with this body, after a space.
-#[inline(always)]
-fn put_item_of_text<O: Output>(out: &mut O, block: &mut [u8], from: usize, body: &[u8]) -> usize
-    requires size { length block.old ≡ 65536 }
-    requires within { from ≤ 65536 }
-    ensures { Puts (O.Given out.old) block.old from (O.Given out.new) block.new result
-        (opening_of Ascii (length body.now) ++ printed_text false body.now ++ codes ">") }
-{
-    let at = put_opening(out, block, from, Format::Ascii, body.len());
-    let at = put_text(out, block, at, body);
-    put_end(out, block, at)
-}
-
 /// Puts an item of values with this body, after a space. Each format has code of its own.
 #[inline(never)]
 pub fn put_item_of_values<O: Output>(
@@ -135,7 +122,11 @@ pub fn put_item_of_values<O: Output>(
             Format::Boolean,
             body,
         ),
-        Format::Ascii => put_item_of_text(out, block, from, body),
+        Format::Ascii => {
+            let at = put_opening(out, block, from, Format::Ascii, body.len());
+            let at = put_text(out, block, at, body);
+            put_end(out, block, at)
+        }
         Format::Jis8 => put_item_of_words::<1, Octets, O>(out, block, from, Format::Jis8, body),
         Format::Char2 => put_item_of_words::<1, Octets, O>(out, block, from, Format::Char2, body),
         Format::I1 => put_item_of_words::<1, Signed, O>(out, block, from, Format::I1, body),

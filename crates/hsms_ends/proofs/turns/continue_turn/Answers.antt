@@ -13,12 +13,12 @@ pub returns-then-test_is_due-clause-continued : goal.returns-then-test_is_due-cl
 returns-then-test_is_due-clause-continued g c =
     let told = g.L.Link.told in
     let log : SinkState = g.W.Sink.state c.args.log.now in
-    let log' : SinkState = g.W.Sink.state c.hand_linktest.new.log in
+    let log' : SinkState = g.W.Sink.state c.hand.new.log in
     let before = c.args.progress.now in
-    continued_tested g.D.TurnDesk.answers_after c.args.pause c.hand_linktest.result c.args.end.now c.hand_linktest.new.end (drop before.place c.args.script.now) log log' (told c.args.link.now) (told c.hand_linktest.new.link) before.entries c.hand_linktest.new.count before.refused
+    continued_tested g.D.TurnDesk.answers_after c.args.pause c.hand.result c.args.end.now c.hand.new.end (drop before.place c.args.script.now) log log' (told c.args.link.now) (told c.hand.new.link) before.entries c.hand.new.count before.refused
     (record {
       up = sym c.has_gone.ensures ∙ c.if-has_gone.false;
       no_step = sym c.step_is_due.ensures.due ∙ c.if-step_is_due.false;
       due = sym c.test_is_due.ensures ∙ c.if-test_is_due.true;
       script_stays = refl;
-    }) c.hand_linktest.ensures
+    }) c.hand.ensures

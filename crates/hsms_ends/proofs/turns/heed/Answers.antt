@@ -9,4 +9,4 @@ returns-in-Quiet g c =
     rw c.in-Quiet.is (yields_nothing log (g.L.Link.told c.args.link.now) c.args.count.now, refl)
 
 pub returns-in-Octets : goal.returns-in-Octets
-returns-in-Octets g c = rw c.in-Octets.is c.hear_octets.ensures
+returns-in-Octets g c = rw c.in-Octets.is c.hear.ensures

@@ -13,13 +13,11 @@ returns-clause-told c = λ before real some after.
     let number : c.saturating_add-number.result ≡ counted (c.args.so_far + 1) = search rules in (
       further_fails old c.tell.new.self.tally c.args.so_far c.saturating_add-number.result before real old.first refl
           (c.in_ok-tell.ensures.first
-          ∙ ap (λ t. either t.first (failed_at c.plain.result.number (first_why c.clear_notes.new.self.notes.items))) c.clear_notes.ensures.tally
-          ∙ ap (λ n. either old.first (failed_at c.plain.result.number (first_why n))) c.clear_notes.ensures.notes)
+          ∙ ap (λ n. either old.first (failed_at c.plain.result.number (first_why n))) c.clear.ensures.items)
           some after.0,
       number_more c.args.so_far c.saturating_add-number.result before real number after.1,
     )
 
 pub returns-clause-shown : goal.returns-clause-shown
 returns-clause-shown c =
-    let cleared = c.clear_notes.ensures in
-    keeps_then _ _ _ (keeps_page _ _ cleared.window cleared.groups (ap (λ t. t.first) cleared.tally) cleared.page) c.in_ok-tell.ensures.shown
+    keeps_then _ _ _ (keeps_page c.args.report.now _ refl refl refl refl) c.in_ok-tell.ensures.shown

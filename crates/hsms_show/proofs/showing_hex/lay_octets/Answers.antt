@@ -17,5 +17,5 @@ returns-in-None-clause-shown g c =
     let IsWhy : List ℕ → Type 0 = λ words. IsNoMessage (is_bare c.args.showing.form) c.args.showing.max c.args.octets.now × (words ≡ at_line (codes "NoMessage") c.args.number) in
     let none : IsNoMessage (is_bare c.args.showing.form) c.args.showing.max c.args.octets.now =
     ((λ empty. let size : length c.args.octets.now ≡ 0 = ap length empty in omega (arith, some, size)), c.message_of.ensures.none c.in-None.is) in
-    stopped_as (ShowsOctets (is_bare c.args.showing.form) c.args.showing.max c.args.showing.depth c.args.octets.now) IsWhy c.refusal.result c.stop.result (g.W.Sink.state c.args.sink.now).written c.args.held.now (g.W.Sink.state c.stop.new.sink).written c.stop.new.held
-    (told_no_message (IsNoMessage (is_bare c.args.showing.form) c.args.showing.max c.args.octets.now) (at_line (codes "NoMessage") c.args.number) c.refusal.result none c.refusal.ensures) c.stop.ensures.stops
+    stopped_as (ShowsOctets (is_bare c.args.showing.form) c.args.showing.max c.args.showing.depth c.args.octets.now) IsWhy c.line_refusal.result c.stop.result (g.W.Sink.state c.args.sink.now).written c.args.held.now (g.W.Sink.state c.stop.new.sink).written c.stop.new.held
+    (told_no_message (IsNoMessage (is_bare c.args.showing.form) c.args.showing.max c.args.octets.now) (at_line (codes "NoMessage") c.args.number) c.line_refusal.result none c.line_refusal.ensures) c.stop.ensures.stops

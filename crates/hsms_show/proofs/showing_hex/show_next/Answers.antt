@@ -70,5 +70,5 @@ returns-in_ok-put_out-in-Open-clause-line g c = λ rest told.
 pub returns-in-TooFar-clause-line : goal.returns-in-TooFar-clause-line
 returns-in-TooFar-clause-line g c = λ rest told.
     let a = rw c.in-TooFar.is at (c.in_ok-place.ensures.end rest told) in
-    far_stops (is_bare c.args.showing.form) c.args.showing.max c.args.showing.depth c.args.number (c.args.ahead.now ++ rest) c.next_end.new.ahead a.0.0 c.refusal.result c.stop.result (g.R.Source.state c.next_end.new.source).left (g.W.Sink.state c.args.sink.now).written (g.W.Sink.state c.next_end.new.sink).written c.args.held.now c.next_end.new.held (g.W.Sink.state c.stop.new.sink).written c.stop.new.held
-    a.0.2 a.0.3 a.0.1 a.1 c.refusal.ensures c.stop.ensures.stops
+    far_stops (is_bare c.args.showing.form) c.args.showing.max c.args.showing.depth c.args.number (c.args.ahead.now ++ rest) c.next_end.new.ahead a.0.0 c.line_refusal.result c.stop.result (g.R.Source.state c.next_end.new.source).left (g.W.Sink.state c.args.sink.now).written (g.W.Sink.state c.next_end.new.sink).written c.args.held.now c.next_end.new.held (g.W.Sink.state c.stop.new.sink).written c.stop.new.held
+    a.0.2 a.0.3 a.0.1 a.1 c.line_refusal.ensures c.stop.ensures.stops

@@ -26,13 +26,13 @@ pub returns-in-Show-clause-writes : goal.returns-in-Show-clause-writes
 returns-in-Show-clause-writes g c = rw c.well-in-Show.ensures (counts_well _ c.show_form.result _ _ c.show_form.ensures.writes)
 
 pub returns-in-Encode-clause-does : goal.returns-in-Encode-clause-does
-returns-in-Encode-clause-does g c = rw (c.in-Encode.is, c.well-in-Encode.ensures) (encodes_all _ _ _ _ _ c.encode_to.result (g.R.Source.state c.args.source.now) (g.R.Source.state c.encode_to.new.source) (g.W.Sink.state c.args.sink.now).written (g.W.Sink.state c.encode_to.new.sink).written c.encode_to.ensures.end c.encode_to.ensures.frames)
+returns-in-Encode-clause-does g c = rw (c.in-Encode.is, c.well-in-Encode.ensures) (encodes_all _ _ _ _ _ c.encode_all.result (g.R.Source.state c.args.source.now) (g.R.Source.state c.encode_all.new.source) (g.W.Sink.state c.args.sink.now).written (g.W.Sink.state c.encode_all.new.sink).written c.encode_all.ensures.end c.encode_all.ensures.frames)
 
 pub returns-in-Encode-clause-word : goal.returns-in-Encode-clause-word
-returns-in-Encode-clause-word g c = rw c.well-in-Encode.ensures (word_of_encoding c.encode_to.result c.encode_to.ensures.word)
+returns-in-Encode-clause-word g c = rw c.well-in-Encode.ensures (word_of_encoding c.encode_all.result c.encode_all.ensures.word)
 
 pub returns-in-Encode-clause-reads : goal.returns-in-Encode-clause-reads
-returns-in-Encode-clause-reads g c = rw c.well-in-Encode.ensures (counts_well _ c.encode_to.result _ _ c.encode_to.ensures.reads)
+returns-in-Encode-clause-reads g c = rw c.well-in-Encode.ensures (counts_well _ c.encode_all.result _ _ c.encode_all.ensures.reads)
 
 pub returns-in-Encode-clause-writes : goal.returns-in-Encode-clause-writes
-returns-in-Encode-clause-writes g c = rw c.well-in-Encode.ensures (counts_well _ c.encode_to.result _ _ c.encode_to.ensures.writes)
+returns-in-Encode-clause-writes g c = rw c.well-in-Encode.ensures (counts_well _ c.encode_all.result _ _ c.encode_all.ensures.writes)

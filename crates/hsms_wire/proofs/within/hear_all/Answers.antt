@@ -30,8 +30,8 @@ loop-happening-preserved c =
     let yielded = c.loop-happening.yielded in
     let h = c.in-Some.happening in
     let one : HearsOn pair (at h) c.loop-happening.joined c.loop-happening.report course.Goes c.hear.new.self c.hear.new.report =
-    subst (λ (x : Happening). HearsOn pair x c.loop-happening.joined c.loop-happening.report course.Goes c.hear.new.self c.hear.new.report) c.timed-happening.ensures
-    (subst (λ (x : Course). HearsOn pair c.timed-happening.result c.loop-happening.joined c.loop-happening.report x c.hear.new.self c.hear.new.report) c.in-Goes.is
+    subst (λ (x : Happening). HearsOn pair x c.loop-happening.joined c.loop-happening.report course.Goes c.hear.new.self c.hear.new.report) c.in_capture-happening.ensures
+    (subst (λ (x : Course). HearsOn pair c.in_capture-happening.result c.loop-happening.joined c.loop-happening.report x c.hear.new.self c.hear.new.report) c.in-Goes.is
     c.in_ok-hear.ensures.hears) in
     record {
       told = tells_then c.args.report.now c.loop-happening.report c.hear.new.report c.loop-happening.invariant.told c.in_ok-hear.ensures.told;
@@ -58,8 +58,8 @@ returns-in-Over-clause-hears c =
     let front = YieldsList-so_far from yielded c.loop-happening.happening-iterator c.loop-happening.yielded_by in
     let apart = taken_apart all yielded h front turn.0 turn.1 in
     let one : HearsOn pair (at h) c.loop-happening.joined c.loop-happening.report (course.Over lack) c.hear.new.self c.hear.new.report =
-    subst (λ (x : Happening). HearsOn pair x c.loop-happening.joined c.loop-happening.report (course.Over lack) c.hear.new.self c.hear.new.report) c.timed-happening.ensures
-    (subst (λ (x : Course). HearsOn pair c.timed-happening.result c.loop-happening.joined c.loop-happening.report x c.hear.new.self c.hear.new.report) c.in-Over.is
+    subst (λ (x : Happening). HearsOn pair x c.loop-happening.joined c.loop-happening.report (course.Over lack) c.hear.new.self c.hear.new.report) c.in_capture-happening.ensures
+    (subst (λ (x : Course). HearsOn pair c.in_capture-happening.result c.loop-happening.joined c.loop-happening.report x c.hear.new.self c.hear.new.report) c.in-Over.is
     c.in_ok-hear.ensures.hears) in
     subst (λ (hs : List Happening). HearsEach pair hs c.args.joined.now c.args.report.now (course.Over lack) c.hear.new.self c.hear.new.report)
     (append_assoc (map at yielded) (at h ∷ []) _ ∙ sym (map-append at yielded (h ∷ _)) ∙ ap (map at) (sym apart))
@@ -95,5 +95,5 @@ returns-in_err-hear-clause-refuses c =
     let front = YieldsList-so_far from yielded c.loop-happening.happening-iterator c.loop-happening.yielded_by in
     let apart = taken_apart all yielded h front turn.0 turn.1 in
     rw (p.1, p.2)
-    (each_refused_at at pair all yielded _ h c.timed-happening.result c.args.joined.now c.loop-happening.joined _ c.args.report.now c.loop-happening.report c.hear.new.report
-    apart c.timed-happening.ensures c.loop-happening.invariant.told c.loop-happening.invariant.quiet c.loop-happening.invariant.hears c.in_err-hear.ensures.refuses)
+    (each_refused_at at pair all yielded _ h c.in_capture-happening.result c.args.joined.now c.loop-happening.joined _ c.args.report.now c.loop-happening.report c.hear.new.report
+    apart c.in_capture-happening.ensures c.loop-happening.invariant.told c.loop-happening.invariant.quiet c.loop-happening.invariant.hears c.in_err-hear.ensures.refuses)

@@ -5,40 +5,40 @@ use Rattle.hsms_capture.proofs.Whole.{front_none, front_past, front_stands, fron
 use Rattle.hsms_capture.proofs.Octets.{front_longer}
 use Rattle.hsms_capture.proofs.held.Held.front.Goals as goal
 
-pub returns-in_default-size_of-clause-front : goal.returns-in_default-size_of-clause-front
-returns-in_default-size_of-clause-front c =
+pub returns-in_default-clause-front : goal.returns-in_default-clause-front
+returns-in_default-clause-front c =
     let s : Store = record { place = c.self.inside.place; cells = all_of c.self.inside.cells } in
     subst (λ (s : Store). IsFront s c.args.place c.args.upto None) c.self.view_is
     (front_stands s c.args.place c.args.upto None
-    (front_none s c.args.place c.args.upto c.in-Some.first (omega (arith, c.in-Some.ensures)) (sym c.in_default-size_of.is ∙ c.size_of.ensures.size)))
+    (front_none s c.args.place c.args.upto c.in_ok-first.first (omega (arith, c.in_ok-first.ensures)) (sym c.in_default.is ∙ c.size_of.ensures.size)))
 
 pub returns-then-room-count-clause-front : goal.returns-then-room-count-clause-front
 returns-then-room-count-clause-front c =
     let s : Store = record { place = c.self.inside.place; cells = all_of c.self.inside.cells } in
     subst (λ (s : Store). IsFront s c.args.place c.args.upto None) c.self.view_is
     (front_stands s c.args.place c.args.upto None
-    (front_past s c.args.place c.args.upto c.in-Some.first c.in-Some-size_of.count (omega (arith, c.in-Some.ensures)) (sym c.in-Some-size_of.is ∙ c.size_of.ensures.size)
+    (front_past s c.args.place c.args.upto c.in_ok-first.first c.in-Some.count (omega (arith, c.in_ok-first.ensures)) (sym c.in-Some.is ∙ c.size_of.ensures.size)
     (omega (arith, c.saturating_sub-room.ensures, c.if-room-count.true))))
 
 pub returns-clause-front : goal.returns-clause-front
 returns-clause-front c =
     let s : Store = record { place = c.self.inside.place; cells = all_of c.self.inside.cells } in
-    subst (λ (s : Store). IsFront s c.args.place c.args.upto (Some c.in-Some-size_of.count)) c.self.view_is
-    (front_stands s c.args.place c.args.upto (Some c.in-Some-size_of.count)
-    (front_whole s c.args.place c.args.upto c.in-Some.first c.in-Some-size_of.count (omega (arith, c.in-Some.ensures)) (sym c.in-Some-size_of.is ∙ c.size_of.ensures.size)
-    (omega (arith, c.saturating_sub-room.ensures, c.if-room-count.false, c.in-Some-size_of.ensures.some))))
+    subst (λ (s : Store). IsFront s c.args.place c.args.upto (Some c.in-Some.count)) c.self.view_is
+    (front_stands s c.args.place c.args.upto (Some c.in-Some.count)
+    (front_whole s c.args.place c.args.upto c.in_ok-first.first c.in-Some.count (omega (arith, c.in_ok-first.ensures)) (sym c.in-Some.is ∙ c.size_of.ensures.size)
+    (omega (arith, c.saturating_sub-room.ensures, c.if-room-count.false, c.in-Some.ensures.some))))
 
 pub returns-then-is_longer-clause-piece : goal.returns-then-is_longer-clause-piece
 returns-then-is_longer-clause-piece c =
     let s : Store = record { place = c.self.inside.place; cells = all_of c.self.inside.cells } in
     subst (λ (s : Store). IsPiece s c.args.place c.args.upto None) c.self.view_is
-    (front_longer s c.self.inside.octets_from c.args.place c.args.upto c.in-Some.first c.saturating_sub-room.result c.head_of-head.result (omega (arith, c.in-Some.ensures))
-    (omega (arith, c.in-Some.ensures)) c.saturating_sub-room.ensures c.if-self-place.true c.self.invariant c.head_of-head.ensures (c.is_longer.ensures (let e = c.if-is_longer.true in cc)))
+    (front_longer s c.self.inside.octets_from c.args.place c.args.upto c.in_ok-first.first c.saturating_sub-room.result c.head_of-head.result (omega (arith, c.in_ok-first.ensures))
+    (omega (arith, c.in_ok-first.ensures)) c.saturating_sub-room.ensures c.if-self-place.true c.self.invariant c.head_of-head.ensures (c.is_longer.ensures (let e = c.if-is_longer.true in cc)))
 
 pub returns-then-is_longer-clause-front : goal.returns-then-is_longer-clause-front
 returns-then-is_longer-clause-front c =
     let s : Store = record { place = c.self.inside.place; cells = all_of c.self.inside.cells } in
     subst (λ (s : Store). IsFront s c.args.place c.args.upto None) c.self.view_is
     (front_stands s c.args.place c.args.upto None
-    (front_longer s c.self.inside.octets_from c.args.place c.args.upto c.in-Some.first c.saturating_sub-room.result c.head_of-head.result (omega (arith, c.in-Some.ensures))
-    (omega (arith, c.in-Some.ensures)) c.saturating_sub-room.ensures c.if-self-place.true c.self.invariant c.head_of-head.ensures (c.is_longer.ensures (let e = c.if-is_longer.true in cc))))
+    (front_longer s c.self.inside.octets_from c.args.place c.args.upto c.in_ok-first.first c.saturating_sub-room.result c.head_of-head.result (omega (arith, c.in_ok-first.ensures))
+    (omega (arith, c.in_ok-first.ensures)) c.saturating_sub-room.ensures c.if-self-place.true c.self.invariant c.head_of-head.ensures (c.is_longer.ensures (let e = c.if-is_longer.true in cc))))

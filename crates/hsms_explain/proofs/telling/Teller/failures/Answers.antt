@@ -1,13 +1,7 @@
 use Rattle.std.proofs.Common.{◌≡◌, ◌∙◌, sym}
-use Rattle.hsms_options.specs.declared.excerpt.Telling.TheVariants.{Text, Json, Html}
-use Rattle.hsms_explain.proofs.Following.{on_ok, on_ok_more}
+use Rattle.hsms_options.specs.declared.excerpt.Telling.TheVariants.{Text, Html}
+use Rattle.hsms_explain.proofs.Following.{on_ok}
 use Rattle.hsms_explain.proofs.telling.Teller.failures.Goals as goal
 
-pub returns-in-Text : goal.returns-in-Text
-returns-in-Text c = on_ok_more _ _ c.write_failures.result (λ some is. some) c.write_failures.ensures
-
-pub returns-in-Json : goal.returns-in-Json
-returns-in-Json c = on_ok _ c.write_failures-in-Json.result (λ is. let other : Json ≡ Text = sym c.in-Json.is ∙ is in absurd cc)
-
 pub returns-in-Html : goal.returns-in-Html
-returns-in-Html c = on_ok _ c.write_failures-in-Html.result (λ is. let other : Html ≡ Text = sym c.in-Html.is ∙ is in absurd cc)
+returns-in-Html c = on_ok _ c.write_failures.result (λ is. let other : Html ≡ Text = sym c.in-Html.is ∙ is in absurd cc)

@@ -8,23 +8,24 @@ use Rattle.hsms_machine.proofs.open.Transactions.time_concluded.Goals as goal
 pub returns-then-concludes-clause-time : goal.returns-then-concludes-clause-time
 returns-then-concludes-clause-time c =
     let other = c.args.other in
-    let time = c.in-Some.opened.time in
-    let found : find (λ (opened : Transaction). opened.header.system == other.system) c.args.self.now ≡ Some c.in-Some.opened = sym (rw c.header.ensures at c.in-Some.ensures.found) in
-    let holds : concludes c.in-Some.opened.header other ≡ true = cc in
-    any_at (λ (opened : Transaction). concludes opened.header other && (opened.time == time)) other.system (timed_only other time) c.args.self.now c.in-Some.ensures.apart
-    ∙ ap (passes (λ (opened : Transaction). concludes opened.header other && (opened.time == time))) found ∙ timed_here (concludes c.in-Some.opened.header other) time holds
+    let time = c.in_ok-opened.opened.time in
+    let found : find (λ (opened : Transaction). opened.header.system == other.system) c.args.self.now ≡ Some c.in_ok-opened.opened = sym (rw c.header.ensures at c.in_ok-opened.ensures.found) in
+    let holds : concludes c.in_ok-opened.opened.header other ≡ true = cc in
+    any_at (λ (opened : Transaction). concludes opened.header other && (opened.time == time)) other.system (timed_only other time) c.args.self.now c.in_ok-opened.ensures.apart
+    ∙ ap (passes (λ (opened : Transaction). concludes opened.header other && (opened.time == time))) found ∙ timed_here (concludes c.in_ok-opened.opened.header other) time holds
 
 pub returns-else-concludes-clause-none : goal.returns-else-concludes-clause-none
 returns-else-concludes-clause-none c =
     let other = c.args.other in
-    let found : find (λ (opened : Transaction). opened.header.system == other.system) c.args.self.now ≡ Some c.in-Some.opened = sym (rw c.header.ensures at c.in-Some.ensures.found) in
-    let fails : concludes c.in-Some.opened.header other ≡ false = cc in
-    any_at (λ opened. concludes opened.header other) other.system (concludes_only other) c.args.self.now c.in-Some.ensures.apart
+    let found : find (λ (opened : Transaction). opened.header.system == other.system) c.args.self.now ≡ Some c.in_ok-opened.opened = sym (rw c.header.ensures at c.in_ok-opened.ensures.found) in
+    let fails : concludes c.in_ok-opened.opened.header other ≡ false = cc in
+    any_at (λ opened. concludes opened.header other) other.system (concludes_only other) c.args.self.now c.in_ok-opened.ensures.apart
     ∙ ap (passes (λ opened. concludes opened.header other)) found ∙ fails
 
-pub returns-in-None-clause-none : goal.returns-in-None-clause-none
-returns-in-None-clause-none c =
+pub returns-in_err-opened-clause-none : goal.returns-in_err-opened-clause-none
+returns-in_err-opened-clause-none c =
     let other = c.args.other in
-    let found : find (λ (opened : Transaction). opened.header.system == other.system) c.args.self.now ≡ None = sym (rw c.header.ensures at c.in-None.ensures.found) in
-    any_at (λ opened. concludes opened.header other) other.system (concludes_only other) c.args.self.now c.in-None.ensures.apart
-    ∙ ap (passes (λ opened. concludes opened.header other)) found
+    let found : find (λ (opened : Transaction). opened.header.system == other.system) c.args.self.now ≡ None = sym (rw c.header.ensures at c.in_err-opened.ensures.found) in
+    rw c.from_residual.ensures
+    (any_at (λ opened. concludes opened.header other) other.system (concludes_only other) c.args.self.now c.in_err-opened.ensures.apart
+    ∙ ap (passes (λ opened. concludes opened.header other)) found)

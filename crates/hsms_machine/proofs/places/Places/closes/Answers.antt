@@ -27,14 +27,15 @@ returns-in-Taken-clause-none c =
     (parted c.args.entry.now c.parts.result.0 c.parts.result.1.now (ActTaken c.in-Taken.message) c.parts.result.2.now c.parts.ensures c.in-Taken.is)
     c.concluded-in-Taken.result c.concluded-in-Taken.ensures.none
 
-pub returns-in-Some-clause-place : goal.returns-in-Some-clause-place
-returns-in-Some-clause-place c =
+pub returns-in_ok-get-in-T3-clause-place : goal.returns-in_ok-get-in-T3-clause-place
+returns-in_ok-get-in-T3-clause-place c =
     t3_told c.self.inside.view c.args.self.now c.self.view_is c.args.entry.now.event c.in-T3.system
     (parted c.args.entry.now c.parts.result.0 c.parts.result.1.now (ActT3 c.in-T3.system) c.parts.result.2.now c.parts.ensures c.in-T3.is)
-    c.in-Some.opened (sym c.in-Some.ensures.found)
+    c.in_ok-get-in-T3.field-0 (sym c.in_ok-get-in-T3.ensures.found)
 
-pub returns-in-None-clause-none : goal.returns-in-None-clause-none
-returns-in-None-clause-none c =
-    t3_none c.self.inside.view c.args.self.now c.self.view_is c.args.entry.now.event c.in-T3.system
+pub returns-in_err-get-in-T3-clause-none : goal.returns-in_err-get-in-T3-clause-none
+returns-in_err-get-in-T3-clause-none c =
+    rw c.from_residual.ensures
+    (t3_none c.self.inside.view c.args.self.now c.self.view_is c.args.entry.now.event c.in-T3.system
     (parted c.args.entry.now c.parts.result.0 c.parts.result.1.now (ActT3 c.in-T3.system) c.parts.result.2.now c.parts.ensures c.in-T3.is)
-    (sym c.in-None.ensures.found)
+    (sym c.in_err-get-in-T3.ensures.found))

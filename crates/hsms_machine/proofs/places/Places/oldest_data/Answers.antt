@@ -2,10 +2,10 @@ use Rattle.std.proofs.Common.{sym}
 use Rattle.hsms_machine.proofs.Oldest.{oldest_told, oldest_none}
 use Rattle.hsms_machine.proofs.places.Places.oldest_data.Goals as goal
 
-pub returns-in-Some-clause-place : goal.returns-in-Some-clause-place
-returns-in-Some-clause-place c =
-    oldest_told c.self.inside.view c.args.self.now c.self.view_is c.in-Some.opened (sym c.in-Some.ensures.first) c.in-Some.ensures.in_order
+pub returns-clause-place : goal.returns-clause-place
+returns-clause-place c =
+    oldest_told c.self.inside.view c.args.self.now c.self.view_is c.in_ok-opened.opened (sym c.in_ok-opened.ensures.first) c.in_ok-opened.ensures.in_order
 
-pub returns-in-None-clause-none : goal.returns-in-None-clause-none
-returns-in-None-clause-none c =
-    oldest_none c.self.inside.view c.args.self.now c.self.view_is (sym c.in-None.ensures.first)
+pub returns-in_err-opened-clause-none : goal.returns-in_err-opened-clause-none
+returns-in_err-opened-clause-none c =
+    rw c.from_residual.ensures (oldest_none c.self.inside.view c.args.self.now c.self.view_is (sym c.in_err-opened.ensures.first))

@@ -8,26 +8,27 @@ use Rattle.hsms_machine.proofs.queue.Queue.place_concluded.Goals as goal
 pub returns-then-concludes-clause-place : goal.returns-then-concludes-clause-place
 returns-then-concludes-clause-place c =
     let other = c.args.other in
-    let apart = c.in-Some.ensures.apart in
-    let found : find (λ (opened : Transaction). opened.header.system == other.system) c.args.self.now ≡ Some c.in-Some.opened = sym (rw c.header.ensures at c.in-Some.ensures.found) in
-    let holds : concludes c.in-Some.opened.header other ≡ true = cc in
+    let apart = c.in_ok-place.ensures.apart in
+    let found : find (λ (opened : Transaction). opened.header.system == other.system) c.args.self.now ≡ Some c.in_ok-place.opened = sym (rw c.header.ensures at c.in_ok-place.ensures.found) in
+    let holds : concludes c.in_ok-place.opened.header other ≡ true = cc in
     let some : list_any (λ (opened : Transaction). concludes opened.header other) c.args.self.now ≡ true =
     any_at (λ (opened : Transaction). concludes opened.header other) other.system (concludes_only other) c.args.self.now apart
     ∙ ap (passes (λ (opened : Transaction). concludes opened.header other)) found ∙ holds in
-    let out : remove c.args.self.now c.in-Some.place ≡ filter (λ opened. not (opened.header.system == other.system)) c.args.self.now = rw c.header.ensures at c.in-Some.ensures.place in
+    let out : remove c.args.self.now c.in_ok-place.place ≡ filter (λ opened. not (opened.header.system == other.system)) c.args.self.now = rw c.header.ensures at c.in_ok-place.ensures.place in
     out ∙ filter_one (λ opened. concludes opened.header other) other.system (concludes_only other) c.args.self.now apart some
 
 pub returns-else-concludes-clause-none : goal.returns-else-concludes-clause-none
 returns-else-concludes-clause-none c =
     let other = c.args.other in
-    let found : find (λ (opened : Transaction). opened.header.system == other.system) c.args.self.now ≡ Some c.in-Some.opened = sym (rw c.header.ensures at c.in-Some.ensures.found) in
-    let fails : concludes c.in-Some.opened.header other ≡ false = cc in
-    any_at (λ opened. concludes opened.header other) other.system (concludes_only other) c.args.self.now c.in-Some.ensures.apart
+    let found : find (λ (opened : Transaction). opened.header.system == other.system) c.args.self.now ≡ Some c.in_ok-place.opened = sym (rw c.header.ensures at c.in_ok-place.ensures.found) in
+    let fails : concludes c.in_ok-place.opened.header other ≡ false = cc in
+    any_at (λ opened. concludes opened.header other) other.system (concludes_only other) c.args.self.now c.in_ok-place.ensures.apart
     ∙ ap (passes (λ opened. concludes opened.header other)) found ∙ fails
 
-pub returns-in-None-clause-none : goal.returns-in-None-clause-none
-returns-in-None-clause-none c =
+pub returns-in_err-place-clause-none : goal.returns-in_err-place-clause-none
+returns-in_err-place-clause-none c =
     let other = c.args.other in
-    let found : find (λ (opened : Transaction). opened.header.system == other.system) c.args.self.now ≡ None = sym (rw c.header.ensures at c.in-None.ensures.found) in
-    any_at (λ opened. concludes opened.header other) other.system (concludes_only other) c.args.self.now c.in-None.ensures.apart
-    ∙ ap (passes (λ opened. concludes opened.header other)) found
+    let found : find (λ (opened : Transaction). opened.header.system == other.system) c.args.self.now ≡ None = sym (rw c.header.ensures at c.in_err-place.ensures.found) in
+    rw c.from_residual.ensures
+    (any_at (λ opened. concludes opened.header other) other.system (concludes_only other) c.args.self.now c.in_err-place.ensures.apart
+    ∙ ap (passes (λ opened. concludes opened.header other)) found)

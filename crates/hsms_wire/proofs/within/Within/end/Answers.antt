@@ -38,7 +38,7 @@ returns-then-is_none-clause-ends c =
     c.in_ok-course.ensures.hears in
     subst (λ (b : Bool). OnOk c.replace.result (EndsWithin c.args.pair.now b c.args.missing w c.args.report.now c.replace.new.report)) (sym c.if-is_replaced.true)
     (left_replaced c.replace.result c.args.pair.now c.args.missing lack told w c.deref.result.now c.in-Ok.ending joined c.args.report.now c.hear_all.new.report c.replace.new.report ends hears
-    (c.behind-shortfall.ensures ∙ ap (λ (e : Ending). lack_behind e c.args.missing) c.in_capture.ensures) (search rules) c.replace.ensures.replaced)
+    (c.behind-shortfall.ensures ∙ ap (λ (e : Ending). lack_behind e c.args.missing) c.ending_in.ensures) (search rules) c.replace.ensures.replaced)
 
 pub returns-clause-ends : goal.returns-clause-ends
 returns-clause-ends c =
@@ -55,7 +55,7 @@ returns-clause-ends c =
       | else-is_replaced-via-else-is_replaced w ↦ ap (λ (b : Bool). b && is_none lack) w.if-is_replaced.false
     ] in
     left_finished c.finish-2.result c.args.pair.now c.args.is_replaced c.args.missing lack told w c.deref.result.now c.in-Ok.ending joined c.args.report.now c.hear_all.new.report
-    c.finish-2.new.report ends hears (c.behind-shortfall.ensures ∙ ap (λ (e : Ending). lack_behind e c.args.missing) c.in_capture.ensures) none c.finish-2.ensures.finishes
+    c.finish-2.new.report ends hears (c.behind-shortfall.ensures ∙ ap (λ (e : Ending). lack_behind e c.args.missing) c.ending_in.ensures) none c.finish-2.ensures.finishes
 
 pub returns-in_err-course-clause-refuses : goal.returns-in_err-course-clause-refuses
 returns-in_err-course-clause-refuses c =
@@ -87,7 +87,7 @@ returns-then-is_none-clause-refuses c =
     let ends = subst (λ (hs : List Happening). EndsAs w.connection hs told c.in-Ok.ending) c.new-told.ensures.items c.in-Ok.ensures.told in
     let hears = subst (λ (x : Course). HearsEach c.args.pair.now (map (in_capture c.deref.result.now) told) w.joined c.args.report.now x joined c.hear_all.new.report) c.in-Goes.is
     c.in_ok-course.ensures.hears in
-    let lack_is = c.behind-shortfall.ensures ∙ ap (λ (e : Ending). lack_behind e c.args.missing) c.in_capture.ensures in
+    let lack_is = c.behind-shortfall.ensures ∙ ap (λ (e : Ending). lack_behind e c.args.missing) c.ending_in.ensures in
     err_map c.replace.result
     (λ st refused. end_left_refused c.args.pair.now c.args.missing lack told w c.deref.result.now c.in-Ok.ending joined st c.args.report.now c.hear_all.new.report c.replace.new.report
     ends hears lack_is c.in_ok-course.ensures.told
@@ -102,7 +102,7 @@ returns-clause-refuses c =
     let ends = subst (λ (hs : List Happening). EndsAs w.connection hs told c.in-Ok.ending) c.new-told.ensures.items c.in-Ok.ensures.told in
     let hears = subst (λ (x : Course). HearsEach c.args.pair.now (map (in_capture c.deref.result.now) told) w.joined c.args.report.now x joined c.hear_all.new.report) c.in-Goes.is
     c.in_ok-course.ensures.hears in
-    let lack_is = c.behind-shortfall.ensures ∙ ap (λ (e : Ending). lack_behind e c.args.missing) c.in_capture.ensures in
+    let lack_is = c.behind-shortfall.ensures ∙ ap (λ (e : Ending). lack_behind e c.args.missing) c.ending_in.ensures in
     err_map c.finish-2.result
     (λ st refused. end_left_refused c.args.pair.now c.args.missing lack told w c.deref.result.now c.in-Ok.ending joined st c.args.report.now c.hear_all.new.report c.finish-2.new.report
     ends hears lack_is c.in_ok-course.ensures.told refused.ends) c.finish-2.ensures.refuses

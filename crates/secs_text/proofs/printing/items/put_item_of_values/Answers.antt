@@ -1,4 +1,4 @@
-use Rattle.std.proofs.Common.{◌≡◌, ◌/◌, ◌++◌, ◌∷◌, [], ℕ, List, codes, decimal, false, length, sym, ap, ◌∙◌, arith}
+use Rattle.std.proofs.Common.{◌/◌, ◌++◌, ◌∷◌, [], ℕ, List, codes, decimal, false, length, sym, ap}
 use Rattle.std.specs.Fmt.{signed_decimal}
 use Rattle.std.specs.Int.{w8, w16, w32, w64}
 use Rattle.byteorder.specs.Endian.{big_number}
@@ -7,7 +7,7 @@ use Rattle.secs_item.specs.Reading.{octet, truth, signed}
 use Rattle.secs_item.proofs.Bodies.{each_octet}
 use Rattle.secs_text.specs.Laid.{opening_of, each_words}
 use Rattle.secs_text.specs.Printed.{hexadecimal, truth_word, printed_text}
-use Rattle.secs_text.proofs.Blocks.{puts_same}
+use Rattle.secs_text.proofs.Blocks.{puts_same, puts_then}
 use Rattle.secs_text.proofs.printing.items.put_item_of_values.Goals as goal
 
 pub put_item_of_words-requires-clause-words : goal.put_item_of_words-requires-clause-words
@@ -49,8 +49,6 @@ put_item_of_words-requires-in-U8-clause-words g c = λ o. each_words decimal (bi
 pub returns-in-Ascii : goal.returns-in-Ascii
 returns-in-Ascii g c =
     let body = c.args.body.now in
-    let whole : length body / 1 ≡ length body = omega arith in
     rw c.in-Ascii.is (puts_same _
-    (ap (λ (n : ℕ). opening_of format.Ascii n ++ printed_text false body ++ codes ">") (sym whole)
-    ∙ ap (λ (o : List ℕ). opening_of format.Ascii (length body / 1) ++ printed_text false o ++ codes ">") (sym (each_octet body)))
-    c.put_item_of_text.ensures)
+    (ap (λ (o : List ℕ). opening_of format.Ascii (length body / 1) ++ printed_text false o ++ codes ">") (sym (each_octet body)))
+    (puts_then (puts_then c.put_opening-at.ensures c.put_text-at.ensures) c.put_end.ensures))
