@@ -33,7 +33,8 @@ tests/edits.py --beside FOLDER does so while `rt ci` proves all crates: the edit
 stands on, by a log `proofs` in the folder, to which a file `ended` comes with the status of `rt ci`, and a file `alone`
 once nothing else is tried any more. All checks give way to the others, and leave them a processor until then.
 tests/edits.py --one CRATE NAME [BODY] tries one edit and writes what the check says, and tests/edits.py --twins [NAME..]
-tries all twins, or some.
+tries all twins, or some. tests/edits.py --compile [CRATE..] proves nothing: in a minute or two it sees that each edit and
+twin can be applied and compiles.
 """
 import argparse
 import functools
@@ -624,6 +625,17 @@ class Room:
         refused = {it: [said for of in function(it) for said in found.get(of, [])] for it in edits if function(it) & found.keys()}
         return {it for it in edits if (function(it) <= proved if asked else not status)}, refused, output
 
+    def error_of(self, edits):
+        """What is wrong with the crate's sources with these edits before anything is proved; None where nothing is."""
+        texts, _ = self.apply(edits)
+        before = {path: text_of(f"{self.folder}/{path}") for path in texts if os.path.exists(f"{self.folder}/{path}")}
+        write_all(self.folder, {**self.sources, **texts})
+        _, output = self.check_of({""})
+        write_all(self.folder, before)
+        for path in texts.keys() - before.keys():
+            os.remove(f"{self.folder}/{path}")
+        return next((it for it in output.split("\n") if re.search(r":\d+:\d+: error\[", it)), None)
+
     def check_past_holes(self, only, texts, filled):
         """Checks functions of the crate with these texts of its files, where only those whose holes are filled have bodies."""
         holes = self.by_hand.keys() - set(filled)
@@ -829,6 +841,24 @@ class Trial:
         else:
             self.count(passed=1)
 
+    def compile(self, edits):
+        """Sees that edits can be applied, and that the crate compiles with them."""
+        self.at_once(self.compile_lot, in_lots(self.applicable(edits)))
+
+    def compile_lot(self, lot):
+        """Compiles the crate with these edits, and with fewer of them where it doesn't compile."""
+        self.count(checks=1)
+        with self.lanes.one(self.size - self.passed), self.rooms.one() as room:
+            error = room.error_of(lot)
+        if error is None:
+            self.count(passed=len(lot))
+        elif len(lot) == 1:
+            self.fail(lot[0], f"BAD EDIT: it doesn't compile: {error[:300]}")
+        else:
+            middle = len(lot) // 2
+            self.compile_lot(lot[:middle])
+            self.compile_lot(lot[middle:])
+
     def prove(self, twins):
         """Tries twins: each has to be proved."""
         left = sum(self.at_once(self.not_proved, in_lots(self.applicable(twins))), [])
@@ -857,9 +887,9 @@ def first_error(output):
     return next((line for line in lines if tells.search(line)), lines[-1])[:300]
 
 
-def tried(crate, bodies, twins, is_proved, lanes, is_beside=False):
-    """Tries the wrong bodies of a crate, which is proved already or not, or is beside, or else its twins, and tells what came
-    of them.
+def tried(crate, bodies, twins, is_proved, lanes, is_beside=False, compiling=False):
+    """Tries the wrong bodies of a crate, which is proved already or not, or is beside, or else its twins, or only compiles both,
+    and tells what came of them.
 
     Beside wrong bodies twins are only seen to be edits that can be applied.
     """
@@ -868,9 +898,11 @@ def tried(crate, bodies, twins, is_proved, lanes, is_beside=False):
         trial = Trial(crate, home, lanes, is_beside)
         try:
             output = ""
-            if not (is_proved or is_beside):
+            if not (is_proved or is_beside or compiling):
                 is_proved, output = trial.is_proved()
-            if (is_proved or is_beside) and bodies:
+            if compiling:
+                trial.compile([*bodies, *twins])
+            elif (is_proved or is_beside) and bodies:
                 trial.refuse(bodies)
                 trial.applicable(twins)
             elif is_proved:
@@ -971,6 +1003,7 @@ def main():
     parser.add_argument("names", nargs="*", metavar="CRATE")
     parser.add_argument("--one", action="store_true", help="tries one edit: CRATE NAME [BODY]")
     parser.add_argument("--twins", action="store_true", help="tries all twins, or those of these names")
+    parser.add_argument("--compile", action="store_true", help="sees that edits and twins compile")
     parser.add_argument("--beside", default="", metavar="FOLDER", help="tries them while `rt ci` runs, which tells there what is proved")
     asked = parser.parse_args()
     if asked.one:
@@ -995,7 +1028,7 @@ def main():
     twins_of = lambda crate: [it for it in twins if it.crate == crate]
     lanes = Lanes(proofs.lanes)
     is_proved = lambda crate: crate in proofs.mark()
-    of_crate = lambda crate: tried(crate, bodies.get(crate, []), twins_of(crate), is_proved(crate), lanes, bool(asked.beside))
+    of_crate = lambda crate: tried(crate, bodies.get(crate, []), twins_of(crate), is_proved(crate), lanes, bool(asked.beside), asked.compile)
     results = each_in_its_turn(proofs, crates, of_crate)
     if results is None:
         return 1
