@@ -43,10 +43,8 @@ impl Message {
     pub fn of(header: Header) -> Message
         ensures { result ≡ header }
     {
-        Message {
-            kind: kind(header),
-            header,
-        }
+        let kind = kind(header);
+        Message { kind, header }
     }
 
     /// Its header.
@@ -187,19 +185,13 @@ pub fn has_session(settings: Settings, message: Message) -> bool
 fn is_from_active(link: Side, flow: Flow) -> bool
     ensures { result ≡ comes_from_active link flow }
 {
-    matches!(
-        (link, flow),
-        (Side::Active, Flow::Outgoing) | (Side::Passive, Flow::Incoming)
-    )
+    (link == Side::Active) == (flow == Flow::Outgoing)
 }
 
 fn is_from_equipment(role: Role, flow: Flow) -> bool
     ensures { result ≡ comes_from_equipment role flow }
 {
-    matches!(
-        (role, flow),
-        (Role::Equipment, Flow::Outgoing) | (Role::Host, Flow::Incoming)
-    )
+    (role == Role::Equipment) == (flow == Flow::Outgoing)
 }
 
 /// Whether the end from which the message comes may send it.
