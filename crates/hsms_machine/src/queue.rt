@@ -181,21 +181,11 @@ impl Queue {
     fn remove_at(&mut self, place: usize)
         ensures { self.new ≡ remove self.old place }
     {
-        if place == 0 {
-            self.close_oldest();
-            self.let_go();
-        } else {
+        if place > 0 {
             self.remove_later(place);
-        }
-    }
-
-    /// Counts the oldest as closed.
-    #[inline(always)]
-    fn close_oldest(&mut self)
-        ensures { self.new ≡ remove self.old 0 }
-    {
-        if self.closed < self.items.len() {
+        } else if self.closed < self.items.len() {
             self.closed += 1;
+            self.let_go();
         }
     }
 
