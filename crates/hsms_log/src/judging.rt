@@ -32,7 +32,7 @@ impl Judge {
     {
         Judge {
             session: None,
-            tally: Tally::new(),
+            tally: Tally::default(),
             octets: Vec::new(alloc),
         }
     }
