@@ -218,13 +218,13 @@ version_within p v least greatest w = record {
 }
 
 -- settings within their limits are so with another version exactly where there is this version
-pub of_version_within : (p : Parameters) (v : ℕ) (r : Option Parameters) → IsWithinLimits p → (IsSome r ↔ (1 ≤ v) × (v ≤ 2)) → IsSome r ↔ IsWithinLimits (record p { version = v })
+of_version_within : (p : Parameters) (v : ℕ) (r : Option Parameters) → IsWithinLimits p → (IsSome r ↔ (1 ≤ v) × (v ≤ 2)) → IsSome r ↔ IsWithinLimits (record p { version = v })
 of_version_within p v r w some = (
   (λ h. let at = some.0 h in version_within p v at.0 at.1 w),
   (λ h. some.1 (h.least_version, h.greatest_version)),
 )
 
-pub of_version_is : (p s : Parameters) (v : ℕ) (r : Option Parameters) → s ≡ p → p.version ≡ 1
+of_version_is : (p s : Parameters) (v : ℕ) (r : Option Parameters) → s ≡ p → p.version ≡ 1
     → IfSome r (λ t. s.version ≡ 1 → t ≡ record s { version = v }) → IfSome r (λ t. t ≡ record p { version = v })
 of_version_is p s v (Some t) same one h =
     let F : Parameters → Parameters = λ q. record q { version = v } in
@@ -232,7 +232,7 @@ of_version_is p s v (Some t) same one h =
 of_version_is p s v None same one h = tt
 
 -- where there are none of version 1, there are none of another
-pub none_within : (p : Parameters) (v : ℕ) → p.version ≡ 1 → (IsWithinLimits p → ⊥) → IsWithinLimits (record p { version = v }) → ⊥
+none_within : (p : Parameters) (v : ℕ) → p.version ≡ 1 → (IsWithinLimits p → ⊥) → IsWithinLimits (record p { version = v }) → ⊥
 none_within p v one never h =
     let P : ℕ → Type 0 = λ n. IsWithinLimits (record p { version = n }) in
     never (subst P (sym one) (version_within (record p { version = v }) 1 (omega arith) (omega arith) h))
@@ -270,3 +270,23 @@ settings_none line p None h within = λ s spelled.
 
 pub settings_unread : (line : List ℕ) → settings_at line ≡ None → (s : Parameters) → SpellsSettings line s → ⊥
 settings_unread line h s spelled = let e = sym (spelled_is_read line s spelled) ∙ h in cc e
+
+-- ---- by the version and the other words
+
+module _ (p : Parameters) (v : ℕ) (version_is : p.version ≡ v) where
+  of_this_version : record p { version = v } ≡ p
+  of_this_version = let F : ℕ → Parameters = λ n. record p { version = n } in ap F (sym version_is)
+
+  pub parts_within : (r : Option Parameters) → IsWithinLimits (record p { version = 1 }) → (IsSome r ↔ (1 ≤ v) × (v ≤ 2)) → IsSome r ↔ IsWithinLimits p
+  parts_within r within some =
+      let P : Parameters → Type 0 = λ q. IsSome r ↔ IsWithinLimits q in
+      subst P of_this_version (of_version_within (record p { version = 1 }) v r within some)
+
+  pub parts_value : (r : Option Parameters) (s : Parameters) → s ≡ record p { version = 1 } → IfSome r (λ t. s.version ≡ 1 → t ≡ record s { version = v })
+      → IfSome r (λ t. t ≡ p)
+  parts_value r s same value =
+      let P : Parameters → Type 0 = λ q. IfSome r (λ t. t ≡ q) in
+      subst P of_this_version (of_version_is (record p { version = 1 }) s v r same refl value)
+
+pub parts_never : (p : Parameters) → (IsWithinLimits (record p { version = 1 }) → ⊥) → IsWithinLimits p → ⊥
+parts_never p never w = none_within (record p { version = 1 }) p.version refl never w

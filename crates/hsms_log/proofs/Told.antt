@@ -71,15 +71,21 @@ entry_short max entry time sized =
 pub entry_carried : (max : ℕ) (entry : Entry) → IsEntry entry → message_size entry.event ≤ max → Carries max (entry_line entry) (Some entry)
 entry_carried max entry fits sized = (entry_short max entry fits.time sized, entry_written entry fits)
 
+-- a judge that has read the settings tracks the lines that it follows
+pub tracked : (judge : Judge) (session : Session) (before : List (List ℕ)) → judge.session ≡ Some session → Follows judge before → Tracks session judge.tally before
+tracked judge session before some follows =
+    let P : Option Session → Type 0 = λ o. MatchOption o ((before ≡ []) × Counts judge.tally []) (λ s. Tracks s judge.tally before) in
+    subst P some follows.state
+
 -- what an entry fails by, where it is judged by a line that carries it
-pub line_answered : {E : Type 0} (r : Result (Option Why) E) (session : Session) (tally : Counters) (entry : Entry) (line : List ℕ)
-    → Carries session.settings.max line (Some entry)
+pub line_answered : {E : Type 0} (r : Result (Option Why) E) (judge : Judge) (session : Session) (entry : Entry) (line : List ℕ)
+    → judge.session ≡ Some session → Carries session.settings.max line (Some entry)
     → IfOk r (λ answer. IfSome answer (λ why. (other : List ℕ) → Carries session.settings.max other (Some entry)
-    → (before : List (List ℕ)) → Tracks session tally before → FailsAfter before other why))
-    → IfOk r (λ answer. IfSome answer (λ why. (before : List (List ℕ)) → Tracks session tally before → FailsAfter before line why))
-line_answered (Ok (Some why)) session tally entry line carries fails = fails line carries
-line_answered (Ok None) session tally entry line carries fails = tt
-line_answered (Err e) session tally entry line carries fails = tt
+    → (before : List (List ℕ)) → Tracks session judge.tally before → FailsAfter before other why))
+    → IfOk r (λ answer. IfSome answer (λ why. (before : List (List ℕ)) → Follows judge before → FailsAfter before line why))
+line_answered (Ok (Some why)) judge session entry line some carries fails = λ before follows. fails line carries before (tracked judge session before some follows)
+line_answered (Ok None) judge session entry line some carries fails = tt
+line_answered (Err e) judge session entry line some carries fails = tt
 
 -- a comment carries nothing
 pub comment_carried : (max : ℕ) (line : List ℕ) → 256 ≤ max → IsComment line → Carries max line None

@@ -27,19 +27,9 @@ pub fn digits_of_few(octets: &[u8]) -> [u8; 32]
     requires { length octets.now ≤ 16 }
     ensures { take (2 * length octets.now) result ≡ encode_lower octets.now }
 {
-    let sixteen = sixteen_of_few(octets);
-    digits_of_sixteen(&sixteen)
-}
-
-// Sixteen octets that begin with these.
-#[inline(always)]
-fn sixteen_of_few(octets: &[u8]) -> [u8; 16]
-    requires { length octets.now ≤ 16 }
-    ensures { take (length octets.now) result ≡ octets.now }
-{
     let mut sixteen = [0u8; 16];
     sixteen[..octets.len()].copy_from_slice(octets);
-    sixteen
+    digits_of_sixteen(&sixteen)
 }
 
 // The digit of each value, where that is below sixteen.

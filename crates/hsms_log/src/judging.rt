@@ -1,8 +1,8 @@
 ghost use Rattle.std.specs.Prelude.{◌≡◌};
 ghost use Rattle.hsms_log.specs.Judging.{message_size};
 
-use crate::later::{later_entry, later_line};
-use crate::range::settings_are_in_range;
+use crate::later::{carried_entry, later_line};
+use crate::range::{entry_is_in_range, settings_are_in_range};
 use crate::session::Session;
 use crate::settings_line::read_settings;
 use crate::tally::Tally;
@@ -32,7 +32,7 @@ impl Judge {
     {
         Judge {
             session: None,
-            tally: Tally::new(),
+            tally: Tally::default(),
             octets: Vec::new(alloc),
         }
     }
@@ -62,7 +62,10 @@ impl Judge {
     {
         match &mut self.session {
             None => Ok(Some(Why::Unreadable)),
-            Some(session) => later_entry(session, &mut self.tally, entry),
+            Some(session) => {
+                entry_is_in_range(entry);
+                carried_entry(session, &mut self.tally, entry)
+            }
         }
     }
 
@@ -102,10 +105,8 @@ impl Judge {
         let Some(settings) = read_settings(line) else {
             return Some(Why::Unreadable);
         };
-        self.session = Some(Session {
-            settings,
-            tracker: Tracker::new(alloc, settings),
-        });
+        let tracker = Tracker::new(alloc, settings);
+        self.session = Some(Session { settings, tracker });
         self.tally.count_line();
         None
     }
@@ -115,10 +116,8 @@ impl Judge {
         requires { self.now.tally.lines < 2 ^ 64 - 1 }
         ensures { result ≡ Verdict.Fail (self.now.tally.lines + 1) why }
     {
-        Verdict::Fail {
-            line: self.tally.lines() + 1,
-            why,
-        }
+        let line = self.tally.lines() + 1;
+        Verdict::Fail { line, why }
     }
 
     /// The verdict where no line follows.

@@ -3,11 +3,10 @@
 ghost use Rattle.std.specs.Prelude.{◌≡◌, ◌+◌, ◌-◌, ◌<◌, ◌≤◌, ◌^◌, ◌++◌, [], ◌∷◌, List, ℕ, Some, None, Ok, IfOk, IfSome, IsSome, length};
 ghost use Rattle.hsms_log.specs.Verdict.{FailsAfter};
 ghost use Rattle.hsms_machine.specs.Entry.{frame_entry};
-ghost use Rattle.hsms_log.specs.Spelling.{Carries, IsBlank, entry_line, line_limit};
+ghost use Rattle.hsms_log.specs.Spelling.{Carries, IsBlank, line_limit};
 ghost use Rattle.hsms_log.specs.Carried.{SpellsNoFrame};
-ghost use Rattle.hsms_log.specs.Judging.{Tracks, message_size};
+ghost use Rattle.hsms_log.specs.Judging.{Tracks};
 
-use crate::range::entry_is_in_range;
 use crate::reading::{FrameLine, entry_of, frame_at_front, is_blank, read_plain_line};
 use crate::session::Session;
 use crate::tally::Tally;
@@ -94,25 +93,8 @@ fn other_line(
     }
 }
 
-/// Judges an entry by itself, as it is judged by its line.
-pub fn later_entry(
-    session: &mut Session,
-    tally: &mut Tally,
-    entry: &Entry,
-) -> Result<Option<Why>, AllocError>
-    requires room { tally.old.lines < 2 ^ 64 - 1 }
-    requires fits { message_size entry.now.event ≤ session.old.settings.max }
-    ensures follows { result ≡ Ok None → (before : List (List ℕ)) → Tracks session.old tally.old before → Tracks session.new tally.new (before ++ entry_line entry.now ∷ []) }
-    ensures same { IfOk result (λ answer. IsSome answer → tally.new.lines ≡ tally.old.lines) }
-    ensures number { result ≡ Ok None → tally.new.lines ≡ tally.old.lines + 1 }
-    ensures fails { IfOk result (λ answer. IfSome answer (λ why. (before : List (List ℕ)) → Tracks session.old tally.old before → FailsAfter before (entry_line entry.now) why)) }
-{
-    entry_is_in_range(entry);
-    carried_entry(session, tally, entry)
-}
-
 /// Judges the entry that a line carries.
-fn carried_entry(
+pub fn carried_entry(
     session: &mut Session,
     tally: &mut Tally,
     entry: &Entry,

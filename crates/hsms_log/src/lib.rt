@@ -37,7 +37,6 @@ mod settings_line;
 mod step;
 mod tally;
 mod verdict;
-mod whole;
 mod writing;
 
 pub use auditing::{audit, audit_within};
@@ -45,9 +44,9 @@ pub use auditor::Auditor;
 pub use fault::{AuditFault, LineFault, LogFault};
 pub use hexadecimal::{digits_of_few, digits_of_sixteen};
 pub use line::{split_at_first, without_carriage_return};
+pub use line_reader::judge;
 pub use reading::{Line, is_blank, read_frame_line, read_line, read_plain_line};
 pub use settings_line::read_settings;
 pub use step::{Step, What};
 pub use verdict::{Summary, Verdict, Why};
-pub use whole::judge;
 pub use writing::{write_entry, write_settings};

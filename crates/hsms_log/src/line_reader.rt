@@ -2,7 +2,7 @@
 
 ghost use Rattle.std.specs.Prelude.{◌-◌, ◌<◌, ◌^◌, ◌++◌, List, ℕ, IfOk};
 ghost use Rattle.hsms_log.specs.Lines.{last_lines};
-ghost use Rattle.hsms_log.specs.Verdict.{LinesJudged};
+ghost use Rattle.hsms_log.specs.Verdict.{LinesJudged, Judges as IsVerdictOn};
 ghost use Rattle.hsms_log.specs.Judging.{Follows};
 
 use crate::judging::Judge;
@@ -186,4 +186,15 @@ fn judge_last(alloc: Global, judge: &mut Judge, rest: &[u8]) -> Result<Verdict, 
         return Ok(judge.failure(why));
     }
     Ok(judge.verdict())
+}
+
+/// The verdict on the text of a log, which is held whole.
+pub fn judge(alloc: Global, text: &[u8]) -> Result<Verdict, AllocError>
+    ensures { IfOk result (IsVerdictOn text.now) }
+{
+    let mut reader = LineReader::new(alloc);
+    match reader.take(alloc, text)? {
+        Some(failure) => Ok(failure),
+        None => reader.finish(alloc),
+    }
 }

@@ -5,7 +5,7 @@ ghost use Rattle.hsms_frame.specs.Frame.{Frame as Message};
 ghost use Rattle.hsms_machine.specs.declared.entry.Event.{Event as Happening};
 ghost use Rattle.hsms_machine.specs.declared.entry.Entry.{Entry as LogEntry};
 ghost use Rattle.hsms_log.specs.Spelling.{Carries, IsBlank, SpellsEntry, SpellsEvent, IsEvent, IsMessage, IsHexOf, message_octets, system_octets};
-ghost use Rattle.hsms_machine.specs.Entry.{frame_entry, frame_event};
+ghost use Rattle.hsms_machine.specs.Entry.{frame_entry};
 ghost use Rattle.hsms_log.specs.Step.{entry_by, event_of};
 ghost use Rattle.hsms_log.specs.Carried.{carried_by, CarriesFrame, HasFrame, SpellsFramesAlone, SpellsNoFrame};
 ghost use Rattle.hsms_machine.specs.declared.entry.Mark.{Mark as FrameMark};
@@ -71,24 +71,15 @@ pub fn entry_of(step: Step, text: Vec<u8>) -> Entry
 {
     let event = match step.what {
         What::Up => Event::Up,
-        What::Frame(mark, header) => framed(mark, Frame { header, text }),
+        What::Frame(Mark::Sent, header) => Event::Sent(Frame { header, text }),
+        What::Frame(Mark::Taken, header) => Event::Taken(Frame { header, text }),
+        What::Frame(Mark::Discarded, header) => Event::Discarded(Frame { header, text }),
         What::T3(system) => Event::T3(system),
         What::Cut(cause) => Event::Cut(cause),
         What::Down => Event::Down,
     };
     let time = step.time;
     Entry { time, event }
-}
-
-/// The event of a frame that has this mark.
-fn framed(mark: Mark, frame: Frame) -> Event
-    ensures { result ≡ frame_event mark frame }
-{
-    match mark {
-        Mark::Sent => Event::Sent(frame),
-        Mark::Taken => Event::Taken(frame),
-        Mark::Discarded => Event::Discarded(frame),
-    }
 }
 
 /// Reads a line that carries a frame. `octets` holds the octets of its header and text then, in place of what it held.

@@ -1,28 +1,13 @@
 //! The first line of a log.
 
-ghost use Rattle.std.specs.Prelude.{◌≡◌, ◌≤◌, ◌↔◌, IsSome, IfSome, IfNone, option_map};
+ghost use Rattle.std.specs.Prelude.{◌≡◌, ◌≤◌, ◌↔◌, ℕ, Option, Some, None, IsSome, IfSome, IfNone, option_map};
 ghost use Rattle.hsms_machine.specs.Settings.{Parameters, IsWithinLimits};
 ghost use Rattle.hsms_log.specs.Spelling.{SpellsSettings};
 ghost use Rattle.hsms_log.specs.Reading.{role_of, link_of, version_at as version_and_rest, times_at as times_and_rest, settings_at};
-ghost use Rattle.hsms_log.specs.Fields.{parameters_of};
+ghost use Rattle.hsms_log.specs.Fields.{IsOf};
 
 use crate::number::{after_prefix, number, number_at, word_at};
 use hsms_machine::{Role, Settings, Side};
-
-/// The words of a first line, with numbers that fit their types.
-#[derive(Clone, Copy)]
-struct Fields {
-    version: u8,
-    role: Role,
-    link: Side,
-    device: u16,
-    t3: u32,
-    t6: u32,
-    t7: u32,
-    t8: u32,
-    max: u32,
-    depth: u8,
-}
 
 /// The settings that the first line of a log spells, or None where it spells none: other words, a version other than 1
 /// and 2, a number out of its limits, or more than 256 octets. The line is given without its end.
@@ -30,31 +15,8 @@ pub fn read_settings(line: &[u8]) -> Option<Settings>
     ensures found { IfSome result (SpellsSettings line.now) }
     ensures none { IfNone result ((settings : Parameters) → SpellsSettings line.now settings → ⊥) }
 {
-    let fields = read_fields(line)?;
-    settings_of(fields)
-}
-
-/// The settings of these words, or None where a number is out of its limits.
-fn settings_of(fields: Fields) -> Option<Settings>
-    ensures within { IsSome result ↔ IsWithinLimits (parameters_of fields) }
-    ensures value { IfSome result (λ settings. settings ≡ parameters_of fields) }
-{
-    let Fields {
-        version,
-        role,
-        link,
-        device,
-        t3,
-        t6,
-        t7,
-        t8,
-        max,
-        depth,
-    } = fields;
-    match Settings::new(role, link, device, t3, t6, t7, t8, max, depth) {
-        Some(settings) => of_version(version, settings),
-        None => None,
-    }
+    let (version, settings) = version_and_settings(line)?;
+    of_version(version, settings?)
 }
 
 /// The same numbers for a log of this version, where there is one.
@@ -69,9 +31,12 @@ fn of_version(version: u8, settings: Settings) -> Option<Settings>
     }
 }
 
+/// The version that a first line tells, and its numbers for a log of one connection, or None in their place where one is
+/// out of its limits.
 #[tactic(auto, unfolding(crate::specs::Reading::settings_at))]
-fn read_fields(line: &[u8]) -> Option<Fields>
-    ensures { option_map parameters_of result ≡ settings_at line.now }
+fn version_and_settings(line: &[u8]) -> Option<(u8, Option<Settings>)>
+    ensures found { (x : ℕ × Option Parameters) → result ≡ Some x → (p : Parameters) × (settings_at line.now ≡ Some p) × IsOf p x.0 x.1 }
+    ensures none { result ≡ None → settings_at line.now ≡ None }
 {
     let (version, rest) = version_at(line)?;
     let (role, rest) = word_at(rest)?;
@@ -84,18 +49,8 @@ fn read_fields(line: &[u8]) -> Option<Fields>
     let (max, rest) = number_at(rest)?;
     let max = u32::try_from(max).ok()?;
     let depth = u8::try_from(number(rest)?).ok()?;
-    Some(Fields {
-        version,
-        role,
-        link,
-        device,
-        t3,
-        t6,
-        t7,
-        t8,
-        max,
-        depth,
-    })
+    let settings = Settings::new(role, link, device, t3, t6, t7, t8, max, depth);
+    Some((version, settings))
 }
 
 /// The version, and what follows it.

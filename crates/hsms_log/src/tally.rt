@@ -5,7 +5,7 @@ use hsms_machine::{Entry, Event, Mark};
 use std::marker::Model;
 
 /// How many lines and entries there were.
-#[derive(Drop)]
+#[derive(Default, Drop)]
 pub struct Tally {
     lines: u64,
     entries: u64,
@@ -30,19 +30,6 @@ impl Tally {
     ghost use Rattle.hsms_frame.specs.declared.header.Header.{Header};
     ghost use Rattle.hsms_machine.specs.Entry.{frame_entry};
     ghost use Rattle.hsms_log.specs.Judging.{counted};
-
-    pub fn new() -> Tally
-        ensures { result ≡ record { lines = 0; entries = 0; sent = 0; taken = 0; discarded = 0; expired = 0 } }
-    {
-        Tally {
-            lines: 0,
-            entries: 0,
-            sent: 0,
-            taken: 0,
-            discarded: 0,
-            expired: 0,
-        }
-    }
 
     /// Counts a line that carries nothing that is counted.
     pub fn count_line(&mut self)

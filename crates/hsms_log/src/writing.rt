@@ -4,7 +4,7 @@ ghost use Rattle.std.specs.Prelude.{◌≡◌, ◌<◌, ◌++◌, [], ◌∷◌,
 ghost use Rattle.std.specs.List.{flat_map};
 ghost use Rattle.hex.specs.Hex.{encode_lower};
 ghost use Rattle.hsms_frame.specs.Count.{count_failure};
-ghost use Rattle.hsms_log.specs.Writing.{Puts, version_text, words_of, opening_of, numbers_of, spaced};
+ghost use Rattle.hsms_log.specs.Writing.{Puts, words_of, opening_of, numbers_of, spaced};
 ghost use Rattle.hsms_log.specs.Spelling.{SpellsSettings, SpellsEntry, entry_line, settings_line, event_text, message_octets, system_octets};
 
 use crate::fault::LogFault;
@@ -72,29 +72,10 @@ fn put_hex<W: Sink>(sink: &mut W, octets: &[u8]) -> Result<(), LogFault>
 {
     let mut rest = octets;
     while let Some((front, others)) = rest.split_first_chunk::<16>() {
-        put_sixteen(sink, front)?;
+        put(sink, &digits_of_sixteen(front))?;
         rest = others;
     }
-    put_few(sink, rest)
-}
-
-/// Writes the digits of sixteen octets.
-#[inline(always)]
-fn put_sixteen<W: Sink>(sink: &mut W, octets: &[u8; 16]) -> Result<(), LogFault>
-    ensures written { Puts result (W.state sink.old).written (W.state sink.new).written (encode_lower octets.now) }
-    ensures failures { (W.state sink.new).failures ≡ count_failure result (W.state sink.old).failures }
-{
-    put(sink, &digits_of_sixteen(octets))
-}
-
-/// Writes the digits of fewer than sixteen octets.
-fn put_few<W: Sink>(sink: &mut W, octets: &[u8]) -> Result<(), LogFault>
-    requires { length octets.now < 16 }
-    ensures written { Puts result (W.state sink.old).written (W.state sink.new).written (encode_lower octets.now) }
-    ensures failures { (W.state sink.new).failures ≡ count_failure result (W.state sink.old).failures }
-{
-    let digits = digits_of_few(octets);
-    put(sink, &digits[..2 * octets.len()])
+    put(sink, &digits_of_few(rest)[..2 * rest.len()])
 }
 
 fn put_number<W: Sink>(sink: &mut W, number: u64) -> Result<(), LogFault>
@@ -131,17 +112,9 @@ fn put_opening<W: Sink>(sink: &mut W, settings: &Settings) -> Result<(), LogFaul
     ensures written { Puts result (W.state sink.old).written (W.state sink.new).written (opening_of settings.now) }
     ensures failures { (W.state sink.new).failures ≡ count_failure result (W.state sink.old).failures }
 {
-    put_version(sink, settings.version())?;
-    put(sink, words(settings))
-}
-
-/// Writes the first word and the version.
-fn put_version<W: Sink>(sink: &mut W, version: u8) -> Result<(), LogFault>
-    ensures written { Puts result (W.state sink.old).written (W.state sink.new).written (version_text version) }
-    ensures failures { (W.state sink.new).failures ≡ count_failure result (W.state sink.old).failures }
-{
     put(sink, b"hsms-log")?;
-    put_spaced(sink, u64::from(version))
+    put_spaced(sink, u64::from(settings.version()))?;
+    put(sink, words(settings))
 }
 
 /// What the end is and how it is linked, each behind a space.

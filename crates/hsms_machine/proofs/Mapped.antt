@@ -1,5 +1,7 @@
 -- What a map keeps of open transactions, as the list of its values tells it.
 use Rattle.std.proofs.Common.{◌≡◌, ℕ, ◌+◌, ◌-◌, ◌^◌, ◌<◌, ◌≤◌, min, Bool, true, false, not, cond, ◌==◌, ◌&&◌, ◌||◌, List, [], ◌∷◌, Option, Some, None, is_some, inl, inr, refl, sym, ap, subst, ◌∙◌, arith, filter, nat_lt, nat_le, nat_eq, length}
+use Rattle.std.specs.Prelude.{IfSome, IfNone}
+use Rattle.std.specs.Bool.{then_some}
 use Rattle.std.specs.List.{AllByRecursion, list_any, find, cons_option}
 use Rattle.std.specs.Cmp.{nat_eq_equiv}
 use Rattle.std.specs.Map.{values_of, lookup}
@@ -276,3 +278,14 @@ module _ (limit : ℕ) where
     | inl near ↦ rw near (least_first (x.time + limit) (least_in (due_times limit xs)) (due_since x.time xs h.0))
     | inr far ↦ rw far (ap least_in (no_due x.time far xs h.0))
   ]
+
+-- ---- what a test decides
+
+module _ {A : Type 0} where
+  pub some_where : (b : Bool) (x : A) (r : Option A) (P : A → Type 0) → r ≡ then_some b x → (b ≡ true → P x) → IfSome r P
+  some_where true x r P is holds = let Q : Option A → Type 0 = λ o. IfSome o P in subst Q (sym is) (holds refl)
+  some_where false x r P is holds = let Q : Option A → Type 0 = λ o. IfSome o P in subst Q (sym is) tt
+
+  pub none_where : (b : Bool) (x : A) (r : Option A) (P : Type 0) → r ≡ then_some b x → (b ≡ false → P) → IfNone r P
+  none_where true x r P is fails = let Q : Option A → Type 0 = λ o. IfNone o P in subst Q (sym is) tt
+  none_where false x r P is fails = let Q : Option A → Type 0 = λ o. IfNone o P in subst Q (sym is) (fails refl)

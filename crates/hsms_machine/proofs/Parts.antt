@@ -1,5 +1,5 @@
 -- An entry in two parts, and what asks for the text of neither.
-use Rattle.std.proofs.Common.{◌≡◌, ℕ, Bool, true, false, List, [], Option, None, inl, inr, refl}
+use Rattle.std.proofs.Common.{◌≡◌, ◌⊎◌, ◌&&◌, ◌||◌, not, ℕ, Bool, true, false, List, [], Option, None, inl, inr, refl, sym}
 use Rattle.hsms_machine.specs.declared.entry.Act.{Act}
 use Rattle.hsms_machine.specs.declared.entry.Act.TheVariants.{Up as ActUp, Sent as ActSent, Taken as ActTaken, Discarded as ActDiscarded, T3 as ActT3, Cut as ActCut, Down as ActDown}
 use Rattle.hsms_machine.specs.declared.rule.Rule.{Rule}
@@ -60,3 +60,14 @@ fresh_at view time (ActDiscarded header) text h = tt
 fresh_at view time (ActT3 system) text h = tt
 fresh_at view time (ActCut cause) text h = tt
 fresh_at view time ActDown text h = tt
+
+-- what isn't in use is fresh: of a request, and of the lists of one direction
+pub fresh_where : (used request one other : Bool) → ((used ≡ true → (request ≡ true) × ((one ≡ true) ⊎ (other ≡ true))) × ((request ≡ true) × ((one ≡ true) ⊎ (other ≡ true)) → used ≡ true)) → not used ≡ (not request || (not one && not other))
+fresh_where true true true other iff = refl
+fresh_where true true false true iff = refl
+fresh_where true true false false iff = elim (iff.0 refl).1 [ inl e ↦ e | inr e ↦ e ]
+fresh_where true false one other iff = (iff.0 refl).0
+fresh_where false true true other iff = sym (iff.1 (refl, inl refl))
+fresh_where false true false true iff = sym (iff.1 (refl, inr refl))
+fresh_where false true false false iff = refl
+fresh_where false false one other iff = refl

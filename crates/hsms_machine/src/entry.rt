@@ -64,21 +64,16 @@ impl Entry {
         ensures { result ≡ self.now }
     {
         let time = self.time;
-        match &self.event {
-            Event::Up => EntryRef::without_frame(time, Act::Up),
-            Event::Sent(frame) => {
-                EntryRef::of_frame(time, Mark::Sent, frame.header, frame.text.as_slice())
-            }
-            Event::Taken(frame) => {
-                EntryRef::of_frame(time, Mark::Taken, frame.header, frame.text.as_slice())
-            }
-            Event::Discarded(frame) => {
-                EntryRef::of_frame(time, Mark::Discarded, frame.header, frame.text.as_slice())
-            }
-            Event::T3(system) => EntryRef::without_frame(time, Act::T3(*system)),
-            Event::Cut(cause) => EntryRef::without_frame(time, Act::Cut(*cause)),
-            Event::Down => EntryRef::without_frame(time, Act::Down),
-        }
+        let (mark, frame) = match &self.event {
+            Event::Sent(frame) => (Mark::Sent, frame),
+            Event::Taken(frame) => (Mark::Taken, frame),
+            Event::Discarded(frame) => (Mark::Discarded, frame),
+            Event::Up => return EntryRef::without_frame(time, Act::Up),
+            Event::T3(system) => return EntryRef::without_frame(time, Act::T3(*system)),
+            Event::Cut(cause) => return EntryRef::without_frame(time, Act::Cut(*cause)),
+            Event::Down => return EntryRef::without_frame(time, Act::Down),
+        };
+        EntryRef::of_frame(time, mark, frame.header, frame.text.as_slice())
     }
 }
 
@@ -136,11 +131,8 @@ impl<'a> EntryRef<'a> {
     fn without_frame(time: u64, act: Act) -> EntryRef<'a>
         ensures { result ≡ entry_of time act [] }
     {
-        EntryRef {
-            time,
-            act,
-            text: &[],
-        }
+        let text: &[u8] = &[];
+        EntryRef { time, act, text }
     }
 
     /// The time, the event but for its text, and the text.

@@ -57,20 +57,11 @@ impl View {
     fn is_not_up(&self, act: &Act) -> bool
         ensures { IsTrue result ↔ IsNotUp (facts_of self.now) self.now.settings (event_of act.now []) }
     {
-        match act {
-            Act::Up => self.is_not_down(),
-            _ => matches!(self.phase, Phase::Before | Phase::Gone),
-        }
-    }
-
-    /// Whether no connection may come up now: there was one, and it isn't down, or the log may have no other.
-    fn is_not_down(&self) -> bool
-        ensures { IsTrue result ↔ IsNotUp (facts_of self.now) self.now.settings Event.Up }
-    {
-        match self.phase {
-            Phase::Before => false,
-            Phase::Gone => self.settings.version() != 2,
-            Phase::NotSelected | Phase::Selected | Phase::Over => true,
+        match (act, self.phase) {
+            (Act::Up, Phase::Before) => false,
+            (Act::Up, Phase::Gone) => self.settings.version() != 2,
+            (Act::Up, _) => true,
+            (_, phase) => matches!(phase, Phase::Before | Phase::Gone),
         }
     }
 
@@ -84,10 +75,8 @@ impl View {
     fn is_ended(&self, act: &Act) -> bool
         ensures { IsTrue result ↔ IsTrue (needs_session (event_of act.now [])) × (facts_of self.now).IsOver }
     {
-        match act {
-            Act::Sent(_) | Act::Taken(_) | Act::T3(_) | Act::Cut(_) => { self.phase == Phase::Over }
-            _ => false,
-        }
+        self.phase == Phase::Over
+            && matches!(act, Act::Sent(_) | Act::Taken(_) | Act::T3(_) | Act::Cut(_))
     }
 
     #[inline(always)]
@@ -178,17 +167,12 @@ impl View {
     fn broken_discard(&self, message: Message, text: &[u8]) -> Option<Rule>
         ensures { IsFirst (λ rule. IsNoCause (facts_of self.now) self.now.settings (Event.Discarded (frame_of message text.now))) (Rule.NoCause ∷ []) result }
     {
-        if self.is_without_cause(message, text) {
+        let cause = self.broken_frame(Flow::Incoming, message, text);
+        if self.phase != Phase::Over && cause.is_none() {
             Some(Rule::NoCause)
         } else {
             None
         }
-    }
-
-    fn is_without_cause(&self, message: Message, text: &[u8]) -> bool
-        ensures { IsTrue result ↔ IsNoCause (facts_of self.now) self.now.settings (Event.Discarded (frame_of message text.now)) }
-    {
-        self.phase != Phase::Over && self.broken_frame(Flow::Incoming, message, text).is_none()
     }
 
     /// The first rule that a frame breaks which is sent or taken.
@@ -261,7 +245,7 @@ impl View {
     }
 
     /// Whether the frame opens a transaction while one of its direction has its system bytes.
-    fn is_in_use(&self, flow: Flow, message: Message) -> bool
+    pub fn is_in_use(&self, flow: Flow, message: Message) -> bool
         ensures { IsTrue result ↔ IsTrue (is_request message) × IsInUse (facts_of self.now) flow message.system }
     {
         if !is_data_request(message) && !is_control_request(message) {

@@ -2,7 +2,7 @@
 
 ghost use Rattle.std.specs.Prelude.{◌≡◌};
 ghost use Rattle.hsms_machine.specs.Message.{is_data_request as opens_data_transaction, is_control_request as opens_control_transaction, establishes as is_establishment, separates as is_separation, is_data as carries_data, is_control as is_control_message, is_response as is_response_message, may_conclude as is_of_conclusive_kind, has_session as is_session_right, has_direction as is_direction_right, has_wait as is_wait_right, is_from_active as comes_from_active, is_from_equipment as comes_from_equipment};
-ghost use Rattle.hsms_machine.specs.Transaction.{answers as is_answer, is_reply_to as is_reply, concludes as is_conclusion, rejects as is_reject};
+ghost use Rattle.hsms_machine.specs.Transaction.{answers as is_answer, is_reply_to as is_reply, concludes as is_conclusion};
 
 use crate::flow::Flow;
 use crate::settings::{Role, Settings, Side};
@@ -43,10 +43,8 @@ impl Message {
     pub fn of(header: Header) -> Message
         ensures { result ≡ header }
     {
-        Message {
-            kind: kind(header),
-            header,
-        }
+        let kind = kind(header);
+        Message { kind, header }
     }
 
     /// Its header.
@@ -105,18 +103,13 @@ pub fn answers(request: Header, response: Message) -> bool
     }
 }
 
+/// Whether the message, which goes in the other direction, ends the request's transaction: it answers or rejects it.
 #[tactic(auto, unfolding(crate::specs::Transaction::rejects))]
-fn rejects(request: Header, other: Message) -> bool
-    ensures { result ≡ is_reject request other }
-{
-    other.header().system == request.system && matches!(other.kind(), Kind::Reject)
-}
-
-/// Whether the message, which goes in the other direction, ends the request's transaction.
 pub fn concludes(request: Header, other: Message) -> bool
     ensures { result ≡ is_conclusion request other }
 {
-    answers(request, other) || rejects(request, other)
+    answers(request, other)
+        || (other.header().system == request.system && matches!(other.kind(), Kind::Reject))
 }
 
 /// Whether the message is of a kind that may end a transaction.
@@ -187,19 +180,13 @@ pub fn has_session(settings: Settings, message: Message) -> bool
 fn is_from_active(link: Side, flow: Flow) -> bool
     ensures { result ≡ comes_from_active link flow }
 {
-    matches!(
-        (link, flow),
-        (Side::Active, Flow::Outgoing) | (Side::Passive, Flow::Incoming)
-    )
+    (link == Side::Active) == (flow == Flow::Outgoing)
 }
 
 fn is_from_equipment(role: Role, flow: Flow) -> bool
     ensures { result ≡ comes_from_equipment role flow }
 {
-    matches!(
-        (role, flow),
-        (Role::Equipment, Flow::Outgoing) | (Role::Host, Flow::Incoming)
-    )
+    (role == Role::Equipment) == (flow == Flow::Outgoing)
 }
 
 /// Whether the end from which the message comes may send it.

@@ -149,27 +149,7 @@ impl Transactions {
     fn has_system(oldest: Option<Transaction>, system: u32) -> bool
         ensures { result ≡ uses system (option_to_list oldest) }
     {
-        match oldest {
-            Some(opened) => opened.header.system == system,
-            None => false,
-        }
-    }
-
-    /// What is left of it after the message.
-    #[inline(always)]
-    fn unconcluded(oldest: Option<Transaction>, other: Message) -> Option<Transaction>
-        ensures { option_to_list result ≡ filter (λ opened. not (is_conclusion opened.header other)) (option_to_list oldest) }
-    {
-        match oldest {
-            Some(opened) => {
-                if concludes(opened.header, other) {
-                    None
-                } else {
-                    Some(opened)
-                }
-            }
-            None => None,
-        }
+        oldest.is_some_and(|opened| opened.header.system == system)
     }
 
     /// Whether some transaction has waited for longer than the limit.
@@ -243,11 +223,7 @@ impl Transactions {
         ensures none { IfNone result (list_any (λ opened. is_conclusion opened.header other) self.now ≡ false) }
     {
         let opened = self.get(other.header().system)?;
-        if concludes(opened.header, other) {
-            Some(opened.time)
-        } else {
-            None
-        }
+        concludes(opened.header, other).then_some(opened.time)
     }
 
     /// Takes all out, in time in proportion to how many there are.
@@ -264,8 +240,10 @@ impl Transactions {
         ensures { self.new ≡ filter (λ opened. not (is_conclusion opened.header other)) self.old }
     {
         if Self::has_system(self.oldest, other.header().system) {
-            self.oldest = Self::unconcluded(self.oldest, other);
-        } else if !self.queue.is_empty() {
+            self.oldest = self
+                .oldest
+                .filter(|opened| !concludes(opened.header, other));
+        } else if self.queue.len() > 0 {
             self.queue.remove_concluded(other);
         }
     }

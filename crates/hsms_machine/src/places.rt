@@ -1,7 +1,8 @@
 //! The places of what is open: beside a tracker, where in what was read each open transaction was opened.
 
 use crate::entry::{Act, EntryRef};
-use crate::message::{Message, is_control_request, is_data_request};
+use crate::flow::Flow;
+use crate::message::Message;
 use crate::open::Transactions;
 use crate::settings::Settings;
 use crate::view::View;
@@ -36,9 +37,8 @@ impl Model for Places {
 }
 
 impl Places {
-    ghost use Rattle.std.specs.Prelude.{◌≡◌, ◌≤◌, ◌==◌, ◌&&◌, ◌||◌, not, false, [], IsTrue, OnOk, OnErr, IfSome, IfNone};
+    ghost use Rattle.std.specs.Prelude.{◌≡◌, ◌≤◌, ◌==◌, ◌&&◌, ◌||◌, false, [], IsTrue, OnOk, OnErr, IfSome, IfNone};
     ghost use Rattle.std.specs.List.{list_any};
-    ghost use Rattle.hsms_machine.specs.Message.{is_request as is_request_header};
     ghost use Rattle.hsms_machine.specs.Transaction.{concludes as is_conclusion};
     ghost use Rattle.hsms_machine.specs.Ordered.{uses};
     ghost use Rattle.hsms_machine.specs.Placed.{HasPlaces, PlacesLeadTo, ClosesOneOpenedAt, ClosesNothing, IsPlaceOfOldest, NoPrimaryIsOpen, IsPlaceInUse, IsNotInUse, is_fresh as is_new};
@@ -77,12 +77,8 @@ impl Places {
         ensures { result ≡ is_new self.now act.now }
     {
         match act {
-            Act::Sent(message) => {
-                Self::is_apart(&self.view.sent_data, &self.view.sent_control, *message)
-            }
-            Act::Taken(message) => {
-                Self::is_apart(&self.view.taken_data, &self.view.taken_control, *message)
-            }
+            Act::Sent(message) => !self.view.is_in_use(Flow::Outgoing, *message),
+            Act::Taken(message) => !self.view.is_in_use(Flow::Incoming, *message),
             Act::Up | Act::Discarded(_) | Act::T3(_) | Act::Cut(_) | Act::Down => true,
         }
     }
@@ -143,15 +139,6 @@ impl Places {
             Some(used) => Some(used),
             None => requests.time_of(message),
         }
-    }
-
-    /// Whether a message that opens a transaction has other system bytes than these.
-    fn is_apart(primaries: &Transactions, requests: &Transactions, message: Message) -> bool
-        ensures { result ≡ (not (is_request_header message) || (not (uses message.system primaries.now) && not (uses message.system requests.now))) }
-    {
-        let system = message.header().system;
-        !(is_data_request(message) || is_control_request(message))
-            || (!primaries.is_in_use(system) && !requests.is_in_use(system))
     }
 
     /// The place of the transaction that the message, which goes in the other direction, answers or rejects.

@@ -52,10 +52,8 @@ impl Queue {
     pub fn new(alloc: Global) -> Self
         ensures { result ≡ [] }
     {
-        Queue {
-            items: IndexMap::new(alloc),
-            closed: 0,
-        }
+        let items = IndexMap::new(alloc);
+        Queue { items, closed: 0 }
     }
 
     /// How many are open.
@@ -64,14 +62,6 @@ impl Queue {
         ensures bound { result < 2 ^ 63 }
     {
         self.items.len() - self.closed
-    }
-
-    /// Whether none is open.
-    #[inline(always)]
-    pub fn is_empty(&self) -> bool
-        ensures { result ≡ (length self.now == 0) }
-    {
-        self.len() == 0
     }
 
     /// The transaction that was opened first.
@@ -162,11 +152,7 @@ impl Queue {
         ensures place { IfSome result (λ place. remove self.now place ≡ filter (λ opened. not (is_conclusion opened.header other)) self.now) }
     {
         let (place, opened) = self.found(other.header().system)?;
-        if concludes(opened.header, other) {
-            Some(place)
-        } else {
-            None
-        }
+        concludes(opened.header, other).then_some(place)
     }
 
     /// Takes out what the message, which goes in the other direction, answers or rejects.
@@ -195,21 +181,11 @@ impl Queue {
     fn remove_at(&mut self, place: usize)
         ensures { self.new ≡ remove self.old place }
     {
-        if place == 0 {
-            self.close_oldest();
-            self.let_go();
-        } else {
+        if place > 0 {
             self.remove_later(place);
-        }
-    }
-
-    /// Counts the oldest as closed.
-    #[inline(always)]
-    fn close_oldest(&mut self)
-        ensures { self.new ≡ remove self.old 0 }
-    {
-        if self.closed < self.items.len() {
+        } else if self.closed < self.items.len() {
             self.closed += 1;
+            self.let_go();
         }
     }
 

@@ -26,7 +26,6 @@ impl View {
     ghost use Rattle.std.specs.Prelude.{◌≡◌, []};
     ghost use Rattle.hsms_machine.specs.Act.{event_of, entry_of};
     ghost use Rattle.hsms_machine.specs.Ordered.{first_of};
-    ghost use Rattle.hsms_machine.specs.Step.{is_connected as is_phase_connected};
     ghost use Rattle.hsms_machine.specs.Repair.{remedy_of, discarded, lacks_down, expired, cut, cut_by_t7, expiry_of};
 
     /// What the rule asks for that the entry broke first.
@@ -39,19 +38,7 @@ impl View {
             Rule::T3Overdue => self.expire_first(time),
             Rule::LinkOverdue => self.cut_first(time),
             Rule::NotDue | Rule::NoCause => Remedy::LeaveOut,
-            Rule::Ended
-            | Rule::TooLong
-            | Rule::PType
-            | Rule::SType
-            | Rule::ControlText
-            | Rule::Session
-            | Rule::Direction
-            | Rule::NotSelected
-            | Rule::WBit
-            | Rule::Text
-            | Rule::SystemInUse
-            | Rule::NoTransaction
-            | Rule::SelectStatus => Self::discard(act),
+            _ => Self::discard(act),
         }
     }
 
@@ -60,26 +47,19 @@ impl View {
     {
         match act {
             Act::Taken(_) => Remedy::Discard,
-            Act::Up | Act::Sent(_) | Act::Discarded(_) | Act::T3(_) | Act::Cut(_) | Act::Down => {
-                Remedy::LeaveOut
-            }
+            _ => Remedy::LeaveOut,
         }
     }
 
     fn down_first(&self, time: u64, act: &Act) -> Remedy
         ensures { result ≡ lacks_down self.now time (event_of act.now []) }
     {
-        if matches!(act, Act::Up) && self.settings.version() == 2 && self.is_connected() {
+        let connected = !matches!(self.phase, Phase::Before | Phase::Gone);
+        if matches!(act, Act::Up) && self.settings.version() == 2 && connected {
             Remedy::DownFirst(time)
         } else {
             Remedy::LeaveOut
         }
-    }
-
-    fn is_connected(&self) -> bool
-        ensures { result ≡ is_phase_connected self.now.phase }
-    {
-        !matches!(self.phase, Phase::Before | Phase::Gone)
     }
 
     fn expire_first(&self, time: u64) -> Remedy
@@ -99,33 +79,25 @@ impl View {
     {
         let limit = self.settings.t6();
         match self.sent_control.first() {
-            Some(opened) => {
-                if u64::from(limit) < time.saturating_sub(opened.time) {
-                    Remedy::CutFirst(self.expiry(time, opened.time, limit), Cause::T6)
-                } else {
-                    self.cut_by_t7(time)
-                }
+            Some(opened) if u64::from(limit) < time.saturating_sub(opened.time) => {
+                Remedy::CutFirst(self.expiry(time, opened.time, limit), Cause::T6)
             }
-            None => self.cut_by_t7(time),
+            _ => self.cut_by_t7(time),
         }
     }
 
     fn cut_by_t7(&self, time: u64) -> Remedy
         ensures { result ≡ cut_by_t7 self.now time }
     {
-        Remedy::CutFirst(
-            self.expiry(time, self.up_time, self.settings.t7()),
-            Cause::T7,
-        )
+        let expiry = self.expiry(time, self.up_time, self.settings.t7());
+        Remedy::CutFirst(expiry, Cause::T7)
     }
 
     /// When the limit had passed since a time: no later than now, and no earlier than the last entry.
     fn expiry(&self, now: u64, since: u64, limit: u32) -> u64
         ensures { result ≡ expiry_of self.now now since limit }
     {
-        since
-            .saturating_add(u64::from(limit))
-            .min(now)
-            .max(self.last_time)
+        let passed = since.saturating_add(u64::from(limit));
+        passed.min(now).max(self.last_time)
     }
 }

@@ -93,10 +93,8 @@ impl Settings {
             && Self::is_time_limit(t6)
             && Self::is_time_limit(t7)
             && Self::is_time_limit(t8);
-        let sizes = LEAST_MAX <= max
-            && max <= GREATEST_MAX
-            && LEAST_DEPTH <= depth
-            && depth <= GREATEST_DEPTH;
+        let sizes = (LEAST_MAX..=GREATEST_MAX).contains(&max)
+            && (LEAST_DEPTH..=GREATEST_DEPTH).contains(&depth);
         if device <= GREATEST_DEVICE && times && sizes {
             Some(Settings {
                 version: 1,

@@ -1,6 +1,7 @@
 //! The judge of a session, entry by entry.
 
 use crate::entry::{Entry, EntryRef};
+use crate::open::{Transactions, earlier};
 use crate::phase::Phase;
 use crate::remedy::Remedy;
 use crate::rule::Rule;
@@ -152,7 +153,16 @@ impl Tracker {
     pub fn next_due(&self) -> Option<u64>
         ensures { result ≡ next_due_of self.now }
     {
-        self.view.next_due()
+        let view = &self.view;
+        let data = view.sent_data.first_due(view.settings.t3());
+        let control = view.sent_control.first_due(view.settings.t6());
+        let requests = earlier(data, control);
+        let selection = Transactions::due_at(view.up_time, view.settings.t7());
+        match view.phase {
+            Phase::NotSelected => earlier(requests, selection),
+            Phase::Selected => requests,
+            Phase::Before | Phase::Over | Phase::Gone => None,
+        }
     }
 
     /// Whether an open sent transaction, of data or of control, has these system bytes. Takes no memory.

@@ -4,7 +4,7 @@ use crate::entry::Act;
 use crate::message::{
     Message, establishes, is_control_request, is_data_request, may_conclude, separates,
 };
-use crate::open::{Transaction, Transactions, earlier};
+use crate::open::{Transaction, Transactions};
 use crate::phase::Phase;
 use crate::settings::Settings;
 use std::alloc::{AllocError, Global};
@@ -27,7 +27,7 @@ impl View {
     ghost use Rattle.hsms_machine.specs.Message.{is_request, is_data_request as opens_data_transaction, is_control_request as opens_control_transaction};
     ghost use Rattle.hsms_machine.specs.Transaction.{opens, opened_by, concludes as is_conclusion, SentData, SentControl, TakenData, TakenControl};
     ghost use Rattle.hsms_machine.specs.Session.{ends_session as is_end_of_session, selects as is_selection};
-    ghost use Rattle.hsms_machine.specs.View.{view_of, next_due_of};
+    ghost use Rattle.hsms_machine.specs.View.{view_of};
     ghost use Rattle.hsms_machine.specs.Act.{event_of, entry_of};
     ghost use Rattle.hsms_machine.specs.Step.{view_after, pool_after, phase_after, IsUntil, IsFresh};
     ghost use Rattle.hsms_machine.specs.Ordered.{AreUntil, uses};
@@ -46,21 +46,6 @@ impl View {
             sent_control: Transactions::new(alloc),
             taken_data: Transactions::new(alloc),
             taken_control: Transactions::new(alloc),
-        }
-    }
-
-    /// The least moment at which a timer runs out.
-    pub fn next_due(&self) -> Option<u64>
-        ensures { result ≡ next_due_of self.now }
-    {
-        let data = self.sent_data.first_due(self.settings.t3());
-        let control = self.sent_control.first_due(self.settings.t6());
-        let requests = earlier(data, control);
-        let selection = Transactions::due_at(self.up_time, self.settings.t7());
-        match self.phase {
-            Phase::NotSelected => earlier(requests, selection),
-            Phase::Selected => requests,
-            Phase::Before | Phase::Over | Phase::Gone => None,
         }
     }
 
@@ -110,20 +95,15 @@ impl View {
                 Self::close_in(&mut self.sent_data, &mut self.sent_control, *message);
             }
             Act::T3(system) => self.sent_data.remove_system(*system),
-            Act::Up => self.close_all(),
+            Act::Up => {
+                self.sent_data.clear();
+                self.sent_control.clear();
+                self.taken_data.clear();
+                self.taken_control.clear();
+            }
             _ => {}
         }
         Ok(())
-    }
-
-    /// Lets go of everything that is open.
-    fn close_all(&mut self)
-        ensures { self.new ≡ record self.old { sent_data = []; sent_control = []; taken_data = []; taken_control = [] } }
-    {
-        self.sent_data.clear();
-        self.sent_control.clear();
-        self.taken_data.clear();
-        self.taken_control.clear();
     }
 
     /// Puts the transaction that the message opens, if it opens one, at the end of its list.
@@ -141,22 +121,13 @@ impl View {
         ensures err { OnErr result ((primaries.new ≡ primaries.old) × (requests.new ≡ requests.old)) }
         ensures opens { OnErr result (IsTrue (is_request message)) }
     {
+        let header = message.header();
         if is_data_request(message) {
-            primaries.push(Self::opened(time, message))?;
+            primaries.push(Transaction { time, header })
         } else if is_control_request(message) {
-            requests.push(Self::opened(time, message))?;
-        }
-        Ok(())
-    }
-
-    /// The transaction that a request opens.
-    #[inline(always)]
-    fn opened(time: u64, request: Message) -> Transaction
-        ensures { result ≡ record { time = time; header = request } }
-    {
-        Transaction {
-            time,
-            header: request.header(),
+            requests.push(Transaction { time, header })
+        } else {
+            Ok(())
         }
     }
 

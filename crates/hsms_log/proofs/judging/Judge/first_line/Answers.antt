@@ -3,5 +3,5 @@ use Rattle.hsms_log.proofs.judging.Judge.first_line.Goals as goal
 
 pub returns-clause-follows : goal.returns-clause-follows
 returns-clause-follows c =
-    λ e before. first_follows c.args.self.now (record { settings = c.in-Some.settings; tracker = c.new.result }) c.count_line.new.self before c.args.line.now c.requires.first
-    c.in-Some.ensures.found c.new.ensures c.count_line.ensures
+    λ e before. first_follows c.args.self.now (record { settings = c.in-Some.settings; tracker = c.new-tracker.result }) c.count_line.new.self before c.args.line.now c.requires.first
+    c.in-Some.ensures.found c.new-tracker.ensures c.count_line.ensures

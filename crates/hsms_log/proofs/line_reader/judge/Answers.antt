@@ -1,6 +1,6 @@
 use Rattle.std.proofs.Common.{[]}
 use Rattle.hsms_log.proofs.Standing.{judged_onward}
-use Rattle.hsms_log.proofs.whole.judge.Goals as goal
+use Rattle.hsms_log.proofs.line_reader.judge.Goals as goal
 
 pub returns-in-Some : goal.returns-in-Some
 returns-in-Some c =

@@ -1,7 +1,7 @@
-use Rattle.std.proofs.Common.{◌+◌, ◌<◌, ◌∙◌, ap, remove, length, arith, refl}
+use Rattle.std.proofs.Common.{◌≡◌, ◌+◌, ◌<◌, ◌∙◌, ap, remove, length, arith, refl, sym}
 use Rattle.std.specs.Map.{values_of}
 use Rattle.hsms_machine.proofs.Kept.{kept-close, close-first}
-use Rattle.hsms_machine.proofs.queue.Queue.close_oldest.Goals as goal
+use Rattle.hsms_machine.proofs.queue.Queue.remove_at.Goals as goal
 
 pub invariant_of-self : goal.invariant_of-self
 invariant_of-self c =
@@ -11,5 +11,6 @@ invariant_of-self c =
 
 pub returns-then-self-len : goal.returns-then-self-len
 returns-then-self-len c =
-    close-first (values_of c.self.inside.items.entries) c.self.inside.closed (c.self.inside.closed + 1) refl
-    ∙ ap (λ opened. remove opened 0) c.self.view_is
+    let first : c.args.place ≡ 0 = omega (arith, c.if-place-gt0.false) in
+    c.let_go.ensures ∙ close-first (values_of c.self.inside.items.entries) c.self.inside.closed (c.self.inside.closed + 1) refl
+    ∙ ap (λ opened. remove opened 0) c.self.view_is ∙ ap (remove c.args.self.now) (sym first)
