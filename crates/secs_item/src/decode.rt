@@ -21,7 +21,7 @@ use std::alloc::{AllocError, Global};
 fn read_values<V: Value + Drop>(alloc: Global, body: &[u8]) -> Result<Vec<V>, AllocError>
     requires some { 0 < V.SIZE }
     requires whole { length body.now % V.SIZE ≡ 0 }
-    ensures { IfOk result (λ v. v.items ≡ each V.value_of V.SIZE body.now) }
+    ensures { IfOk result (λ v. v.items ≡ each V.codec.value_of V.SIZE body.now) }
 {
     let count = body.len() / V::SIZE;
     let mut values = Vec::with_capacity(alloc, count)?;

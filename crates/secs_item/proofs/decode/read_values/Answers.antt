@@ -10,5 +10,5 @@ loop-preserved g c =
     record {
       count = c.loop.invariant.count;
       left = left_behind size count c.loop.counter (length c.loop.rest.now) (length c.split_at.result.1.now) c.loop-test.true c.loop.invariant.left (ap (λ (n : ℕ). length c.split_at.result.1.now + n) (sym c.SIZE-in-loop.ensures) ∙ c.split_at.ensures.back_len);
-      parts = rw c.in_ok-push.ensures.items (pieces_go_on g.V.Value.value_of size count c.loop.counter c.loop.values.items c.loop.rest.now c.split_at.result.0.now c.split_at.result.1.now c.from_octets.result (each g.V.Value.value_of size c.args.body.now) c.loop-test.true (c.split_at.ensures.front ∙ ap (λ (n : ℕ). take n c.loop.rest.now) c.SIZE-in-loop.ensures) (c.split_at.ensures.back ∙ ap (λ (n : ℕ). drop n c.loop.rest.now) c.SIZE-in-loop.ensures) c.from_octets.ensures c.loop.invariant.parts);
+      parts = rw c.in_ok-push.ensures.items (pieces_go_on g.V.Value.codec.value_of size count c.loop.counter c.loop.values.items c.loop.rest.now c.split_at.result.0.now c.split_at.result.1.now c.from_octets.result (each g.V.Value.codec.value_of size c.args.body.now) c.loop-test.true (c.split_at.ensures.front ∙ ap (λ (n : ℕ). take n c.loop.rest.now) c.SIZE-in-loop.ensures) (c.split_at.ensures.back ∙ ap (λ (n : ℕ). drop n c.loop.rest.now) c.SIZE-in-loop.ensures) c.from_octets.ensures c.loop.invariant.parts);
     }

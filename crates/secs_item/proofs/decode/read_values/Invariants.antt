@@ -6,5 +6,5 @@ abbrev pub invariant-loop : goal.invariant-loop
 invariant-loop g l = record {
   count : l.count ≡ length l.body / g.V.Value.SIZE;
   left : length l.rest ≡ (l.count - l.counter) * g.V.Value.SIZE;
-  parts : l.values.items ++ pieces g.V.Value.value_of g.V.Value.SIZE (l.count - l.counter) l.rest ≡ each g.V.Value.value_of g.V.Value.SIZE l.body;
+  parts : l.values.items ++ pieces g.V.Value.codec.value_of g.V.Value.SIZE (l.count - l.counter) l.rest ≡ each g.V.Value.codec.value_of g.V.Value.SIZE l.body;
 }
