@@ -83,9 +83,6 @@ values_in_range (values v) h is = is.1
 pub is_body : (v : Value) (vs : Values) → v ≡ values vs → ValuesInRange vs → IsBodyOf v (body_of v)
 is_body v vs e h = rw e (refl, h)
 
-pub is_body_written : (v : Value) (octets : List ℕ) → octets ≡ body_of v → IsBodyOf v (body_of v) → IsBodyOf v octets
-is_body_written v octets e h = rw e h
-
 pub front_of_list : (items : List Item) → front_of (list (views items)) ≡ header format.List (field_of (length items)) (length items)
 front_of_list items =
     let n : 1 * count (views items) ≡ length items = omega (arith, count-views items) in

@@ -29,7 +29,7 @@ fn push_header(octets: &mut Vec<u8>, format: Format, number: usize) -> Result<()
 }
 
 /// Adds the octets of these values.
-fn push_values<V: Value + Drop>(octets: &mut Vec<u8>, values: &[V]) -> Result<(), AllocError>
+fn push_values<V: Value>(octets: &mut Vec<u8>, values: &[V]) -> Result<(), AllocError>
     ensures octets { OnOk result (octets.new.items ≡ octets.old.items ++ flat_map V.codec.octets_of values.now) }
     ensures in_range { OnOk result (AllByRecursion V.codec.fits values.now) }
 {
@@ -93,7 +93,6 @@ fn has_spelling(item: &Item) -> bool
 }
 
 /// Adds the shortest spelling of the item.
-#[tactic(auto, using(crate::proofs::Shorts::next_short))]
 fn push_item(octets: &mut Vec<u8>, item: &Item) -> Result<(), AllocError>
     requires { IsSome (short (view item.now)) }
     ensures octets { OnOk result (Appends (short (view item.now)) octets.old.items octets.new.items) }

@@ -1,6 +1,6 @@
 //! Values and their octets, of the formats whose values aren't octets as they stand.
 
-ghost use Rattle.std.specs.Prelude.{◌≡◌, ◌++◌, ◌<◌, ℕ, List, length, OnOk};
+ghost use Rattle.std.specs.Prelude.{◌≡◌, ◌++◌, ◌<◌, length, OnOk};
 ghost use Rattle.std.specs.Int.{w8, w16, w32, w64};
 ghost use Rattle.std.specs.List.{AllByRecursion};
 ghost use Rattle.secs_item.specs.Codec.{Codec, of_signed, of_truth, of_unread, of_unsigned};
@@ -9,17 +9,13 @@ use byteorder::{BigEndian, ByteOrder};
 use std::alloc::AllocError;
 
 /// A value that an item's body holds, of as many octets as its format has.
-pub trait Value: Copy {
-    ghost SIZE: { ℕ };
-
-    /// The value of octets, the octets of a value, and what holds of each value of the type.
+pub trait Value: Copy + Drop {
+    /// How many octets a value has, the value of octets, the octets of a value, and what holds of each of the type.
     ghost codec: { Codec Self };
-
-    const SIZE: usize;
 
     /// The value of these octets.
     fn from_octets(octets: &[u8]) -> Self
-        requires { length octets.now ≡ SIZE }
+        requires { length octets.now ≡ codec.size }
         ensures { result ≡ codec.value_of octets.now };
 
     /// Adds the value's octets.
@@ -29,11 +25,7 @@ pub trait Value: Copy {
 }
 
 impl Value for bool {
-    ghost SIZE = { 1 };
-
     ghost codec = { of_truth };
-
-    const SIZE: usize = 1;
 
     fn from_octets(octets: &[u8]) -> bool {
         octets[0] != 0
@@ -46,11 +38,7 @@ impl Value for bool {
 }
 
 impl Value for i8 {
-    ghost SIZE = { 1 };
-
     ghost codec = { of_signed w8 };
-
-    const SIZE: usize = 1;
 
     fn from_octets(octets: &[u8]) -> i8 {
         octets[0].cast_signed()
@@ -63,11 +51,7 @@ impl Value for i8 {
 }
 
 impl Value for i16 {
-    ghost SIZE = { 2 };
-
     ghost codec = { of_signed w16 };
-
-    const SIZE: usize = 2;
 
     fn from_octets(octets: &[u8]) -> i16 {
         BigEndian::read_i16(octets)
@@ -79,11 +63,7 @@ impl Value for i16 {
 }
 
 impl Value for i32 {
-    ghost SIZE = { 4 };
-
     ghost codec = { of_signed w32 };
-
-    const SIZE: usize = 4;
 
     fn from_octets(octets: &[u8]) -> i32 {
         BigEndian::read_i32(octets)
@@ -95,11 +75,7 @@ impl Value for i32 {
 }
 
 impl Value for i64 {
-    ghost SIZE = { 8 };
-
     ghost codec = { of_signed w64 };
-
-    const SIZE: usize = 8;
 
     fn from_octets(octets: &[u8]) -> i64 {
         BigEndian::read_i64(octets)
@@ -111,11 +87,7 @@ impl Value for i64 {
 }
 
 impl Value for u16 {
-    ghost SIZE = { 2 };
-
     ghost codec = { of_unsigned 2 };
-
-    const SIZE: usize = 2;
 
     fn from_octets(octets: &[u8]) -> u16 {
         BigEndian::read_u16(octets)
@@ -127,11 +99,7 @@ impl Value for u16 {
 }
 
 impl Value for u32 {
-    ghost SIZE = { 4 };
-
     ghost codec = { of_unsigned 4 };
-
-    const SIZE: usize = 4;
 
     fn from_octets(octets: &[u8]) -> u32 {
         BigEndian::read_u32(octets)
@@ -143,11 +111,7 @@ impl Value for u32 {
 }
 
 impl Value for u64 {
-    ghost SIZE = { 8 };
-
     ghost codec = { of_unsigned 8 };
-
-    const SIZE: usize = 8;
 
     fn from_octets(octets: &[u8]) -> u64 {
         BigEndian::read_u64(octets)
@@ -159,11 +123,7 @@ impl Value for u64 {
 }
 
 impl<const N: usize> Value for [u8; N] {
-    ghost SIZE = { N };
-
     ghost codec = { of_unread N };
-
-    const SIZE: usize = N;
 
     fn from_octets(octets: &[u8]) -> [u8; N] {
         let mut value = [0; N];
