@@ -4,14 +4,14 @@ use Rattle.std.proofs.lemmas.List.{nil_from_length, length-take, length-drop, le
 use Rattle.std.proofs.lemmas.Nat.{div-mul-add, mod-mul-add, div-add-mod'}
 use Rattle.std.specs.List.{flat_map}
 use Rattle.std.proofs.lemmas.List.Concat.{flat_map-cons}
-use Rattle.secs_item.specs.Short.{octet_alone, field_of}
+use Rattle.secs_item.specs.Short.{octet_alone}
 use Rattle.std.specs.Int.{w8, w16, w32, w64}
 use Rattle.byteorder.specs.Endian.{big_number}
 use Rattle.secs_item.specs.declared.format.Format.{Format}
 use Rattle.secs_item.specs.declared.format.Format.TheVariants as format
 use Rattle.secs_item.specs.Format.{is_list, value_size}
 use Rattle.secs_item.specs.Item.{Values, binary, boolean, ascii, jis8, char2, i8, i1, i2, i4, f8, f4, u8, u1, u2, u4, format_of_values}
-use Rattle.secs_item.specs.Spelling.{IsOctets, InOrder, Octet, Truth, Signed, Unsigned, Unread, Body, header}
+use Rattle.secs_item.specs.Spelling.{IsOctets, InOrder, Octet, Truth, Signed, Unsigned, Unread, Body}
 use Rattle.secs_item.specs.Reading.{pieces, each, octet, truth, signed, unread, values_of}
 use Rattle.secs_item.proofs.Octets.{IsOctets-nil, IsOctets-append, IsOctets-take, IsOctets-drop}
 use Rattle.secs_item.proofs.Codecs.{IsCodec, octets_codec, truth_codec, signed_codec, unsigned_codec, unread_codec}
@@ -67,13 +67,6 @@ each_octet octets = let n : length octets / 1 ≡ length octets = omega arith in
 pub flat_octets : (octets : List ℕ) → flat_map octet_alone octets ≡ octets
 flat_octets [] = refl
 flat_octets (x ∷ octets) = flat_map-cons octet_alone x octets ∙ ap (λ (xs : List ℕ). x ∷ xs) (flat_octets octets)
-
--- a body of octets is written behind its header
-pub octets_pushed : (f : Format) (old headed now octets : List ℕ) → headed ≡ old ++ header f (field_of (length octets)) (length octets) → now ≡ headed ++ octets
-    → now ≡ old ++ (header f (field_of (1 * length octets)) (1 * length octets) ++ flat_map octet_alone octets)
-octets_pushed f old headed now octets h e =
-    let n : 1 * length octets ≡ length octets = omega arith in
-    rw (n, flat_octets octets) (e ∙ ap (λ (o : List ℕ). o ++ octets) h ∙ append_assoc old (header f (field_of (length octets)) (length octets)) octets)
 
 -- ---- by the format
 

@@ -1,14 +1,15 @@
 -- The shortest spelling, element by element.
-use Rattle.std.proofs.Common.{◌≡◌, ℕ, suc, ◌+◌, ◌^◌, ◌<◌, ◌≤◌, Bool, true, false, ltb, List, [], ◌∷◌, ◌++◌, length, drop, get_or, Option, Some, None, refl, sym, ap, ◌∙◌, append_assoc, append-nil, inl, inr}
+use Rattle.std.proofs.Common.{◌≡◌, ℕ, suc, ◌+◌, ◌*◌, ◌^◌, ◌<◌, ◌≤◌, Bool, true, false, ltb, List, [], ◌∷◌, ◌++◌, length, drop, get_or, Option, Some, None, refl, sym, ap, ◌∙◌, append_assoc, append-nil, arith, inl, inr}
 use Rattle.std.specs.Prelude.{is_some, option_and_then, option_map}
 use Rattle.std.proofs.lemmas.Bool.{cases_lt, le-ltb, lt-ltb}
 use Rattle.std.proofs.lemmas.List.{at_drop_more, at_drop_all}
 use Rattle.secs_item.specs.declared.format.Format.{Format}
 use Rattle.secs_item.specs.declared.format.Format.TheVariants as format
 use Rattle.secs_item.specs.declared.item.Item.{Item}
-use Rattle.secs_item.specs.Item.{list, Elements, count, view, views}
+use Rattle.secs_item.specs.Format.{is_list, value_size}
+use Rattle.secs_item.specs.Item.{Value, list, values, Values, Elements, count, count_of, format_of, format_of_values, view, views, ValuesInRange, InRange}
 use Rattle.secs_item.specs.Spelling.{header}
-use Rattle.secs_item.specs.Short.{field_of, framed, short, short_elements, Appends}
+use Rattle.secs_item.specs.Short.{field_of, framed, short, short_body, short_elements, body_of, Appends, IsBodyOf}
 
 pub count-views : (items : List Item) → count (views items) ≡ length items
 count-views [] = refl
@@ -39,6 +40,53 @@ list_within es h =
       | inl lt ↦ lt
       | inr le ↦ let none = list_too_large es le in absurd cc
     ]
+
+-- ---- by the number in an item's header
+
+abbrev number_of : Value → ℕ
+number_of v = value_size (format_of v) * count_of v
+
+abbrev pub front_of : Value → List ℕ
+front_of v = header (format_of v) (field_of (number_of v)) (number_of v)
+
+pub too_large : (v : Value) → 256 ^ 3 ≤ value_size (format_of v) * count_of v → is_some (short v) ≡ false
+too_large (list es) le = list_too_large es (omega arith)
+too_large (values v) le =
+    let large : ltb (number_of (values v)) (256 ^ 3) ≡ false = le-ltb (number_of (values v)) (256 ^ 3) le in rw large refl
+
+pub within : (v : Value) → is_some (short v) ≡ true → value_size (format_of v) * count_of v < 256 ^ 3
+within v h =
+    elim (cases_lt (number_of v) (256 ^ 3)) [
+      | inl lt ↦ lt
+      | inr le ↦ let none = too_large v le in absurd cc
+    ]
+
+pub values_some : (v : Value) → is_list (format_of v) ≡ false → value_size (format_of v) * count_of v < 256 ^ 3 → is_some (short v) ≡ true
+values_some (list es) h lt = absurd cc
+values_some (values v) h lt =
+    let small : ltb (number_of (values v)) (256 ^ 3) ≡ true = lt-ltb (number_of (values v)) (256 ^ 3) lt in rw small refl
+
+-- the body of values is written behind their header
+pub values_written : (v : Value) (old headed now : List ℕ) → is_list (format_of v) ≡ false → is_some (short v) ≡ true → headed ≡ old ++ front_of v → now ≡ headed ++ body_of v → Appends (short v) old now
+values_written (list es) old headed now h some front body = absurd cc
+values_written (values v) old headed now h some front body = (
+  front_of (values v) ++ short_body v,
+  framed_fits (format_of_values v) (number_of (values v)) (short_body v) (within (values v) some),
+  body ∙ ap (λ (o : List ℕ). o ++ short_body v) front ∙ append_assoc old (front_of (values v)) (short_body v),
+)
+
+pub values_in_range : (v : Value) → is_list (format_of v) ≡ false → IsBodyOf v (body_of v) → InRange v
+values_in_range (list es) h is = absurd cc
+values_in_range (values v) h is = is.1
+
+-- the body of values that are in their range
+pub is_body : (v : Value) (vs : Values) → v ≡ values vs → ValuesInRange vs → IsBodyOf v (body_of v)
+is_body v vs e h = rw e (refl, h)
+
+pub front_of_list : (items : List Item) → front_of (list (views items)) ≡ header format.List (field_of (length items)) (length items)
+front_of_list items =
+    let n : 1 * count (views items) ≡ length items = omega (arith, count-views items) in
+    ap (λ (n : ℕ). header format.List (field_of n) n) n
 
 pub list_short : (es : Elements) (body : List ℕ) → count es < 256 ^ 3 → short_elements es ≡ Some body → short (list es) ≡ Some (header format.List (field_of (count es)) (count es) ++ body)
 list_short es body lt e = ap (in_list (count es)) e ∙ framed_fits format.List (count es) body lt

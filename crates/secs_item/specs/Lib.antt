@@ -6,5 +6,6 @@ pub mod Spelling
 pub mod Short
 pub mod Fault
 pub mod Reading
+pub mod Codec
 pub mod Measure
 pub mod Laws

@@ -17,17 +17,18 @@ use crate::measure::{measure_front, measure_text};
 use crate::value::Value;
 use std::alloc::{AllocError, Global};
 
-/// The values of a body.
-fn read_values<V: Value + Drop>(alloc: Global, body: &[u8]) -> Result<Vec<V>, AllocError>
-    requires some { 0 < V.SIZE }
-    requires whole { length body.now % V.SIZE ≡ 0 }
-    ensures { IfOk result (λ v. v.items ≡ each V.value_of V.SIZE body.now) }
+/// The values of a body, each of `size` octets.
+fn read_values<V: Value>(alloc: Global, body: &[u8], size: usize) -> Result<Vec<V>, AllocError>
+    requires size { size ≡ V.codec.size }
+    requires some { 0 < V.codec.size }
+    requires whole { length body.now % V.codec.size ≡ 0 }
+    ensures { IfOk result (λ v. v.items ≡ each V.codec.value_of V.codec.size body.now) }
 {
-    let count = body.len() / V::SIZE;
+    let count = body.len() / size;
     let mut values = Vec::with_capacity(alloc, count)?;
     let mut rest = body;
     for _ in 0..count {
-        let (first, after) = rest.split_at(V::SIZE);
+        let (first, after) = rest.split_at(size);
         values.push(V::from_octets(first))?;
         rest = after;
     }
@@ -52,20 +53,20 @@ pub fn item_of_values(alloc: Global, format: Format, body: &[u8]) -> Result<Item
     match format {
         Format::List => unreachable!(),
         Format::Binary => Ok(Item::Binary(read_octets(alloc, body)?)),
-        Format::Boolean => Ok(Item::Boolean(read_values(alloc, body)?)),
+        Format::Boolean => Ok(Item::Boolean(read_values(alloc, body, format.size())?)),
         Format::Ascii => Ok(Item::Ascii(read_octets(alloc, body)?)),
         Format::Jis8 => Ok(Item::Jis8(read_octets(alloc, body)?)),
         Format::Char2 => Ok(Item::Char2(read_octets(alloc, body)?)),
-        Format::I1 => Ok(Item::I1(read_values(alloc, body)?)),
-        Format::I2 => Ok(Item::I2(read_values(alloc, body)?)),
-        Format::I4 => Ok(Item::I4(read_values(alloc, body)?)),
-        Format::I8 => Ok(Item::I8(read_values(alloc, body)?)),
+        Format::I1 => Ok(Item::I1(read_values(alloc, body, format.size())?)),
+        Format::I2 => Ok(Item::I2(read_values(alloc, body, format.size())?)),
+        Format::I4 => Ok(Item::I4(read_values(alloc, body, format.size())?)),
+        Format::I8 => Ok(Item::I8(read_values(alloc, body, format.size())?)),
         Format::U1 => Ok(Item::U1(read_octets(alloc, body)?)),
-        Format::U2 => Ok(Item::U2(read_values(alloc, body)?)),
-        Format::U4 => Ok(Item::U4(read_values(alloc, body)?)),
-        Format::U8 => Ok(Item::U8(read_values(alloc, body)?)),
-        Format::F4 => Ok(Item::F4(read_values(alloc, body)?)),
-        Format::F8 => Ok(Item::F8(read_values(alloc, body)?)),
+        Format::U2 => Ok(Item::U2(read_values(alloc, body, format.size())?)),
+        Format::U4 => Ok(Item::U4(read_values(alloc, body, format.size())?)),
+        Format::U8 => Ok(Item::U8(read_values(alloc, body, format.size())?)),
+        Format::F4 => Ok(Item::F4(read_values(alloc, body, format.size())?)),
+        Format::F8 => Ok(Item::F8(read_values(alloc, body, format.size())?)),
     }
 }
 

@@ -1,7 +1,7 @@
 //! Data items.
 
 ghost use Rattle.std.specs.Prelude.{◌≡◌, ◌↔◌, IfOk, IsTrue, min};
-ghost use Rattle.secs_item.specs.Item.{format_of, nest, view, views};
+ghost use Rattle.secs_item.specs.Item.{count_of, format_of, nest, view, views};
 
 use crate::format::Format;
 use std::alloc::{AllocError, Global};
@@ -83,6 +83,30 @@ impl Item {
             Item::U8(_) => Format::U8,
             Item::F4(_) => Format::F4,
             Item::F8(_) => Format::F8,
+        }
+    }
+
+    /// How many elements or values the item has.
+    pub(crate) fn count(&self) -> usize
+        ensures { result ≡ count_of (view self.now) }
+    {
+        match self {
+            Item::List(elements) => elements.len(),
+            Item::Binary(values) => values.len(),
+            Item::Boolean(values) => values.len(),
+            Item::Ascii(values) => values.len(),
+            Item::Jis8(values) => values.len(),
+            Item::Char2(values) => values.len(),
+            Item::I1(values) => values.len(),
+            Item::I2(values) => values.len(),
+            Item::I4(values) => values.len(),
+            Item::I8(values) => values.len(),
+            Item::U1(values) => values.len(),
+            Item::U2(values) => values.len(),
+            Item::U4(values) => values.len(),
+            Item::U8(values) => values.len(),
+            Item::F4(values) => values.len(),
+            Item::F8(values) => values.len(),
         }
     }
 }

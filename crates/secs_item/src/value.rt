@@ -1,51 +1,31 @@
 //! Values and their octets, of the formats whose values aren't octets as they stand.
 
-ghost use Rattle.std.specs.Prelude.{◌≡◌, ◌++◌, ◌<◌, ◌^◌, ℕ, List, length, OnOk, FitsSigned};
+ghost use Rattle.std.specs.Prelude.{◌≡◌, ◌++◌, ◌<◌, length, OnOk};
+ghost use Rattle.std.specs.Int.{w8, w16, w32, w64};
 ghost use Rattle.std.specs.List.{AllByRecursion};
+ghost use Rattle.secs_item.specs.Codec.{Codec, of_signed, of_truth, of_unread, of_unsigned};
 
 use byteorder::{BigEndian, ByteOrder};
 use std::alloc::AllocError;
 
 /// A value that an item's body holds, of as many octets as its format has.
-pub trait Value: Copy {
-    ghost SIZE: { ℕ };
-
-    ghost value_of: { List ℕ → Self };
-
-    ghost octets_of: { Self → List ℕ };
-
-    /// What holds of each value of the type.
-    ghost fits: { Self → Type 0 };
-
-    const SIZE: usize;
+pub trait Value: Copy + Drop {
+    /// How many octets a value has, the value of octets, the octets of a value, and what holds of each of the type.
+    ghost codec: { Codec Self };
 
     /// The value of these octets.
     fn from_octets(octets: &[u8]) -> Self
-        requires { length octets.now ≡ SIZE }
-        ensures { result ≡ value_of octets.now };
+        requires { length octets.now ≡ codec.size }
+        ensures { result ≡ codec.value_of octets.now };
 
     /// Adds the value's octets.
     fn push_octets(self, octets: &mut Vec<u8>) -> Result<(), AllocError>
-        ensures { OnOk result (octets.new.items ≡ octets.old.items ++ octets_of self) };
-
-    /// Says that the value fits, as each value of the type does. Does nothing when it runs.
-    fn known(self)
-        ensures { fits self };
+        ensures octets { OnOk result (octets.new.items ≡ octets.old.items ++ codec.octets_of self) }
+        ensures fits { codec.fits self };
 }
 
 impl Value for bool {
-    ghost use Rattle.secs_item.specs.Reading.{truth};
-    ghost use Rattle.secs_item.specs.Short.{octet_of_truth};
-
-    ghost SIZE = { 1 };
-
-    ghost value_of = { truth };
-
-    ghost octets_of = { octet_of_truth };
-
-    ghost fits = { λ _. Unit {0} };
-
-    const SIZE: usize = 1;
+    ghost codec = { of_truth };
 
     fn from_octets(octets: &[u8]) -> bool {
         octets[0] != 0
@@ -55,24 +35,10 @@ impl Value for bool {
         octets.push(u8::from(self))?;
         Ok(())
     }
-
-    fn known(self) {}
 }
 
 impl Value for i8 {
-    ghost use Rattle.std.specs.Int.{w8};
-    ghost use Rattle.secs_item.specs.Reading.{signed};
-    ghost use Rattle.secs_item.specs.Short.{octets_of_signed};
-
-    ghost SIZE = { 1 };
-
-    ghost value_of = { signed w8 };
-
-    ghost octets_of = { octets_of_signed w8 };
-
-    ghost fits = { FitsSigned w8 };
-
-    const SIZE: usize = 1;
+    ghost codec = { of_signed w8 };
 
     fn from_octets(octets: &[u8]) -> i8 {
         octets[0].cast_signed()
@@ -82,24 +48,10 @@ impl Value for i8 {
         octets.push(self.cast_unsigned())?;
         Ok(())
     }
-
-    fn known(self) {}
 }
 
 impl Value for i16 {
-    ghost use Rattle.std.specs.Int.{w16};
-    ghost use Rattle.secs_item.specs.Reading.{signed};
-    ghost use Rattle.secs_item.specs.Short.{octets_of_signed};
-
-    ghost SIZE = { 2 };
-
-    ghost value_of = { signed w16 };
-
-    ghost octets_of = { octets_of_signed w16 };
-
-    ghost fits = { FitsSigned w16 };
-
-    const SIZE: usize = 2;
+    ghost codec = { of_signed w16 };
 
     fn from_octets(octets: &[u8]) -> i16 {
         BigEndian::read_i16(octets)
@@ -108,24 +60,10 @@ impl Value for i16 {
     fn push_octets(self, octets: &mut Vec<u8>) -> Result<(), AllocError> {
         octets.extend_from_slice(&self.to_be_bytes())
     }
-
-    fn known(self) {}
 }
 
 impl Value for i32 {
-    ghost use Rattle.std.specs.Int.{w32};
-    ghost use Rattle.secs_item.specs.Reading.{signed};
-    ghost use Rattle.secs_item.specs.Short.{octets_of_signed};
-
-    ghost SIZE = { 4 };
-
-    ghost value_of = { signed w32 };
-
-    ghost octets_of = { octets_of_signed w32 };
-
-    ghost fits = { FitsSigned w32 };
-
-    const SIZE: usize = 4;
+    ghost codec = { of_signed w32 };
 
     fn from_octets(octets: &[u8]) -> i32 {
         BigEndian::read_i32(octets)
@@ -134,24 +72,10 @@ impl Value for i32 {
     fn push_octets(self, octets: &mut Vec<u8>) -> Result<(), AllocError> {
         octets.extend_from_slice(&self.to_be_bytes())
     }
-
-    fn known(self) {}
 }
 
 impl Value for i64 {
-    ghost use Rattle.std.specs.Int.{w64};
-    ghost use Rattle.secs_item.specs.Reading.{signed};
-    ghost use Rattle.secs_item.specs.Short.{octets_of_signed};
-
-    ghost SIZE = { 8 };
-
-    ghost value_of = { signed w64 };
-
-    ghost octets_of = { octets_of_signed w64 };
-
-    ghost fits = { FitsSigned w64 };
-
-    const SIZE: usize = 8;
+    ghost codec = { of_signed w64 };
 
     fn from_octets(octets: &[u8]) -> i64 {
         BigEndian::read_i64(octets)
@@ -160,22 +84,10 @@ impl Value for i64 {
     fn push_octets(self, octets: &mut Vec<u8>) -> Result<(), AllocError> {
         octets.extend_from_slice(&self.to_be_bytes())
     }
-
-    fn known(self) {}
 }
 
 impl Value for u16 {
-    ghost use Rattle.byteorder.specs.Endian.{big_bytes, big_number};
-
-    ghost SIZE = { 2 };
-
-    ghost value_of = { big_number 2 };
-
-    ghost octets_of = { big_bytes 2 };
-
-    ghost fits = { λ n. n < 256 ^ 2 };
-
-    const SIZE: usize = 2;
+    ghost codec = { of_unsigned 2 };
 
     fn from_octets(octets: &[u8]) -> u16 {
         BigEndian::read_u16(octets)
@@ -184,22 +96,10 @@ impl Value for u16 {
     fn push_octets(self, octets: &mut Vec<u8>) -> Result<(), AllocError> {
         octets.extend_from_slice(&self.to_be_bytes())
     }
-
-    fn known(self) {}
 }
 
 impl Value for u32 {
-    ghost use Rattle.byteorder.specs.Endian.{big_bytes, big_number};
-
-    ghost SIZE = { 4 };
-
-    ghost value_of = { big_number 4 };
-
-    ghost octets_of = { big_bytes 4 };
-
-    ghost fits = { λ n. n < 256 ^ 4 };
-
-    const SIZE: usize = 4;
+    ghost codec = { of_unsigned 4 };
 
     fn from_octets(octets: &[u8]) -> u32 {
         BigEndian::read_u32(octets)
@@ -208,22 +108,10 @@ impl Value for u32 {
     fn push_octets(self, octets: &mut Vec<u8>) -> Result<(), AllocError> {
         octets.extend_from_slice(&self.to_be_bytes())
     }
-
-    fn known(self) {}
 }
 
 impl Value for u64 {
-    ghost use Rattle.byteorder.specs.Endian.{big_bytes, big_number};
-
-    ghost SIZE = { 8 };
-
-    ghost value_of = { big_number 8 };
-
-    ghost octets_of = { big_bytes 8 };
-
-    ghost fits = { λ n. n < 256 ^ 8 };
-
-    const SIZE: usize = 8;
+    ghost codec = { of_unsigned 8 };
 
     fn from_octets(octets: &[u8]) -> u64 {
         BigEndian::read_u64(octets)
@@ -232,23 +120,10 @@ impl Value for u64 {
     fn push_octets(self, octets: &mut Vec<u8>) -> Result<(), AllocError> {
         octets.extend_from_slice(&self.to_be_bytes())
     }
-
-    fn known(self) {}
 }
 
 impl<const N: usize> Value for [u8; N] {
-    ghost use Rattle.secs_item.specs.Reading.{unread};
-    ghost use Rattle.secs_item.specs.Short as short;
-
-    ghost SIZE = { N };
-
-    ghost value_of = { unread };
-
-    ghost octets_of = { short.unread };
-
-    ghost fits = { λ float. (length float ≡ N) × AllByRecursion (λ n. n < 256) float };
-
-    const SIZE: usize = N;
+    ghost codec = { of_unread N };
 
     fn from_octets(octets: &[u8]) -> [u8; N] {
         let mut value = [0; N];
@@ -257,11 +132,8 @@ impl<const N: usize> Value for [u8; N] {
     }
 
     fn push_octets(self, octets: &mut Vec<u8>) -> Result<(), AllocError> {
-        octets.extend_from_slice(&self)
-    }
-
-    fn known(self) {
         octets_known(&self);
+        octets.extend_from_slice(&self)
     }
 }
 

@@ -5,10 +5,10 @@ use Rattle.secs_item.proofs.decode.read_values.Goals as goal
 
 pub loop-preserved : goal.loop-preserved
 loop-preserved g c =
-    let size = g.V.Value.SIZE in
-    let count = length c.args.body.now / c.SIZE.result in
+    let size = g.V.Value.codec.size in
+    let count = length c.args.body.now / c.args.size in
     record {
       count = c.loop.invariant.count;
-      left = left_behind size count c.loop.counter (length c.loop.rest.now) (length c.split_at.result.1.now) c.loop-test.true c.loop.invariant.left (ap (λ (n : ℕ). length c.split_at.result.1.now + n) (sym c.SIZE-in-loop.ensures) ∙ c.split_at.ensures.back_len);
-      parts = rw c.in_ok-push.ensures.items (pieces_go_on g.V.Value.value_of size count c.loop.counter c.loop.values.items c.loop.rest.now c.split_at.result.0.now c.split_at.result.1.now c.from_octets.result (each g.V.Value.value_of size c.args.body.now) c.loop-test.true (c.split_at.ensures.front ∙ ap (λ (n : ℕ). take n c.loop.rest.now) c.SIZE-in-loop.ensures) (c.split_at.ensures.back ∙ ap (λ (n : ℕ). drop n c.loop.rest.now) c.SIZE-in-loop.ensures) c.from_octets.ensures c.loop.invariant.parts);
+      left = left_behind size count c.loop.counter (length c.loop.rest.now) (length c.split_at.result.1.now) c.loop-test.true c.loop.invariant.left (ap (λ (n : ℕ). length c.split_at.result.1.now + n) (sym c.requires.size) ∙ c.split_at.ensures.back_len);
+      parts = rw c.in_ok-push.ensures.items (pieces_go_on g.V.Value.codec.value_of size count c.loop.counter c.loop.values.items c.loop.rest.now c.split_at.result.0.now c.split_at.result.1.now c.from_octets.result (each g.V.Value.codec.value_of size c.args.body.now) c.loop-test.true (c.split_at.ensures.front ∙ ap (λ (n : ℕ). take n c.loop.rest.now) c.requires.size) (c.split_at.ensures.back ∙ ap (λ (n : ℕ). drop n c.loop.rest.now) c.requires.size) c.from_octets.ensures c.loop.invariant.parts);
     }

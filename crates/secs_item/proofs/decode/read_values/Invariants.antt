@@ -4,7 +4,7 @@ use Rattle.secs_item.proofs.decode.read_values.Given as goal
 
 abbrev pub invariant-loop : goal.invariant-loop
 invariant-loop g l = record {
-  count : l.count ≡ length l.body / g.V.Value.SIZE;
-  left : length l.rest ≡ (l.count - l.counter) * g.V.Value.SIZE;
-  parts : l.values.items ++ pieces g.V.Value.value_of g.V.Value.SIZE (l.count - l.counter) l.rest ≡ each g.V.Value.value_of g.V.Value.SIZE l.body;
+  count : l.count ≡ length l.body / g.V.Value.codec.size;
+  left : length l.rest ≡ (l.count - l.counter) * g.V.Value.codec.size;
+  parts : l.values.items ++ pieces g.V.Value.codec.value_of g.V.Value.codec.size (l.count - l.counter) l.rest ≡ each g.V.Value.codec.value_of g.V.Value.codec.size l.body;
 }
