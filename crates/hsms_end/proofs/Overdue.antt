@@ -1,7 +1,8 @@
 -- A connection that is cut since a timer ran out.
-use Rattle.std.proofs.Common.{◌≡◌, ◌≢◌, ℕ, ◌-◌, ◌<◌, ◌≤◌, Bool, true, false, ◌&&◌, ◌||◌, nat_lt, nat_le, List, [], ◌∷◌, ◌++◌, Option, None, Some, refl, sym, ap, subst, ◌∙◌, inl, inr, ◌⊎◌, arith, if◌then◌else◌}
+use Rattle.std.proofs.Common.{◌≡◌, ◌≢◌, ℕ, ◌-◌, ◌<◌, ◌≤◌, Bool, true, false, ◌&&◌, ◌||◌, nat_lt, nat_le, List, [], ◌∷◌, ◌++◌, Option, None, Some, is_some, refl, sym, ap, subst, ◌∙◌, inl, inr, ◌⊎◌, arith, if◌then◌else◌}
 use Rattle.std.specs.List.{list_any}
 use Rattle.std.proofs.lemmas.Bool.Decides.{nat_tests}
+use Rattle.hsms_frame.specs.declared.header.Header.{Header}
 use Rattle.hsms_machine.specs.declared.entry.Event.TheVariants.{Cut, Down}
 use Rattle.hsms_machine.specs.declared.entry.Cause.{Cause}
 use Rattle.hsms_machine.specs.declared.entry.Cause.TheVariants.{T6, T7, T8}
@@ -45,6 +46,10 @@ module _ (end : State) (late : IsLate end) where
   t6_in_time e =
       none_overdue end.tracker.settings.t6 end.moment end.tracker.sent_control late.control_ordered
       (subst (λ p. overdue_of p.t6 end.moment (oldest_of end.tracker.sent_control) ≡ None) late.settings e)
+
+  pub t6_told : (oldest : Option Header) → oldest ≡ overdue_of end.settings.t6 end.moment (oldest_of end.tracker.sent_control) → is_some oldest ≡ is_t6_overdue end.tracker end.moment
+  t6_told None e = sym (t6_in_time (sym e))
+  t6_told (Some header) e = sym (t6_overdue header (sym e))
 
 -- ---- T7 is told by the rule that a `down` breaks
 
@@ -112,6 +117,10 @@ module _ (end : State) (late : IsLate end) (in_time : is_data_overdue end ≡ fa
     | inr e ↦ absurd
         (let d : ◌≡◌ {A = Option Rule} (Some rule) None = first_same (Breaks (facts_of end.tracker) end.tracker.settings (entry_of end Down)) all_rules (Some rule) None h (down_lawful end late.up (calm_by t6 e)) in cc)
   ]
+
+  pub t7_told : (broken : Option Rule) → is_t6_overdue end.tracker end.moment ≡ false → IsFirst (Breaks (facts_of end.tracker) end.tracker.settings (record { time = end.moment; event = Down })) all_rules broken → is_some broken ≡ is_t7_overdue end.tracker end.moment
+  t7_told None t6 h = sym (t7_in_time h)
+  t7_told (Some rule) t6 h = sym (t7_overdue rule t6 h)
 
   -- ---- the cut
 

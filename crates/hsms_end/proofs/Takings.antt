@@ -27,7 +27,7 @@ use Rattle.hsms_end.specs.Answer.{Answered, quiet}
 use Rattle.hsms_end.specs.Act.{Act, logs}
 use Rattle.hsms_end.specs.Asked.{name_of, name_in, times, once_more}
 use Rattle.hsms_end.specs.Inside.{after_event, after_asking}
-use Rattle.hsms_end.specs.Reaction.{reaction, answers_taken, answers_discarded}
+use Rattle.hsms_end.specs.Reaction.{reaction, answers_taken, answers_discarded, rejects, warns, is_control_response}
 use Rattle.hsms_end.specs.Turn.{is_up, BreaksAsTaken, received_as, IsAnswerOf, asked_with}
 use Rattle.hsms_end.specs.Performing.{Performs, IsLawful}
 use Rattle.hsms_end.specs.Sound.{IsSound}
@@ -358,3 +358,18 @@ can_take end frame answer sound up none broken lawful =
 pub can_discard : (end : State) (frame : Frame) (answer : Option Rule) (rule : Rule) → IsSound end → is_up end.tracker.phase ≡ true → answer ≡ Some rule → BreaksAsTaken end.tracker frame answer → IsLawful end (received_as frame answer) → CanDiscard end frame rule
 can_discard end frame answer rule sound up some broken lawful =
     record { awaits = sound_awaits end sound up; lawful = subst (λ (a : Option Rule). IsLawful end (received_as frame a)) some lawful; broken = subst (λ (a : Option Rule). BreaksAsTaken end.tracker frame a) some broken }
+
+-- ---- kinds and rules that are told apart
+
+pub silent_of : (kind : Kind) → ((kind ≡ Reply) ⊎ ((kind ≡ SelectRsp) ⊎ ((kind ≡ LinktestRsp) ⊎ ((kind ≡ Reject) ⊎ ((kind ≡ OtherSType) ⊎ (kind ≡ OtherPType)))))) → is_silent kind ≡ true
+silent_of kind h = elim h [ inl e0 ↦ ap is_silent e0 | inr q0 ↦ elim q0 [ inl e1 ↦ ap is_silent e1 | inr q1 ↦ elim q1 [ inl e2 ↦ ap is_silent e2 | inr q2 ↦ elim q2 [ inl e3 ↦ ap is_silent e3 | inr q3 ↦ elim q3 [ inl e4 ↦ ap is_silent e4 | inr e5 ↦ ap is_silent e5 ] ] ] ] ]
+
+-- what an answer to nothing calls for
+pub answers_nothing : (settings : Parameters) (selected : Bool) (header : Header) (rule : Rule) (b : Bool) → rule ≡ NoTransaction → b ≡ is_control_response (kind_of header) → answers_discarded settings selected header rule ≡ (if b then rejects header 3 else [])
+answers_nothing settings selected header rule b is e =
+    ap (λ (r : Rule). answers_discarded settings selected header r) is ∙ ap (λ (b : Bool). if b then rejects header 3 else []) (sym e)
+
+-- what data for another device calls for
+pub other_device : (settings : Parameters) (selected : Bool) (header : Header) (rule : Rule) (b : Bool) → rule ≡ Session → b ≡ (is_data header && selected) → answers_discarded settings selected header rule ≡ (if b then warns settings 1 header else [])
+other_device settings selected header rule b is e =
+    ap (λ (r : Rule). answers_discarded settings selected header r) is ∙ ap (λ (b : Bool). if b then warns settings 1 header else []) (sym e)

@@ -45,10 +45,10 @@ impl Asked {
     pub fn times(&self, stream: u8, function: u8) -> u64
         ensures { result ≡ times (name_of stream function) self.now }
     {
-        match self.counts.get(&name(stream, function)) {
-            Some(times) => *times,
-            None => 0,
-        }
+        self.counts
+            .get(&name(stream, function))
+            .copied()
+            .unwrap_or(0)
     }
 
     /// It was asked about one more.

@@ -16,7 +16,6 @@ use std::marker::Model;
 /// Each call is accepted, or refused by the first fault of [`EndFault`] that it meets, which changes nothing; or memory
 /// was refused, and from then on each call but the readers answers `Spent`.
 pub struct End<D> {
-    alloc: Global,
     desk: D,
     state: State,
     spent: bool,
@@ -26,7 +25,6 @@ pub struct End<D> {
 impl<D: Drop> Drop for End<D> {
     fn drop(self) {
         let End {
-            alloc: _,
             desk,
             state,
             spent: _,
@@ -79,9 +77,9 @@ impl<D: TurnDesk> End<D> {
         ensures { result ≡ record { desk = desk; known = untold_since settings first_system moment } }
     {
         End {
-            alloc,
             desk,
             state: State {
+                alloc,
                 settings,
                 tracker: Tracker::new(alloc, settings),
                 framer: Framer::new(alloc, settings.max()),
@@ -167,10 +165,9 @@ impl<D: TurnDesk> End<D> {
             return Err(EndFault::NotUp);
         }
         self.spent = true;
-        let alloc = self.alloc;
-        let mut entries = Vec::new(alloc);
+        let mut entries = Vec::new(self.state.alloc);
         let moment = self.state.moment.max(now);
-        self.state.start(alloc, &mut entries, moment)?;
+        self.state.start(&mut entries, moment)?;
         self.spent = false;
         Ok(entries)
     }
@@ -190,9 +187,8 @@ impl<D: TurnDesk> End<D> {
     {
         self.state.ready(self.spent)?;
         self.spent = true;
-        let alloc = self.alloc;
-        let mut entries = Vec::new(alloc);
-        self.state.tick(alloc, &mut entries, now)?;
+        let mut entries = Vec::new(self.state.alloc);
+        self.state.tick(&mut entries, now)?;
         self.spent = false;
         Ok(entries)
     }
@@ -213,12 +209,11 @@ impl<D: TurnDesk> End<D> {
             return Err(fault);
         }
         self.spent = true;
-        let alloc = self.alloc;
-        let Some(text) = self.state.fitting_text(alloc, message.item())? else {
+        let Some(text) = self.state.fitting_text(message.item())? else {
             self.spent = false;
             return Err(EndFault::TooLong);
         };
-        let mut entries = Vec::new(alloc);
+        let mut entries = Vec::new(self.state.alloc);
         self.state.send(&mut entries, message, text)?;
         self.spent = false;
         Ok(entries)
@@ -237,7 +232,7 @@ impl<D: TurnDesk> End<D> {
     {
         self.state.ready(self.spent)?;
         self.spent = true;
-        let mut entries = Vec::new(self.alloc);
+        let mut entries = Vec::new(self.state.alloc);
         self.state.lose(&mut entries)?;
         self.spent = false;
         Ok(entries)
@@ -256,9 +251,8 @@ impl<D: TurnDesk> End<D> {
     {
         self.state.ready(self.spent)?;
         self.spent = true;
-        let alloc = self.alloc;
-        let mut entries = Vec::new(alloc);
-        self.state.separate(alloc, &mut entries)?;
+        let mut entries = Vec::new(self.state.alloc);
+        self.state.separate(&mut entries)?;
         self.spent = false;
         Ok(entries)
     }
@@ -279,9 +273,8 @@ impl<D: TurnDesk> End<D> {
             return Err(EndFault::Full);
         }
         self.spent = true;
-        let alloc = self.alloc;
-        let mut entries = Vec::new(alloc);
-        self.state.test_link(alloc, &mut entries)?;
+        let mut entries = Vec::new(self.state.alloc);
+        self.state.test_link(&mut entries)?;
         self.spent = false;
         Ok(entries)
     }
@@ -301,9 +294,8 @@ impl<D: TurnDesk> End<D> {
     {
         self.state.ready(self.spent)?;
         self.spent = true;
-        let alloc = self.alloc;
-        let mut entries = Vec::new(alloc);
-        self.state.hear(alloc, &self.desk, &mut entries, octets)?;
+        let mut entries = Vec::new(self.state.alloc);
+        self.state.hear(&self.desk, &mut entries, octets)?;
         self.spent = false;
         Ok(entries)
     }

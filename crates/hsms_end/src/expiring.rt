@@ -11,20 +11,16 @@ ghost use Rattle.hsms_end.specs.Inside.{known, at_later};
 use crate::state::State;
 use hsms_frame::Header;
 use hsms_machine::{Cause, Entry, Event};
-use std::alloc::{AllocError, Global};
+use std::alloc::AllocError;
 
 impl State {
     /// Logs the expiry of each own primary that is overdue, in order of opening. Gives their headers.
-    pub fn expire_data(
-        &mut self,
-        alloc: Global,
-        entries: &mut Vec<Entry>,
-    ) -> Result<Vec<Header>, AllocError>
+    pub fn expire_data(&mut self, entries: &mut Vec<Entry>) -> Result<Vec<Header>, AllocError>
         requires { IsLate self.old }
         ensures expired { IfOk result (λ headers. HasExpired self.old entries.old.items self.new entries.new.items headers.items) }
         ensures in_time { OnOk result (is_data_overdue self.new ≡ false) }
     {
-        let mut expired = Vec::new(alloc);
+        let mut expired = Vec::new(self.alloc);
         'oldest: while let Some(header) = self.overdue_data() {
             expired.push(header)?;
             self.log(entries, Event::T3(header.system))?;
@@ -60,14 +56,8 @@ impl State {
         requires { IsLate self.now }
         ensures { result ≡ is_t6_overdue self.now.tracker self.now.moment }
     {
-        match overdue(
-            self.tracker.oldest_control(),
-            self.moment,
-            self.settings.t6(),
-        ) {
-            Some(_) => true,
-            None => false,
-        }
+        let oldest = self.tracker.oldest_control();
+        overdue(oldest, self.moment, self.settings.t6()).is_some()
     }
 
     /// Whether T7 is overdue. Nothing else is, so it is exactly where the tracker wouldn't take a `down` without a cut.
@@ -81,10 +71,7 @@ impl State {
             time: self.moment,
             event: Event::Down,
         };
-        match self.tracker.check(&down) {
-            Some(_) => true,
-            None => false,
-        }
+        self.tracker.check(&down).is_some()
     }
 
     fn is_t8_overdue(&self) -> bool
@@ -109,12 +96,7 @@ impl State {
 
     /// The end's moment becomes this one, unless it is later already, and what is overdue is logged: own primaries, then a
     /// cut, or where there is none the warnings of equipment.
-    pub fn tick(
-        &mut self,
-        alloc: Global,
-        entries: &mut Vec<Entry>,
-        now: u64,
-    ) -> Result<(), AllocError>
+    pub fn tick(&mut self, entries: &mut Vec<Entry>, now: u64) -> Result<(), AllocError>
         requires sound { IsSound self.old }
         requires up { is_connection_up self.old.tracker.phase ≡ true }
         ensures does { OnOk result (Performs (at_later self.old now) entries.old.items (expiries (known (at_later self.old now))) self.new entries.new.items) }
@@ -122,17 +104,16 @@ impl State {
     {
         self.tracker.keeps_order();
         self.moment = self.moment.max(now);
-        let expired = self.expire_data(alloc, entries)?;
+        let expired = self.expire_data(entries)?;
         match self.overdue_cause() {
             Some(cause) => self.cut_overdue(entries, cause),
-            None => self.warn_expired(alloc, entries, &expired),
+            None => self.warn_expired(entries, &expired),
         }
     }
 
     /// Tells of each primary that expired, if the end is equipment.
     fn warn_expired(
         &mut self,
-        alloc: Global,
         entries: &mut Vec<Entry>,
         expired: &[Header],
     ) -> Result<(), AllocError>
@@ -142,7 +123,7 @@ impl State {
         ensures sound { OnOk result (IsSound self.new) }
     {
         for header in expired {
-            self.warn(alloc, entries, 9, *header)?;
+            self.warn(entries, 9, *header)?;
         }
         Ok(())
     }
@@ -153,9 +134,5 @@ fn overdue(oldest: Option<(u64, Header)>, moment: u64, limit: u32) -> Option<Hea
     ensures { result ≡ overdue_of limit moment oldest }
 {
     let (time, header) = oldest?;
-    if u64::from(limit) < moment.saturating_sub(time) {
-        Some(header)
-    } else {
-        None
-    }
+    (u64::from(limit) < moment.saturating_sub(time)).then_some(header)
 }

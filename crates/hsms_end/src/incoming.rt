@@ -1,7 +1,6 @@
 //! Octets from the peer.
 
 ghost use Rattle.std.specs.Prelude.{◌≡◌, OnOk};
-ghost use Rattle.hsms_end.specs.Turn.{heard_at as heard_after};
 ghost use Rattle.hsms_end.specs.Inside.{after_octets};
 ghost use Rattle.hsms_end.specs.Sound.{IsSound};
 ghost use Rattle.hsms_end.specs.Receiving.{HasReceivedAll};
@@ -9,29 +8,18 @@ ghost use Rattle.hsms_end.specs.Receiving.{HasReceivedAll};
 use crate::answer::TurnDesk;
 use crate::state::State;
 use hsms_machine::Entry;
-use std::alloc::{AllocError, Global};
+use std::alloc::AllocError;
 
 impl State {
-    /// The moment at which an octet came last, with these octets.
-    fn heard_at(&self, octets: &[u8]) -> u64
-        ensures { result ≡ heard_after octets.now self.now.moment self.now.heard }
-    {
-        match octets {
-            [] => self.heard,
-            [_, ..] => self.moment,
-        }
-    }
-
     /// Adds octets to the pending ones.
     fn take_in(&mut self, octets: &[u8]) -> Result<(), AllocError>
         ensures { OnOk result (self.new ≡ after_octets self.old octets.now) }
     {
-        let heard = self.heard_at(octets);
+        if !octets.is_empty() {
+            self.heard = self.moment;
+        }
         match self.framer.push(octets) {
-            Ok(()) => {
-                self.heard = heard;
-                Ok(())
-            }
+            Ok(()) => Ok(()),
             Err(_) => Err(AllocError),
         }
     }
@@ -39,7 +27,6 @@ impl State {
     /// Octets came: they are added to the pending ones, and the messages at their front are received.
     pub fn hear<D: TurnDesk>(
         &mut self,
-        alloc: Global,
         desk: &D,
         entries: &mut Vec<Entry>,
         octets: &[u8],
@@ -49,7 +36,7 @@ impl State {
         ensures sound { OnOk result (IsSound self.new) }
     {
         self.take_in(octets)?;
-        self.receive_all(alloc, desk, entries)?;
+        self.receive_all(desk, entries)?;
         Ok(())
     }
 }

@@ -43,18 +43,12 @@ impl State {
     }
 
     /// The message of stream 9 that tells of the header at fault.
-    fn warning_frame(
-        &self,
-        alloc: Global,
-        function: u8,
-        header: Header,
-        number: u32,
-    ) -> Result<Frame, AllocError>
+    fn warning_frame(&self, function: u8, header: Header, number: u32) -> Result<Frame, AllocError>
         ensures exact { IfOk result (λ frame. frame ≡ warning self.now.settings function header number) }
         ensures octets { IfOk result (λ frame. AllByRecursion (λ n. n < 256) (header_octets header)) }
     {
         let octets = header.octets();
-        let text = header_item(alloc, octets.as_slice())?;
+        let text = header_item(self.alloc, octets.as_slice())?;
         Ok(Frame {
             header: data_header(self.settings.device(), 9, function, false, number),
             text,
@@ -64,7 +58,6 @@ impl State {
     /// Tells of an error by stream 9, if the end is equipment.
     pub fn warn(
         &mut self,
-        alloc: Global,
         entries: &mut Vec<Entry>,
         function: u8,
         header: Header,
@@ -79,7 +72,7 @@ impl State {
         match self.settings.role() {
             Role::Equipment => {
                 let number = self.free_number();
-                let frame = self.warning_frame(alloc, function, header, number)?;
+                let frame = self.warning_frame(function, header, number)?;
                 self.send_numbered(entries, frame, number)?;
                 Ok(())
             }
@@ -90,7 +83,6 @@ impl State {
     /// Refuses a message by a Reject.
     pub fn reject(
         &mut self,
-        alloc: Global,
         entries: &mut Vec<Entry>,
         header: Header,
         reason: u8,
@@ -100,14 +92,16 @@ impl State {
         ensures awaits { OnOk result (PeerAwaits self.new [] []) }
         ensures same { OnOk result (IsSame self.old self.new) }
     {
-        self.log(entries, Event::Sent(bare(alloc, reject_of(header, reason))))?;
+        self.log(
+            entries,
+            Event::Sent(bare(self.alloc, reject_of(header, reason))),
+        )?;
         Ok(())
     }
 
     /// Answers a Select.req that was taken.
     pub fn answer_select(
         &mut self,
-        alloc: Global,
         entries: &mut Vec<Entry>,
         header: Header,
         selected: bool,
@@ -120,7 +114,7 @@ impl State {
         let status = if selected { 1 } else { 0 };
         self.log(
             entries,
-            Event::Sent(bare(alloc, select_rsp(header, status))),
+            Event::Sent(bare(self.alloc, select_rsp(header, status))),
         )?;
         Ok(())
     }
@@ -128,7 +122,6 @@ impl State {
     /// Answers a Linktest.req that was taken.
     pub fn answer_linktest(
         &mut self,
-        alloc: Global,
         entries: &mut Vec<Entry>,
         header: Header,
     ) -> Result<(), AllocError>
@@ -137,62 +130,39 @@ impl State {
         ensures awaits { OnOk result (PeerAwaits self.new [] []) }
         ensures framer { OnOk result (self.new.framer ≡ self.old.framer) }
     {
-        self.log(entries, Event::Sent(bare(alloc, linktest_rsp(header))))?;
+        self.log(entries, Event::Sent(bare(self.alloc, linktest_rsp(header))))?;
         Ok(())
     }
 
     /// SxF0, which aborts a primary.
-    fn abort_frame(&self, alloc: Global, header: Header) -> Frame
+    fn abort_frame(&self, header: Header) -> Frame
         ensures { result ≡ abort_of self.now.settings header }
     {
-        bare(
-            alloc,
-            data_header(
-                self.settings.device(),
-                header.stream(),
-                0,
-                false,
-                header.system,
-            ),
-        )
+        let device = self.settings.device();
+        let header = data_header(device, header.stream(), 0, false, header.system);
+        bare(self.alloc, header)
     }
 
     /// The reply to a primary with an item, or SxF0 where there is none.
-    fn reply_frame(
-        &self,
-        alloc: Global,
-        header: Header,
-        item: Option<Item>,
-    ) -> Result<Frame, AllocError>
+    fn reply_frame(&self, header: Header, item: Option<Item>) -> Result<Frame, AllocError>
         requires { IsWithinLimits self.now.settings }
         ensures exact { IfOk result (λ frame. frame ≡ reply_of self.now.settings header (option_map view item)) }
         ensures shape { IfOk result (λ frame. IsReplyTo self.now.settings header frame) }
     {
         if header.byte3 == 255 {
-            return Ok(self.abort_frame(alloc, header));
+            return Ok(self.abort_frame(header));
         }
-        match self.fitting_text(alloc, item.as_ref())? {
-            Some(text) => Ok(Frame {
-                header: data_header(
-                    self.settings.device(),
-                    header.stream(),
-                    header.byte3 + 1,
-                    false,
-                    header.system,
-                ),
-                text,
-            }),
-            None => Ok(self.abort_frame(alloc, header)),
-        }
+        let Some(text) = self.fitting_text(item.as_ref())? else {
+            return Ok(self.abort_frame(header));
+        };
+        let device = self.settings.device();
+        let function = header.byte3 + 1;
+        let header = data_header(device, header.stream(), function, false, header.system);
+        Ok(Frame { header, text })
     }
 
     /// Aborts a primary, if it asks for a reply.
-    fn abort(
-        &mut self,
-        alloc: Global,
-        entries: &mut Vec<Entry>,
-        header: Header,
-    ) -> Result<(), AllocError>
+    fn abort(&mut self, entries: &mut Vec<Entry>, header: Header) -> Result<(), AllocError>
         requires { IsAsked self.old header }
         ensures does { OnOk result (Performs self.old entries.old.items (aborts self.old.settings header) self.new entries.new.items) }
         ensures awaits { OnOk result (PeerAwaits self.new [] []) }
@@ -201,7 +171,7 @@ impl State {
         if !header.wait() {
             return Ok(());
         }
-        let frame = self.abort_frame(alloc, header);
+        let frame = self.abort_frame(header);
         self.log(entries, Event::Sent(frame))?;
         Ok(())
     }
@@ -209,7 +179,6 @@ impl State {
     /// Sends the reply to a primary, if it asks for one.
     fn reply(
         &mut self,
-        alloc: Global,
         entries: &mut Vec<Entry>,
         header: Header,
         item: Option<Item>,
@@ -222,7 +191,7 @@ impl State {
         if !header.wait() {
             return Ok(());
         }
-        let frame = self.reply_frame(alloc, header, item)?;
+        let frame = self.reply_frame(header, item)?;
         self.log(entries, Event::Sent(frame))?;
         Ok(())
     }
@@ -230,7 +199,6 @@ impl State {
     /// Tells of an error of a primary, if the end is equipment, and aborts it.
     fn warn_and_abort(
         &mut self,
-        alloc: Global,
         entries: &mut Vec<Entry>,
         function: u8,
         header: Header,
@@ -241,15 +209,14 @@ impl State {
         ensures awaits { OnOk result (PeerAwaits self.new [] []) }
         ensures framer { OnOk result (self.new.framer ≡ self.old.framer) }
     {
-        self.warn(alloc, entries, function, header)?;
-        self.abort(alloc, entries, header)?;
+        self.warn(entries, function, header)?;
+        self.abort(entries, header)?;
         Ok(())
     }
 
     /// Sends what the desk's answer to a taken primary asks for.
     pub fn answer_primary(
         &mut self,
-        alloc: Global,
         entries: &mut Vec<Entry>,
         header: Header,
         answer: Answer,
@@ -260,11 +227,11 @@ impl State {
         ensures framer { OnOk result (self.new.framer ≡ self.old.framer) }
     {
         match answer {
-            Answer::Reply(item) => self.reply(alloc, entries, header, item)?,
-            Answer::Quiet => self.abort(alloc, entries, header)?,
-            Answer::NoStream => self.warn_and_abort(alloc, entries, 3, header)?,
-            Answer::NoFunction => self.warn_and_abort(alloc, entries, 5, header)?,
-            Answer::Illegal => self.warn_and_abort(alloc, entries, 7, header)?,
+            Answer::Reply(item) => self.reply(entries, header, item)?,
+            Answer::Quiet => self.abort(entries, header)?,
+            Answer::NoStream => self.warn_and_abort(entries, 3, header)?,
+            Answer::NoFunction => self.warn_and_abort(entries, 5, header)?,
+            Answer::Illegal => self.warn_and_abort(entries, 7, header)?,
         }
         Ok(())
     }

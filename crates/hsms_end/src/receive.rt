@@ -14,13 +14,12 @@ use crate::answer::TurnDesk;
 use crate::state::State;
 use hsms_frame::{Frame, FrameFault, Header};
 use hsms_machine::{Cause, Entry, EntryRef, Event, Mark, Rule};
-use std::alloc::{AllocError, Global};
+use std::alloc::AllocError;
 
 impl State {
     /// Receives the messages at the front of the pending octets, one after the other, while the connection is up.
     pub fn receive_all<D: TurnDesk>(
         &mut self,
-        alloc: Global,
         desk: &D,
         entries: &mut Vec<Entry>,
     ) -> Result<(), AllocError>
@@ -30,11 +29,11 @@ impl State {
     {
         'messages: while self.is_up() {
             match self.next_message() {
-                Ok(Some(frame)) => self.handle(alloc, desk, entries, frame)?,
+                Ok(Some(frame)) => self.handle(desk, entries, frame)?,
                 Ok(None) => return Ok(()),
                 Err(FrameFault::TooShort { .. }) => return self.cut(entries),
                 Err(FrameFault::TooLong { header, .. }) => {
-                    return self.cut_too_long(alloc, entries, header);
+                    return self.cut_too_long(entries, header);
                 }
                 Err(FrameFault::Memory) => return Err(AllocError),
             }
@@ -63,7 +62,6 @@ impl State {
     /// Logs a message that was taken off the front as taken or discarded, and reacts to it.
     fn handle<D: TurnDesk>(
         &mut self,
-        alloc: Global,
         desk: &D,
         entries: &mut Vec<Entry>,
         frame: Frame,
@@ -75,8 +73,8 @@ impl State {
         ensures octets { OnOk result (self.new.framer ≡ self.old.framer) }
     {
         match self.judge(&frame) {
-            None => self.take(alloc, desk, entries, frame)?,
-            Some(rule) => self.discard(alloc, entries, frame, rule)?,
+            None => self.take(desk, entries, frame)?,
+            Some(rule) => self.discard(entries, frame, rule)?,
         }
         Ok(())
     }
@@ -94,19 +92,14 @@ impl State {
     }
 
     /// Cuts the connection, since a message is too long. Equipment may tell of it before.
-    fn cut_too_long(
-        &mut self,
-        alloc: Global,
-        entries: &mut Vec<Entry>,
-        header: Header,
-    ) -> Result<(), AllocError>
+    fn cut_too_long(&mut self, entries: &mut Vec<Entry>, header: Header) -> Result<(), AllocError>
         requires sound { IsSound self.old }
         requires up { is_connection_up self.old.tracker.phase ≡ true }
         ensures does { OnOk result (Performs self.old entries.old.items (warns_too_long (known self.old) header ++ cut_by Length) self.new entries.new.items) }
         ensures sound { OnOk result (IsSound self.new) }
     {
         if self.is_warned(header) {
-            self.warn(alloc, entries, 11, header)?;
+            self.warn(entries, 11, header)?;
             self.cut(entries)?;
             return Ok(());
         }

@@ -48,11 +48,7 @@ impl State {
     }
 
     /// The text of an item, where it is within the depth and the greatest size of a frame.
-    pub fn fitting_text(
-        &self,
-        alloc: Global,
-        item: Option<&Item>,
-    ) -> Result<Option<Vec<u8>>, AllocError>
+    pub fn fitting_text(&self, item: Option<&Item>) -> Result<Option<Vec<u8>>, AllocError>
         ensures value { IfOk result (λ text. option_map (λ octets. octets.items) text ≡ fitting_text_of self.now.settings (option_map (λ i. view i.now) item.entry)) }
         ensures spelled { IfOk result (λ text. IfSome text (λ octets. IsText self.now.settings.depth octets.items)) }
         ensures fits { IfOk result (λ text. IfSome text (λ octets. 10 + length octets.items ≤ self.now.settings.max)) }
@@ -60,7 +56,7 @@ impl State {
         if !self.is_within_depth(item) {
             return Ok(None);
         }
-        match text_of(alloc, item)? {
+        match text_of(self.alloc, item)? {
             Some(text) => {
                 if text.len() <= self.settings.max() as usize - HEADER_LENGTH {
                     Ok(Some(text))

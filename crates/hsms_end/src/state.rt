@@ -12,6 +12,8 @@ use std::alloc::{AllocError, Global};
 /// The state of an end, without its desk.
 #[derive(Drop)]
 pub struct State {
+    /// What it takes memory from.
+    pub alloc: Global,
     /// The settings of its session.
     pub settings: Settings,
     /// What its log shows.
@@ -105,12 +107,7 @@ impl State {
     }
 
     /// Logs that the connection came up. An active end then asks for a session.
-    pub fn start(
-        &mut self,
-        alloc: Global,
-        entries: &mut Vec<Entry>,
-        now: u64,
-    ) -> Result<(), AllocError>
+    pub fn start(&mut self, entries: &mut Vec<Entry>, now: u64) -> Result<(), AllocError>
         requires sound { IsSound self.old }
         requires before { is_before self.old.tracker.phase ≡ true }
         ensures does { OnOk result (Performs (record self.old { moment = now }) entries.old.items (opening_of self.old.settings.link) self.new entries.new.items) }
@@ -121,7 +118,7 @@ impl State {
         match self.settings.link() {
             Side::Active => {
                 let number = self.free_number();
-                self.send_numbered(entries, bare(alloc, select_req(number)), number)?;
+                self.send_numbered(entries, bare(self.alloc, select_req(number)), number)?;
                 Ok(())
             }
             Side::Passive => Ok(()),
@@ -129,7 +126,7 @@ impl State {
     }
 
     /// Asks whether the other end is still there.
-    pub fn test_link(&mut self, alloc: Global, entries: &mut Vec<Entry>) -> Result<(), AllocError>
+    pub fn test_link(&mut self, entries: &mut Vec<Entry>) -> Result<(), AllocError>
         requires sound { IsSound self.old }
         requires up { is_connection_up self.old.tracker.phase ≡ true }
         requires room { own_open_of self.old.tracker < 64 }
@@ -137,19 +134,19 @@ impl State {
         ensures sound { OnOk result (IsSound self.new) }
     {
         let number = self.free_number();
-        self.send_numbered(entries, bare(alloc, linktest_req(number)), number)?;
+        self.send_numbered(entries, bare(self.alloc, linktest_req(number)), number)?;
         Ok(())
     }
 
     /// Ends the session and the connection.
-    pub fn separate(&mut self, alloc: Global, entries: &mut Vec<Entry>) -> Result<(), AllocError>
+    pub fn separate(&mut self, entries: &mut Vec<Entry>) -> Result<(), AllocError>
         requires sound { IsSound self.old }
         requires up { is_connection_up self.old.tracker.phase ≡ true }
         ensures does { OnOk result (Performs self.old entries.old.items (asks separate_req_of ∷ logs Down ∷ []) self.new entries.new.items) }
         ensures sound { OnOk result (IsSound self.new) }
     {
         let number = self.free_number();
-        self.send_numbered(entries, bare(alloc, separate_req(number)), number)?;
+        self.send_numbered(entries, bare(self.alloc, separate_req(number)), number)?;
         self.log(entries, Event::Down)?;
         Ok(())
     }
