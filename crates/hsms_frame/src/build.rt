@@ -3,10 +3,10 @@
 ghost use Rattle.std.specs.Prelude.{◌≡◌, ◌<◌};
 ghost use Rattle.hsms_frame.specs.Build.{data_header_of, control_header_of, reject_header_of};
 
-use crate::header::{CONTROL_SESSION, Header};
-use crate::stypes::{
+use crate::classify::{
     DATA, LINKTEST_REQ, LINKTEST_RSP, REJECT_REQ, SELECT_REQ, SELECT_RSP, SEPARATE_REQ,
 };
+use crate::header::{CONTROL_SESSION, Header};
 
 /// The header of a data message. The stream is below 128.
 pub fn data_header(device: u16, stream: u8, function: u8, wait: bool, system: u32) -> Header

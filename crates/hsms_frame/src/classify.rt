@@ -1,13 +1,24 @@
-//! What a message is for, by its header (SEMI E37, section 8.2.6).
+//! The session types of messages, and what a message is for, by its header (SEMI E37, section 8.2.6).
 
 ghost use Rattle.std.specs.Prelude.{◌≡◌};
 ghost use Rattle.hsms_frame.specs.Header.{kind_of};
 
 use crate::header::Header;
 use crate::kinds::Kind;
-use crate::stypes::{
-    DATA, LINKTEST_REQ, LINKTEST_RSP, REJECT_REQ, SELECT_REQ, SELECT_RSP, SEPARATE_REQ,
-};
+
+pub const DATA: u8 = 0;
+
+pub const SELECT_REQ: u8 = 1;
+
+pub const SELECT_RSP: u8 = 2;
+
+pub const LINKTEST_REQ: u8 = 5;
+
+pub const LINKTEST_RSP: u8 = 6;
+
+pub const REJECT_REQ: u8 = 7;
+
+pub const SEPARATE_REQ: u8 = 9;
 
 /// The kind of the message with this header: by its PType, then by its SType, and of data by its function.
 pub fn kind(header: Header) -> Kind

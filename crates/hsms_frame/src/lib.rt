@@ -37,7 +37,6 @@ mod leading;
 mod memory;
 mod read;
 mod standard;
-mod stypes;
 mod tally;
 mod transfer;
 mod write;

@@ -58,7 +58,7 @@ impl Feed {
             place: 0,
             piece,
             fuse,
-            tally: Tally::new(),
+            tally: Tally::default(),
         }
     }
 
@@ -140,7 +140,7 @@ impl Store {
             place: 0,
             piece,
             fuse,
-            tally: Tally::new(),
+            tally: Tally::default(),
         }
     }
 

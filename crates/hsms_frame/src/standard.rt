@@ -22,7 +22,7 @@ impl<R: Read> Reader<R> {
     {
         Reader {
             inner,
-            tally: Tally::new(),
+            tally: Tally::default(),
         }
     }
 }
@@ -65,7 +65,7 @@ impl<W: Write> Writer<W> {
     {
         Writer {
             inner,
-            tally: Tally::new(),
+            tally: Tally::default(),
         }
     }
 

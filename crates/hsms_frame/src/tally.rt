@@ -6,7 +6,7 @@ ghost use Rattle.hsms_frame.specs.Count.{next_count};
 use crate::device::Failed;
 
 /// How often a device was called, was called with an empty slice, found its end, and failed.
-#[derive(Clone, Copy)]
+#[derive(Clone, Copy, Default)]
 pub struct Tally {
     pub calls: u64,
     pub empty: u64,
@@ -15,17 +15,6 @@ pub struct Tally {
 }
 
 impl Tally {
-    pub fn new() -> Tally
-        ensures { result ≡ record { calls = 0; empty = 0; ends = 0; failures = 0 } }
-    {
-        Tally {
-            calls: 0,
-            empty: 0,
-            ends: 0,
-            failures: 0,
-        }
-    }
-
     /// Counts a call.
     pub fn count(&mut self, is_empty: bool)
         ensures calls { self.new.calls ≡ next_count self.old.calls }

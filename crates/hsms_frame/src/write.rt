@@ -13,9 +13,6 @@ use crate::header::Header;
 use crate::transfer::give_all;
 use std::alloc::Global;
 
-// The greatest length that four octets hold.
-const LONGEST: u64 = 0xffff_ffff;
-
 /// The octets of a message.
 ///
 /// # Errors
@@ -28,7 +25,7 @@ pub fn encode_frame(alloc: Global, frame: &Frame) -> Result<Vec<u8>, FrameFault>
 {
     let header = frame.header;
     let length = frame.length();
-    if length > LONGEST {
+    if length > u64::from(u32::MAX) {
         return Err(FrameFault::TooLong { length, header });
     }
     let mut octets = Vec::from_slice(alloc, &front_octets(length as u32, header))?;
@@ -48,7 +45,7 @@ pub fn write_frame<W: Sink>(sink: &mut W, frame: &Frame) -> Result<(), WriteFaul
 {
     let header = frame.header;
     let length = frame.length();
-    if length > LONGEST {
+    if length > u64::from(u32::MAX) {
         return Err(WriteFault::TooLong { length, header });
     }
     give_all(sink, &front_octets(length as u32, header))?;

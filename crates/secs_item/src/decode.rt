@@ -82,23 +82,17 @@ fn build_item(
     requires measured { IsOk (item_at depth (drop place octets.now)) }
     ensures { IfOk result (λ x. EndsAt place (item_at depth (drop place octets.now)) (view x.0) x.1) }
 {
-    let Ok(header) = read_header(octets, place, depth) else {
+    let Ok(head) = read_header(octets, place, depth) else {
         unreachable!()
     };
-    match header.format {
+    match head.format {
         Format::List => {
-            let (elements, end) = build_elements(
-                alloc,
-                octets,
-                header.body,
-                header.length,
-                depth - 1,
-            )?;
+            let (elements, end) = build_elements(alloc, octets, head.body, head.length, depth - 1)?;
             Ok((Item::List(elements), end))
         }
         format => {
-            let end = header.body + header.length;
-            let item = item_of_values(alloc, format, &octets[header.body..end])?;
+            let end = head.body + head.length;
+            let item = item_of_values(alloc, format, &octets[head.body..end])?;
             Ok((item, end))
         }
     }

@@ -30,13 +30,13 @@ build_item-unreachable-requires t c =
 
 pub build_item-build_elements-requires : goal.build_item-build_elements-requires
 build_item-build_elements-requires t c =
-    let h = c.in-Ok.header in
+    let h = c.in-Ok.head in
     let lists : is_list h.format ≡ true = rw c.in-List.is refl in
     (search rules, (c.in-Ok.ensures.header, elements_measured c.args.place c.args.depth c.args.octets.now h c.in-Ok.ensures.read lists (c.in-Ok.ensures.list lists) c.requires.measured))
 
 pub build_item-item_of_values-requires-clause-whole : goal.build_item-item_of_values-requires-clause-whole
 build_item-item_of_values-requires-clause-whole t c =
-    let h = c.in-Ok.header in
+    let h = c.in-Ok.head in
     let octets = c.args.octets.now in
     let lists : is_list h.format ≡ false = search rules in
     let len : length (take ((h.body + h.length) - h.body) (drop h.body octets)) ≡ h.length = omega (arith, length-take ((h.body + h.length) - h.body) (drop h.body octets), length-drop h.body octets, c.in-Ok.ensures.values lists) in
@@ -44,13 +44,13 @@ build_item-item_of_values-requires-clause-whole t c =
 
 pub build_item-returns-in_ok-elements-in-List : goal.build_item-returns-in_ok-elements-in-List
 build_item-returns-in_ok-elements-in-List t c =
-    let h = c.in-Ok.header in
+    let h = c.in-Ok.head in
     let lists : is_list h.format ≡ true = rw c.in-List.is refl in
     rw (view-List c.in_ok-elements-in-List.elements) (list_is c.args.place c.args.depth c.args.octets.now h (views c.in_ok-elements-in-List.elements.items) c.in_ok-elements-in-List.end c.in-Ok.ensures.read lists (c.in-Ok.ensures.list lists) c.in_ok-elements-in-List.ensures)
 
 pub build_item-returns-in_ok-item-in_default-format : goal.build_item-returns-in_ok-item-in_default-format
 build_item-returns-in_ok-item-in_default-format t c =
-    let h = c.in-Ok.header in
+    let h = c.in-Ok.head in
     let lists : is_list h.format ≡ false = search rules in
     let len : (h.body + h.length) - h.body ≡ h.length = omega arith in
     let item : view c.in_ok-item-in_default-format.item ≡ values (values_of h.format (take h.length (drop h.body c.args.octets.now))) = c.in_ok-item-in_default-format.ensures ∙ ap (λ (n : ℕ). values (values_of h.format (take n (drop h.body c.args.octets.now)))) len in
