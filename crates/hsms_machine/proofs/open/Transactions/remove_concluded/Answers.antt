@@ -1,4 +1,4 @@
-use Rattle.std.proofs.Common.{◌≡◌, ◌≤◌, ◌∙◌, ◌++◌, [], not, true, false, length, filter, option_to_list, ap, sym, subst, arith, rules}
+use Rattle.std.proofs.Common.{◌≡◌, ◌≤◌, ◌∙◌, ◌++◌, [], not, true, false, length, filter, option_to_list, ap, sym, subst, arith}
 use Rattle.hsms_machine.specs.Ordered.{uses}
 use Rattle.hsms_machine.specs.Transaction.{concludes}
 use Rattle.hsms_machine.proofs.Mapped.{concludes_only}
@@ -10,15 +10,13 @@ invariant_of-self c =
     let oldest = c.self.inside.oldest in
     let queue = c.self.inside.queue in
     let used : uses c.args.other.system (option_to_list oldest) ≡ true = rw c.header.ensures at (sym c.has_system.ensures ∙ c.if-has_system.true) in
-    let left : option_to_list c.filter-self-inside.result ≡ filter (λ x. not (concludes x.header c.args.other)) (option_to_list oldest) = search rules in
-    listed-filter (λ x. not (concludes x.header c.args.other)) oldest c.filter-self-inside.result queue queue c.self.invariant (filter_oldest (λ x. concludes x.header c.args.other) c.args.other.system (concludes_only c.args.other) oldest c.filter-self-inside.result queue c.self.invariant.apart used left) (omega arith)
+    listed-filter (λ x. not (concludes x.header c.args.other)) oldest c.unconcluded-self-inside.result queue queue c.self.invariant (filter_oldest (λ x. concludes x.header c.args.other) c.args.other.system (concludes_only c.args.other) oldest c.unconcluded-self-inside.result queue c.self.invariant.apart used c.unconcluded-self-inside.ensures) (omega arith)
 
 pub returns-then-has_system : goal.returns-then-has_system
 returns-then-has_system c =
     let oldest = c.self.inside.oldest in
     let used : uses c.args.other.system (option_to_list oldest) ≡ true = rw c.header.ensures at (sym c.has_system.ensures ∙ c.if-has_system.true) in
-    let left : option_to_list c.filter-self-inside.result ≡ filter (λ x. not (concludes x.header c.args.other)) (option_to_list oldest) = search rules in
-    filter_oldest (λ x. concludes x.header c.args.other) c.args.other.system (concludes_only c.args.other) oldest c.filter-self-inside.result c.self.inside.queue c.self.invariant.apart used left
+    filter_oldest (λ x. concludes x.header c.args.other) c.args.other.system (concludes_only c.args.other) oldest c.unconcluded-self-inside.result c.self.inside.queue c.self.invariant.apart used c.unconcluded-self-inside.ensures
     ∙ ap (filter (λ x. not (concludes x.header c.args.other))) c.self.view_is
 
 pub invariant_of-self-then-len-gt0 : goal.invariant_of-self-then-len-gt0
