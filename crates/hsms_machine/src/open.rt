@@ -261,7 +261,7 @@ impl Transactions {
     {
         if Self::has_system(self.oldest, other.header().system) {
             self.oldest = Self::unconcluded(self.oldest, other);
-        } else if self.queue.len() > 0 {
+        } else if !self.queue.is_empty() {
             self.queue.remove_concluded(other);
         }
     }
