@@ -149,7 +149,27 @@ impl Transactions {
     fn has_system(oldest: Option<Transaction>, system: u32) -> bool
         ensures { result ≡ uses system (option_to_list oldest) }
     {
-        oldest.is_some_and(|opened| opened.header.system == system)
+        match oldest {
+            Some(opened) => opened.header.system == system,
+            None => false,
+        }
+    }
+
+    /// What is left of it after the message.
+    #[inline(always)]
+    fn unconcluded(oldest: Option<Transaction>, other: Message) -> Option<Transaction>
+        ensures { option_to_list result ≡ filter (λ opened. not (is_conclusion opened.header other)) (option_to_list oldest) }
+    {
+        match oldest {
+            Some(opened) => {
+                if concludes(opened.header, other) {
+                    None
+                } else {
+                    Some(opened)
+                }
+            }
+            None => None,
+        }
     }
 
     /// Whether some transaction has waited for longer than the limit.
@@ -240,10 +260,8 @@ impl Transactions {
         ensures { self.new ≡ filter (λ opened. not (is_conclusion opened.header other)) self.old }
     {
         if Self::has_system(self.oldest, other.header().system) {
-            self.oldest = self
-                .oldest
-                .filter(|opened| !concludes(opened.header, other));
-        } else if self.queue.len() > 0 {
+            self.oldest = Self::unconcluded(self.oldest, other);
+        } else if !self.queue.is_empty() {
             self.queue.remove_concluded(other);
         }
     }

@@ -64,6 +64,14 @@ impl Queue {
         self.items.len() - self.closed
     }
 
+    /// Whether none is open.
+    #[inline(always)]
+    pub fn is_empty(&self) -> bool
+        ensures { result ≡ (length self.now == 0) }
+    {
+        self.len() == 0
+    }
+
     /// The transaction that was opened first.
     pub fn first(&self) -> Option<Transaction>
         ensures first { result ≡ first_of self.now }

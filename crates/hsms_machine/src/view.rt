@@ -95,15 +95,20 @@ impl View {
                 Self::close_in(&mut self.sent_data, &mut self.sent_control, *message);
             }
             Act::T3(system) => self.sent_data.remove_system(*system),
-            Act::Up => {
-                self.sent_data.clear();
-                self.sent_control.clear();
-                self.taken_data.clear();
-                self.taken_control.clear();
-            }
+            Act::Up => self.close_all(),
             _ => {}
         }
         Ok(())
+    }
+
+    /// Lets go of everything that is open.
+    fn close_all(&mut self)
+        ensures { self.new ≡ record self.old { sent_data = []; sent_control = []; taken_data = []; taken_control = [] } }
+    {
+        self.sent_data.clear();
+        self.sent_control.clear();
+        self.taken_data.clear();
+        self.taken_control.clear();
     }
 
     /// Puts the transaction that the message opens, if it opens one, at the end of its list.
@@ -121,13 +126,22 @@ impl View {
         ensures err { OnErr result ((primaries.new ≡ primaries.old) × (requests.new ≡ requests.old)) }
         ensures opens { OnErr result (IsTrue (is_request message)) }
     {
-        let header = message.header();
         if is_data_request(message) {
-            primaries.push(Transaction { time, header })
+            primaries.push(Self::opened(time, message))?;
         } else if is_control_request(message) {
-            requests.push(Transaction { time, header })
-        } else {
-            Ok(())
+            requests.push(Self::opened(time, message))?;
+        }
+        Ok(())
+    }
+
+    /// The transaction that a request opens.
+    #[inline(always)]
+    fn opened(time: u64, request: Message) -> Transaction
+        ensures { result ≡ record { time = time; header = request } }
+    {
+        Transaction {
+            time,
+            header: request.header(),
         }
     }
 
