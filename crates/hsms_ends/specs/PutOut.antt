@@ -12,8 +12,6 @@ use Rattle.hsms_log.specs.Spelling.{entry_line}
 use Rattle.hsms_ends.specs.declared.fault.LinkFault.{LinkFault}
 use Rattle.hsms_ends.specs.declared.output.Stop.{Stop}
 use Rattle.hsms_ends.specs.declared.output.Stop.TheVariants.{Link, Log, Memory}
-use Rattle.hsms_ends.specs.declared.output.Put.{Put}
-use Rattle.hsms_ends.specs.declared.output.Put.TheVariants.{Whole, NoLink, NoLog}
 use Rattle.hsms_ends.specs.Link.{Told, Heard, Hears, nothing_heard}
 
 -- header and text of a message that is sent are no more than its length field counts (SEMI E37, section 8)
@@ -88,12 +86,6 @@ pub record LogFailsIn (old new : SinkState) (entries : List Entry) : Type 0 wher
 abbrev pub LogsAll : Result (Unit {0}) LogFault → SinkState → SinkState → List Entry → Type 0
 LogsAll (Ok _) old new entries = LogGrows old new (log_lines entries)
 LogsAll (Err _) old new entries = LogFailsIn old new entries
-
--- what became of one entry, as the answer of a call
-abbrev pub stop_of : Put → Result (Unit {0}) Stop
-stop_of Whole = Ok tt
-stop_of NoLink = Err Link
-stop_of NoLog = Err Log
 
 -- after the link failed the rest was logged, or the log failed too
 abbrev pub RestLogged : Result (Unit {0}) Stop → SinkState → SinkState → List Entry → Type 0

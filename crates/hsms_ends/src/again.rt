@@ -3,7 +3,7 @@
 ghost use Rattle.std.specs.Prelude.{◌≡◌, ◌&&◌};
 ghost use Rattle.hsms_machine.specs.Settings.{IsWithinLimits, several_of};
 ghost use Rattle.hsms_ends.specs.Again.{ServesAgain};
-ghost use Rattle.hsms_ends.specs.Onward.{Onward, NextServed, ServedEach, script_at};
+ghost use Rattle.hsms_ends.specs.Onward.{Onward, NextServed, script_at};
 
 use crate::fault::ServeFault;
 use crate::link::Again;
@@ -95,58 +95,19 @@ pub fn serve_again<L: Again, W: Sink, D: TurnDesk + Copy>(
 {
     let several = settings.several();
     match write_settings(log, &several) {
-        Ok(()) => serve_each(
-            alloc,
-            link,
-            log,
-            several,
-            desk,
-            first_system,
-            script,
-            later,
-            pause,
-            turns,
-            connections,
-        ),
-        Err(_) => Err(ServeFault::Log),
+        Ok(()) => {}
+        Err(_) => return Err(ServeFault::Log),
     }
-}
-
-/// Serves one connection after the other.
-fn serve_each<L: Again, W: Sink, D: TurnDesk + Copy>(
-    alloc: Global,
-    link: &mut L,
-    log: &mut W,
-    settings: Settings,
-    desk: D,
-    first_system: u32,
-    script: &[Step],
-    later: &[Step],
-    pause: Option<u64>,
-    turns: u64,
-    connections: u64,
-) -> Result<ServedAgain, ServeFault>
-    requires within { IsWithinLimits settings }
-    requires several { settings.version ≡ 2 }
-    ensures { ServedEach D.answers_after pause desk settings first_system script.now later.now turns connections result
-        (W.state log.old) (W.state log.new) (L.told link.old) (L.told link.new) }
-{
     let mut done = 0;
     let mut since = 0;
     let mut complete = true;
-    while done < connections {
-        if !link.again() {
-            return Ok(ServedAgain {
-                connections: done,
-                complete,
-            });
-        }
+    while done < connections && link.again() {
         let steps = steps_of(script, later, done);
         match serve_next(
             alloc,
             link,
             log,
-            settings,
+            several,
             desk,
             first_system,
             since,

@@ -1,8 +1,7 @@
 //! Entries to the log and to the link.
 
-ghost use Rattle.std.specs.Prelude.{◌∷◌, []};
 ghost use Rattle.hsms_ends.specs.Link.{nothing_heard};
-ghost use Rattle.hsms_ends.specs.PutOut.{FitsLengthField, AllFitLengthField, SendsAll, PutsOut, LogsAll, RestLogged, sent_of, stop_of};
+ghost use Rattle.hsms_ends.specs.PutOut.{FitsLengthField, AllFitLengthField, SendsAll, PutsOut, LogsAll, RestLogged, sent_of};
 
 use crate::fault::LinkFault;
 use crate::link::Link;
@@ -31,39 +30,16 @@ pub fn put_out<L: Link, W: Sink>(link: &mut L, log: &mut W, entries: &[Entry]) -
 {
     let mut place = 0;
     while place < entries.len() {
-        match put_entry(link, log, &entries[place]) {
-            Put::Whole => place += 1,
-            Put::NoLink => return log_rest(log, &entries[place + 1..]),
-            Put::NoLog => return Err(Stop::Log),
+        let entry = &entries[place];
+        match write_entry(log, entry) {
+            Ok(()) => match send_event(link, &entry.event) {
+                Ok(()) => place += 1,
+                Err(_) => return log_rest(log, &entries[place + 1..]),
+            },
+            Err(_) => return Err(Stop::Log),
         }
     }
     Ok(())
-}
-
-/// What became of an entry that was put out.
-#[derive(Clone, Copy)]
-enum Put {
-    /// It was logged, and sent where it is to be.
-    Whole,
-    /// It was logged, and the link failed.
-    NoLink,
-    /// The log failed.
-    NoLog,
-}
-
-#[tactic(auto, using(crate::proofs::Puttings::puts_whole, crate::proofs::Puttings::puts_no_link, crate::proofs::Puttings::puts_no_log))]
-fn put_entry<L: Link, W: Sink>(link: &mut L, log: &mut W, entry: &Entry) -> Put
-    requires { FitsLengthField entry.now.event }
-    ensures { PutsOut (stop_of result) (W.state log.old) (W.state log.new) (L.told link.old) (L.told link.new)
-        (entry.now ∷ []) nothing_heard }
-{
-    match write_entry(log, entry) {
-        Ok(()) => match send_event(link, &entry.event) {
-            Ok(()) => Put::Whole,
-            Err(_) => Put::NoLink,
-        },
-        Err(_) => Put::NoLog,
-    }
 }
 
 /// Sends the message of an event that says one was sent, and of other events nothing.

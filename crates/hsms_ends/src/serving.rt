@@ -1,11 +1,9 @@
 //! A connection, served.
 
-ghost use Rattle.std.specs.Prelude.{◌≡◌, ℕ, drop, length};
+ghost use Rattle.std.specs.Prelude.{◌≡◌, drop, length};
 ghost use Rattle.hsms_end.specs.EndState.{untold};
-ghost use Rattle.hsms_end.specs.Turn.{start};
-ghost use Rattle.hsms_ends.specs.Link.{moment_heard};
 ghost use Rattle.hsms_ends.specs.Serving.{Serves, ServesTesting};
-ghost use Rattle.hsms_ends.specs.Outcome.{IsReady, Handed, Ran, ServesEnd, ClosedLink, RestClosed, StoppedAs};
+ghost use Rattle.hsms_ends.specs.Outcome.{IsReady, Ran, ServesEnd, ClosedLink, RestClosed, StoppedAs};
 
 use crate::call::Call;
 use crate::fault::ServeFault;
@@ -164,7 +162,7 @@ fn left_over(script: &[Step], place: usize) -> usize
     script.len().saturating_sub(place)
 }
 
-/// Starts the end, and takes turns.
+/// Asks the clock, starts the end, and takes turns.
 fn run<L: Link, W: Sink, D: TurnDesk>(
     link: &mut L,
     log: &mut W,
@@ -181,25 +179,11 @@ fn run<L: Link, W: Sink, D: TurnDesk>(
         progress.new.entries progress.new.refused }
 {
     let mut room = [0u8; ROOM];
-    match begin(link, log, end, &mut progress.entries) {
+    let now = now(link);
+    match hand(link, log, end, Call::Start(now), &mut progress.entries) {
         Ok(()) => take_turns(link, log, end, script, progress, pause, turns, &mut room),
         Err(stop) => Err(stop),
     }
-}
-
-/// Asks the clock, and starts the end.
-fn begin<L: Link, W: Sink, D: TurnDesk>(
-    link: &mut L,
-    log: &mut W,
-    end: &mut End<D>,
-    count: &mut u64,
-) -> Result<(), Stop>
-    requires { IsReady end.old }
-    ensures { (now : ℕ) × Handed D.answers_after result end.old (start now) end.new (W.state log.old) (W.state log.new)
-        (L.told link.old) (L.told link.new) (moment_heard now) count.old count.new }
-{
-    let now = now(link);
-    hand(link, log, end, Call::Start(now), count)
 }
 
 /// What is answered after a fault. After a link fault the end is closed first.

@@ -15,7 +15,7 @@ use crate::range::entries_are_in_range;
 use crate::step::Step;
 use hsms_end::{End, EndFault, TurnDesk};
 use hsms_frame::Sink;
-use hsms_machine::{Entry, Phase};
+use hsms_machine::{Entry, Phase, earlier};
 
 /// How far serving has come.
 #[derive(Clone, Copy, Debug)]
@@ -238,14 +238,11 @@ fn until<D: TurnDesk>(end: &End<D>, pause: Option<u64>) -> Option<u64> {
         Some(due) => due.checked_add(1),
         None => None,
     };
-    match (expiry, test_moment(end, pause)) {
-        (Some(expiry), Some(test)) => Some(expiry.min(test)),
-        (Some(expiry), None) => Some(expiry),
-        (None, test) => test,
-    }
+    earlier(expiry, test_moment(end, pause))
 }
 
-/// One turn of an end that isn't down.
+/// One turn of an end that isn't down: time goes on, and unless that ended the connection, the next step of the script is
+/// taken where it is due, the link is tested where that is, or else waited for.
 fn turn<L: Link, W: Sink, D: TurnDesk>(
     link: &mut L,
     log: &mut W,
@@ -265,29 +262,9 @@ fn turn<L: Link, W: Sink, D: TurnDesk>(
     ensures len { length into.new ≡ length into.old }
 {
     match tick(link, log, end, &mut progress.entries) {
-        Ok(()) => continue_turn(link, log, end, script, progress, pause, into),
-        Err(stop) => Err(stop),
+        Ok(()) => {}
+        Err(stop) => return Err(stop),
     }
-}
-
-/// The rest of a turn: the next step of the script where it is due, a test of the link where that is, else a wait.
-fn continue_turn<L: Link, W: Sink, D: TurnDesk>(
-    link: &mut L,
-    log: &mut W,
-    end: &mut End<D>,
-    script: &[Step],
-    progress: &mut Progress,
-    pause: Option<u64>,
-    into: &mut [u8],
-) -> Result<(), Stop>
-    requires ready { IsReady end.old }
-    requires room { 0 < length into.old }
-    ensures continued { Continued D.answers_after pause result end.old end.new
-        (drop progress.old.place script.now) (drop progress.new.place script.now)
-        (W.state log.old) (W.state log.new) (L.told link.old) (L.told link.new)
-        progress.old.entries progress.new.entries progress.old.refused progress.new.refused }
-    ensures len { length into.new ≡ length into.old }
-{
     if has_gone(end) {
         return Ok(());
     }
@@ -322,10 +299,7 @@ fn test_is_due<D: TurnDesk>(end: &End<D>, pause: Option<u64>) -> bool
 fn test_moment<D: TurnDesk>(end: &End<D>, pause: Option<u64>) -> Option<u64>
     ensures { result ≡ moment_of_test pause end.now }
 {
-    match pause {
-        Some(pause) => end.test_due(pause),
-        None => None,
-    }
+    end.test_due(pause?)
 }
 
 /// At most so many turns, while the connection isn't down. What comes is read into a slice that isn't empty.
