@@ -212,7 +212,6 @@ def runs():
     for row in [*rows(), *examples()]:
         words = [PROGRAM, *row.words]
         spared = max(2 * ("--send" in row.words), 3 * ("--answer" in row.words))
-        spared += row.answer.error == b"hsms: Link\n"
         if row.words not in seen:
             yield Check(f"{row}, from the words on", words, row.given, judge_of(row, 2 + spared))
         seen.add(row.words)
@@ -228,8 +227,8 @@ def fronts(output):
 def judge_of(row, collections):
     """What a run of the command has to do. Std can do without the room that it asks for as it begins to collect the words,
     to part the messages of a script into replies and others, or to collect its steps. Where memory is wanting to ask the
-    environment for HSMS_VERBOSE, or to keep the address of a link that failed for words, no words are told. So often
-    the command may answer as ever although memory was refused."""
+    environment for HSMS_VERBOSE, no words are told. So often the command may answer as ever although memory was
+    refused."""
     tells_lines = row.words[:1] in (("show",), ("explain",), ("capture",))
     parts = fronts(row.answer.output) if tells_lines else {b""}
     done_without = []

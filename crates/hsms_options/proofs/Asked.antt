@@ -1,6 +1,6 @@
 -- What the words of a command line ask for.
 use Rattle.std.proofs.Common.{◌≡◌, ◌≢◌, ◌<◌, ◌≤◌, ◌^◌, ◌&&◌, ◌⊎◌, ℕ, Bool, true, false, List, [], ◌∷◌, Some, None, Ok, Err, refl, sym, ◌∙◌, ap, subst, inl, inr, arith}
-use Rattle.std.specs.Prelude.{Option, Result, IfOk, IfErr, if◌then◌else◌, nat_le, string_bytes}
+use Rattle.std.specs.Prelude.{Option, Result, IfOk, IfErr, if◌then◌else◌, nat_le}
 use Rattle.std.specs.Str.Parse.{ParsesUnsigned, digits_value, without_leading_plus}
 use Rattle.std.proofs.lemmas.Bool.Decides.{nat_tests}
 use Rattle.clap.proofs.OnLiterals.{clap_on_literals}
@@ -18,13 +18,9 @@ use Rattle.hsms_options.specs.declared.fault.ToolFault.TheVariants.{Refused, Dev
 use Rattle.hsms_options.specs.declared.options.Request.{Request}
 use Rattle.hsms_options.specs.declared.options.Request.TheVariants as request
 use Rattle.hsms_options.specs.declared.options.Task.TheVariants as asked
-use Rattle.hsms_options.specs.declared.repeating.Repeat.{Repeat}
-use Rattle.hsms_options.specs.declared.service.Service.{Service}
 use Rattle.hsms_options.specs.Number.{Number, number_between, number_in}
 use Rattle.hsms_options.specs.Options.{AsksBy, CallsForText, IsHelp, Spells, SpellsNothing, SpellsWork, command_line}
-use Rattle.hsms_machine.specs.Settings.{Parameters}
-use Rattle.hsms_options.specs.Service.{AsksToServe, HasTerms}
-use Rattle.hsms_options.specs.Status.{IsRefusedAs, IsRefusedFor}
+use Rattle.hsms_options.specs.Status.{IsRefusedFor}
 
 -- ---- numbers and flags
 
@@ -78,17 +74,6 @@ number_read {E} gives n found r parses few none value = go (one_of n.name (rows_
         → made_of n r ≡ number_in n (rows_of found)
     go None is = rw (none is, sym (sym is ∙ one_text-rows found n.name)) refl
     go (Some t) is = rw (sym (sym is ∙ one_text-rows found n.name)) (tried gives n t r parses few (value t is))
-
--- ---- serving
-
--- what has to be given isn't there
-pub no_terms : (rows : List Row) (text : List ℕ) (fault : ToolFault)
-    → ((settings : Parameters) (address : List ℕ) (port first_system turns linktest : ℕ) (repeat : Repeat) → HasTerms rows settings address port first_system turns linktest repeat → ⊥)
-    → IsRefusedAs text fault → IsRefusedFor ((service : Service) → AsksToServe rows service → ⊥) text fault
-no_terms rows text (Refused given) none told =
-    (told, (λ service asks. none service.settings (string_bytes service.address) service.port service.first_system service.turns service.linktest service.repeat asks.0))
-no_terms rows text (Device given) none told = told
-no_terms rows text Memory none told = tt
 
 -- ---- the command line
 

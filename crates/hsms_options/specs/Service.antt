@@ -1,12 +1,12 @@
 -- What the options of `hsms serve` are, and what they ask for.
-use Rattle.std.specs.Prelude.{◌≡◌, ◌++◌, ℕ, List, [], ◌∷◌, codes, Some, None, string_bytes, unwrap_or}
+use Rattle.std.specs.Prelude.{◌≡◌, ◌++◌, ℕ, List, [], ◌∷◌, codes, Some, None, unwrap_or}
 use Rattle.clap.specs.Words.{Row, Rule, Text, first_of}
 use Rattle.hsms_machine.specs.declared.settings.Role.{Role}
 use Rattle.hsms_machine.specs.declared.settings.Role.TheVariants.{Host, Equipment}
 use Rattle.hsms_machine.specs.declared.settings.Side.{Side}
 use Rattle.hsms_machine.specs.declared.settings.Side.TheVariants.{Active, Passive}
 use Rattle.hsms_machine.specs.Settings.{Parameters}
-use Rattle.hsms_options.specs.declared.repeating.Repeat.{Repeat}
+use Rattle.hsms_options.specs.declared.service.Repeat.{Repeat}
 use Rattle.hsms_options.specs.declared.service.Service.{Service}
 use Rattle.hsms_options.specs.Number.{IsFlag, Number, depth_number, device_number, flag_option, max_number, needed_option, number_in, option_of, text_option}
 
@@ -113,18 +113,13 @@ HasRepeat rows repeat =
     IsFlag (codes "again") rows repeat.again × IsFlag (codes "once") rows repeat.once
     × (number_in connections_number rows ≡ Some repeat.connections) × (number_in t5_number rows ≡ Some repeat.t5)
 
--- the matches have these settings, address, port, first system bytes, turns and pause, and say so of connections
-abbrev pub HasTerms : List Row → Parameters → Text → ℕ → ℕ → ℕ → ℕ → Repeat → Type 0
-HasTerms rows settings address port first_system turns linktest repeat =
-    HasSettings rows settings × (first_of (codes "address") rows ≡ Some address) × (number_in port_number rows ≡ Some port)
-    × (number_in first_system_number rows ≡ Some first_system) × (number_in turns_number rows ≡ Some turns)
-    × (number_in linktest_number rows ≡ Some linktest) × HasRepeat rows repeat
-
 -- the matches ask for this service
 abbrev pub AsksToServe : List Row → Service → Type 0
 AsksToServe rows service =
-    HasTerms rows service.settings (string_bytes service.address) service.port service.first_system service.turns
-    service.linktest service.repeat
-    × (string_bytes service.mdln ≡ text_in (codes "mdln") rows) × (string_bytes service.softrev ≡ text_in (codes "softrev") rows)
+    HasSettings rows service.settings × (first_of (codes "address") rows ≡ Some service.address.now)
+    × (number_in port_number rows ≡ Some service.port) × (number_in first_system_number rows ≡ Some service.first_system)
+    × (number_in turns_number rows ≡ Some service.turns) × (number_in linktest_number rows ≡ Some service.linktest)
+    × HasRepeat rows service.repeat
+    × (service.mdln.now ≡ text_in (codes "mdln") rows) × (service.softrev.now ≡ text_in (codes "softrev") rows)
     × IsFlag (codes "send") rows service.send × IsFlag (codes "answer") rows service.answer
     × IsFlag (codes "all-sent") rows service.all_sent

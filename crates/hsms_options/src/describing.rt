@@ -6,7 +6,7 @@ ghost use Rattle.hsms_options.specs.Described.{rule_described, shape_described, 
 ghost use Rattle.hsms_options.specs.Excerpt.{explain_rules};
 ghost use Rattle.hsms_options.specs.Options.{command_line, encode_command, show_command};
 
-use crate::describing_capture::{CAPTURE_HELP, CAPTURE_USAGE, capture_options};
+use crate::describing_capture::{CAPTURE_HELP, capture_options};
 use crate::describing_options::{DEPTH_OPTION, DEVICE_OPTION, Described, MAX_OPTION, with_options};
 use crate::describing_serve::{SERVE_HELP, SERVE_USAGE, serve_options};
 use crate::limits::{AROUND, FROM, SYSTEM, TO};
@@ -19,8 +19,6 @@ const SHOW_HELP: &str = "Example: hsms show < capture.bin\n\n\
     than 4294967295 messages or lines (Endless), or memory is wanting (Memory). What was shown before a fault stays\n\
     shown.\n\n\
     With -v a fault is told in words too.";
-
-const AUDIT_USAGE: &str = "hsms audit [OPTIONS] < LOG";
 
 const AUDIT_HELP: &str =
     "It tells `pass` and what the log holds, or the first line that can't follow those before it, and why:\n\
@@ -49,8 +47,6 @@ const AUDIT_HELP: &str =
     Statuses: 0 the log passes; 1 it fails; 2 the command line is refused; 3 the log can't be read (Read), the verdict\n\
     can't be written (Write), there are more than 4294967295 reads (Endless), or memory is wanting (Memory).\n\n\
     With -v a fault is told in words too.";
-
-const EXPLAIN_USAGE: &str = "hsms explain [OPTIONS] < LOG";
 
 const EXPLAIN_HELP: &str =
     "Each line is told with its number, a frame as `hsms show` shows it. Below stands what it has to do with others, as\n\
@@ -166,21 +162,21 @@ fn subcommands() -> [Subcommand; 6]
         Subcommand {
             name: "audit",
             about: "Audits the session log of standard input",
-            usage: Some(AUDIT_USAGE),
+            usage: Some("hsms audit [OPTIONS] < LOG"),
             help: AUDIT_HELP,
             options: &[],
         },
         Subcommand {
             name: "explain",
             about: "Shows a session log, what its lines answer, and each of its failures",
-            usage: Some(EXPLAIN_USAGE),
+            usage: Some("hsms explain [OPTIONS] < LOG"),
             help: EXPLAIN_HELP,
             options: explain_options(),
         },
         Subcommand {
             name: "capture",
             about: "Audits the connections of a packet capture, or writes the log of one end of them",
-            usage: Some(CAPTURE_USAGE),
+            usage: Some("hsms capture [OPTIONS] < CAPTURE"),
             help: CAPTURE_HELP,
             options: capture_options(),
         },

@@ -8,8 +8,6 @@ use crate::describing_options::{DEPTH_OPTION, DEVICE_OPTION, Described, MAX_OPTI
 use crate::describing_serve::{T3_OPTION, T6_OPTION, T7_OPTION, T8_OPTION};
 use crate::limits::CAPTURED_PORT;
 
-pub const CAPTURE_USAGE: &str = "hsms capture [OPTIONS] < CAPTURE";
-
 pub const CAPTURE_HELP: &str =
     "It reads a file of pcap or pcapng once. For each TCP connection at the port it tells two lines, of the end that\n\
     connects and of the one that listens: both addresses, what the end is, and the verdict of `hsms audit` on its log,\n\

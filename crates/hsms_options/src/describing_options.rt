@@ -3,7 +3,7 @@
 ghost use Rattle.std.specs.Prelude.{◌≡◌, IfOk, false, map};
 ghost use Rattle.clap.specs.Words.{app_of, rule_of};
 ghost use Rattle.hsms_options.specs.Described.{rule_described, with_rules};
-ghost use Rattle.hsms_options.specs.Number.{flag_option, ranged_option, text_option};
+ghost use Rattle.hsms_options.specs.Number.{ranged_option, text_option};
 
 use crate::limits::{DEPTH, DEVICE, MAX, Numbered};
 use clap::{Arg, ArgAction, Command, value_parser};
@@ -58,7 +58,10 @@ impl Described {
         ensures local { result.global ≡ false }
     {
         match self {
-            Described::Flag(name, help) => flag(alloc, name, help),
+            Described::Flag(name, help) => Arg::new(alloc, name)
+                .long(name)
+                .help(help)
+                .action(ArgAction::SetTrue),
             Described::Word(name, value, help) => word_option(alloc, name, value, help),
             Described::Needed(name, value, help) => {
                 word_option(alloc, name, value, help).required(true)
@@ -91,15 +94,4 @@ fn word_option<'a>(alloc: Global, name: &'a str, value: &'a str, help: &'a str) 
         .long(name)
         .value_name(value)
         .help(help)
-}
-
-// An option without a value.
-fn flag<'a>(alloc: Global, name: &'a str, help: &'a str) -> Arg<'a>
-    ensures rule { rule_of result ≡ flag_option name.now }
-    ensures local { result.global ≡ false }
-{
-    Arg::new(alloc, name)
-        .long(name)
-        .help(help)
-        .action(ArgAction::SetTrue)
 }

@@ -19,20 +19,6 @@ pub enum ToolFault {
     Memory,
 }
 
-impl ToolFault {
-    ghost use Rattle.hsms_options.specs.Status.{status_of};
-
-    /// The status with which the command ends.
-    pub fn status(&self) -> u8
-        ensures { result ≡ status_of self.now }
-    {
-        match self {
-            ToolFault::Refused(_) => 2,
-            ToolFault::Device(_) | ToolFault::Memory => 3,
-        }
-    }
-}
-
 impl fmt::Display for ToolFault {
     ghost output = { λ fault. Some (fault_text fault) };
 
@@ -72,14 +58,16 @@ pub fn refusal(words: Result<String, AllocError>) -> ToolFault
     }
 }
 
-/// The status with which the command ends: 0 where all is well, 1 where it isn't, as where a log fails its audit, else
-/// the fault's.
+/// The status with which the command ends: 0 where all is well, 1 where it isn't, as where a log fails its audit, 2 where
+/// the input or the command line is refused, and 3 where a device or memory failed.
 pub fn exit_status(answer: &Result<bool, ToolFault>) -> u8
     ensures { result ≡ exit_status_of answer.now }
 {
     match answer {
-        Ok(well) => if *well { 0 } else { 1 },
-        Err(fault) => fault.status(),
+        Ok(true) => 0,
+        Ok(false) => 1,
+        Err(ToolFault::Refused(_)) => 2,
+        Err(ToolFault::Device(_) | ToolFault::Memory) => 3,
     }
 }
 

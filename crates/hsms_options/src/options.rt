@@ -13,7 +13,7 @@ use crate::describing::command;
 use crate::excerpt::{Excerpt, excerpt_of};
 use crate::fault::{ToolFault, no_request};
 use crate::limits::{DEVICE, MAX, SYSTEM};
-use crate::service::{Service, asked_to_serve};
+use crate::service::{Service, service_of};
 use crate::values::{depth_of, flag_of, number_of, short_of};
 use clap::error::ErrorKind;
 use clap::{ArgMatches, Error};
@@ -21,7 +21,7 @@ use std::alloc::Global;
 
 /// What the user asks for.
 #[derive(Debug, Drop)]
-pub enum Request {
+pub enum Request<'a> {
     /// A task between standard input and standard output.
     Task(Task),
     /// The log of standard input is to be explained, and this is to be told of it.
@@ -29,7 +29,7 @@ pub enum Request {
     /// The capture of standard input is to be read, and this is to be told of its connections.
     Capture(Capturing),
     /// A connection is to be served.
-    Serve(Service),
+    Serve(Service<'a>),
 }
 
 /// What is to be done with standard input and standard output.
@@ -81,7 +81,7 @@ pub enum Form {
 /// # Errors
 ///
 /// `Refused` in the words `command line`, where they ask for nothing that the command does; else `Memory`.
-pub fn parse(alloc: Global, words: &[String]) -> Result<Request, ToolFault>
+pub fn parse<'a>(alloc: Global, words: &'a [String]) -> Result<Request<'a>, ToolFault>
     ensures asks { IfOk result (Spells (map string_bytes words.now)) }
     ensures limits { IfOk result IsWithinLimits }
     ensures refusal { IfErr result (IsRefusedFor (SpellsNothing (map string_bytes words.now)) (codes "command line")) }
@@ -93,7 +93,7 @@ pub fn parse(alloc: Global, words: &[String]) -> Result<Request, ToolFault>
     }
 }
 
-fn asked(alloc: Global, matches: &ArgMatches<'_>) -> Result<Request, ToolFault>
+fn asked<'a>(alloc: Global, matches: &ArgMatches<'a>) -> Result<Request<'a>, ToolFault>
     ensures asks { IfOk result (AsksBy (subcommand_rows_of matches.now)) }
     ensures limits { IfOk result IsWithinLimits }
     ensures refusal { IfErr result (IsRefusedFor
@@ -106,7 +106,11 @@ fn asked(alloc: Global, matches: &ArgMatches<'_>) -> Result<Request, ToolFault>
 }
 
 // What a subcommand asks for, with these options.
-fn asked_by(alloc: Global, name: &str, options: &ArgMatches<'_>) -> Result<Request, ToolFault>
+fn asked_by<'a>(
+    alloc: Global,
+    name: &str,
+    options: &ArgMatches<'a>,
+) -> Result<Request<'a>, ToolFault>
     ensures asks { IfOk result (AsksFor name.now (rows_of (found_of options.now))) }
     ensures limits { IfOk result IsWithinLimits }
     ensures refusal { IfErr result (IsRefusedFor
@@ -118,7 +122,11 @@ fn asked_by(alloc: Global, name: &str, options: &ArgMatches<'_>) -> Result<Reque
         "capture" => Ok(Request::Capture(if_asked(alloc, capturing_of(options))?)),
         "show" => Ok(Request::Task(if_asked(alloc, asked_to_show(options))?)),
         "encode" => Ok(Request::Task(if_asked(alloc, asked_to_encode(options))?)),
-        "serve" => Ok(Request::Serve(asked_to_serve(alloc, options)?)),
+        // The toolchain has no rule for a generic call, as `if_asked`, by which words are handed on that are borrowed.
+        "serve" => match service_of(options) {
+            Some(service) => Ok(Request::Serve(service)),
+            None => Err(no_request(alloc)),
+        },
         _ => Err(no_request(alloc)),
     }
 }
@@ -173,7 +181,7 @@ fn asked_to_encode(options: &ArgMatches<'_>) -> Option<Task>
 }
 
 // The answer where `clap` doesn't match the words: the text of help or of the version, or a refusal.
-fn explained(alloc: Global, error: &Error) -> Result<Request, ToolFault>
+fn explained<'a>(alloc: Global, error: &Error) -> Result<Request<'a>, ToolFault>
     ensures help { IfOk result (λ request. IsHelp request × CallsForText (kind_of error.now)) }
     ensures limits { IfOk result IsWithinLimits }
     ensures refusal { IfErr result (IsRefusedFor

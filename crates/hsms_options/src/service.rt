@@ -1,30 +1,28 @@
 //! The options of `hsms serve`: which connection is to be served, and how.
 
-ghost use Rattle.std.specs.Prelude.{◌≡◌, ◌≤◌, ℕ, List, IfOk, IfErr, IfSome, None, codes};
+ghost use Rattle.std.specs.Prelude.{◌≡◌, ◌≤◌, IfSome, None};
 ghost use Rattle.clap.specs.Words.{found_of, rows_of};
-ghost use Rattle.hsms_machine.specs.Settings.{Parameters};
+ghost use Rattle.hsms_machine.specs.Settings.{IsTimeLimit, Parameters};
 ghost use Rattle.hsms_machine.specs.declared.settings.Role.{Role};
 ghost use Rattle.hsms_machine.specs.declared.settings.Side.{Side};
-ghost use Rattle.hsms_options.specs.Service.{AsksToServe, HasNumbers, HasSettings, HasTerms, role_word, side_word};
-ghost use Rattle.hsms_options.specs.Status.{IsRefusedFor};
-ghost use Rattle.hsms_options.specs.declared.repeating.Repeat.{Repeat};
+ghost use Rattle.hsms_options.specs.Service.{AsksToServe, HasNumbers, HasRepeat, HasSettings, role_word, side_word};
+ghost use Rattle.hsms_options.specs.declared.service.Repeat.{Repeat};
 ghost use Rattle.hsms_options.specs.declared.service.Service.{Service};
 
-use crate::fault::{ToolFault, no_request};
-use crate::limits::{DEVICE, FIRST_SYSTEM, LINKTEST, MAX, PORT, T3, T6, T7, T8, TURNS};
-use crate::repeating::{Repeat, repeat_of};
+use crate::limits::{
+    CONNECTIONS, DEVICE, FIRST_SYSTEM, LINKTEST, MAX, PORT, T3, T5, T6, T7, T8, TURNS,
+};
 use crate::values::{depth_of, flag_of, number_of, short_of, text_of, text_or};
 use clap::ArgMatches;
 use hsms_machine::{Role, Settings, Side};
-use std::alloc::Global;
 
 /// A connection that is to be served.
-#[derive(Debug, Drop)]
-pub struct Service {
+#[derive(Clone, Copy, Debug)]
+pub struct Service<'a> {
     /// The settings of the end that serves it. An active one connects, and a passive one listens (SEMI E37, section 6).
     pub settings: Settings,
     /// Where it connects to, or listens: an IP address or the name of a host.
-    pub address: String,
+    pub address: &'a str,
     /// The TCP port there, from 1.
     pub port: u16,
     /// The system bytes of its first own message.
@@ -34,9 +32,9 @@ pub struct Service {
     /// After how long a pause it tests its link by Linktest.req, in milliseconds (SEMI E37, section 7); 0 is never.
     pub linktest: u32,
     /// The model that equipment tells of itself.
-    pub mdln: String,
+    pub mdln: &'a str,
     /// The software revision that equipment tells of itself.
-    pub softrev: String,
+    pub softrev: &'a str,
     /// Whether standard input is a script of messages that are to be sent, and then the session is to be separated.
     pub send: bool,
     /// Whether the messages of standard input that have an even function are replies of its desk.
@@ -47,65 +45,52 @@ pub struct Service {
     pub repeat: Repeat,
 }
 
-/// The options that have to be given, or to be numbers: the settings, where the connection is, and the counts.
+/// Whether connections are served one after the other, and which.
 #[derive(Clone, Copy, Debug)]
-struct Terms<'a> {
-    settings: Settings,
-    address: &'a str,
-    port: u16,
-    first_system: u32,
-    turns: u32,
-    linktest: u32,
-    repeat: Repeat,
+pub struct Repeat {
+    /// Whether further connections follow the first one, in the same log. Else the other fields are ignored.
+    pub again: bool,
+    /// Whether the script is taken in the first connection alone.
+    pub once: bool,
+    /// How many connections are served at most, from 1.
+    pub connections: u32,
+    /// How long an active end waits before it connects again, in milliseconds (SEMI E37, section 10, T5).
+    pub t5: u32,
 }
 
-/// What the options of `hsms serve` ask for.
-///
-/// # Errors
-///
-/// `Refused` in the words `command line`, where an option has a value that it may not have; else `Memory`.
-pub fn asked_to_serve(alloc: Global, options: &ArgMatches<'_>) -> Result<Service, ToolFault>
-    ensures asks { IfOk result (AsksToServe (rows_of (found_of options.now))) }
-    ensures port { IfOk result (λ service. (1 ≤ service.port) × (service.port ≤ 65535)) }
-    ensures refusal { IfErr result (IsRefusedFor
-        ((service : Service) → AsksToServe (rows_of (found_of options.now)) service → ⊥) (codes "command line")) }
+/// What the options of `hsms serve` ask for, if they have values that they may have.
+pub fn service_of<'a>(options: &ArgMatches<'a>) -> Option<Service<'a>>
+    ensures asks { IfSome result (AsksToServe (rows_of (found_of options.now))) }
+    ensures port { IfSome result (λ service. (1 ≤ service.port) × (service.port ≤ 65535)) }
+    ensures none { result ≡ None → (service : Service) → AsksToServe (rows_of (found_of options.now)) service → ⊥ }
 {
-    match terms_of(options) {
-        Some(terms) => Ok(Service {
-            settings: terms.settings,
-            address: String::from_str(alloc, terms.address)?,
-            port: terms.port,
-            first_system: terms.first_system,
-            turns: terms.turns,
-            linktest: terms.linktest,
-            mdln: String::from_str(alloc, text_or(options, "mdln", ""))?,
-            softrev: String::from_str(alloc, text_or(options, "softrev", ""))?,
-            send: flag_of(options, "send"),
-            answer: flag_of(options, "answer"),
-            all_sent: flag_of(options, "all-sent"),
-            repeat: terms.repeat,
-        }),
-        None => Err(no_request(alloc)),
-    }
-}
-
-fn terms_of<'a>(options: &ArgMatches<'a>) -> Option<Terms<'a>>
-    ensures asks { IfSome result (λ terms.
-        HasTerms (rows_of (found_of options.now)) terms.settings terms.address.now terms.port terms.first_system terms.turns
-        terms.linktest terms.repeat) }
-    ensures port { IfSome result (λ terms. (1 ≤ terms.port) × (terms.port ≤ 65535)) }
-    ensures none { result ≡ None → (settings : Parameters) (address : List ℕ) (port first_system turns linktest : ℕ)
-        (repeat : Repeat)
-        → HasTerms (rows_of (found_of options.now)) settings address port first_system turns linktest repeat → ⊥ }
-{
-    Some(Terms {
+    Some(Service {
         settings: settings_of(options)?,
         address: text_of(options, "address")?,
         port: short_of(options, PORT)?,
         first_system: number_of(options, FIRST_SYSTEM)?,
         turns: number_of(options, TURNS)?,
         linktest: number_of(options, LINKTEST)?,
+        mdln: text_or(options, "mdln", ""),
+        softrev: text_or(options, "softrev", ""),
+        send: flag_of(options, "send"),
+        answer: flag_of(options, "answer"),
+        all_sent: flag_of(options, "all-sent"),
         repeat: repeat_of(options)?,
+    })
+}
+
+// What the options say of connections one after the other, if their numbers are within their limits.
+fn repeat_of(options: &ArgMatches<'_>) -> Option<Repeat>
+    ensures asks { IfSome result (HasRepeat (rows_of (found_of options.now))) }
+    ensures within { IfSome result (λ repeat. (1 ≤ repeat.connections) × IsTimeLimit repeat.t5) }
+    ensures none { result ≡ None → (repeat : Repeat) → HasRepeat (rows_of (found_of options.now)) repeat → ⊥ }
+{
+    Some(Repeat {
+        again: flag_of(options, "again"),
+        once: flag_of(options, "once"),
+        connections: number_of(options, CONNECTIONS)?,
+        t5: number_of(options, T5)?,
     })
 }
 

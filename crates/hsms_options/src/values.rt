@@ -43,30 +43,21 @@ pub fn number_of(options: &ArgMatches<'_>, number: Numbered) -> Option<u32>
 fn within(number: u32, least: u32, greatest: u32) -> Option<u32>
     ensures { result ≡ (if nat_le least number && nat_le number greatest then Some number else None) }
 {
-    if number < least || number > greatest {
-        return None;
-    }
-    Some(number)
+    (least <= number && number <= greatest).then_some(number)
 }
 
 /// Whether a flag is given.
 pub fn flag_of(options: &ArgMatches<'_>, name: &str) -> bool
     ensures { IsFlag name.now (rows_of (found_of options.now)) result }
 {
-    match text_of(options, name) {
-        Some(text) => text == "true",
-        None => false,
-    }
+    text_of(options, name) == Some("true")
 }
 
 /// The text of an option, or `left_out` where it isn't given.
 pub fn text_or<'a>(options: &ArgMatches<'a>, name: &str, left_out: &'a str) -> &'a str
     ensures { result.now ≡ unwrap_or (first_of name.now (rows_of (found_of options.now))) left_out.entry.now }
 {
-    match text_of(options, name) {
-        Some(text) => text,
-        None => left_out,
-    }
+    text_of(options, name).unwrap_or(left_out)
 }
 
 /// The text of an option, if it is given.

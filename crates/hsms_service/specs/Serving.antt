@@ -1,5 +1,5 @@
 -- What `hsms serve` serves a connection with, and how it tells what came of it.
-use Rattle.std.specs.Prelude.{◌≡◌, ◌==◌, ◌||◌, not, ℕ, Bool, true, List, codes, string_bytes, Option, Some, None, Result, Ok, Err, if◌then◌else◌}
+use Rattle.std.specs.Prelude.{◌≡◌, ◌==◌, ◌||◌, not, ℕ, Bool, true, List, codes, Option, Some, None, Result, Ok, Err, if◌then◌else◌}
 use Rattle.secs_text.specs.declared.message.Message.{Message}
 use Rattle.secs_text.specs.Content.{Content}
 use Rattle.hsms_end.specs.Answer.{Answered}
@@ -31,8 +31,8 @@ own_answer (Equipment desk) before message =
 abbrev pub IsDeskOf : Service → List Message → OwnDesk → Type 0
 IsDeskOf service replies (Host desk) = (service.settings.role ≡ role.Host) × (desk.replies.items ≡ replies)
 IsDeskOf service replies (Equipment desk) =
-    (service.settings.role ≡ role.Equipment) × (desk.own.mdln.items ≡ string_bytes service.mdln)
-    × (desk.own.softrev.items ≡ string_bytes service.softrev) × (desk.replies.items ≡ replies)
+    (service.settings.role ≡ role.Equipment) × (desk.own.mdln.items ≡ service.mdln.now)
+    × (desk.own.softrev.items ≡ service.softrev.now) × (desk.replies.items ≡ replies)
 
 -- the word for a fault that is a device's, or that ends the serving
 abbrev pub IsWordOf : ServeFault → List ℕ → Type 0

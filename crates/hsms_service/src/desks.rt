@@ -37,7 +37,7 @@ impl TurnDesk for OwnDesk {
 /// The desk of a service with these replies: a host's, or that of equipment with its model and software revision.
 pub fn desk_of(
     alloc: Global,
-    service: &Service,
+    service: &Service<'_>,
     replies: Vec<Message>,
 ) -> Result<OwnDesk, AllocError>
     ensures { IfOk result (IsDeskOf service.now replies.items) }

@@ -4,7 +4,7 @@ ghost use Rattle.std.specs.Prelude.{◌≡◌, ◌≤◌, ◌++◌, IfOk, IfErr,
 ghost use Rattle.hsms_ends.specs.declared.step.Step.TheVariants.{Send, Separate};
 ghost use Rattle.hsms_frame.specs.Count.{next_count};
 ghost use Rattle.hsms_frame.specs.Device.{WhereTold};
-ghost use Rattle.hsms_service.specs.Script.{IsNoScript, IsScript, is_reply, replies_of, steps_of as script_steps};
+ghost use Rattle.hsms_service.specs.Script.{IsNoScript, IsScript, is_reply};
 ghost use Rattle.hsms_lines.specs.Devices.{CountsFailure, HasWord};
 
 use hsms_ends::Step;
@@ -50,19 +50,6 @@ pub fn read_script<R: Source>(
 {
     let input = read_whole(alloc, source, INPUT_LIMIT)?;
     let messages = messages_of(alloc, &input, depth)?;
-    Ok(script_of(alloc, messages, send, answer)?)
-}
-
-// The replies and the steps of messages.
-fn script_of(
-    alloc: Global,
-    messages: Vec<Message>,
-    send: bool,
-    answer: bool,
-) -> Result<Script, AllocError>
-    ensures replies { IfOk result (λ script. script.replies.items ≡ replies_of answer messages.items) }
-    ensures steps { IfOk result (λ script. script.steps.items ≡ script_steps send answer messages.items) }
-{
     let (replies, sent) = parted(alloc, messages, answer)?;
     let steps = steps_of(alloc, sent, send)?;
     Ok(Script { steps, replies })
@@ -79,14 +66,7 @@ fn parted(
 {
     messages
         .into_iter()
-        .partition(alloc, |message| replies(answer, message))
-}
-
-// Whether a message is a reply.
-fn replies(answer: bool, message: &Message) -> bool
-    ensures { result ≡ is_reply answer message.now }
-{
-    answer && message.function() % 2 == 0
+        .partition(alloc, |message| answer && message.function() % 2 == 0)
 }
 
 // Each message is sent, and then the session is separated where it is to be.

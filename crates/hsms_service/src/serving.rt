@@ -27,15 +27,13 @@ pub fn serve_to<L: Link, W: Sink>(
     alloc: Global,
     link: &mut L,
     log: &mut W,
-    service: &Service,
+    service: &Service<'_>,
     desk: OwnDesk,
     script: &[Step],
 ) -> Result<Served, ServeFault>
     ensures { ServesTo service.now desk script.now result (W.state log.old) (W.state log.new)
         (L.told link.old) (L.told link.new) }
 {
-    let turns = u64::from(service.turns);
-    let pause = pause_of(service.linktest);
     serve_testing(
         alloc,
         link,
@@ -44,8 +42,8 @@ pub fn serve_to<L: Link, W: Sink>(
         desk,
         service.first_system,
         script,
-        pause,
-        turns,
+        pause_of(service.linktest),
+        u64::from(service.turns),
     )
 }
 
@@ -53,11 +51,7 @@ pub fn serve_to<L: Link, W: Sink>(
 fn pause_of(linktest: u32) -> Option<u64>
     ensures { result ≡ pause_for linktest }
 {
-    if linktest == 0 {
-        None
-    } else {
-        Some(u64::from(linktest))
-    }
+    (linktest != 0).then_some(u64::from(linktest))
 }
 
 /// Serves connection after connection as a service asks, and writes one log of them.
@@ -71,7 +65,7 @@ pub fn serve_again_to<L: Again, W: Sink>(
     alloc: Global,
     link: &mut L,
     log: &mut W,
-    service: &Service,
+    service: &Service<'_>,
     desk: Lent<'_, OwnDesk>,
     script: &[Step],
 ) -> Result<ServedAgain, ServeFault>
@@ -80,23 +74,18 @@ pub fn serve_again_to<L: Again, W: Sink>(
         service.now.first_system script.now (if service.now.repeat.once then [] else script.now) service.now.turns
         service.now.repeat.connections result (W.state log.old) (W.state log.new) (L.told link.old) (L.told link.new) }
 {
-    let turns = u64::from(service.turns);
-    let connections = u64::from(service.repeat.connections);
-    let pause = pause_of(service.linktest);
-    let later = later_steps(script, service.repeat.once);
-    let system = service.first_system;
     serve_again(
         alloc,
         link,
         log,
         service.settings,
         desk,
-        system,
+        service.first_system,
         script,
-        later,
-        pause,
-        turns,
-        connections,
+        later_steps(script, service.repeat.once),
+        pause_of(service.linktest),
+        u64::from(service.turns),
+        u64::from(service.repeat.connections),
     )
 }
 

@@ -16,9 +16,9 @@ use std::time::{Clock, Duration};
 
 /// TCP connections, one after the other, with one clock and the counts of all their calls.
 #[derive(Drop)]
-pub struct SocketLink<'a, R: Clock + Net> {
+pub struct SocketLink<'a, 's, R: Clock + Net> {
     rt: &'a R,
-    service: &'a Service,
+    service: &'a Service<'s>,
     // Where further connections are listened for.
     listener: Option<R::Listener>,
     wire: Wire<'a, R, R::Stream>,
@@ -31,7 +31,7 @@ pub struct SocketLink<'a, R: Clock + Net> {
     fault: Option<ErrorKind>,
 }
 
-impl<'a, R: Clock + Net> SocketLink<'a, R> {
+impl<'a, 's, R: Clock + Net> SocketLink<'a, 's, R> {
     /// What served the connections has ended: the last one is closed, and the answer is why there is no further one,
     /// where one was asked for.
     pub fn end(mut self) -> Option<ErrorKind> {
@@ -51,7 +51,7 @@ impl<'a, R: Clock + Net> SocketLink<'a, R> {
     }
 }
 
-impl<'a, R: Clock + Net> Link for SocketLink<'a, R> {
+impl<'a, 's, R: Clock + Net> Link for SocketLink<'a, 's, R> {
     ghost told = { λ s. told_of s.counters };
 
     fn now(&mut self) -> u64 {
@@ -63,13 +63,8 @@ impl<'a, R: Clock + Net> Link for SocketLink<'a, R> {
         match self.wire.read_until(until, into) {
             Ok(0) => self.counters.heard(Got::Closed, into),
             Ok(count) => self.counters.heard(Got::Octets(count), into),
-            Err(error) => {
-                if is_quiet(error.kind()) {
-                    self.counters.heard(Got::Quiet, into)
-                } else {
-                    self.counters.failed_wait(into)
-                }
-            }
+            Err(error) if is_quiet(error.kind()) => self.counters.heard(Got::Quiet, into),
+            Err(_) => self.counters.failed_wait(into),
         }
     }
 
@@ -82,7 +77,7 @@ impl<'a, R: Clock + Net> Link for SocketLink<'a, R> {
 }
 
 /// A passive end listens on. An active one connects again after T5, and between attempts that fail.
-impl<'a, R: Clock + Net> Again for SocketLink<'a, R> {
+impl<'a, 's, R: Clock + Net> Again for SocketLink<'a, 's, R> {
     fn again(&mut self) -> bool {
         if self.is_new {
             self.is_new = false;
@@ -115,13 +110,13 @@ impl<'a, R: Clock + Net> Again for SocketLink<'a, R> {
 ///
 /// What the system says, where there is none. A service that goes on tries again: an active end wherever memory isn't
 /// wanting, and a passive one where the peer gave the connection up or a signal came.
-pub fn connected<'a, R: Clock + Net>(
+pub fn connected<'a, 's, R: Clock + Net>(
     rt: &'a R,
-    service: &'a Service,
-) -> io::Result<SocketLink<'a, R>> {
+    service: &'a Service<'s>,
+) -> io::Result<SocketLink<'a, 's, R>> {
     let mut listener = match service.settings.link() {
         Side::Active => None,
-        Side::Passive => Some(TcpListener::bind(rt, (service.address.as_str(), service.port))?),
+        Side::Passive => Some(TcpListener::bind(rt, (service.address, service.port))?),
     };
     let stream = if service.repeat.again {
         next_stream(rt, service, &listener)?
@@ -154,17 +149,13 @@ pub fn unconnected(kind: ErrorKind) -> ServeFault {
 // The next connection of a service that goes on.
 fn next_stream<R: Clock + Net>(
     rt: &R,
-    service: &Service,
+    service: &Service<'_>,
     listener: &Option<R::Listener>,
 ) -> io::Result<R::Stream> {
     for _ in 0..u64::MAX {
         match stream_of(rt, service, listener) {
-            Ok(stream) => return Ok(stream),
-            Err(error) => {
-                if !is_passing(error.kind(), listener.is_some()) {
-                    return Err(error);
-                }
-            }
+            Err(error) if is_passing(error.kind(), listener.is_some()) => {}
+            answer => return answer,
         }
         if listener.is_none() {
             pause(rt, service);
@@ -182,7 +173,7 @@ fn is_passing(kind: ErrorKind, is_listening: bool) -> bool {
     }
 }
 
-fn pause<R: Clock>(rt: &R, service: &Service) {
+fn pause<R: Clock>(rt: &R, service: &Service<'_>) {
     sleep(rt, Duration::from_millis(u64::from(service.repeat.t5)));
 }
 
@@ -190,12 +181,12 @@ fn pause<R: Clock>(rt: &R, service: &Service) {
 // octets that the peer doesn't take wait no longer than T8.
 fn stream_of<R: Net>(
     rt: &R,
-    service: &Service,
+    service: &Service<'_>,
     listener: &Option<R::Listener>,
 ) -> io::Result<R::Stream> {
     let stream = match listener {
         Some(listener) => listener.accept()?.0,
-        None => TcpStream::connect(rt, (service.address.as_str(), service.port))?,
+        None => TcpStream::connect(rt, (service.address, service.port))?,
     };
     stream.set_nodelay(true)?;
     let t8 = u64::from(service.settings.t8());

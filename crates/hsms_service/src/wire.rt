@@ -91,12 +91,8 @@ impl<'a, C: Clock, S: Read + Write + OpenStream + Drop> Wire<'a, C, S> {
             }
             self.limit_reads(Some(part))?;
             match self.stream.read(into) {
-                Ok(count) => return Ok(count),
-                Err(error) => {
-                    if !is_late(error.kind()) {
-                        return Err(error);
-                    }
-                }
+                Err(error) if is_late(error.kind()) => {}
+                answer => return answer,
             }
         }
         Err(io::Error::from(ErrorKind::TimedOut))
@@ -118,12 +114,8 @@ impl<'a, C: Clock, S: Read + Write + OpenStream + Drop> Wire<'a, C, S> {
     {
         for _ in 0..u64::MAX {
             match self.stream.read(into) {
-                Ok(count) => return Ok(count),
-                Err(error) => {
-                    if !is_late(error.kind()) || self.time() >= until {
-                        return Err(error);
-                    }
-                }
+                Err(error) if is_late(error.kind()) && self.time() < until => {}
+                answer => return answer,
             }
             sleep(self.clock, Duration::from_millis(PAUSE));
         }

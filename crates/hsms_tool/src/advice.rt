@@ -1,6 +1,6 @@
 //! Words for people: what a fault says, and what to do about it.
 
-use crate::place::place_in;
+use crate::place::placed;
 use hsms_options::ToolFault;
 use std::alloc::{AllocError, Global};
 use std::io::{BufRead, ErrorKind};
@@ -10,20 +10,14 @@ use std::io::{BufRead, ErrorKind};
 pub enum Known {
     /// Nothing more.
     Nothing,
-    /// What is wrong with the command line, in a sentence.
-    Line(String),
+    /// What is to be said of it: what is wrong with the command line, or why there is no connection.
+    Said(String),
     /// The input begins as a file of packets does, and isn't to be one.
     Packets,
     /// The input, which is to be notation.
     Notation(Vec<u8>),
     /// The input is to be a capture of packets.
     Capture,
-    /// No connection was had at this address and port, where the system said so.
-    Link {
-        address: String,
-        port: u16,
-        kind: ErrorKind,
-    },
 }
 
 /// Why the command ends before its work is done, and what is known of it.
@@ -33,12 +27,21 @@ pub struct Failure {
     pub known: Known,
 }
 
+impl Failure {
+    /// A fault, and what is known of it.
+    pub fn of(fault: ToolFault, known: Known) -> Failure {
+        Failure { fault, known }
+    }
+
+    /// A fault, and what is to be said of it, unless memory was wanting for that.
+    pub fn said(fault: ToolFault, words: Result<String, AllocError>) -> Failure {
+        Failure::of(fault, words.map_or(Known::Nothing, Known::Said))
+    }
+}
+
 impl From<ToolFault> for Failure {
     fn from(fault: ToolFault) -> Failure {
-        Failure {
-            fault,
-            known: Known::Nothing,
-        }
+        Failure::of(fault, Known::Nothing)
     }
 }
 
@@ -60,21 +63,17 @@ const CAPTURES: [[u8; 4]; 5] = [
 /// The words for a fault: what happened, and what to do. They may be several lines.
 pub fn words_for(alloc: Global, failure: &Failure) -> Result<String, AllocError> {
     let name = failure.fault.to_string(alloc)?;
-    match &failure.known {
-        Known::Line(sentence) => String::from_str(alloc, sentence.as_str()),
-        Known::Link {
-            address,
-            port,
-            kind,
-        } => link_words(alloc, address.as_str(), *port, *kind),
-        Known::Notation(input) => notation_words(alloc, name.as_str(), input),
-        Known::Packets => String::from_str(
-            alloc,
-            "this is a pcap file, a capture of packets: hsms capture reads it, and docs/CAPTURES.md tells more",
-        ),
-        Known::Capture => String::from_str(alloc, capture_sentence(name.as_str())),
-        Known::Nothing => String::from_str(alloc, sentence(name.as_str())),
-    }
+    let name = name.as_str();
+    let said = match &failure.known {
+        Known::Said(words) => words.as_str(),
+        Known::Notation(input) => return notation_words(alloc, name, input),
+        Known::Packets => {
+            "this is a pcap file, a capture of packets: hsms capture reads it, and docs/CAPTURES.md tells more"
+        }
+        Known::Capture => said_of(name, CAPTURE_SENTENCES).unwrap_or(sentence(name)),
+        Known::Nothing => sentence(name),
+    };
+    String::from_str(alloc, said)
 }
 
 /// Whether a file of packets begins as this input does, of which nothing was read yet.
@@ -90,13 +89,7 @@ pub fn begins_as_capture<R: BufRead>(input: &mut R) -> bool {
 fn notation_words(alloc: Global, name: &str, input: &[u8]) -> Result<String, AllocError> {
     let what = sentence(name);
     match told_place(name) {
-        Some(at) => {
-            let place = place_in(input, at);
-            let line = place.line;
-            let column = place.column();
-            let shown = place.underlined(alloc)?;
-            format!(in alloc; "line {line}, column {column}: {what}\n{shown}")
-        }
+        Some(at) => placed(alloc, input, at, what),
         None => String::from_str(alloc, what),
     }
 }
@@ -107,8 +100,8 @@ fn told_place(name: &str) -> Option<usize> {
     number.parse().ok()
 }
 
-// Why there is no connection.
-fn link_words(
+/// Why there is no connection.
+pub fn link_words(
     alloc: Global,
     address: &str,
     port: u16,
@@ -173,14 +166,6 @@ const CAPTURE_SENTENCES: &str = "\
     Peer: this connection is one of other addresses, and a log is of two: say by --with which peer is meant\n\
     NoConnection: no connection came up at --port: is this the port of HSMS, and does the capture begin before the connection does, or is --joined given?";
 
-// What a fault of a capture says, and what to do.
-fn capture_sentence(name: &str) -> &'static str {
-    match said_of(name, CAPTURE_SENTENCES) {
-        Some(said) => said,
-        None => sentence(name),
-    }
-}
-
 // What a fault of this name says, and what to do.
 fn sentence(name: &str) -> &'static str {
     said_of(name, SENTENCES).unwrap_or("see docs/FORMATS.md")
@@ -189,12 +174,9 @@ fn sentence(name: &str) -> &'static str {
 // What a table says of the first word of a fault, which may have its place behind that.
 fn said_of(name: &str, table: &'static str) -> Option<&'static str> {
     let (word, _) = name.split_once(' ').unwrap_or((name, ""));
-    for line in table.lines() {
-        if let Some((listed, said)) = line.split_once(": ") {
-            if listed == word {
-                return Some(said);
-            }
-        }
-    }
-    None
+    table
+        .lines()
+        .filter_map(|line| line.split_once(": "))
+        .find(|entry| entry.0 == word)
+        .map(|entry| entry.1)
 }

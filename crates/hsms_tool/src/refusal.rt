@@ -1,18 +1,12 @@
 //! What is wrong with a command line, in a sentence.
 
-use crate::advice::{Failure, Known};
+use crate::advice::Failure;
 use hsms_options::{ToolFault, command};
 use std::alloc::{AllocError, Global};
 
 /// The refusal of a command line, with what is wrong with its words.
 pub fn refused_line(alloc: Global, fault: ToolFault, words: &[String]) -> Failure {
-    match sentence(alloc, words) {
-        Ok(sentence) => Failure {
-            fault,
-            known: Known::Line(sentence),
-        },
-        Err(_) => Failure::from(fault),
-    }
+    Failure::said(fault, sentence(alloc, words))
 }
 
 // What `clap` says of the words: the first paragraph of it in one line, and the usage. What the command refuses besides,

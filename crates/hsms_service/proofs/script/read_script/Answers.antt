@@ -1,10 +1,12 @@
-use Rattle.std.proofs.Common.{◌≡◌, ℕ, Bool, List, inl, subst}
-use Rattle.std.specs.Prelude.{Option}
+use Rattle.std.proofs.Common.{◌≡◌, ◌++◌, ◌∙◌, ℕ, Bool, List, [], ◌∷◌, ap, inl, map, subst}
+use Rattle.std.specs.Prelude.{Option, if◌then◌else◌}
 use Rattle.std.proofs.lemmas.Result.{err_from_is_err_and}
 use Rattle.secs_text.specs.declared.message.Message.{Message}
 use Rattle.secs_text.specs.Content.{AllWithin}
 use Rattle.secs_text.specs.Notation.{Notations}
 use Rattle.secs_text.specs.View.{contents}
+use Rattle.hsms_ends.specs.declared.step.Step.{Step}
+use Rattle.hsms_ends.specs.declared.step.Step.TheVariants.{Send, Separate}
 use Rattle.hsms_options.specs.declared.fault.ToolFault.{ToolFault}
 use Rattle.hsms_options.specs.declared.fault.ToolFault.TheVariants.{Refused, Device, Memory}
 use Rattle.hsms_tasks.specs.Encode.{IsPartOfInput, IsWholeInput, input_limit}
@@ -35,4 +37,6 @@ returns-in_err-input-clause-err g c =
 pub returns-clause-ok : goal.returns-clause-ok
 returns-clause-ok g c = λ input told.
     let noted = rw c.deref.ensures.value at c.in_ok-messages.ensures.ok in
-    reads_script _ _ _ _ _ _ c.in_ok-script_of.field-0 (c.in_ok-input.ensures.ok input told) noted c.in_ok-script_of.ensures.replies c.in_ok-script_of.ensures.steps
+    let sent : List Message → List Step = λ ms. map (λ m. Send m) ms ++ (if c.args.send then Separate ∷ [] else []) in
+    let script : Script = record { steps = c.in_ok-steps.steps; replies = c.in_ok-replies.replies } in
+    reads_script _ _ _ _ _ _ script (c.in_ok-input.ensures.ok input told) noted c.in_ok-replies.ensures.0 (c.in_ok-steps.ensures ∙ ap sent c.in_ok-replies.ensures.1)
