@@ -7,7 +7,7 @@ TOP = os.path.dirname(os.path.dirname(os.path.abspath(__file__)))
 PROGRAM = f"{TOP}/crates/hsms_tool/out/hsms_tool"
 
 # The program that tells ends lists.
-DRIVER = f"{TOP}/crates/hsms_drive/out/hsms_drive"
+DRIVER = f"{TOP}/crates/hsms_replay/out/hsms_replay"
 
 # How much of an answer is shown, in octets.
 LONGEST_SHOWN = 100_000

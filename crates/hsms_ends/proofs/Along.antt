@@ -4,10 +4,10 @@ use Rattle.std.specs.Prelude.{Bool, Option}
 use Rattle.std.proofs.lemmas.List.{append-nil}
 use Rattle.secs_text.specs.Content.{Content}
 use Rattle.hsms_machine.specs.declared.entry.Entry.{Entry}
-use Rattle.hsms_end.specs.Answer.{Answered}
-use Rattle.hsms_end.specs.EndState.{EndOf}
-use Rattle.hsms_end.specs.Turn.{Told as Input, start, tick, bytes, linktest, lost}
-use Rattle.hsms_end.specs.End.{Accepts}
+use Rattle.hsms_entity.specs.Answer.{Answered}
+use Rattle.hsms_entity.specs.EndState.{EndOf}
+use Rattle.hsms_entity.specs.Turn.{Told as Input, start, tick, bytes, linktest, lost}
+use Rattle.hsms_entity.specs.End.{Accepts}
 use Rattle.hsms_ends.specs.declared.step.Step.{Step}
 use Rattle.hsms_ends.specs.Turning.{After, Refused, Ticked, Done, Rest, Nothing, Stepped, Declined, Tested, Quiet, Octets, Closed, Turn, Untaken, Ticks, Heeds, Continues, IsTurn, AreTurns, entries_after, entries_rest, entries_turn, entries_turns, input_of}
 use Rattle.hsms_ends.specs.Serving.{Story, Unopened, Unstarted, Started, IsCutTurn, IsLost, IsStory, entries_cut, lost_entries, entries_of}

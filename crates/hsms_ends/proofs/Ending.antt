@@ -8,10 +8,10 @@ use Rattle.hsms_frame.specs.Device.{SinkState}
 use Rattle.hsms_machine.specs.declared.entry.Entry.{Entry}
 use Rattle.hsms_machine.specs.Step.{is_gone}
 use Rattle.hsms_log.specs.Spelling.{IsEntry}
-use Rattle.hsms_end.specs.Answer.{Answered}
-use Rattle.hsms_end.specs.EndState.{EndOf, EndState}
-use Rattle.hsms_end.specs.Turn.{lost}
-use Rattle.hsms_end.specs.End.{Accepts}
+use Rattle.hsms_entity.specs.Answer.{Answered}
+use Rattle.hsms_entity.specs.EndState.{EndOf, EndState}
+use Rattle.hsms_entity.specs.Turn.{lost}
+use Rattle.hsms_entity.specs.End.{Accepts}
 use Rattle.hsms_ends.specs.declared.step.Step.{Step}
 use Rattle.hsms_ends.specs.declared.output.Stop.{Stop}
 use Rattle.hsms_ends.specs.declared.output.Stop.TheVariants.{Link, Log, Memory}

@@ -19,10 +19,10 @@ use Rattle.hsms_machine.proofs.Joins.{run-joined}
 use Rattle.hsms_machine.proofs.Runs.{empty_run}
 use Rattle.hsms_log.specs.Spelling.{IsEntry, settings_line}
 use Rattle.hsms_log.specs.Log.{written_log}
-use Rattle.hsms_end.specs.Answer.{Answered}
-use Rattle.hsms_end.specs.EndState.{EndState, EndOf}
-use Rattle.hsms_end.specs.Turn.{opening_of}
-use Rattle.hsms_end.specs.Act.{Acts}
+use Rattle.hsms_entity.specs.Answer.{Answered}
+use Rattle.hsms_entity.specs.EndState.{EndState, EndOf}
+use Rattle.hsms_entity.specs.Turn.{opening_of}
+use Rattle.hsms_entity.specs.Act.{Acts}
 use Rattle.hsms_ends.specs.declared.again.ServedAgain.{ServedAgain}
 use Rattle.hsms_ends.specs.declared.again.Went.{Went}
 use Rattle.hsms_ends.specs.declared.step.Step.{Step}

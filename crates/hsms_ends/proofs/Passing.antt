@@ -21,10 +21,10 @@ use Rattle.hsms_machine.proofs.Runs.{empty_run}
 use Rattle.hsms_log.specs.Spelling.{IsEntry, entry_line, event_text, line_limit, message_octets, system_octets, settings_line}
 use Rattle.hsms_log.specs.Log.{LogText, written_log}
 use Rattle.hsms_log.proofs.WrittenLog.{log_written}
-use Rattle.hsms_end.specs.Answer.{Answered}
-use Rattle.hsms_end.specs.EndState.{EndOf, untold, untold_since}
-use Rattle.hsms_end.specs.Turn.{Told as Input}
-use Rattle.hsms_end.specs.End.{Accepts}
+use Rattle.hsms_entity.specs.Answer.{Answered}
+use Rattle.hsms_entity.specs.EndState.{EndOf, untold, untold_since}
+use Rattle.hsms_entity.specs.Turn.{Told as Input}
+use Rattle.hsms_entity.specs.End.{Accepts}
 use Rattle.hsms_ends.specs.declared.step.Step.{Step}
 use Rattle.hsms_ends.specs.declared.serving.Served.{Served}
 use Rattle.hsms_ends.specs.declared.fault.ServeFault.{ServeFault}

@@ -20,10 +20,10 @@ use Rattle.hsms_machine.specs.Run.{IsRun}
 use Rattle.hsms_machine.specs.View.{HasView}
 use Rattle.hsms_machine.proofs.First.{none_head}
 use Rattle.hsms_machine.proofs.Runs.{empty_run}
-use Rattle.hsms_end.specs.Answer.{Answered}
-use Rattle.hsms_end.specs.EndState.{EndOf, untold_since}
-use Rattle.hsms_end.specs.Turn.{Told as Input}
-use Rattle.hsms_end.specs.End.{Accepts}
+use Rattle.hsms_entity.specs.Answer.{Answered}
+use Rattle.hsms_entity.specs.EndState.{EndOf, untold_since}
+use Rattle.hsms_entity.specs.Turn.{Told as Input}
+use Rattle.hsms_entity.specs.End.{Accepts}
 use Rattle.hsms_ends.specs.PutOut.{FitsLengthField, AllFitLengthField}
 use Rattle.hsms_ends.specs.declared.step.Step.{Step}
 use Rattle.hsms_ends.specs.Link.{Told, Heard}

@@ -5,10 +5,10 @@ use Rattle.std.proofs.lemmas.List.{append-nil}
 use Rattle.secs_text.specs.Content.{Content}
 use Rattle.hsms_frame.specs.Device.{SinkState}
 use Rattle.hsms_machine.specs.declared.entry.Entry.{Entry}
-use Rattle.hsms_end.specs.Answer.{Answered}
-use Rattle.hsms_end.specs.EndState.{EndOf}
-use Rattle.hsms_end.specs.Turn.{start}
-use Rattle.hsms_end.specs.End.{Accepts}
+use Rattle.hsms_entity.specs.Answer.{Answered}
+use Rattle.hsms_entity.specs.EndState.{EndOf}
+use Rattle.hsms_entity.specs.Turn.{start}
+use Rattle.hsms_entity.specs.End.{Accepts}
 use Rattle.hsms_ends.specs.declared.step.Step.{Step}
 use Rattle.hsms_ends.specs.declared.output.Stop.{Stop}
 use Rattle.hsms_ends.specs.declared.output.Stop.TheVariants.{Link, Log, Memory}

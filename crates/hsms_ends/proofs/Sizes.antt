@@ -11,14 +11,14 @@ use Rattle.hsms_machine.specs.declared.entry.Event.TheVariants.{Up, Sent, Taken,
 use Rattle.hsms_machine.specs.declared.rule.Rule.{Rule}
 use Rattle.hsms_machine.specs.Settings.{Parameters}
 use Rattle.hsms_machine.specs.Step.{is_selected}
-use Rattle.hsms_end.specs.Answer.{Answered}
-use Rattle.hsms_end.specs.EndState.{EndState}
-use Rattle.hsms_end.specs.Act.{Act, logs, asks, Acts, entry_now, with_event, with_number}
-use Rattle.hsms_end.specs.Drive.{octets_in}
-use Rattle.hsms_end.specs.Frame.{linktest_req, separate_req, message_frame}
-use Rattle.hsms_end.specs.Reaction.{reaction}
-use Rattle.hsms_end.specs.Turn.{is_pending, opening_of, cut_by, expiries, received_as, with_asked, Handles, warns_too_long, Rests, is_down, waits, too_short, too_long, Receives, with_octets, Told, start, tick, bytes, send, linktest, separate, lost, Turn}
-use Rattle.hsms_end.proofs.Kept.{receipts, reaction_none, opening_none, expiries_none, too_long_none}
+use Rattle.hsms_entity.specs.Answer.{Answered}
+use Rattle.hsms_entity.specs.EndState.{EndState}
+use Rattle.hsms_entity.specs.Act.{Act, logs, asks, Acts, entry_now, with_event, with_number}
+use Rattle.hsms_entity.specs.Drive.{octets_in}
+use Rattle.hsms_entity.specs.Frame.{linktest_req, separate_req, message_frame}
+use Rattle.hsms_entity.specs.Reaction.{reaction}
+use Rattle.hsms_entity.specs.Turn.{is_pending, opening_of, cut_by, expiries, received_as, with_asked, Handles, warns_too_long, Rests, is_down, waits, too_short, too_long, Receives, with_octets, Told, start, tick, bytes, send, linktest, separate, lost, Turn}
+use Rattle.hsms_entity.proofs.Kept.{receipts, reaction_none, opening_none, expiries_none, too_long_none}
 
 -- header and text of a discarded message are within the limit
 abbrev pub IsDiscardSized : ℕ → Event → Type 0

@@ -6,13 +6,13 @@ use Rattle.secs_text.specs.Content.{Content}
 use Rattle.hsms_frame.specs.Count.{next_count}
 use Rattle.hsms_frame.specs.Device.{SinkState, Stays}
 use Rattle.hsms_machine.specs.declared.entry.Entry.{Entry}
-use Rattle.hsms_end.specs.declared.fault.EndFault.{EndFault}
-use Rattle.hsms_end.specs.declared.fault.EndFault.TheVariants as fault
-use Rattle.hsms_end.specs.Answer.{Answered}
-use Rattle.hsms_end.specs.EndState.{EndOf}
-use Rattle.hsms_end.specs.Turn.{Told as Input, tick, linktest}
-use Rattle.hsms_end.specs.Fault.{Meets}
-use Rattle.hsms_end.specs.End.{Accepts, Refuses}
+use Rattle.hsms_entity.specs.declared.fault.EndFault.{EndFault}
+use Rattle.hsms_entity.specs.declared.fault.EndFault.TheVariants as fault
+use Rattle.hsms_entity.specs.Answer.{Answered}
+use Rattle.hsms_entity.specs.EndState.{EndOf}
+use Rattle.hsms_entity.specs.Turn.{Told as Input, tick, linktest}
+use Rattle.hsms_entity.specs.Fault.{Meets}
+use Rattle.hsms_entity.specs.End.{Accepts, Refuses}
 use Rattle.hsms_ends.specs.declared.step.Step.{Step}
 use Rattle.hsms_ends.specs.declared.link.Got.{Got}
 use Rattle.hsms_ends.specs.declared.link.Got.TheVariants as got

@@ -9,8 +9,8 @@ use Rattle.hsms_machine.specs.Run.{IsRun}
 use Rattle.hsms_machine.specs.Laws.{EndsDown}
 use Rattle.hsms_log.specs.Spelling.{settings_line}
 use Rattle.hsms_log.specs.Log.{LogText, written_log}
-use Rattle.hsms_end.specs.Answer.{Answered}
-use Rattle.hsms_end.specs.EndState.{EndOf, untold_since}
+use Rattle.hsms_entity.specs.Answer.{Answered}
+use Rattle.hsms_entity.specs.EndState.{EndOf, untold_since}
 use Rattle.hsms_ends.specs.declared.again.ServedAgain.{ServedAgain}
 use Rattle.hsms_ends.specs.declared.step.Step.{Step}
 use Rattle.hsms_ends.specs.declared.serving.Served.{Served}

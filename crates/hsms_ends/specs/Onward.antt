@@ -5,8 +5,8 @@ use Rattle.hsms_frame.specs.Device.{SinkState}
 use Rattle.hsms_machine.specs.Settings.{Parameters}
 use Rattle.hsms_machine.specs.Run.{IsRun}
 use Rattle.hsms_log.specs.Log.{LogText, written_log}
-use Rattle.hsms_end.specs.Answer.{Answered}
-use Rattle.hsms_end.specs.EndState.{EndOf}
+use Rattle.hsms_entity.specs.Answer.{Answered}
+use Rattle.hsms_entity.specs.EndState.{EndOf}
 use Rattle.hsms_ends.specs.declared.again.ServedAgain.{ServedAgain}
 use Rattle.hsms_ends.specs.declared.again.Went.{Went}
 use Rattle.hsms_ends.specs.declared.step.Step.{Step}

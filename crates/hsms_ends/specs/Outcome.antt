@@ -6,10 +6,10 @@ use Rattle.hsms_machine.specs.declared.entry.Entry.{Entry}
 use Rattle.hsms_machine.specs.Settings.{IsWithinLimits}
 use Rattle.hsms_machine.specs.View.{HasView}
 use Rattle.hsms_log.specs.Spelling.{IsEntry}
-use Rattle.hsms_end.specs.Answer.{Answered}
-use Rattle.hsms_end.specs.EndState.{EndOf}
-use Rattle.hsms_end.specs.Turn.{Told as Input, start, tick, bytes, linktest, lost}
-use Rattle.hsms_end.specs.End.{Accepts}
+use Rattle.hsms_entity.specs.Answer.{Answered}
+use Rattle.hsms_entity.specs.EndState.{EndOf}
+use Rattle.hsms_entity.specs.Turn.{Told as Input, start, tick, bytes, linktest, lost}
+use Rattle.hsms_entity.specs.End.{Accepts}
 use Rattle.hsms_ends.specs.declared.call.Call.{Call}
 use Rattle.hsms_ends.specs.declared.call.Call.TheVariants.{Start, Tick, Bytes, Linktest, Lost}
 use Rattle.hsms_ends.specs.declared.step.Step.{Step}

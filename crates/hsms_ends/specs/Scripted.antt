@@ -5,7 +5,7 @@ use Rattle.std.specs.List.{list_any}
 use Rattle.secs_text.specs.declared.message.Message.{Message}
 use Rattle.secs_text.specs.Content.{Content}
 use Rattle.secs_text.specs.View.{content}
-use Rattle.hsms_end.specs.Answer.{Answered, replies, quiet}
+use Rattle.hsms_entity.specs.Answer.{Answered, replies, quiet}
 
 -- a reply answers a primary
 abbrev pub is_reply_to : Content → Message → Bool

@@ -9,10 +9,10 @@ use Rattle.hsms_machine.specs.Run.{IsRun}
 use Rattle.hsms_machine.specs.Settings.{Parameters}
 use Rattle.hsms_log.specs.Spelling.{settings_line}
 use Rattle.hsms_log.specs.Log.{LogText, written_log}
-use Rattle.hsms_end.specs.Answer.{Answered}
-use Rattle.hsms_end.specs.EndState.{EndOf}
-use Rattle.hsms_end.specs.Turn.{start, lost}
-use Rattle.hsms_end.specs.End.{Accepts}
+use Rattle.hsms_entity.specs.Answer.{Answered}
+use Rattle.hsms_entity.specs.EndState.{EndOf}
+use Rattle.hsms_entity.specs.Turn.{start, lost}
+use Rattle.hsms_entity.specs.End.{Accepts}
 use Rattle.hsms_ends.specs.declared.step.Step.{Step}
 use Rattle.hsms_ends.specs.declared.serving.Served.{Served}
 use Rattle.hsms_ends.specs.declared.fault.ServeFault.{ServeFault}

@@ -6,13 +6,13 @@ use Rattle.secs_text.specs.View.{content}
 use Rattle.hsms_machine.specs.declared.entry.Entry.{Entry}
 use Rattle.hsms_machine.specs.Step.{is_gone, is_selected}
 use Rattle.hsms_machine.specs.View.{own_open_of}
-use Rattle.hsms_end.specs.declared.fault.EndFault.{EndFault}
-use Rattle.hsms_end.specs.Answer.{Answered}
-use Rattle.hsms_end.specs.Due.{test_due}
-use Rattle.hsms_end.specs.EndState.{EndOf}
-use Rattle.hsms_end.specs.Turn.{Told as Input, tick, bytes, send, linktest, separate, lost}
-use Rattle.hsms_end.specs.Fault.{Meets}
-use Rattle.hsms_end.specs.End.{Accepts}
+use Rattle.hsms_entity.specs.declared.fault.EndFault.{EndFault}
+use Rattle.hsms_entity.specs.Answer.{Answered}
+use Rattle.hsms_entity.specs.Due.{test_due}
+use Rattle.hsms_entity.specs.EndState.{EndOf}
+use Rattle.hsms_entity.specs.Turn.{Told as Input, tick, bytes, send, linktest, separate, lost}
+use Rattle.hsms_entity.specs.Fault.{Meets}
+use Rattle.hsms_entity.specs.End.{Accepts}
 use Rattle.hsms_ends.specs.declared.step.Step.{Step}
 use Rattle.hsms_ends.specs.declared.step.Step.TheVariants.{Send, Linktest, Separate}
 use Rattle.hsms_ends.specs.Link.{Heard, both, nothing_heard, moment_heard, octets_heard, quiet_heard, closed_heard}

@@ -9,7 +9,7 @@ use crate::fault::ServeFault;
 use crate::link::Again;
 use crate::serving::serve_end;
 use crate::step::Step;
-use hsms_end::{Answer, End, TurnDesk};
+use hsms_entity::{Answer, End, TurnDesk};
 use hsms_frame::Sink;
 use hsms_log::write_settings;
 use hsms_machine::Settings;

@@ -2,8 +2,8 @@
 
 ghost use Rattle.hsms_ends.specs.Laws.{ServedLogPasses, ServedAgainLogPasses};
 
-use hsms_end::TurnDesk;
-pub use hsms_end::laws::{
+use hsms_entity::TurnDesk;
+pub use hsms_entity::laws::{
     all_expiries_are_logged_before_any_s9f9, each_act_has_one_outcome, each_turn_has_one_outcome,
     free_number_is_among_the_next_65, next_number_follows_the_taken_one, octets_are_kept,
     overdue_link_timer_leaves_s9f9_out,

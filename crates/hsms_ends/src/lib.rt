@@ -1,7 +1,7 @@
 //! The two ends of an HSMS session (SEMI E37, E37.1): what an end logs, sends and answers, and what serves one
 //! connection.
 //!
-//! What one end is and does stands in `hsms_end`, all of which this crate exports too. [`serve`] serves a
+//! What one end is and does stands in `hsms_entity`, all of which this crate exports too. [`serve`] serves a
 //! connection over a [`Link`] to the peer: a socket, or a [`Scripted`] one in memory.
 //!
 //! ```
@@ -30,7 +30,7 @@ mod turns;
 
 pub use again::{Lent, ServedAgain, serve_again};
 pub use fault::{LinkFault, ServeFault};
-pub use hsms_end::{
+pub use hsms_entity::{
     Answer, Desk, Driven, End, EndFault, EquipmentDesk, HostDesk, Input, TurnDesk, drive,
 };
 pub use link::{Again, Got, Link};

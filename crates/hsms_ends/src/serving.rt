@@ -1,7 +1,7 @@
 //! A connection, served.
 
 ghost use Rattle.std.specs.Prelude.{◌≡◌, drop, length};
-ghost use Rattle.hsms_end.specs.EndState.{untold};
+ghost use Rattle.hsms_entity.specs.EndState.{untold};
 ghost use Rattle.hsms_ends.specs.Serving.{Serves, ServesTesting};
 ghost use Rattle.hsms_ends.specs.Outcome.{IsReady, Ran, ServesEnd, ClosedLink, RestClosed, StoppedAs};
 
@@ -12,7 +12,7 @@ use crate::output::{Stop, log_all};
 use crate::range::entries_are_in_range;
 use crate::step::Step;
 use crate::turns::{Progress, hand, has_gone, now, take_turns};
-use hsms_end::{End, TurnDesk};
+use hsms_entity::{End, TurnDesk};
 use hsms_frame::Sink;
 use hsms_log::write_settings;
 use hsms_machine::{Entry, Settings};
@@ -57,7 +57,7 @@ impl Served {
 ///
 /// - *the log*: what was written since the call, of a sink that tells it; after the answer `Log` whole lines and a part
 ///   of the next one, whose entry the end gave in its last call.
-/// - *of a run*: the entries that the end gave for its inputs (`Accepts` of `hsms_end`), in the order of the turns
+/// - *of a run*: the entries that the end gave for its inputs (`Accepts` of `hsms_entity`), in the order of the turns
 ///   (`IsStory`); moments, octets and the answers of waits are those of the link.
 /// - The link took the octets of the sent messages whose lines are whole in the log, in order: all, or where it failed a
 ///   part from their front. As this holds wherever the log fails, the link is at no moment ahead of the log.
@@ -94,7 +94,7 @@ pub fn serve<L: Link, W: Sink, D: TurnDesk + Drop>(
 
 /// Serves one connection as [`serve`] does, and tests the link: where no step is due and nothing came and nothing was
 /// logged for a pause of so many milliseconds, the end sends Linktest.req (SEMI E37, section 7, linktest procedure). It
-/// does so while the session is selected, none is open, and fewer than 64 own transactions are (`test_due` of `hsms_end`);
+/// does so while the session is selected, none is open, and fewer than 64 own transactions are (`test_due` of `hsms_entity`);
 /// T6 runs from there. Without a pause it is `serve`.
 ///
 /// It ensures what `serve` does; each test of the link is one of the turns of its story (`MustTest`).

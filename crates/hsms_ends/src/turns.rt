@@ -1,8 +1,8 @@
 //! The turns of a served connection.
 
 ghost use Rattle.std.specs.Prelude.{◌≡◌, ◌<◌, ℕ, List, Option, drop, length, true, MatchResult};
-ghost use Rattle.hsms_end.specs.Turn.{tick as ticks};
-ghost use Rattle.hsms_end.specs.End.{Accepts, Refuses};
+ghost use Rattle.hsms_entity.specs.Turn.{tick as ticks};
+ghost use Rattle.hsms_entity.specs.End.{Accepts, Refuses};
 ghost use Rattle.hsms_ends.specs.Link.{Asks, IsGot, moment_heard, nothing_heard};
 ghost use Rattle.hsms_ends.specs.PutOut.{AllFitLengthField};
 ghost use Rattle.hsms_ends.specs.Turning.{HasNotGone, MustWait, has_gone as is_down, is_idle as is_free, is_step_due as step_due, input_of, is_test_due as test_due, test_moment as moment_of_test};
@@ -13,7 +13,7 @@ use crate::link::{Got, Link};
 use crate::output::{Stop, put_out};
 use crate::range::entries_are_in_range;
 use crate::step::Step;
-use hsms_end::{End, EndFault, TurnDesk};
+use hsms_entity::{End, EndFault, TurnDesk};
 use hsms_frame::Sink;
 use hsms_machine::{Entry, Phase, earlier};
 

@@ -1,7 +1,7 @@
 ghost use Rattle.std.specs.Prelude.{◌≡◌};
 ghost use Rattle.hsms_log.specs.Judging.{message_size};
 
-use crate::later::{carried_entry, later_line};
+use crate::entry_line::{carried_entry, judge_entry_line};
 use crate::range::{entry_is_in_range, settings_are_in_range};
 use crate::session::Session;
 use crate::settings_line::read_settings;
@@ -47,7 +47,9 @@ impl Judge {
     {
         match &mut self.session {
             None => Ok(self.first_line(alloc, line)),
-            Some(session) => { later_line(session, &mut self.tally, &mut self.octets, alloc, line) }
+            Some(session) => {
+                judge_entry_line(session, &mut self.tally, &mut self.octets, alloc, line)
+            }
         }
     }
 

@@ -22,10 +22,10 @@
 mod auditing;
 mod auditor;
 mod digits;
+mod entry_line;
 mod fault;
 mod hexadecimal;
 mod judging;
-mod later;
 pub mod laws;
 mod line;
 mod line_reader;

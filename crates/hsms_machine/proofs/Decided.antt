@@ -23,7 +23,7 @@ use Rattle.hsms_machine.specs.declared.flow.Flow.{Flow}
 use Rattle.hsms_machine.specs.declared.flow.Flow.TheVariants.{Outgoing, Incoming}
 use Rattle.hsms_machine.specs.Settings.{Parameters}
 use Rattle.hsms_machine.specs.Entry.{is_up, is_down, is_t3}
-use Rattle.hsms_machine.specs.Message.{is_data, is_control, is_response, is_request, establishes, has_session, has_direction, has_wait}
+use Rattle.hsms_machine.specs.Message.{is_data, is_control, is_response, is_request, establishes, has_right_session, has_right_direction, has_right_wait}
 use Rattle.hsms_machine.specs.Transaction.{answers, Pool, SentData, SentControl, TakenData, TakenControl}
 use Rattle.hsms_machine.specs.Session.{Facts, facts_before, selects, ends_session}
 use Rattle.hsms_machine.specs.Timer.{IsTimed, IsT3Overdue, IsT6Overdue, IsT7Overdue, IsCutNotDue, IsNotDue}
@@ -168,10 +168,10 @@ module _ (F : Facts) (s : Settled F) (settings : Parameters) where
   frame_decided flow frame text PType = ptype_decided (kind_of frame.header)
   frame_decided flow frame text SType = stype_decided (kind_of frame.header)
   frame_decided flow frame text ControlText = both_decided _ _ (true_decided (is_control frame.header)) (less_decided _ _)
-  frame_decided flow frame text Session = not_decided _ (true_decided (has_session settings frame.header))
-  frame_decided flow frame text Direction = not_decided _ (true_decided (has_direction settings flow frame.header))
+  frame_decided flow frame text Session = not_decided _ (true_decided (has_right_session settings frame.header))
+  frame_decided flow frame text Direction = not_decided _ (true_decided (has_right_direction settings flow frame.header))
   frame_decided flow frame text NotSelected = both_decided _ _ (true_decided (is_data frame.header)) (not_decided _ s.selected)
-  frame_decided flow frame text WBit = not_decided _ (true_decided (has_wait frame.header))
+  frame_decided flow frame text WBit = not_decided _ (true_decided (has_right_wait frame.header))
   frame_decided flow frame text Text = both_decided _ _ (true_decided (is_data frame.header)) (not_decided _ text)
   frame_decided flow frame text SystemInUse =
       both_decided _ _ (true_decided (is_request frame.header)) (some_of_decided flow (λ opened. opened.header.system == frame.header.system))

@@ -127,12 +127,12 @@ is_control_request header = opens_control (kind_of header)
 abbrev pub is_request : Header → Bool
 is_request header = is_data_request header || is_control_request header
 
-unfoldable pub has_session : Parameters → Header → Bool
-has_session settings header = is_session (kind_of header) settings.device header.session
+unfoldable pub has_right_session : Parameters → Header → Bool
+has_right_session settings header = is_session (kind_of header) settings.device header.session
 
-unfoldable pub has_direction : Parameters → Flow → Header → Bool
-has_direction settings flow header =
+unfoldable pub has_right_direction : Parameters → Flow → Header → Bool
+has_right_direction settings flow header =
     is_direction (kind_of header) (is_from_active settings.link flow) (is_from_equipment settings.role flow) (stream_of header == 9)
 
-unfoldable pub has_wait : Header → Bool
-has_wait header = is_wait (kind_of header) (wait_of header) (stream_of header == 9)
+unfoldable pub has_right_wait : Header → Bool
+has_right_wait header = is_wait (kind_of header) (wait_of header) (stream_of header == 9)

@@ -18,7 +18,7 @@ use Rattle.hsms_machine.specs.declared.flow.Flow.{Flow}
 use Rattle.hsms_machine.specs.declared.flow.Flow.TheVariants.{Outgoing, Incoming}
 use Rattle.hsms_machine.specs.Settings.{Parameters}
 use Rattle.hsms_machine.specs.Entry.{is_t3}
-use Rattle.hsms_machine.specs.Message.{is_data, is_control, is_response, is_request, establishes, has_session, has_direction, has_wait}
+use Rattle.hsms_machine.specs.Message.{is_data, is_control, is_response, is_request, establishes, has_right_session, has_right_direction, has_right_wait}
 use Rattle.hsms_machine.specs.Transaction.{answers, SentData, SentControl, TakenData, TakenControl}
 use Rattle.hsms_machine.specs.Session.{Facts}
 use Rattle.hsms_machine.specs.Timer.{IsT3Overdue, IsT6Overdue, IsT7Overdue, IsNotDue}
@@ -77,10 +77,10 @@ FrameBreaks facts settings flow frame TooLong = settings.max < 10 + length frame
 FrameBreaks facts settings flow frame PType = kind_of frame.header ≡ OtherPType
 FrameBreaks facts settings flow frame SType = kind_of frame.header ≡ OtherSType
 FrameBreaks facts settings flow frame ControlText = IsTrue (is_control frame.header) × (0 < length frame.text)
-FrameBreaks facts settings flow frame Session = ¬ IsTrue (has_session settings frame.header)
-FrameBreaks facts settings flow frame Direction = ¬ IsTrue (has_direction settings flow frame.header)
+FrameBreaks facts settings flow frame Session = ¬ IsTrue (has_right_session settings frame.header)
+FrameBreaks facts settings flow frame Direction = ¬ IsTrue (has_right_direction settings flow frame.header)
 FrameBreaks facts settings flow frame NotSelected = IsTrue (is_data frame.header) × ¬ facts.IsSelected
-FrameBreaks facts settings flow frame WBit = ¬ IsTrue (has_wait frame.header)
+FrameBreaks facts settings flow frame WBit = ¬ IsTrue (has_right_wait frame.header)
 FrameBreaks facts settings flow frame Text = IsTrue (is_data frame.header) × ¬ IsText settings.depth frame.text
 FrameBreaks facts settings flow frame SystemInUse = IsTrue (is_request frame.header) × IsInUse facts flow frame.header.system
 FrameBreaks facts settings flow frame NoTransaction = IsTrue (is_response frame.header) × ¬ IsAnswer facts flow frame.header

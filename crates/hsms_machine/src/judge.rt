@@ -3,8 +3,8 @@
 use crate::entry::{Act, Cause};
 use crate::flow::Flow;
 use crate::message::{
-    Message, establishes, has_direction, has_session, has_wait, is_control, is_control_request,
-    is_data, is_data_request, is_response,
+    Message, establishes, has_right_direction, has_right_session, has_right_wait, is_control,
+    is_control_request, is_data, is_data_request, is_response,
 };
 use crate::phase::Phase;
 use crate::rule::Rule;
@@ -200,9 +200,9 @@ impl View {
         }
         if is_control(message) && !text.is_empty() {
             Some(Rule::ControlText)
-        } else if !has_session(self.settings, message) {
+        } else if !has_right_session(self.settings, message) {
             Some(Rule::Session)
-        } else if !has_direction(self.settings, flow, message) {
+        } else if !has_right_direction(self.settings, flow, message) {
             Some(Rule::Direction)
         } else {
             None
@@ -222,7 +222,7 @@ impl View {
         let selected = self.phase == Phase::Selected;
         if is_data(message) && !selected {
             Some(Rule::NotSelected)
-        } else if !has_wait(message) {
+        } else if !has_right_wait(message) {
             Some(Rule::WBit)
         } else if is_data(message) && !self.is_text(text) {
             Some(Rule::Text)

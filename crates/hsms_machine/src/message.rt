@@ -1,7 +1,7 @@
 //! What the rules ask of a header.
 
 ghost use Rattle.std.specs.Prelude.{◌≡◌};
-ghost use Rattle.hsms_machine.specs.Message.{is_data_request as opens_data_transaction, is_control_request as opens_control_transaction, establishes as is_establishment, separates as is_separation, is_data as carries_data, is_control as is_control_message, is_response as is_response_message, may_conclude as is_of_conclusive_kind, has_session as is_session_right, has_direction as is_direction_right, has_wait as is_wait_right, is_from_active as comes_from_active, is_from_equipment as comes_from_equipment};
+ghost use Rattle.hsms_machine.specs.Message.{is_data_request as opens_data_transaction, is_control_request as opens_control_transaction, establishes as is_establishment, separates as is_separation, is_data as carries_data, is_control as is_control_message, is_response as is_response_message, may_conclude as is_of_conclusive_kind, has_right_session as is_session_right, has_right_direction as is_direction_right, has_right_wait as is_wait_right, is_from_active as comes_from_active, is_from_equipment as comes_from_equipment};
 ghost use Rattle.hsms_machine.specs.Transaction.{answers as is_answer, is_reply_to as is_reply, concludes as is_conclusion};
 
 use crate::flow::Flow;
@@ -166,8 +166,8 @@ pub fn is_response(message: Message) -> bool
 }
 
 /// Whether the session ID is the one that the message's kind has.
-#[tactic(auto, unfolding(crate::specs::Message::has_session))]
-pub fn has_session(settings: Settings, message: Message) -> bool
+#[tactic(auto, unfolding(crate::specs::Message::has_right_session))]
+pub fn has_right_session(settings: Settings, message: Message) -> bool
     ensures { result ≡ is_session_right settings message }
 {
     match message.kind() {
@@ -190,8 +190,8 @@ fn is_from_equipment(role: Role, flow: Flow) -> bool
 }
 
 /// Whether the end from which the message comes may send it.
-#[tactic(auto, unfolding(crate::specs::Message::has_direction))]
-pub fn has_direction(settings: Settings, flow: Flow, message: Message) -> bool
+#[tactic(auto, unfolding(crate::specs::Message::has_right_direction))]
+pub fn has_right_direction(settings: Settings, flow: Flow, message: Message) -> bool
     ensures { result ≡ is_direction_right settings flow message }
 {
     let from_active = is_from_active(settings.link(), flow);
@@ -206,8 +206,8 @@ pub fn has_direction(settings: Settings, flow: Flow, message: Message) -> bool
 }
 
 /// Whether the message may have its W bit as it is.
-#[tactic(auto, unfolding(crate::specs::Message::has_wait))]
-pub fn has_wait(message: Message) -> bool
+#[tactic(auto, unfolding(crate::specs::Message::has_right_wait))]
+pub fn has_right_wait(message: Message) -> bool
     ensures { result ≡ is_wait_right message }
 {
     match message.kind() {

@@ -2,9 +2,9 @@
 use Rattle.std.specs.Prelude.{◌≡◌, ◌==◌, ◌||◌, not, ℕ, Bool, true, List, codes, Option, Some, None, Result, Ok, Err, if◌then◌else◌}
 use Rattle.secs_text.specs.declared.message.Message.{Message}
 use Rattle.secs_text.specs.Content.{Content}
-use Rattle.hsms_end.specs.Answer.{Answered}
-use Rattle.hsms_end.specs.Desk.{equipment_answer, host_answer}
-use Rattle.hsms_end.specs.EndState.{untold}
+use Rattle.hsms_entity.specs.Answer.{Answered}
+use Rattle.hsms_entity.specs.Desk.{equipment_answer, host_answer}
+use Rattle.hsms_entity.specs.EndState.{untold}
 use Rattle.hsms_frame.specs.Device.{SinkState}
 use Rattle.hsms_machine.specs.declared.settings.Role.TheVariants as role
 use Rattle.hsms_ends.specs.declared.fault.ServeFault.{ServeFault}

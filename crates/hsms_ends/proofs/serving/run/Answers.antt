@@ -1,6 +1,6 @@
 use Rattle.std.proofs.Common.{ap, Ok, Err}
 use Rattle.hsms_frame.specs.Device.{SinkState}
-use Rattle.hsms_end.specs.Turn.{start}
+use Rattle.hsms_entity.specs.Turn.{start}
 use Rattle.hsms_ends.proofs.Readiness.{ready_handed}
 use Rattle.hsms_ends.proofs.Running.{ran_turns, ran_cut}
 use Rattle.hsms_ends.proofs.Turning.{handed_asked}

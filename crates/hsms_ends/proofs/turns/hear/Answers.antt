@@ -1,6 +1,6 @@
 use Rattle.std.proofs.Common.{sym, ◌∙◌}
 use Rattle.hsms_frame.specs.Device.{SinkState}
-use Rattle.hsms_end.specs.Turn.{tick as ticks}
+use Rattle.hsms_entity.specs.Turn.{tick as ticks}
 use Rattle.hsms_ends.specs.Outcome.{called}
 use Rattle.hsms_ends.proofs.Readiness.{ready_handed}
 use Rattle.hsms_ends.proofs.Turning.{followed_gone, followed_cut, followed}

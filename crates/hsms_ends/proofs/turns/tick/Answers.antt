@@ -1,5 +1,5 @@
 use Rattle.hsms_frame.specs.Device.{SinkState}
-use Rattle.hsms_end.specs.Turn.{tick as ticks}
+use Rattle.hsms_entity.specs.Turn.{tick as ticks}
 use Rattle.hsms_ends.proofs.Turning.{handed_asked}
 use Rattle.hsms_ends.proofs.turns.tick.Goals as goal
 

@@ -1,6 +1,6 @@
 use Rattle.std.proofs.Common.{drop, refl, sym, ◌∙◌, Ok}
 use Rattle.hsms_frame.specs.Device.{SinkState}
-use Rattle.hsms_end.specs.Turn.{tick as ticks}
+use Rattle.hsms_entity.specs.Turn.{tick as ticks}
 use Rattle.hsms_ends.proofs.Readiness.{ready_handed}
 use Rattle.hsms_ends.proofs.Turning.{continued_gone, continued_tested, turn_whole, turn_cut}
 use Rattle.hsms_ends.proofs.turns.turn.Goals as goal

@@ -1,7 +1,0 @@
-use Rattle.std.proofs.Common.{sym, ◌∙◌}
-use Rattle.hsms_end.proofs.Messages.{text_is_some}
-use Rattle.hsms_end.proofs.state.State.fitting_text.Goals as goal
-
-pub returns-then-len-max-clause-spelled : goal.returns-then-len-max-clause-spelled
-returns-then-len-max-clause-spelled c =
-    text_is_some (λ octets. octets.items) c.args.self.now.settings.depth _ c.in_ok-text.field-0 c.in-Some.text (sym c.is_within_depth.ensures ∙ c.if-not-is_within_depth.false) c.in-Some.is c.in_ok-text.ensures.spelled

@@ -1,0 +1,90 @@
+-- What the calls of an end answer.
+use Rattle.std.proofs.Common.{◌≡◌, ℕ, max, ◌<◌, ◌≤◌, Bool, true, false, List, [], ◌∷◌, Some, None, refl, sym, subst, ◌∙◌, inl, inr, arith}
+use Rattle.secs_text.specs.Content.{Content}
+use Rattle.hsms_machine.specs.declared.entry.Entry.{Entry}
+use Rattle.hsms_machine.specs.declared.entry.Event.TheVariants.{Down}
+use Rattle.hsms_machine.specs.declared.view.View.{View}
+use Rattle.hsms_machine.specs.View.{own_open_of}
+use Rattle.hsms_entity.specs.declared.state.State.{State}
+use Rattle.hsms_entity.specs.Answer.{Answered}
+use Rattle.hsms_entity.specs.Frame.{linktest_req, separate_req}
+use Rattle.hsms_entity.specs.Act.{Act, Acts, logs, asks}
+use Rattle.hsms_entity.specs.Turn.{is_up, opening_of, Told, Turn, start, linktest, separate, lost}
+use Rattle.hsms_entity.specs.Fault.{Meets, is_before}
+use Rattle.hsms_entity.specs.Performing.{Performs}
+use Rattle.hsms_entity.specs.End.{Extends, Accepts}
+use Rattle.hsms_entity.specs.EndState.{EndState, EndOf}
+use Rattle.hsms_entity.specs.Inside.{known_of, known}
+
+pub acts_of : (end end' : State) (acts : List Act) (entries : List Entry) → Performs end [] acts end' entries → Acts (known end) acts entries (known end')
+acts_of end end' acts entries h = subst (λ es. Acts (known end) acts es (known end')) (sym h.added) h.done
+
+pub run_of : (end end' : State) (acts : List Act) (entries : List Entry) → Performs end [] acts end' entries → Extends end.tracker entries end'.tracker
+run_of end end' acts entries h = subst (λ es. Extends end.tracker es end'.tracker) (sym h.added) h.run
+
+pub not_spent : (spent : Bool) → spent ≡ false → spent ≡ true → ⊥
+not_spent spent f t = let d : true ≡ false = sym t ∙ f in cc
+
+pub up_is_up : (up : Bool) → up ≡ true → up ≡ false → ⊥
+up_is_up up t f = let d : true ≡ false = sym t ∙ f in cc
+
+-- ---- lost, separate and linktest
+
+pub lost_meets : (spent : Bool) (end : State) → spent ≡ false → is_up end.tracker.phase ≡ true → Meets (known_of end spent) lost None
+unfolding Meets
+lost_meets spent end s u =
+    inr (not_spent spent s, inr (up_is_up (is_up end.tracker.phase) u, inr ((λ b. b), inr ((λ b. b), inr ((λ b. b), inr ((λ b. let d : false ≡ true = b.0 in cc), inr ((λ b. b), inr ((λ b. b), refl))))))))
+
+pub separate_meets : (spent : Bool) (end : State) → spent ≡ false → is_up end.tracker.phase ≡ true → Meets (known_of end spent) separate None
+unfolding Meets
+separate_meets spent end s u =
+    inr (not_spent spent s, inr (up_is_up (is_up end.tracker.phase) u, inr ((λ b. b), inr ((λ b. b), inr ((λ b. b), inr ((λ b. let d : false ≡ true = b.0 in cc), inr ((λ b. b), inr ((λ b. b), refl))))))))
+
+pub linktest_meets : (spent : Bool) (end : State) → spent ≡ false → is_up end.tracker.phase ≡ true → own_open_of end.tracker < 64 → Meets (known_of end spent) linktest None
+unfolding Meets
+linktest_meets spent end s u room =
+    inr (not_spent spent s, inr (up_is_up (is_up end.tracker.phase) u, inr ((λ b. b), inr ((λ b. b), inr ((λ b. b), inr ((λ b. let le : 64 ≤ own_open_of end.tracker = b.1 in absurd (omega arith)), inr ((λ b. b), inr ((λ b. b), refl))))))))
+
+-- ---- what a call answers, said of what is inside an end
+
+abbrev pub inside_of : {D : Type 0} → D → State → Bool → EndOf D
+inside_of desk end spent = record { desk = desk; known = known_of end spent }
+
+pub accepted_at : {D : Type 0} (answers : D → ℕ → Content → Answered) (desk : D) (end end' : State) (spent : Bool) (at : EndOf D) (input : Told) (entries : List Entry) → spent ≡ false → inside_of desk end spent ≡ at → Meets (known_of end spent) input None → Turn (answers desk) (known end) input entries (known end') → Extends end.tracker entries end'.tracker → Accepts answers at input entries (inside_of desk end' false)
+accepted_at {D} answers desk end end' spent at input entries fresh is meets turn run =
+    subst (λ (k : EndOf D). Accepts answers k input entries (inside_of desk end' false)) is
+    (subst (λ (b : Bool). Accepts answers (inside_of desk end b) input entries (inside_of desk end' false)) (sym fresh)
+    (record { meets = subst (λ (b : Bool). Meets (known_of end b) input None) fresh meets; turn = turn; run = run; desk = refl }))
+
+-- an input whose turn is these acts, from this end on
+pub accepted : {D : Type 0} (answers : D → ℕ → Content → Answered) (desk : D) (end from end' : State) (spent : Bool) (at : EndOf D) (input : Told) (acts : List Act) (first entries : List Entry) → spent ≡ false → inside_of desk end spent ≡ at → first ≡ [] → Meets (known_of end spent) input None → from.tracker ≡ end.tracker → ((es : List Entry) (k : EndState) → Acts (known from) acts es k → Turn (answers desk) (known end) input es k) → Performs from first acts end' entries → Accepts answers at input entries (inside_of desk end' false)
+accepted {D} answers desk end from end' spent at input acts first entries fresh is empty meets same turn h =
+    let done : Performs from [] acts end' entries = subst (λ es. Performs from es acts end' entries) empty h in
+    accepted_at answers desk end end' spent at input entries fresh is meets (turn entries (known end') (acts_of from end' acts entries done))
+    (subst (λ (v : View). Extends v entries end'.tracker) same (run_of from end' acts entries done))
+
+-- ---- start
+
+pub start_meets : (spent : Bool) (end : State) (now : ℕ) → spent ≡ false → is_before end.tracker.phase ≡ true → Meets (known_of end spent) (start now) None
+unfolding Meets
+start_meets spent end now s u =
+    inr (not_spent spent s, inr (up_is_up (is_before end.tracker.phase) u, inr ((λ b. b), inr ((λ b. b), inr ((λ b. b), inr ((λ b. let d : false ≡ true = b.0 in cc), inr ((λ b. b), inr ((λ b. b), refl))))))))
+
+pub started : {D : Type 0} (answers : D → ℕ → Content → Answered) (desk : D) (end end' : State) (spent : Bool) (at : EndOf D) (now moment : ℕ) (first entries : List Entry) → moment ≡ max end.moment now → spent ≡ false → inside_of desk end spent ≡ at → first ≡ [] → is_before end.tracker.phase ≡ true → Performs (record end { moment = moment }) first (opening_of end.settings.link) end' entries → Accepts answers at (start now) entries (inside_of desk end' false)
+started answers desk end end' spent at now moment first entries later fresh is empty before h =
+    accepted answers desk end (record end { moment = max end.moment now }) end' spent at (start now) (opening_of end.settings.link) first entries fresh is empty (start_meets spent end now fresh before) refl (λ es k h. h)
+    (subst (λ (m : ℕ). Performs (record end { moment = m }) first (opening_of end.settings.link) end' entries) later h)
+
+-- ---- lost, separate and linktest
+
+pub lost_accepted : {D : Type 0} (answers : D → ℕ → Content → Answered) (desk : D) (end end' : State) (spent : Bool) (at : EndOf D) (first entries : List Entry) → spent ≡ false → inside_of desk end spent ≡ at → first ≡ [] → is_up end.tracker.phase ≡ true → Performs end first (logs Down ∷ []) end' entries → Accepts answers at lost entries (inside_of desk end' false)
+lost_accepted answers desk end end' spent at first entries fresh is empty up h =
+    accepted answers desk end end end' spent at lost (logs Down ∷ []) first entries fresh is empty (lost_meets spent end fresh up) refl (λ es k d. d) h
+
+pub separate_accepted : {D : Type 0} (answers : D → ℕ → Content → Answered) (desk : D) (end end' : State) (spent : Bool) (at : EndOf D) (first entries : List Entry) → spent ≡ false → inside_of desk end spent ≡ at → first ≡ [] → is_up end.tracker.phase ≡ true → Performs end first (asks separate_req ∷ logs Down ∷ []) end' entries → Accepts answers at separate entries (inside_of desk end' false)
+separate_accepted answers desk end end' spent at first entries fresh is empty up h =
+    accepted answers desk end end end' spent at separate (asks separate_req ∷ logs Down ∷ []) first entries fresh is empty (separate_meets spent end fresh up) refl (λ es k d. d) h
+
+pub linktest_accepted : {D : Type 0} (answers : D → ℕ → Content → Answered) (desk : D) (end end' : State) (spent : Bool) (at : EndOf D) (first entries : List Entry) → spent ≡ false → inside_of desk end spent ≡ at → first ≡ [] → is_up end.tracker.phase ≡ true → own_open_of end.tracker < 64 → Performs end first (asks linktest_req ∷ []) end' entries → Accepts answers at linktest entries (inside_of desk end' false)
+linktest_accepted answers desk end end' spent at first entries fresh is empty up room h =
+    accepted answers desk end end end' spent at linktest (asks linktest_req ∷ []) first entries fresh is empty (linktest_meets spent end fresh up room) refl (λ es k d. d) h

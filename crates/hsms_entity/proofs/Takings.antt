@@ -1,0 +1,375 @@
+-- What holds of an end after a frame was taken or discarded.
+use Rattle.std.proofs.Common.{◌≡◌, ◌==◌, ℕ, Bool, true, false, ◌&&◌, ◌||◌, List, [], ◌∷◌, ◌++◌, option_to_list, Option, Some, None, refl, sym, ap, subst, ◌∙◌, inl, inr, ◌⊎◌, arith, if◌then◌else◌}
+use Rattle.secs_text.specs.Content.{Content}
+use Rattle.secs_item.specs.Spelling.{IsText}
+use Rattle.hsms_frame.specs.declared.header.Header.{Header}
+use Rattle.hsms_frame.specs.Frame.{Frame}
+use Rattle.hsms_frame.specs.declared.kinds.Kind.{Kind}
+use Rattle.hsms_frame.specs.declared.kinds.Kind.TheVariants.{Primary, Reply, SelectReq, SelectRsp, LinktestReq, LinktestRsp, Reject, Separate, OtherSType, OtherPType}
+use Rattle.hsms_frame.specs.Header.{kind_of, stream_of, function_of, wait_of}
+use Rattle.hsms_machine.specs.declared.entry.Entry.{Entry}
+use Rattle.hsms_machine.specs.declared.entry.Event.TheVariants.{Taken, Discarded, Down}
+use Rattle.hsms_machine.specs.declared.phase.Phase.{Phase}
+use Rattle.hsms_machine.specs.declared.phase.Phase.TheVariants as phase
+use Rattle.hsms_machine.specs.declared.settings.Side.{Side}
+use Rattle.hsms_machine.specs.declared.settings.Side.TheVariants.{Active, Passive}
+use Rattle.hsms_machine.specs.declared.rule.Rule.{Rule}
+use Rattle.hsms_machine.specs.declared.rule.Rule.TheVariants.{Backwards, NotUp, Ended, T3Overdue, LinkOverdue, NotDue, NoCause, TooLong, PType, SType, ControlText, Session, Direction, NotSelected, WBit, Text, SystemInUse, NoTransaction, SelectStatus}
+use Rattle.hsms_machine.specs.declared.flow.Flow.TheVariants.{Incoming}
+use Rattle.hsms_machine.specs.Settings.{Parameters}
+use Rattle.hsms_machine.specs.Message.{is_data, is_data_kind, is_data_request, is_control_request, establishes, separates, is_select_response, is_separate_kind, opens_data, opens_control, has_right_direction, is_direction, is_from_active, is_from_equipment}
+use Rattle.hsms_machine.specs.Transaction.{opened_by}
+use Rattle.hsms_machine.specs.View.{phase_by}
+use Rattle.hsms_machine.specs.Rule.{Breaks, FrameBreaks, IsFirst, all_rules, format_rules, transaction_rules}
+use Rattle.hsms_machine.specs.Step.{facts_of, phase_after, is_selected, is_gone, is_over}
+use Rattle.hsms_entity.specs.declared.state.State.{State}
+use Rattle.hsms_entity.specs.Answer.{Answered, quiet}
+use Rattle.hsms_entity.specs.Act.{Act, logs}
+use Rattle.hsms_entity.specs.Asked.{name_of, name_in, times, once_more}
+use Rattle.hsms_entity.specs.Inside.{after_event, after_asking}
+use Rattle.hsms_entity.specs.Reaction.{reaction, answers_taken, answers_discarded, rejects, warns, is_control_response}
+use Rattle.hsms_entity.specs.Turn.{is_up, BreaksAsTaken, received_as, IsAnswerOf, asked_with}
+use Rattle.hsms_entity.specs.Performing.{Performs, IsLawful}
+use Rattle.hsms_entity.specs.Sound.{IsSound}
+use Rattle.hsms_entity.specs.Receiving.{HasHandled}
+use Rattle.hsms_entity.specs.AwaitingReply.{PeerAwaits, IsAsked, IsAskedToSelect, IsAskedForLink, CanTake, CanDiscard, IsAnsweredBy, is_silent}
+use Rattle.hsms_entity.proofs.Lawfuls.{down_over_lawful, applies}
+use Rattle.hsms_entity.proofs.Requests.{frame_taken, frame_discarded}
+use Rattle.hsms_entity.proofs.Steadiness.{kept_phase, sound_down}
+use Rattle.hsms_entity.proofs.AwaitingReplies.{taken_awaits, discarded_awaits, sound_awaits}
+
+-- ---- rules that a frame doesn't break
+
+behind : (Applies : Rule → Type 0) (rule : Rule) (rules : List Rule) (answer : Option Rule) → (answer ≡ Some rule → ⊥) → IsFirst Applies (rule ∷ rules) answer → (Applies rule → ⊥) × IsFirst Applies rules answer
+behind Applies rule rules answer never h = elim h [ inl p ↦ absurd (never p.1) | inr q ↦ (q.0, q.1) ]
+
+surely : (b : Bool) → ((b ≡ true → ⊥) → ⊥) → b ≡ true
+surely true h = refl
+surely false h = absurd (h (λ e. let d : false ≡ true = e in cc))
+
+surely_selected : (p : Phase) → ((p ≡ phase.Selected → ⊥) → ⊥) → p ≡ phase.Selected
+surely_selected phase.Before h = absurd (h (λ e. let d : phase.Before ≡ phase.Selected = e in cc))
+surely_selected phase.NotSelected h = absurd (h (λ e. let d : phase.NotSelected ≡ phase.Selected = e in cc))
+surely_selected phase.Selected h = refl
+surely_selected phase.Over h = absurd (h (λ e. let d : phase.Over ≡ phase.Selected = e in cc))
+surely_selected phase.Gone h = absurd (h (λ e. let d : phase.Gone ≡ phase.Selected = e in cc))
+
+passive_of : (link : Side) → is_from_active link Incoming ≡ true → link ≡ Passive
+passive_of Active e = absurd (let d : false ≡ true = e in cc)
+passive_of Passive e = refl
+
+module _ (end : State) (frame : Frame) (answer : Option Rule) (broken : BreaksAsTaken end.tracker frame answer) where
+  abbrev Broken : Rule → Type 0
+  Broken = FrameBreaks (facts_of end.tracker) end.tracker.settings Incoming frame
+
+  to_direction : (answer ≡ Some TooLong → ⊥) → (answer ≡ Some PType → ⊥) → (answer ≡ Some SType → ⊥) → (answer ≡ Some ControlText → ⊥) → (answer ≡ Some Session → ⊥) → IsFirst Broken (Direction ∷ transaction_rules) answer
+  to_direction n1 n2 n3 n4 n5 =
+      let h1 = behind Broken TooLong (PType ∷ SType ∷ ControlText ∷ Session ∷ Direction ∷ transaction_rules) answer n1 broken in
+      let h2 = behind Broken PType (SType ∷ ControlText ∷ Session ∷ Direction ∷ transaction_rules) answer n2 h1.1 in
+      let h3 = behind Broken SType (ControlText ∷ Session ∷ Direction ∷ transaction_rules) answer n3 h2.1 in
+      let h4 = behind Broken ControlText (Session ∷ Direction ∷ transaction_rules) answer n4 h3.1 in
+      (behind Broken Session (Direction ∷ transaction_rules) answer n5 h4.1).1
+
+none_some : (rule : Rule) → ◌≡◌ {A = Option Rule} None (Some rule) → ⊥
+none_some rule e = let d : ◌≡◌ {A = Option Rule} None (Some rule) = e in cc
+
+module _ (end : State) (frame : Frame) (can : CanTake end frame) where
+  at_direction : IsFirst (FrameBreaks (facts_of end.tracker) end.tracker.settings Incoming frame) (Direction ∷ transaction_rules) None
+  at_direction = to_direction end frame None can.broken (none_some TooLong) (none_some PType) (none_some SType) (none_some ControlText) (none_some Session)
+
+  past_direction : (FrameBreaks (facts_of end.tracker) end.tracker.settings Incoming frame Direction → ⊥) × IsFirst (FrameBreaks (facts_of end.tracker) end.tracker.settings Incoming frame) transaction_rules None
+  past_direction = behind (FrameBreaks (facts_of end.tracker) end.tracker.settings Incoming frame) Direction transaction_rules None (none_some Direction) at_direction
+
+  past_selected : (FrameBreaks (facts_of end.tracker) end.tracker.settings Incoming frame NotSelected → ⊥) × IsFirst (FrameBreaks (facts_of end.tracker) end.tracker.settings Incoming frame) (WBit ∷ Text ∷ SystemInUse ∷ NoTransaction ∷ SelectStatus ∷ []) None
+  past_selected = behind (FrameBreaks (facts_of end.tracker) end.tracker.settings Incoming frame) NotSelected (WBit ∷ Text ∷ SystemInUse ∷ NoTransaction ∷ SelectStatus ∷ []) None (none_some NotSelected) past_direction.1
+
+  past_wait : (FrameBreaks (facts_of end.tracker) end.tracker.settings Incoming frame WBit → ⊥) × IsFirst (FrameBreaks (facts_of end.tracker) end.tracker.settings Incoming frame) (Text ∷ SystemInUse ∷ NoTransaction ∷ SelectStatus ∷ []) None
+  past_wait = behind (FrameBreaks (facts_of end.tracker) end.tracker.settings Incoming frame) WBit (Text ∷ SystemInUse ∷ NoTransaction ∷ SelectStatus ∷ []) None (none_some WBit) past_selected.1
+
+  past_text : (FrameBreaks (facts_of end.tracker) end.tracker.settings Incoming frame Text → ⊥) × IsFirst (FrameBreaks (facts_of end.tracker) end.tracker.settings Incoming frame) (SystemInUse ∷ NoTransaction ∷ SelectStatus ∷ []) None
+  past_text = behind (FrameBreaks (facts_of end.tracker) end.tracker.settings Incoming frame) Text (SystemInUse ∷ NoTransaction ∷ SelectStatus ∷ []) None (none_some Text) past_wait.1
+
+  data_selected : is_data frame.header ≡ true → end.tracker.phase ≡ phase.Selected
+  data_selected d = surely_selected end.tracker.phase (λ n. past_selected.0 (d, n))
+
+  primary_is_data : kind_of frame.header ≡ Primary → is_data frame.header ≡ true
+  unfolding is_data
+  primary_is_data kind = ap is_data_kind kind
+
+  pub readable : kind_of frame.header ≡ Primary → (IsText end.settings.depth frame.text → ⊥) → ⊥
+  readable kind n = past_text.0 (primary_is_data kind, λ is. n (subst (λ (s : Parameters). IsText s.depth frame.text) (sym can.awaits.settings) is))
+
+  from_active : kind_of frame.header ≡ SelectReq → is_from_active end.tracker.settings.link Incoming ≡ true
+  unfolding has_right_direction
+  from_active kind =
+      sym (ap (λ k. is_direction k (is_from_active end.tracker.settings.link Incoming) (is_from_equipment end.tracker.settings.role Incoming) (stream_of frame.header == 9)) kind)
+      ∙ surely (is_direction (kind_of frame.header) (is_from_active end.tracker.settings.link Incoming) (is_from_equipment end.tracker.settings.role Incoming) (stream_of frame.header == 9)) past_direction.0
+
+  -- a message that neither selects nor separates leaves the phase
+  same_phase : (kind : Kind) → kind_of frame.header ≡ kind → is_separate_kind kind ≡ false → is_select_response kind ≡ false → phase_after end.tracker.phase (Taken frame) ≡ end.tracker.phase
+  unfolding separates establishes
+  same_phase kind is e f =
+      kept_phase end.tracker.phase (is_separate_kind (kind_of frame.header)) (is_select_response (kind_of frame.header) && (frame.header.byte3 == 0)) can.awaits.up
+      (ap is_separate_kind is ∙ e)
+      (ap (λ k. is_select_response k && (frame.header.byte3 == 0)) is ∙ ap (λ b. b && (frame.header.byte3 == 0)) f)
+
+  stays_on : (kind : Kind) → kind_of frame.header ≡ kind → is_separate_kind kind ≡ false → separates frame.header ≡ false
+  unfolding separates
+  stays_on kind is e = ap is_separate_kind is ∙ e
+
+  no_primary : (kind : Kind) → kind_of frame.header ≡ kind → opens_data kind (wait_of frame.header) ≡ false → option_to_list (opened_by is_data_request end.moment frame.header) ≡ []
+  unfolding is_data_request
+  no_primary kind is e = ap (λ (b : Bool). option_to_list (if b then Some (record { time = end.moment; header = frame.header }) else None)) (ap (λ k. opens_data k (wait_of frame.header)) is ∙ e)
+
+  no_request : (kind : Kind) → kind_of frame.header ≡ kind → opens_control kind ≡ false → option_to_list (opened_by is_control_request end.moment frame.header) ≡ []
+  unfolding is_control_request
+  no_request kind is e = ap (λ (b : Bool). option_to_list (if b then Some (record { time = end.moment; header = frame.header }) else None)) (ap opens_control is ∙ e)
+
+  one_request : (kind : Kind) → kind_of frame.header ≡ kind → opens_control kind ≡ true → option_to_list (opened_by is_control_request end.moment frame.header) ≡ record { time = end.moment; header = frame.header } ∷ []
+  unfolding is_control_request
+  one_request kind is e = ap (λ (b : Bool). option_to_list (if b then Some (record { time = end.moment; header = frame.header }) else None)) (ap opens_control is ∙ e)
+
+  pub asked_to_select : (mid : State) → mid ≡ after_event end (Taken frame) → kind_of frame.header ≡ SelectReq → IsAskedToSelect mid frame.header (is_selected end.tracker.phase)
+  asked_to_select mid is kind =
+      subst (λ (s : State). IsAskedToSelect s frame.header (is_selected end.tracker.phase)) (sym is)
+      (record {
+        time = end.moment;
+        awaits = subst (λ xs. PeerAwaits (after_event end (Taken frame)) [] xs) (one_request SelectReq kind refl)
+            (subst (λ xs. PeerAwaits (after_event end (Taken frame)) xs (option_to_list (opened_by is_control_request end.moment frame.header))) (no_primary SelectReq kind refl)
+            (taken_awaits end frame can.awaits (stays_on SelectReq kind refl)));
+        kind = kind;
+        passive = passive_of end.settings.link (ap (λ (s : Parameters). is_from_active s.link Incoming) can.awaits.settings ∙ from_active kind);
+        before = ap is_selected (same_phase SelectReq kind refl refl);
+      })
+
+  pub asked_for_link : (mid : State) → mid ≡ after_event end (Taken frame) → kind_of frame.header ≡ LinktestReq → IsAskedForLink mid frame.header
+  asked_for_link mid is kind =
+      subst (λ (s : State). IsAskedForLink s frame.header) (sym is)
+      (record {
+        time = end.moment;
+        awaits = subst (λ xs. PeerAwaits (after_event end (Taken frame)) [] xs) (one_request LinktestReq kind refl)
+            (subst (λ xs. PeerAwaits (after_event end (Taken frame)) xs (option_to_list (opened_by is_control_request end.moment frame.header))) (no_primary LinktestReq kind refl)
+            (taken_awaits end frame can.awaits (stays_on LinktestReq kind refl)));
+        kind = kind;
+      })
+
+  pub asked_by_primary : (mid : State) → mid ≡ after_event end (Taken frame) → kind_of frame.header ≡ Primary → IsAsked mid frame.header
+  asked_by_primary mid is kind =
+      subst (λ (s : State). IsAsked s frame.header) (sym is)
+      (record {
+        time = end.moment;
+        awaits = subst (λ xs. PeerAwaits (after_event end (Taken frame)) (option_to_list (opened_by is_data_request end.moment frame.header)) xs) (no_request Primary kind refl)
+            (taken_awaits end frame can.awaits (stays_on Primary kind refl));
+        kind = kind;
+        selected = same_phase Primary kind refl refl ∙ data_selected (primary_is_data kind);
+      })
+
+  silent_opens : (kind : Kind) (wait : Bool) → is_silent kind ≡ true → (is_separate_kind kind ≡ false) × (opens_data kind wait ≡ false) × (opens_control kind ≡ false)
+  silent_opens Primary wait s = absurd (let d : false ≡ true = s in cc)
+  silent_opens Reply wait s = (refl, refl, refl)
+  silent_opens SelectReq wait s = absurd (let d : false ≡ true = s in cc)
+  silent_opens SelectRsp wait s = (refl, refl, refl)
+  silent_opens LinktestReq wait s = absurd (let d : false ≡ true = s in cc)
+  silent_opens LinktestRsp wait s = (refl, refl, refl)
+  silent_opens Reject wait s = (refl, refl, refl)
+  silent_opens Separate wait s = absurd (let d : false ≡ true = s in cc)
+  silent_opens OtherSType wait s = (refl, refl, refl)
+  silent_opens OtherPType wait s = (refl, refl, refl)
+
+  pub owes_nothing : (mid : State) → mid ≡ after_event end (Taken frame) → is_silent (kind_of frame.header) ≡ true → PeerAwaits mid [] []
+  owes_nothing mid is silent =
+      let opens = silent_opens (kind_of frame.header) (wait_of frame.header) silent in
+      subst (λ (s : State). PeerAwaits s [] []) (sym is)
+      (subst (λ xs. PeerAwaits (after_event end (Taken frame)) [] xs) (no_request (kind_of frame.header) refl opens.2)
+      (subst (λ xs. PeerAwaits (after_event end (Taken frame)) xs (option_to_list (opened_by is_control_request end.moment frame.header))) (no_primary (kind_of frame.header) refl opens.1)
+      (taken_awaits end frame can.awaits (stays_on (kind_of frame.header) refl opens.0))))
+
+  over_phase : (p : Phase) (ends selects : Bool) → is_up p ≡ true → ends ≡ true → phase_by (is_gone p || false) (is_over p || ends) (is_selected p || selects) ≡ phase.Over
+  over_phase phase.Before ends selects up e = absurd (let d : false ≡ true = up in cc)
+  over_phase phase.NotSelected ends selects up e = ap (λ b. phase_by false b selects) e
+  over_phase phase.Selected ends selects up e = ap (λ b. phase_by false b true) e
+  over_phase phase.Over ends selects up e = absurd (let d : false ≡ true = up in cc)
+  over_phase phase.Gone ends selects up e = absurd (let d : false ≡ true = up in cc)
+
+  separated : kind_of frame.header ≡ Separate → separates frame.header ≡ true
+  unfolding separates
+  separated kind = ap is_separate_kind kind
+
+  pub separated_down : (mid : State) → mid ≡ after_event end (Taken frame) → kind_of frame.header ≡ Separate → IsLawful mid Down
+  separated_down mid is kind =
+      subst (λ (s : State). IsLawful s Down) (sym is)
+      (down_over_lawful (after_event end (Taken frame)) (over_phase end.tracker.phase (separates frame.header) (establishes frame.header) can.awaits.up (separated kind)) (omega arith))
+
+  pub separated_sound : (mid end' : State) → mid ≡ after_event end (Taken frame) → end' ≡ after_event mid Down → IsSound end'
+  separated_sound mid end' is down =
+      sound_down (after_event end (Taken frame)) end' can.awaits.settings can.awaits.within can.awaits.limit (down ∙ ap (λ (s : State). after_event s Down) is)
+
+-- ---- what was handled
+
+-- the end when the desk has been asked so often
+abbrev asked_so : State → List (ℕ × ℕ) → State
+asked_so end asked = record end { asked = asked }
+
+-- the desk has no part in what may be taken
+can_take_asked : (end : State) (frame : Frame) (asked : List (ℕ × ℕ)) → CanTake end frame → CanTake (asked_so end asked) frame
+unfolding IsLawful
+can_take_asked end frame asked can =
+    record {
+      awaits = record {
+        settings = can.awaits.settings;
+        within = can.awaits.within;
+        limit = can.awaits.limit;
+        up = can.awaits.up;
+        calm = record { not_past = can.awaits.calm.not_past; data_in_time = can.awaits.calm.data_in_time; control_in_time = can.awaits.calm.control_in_time; selected_in_time = can.awaits.calm.selected_in_time };
+        taken_data = can.awaits.taken_data;
+        taken_control = can.awaits.taken_control;
+        few = can.awaits.few;
+        unselected = can.awaits.unselected;
+      };
+      lawful = can.lawful;
+      broken = can.broken;
+    }
+
+-- the desk was asked about a primary of this header
+pub counted : (end : State) (header : Header) (stream function : ℕ) (asked : List (ℕ × ℕ)) → stream ≡ stream_of header → function ≡ function_of header → asked ≡ once_more (name_of stream function) end.asked → record end { asked = asked } ≡ after_asking end header
+counted end header stream function asked is_stream is_function more =
+    ap (λ (a : List (ℕ × ℕ)). record end { asked = a })
+    (more ∙ ap (λ (s : ℕ). once_more (name_of s function) end.asked) is_stream ∙ ap (λ (f : ℕ). once_more (name_of (stream_of header) f) end.asked) is_function)
+
+pub can_take_later : (end mid : State) (frame : Frame) (header : Header) → mid ≡ after_asking end header → CanTake end frame → CanTake mid frame
+can_take_later end mid frame header is can =
+    subst (λ (s : State). CanTake s frame) (sym is) (can_take_asked end frame (once_more (name_in header) end.asked) can)
+
+handled_as : (desk : ℕ → Content → Answered) (end end' : State) (before entries : List Entry) (frame : Frame) (broken : Option Rule) (answer : Answered) → BreaksAsTaken end.tracker frame broken → IsAnswerOf (desk (times (name_in frame.header) end.asked)) end.settings.depth frame broken answer → Performs (asked_so end (asked_with (kind_of frame.header) broken (name_in frame.header) end.asked)) before (logs (received_as frame broken) ∷ reaction end.settings (is_selected end.tracker.phase) frame.header broken answer) end' entries → HasHandled desk end before frame end' entries
+handled_as desk end end' before entries frame broken answer is answers does =
+    record { new = does.new; added = does.added; handled = (broken, answer, is, answers, does.done); run = does.run }
+
+-- a taken frame of this kind
+pub handled_kind : (desk : ℕ → Content → Answered) (end end' : State) (before entries : List Entry) (frame : Frame) (kind : Kind) (answer : Answered) → BreaksAsTaken end.tracker frame None → kind_of frame.header ≡ kind → (kind ≡ Primary → IsAnsweredBy (desk (times (name_in frame.header) end.asked)) end.settings.depth frame answer) → Performs (asked_so end (asked_with kind None (name_in frame.header) end.asked)) before (logs (Taken frame) ∷ answers_taken end.settings (is_selected end.tracker.phase) kind frame.header answer) end' entries → HasHandled desk end before frame end' entries
+handled_kind desk end end' before entries frame kind answer is kind_is answers does =
+    handled_as desk end end' before entries frame None answer is (λ e primary. answers (sym kind_is ∙ primary))
+    (subst (λ k. Performs (asked_so end (asked_with k None (name_in frame.header) end.asked)) before (logs (Taken frame) ∷ answers_taken end.settings (is_selected end.tracker.phase) k frame.header answer) end' entries) (sym kind_is) does)
+
+-- about such a message the desk isn't asked
+silent_asks : (kind : Kind) (name : ℕ) (asked : List (ℕ × ℕ)) → is_silent kind ≡ true → asked_with kind None name asked ≡ asked
+silent_asks Primary name asked s = absurd (let d : false ≡ true = s in cc)
+silent_asks Reply name asked s = refl
+silent_asks SelectReq name asked s = refl
+silent_asks SelectRsp name asked s = refl
+silent_asks LinktestReq name asked s = refl
+silent_asks LinktestRsp name asked s = refl
+silent_asks Reject name asked s = refl
+silent_asks Separate name asked s = refl
+silent_asks OtherSType name asked s = refl
+silent_asks OtherPType name asked s = refl
+
+discarded_asks : (kind : Kind) (rule : Rule) (name : ℕ) (asked : List (ℕ × ℕ)) → asked_with kind (Some rule) name asked ≡ asked
+discarded_asks Primary rule name asked = refl
+discarded_asks Reply rule name asked = refl
+discarded_asks SelectReq rule name asked = refl
+discarded_asks SelectRsp rule name asked = refl
+discarded_asks LinktestReq rule name asked = refl
+discarded_asks LinktestRsp rule name asked = refl
+discarded_asks Reject rule name asked = refl
+discarded_asks Separate rule name asked = refl
+discarded_asks OtherSType rule name asked = refl
+discarded_asks OtherPType rule name asked = refl
+
+silent_kind : (settings : Parameters) (selected : Bool) (kind : Kind) (header : Header) → is_silent kind ≡ true → answers_taken settings selected kind header quiet ≡ []
+silent_kind settings selected Primary header s = absurd (let d : false ≡ true = s in cc)
+silent_kind settings selected Reply header s = refl
+silent_kind settings selected SelectReq header s = absurd (let d : false ≡ true = s in cc)
+silent_kind settings selected SelectRsp header s = refl
+silent_kind settings selected LinktestReq header s = absurd (let d : false ≡ true = s in cc)
+silent_kind settings selected LinktestRsp header s = refl
+silent_kind settings selected Reject header s = refl
+silent_kind settings selected Separate header s = absurd (let d : false ≡ true = s in cc)
+silent_kind settings selected OtherSType header s = refl
+silent_kind settings selected OtherPType header s = refl
+
+silent_answers : (kind : Kind) → is_silent kind ≡ true → kind ≡ Primary → ⊥
+silent_answers kind s e = let d : false ≡ true = ap is_silent (sym e) ∙ s in cc
+
+pub handled_silent : (desk : ℕ → Content → Answered) (end end' : State) (before entries : List Entry) (frame : Frame) → BreaksAsTaken end.tracker frame None → is_silent (kind_of frame.header) ≡ true → Performs end before (logs (Taken frame) ∷ []) end' entries → HasHandled desk end before frame end' entries
+handled_silent desk end end' before entries frame is silent does =
+    handled_kind desk end end' before entries frame (kind_of frame.header) quiet is refl (λ e. absurd (silent_answers (kind_of frame.header) silent e))
+    (subst (λ asked. Performs (asked_so end asked) before (logs (Taken frame) ∷ answers_taken end.settings (is_selected end.tracker.phase) (kind_of frame.header) frame.header quiet) end' entries) (sym (silent_asks (kind_of frame.header) (name_in frame.header) end.asked silent))
+    (subst (λ (acts : List Act). Performs end before (logs (Taken frame) ∷ acts) end' entries) (sym (silent_kind end.settings (is_selected end.tracker.phase) (kind_of frame.header) frame.header silent)) does))
+
+pub handled_discarded : (desk : ℕ → Content → Answered) (end end' : State) (before entries : List Entry) (frame : Frame) (rule : Rule) → BreaksAsTaken end.tracker frame (Some rule) → Performs end before (logs (Discarded frame) ∷ reaction end.settings (is_selected end.tracker.phase) frame.header (Some rule) quiet) end' entries → HasHandled desk end before frame end' entries
+handled_discarded desk end end' before entries frame rule is does =
+    handled_as desk end end' before entries frame (Some rule) quiet is (λ e primary. absurd (let d : ◌≡◌ {A = Option Rule} (Some rule) None = e in cc))
+    (subst (λ asked. Performs (asked_so end asked) before (logs (Discarded frame) ∷ reaction end.settings (is_selected end.tracker.phase) frame.header (Some rule) quiet) end' entries) (sym (discarded_asks (kind_of frame.header) rule (name_in frame.header) end.asked)) does)
+
+-- ---- a frame that is judged
+
+pub judged_lawful : (end : State) → IsSound end → is_up end.tracker.phase ≡ true → (frame : Frame) (answer : Option Rule) → IsFirst (Breaks (facts_of end.tracker) end.tracker.settings (record { time = end.moment; event = Taken frame })) all_rules answer → IsLawful end (received_as frame answer)
+judged_lawful end sound up frame None told = frame_taken end sound up frame told
+judged_lawful end sound up frame (Some rule) told = frame_discarded end sound up frame rule told
+
+-- ---- a frame that was discarded
+
+some_other : (rule other : Rule) → (rule ≡ other → ⊥) → ◌≡◌ {A = Option Rule} (Some rule) (Some other) → ⊥
+some_other rule other never e = never (let d : ◌≡◌ {A = Option Rule} (Some rule) (Some other) = e in cc)
+
+module _ (end : State) (frame : Frame) (rule : Rule) (can : CanDiscard end frame rule) where
+  pub discarded_owes : (mid : State) → mid ≡ after_event end (Discarded frame) → PeerAwaits mid [] []
+  discarded_owes mid is = subst (λ (s : State). PeerAwaits s [] []) (sym is) (discarded_awaits end frame can.awaits)
+
+  discarded_phase : phase_after end.tracker.phase (Discarded frame) ≡ end.tracker.phase
+  discarded_phase = kept_phase end.tracker.phase false false can.awaits.up refl refl
+
+  pub discarded_selected : (mid : State) → mid ≡ after_event end (Discarded frame) → is_selected mid.tracker.phase ≡ is_selected end.tracker.phase
+  discarded_selected mid is = ap (λ (s : State). is_selected s.tracker.phase) is ∙ ap is_selected discarded_phase
+
+  unreadable_selected : BreaksAsTaken end.tracker frame (Some Text) → end.tracker.phase ≡ phase.Selected
+  unreadable_selected broken =
+      let Fails : Rule → Type 0 = FrameBreaks (facts_of end.tracker) end.tracker.settings Incoming frame in
+      let h1 = to_direction end frame (Some Text) broken (some_other Text TooLong (λ e. let d : Text ≡ TooLong = e in cc)) (some_other Text PType (λ e. let d : Text ≡ PType = e in cc)) (some_other Text SType (λ e. let d : Text ≡ SType = e in cc)) (some_other Text ControlText (λ e. let d : Text ≡ ControlText = e in cc)) (some_other Text Session (λ e. let d : Text ≡ Session = e in cc)) in
+      let h2 = behind Fails Direction transaction_rules (Some Text) (some_other Text Direction (λ e. let d : Text ≡ Direction = e in cc)) h1 in
+      let h3 = behind Fails NotSelected (WBit ∷ Text ∷ SystemInUse ∷ NoTransaction ∷ SelectStatus ∷ []) (Some Text) (some_other Text NotSelected (λ e. let d : Text ≡ NotSelected = e in cc)) h2.1 in
+      surely_selected end.tracker.phase (λ n. h3.0 ((applies Fails (format_rules ++ transaction_rules) Text broken).0, n))
+
+  pub discarded_readable : (mid : State) → mid ≡ after_event end (Discarded frame) → rule ≡ Text → mid.tracker.phase ≡ phase.Selected
+  discarded_readable mid is e =
+      ap (λ (s : State). s.tracker.phase) is ∙ discarded_phase ∙ unreadable_selected (subst (λ r. BreaksAsTaken end.tracker frame (Some r)) e can.broken)
+
+-- a rule that has no reaction
+pub no_reaction : (settings : Parameters) (selected : Bool) (header : Header) (rule : Rule) → ((rule ≡ Backwards) ⊎ ((rule ≡ NotUp) ⊎ ((rule ≡ Ended) ⊎ ((rule ≡ T3Overdue) ⊎ ((rule ≡ LinkOverdue) ⊎ ((rule ≡ NotDue) ⊎ ((rule ≡ TooLong) ⊎ ((rule ≡ ControlText) ⊎ ((rule ≡ Direction) ⊎ ((rule ≡ WBit) ⊎ ((rule ≡ SystemInUse) ⊎ ((rule ≡ SelectStatus) ⊎ (rule ≡ NoCause))))))))))))) → answers_discarded settings selected header rule ≡ []
+no_reaction settings selected header rule h = elim h [ inl e0 ↦ ap (λ (r : Rule). answers_discarded settings selected header r) e0 | inr q0 ↦ elim q0 [ inl e1 ↦ ap (λ (r : Rule). answers_discarded settings selected header r) e1 | inr q1 ↦ elim q1 [ inl e2 ↦ ap (λ (r : Rule). answers_discarded settings selected header r) e2 | inr q2 ↦ elim q2 [ inl e3 ↦ ap (λ (r : Rule). answers_discarded settings selected header r) e3 | inr q3 ↦ elim q3 [ inl e4 ↦ ap (λ (r : Rule). answers_discarded settings selected header r) e4 | inr q4 ↦ elim q4 [ inl e5 ↦ ap (λ (r : Rule). answers_discarded settings selected header r) e5 | inr q5 ↦ elim q5 [ inl e6 ↦ ap (λ (r : Rule). answers_discarded settings selected header r) e6 | inr q6 ↦ elim q6 [ inl e7 ↦ ap (λ (r : Rule). answers_discarded settings selected header r) e7 | inr q7 ↦ elim q7 [ inl e8 ↦ ap (λ (r : Rule). answers_discarded settings selected header r) e8 | inr q8 ↦ elim q8 [ inl e9 ↦ ap (λ (r : Rule). answers_discarded settings selected header r) e9 | inr q9 ↦ elim q9 [ inl e10 ↦ ap (λ (r : Rule). answers_discarded settings selected header r) e10 | inr q10 ↦ elim q10 [ inl e11 ↦ ap (λ (r : Rule). answers_discarded settings selected header r) e11 | inr q11 ↦ ap (λ (r : Rule). answers_discarded settings selected header r) q11 ] ] ] ] ] ] ] ] ] ] ] ]
+
+pub data_kind : (header : Header) → is_data header ≡ is_data_kind (kind_of header)
+unfolding is_data
+data_kind header = refl
+
+pub selected_of : (p : Phase) → is_selected p ≡ true → p ≡ phase.Selected
+selected_of phase.Before e = absurd (let d : false ≡ true = e in cc)
+selected_of phase.NotSelected e = absurd (let d : false ≡ true = e in cc)
+selected_of phase.Selected e = refl
+selected_of phase.Over e = absurd (let d : false ≡ true = e in cc)
+selected_of phase.Gone e = absurd (let d : false ≡ true = e in cc)
+
+-- ---- what may follow a frame that was judged
+
+pub can_take : (end : State) (frame : Frame) (answer : Option Rule) → IsSound end → is_up end.tracker.phase ≡ true → answer ≡ None → BreaksAsTaken end.tracker frame answer → IsLawful end (received_as frame answer) → CanTake end frame
+can_take end frame answer sound up none broken lawful =
+    record { awaits = sound_awaits end sound up; lawful = subst (λ (a : Option Rule). IsLawful end (received_as frame a)) none lawful; broken = subst (λ (a : Option Rule). BreaksAsTaken end.tracker frame a) none broken }
+
+pub can_discard : (end : State) (frame : Frame) (answer : Option Rule) (rule : Rule) → IsSound end → is_up end.tracker.phase ≡ true → answer ≡ Some rule → BreaksAsTaken end.tracker frame answer → IsLawful end (received_as frame answer) → CanDiscard end frame rule
+can_discard end frame answer rule sound up some broken lawful =
+    record { awaits = sound_awaits end sound up; lawful = subst (λ (a : Option Rule). IsLawful end (received_as frame a)) some lawful; broken = subst (λ (a : Option Rule). BreaksAsTaken end.tracker frame a) some broken }
+
+-- ---- kinds and rules that are told apart
+
+pub silent_of : (kind : Kind) → ((kind ≡ Reply) ⊎ ((kind ≡ SelectRsp) ⊎ ((kind ≡ LinktestRsp) ⊎ ((kind ≡ Reject) ⊎ ((kind ≡ OtherSType) ⊎ (kind ≡ OtherPType)))))) → is_silent kind ≡ true
+silent_of kind h = elim h [ inl e0 ↦ ap is_silent e0 | inr q0 ↦ elim q0 [ inl e1 ↦ ap is_silent e1 | inr q1 ↦ elim q1 [ inl e2 ↦ ap is_silent e2 | inr q2 ↦ elim q2 [ inl e3 ↦ ap is_silent e3 | inr q3 ↦ elim q3 [ inl e4 ↦ ap is_silent e4 | inr e5 ↦ ap is_silent e5 ] ] ] ] ]
+
+-- what an answer to nothing calls for
+pub answers_nothing : (settings : Parameters) (selected : Bool) (header : Header) (rule : Rule) (b : Bool) → rule ≡ NoTransaction → b ≡ is_control_response (kind_of header) → answers_discarded settings selected header rule ≡ (if b then rejects header 3 else [])
+answers_nothing settings selected header rule b is e =
+    ap (λ (r : Rule). answers_discarded settings selected header r) is ∙ ap (λ (b : Bool). if b then rejects header 3 else []) (sym e)
+
+-- what data for another device calls for
+pub other_device : (settings : Parameters) (selected : Bool) (header : Header) (rule : Rule) (b : Bool) → rule ≡ Session → b ≡ (is_data header && selected) → answers_discarded settings selected header rule ≡ (if b then warns settings 1 header else [])
+other_device settings selected header rule b is e =
+    ap (λ (r : Rule). answers_discarded settings selected header r) is ∙ ap (λ (b : Bool). if b then warns settings 1 header else []) (sym e)

@@ -1,0 +1,23 @@
+use Rattle.std.proofs.Common.{◌≡◌, [], ◌∷◌, Some, refl, sym, ap, ◌∙◌}
+use Rattle.std.specs.Prelude.{option_map}
+use Rattle.secs_text.specs.View.{content}
+use Rattle.hsms_entity.specs.Act.{asks}
+use Rattle.hsms_entity.specs.Frame.{fitting_text, message_frame}
+use Rattle.hsms_entity.specs.Turn.{send}
+use Rattle.hsms_entity.proofs.Calls.{accepted}
+use Rattle.hsms_entity.proofs.Sent.{send_meets, send_refused}
+use Rattle.hsms_entity.proofs.end.End.send.Goals as goal
+
+pub returns-in-Some : goal.returns-in-Some
+returns-in-Some g c =
+    send_refused c.self.inside.desk c.self.inside.state c.self.inside.spent c.args.self.now (content c.args.message.now) c.in-Some.fault
+    c.in_ok-ready.ensures.fresh c.self.view_is c.in_ok-ready.ensures.up (sym c.in-Some.ensures)
+
+pub returns : goal.returns
+returns g c =
+    let fit : fitting_text c.self.inside.state.settings (content c.args.message.now).item ≡ Some c.in-Some-2.text.items =
+    ap (λ item. fitting_text c.self.inside.state.settings item) (sym c.item.ensures) ∙ sym c.in_ok-text.ensures.value ∙ ap (λ text. option_map (λ octets. octets.items) text) c.in-Some-2.is in
+    accepted g.D.TurnDesk.answers_after c.self.inside.desk c.self.inside.state c.self.inside.state c.send.new.self c.self.inside.spent c.args.self.now (send (content c.args.message.now))
+    (asks (message_frame c.self.inside.state.settings (content c.args.message.now) c.in-Some-2.text.items) ∷ []) c.new-entries.result.items c.send.new.entries.items c.in_ok-ready.ensures.fresh c.self.view_is c.new-entries.ensures.items
+    (send_meets c.self.inside.spent c.self.inside.state (content c.args.message.now) c.in_ok-ready.ensures.fresh c.in_ok-ready.ensures.up c.in-Some-2.text.items (sym c.in_default.ensures) fit)
+    refl (λ es k h. (c.in-Some-2.text.items, fit, h)) c.in_ok-send.ensures.does

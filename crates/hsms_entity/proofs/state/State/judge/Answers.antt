@@ -1,0 +1,16 @@
+use Rattle.std.proofs.Common.{subst}
+use Rattle.hsms_machine.specs.declared.entry.Entry.{Entry}
+use Rattle.hsms_machine.specs.Step.{IsBrokenAt}
+use Rattle.hsms_entity.proofs.Requests.{frame_broken}
+use Rattle.hsms_entity.proofs.Takings.{judged_lawful}
+use Rattle.hsms_entity.proofs.state.State.judge.Goals as goal
+
+pub returns-clause-broken : goal.returns-clause-broken
+returns-clause-broken c =
+    frame_broken c.args.self.now c.requires.sound c.requires.up c.args.frame.now c.check_ref.result
+    (subst (λ (x : Entry). IsBrokenAt c.args.self.now.tracker x c.check_ref.result) c.taken_at.ensures c.check_ref.ensures.told)
+
+pub returns-clause-lawful : goal.returns-clause-lawful
+returns-clause-lawful c =
+    judged_lawful c.args.self.now c.requires.sound c.requires.up c.args.frame.now c.check_ref.result
+    (subst (λ (x : Entry). IsBrokenAt c.args.self.now.tracker x c.check_ref.result) c.taken_at.ensures c.check_ref.ensures.told)

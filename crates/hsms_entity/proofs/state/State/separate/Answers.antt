@@ -1,0 +1,31 @@
+use Rattle.std.proofs.Common.{[], ◌∷◌, sym, ap, subst, ◌∙◌}
+use Rattle.hsms_frame.specs.Frame.{Frame}
+use Rattle.hsms_machine.specs.declared.entry.Event.TheVariants.{Sent, Down}
+use Rattle.hsms_entity.specs.Frame.{bare, separate_req}
+use Rattle.hsms_entity.specs.Act.{logs, asks}
+use Rattle.hsms_entity.specs.Inside.{after_number}
+use Rattle.hsms_entity.specs.Performing.{IsLawful}
+use Rattle.hsms_entity.proofs.Acts.{does_then}
+use Rattle.hsms_entity.proofs.Requests.{separate_lawful, separated_down_lawful, separated_sound}
+use Rattle.hsms_entity.proofs.state.State.separate.Goals as goal
+
+pub send_numbered-requires-clause-lawful : goal.send_numbered-requires-clause-lawful
+send_numbered-requires-clause-lawful c =
+    subst (λ (f : Frame). IsLawful c.args.self.now (Sent f)) (sym (c.bare.ensures ∙ ap bare c.separate.ensures))
+    (separate_lawful c.args.self.now c.requires.sound c.requires.up c.free_number-number.result)
+
+pub log-requires : goal.log-requires
+log-requires c =
+    separated_down_lawful c.args.self.now c.requires.sound c.requires.up c.send_numbered.new.self c.free_number-number.result
+    (c.in_ok-send_numbered.ensures.after ∙ ap (λ (f : Frame). after_number c.args.self.now f c.free_number-number.result) (c.bare.ensures ∙ ap bare c.separate.ensures))
+
+pub returns-clause-does : goal.returns-clause-does
+returns-clause-does c =
+    does_then c.args.self.now c.send_numbered.new.self c.log.new.self c.args.entries.now.items c.send_numbered.new.entries.items c.log.new.entries.items (asks separate_req ∷ []) (logs Down ∷ [])
+    (c.in_ok-send_numbered.ensures.does separate_req (sym (c.bare.ensures ∙ ap bare c.separate.ensures))) c.in_ok-log.ensures.does
+
+pub returns-clause-sound : goal.returns-clause-sound
+returns-clause-sound c =
+    separated_sound c.args.self.now c.requires.sound c.requires.up c.send_numbered.new.self c.log.new.self c.free_number-number.result
+    (c.in_ok-send_numbered.ensures.after ∙ ap (λ (f : Frame). after_number c.args.self.now f c.free_number-number.result) (c.bare.ensures ∙ ap bare c.separate.ensures))
+    c.in_ok-log.ensures.after

@@ -1,0 +1,44 @@
+use Rattle.std.proofs.Common.{◌≡◌, [], ◌∷◌, sym, ap, subst, ◌∙◌}
+use Rattle.hsms_frame.specs.Frame.{Frame}
+use Rattle.hsms_machine.specs.declared.entry.Event.TheVariants.{Sent, Up}
+use Rattle.hsms_machine.specs.declared.settings.Side.{Side}
+use Rattle.hsms_machine.specs.declared.settings.Side.TheVariants.{Active}
+use Rattle.hsms_machine.specs.Settings.{Parameters}
+use Rattle.hsms_entity.specs.declared.state.State.{State}
+use Rattle.hsms_entity.specs.Frame.{bare, select_req}
+use Rattle.hsms_entity.specs.Act.{logs, asks}
+use Rattle.hsms_entity.specs.Inside.{after_number}
+use Rattle.hsms_entity.specs.Performing.{IsLawful, Performs}
+use Rattle.hsms_entity.specs.Sound.{IsSound}
+use Rattle.hsms_entity.specs.Turn.{opening_of}
+use Rattle.hsms_entity.proofs.Acts.{does_then}
+use Rattle.hsms_entity.proofs.Requests.{start_lawful, started_sound, started_room, started_up, started_settings, is_before_phase, select_lawful, select_sound}
+use Rattle.hsms_entity.proofs.state.State.start.Goals as goal
+
+pub log-requires : goal.log-requires
+log-requires c = start_lawful c.args.self.now c.args.now c.requires.sound (is_before_phase c.args.self.now.tracker.phase c.requires.before)
+
+pub send_numbered-requires-clause-lawful : goal.send_numbered-requires-clause-lawful
+send_numbered-requires-clause-lawful c =
+    let after = c.in_ok-log.ensures.after in
+    subst (λ (f : Frame). IsLawful c.log.new.self (Sent f)) (sym (c.bare.ensures ∙ ap bare c.select_req.ensures))
+    (select_lawful c.log.new.self (started_sound c.args.self.now c.args.now c.requires.sound (is_before_phase c.args.self.now.tracker.phase c.requires.before) c.log.new.self after)
+    (started_up c.args.self.now c.args.now c.requires.sound (is_before_phase c.args.self.now.tracker.phase c.requires.before) c.log.new.self after)
+    c.free_number-number.result (sym c.in-Active.ensures) c.free_number-number.ensures.free)
+
+pub returns-in_ok-send_numbered-in-Active-clause-does : goal.returns-in_ok-send_numbered-in-Active-clause-does
+returns-in_ok-send_numbered-in-Active-clause-does c =
+    let start : State = record c.args.self.now { moment = c.args.now } in
+    let active : c.args.self.now.settings.link ≡ Active =
+    ap (λ (p : Parameters). p.link) (sym (started_settings c.args.self.now c.args.now c.requires.sound (is_before_phase c.args.self.now.tracker.phase c.requires.before) c.log.new.self c.in_ok-log.ensures.after)) ∙ sym c.in-Active.ensures in
+    subst (λ (link : Side). Performs start c.args.entries.now.items (opening_of link) c.send_numbered.new.self c.send_numbered.new.entries.items) (sym active)
+    (does_then start c.log.new.self c.send_numbered.new.self c.args.entries.now.items c.log.new.entries.items c.send_numbered.new.entries.items (logs Up ∷ []) (asks select_req ∷ [])
+    c.in_ok-log.ensures.does (c.in_ok-send_numbered-in-Active.ensures.does select_req (sym (c.bare.ensures ∙ ap bare c.select_req.ensures))))
+
+pub returns-in_ok-send_numbered-in-Active-clause-sound : goal.returns-in_ok-send_numbered-in-Active-clause-sound
+returns-in_ok-send_numbered-in-Active-clause-sound c =
+    let after = c.in_ok-log.ensures.after in
+    subst IsSound (sym (c.in_ok-send_numbered-in-Active.ensures.after ∙ ap (λ (f : Frame). after_number c.log.new.self f c.free_number-number.result) (c.bare.ensures ∙ ap bare c.select_req.ensures)))
+    (select_sound c.log.new.self (started_sound c.args.self.now c.args.now c.requires.sound (is_before_phase c.args.self.now.tracker.phase c.requires.before) c.log.new.self after)
+    (started_up c.args.self.now c.args.now c.requires.sound (is_before_phase c.args.self.now.tracker.phase c.requires.before) c.log.new.self after)
+    c.free_number-number.result (started_room c.args.self.now c.args.now c.requires.sound (is_before_phase c.args.self.now.tracker.phase c.requires.before) c.log.new.self after) c.free_number-number.ensures.free)

@@ -1,0 +1,19 @@
+use Rattle.std.proofs.Common.{sym, ap, subst, ◌∙◌}
+use Rattle.hsms_frame.specs.Frame.{Frame}
+use Rattle.hsms_machine.specs.declared.entry.Event.TheVariants.{Sent}
+use Rattle.hsms_entity.specs.Frame.{bare}
+use Rattle.hsms_entity.specs.Inside.{after_number}
+use Rattle.hsms_entity.specs.Performing.{IsLawful}
+use Rattle.hsms_entity.specs.Sound.{IsSound}
+use Rattle.hsms_entity.proofs.Requests.{linktest_lawful, linktest_sound}
+use Rattle.hsms_entity.proofs.state.State.test_link.Goals as goal
+
+pub send_numbered-requires-clause-lawful : goal.send_numbered-requires-clause-lawful
+send_numbered-requires-clause-lawful c =
+    subst (λ (f : Frame). IsLawful c.args.self.now (Sent f)) (sym (c.bare.ensures ∙ ap bare c.linktest_req.ensures))
+    (linktest_lawful c.args.self.now c.requires.sound c.requires.up c.free_number-number.result c.free_number-number.ensures.free)
+
+pub returns-clause-sound : goal.returns-clause-sound
+returns-clause-sound c =
+    subst IsSound (sym (c.in_ok-send_numbered.ensures.after ∙ ap (λ (f : Frame). after_number c.args.self.now f c.free_number-number.result) (c.bare.ensures ∙ ap bare c.linktest_req.ensures)))
+    (linktest_sound c.args.self.now c.requires.sound c.requires.up c.free_number-number.result c.requires.room c.free_number-number.ensures.free)

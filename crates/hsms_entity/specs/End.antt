@@ -1,0 +1,30 @@
+-- What a call of an end answers (this project's own).
+use Rattle.std.specs.Prelude.{◌≡◌, ◌⊎◌, ℕ, true, List, ◌++◌, Some, None}
+use Rattle.secs_text.specs.Content.{Content}
+use Rattle.hsms_machine.specs.declared.entry.Entry.{Entry}
+use Rattle.hsms_machine.specs.declared.view.View.{View}
+use Rattle.hsms_machine.specs.View.{ForEachRun, HasView}
+use Rattle.hsms_entity.specs.declared.fault.EndFault.{EndFault}
+use Rattle.hsms_entity.specs.declared.fault.EndFault.TheVariants.{TooLong, Memory}
+use Rattle.hsms_entity.specs.Answer.{Answered}
+use Rattle.hsms_entity.specs.EndState.{EndOf}
+use Rattle.hsms_entity.specs.Turn.{Told, Turn}
+use Rattle.hsms_entity.specs.Fault.{Meets}
+
+-- each run that has the view is a run with the entries after it, and has the later view
+abbrev pub Extends : View → List Entry → View → Type 0
+Extends view entries later = ForEachRun view (λ log. HasView view.settings (log ++ entries) later)
+
+-- The input meets no fault: its turn is taken, and each run that has the end's view goes on to one by the new entries.
+pub record Accepts {D : Type 0} (answers : D → ℕ → Content → Answered) (end : EndOf D) (input : Told) (entries : List Entry) (end' : EndOf D) : Type 0 where
+  pub meets : Meets end.known input None
+  pub turn : Turn (answers end.desk) end.known input entries end'.known
+  pub run : Extends end.known.view entries end'.known.view
+  pub desk : end'.desk ≡ end.desk
+
+-- Want of memory comes in place of an answer or of `TooLong`, and spends the end. Any other fault is the one that the
+-- input meets, and changes nothing.
+abbrev pub Refuses : {D : Type 0} → EndOf D → Told → EndFault → EndOf D → Type 0
+Refuses end input Memory end' =
+    (Meets end.known input None ⊎ Meets end.known input (Some TooLong)) × (end'.known.spent ≡ true)
+Refuses end input fault end' = Meets end.known input (Some fault) × (end' ≡ end)

@@ -1,0 +1,33 @@
+-- What holds of an end that isn't spent, between two calls. Private functions alone speak of this.
+use Rattle.std.specs.Prelude.{◌≡◌, ◌≤◌, true, []}
+use Rattle.hsms_machine.specs.declared.phase.Phase.TheVariants.{Before, Over}
+use Rattle.hsms_machine.specs.declared.view.View.{View}
+use Rattle.hsms_machine.specs.Settings.{IsWithinLimits}
+use Rattle.hsms_machine.specs.View.{own_open_of}
+use Rattle.hsms_entity.specs.declared.state.State.{State}
+use Rattle.hsms_entity.specs.Turn.{is_up, is_unselected}
+use Rattle.hsms_entity.specs.Performing.{IsCalm}
+
+-- no entry yet
+pub record IsFresh (view : View) : Type 0 where
+  pub time : view.last_time ≡ 0
+  pub sent_data : view.sent_data ≡ []
+  pub sent_control : view.sent_control ≡ []
+  pub taken_data : view.taken_data ≡ []
+  pub taken_control : view.taken_control ≡ []
+
+-- the connection is up, nothing is overdue at the end's moment, and the peer waits for nothing
+pub record IsSteady (end : State) : Type 0 where
+  pub calm : IsCalm end
+  pub taken_data : end.tracker.taken_data ≡ []
+  pub taken_control : end.tracker.taken_control ≡ []
+  pub few : own_open_of end.tracker ≤ 64
+  pub unselected : is_unselected end.tracker.phase ≡ true → end.tracker.sent_data ≡ []
+
+pub record IsSound (end : State) : Type 0 where
+  pub settings : end.settings ≡ end.tracker.settings
+  pub within : IsWithinLimits end.settings
+  pub limit : end.framer.max ≡ end.settings.max
+  pub not_over : ¬ (end.tracker.phase ≡ Over)
+  pub fresh : end.tracker.phase ≡ Before → IsFresh end.tracker
+  pub steady : is_up end.tracker.phase ≡ true → IsSteady end
