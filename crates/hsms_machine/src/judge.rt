@@ -245,6 +245,7 @@ impl View {
     }
 
     /// Whether the frame opens a transaction while one of its direction has its system bytes.
+    #[inline(always)]
     pub fn is_in_use(&self, flow: Flow, message: Message) -> bool
         ensures { IsTrue result ↔ IsTrue (is_request message) × IsInUse (facts_of self.now) flow message.system }
     {
