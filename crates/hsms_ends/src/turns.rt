@@ -241,8 +241,7 @@ fn until<D: TurnDesk>(end: &End<D>, pause: Option<u64>) -> Option<u64> {
     earlier(expiry, test_moment(end, pause))
 }
 
-/// One turn of an end that isn't down: time goes on, and unless that ended the connection, the next step of the script is
-/// taken where it is due, the link is tested where that is, or else waited for.
+/// One turn of an end that isn't down.
 fn turn<L: Link, W: Sink, D: TurnDesk>(
     link: &mut L,
     log: &mut W,
@@ -262,9 +261,29 @@ fn turn<L: Link, W: Sink, D: TurnDesk>(
     ensures len { length into.new ≡ length into.old }
 {
     match tick(link, log, end, &mut progress.entries) {
-        Ok(()) => {}
-        Err(stop) => return Err(stop),
+        Ok(()) => continue_turn(link, log, end, script, progress, pause, into),
+        Err(stop) => Err(stop),
     }
+}
+
+/// The rest of a turn: the next step of the script where it is due, a test of the link where that is, else a wait.
+fn continue_turn<L: Link, W: Sink, D: TurnDesk>(
+    link: &mut L,
+    log: &mut W,
+    end: &mut End<D>,
+    script: &[Step],
+    progress: &mut Progress,
+    pause: Option<u64>,
+    into: &mut [u8],
+) -> Result<(), Stop>
+    requires ready { IsReady end.old }
+    requires room { 0 < length into.old }
+    ensures continued { Continued D.answers_after pause result end.old end.new
+        (drop progress.old.place script.now) (drop progress.new.place script.now)
+        (W.state log.old) (W.state log.new) (L.told link.old) (L.told link.new)
+        progress.old.entries progress.new.entries progress.old.refused progress.new.refused }
+    ensures len { length into.new ≡ length into.old }
+{
     if has_gone(end) {
         return Ok(());
     }
