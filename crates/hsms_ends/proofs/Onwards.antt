@@ -24,7 +24,6 @@ use Rattle.hsms_entity.specs.EndState.{EndState, EndOf}
 use Rattle.hsms_entity.specs.Turn.{opening_of}
 use Rattle.hsms_entity.specs.Act.{Acts}
 use Rattle.hsms_ends.specs.declared.again.ServedAgain.{ServedAgain}
-use Rattle.hsms_ends.specs.declared.again.Went.{Went}
 use Rattle.hsms_ends.specs.declared.step.Step.{Step}
 use Rattle.hsms_ends.specs.declared.serving.Served.{Served}
 use Rattle.hsms_ends.specs.declared.fault.ServeFault.{ServeFault}
@@ -153,14 +152,14 @@ module _ {D : Type 0} (answers : D → ℕ → Content → Answered) (pause : Op
     logged = (grows_none log.written, refl);
   }
 
-  went : (result : Result Served ServeFault) (further : Went) (story : Story) (last end_new : EndOf D) (mid log' : SinkState) (lines : List ℕ) (rest : List Entry)
-      → Onward (Ok further) result end_new → IsLeft result last end_new → Answers limit result story → HoldsLines result mid log' lines rest
-      → (further.moment ≡ last.known.view.last_time) × (ends_down (entries_of story) ≡ true) × (rest ≡ []) × LogGrows mid log' lines × (further.complete ≡ completes result)
-  went (Ok served) further story last end_new mid log' lines rest on left a holds = (on.0 ∙ ap (λ (e : EndOf D). e.known.view.last_time) left, a.1, holds.0, holds.1, on.1)
-  went (Err serve.Link) further story last end_new mid log' lines rest on left a holds = (on.0 ∙ ap (λ (e : EndOf D). e.known.view.last_time) left, a.1, holds.0, holds.1, on.1)
-  went (Err serve.Turns) further story last end_new mid log' lines rest on left a holds = absurd on
-  went (Err serve.Memory) further story last end_new mid log' lines rest on left a holds = absurd on
-  went (Err serve.Log) further story last end_new mid log' lines rest on left a holds = absurd on
+  went : (result : Result Served ServeFault) (moment : ℕ) (complete : Bool) (story : Story) (last end_new : EndOf D) (mid log' : SinkState) (lines : List ℕ) (rest : List Entry)
+      → moment ≡ end_new.known.view.last_time → Onward (Ok complete) result → IsLeft result last end_new → Answers limit result story → HoldsLines result mid log' lines rest
+      → (moment ≡ last.known.view.last_time) × (ends_down (entries_of story) ≡ true) × (rest ≡ []) × LogGrows mid log' lines × (complete ≡ completes result)
+  went (Ok served) moment complete story last end_new mid log' lines rest at on left a holds = (at ∙ ap (λ (e : EndOf D). e.known.view.last_time) left, a.1, holds.0, holds.1, on)
+  went (Err serve.Link) moment complete story last end_new mid log' lines rest at on left a holds = (at ∙ ap (λ (e : EndOf D). e.known.view.last_time) left, a.1, holds.0, holds.1, on)
+  went (Err serve.Turns) moment complete story last end_new mid log' lines rest at on left a holds = absurd on
+  went (Err serve.Memory) moment complete story last end_new mid log' lines rest at on left a holds = absurd on
+  went (Err serve.Log) moment complete story last end_new mid log' lines rest at on left a holds = absurd on
 
   none_left : (result : Result Served ServeFault) (mid log' : SinkState) (lines : List ℕ) (rest : List Entry) → HoldsLines result mid log' lines rest → is_log_fault result ≡ false → rest ≡ []
   none_left (Ok served) mid log' lines rest holds fine = holds.0
@@ -171,13 +170,13 @@ module _ {D : Type 0} (answers : D → ℕ → Content → Answered) (pause : Op
 
   stop_holds : (fault : ServeFault) (result : Result Served ServeFault) (end_new : EndOf D) (log mid log' : SinkState) (lines : List ℕ) (rest : List Entry) (cs : List Connection)
       → (rest ≡ [] → LogGrows mid log' lines → LogGrows log log' (log_lines (entries_all cs))) → (LogStops mid log' lines rest → LogStopsLast log log' log_lines cs)
-      → Onward (Err fault) result end_new → HoldsLines result mid log' lines rest → LinesHeld (Err fault) log log' cs
+      → Onward (Err fault) result → HoldsLines result mid log' lines rest → LinesHeld (Err fault) log log' cs
   stop_holds serve.Log (Err serve.Log) end_new log mid log' lines rest cs grows stops on holds = stops holds
   stop_holds serve.Turns (Err serve.Turns) end_new log mid log' lines rest cs grows stops on holds = grows holds.0 holds.1
   stop_holds serve.Memory (Err serve.Memory) end_new log mid log' lines rest cs grows stops on holds = grows holds.0 holds.1
   stop_holds fault result end_new log mid log' lines rest cs grows stops on holds = absurd on
 
-  stop_answers : (fault : ServeFault) (result : Result Served ServeFault) (end_new : EndOf D) (front : List Connection) (c : Connection) → c.result ≡ result → Onward (Err fault) result end_new → AnswersAgain (Err fault) (front ++ c ∷ [])
+  stop_answers : (fault : ServeFault) (result : Result Served ServeFault) (end_new : EndOf D) (front : List Connection) (c : Connection) → c.result ≡ result → Onward (Err fault) result → AnswersAgain (Err fault) (front ++ c ∷ [])
   stop_answers serve.Log (Err serve.Log) end_new front c is on = inr (front, c, refl, is)
   stop_answers serve.Turns (Err serve.Turns) end_new front c is on = (front, c, refl, is)
   stop_answers serve.Memory (Err serve.Memory) end_new front c is on = (front, c, refl, is)
@@ -185,7 +184,7 @@ module _ {D : Type 0} (answers : D → ℕ → Content → Answered) (pause : Op
 
   module _ (two : s.version ≡ 2) (within : IsWithinLimits s) (script later : List Step) where
     module _ (since done : ℕ) (complete : Bool) (log mid log' : SinkState) (link between link' : Told) (steps : List Step) (steps_are : steps ≡ script_at script later done) (far : SoFar script later since done complete log mid link between)
-        (outcome : Result Went ServeFault) (n : NextServed answers pause desk s first_system since steps limit outcome mid log' between link') where
+        (end_new : EndOf D) (outcome : Result Bool ServeFault) (n : NextServed answers pause (new_end desk s first_system since) end_new steps limit outcome mid log' between link') where
       story : Story
       story = n.served.story
 
@@ -265,49 +264,49 @@ module _ {D : Type 0} (answers : D → ℕ → Content → Answered) (pause : Op
       count_all : length all ≡ done + 1
       count_all = omega (arith, length-append far.connections (one ∷ []), far.counted)
 
-    pub one_more : (since done : ℕ) (complete : Bool) (further : Went) (log mid log' : SinkState) (link between link' : Told) (steps : List Step) → steps ≡ script_at script later done → SoFar script later since done complete log mid link between
-        → NextServed answers pause desk s first_system since steps limit (Ok further) mid log' between link' → SoFar script later further.moment (done + 1) (complete && further.complete) log log' link link'
-    one_more since done complete further log mid log' link between link' steps steps_are far n =
-        let c = one since done complete log mid log' link between link' steps steps_are far (Ok further) n in
-        let reach = there since done complete log mid log' link between link' steps steps_are far (Ok further) n in
+    pub one_more : (since done : ℕ) (complete : Bool) (end_new : EndOf D) (moment : ℕ) (further : Bool) (log mid log' : SinkState) (link between link' : Told) (steps : List Step) → steps ≡ script_at script later done → SoFar script later since done complete log mid link between
+        → moment ≡ end_new.known.view.last_time → NextServed answers pause (new_end desk s first_system since) end_new steps limit (Ok further) mid log' between link' → SoFar script later moment (done + 1) (complete && further) log log' link link'
+    one_more since done complete end_new moment further log mid log' link between link' steps steps_are far at n =
+        let c = one since done complete log mid log' link between link' steps steps_are far end_new (Ok further) n in
+        let reach = there since done complete log mid log' link between link' steps steps_are far end_new (Ok further) n in
         let es = entries_of n.served.story in
-        let w = went n.result further n.served.story n.served.last n.end_new mid log' (log_lines n.served.whole) n.served.rest n.onward n.served.left
-        (answered since done complete log mid log' link between link' steps steps_are far (Ok further) n) n.served.log_holds in
-        let here : further.moment ≡ last_time es = w.0 ∙ sym (ap (λ (v : View). v.last_time) reach.seen.seen) in
+        let w = went n.result moment further n.served.story n.served.last end_new mid log' (log_lines n.served.whole) n.served.rest at n.onward n.served.left
+        (answered since done complete log mid log' link between link' steps steps_are far end_new (Ok further) n) n.served.log_holds in
+        let here : moment ≡ last_time es = w.0 ∙ sym (ap (λ (v : View). v.last_time) reach.seen.seen) in
         let ends : last_time (entries_all far.connections ++ es) ≡ last_time es = ap (λ (x : Entry). x.time) (last_of (entries_all far.connections) es (some_down es w.1)) in
-        let eq = same since done complete log mid log' link between link' steps steps_are far (Ok further) n in
+        let eq = same since done complete log mid log' link between link' steps steps_are far end_new (Ok further) n in
         let Q : List Entry → Type 0 = λ l. EndsDown l in
-        let R : List Entry → Type 0 = λ l. last_time l ≤ further.moment in
+        let R : List Entry → Type 0 = λ l. last_time l ≤ moment in
         record {
           connections = far.connections ++ c ∷ [];
-          are = are_all since done complete log mid log' link between link' steps steps_are far (Ok further) n;
-          counted = sym (count_all since done complete log mid log' link between link' steps steps_are far (Ok further) n);
-          run = run_all since done complete log mid log' link between link' steps steps_are far (Ok further) n;
+          are = are_all since done complete log mid log' link between link' steps steps_are far end_new (Ok further) n;
+          counted = sym (count_all since done complete log mid log' link between link' steps steps_are far end_new (Ok further) n);
+          run = run_all since done complete log mid log' link between link' steps steps_are far end_new (Ok further) n;
           down = subst Q eq (down_all (entries_all far.connections) es w.1);
           last = subst R eq (omega (arith, ends, here));
-          complete_is = ap (λ b. b && further.complete) far.complete_is ∙ ap (λ b. are_complete far.connections && b) (w.4)
+          complete_is = ap (λ b. b && further) far.complete_is ∙ ap (λ b. are_complete far.connections && b) (w.4)
               ∙ sym (complete_snoc far.connections c);
           since_is = here ∙ sym (since_snoc 0 far.connections c);
-          sized = sized_all since done complete log mid log' link between link' steps steps_are far (Ok further) n;
-          in_range = in_range_all since done complete log mid log' link between link' steps steps_are far (Ok further) n;
-          logged = grows_all since done complete log mid log' link between link' steps steps_are far (Ok further) n w.2 w.3;
+          sized = sized_all since done complete log mid log' link between link' steps steps_are far end_new (Ok further) n;
+          in_range = in_range_all since done complete log mid log' link between link' steps steps_are far end_new (Ok further) n;
+          logged = grows_all since done complete log mid log' link between link' steps steps_are far end_new (Ok further) n w.2 w.3;
         }
 
-    pub stopped_by : (fault : ServeFault) (most since done : ℕ) (complete : Bool) (log mid log' : SinkState) (link between link' : Told) (steps : List Step) → done < most → steps ≡ script_at script later done → SoFar script later since done complete log mid link between
-        → NextServed answers pause desk s first_system since steps limit (Err fault) mid log' between link' → ServedEach answers pause desk s first_system script later limit most (Err fault) log log' link link'
-    stopped_by fault most since done complete log mid log' link between link' steps fewer steps_are far n =
-        let c = one since done complete log mid log' link between link' steps steps_are far (Err fault) n in
+    pub stopped_by : (fault : ServeFault) (end_new : EndOf D) (most since done : ℕ) (complete : Bool) (log mid log' : SinkState) (link between link' : Told) (steps : List Step) → done < most → steps ≡ script_at script later done → SoFar script later since done complete log mid link between
+        → NextServed answers pause (new_end desk s first_system since) end_new steps limit (Err fault) mid log' between link' → ServedEach answers pause desk s first_system script later limit most (Err fault) log log' link link'
+    stopped_by fault end_new most since done complete log mid log' link between link' steps fewer steps_are far n =
+        let c = one since done complete log mid log' link between link' steps steps_are far end_new (Err fault) n in
         let all = far.connections ++ c ∷ [] in
-        let run = run_all since done complete log mid log' link between link' steps steps_are far (Err fault) n in
+        let run = run_all since done complete log mid log' link between link' steps steps_are far end_new (Err fault) n in
         record {
           connections = all;
-          are = are_all since done complete log mid log' link between link' steps steps_are far (Err fault) n;
-          bound = omega (arith, fewer, count_all since done complete log mid log' link between link' steps steps_are far (Err fault) n);
+          are = are_all since done complete log mid log' link between link' steps steps_are far end_new (Err fault) n;
+          bound = omega (arith, fewer, count_all since done complete log mid log' link between link' steps steps_are far end_new (Err fault) n);
           run = run;
-          text = text_of_run s (entries_all all) within run (sized_all since done complete log mid log' link between link' steps steps_are far (Err fault) n) (in_range_all since done complete log mid log' link between link' steps steps_are far (Err fault) n);
-          log_holds = stop_holds fault n.result n.end_new log mid log' (log_lines n.served.whole) n.served.rest all
-              (grows_all since done complete log mid log' link between link' steps steps_are far (Err fault) n) (stops_all since done complete log mid log' link between link' steps steps_are far (Err fault) n) n.onward n.served.log_holds;
-          answer = stop_answers fault n.result n.end_new far.connections c refl n.onward;
+          text = text_of_run s (entries_all all) within run (sized_all since done complete log mid log' link between link' steps steps_are far end_new (Err fault) n) (in_range_all since done complete log mid log' link between link' steps steps_are far end_new (Err fault) n);
+          log_holds = stop_holds fault n.result end_new log mid log' (log_lines n.served.whole) n.served.rest all
+              (grows_all since done complete log mid log' link between link' steps steps_are far end_new (Err fault) n) (stops_all since done complete log mid log' link between link' steps steps_are far end_new (Err fault) n) n.onward n.served.log_holds;
+          answer = stop_answers fault n.result end_new far.connections c refl n.onward;
         }
 
     pub all_done : (most since done : ℕ) (complete : Bool) (log log' : SinkState) (link link' : Told) → done ≤ most → SoFar script later since done complete log log' link link'

@@ -35,6 +35,18 @@ given_more items waits place within n =
     let front = flat_map (wait_octets items) (take place waits) in
     ap (λ l. front ++ l) (take-add within n os) ∙ sym (append_assoc front (take within os) (take n (drop within os)))
 
+-- nothing comes in a wait
+pub none_at : {V : Type 0} (waits : List (Option V)) (place : ℕ) (wait : Option V) → place < length waits → wait ≡ get_or waits place wait → wait ≡ None → None ≡ get_or waits place None
+none_at waits place wait below is none = sym none ∙ is ∙ same_at waits place wait None below
+
+pub given_none : {V : Type 0} (items : V → List ℕ) (waits : List (Option V)) (place within : ℕ) (wait : Option V)
+    → place < length waits → wait ≡ get_or waits place wait → wait ≡ None → within ≤ length (wait_octets items (get_or waits place None))
+    → given_of items waits (place + 1) 0 ≡ given_of items waits place within
+given_none items waits place within wait below is none fits =
+    let there = none_at waits place wait below is none in
+    let few : within ≤ 0 = rw (sym there) at fits in
+    given_next items waits place within None below there (omega (arith, few))
+
 without_none : (waits : List (Option (List ℕ))) → without_front 0 waits ≡ waits
 without_none [] = refl
 without_none (None ∷ waits) = refl
@@ -98,12 +110,21 @@ gives_some {V} items waits place within n piece into left (Some octets) below he
     let P : List (Option (List ℕ)) → Type 0 = λ l. Answers l piece into (Octets n) (left_of items waits place (within + n)) in
     subst P there (n, count, refl, same, after)
 
--- octets come in the next wait
-pub answers_octets : {V : Type 0} (items : V → List ℕ) (waits : List (Option V)) (place within n piece : ℕ) (into : List ℕ) (left : List (Option (List ℕ)))
-    → place < length waits → get_or waits place None ≢ None → within < length (wait_octets items (get_or waits place None))
-    → n ≡ min (min (length (drop within (wait_octets items (get_or waits place None)))) (length into)) piece
-    → take n into ≡ take n (drop within (wait_octets items (get_or waits place None)))
+-- the octets there are those of the wait that was looked at
+pub octets_at : {V : Type 0} (items : V → List ℕ) (waits : List (Option V)) (place : ℕ) (wait : Option V) (octets : V)
+    → place < length waits → wait ≡ get_or waits place wait → wait ≡ Some octets → items octets ≡ wait_octets items (get_or waits place None)
+octets_at {V} items waits place wait octets below here is = ap (λ (w : Option V). wait_octets items w) (sym is ∙ here ∙ same_at waits place wait None below)
+
+pub gives_octets : {V : Type 0} (items : V → List ℕ) (waits : List (Option V)) (place within n piece : ℕ) (into : List ℕ) (left : List (Option (List ℕ))) (wait : Option V) (octets : V)
+    → place < length waits → wait ≡ get_or waits place wait → wait ≡ Some octets
+    → (get_or waits place None ≢ None → within < length (wait_octets items (get_or waits place None)))
+    → n ≡ min (min (length (drop within (items octets))) (length into)) piece
+    → take n into ≡ take n (drop within (items octets))
     → pass_over (left_of items waits place within) ≡ left
     → Answers left piece into (Octets n) (left_of items waits place (within + n))
-answers_octets items waits place within n piece into left below some more count same is =
-    gives_some items waits place within n piece into left (get_or waits place None) below (same_at waits place None (get_or waits place None) below) some more count same is
+gives_octets {V} items waits place within n piece into left wait octets below here is more count same was =
+    let there : ◌≡◌ {A = Option V} (Some octets) (get_or waits place None) = sym is ∙ here ∙ same_at waits place wait None below in
+    let P : Option V → Type 0 = λ w. within < length (wait_octets items w) in
+    gives_some items waits place within n piece into left (Some octets) below (there ∙ same_at waits place None (Some octets) below)
+    (λ e. let d : ◌≡◌ {A = Option V} (Some octets) None = e in cc)
+    (subst P (sym there) (more (λ e. let d : ◌≡◌ {A = Option V} (Some octets) None = there ∙ e in cc))) count same was

@@ -1,5 +1,5 @@
 -- What the parts of `serve_again` leave. Private functions alone speak of this.
-use Rattle.std.specs.Prelude.{◌≡◌, ◌≤◌, ◌==◌, false, ℕ, List, length, Option, Result, Ok, Err, if◌then◌else◌}
+use Rattle.std.specs.Prelude.{◌≡◌, ◌≤◌, ◌==◌, Bool, false, ℕ, List, length, Option, Result, Ok, Err, if◌then◌else◌}
 use Rattle.secs_text.specs.Content.{Content}
 use Rattle.hsms_frame.specs.Device.{SinkState}
 use Rattle.hsms_machine.specs.Settings.{Parameters}
@@ -8,7 +8,6 @@ use Rattle.hsms_log.specs.Log.{LogText, written_log}
 use Rattle.hsms_entity.specs.Answer.{Answered}
 use Rattle.hsms_entity.specs.EndState.{EndOf}
 use Rattle.hsms_ends.specs.declared.again.ServedAgain.{ServedAgain}
-use Rattle.hsms_ends.specs.declared.again.Went.{Went}
 use Rattle.hsms_ends.specs.declared.step.Step.{Step}
 use Rattle.hsms_ends.specs.declared.serving.Served.{Served}
 use Rattle.hsms_ends.specs.declared.fault.ServeFault.{ServeFault}
@@ -17,29 +16,27 @@ use Rattle.hsms_ends.specs.Link.{Told}
 use Rattle.hsms_ends.specs.PutOut.{LogGrows, log_lines}
 use Rattle.hsms_ends.specs.Serving.{is_complete}
 use Rattle.hsms_ends.specs.Outcome.{ServesEnd}
-use Rattle.hsms_ends.specs.Again.{Connection, new_end, entries_all, AreServed, AnswersAgain, LogStopsLast}
+use Rattle.hsms_ends.specs.Again.{Connection, entries_all, AreServed, AnswersAgain, LogStopsLast}
 
 -- the script of a connection, with so many before it
 abbrev pub script_at : List Step → List Step → ℕ → List Step
 script_at script later done = if done == 0 then script else later
 
--- what follows the answer for a connection: the time of its last entry, from which the next one goes on, and whether it
--- was complete; or a fault
-abbrev pub Onward : {D : Type 0} → Result Went ServeFault → Result Served ServeFault → EndOf D → Type 0
-Onward (Ok went) (Ok served) end = (went.moment ≡ end.known.view.last_time) × (went.complete ≡ is_complete served)
-Onward (Ok went) (Err serve.Link) end = (went.moment ≡ end.known.view.last_time) × (went.complete ≡ false)
-Onward (Ok went) (Err _) end = ⊥
-Onward (Err serve.Log) (Err serve.Log) end = Unit {0}
-Onward (Err serve.Turns) (Err serve.Turns) end = Unit {0}
-Onward (Err serve.Memory) (Err serve.Memory) end = Unit {0}
-Onward _ _ end = ⊥
+-- what follows the answer for a connection: another one, and whether this one was complete; or a fault
+abbrev pub Onward : Result Bool ServeFault → Result Served ServeFault → Type 0
+Onward (Ok complete) (Ok served) = complete ≡ is_complete served
+Onward (Ok complete) (Err serve.Link) = complete ≡ false
+Onward (Ok complete) (Err _) = ⊥
+Onward (Err serve.Log) (Err serve.Log) = Unit {0}
+Onward (Err serve.Turns) (Err serve.Turns) = Unit {0}
+Onward (Err serve.Memory) (Err serve.Memory) = Unit {0}
+Onward _ _ = ⊥
 
--- one more connection was served
-pub record NextServed {D : Type 0} (answers : D → ℕ → Content → Answered) (pause : Option ℕ) (desk : D) (s : Parameters) (first_system since : ℕ) (script : List Step) (limit : ℕ) (outcome : Result Went ServeFault) (log log' : SinkState) (link link' : Told) : Type 0 where
+-- one more connection was served, of a new end
+pub record NextServed {D : Type 0} (answers : D → ℕ → Content → Answered) (pause : Option ℕ) (new end_new : EndOf D) (script : List Step) (limit : ℕ) (outcome : Result Bool ServeFault) (log log' : SinkState) (link link' : Told) : Type 0 where
   pub result : Result Served ServeFault
-  pub end_new : EndOf D
-  pub served : ServesEnd answers pause (new_end desk s first_system since) end_new script limit result log log' link link'
-  pub onward : Onward outcome result end_new
+  pub served : ServesEnd answers pause new end_new script limit result log log' link link'
+  pub onward : Onward outcome result
 
 -- what the log holds of the connections, but for the settings' line
 abbrev pub LinesHeld : Result ServedAgain ServeFault → SinkState → SinkState → List Connection → Type 0

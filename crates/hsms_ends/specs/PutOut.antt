@@ -6,7 +6,7 @@ use Rattle.hsms_frame.specs.Device.{SinkState, WhereTold, Grows, GrowsByFront}
 use Rattle.hsms_frame.specs.Frame.{frame_octets}
 use Rattle.hsms_machine.specs.declared.entry.Entry.{Entry}
 use Rattle.hsms_machine.specs.declared.entry.Event.{Event}
-use Rattle.hsms_machine.specs.declared.entry.Event.TheVariants.{Up, Sent, Taken, Discarded, T3, Cut, Down}
+use Rattle.hsms_machine.specs.declared.entry.Event.TheVariants.{Sent}
 use Rattle.hsms_log.specs.declared.fault.LogFault.{LogFault}
 use Rattle.hsms_log.specs.Spelling.{entry_line}
 use Rattle.hsms_ends.specs.declared.fault.LinkFault.{LinkFault}
@@ -16,26 +16,16 @@ use Rattle.hsms_ends.specs.Link.{Told, Heard, Hears, nothing_heard}
 
 -- header and text of a message that is sent are no more than its length field counts (SEMI E37, section 8)
 abbrev pub FitsLengthField : Event → Type 0
-FitsLengthField Up = Unit {0}
 FitsLengthField (Sent frame) = 10 + length frame.text < 2 ^ 32
-FitsLengthField (Taken frame) = Unit {0}
-FitsLengthField (Discarded frame) = Unit {0}
-FitsLengthField (T3 system) = Unit {0}
-FitsLengthField (Cut cause) = Unit {0}
-FitsLengthField Down = Unit {0}
+FitsLengthField _ = Unit {0}
 
 abbrev pub AllFitLengthField : List Entry → Type 0
 AllFitLengthField entries = All (λ entry. FitsLengthField entry.event) entries
 
 -- the octets of the message that an entry says was sent
 abbrev pub sent_of : Event → List ℕ
-sent_of Up = []
 sent_of (Sent frame) = frame_octets frame
-sent_of (Taken frame) = []
-sent_of (Discarded frame) = []
-sent_of (T3 system) = []
-sent_of (Cut cause) = []
-sent_of Down = []
+sent_of _ = []
 
 -- the octets of the sent messages, in order
 abbrev pub sent_octets : List Entry → List ℕ

@@ -1,9 +1,10 @@
 //! Connection after connection, served in one log.
 
-ghost use Rattle.std.specs.Prelude.{◌≡◌, ◌&&◌};
-ghost use Rattle.hsms_machine.specs.Settings.{IsWithinLimits, several_of};
+ghost use Rattle.std.specs.Prelude.{◌≡◌};
+ghost use Rattle.hsms_machine.specs.Settings.{several_of};
 ghost use Rattle.hsms_ends.specs.Again.{ServesAgain};
-ghost use Rattle.hsms_ends.specs.Onward.{Onward, NextServed, script_at};
+ghost use Rattle.hsms_ends.specs.Onward.{NextServed, script_at};
+ghost use Rattle.hsms_ends.specs.Outcome.{IsReady};
 
 use crate::fault::ServeFault;
 use crate::link::Again;
@@ -52,15 +53,6 @@ pub struct ServedAgain {
     pub complete: bool,
 }
 
-/// What came of a connection that the next one follows.
-#[derive(Clone, Copy)]
-struct Went {
-    /// The time of its last entry.
-    moment: u64,
-    /// Whether it was served to its end, and each step of its script was taken, and none refused.
-    complete: bool,
-}
-
 /// Serves connection after connection, each as [`serve_testing`](crate::serve_testing) does, in one log of version 2, and
 /// says how many went down, and whether the script was taken in each. It ends after so many connections, and where the
 /// link has no further one.
@@ -102,22 +94,14 @@ pub fn serve_again<L: Again, W: Sink, D: TurnDesk + Copy>(
     let mut since = 0;
     let mut complete = true;
     while done < connections && link.again() {
+        let mut end = End::since(alloc, several, desk, first_system, since);
         let steps = steps_of(script, later, done);
-        match serve_next(
-            alloc,
-            link,
-            log,
-            several,
-            desk,
-            first_system,
-            since,
-            steps,
-            pause,
-            turns,
-        ) {
-            Ok(went) => {
-                since = went.moment;
-                complete = both(complete, went.complete);
+        let answer = serve_next(link, log, &mut end, steps, pause, turns);
+        let moment = end.last_time();
+        match answer {
+            Ok(is_complete) => {
+                since = moment;
+                complete &= is_complete;
                 done += 1;
             }
             Err(fault) => return Err(fault),
@@ -129,13 +113,6 @@ pub fn serve_again<L: Again, W: Sink, D: TurnDesk + Copy>(
     })
 }
 
-/// Whether both are so.
-fn both(one: bool, other: bool) -> bool
-    ensures { result ≡ (one && other) }
-{
-    one && other
-}
-
 /// The script of a connection: the later one, unless it is the first.
 fn steps_of<'a>(script: &'a [Step], later: &'a [Step], done: u64) -> &'a [Step]
     ensures { result.now ≡ script_at script.now later.now done }
@@ -143,49 +120,24 @@ fn steps_of<'a>(script: &'a [Step], later: &'a [Step], done: u64) -> &'a [Step]
     if done == 0 { script } else { later }
 }
 
-/// Serves the next connection, and says the time of its last entry where it went down, and whether it was complete.
-fn serve_next<L: Again, W: Sink, D: TurnDesk + Copy>(
-    alloc: Global,
+/// Serves the next connection. Says whether it was complete, or the fault after which no further one is served.
+fn serve_next<L: Again, W: Sink, D: TurnDesk>(
     link: &mut L,
     log: &mut W,
-    settings: Settings,
-    desk: D,
-    first_system: u32,
-    since: u64,
+    end: &mut End<D>,
     script: &[Step],
     pause: Option<u64>,
     turns: u64,
-) -> Result<Went, ServeFault>
-    requires { IsWithinLimits settings }
-    ensures { NextServed D.answers_after pause desk settings first_system since script.now turns result
+) -> Result<bool, ServeFault>
+    requires { IsReady end.old }
+    ensures { NextServed D.answers_after pause end.old end.new script.now turns result
         (W.state log.old) (W.state log.new) (L.told link.old) (L.told link.new) }
 {
-    let mut end = End::since(alloc, settings, desk, first_system, since);
-    match serve_end(link, log, &mut end, script, pause, turns) {
-        Ok(served) => Ok(went_after(&end, served.is_complete())),
-        Err(fault) => go_on(&end, fault),
-    }
-}
-
-/// What came of a connection that went down.
-fn went_after<D: TurnDesk>(end: &End<D>, complete: bool) -> Went
-    ensures moment { result.moment ≡ end.now.known.view.last_time }
-    ensures complete { result.complete ≡ complete }
-{
-    Went {
-        moment: end.last_time(),
-        complete,
-    }
-}
-
-/// What follows a fault: after the link's the next connection.
-fn go_on<D: TurnDesk>(end: &End<D>, fault: ServeFault) -> Result<Went, ServeFault>
-    ensures { Onward result (Err fault) end.now }
-{
-    match fault {
-        ServeFault::Link => Ok(went_after(end, false)),
-        ServeFault::Log => Err(ServeFault::Log),
-        ServeFault::Turns => Err(ServeFault::Turns),
-        ServeFault::Memory => Err(ServeFault::Memory),
+    match serve_end(link, log, end, script, pause, turns) {
+        Ok(served) => Ok(served.is_complete()),
+        Err(ServeFault::Link) => Ok(false),
+        Err(ServeFault::Log) => Err(ServeFault::Log),
+        Err(ServeFault::Turns) => Err(ServeFault::Turns),
+        Err(ServeFault::Memory) => Err(ServeFault::Memory),
     }
 }

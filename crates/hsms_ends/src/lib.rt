@@ -20,7 +20,6 @@ pub mod laws;
 mod link;
 mod output;
 mod peer;
-mod range;
 mod scripted;
 mod scripted_desk;
 mod sending;

@@ -1,13 +1,16 @@
 //! Entries to the log and to the link.
 
+ghost use Rattle.std.specs.Prelude.{All};
+ghost use Rattle.hsms_log.specs.Spelling.{IsEntry};
 ghost use Rattle.hsms_ends.specs.Link.{nothing_heard};
-ghost use Rattle.hsms_ends.specs.PutOut.{FitsLengthField, AllFitLengthField, SendsAll, PutsOut, LogsAll, RestLogged, sent_of};
+ghost use Rattle.hsms_ends.specs.PutOut.{FitsLengthField, AllFitLengthField, SendsAll, PutsOut, RestLogged, sent_of};
 
 use crate::fault::LinkFault;
 use crate::link::Link;
 use crate::sending::send_frame;
 use hsms_frame::Sink;
-use hsms_log::{LogFault, write_entry};
+use hsms_log::laws::entry_is_in_range;
+use hsms_log::write_entry;
 use hsms_machine::{Entry, Event};
 
 /// Why serving stops before its end.
@@ -34,7 +37,7 @@ pub fn put_out<L: Link, W: Sink>(link: &mut L, log: &mut W, entries: &[Entry]) -
         match write_entry(log, entry) {
             Ok(()) => match send_event(link, &entry.event) {
                 Ok(()) => place += 1,
-                Err(_) => return log_rest(log, &entries[place + 1..]),
+                Err(_) => return Err(log_rest(log, &entries[place + 1..])),
             },
             Err(_) => return Err(Stop::Log),
         }
@@ -49,35 +52,31 @@ fn send_event<L: Link>(link: &mut L, event: &Event) -> Result<(), LinkFault>
 {
     match event {
         Event::Sent(frame) => send_frame(link, frame),
-        Event::Up
-        | Event::Taken(_)
-        | Event::Discarded(_)
-        | Event::T3(_)
-        | Event::Cut(_)
-        | Event::Down => Ok(()),
+        _ => Ok(()),
     }
 }
 
-/// Logs the rest of a call's entries after the link failed, and says why serving stops.
-fn log_rest<W: Sink>(log: &mut W, entries: &[Entry]) -> Result<(), Stop>
-    ensures { RestLogged result (W.state log.old) (W.state log.new) entries.now }
-{
-    match log_all(log, entries) {
-        Ok(()) => Err(Stop::Link),
-        Err(_) => Err(Stop::Log),
-    }
-}
-
-/// Writes the lines of entries to the log alone.
-pub fn log_all<W: Sink>(log: &mut W, entries: &[Entry]) -> Result<(), LogFault>
-    ensures { LogsAll result (W.state log.old) (W.state log.new) entries.now }
+/// Logs entries that the end gave in a call, once the link has failed, and says why serving stops.
+pub fn log_rest<W: Sink>(log: &mut W, entries: &[Entry]) -> Stop
+    ensures { RestLogged (Err result) (W.state log.old) (W.state log.new) entries.now }
 {
     let mut place = 0;
     while place < entries.len() {
         match write_entry(log, &entries[place]) {
             Ok(()) => place += 1,
-            Err(fault) => return Err(fault),
+            Err(_) => return Stop::Log,
         }
     }
-    Ok(())
+    Stop::Link
+}
+
+/// The numbers of entries that a program holds lie within the ranges of their types. Its contract is the fact.
+pub fn entries_are_in_range(entries: &[Entry])
+    ensures { All IsEntry entries.now }
+{
+    let mut place = 0;
+    while place < entries.len() {
+        entry_is_in_range(&entries[place]);
+        place += 1;
+    }
 }

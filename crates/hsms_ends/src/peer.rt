@@ -1,6 +1,6 @@
 //! What the peer of a link in memory says.
 
-ghost use Rattle.std.specs.Prelude.{◌≡◌, ◌≢◌, ◌<◌, ◌≤◌, ◌+◌, ◌++◌, None, IfSome, length, take, drop, get_or, min, true, false};
+ghost use Rattle.std.specs.Prelude.{◌≡◌, ◌≢◌, ◌<◌, ◌≤◌, None, length, get_or, true, false};
 ghost use Rattle.hsms_ends.specs.Script.{given_of, left_of, pass_over, wait_octets};
 
 use crate::link::Got;
@@ -79,8 +79,9 @@ impl Peer {
             self.closes = self.closes.saturating_add(1);
             return Got::Closed;
         }
-        match give(&self.waits, place, within, into, piece) {
-            Some(count) => {
+        match &self.waits[place] {
+            Some(octets) => {
+                let count = copy_front(&octets[within..], into, piece);
                 self.within = within + count;
                 Got::Octets(count)
             }
@@ -124,34 +125,5 @@ fn is_used_up(wait: &Option<Vec<u8>>, within: usize) -> bool
     match wait {
         Some(octets) => within == octets.len(),
         None => false,
-    }
-}
-
-/// Gives octets of a wait, at most `piece` of those that are left, and says how many; None where nothing comes in it.
-fn give(
-    waits: &[Option<Vec<u8>>],
-    place: usize,
-    within: usize,
-    into: &mut [u8],
-    piece: usize,
-) -> Option<usize>
-    requires place { place < length waits.now }
-    requires piece { 0 < piece }
-    requires room { 0 < length into.old }
-    requires left { get_or waits.now place None ≢ None
-        → within < length (wait_octets (λ v. v.items) (get_or waits.now place None)) }
-    ensures none { result ≡ None → get_or waits.now place None ≡ None }
-    ensures there { IfSome result (λ n. get_or waits.now place None ≢ None) }
-    ensures some { IfSome result (λ n. (0 < n) × (n ≤ length into.new)) }
-    ensures within { IfSome result
-        (λ n. within + n ≤ length (wait_octets (λ v. v.items) (get_or waits.now place None))) }
-    ensures count { IfSome result (λ n. n ≡ min (min
-        (length (drop within (wait_octets (λ v. v.items) (get_or waits.now place None)))) (length into.new)) piece) }
-    ensures given { IfSome result (λ n. take n into.new
-        ≡ take n (drop within (wait_octets (λ v. v.items) (get_or waits.now place None)))) }
-{
-    match &waits[place] {
-        Some(octets) => Some(copy_front(&octets[within..], into, piece)),
-        None => None,
     }
 }

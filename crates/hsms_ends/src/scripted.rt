@@ -196,13 +196,9 @@ impl Again for Scripted {
 fn moment_of(moments: &[u64], k: u64) -> u64
     ensures { result ≡ moment_at moments.now k }
 {
-    if moments.is_empty() {
-        return 0;
-    }
-    let last = moments.len() - 1;
-    if k < last as u64 {
-        moments[k as usize]
-    } else {
-        moments[last]
-    }
+    let last = moments.len().saturating_sub(1);
+    moments
+        .get(k.min(last as u64) as usize)
+        .copied()
+        .unwrap_or(0)
 }

@@ -31,13 +31,8 @@ impl<D: Desk + Drop> TurnDesk for ScriptedDesk<D> {
     ) -> Result<Answer, AllocError> {
         match reply_to(&self.replies, message, before) {
             Some(reply) => replied(alloc, reply),
-            None => {
-                if is_aborted(&self.replies, message) {
-                    Ok(Answer::Quiet)
-                } else {
-                    self.own.answer(alloc, message)
-                }
-            }
+            None if is_aborted(&self.replies, message) => Ok(Answer::Quiet),
+            None => self.own.answer(alloc, message),
         }
     }
 }

@@ -3,15 +3,13 @@
 ghost use Rattle.std.specs.Prelude.{◌≡◌, drop, length};
 ghost use Rattle.hsms_entity.specs.EndState.{untold};
 ghost use Rattle.hsms_ends.specs.Serving.{Serves, ServesTesting};
-ghost use Rattle.hsms_ends.specs.Outcome.{IsReady, Ran, ServesEnd, ClosedLink, RestClosed, StoppedAs};
+ghost use Rattle.hsms_ends.specs.Outcome.{IsReady, ServesEnd, RestClosed, StoppedAs};
 
-use crate::call::Call;
 use crate::fault::ServeFault;
 use crate::link::Link;
-use crate::output::{Stop, log_all};
-use crate::range::entries_are_in_range;
+use crate::output::{Stop, entries_are_in_range, log_rest};
 use crate::step::Step;
-use crate::turns::{Progress, hand, has_gone, now, take_turns};
+use crate::turns::{Progress, has_gone, run};
 use hsms_entity::{End, TurnDesk};
 use hsms_frame::Sink;
 use hsms_log::write_settings;
@@ -139,7 +137,17 @@ pub fn serve_end<L: Link, W: Sink, D: TurnDesk>(
         entries: 0,
         refused: 0,
     };
-    match run(link, log, end, script, &mut progress, pause, turns) {
+    let mut room = [0u8; ROOM];
+    match run(
+        link,
+        log,
+        end,
+        script,
+        &mut progress,
+        pause,
+        turns,
+        &mut room,
+    ) {
         Ok(()) => {
             if has_gone(end) {
                 Ok(Served {
@@ -162,45 +170,16 @@ fn left_over(script: &[Step], place: usize) -> usize
     script.len().saturating_sub(place)
 }
 
-/// Asks the clock, starts the end, and takes turns.
-fn run<L: Link, W: Sink, D: TurnDesk>(
-    link: &mut L,
-    log: &mut W,
-    end: &mut End<D>,
-    script: &[Step],
-    progress: &mut Progress,
-    pause: Option<u64>,
-    turns: u64,
-) -> Result<(), Stop>
-    requires ready { IsReady end.old }
-    requires none { progress.old ≡ record { place = 0; entries = 0; refused = 0 } }
-    ensures { Ran D.answers_after pause result turns end.old end.new script.now (drop progress.new.place script.now)
-        (W.state log.old) (W.state log.new) (L.told link.old) (L.told link.new)
-        progress.new.entries progress.new.refused }
-{
-    let mut room = [0u8; ROOM];
-    let now = now(link);
-    match hand(link, log, end, Call::Start(now), &mut progress.entries) {
-        Ok(()) => take_turns(link, log, end, script, progress, pause, turns, &mut room),
-        Err(stop) => Err(stop),
-    }
-}
-
-/// What is answered after a fault. After a link fault the end is closed first.
+/// What is answered after a fault. After a link fault the end is closed first, and the fault of closing it counts, where
+/// there is one.
 fn stopped<W: Sink, D: TurnDesk>(log: &mut W, end: &mut End<D>, stop: Stop) -> ServeFault
     ensures { StoppedAs D.answers_after stop result end.old end.new (W.state log.old) (W.state log.new) }
 {
     match stop {
-        Stop::Link => close(log, end),
-        Stop::Log => ServeFault::Log,
-        Stop::Memory => ServeFault::Memory,
+        Stop::Log => return ServeFault::Log,
+        Stop::Memory => return ServeFault::Memory,
+        Stop::Link => {}
     }
-}
-
-/// Closes an end after a link fault, and says what is answered: the fault of closing it, where there is one.
-fn close<W: Sink, D: TurnDesk>(log: &mut W, end: &mut End<D>) -> ServeFault
-    ensures { ClosedLink D.answers_after result end.old end.new (W.state log.old) (W.state log.new) }
-{
     if has_gone(end) {
         return ServeFault::Link;
     }
@@ -218,8 +197,9 @@ fn close<W: Sink, D: TurnDesk>(log: &mut W, end: &mut End<D>) -> ServeFault
 fn close_rest<W: Sink>(log: &mut W, entries: &[Entry]) -> ServeFault
     ensures { RestClosed result (W.state log.old) (W.state log.new) entries.now }
 {
-    match log_all(log, entries) {
-        Ok(()) => ServeFault::Link,
-        Err(_) => ServeFault::Log,
+    match log_rest(log, entries) {
+        Stop::Link => ServeFault::Link,
+        Stop::Log => ServeFault::Log,
+        Stop::Memory => ServeFault::Memory,
     }
 }

@@ -3,15 +3,14 @@
 ghost use Rattle.std.specs.Prelude.{◌≡◌, ◌<◌, ℕ, List, Option, drop, length, true, MatchResult};
 ghost use Rattle.hsms_entity.specs.Turn.{tick as ticks};
 ghost use Rattle.hsms_entity.specs.End.{Accepts, Refuses};
-ghost use Rattle.hsms_ends.specs.Link.{Asks, IsGot, moment_heard, nothing_heard};
+ghost use Rattle.hsms_ends.specs.Link.{moment_heard, nothing_heard};
 ghost use Rattle.hsms_ends.specs.PutOut.{AllFitLengthField};
 ghost use Rattle.hsms_ends.specs.Turning.{HasNotGone, MustWait, has_gone as is_down, is_idle as is_free, is_step_due as step_due, input_of, is_test_due as test_due, test_moment as moment_of_test};
-ghost use Rattle.hsms_ends.specs.Outcome.{called, IsReady, Yields, Handed, Followed, Heeded, Continued, TurnTaken, TurnsTaken};
+ghost use Rattle.hsms_ends.specs.Outcome.{called, IsReady, Yields, Handed, Followed, Continued, TurnTaken, Ran};
 
 use crate::call::Call;
 use crate::link::{Got, Link};
-use crate::output::{Stop, put_out};
-use crate::range::entries_are_in_range;
+use crate::output::{Stop, entries_are_in_range, put_out};
 use crate::step::Step;
 use hsms_entity::{End, EndFault, TurnDesk};
 use hsms_frame::Sink;
@@ -74,7 +73,7 @@ fn make<D: TurnDesk>(end: &mut End<D>, call: Call<'_>) -> Result<Vec<Entry>, End
 }
 
 /// Makes a call of the end, and puts out what it gave.
-pub fn hand<L: Link, W: Sink, D: TurnDesk>(
+fn hand<L: Link, W: Sink, D: TurnDesk>(
     link: &mut L,
     log: &mut W,
     end: &mut End<D>,
@@ -92,13 +91,6 @@ pub fn hand<L: Link, W: Sink, D: TurnDesk>(
     }
 }
 
-/// Asks the clock: the link's moment.
-pub fn now<L: Link>(link: &mut L) -> u64
-    ensures { Asks (L.told link.old) (L.told link.new) result }
-{
-    link.now()
-}
-
 /// Asks the clock, and tells the end the moment.
 fn tick<L: Link, W: Sink, D: TurnDesk>(
     link: &mut L,
@@ -110,7 +102,7 @@ fn tick<L: Link, W: Sink, D: TurnDesk>(
     ensures { (now : ℕ) × Handed D.answers_after result end.old (ticks now) end.new (W.state log.old) (W.state log.new)
         (L.told link.old) (L.told link.new) (moment_heard now) count.old count.new }
 {
-    let now = now(link);
+    let now = link.now();
     hand(link, log, end, Call::Tick(now), count)
 }
 
@@ -203,45 +195,21 @@ fn wait_once<L: Link, W: Sink, D: TurnDesk>(
         (L.told link.old) (L.told link.new) count.old count.new refused refused }
     ensures len { length into.new ≡ length into.old }
 {
-    let until = until(end, pause);
+    // Past the moment at which the next timer is due, since only then it has run out.
+    let expiry = end.next_due().and_then(|due| due.checked_add(1));
+    let until = earlier(expiry, test_moment(end, pause));
     match link.wait(until, into) {
-        Ok(got) => heed(link, log, end, got, into, count),
+        Ok(got) => match got {
+            Got::Quiet => Ok(()),
+            Got::Octets(length) => hear(link, log, end, Call::Bytes(&into[..length]), count),
+            Got::Closed => hear(link, log, end, Call::Lost, count),
+        },
         Err(_) => Err(Stop::Link),
     }
 }
 
-/// Tells the end what a wait answered.
-fn heed<L: Link, W: Sink, D: TurnDesk>(
-    link: &mut L,
-    log: &mut W,
-    end: &mut End<D>,
-    got: Got,
-    into: &[u8],
-    count: &mut u64,
-) -> Result<(), Stop>
-    requires ready { IsReady end.old }
-    requires got { IsGot into.now got }
-    ensures { Heeded D.answers_after result into.now got end.old end.new (W.state log.old) (W.state log.new)
-        (L.told link.old) (L.told link.new) count.old count.new }
-{
-    match got {
-        Got::Quiet => Ok(()),
-        Got::Octets(length) => hear(link, log, end, Call::Bytes(&into[..length]), count),
-        Got::Closed => hear(link, log, end, Call::Lost, count),
-    }
-}
-
-// Until when to wait: until the link is to be tested, or past the moment at which the next timer is due, since only then
-// it has run out.
-fn until<D: TurnDesk>(end: &End<D>, pause: Option<u64>) -> Option<u64> {
-    let expiry = match end.next_due() {
-        Some(due) => due.checked_add(1),
-        None => None,
-    };
-    earlier(expiry, test_moment(end, pause))
-}
-
-/// One turn of an end that isn't down.
+/// One turn of an end that isn't down: it is told the moment, and then, unless that ended the connection, the next step
+/// of the script where one is due, or the link is tested where that is, or else waited for.
 fn turn<L: Link, W: Sink, D: TurnDesk>(
     link: &mut L,
     log: &mut W,
@@ -261,38 +229,18 @@ fn turn<L: Link, W: Sink, D: TurnDesk>(
     ensures len { length into.new ≡ length into.old }
 {
     match tick(link, log, end, &mut progress.entries) {
-        Ok(()) => continue_turn(link, log, end, script, progress, pause, into),
+        Ok(()) => {
+            if has_gone(end) {
+                Ok(())
+            } else if step_is_due(end, script, progress.place) {
+                take_step(link, log, end, script, progress)
+            } else if test_is_due(end, pause) {
+                hand(link, log, end, Call::Linktest, &mut progress.entries)
+            } else {
+                wait_once(link, log, end, pause, into, &mut progress.entries)
+            }
+        }
         Err(stop) => Err(stop),
-    }
-}
-
-/// The rest of a turn: the next step of the script where it is due, a test of the link where that is, else a wait.
-fn continue_turn<L: Link, W: Sink, D: TurnDesk>(
-    link: &mut L,
-    log: &mut W,
-    end: &mut End<D>,
-    script: &[Step],
-    progress: &mut Progress,
-    pause: Option<u64>,
-    into: &mut [u8],
-) -> Result<(), Stop>
-    requires ready { IsReady end.old }
-    requires room { 0 < length into.old }
-    ensures continued { Continued D.answers_after pause result end.old end.new
-        (drop progress.old.place script.now) (drop progress.new.place script.now)
-        (W.state log.old) (W.state log.new) (L.told link.old) (L.told link.new)
-        progress.old.entries progress.new.entries progress.old.refused progress.new.refused }
-    ensures len { length into.new ≡ length into.old }
-{
-    if has_gone(end) {
-        return Ok(());
-    }
-    if step_is_due(end, script, progress.place) {
-        take_step(link, log, end, script, progress)
-    } else if test_is_due(end, pause) {
-        hand(link, log, end, Call::Linktest, &mut progress.entries)
-    } else {
-        wait_once(link, log, end, pause, into, &mut progress.entries)
     }
 }
 
@@ -308,10 +256,7 @@ fn step_is_due<D: TurnDesk>(end: &End<D>, script: &[Step], place: usize) -> bool
 fn test_is_due<D: TurnDesk>(end: &End<D>, pause: Option<u64>) -> bool
     ensures { result ≡ test_due pause end.now }
 {
-    match test_moment(end, pause) {
-        Some(moment) => moment <= end.moment(),
-        None => false,
-    }
+    test_moment(end, pause).is_some_and(|moment| moment <= end.moment())
 }
 
 /// The moment from which on the link is to be tested.
@@ -321,8 +266,9 @@ fn test_moment<D: TurnDesk>(end: &End<D>, pause: Option<u64>) -> Option<u64>
     end.test_due(pause?)
 }
 
-/// At most so many turns, while the connection isn't down. What comes is read into a slice that isn't empty.
-pub fn take_turns<L: Link, W: Sink, D: TurnDesk>(
+/// Starts the end at the link's moment, and takes at most so many turns, while the connection isn't down. What comes is
+/// read into a slice that isn't empty.
+pub fn run<L: Link, W: Sink, D: TurnDesk>(
     link: &mut L,
     log: &mut W,
     end: &mut End<D>,
@@ -333,12 +279,17 @@ pub fn take_turns<L: Link, W: Sink, D: TurnDesk>(
     into: &mut [u8],
 ) -> Result<(), Stop>
     requires ready { IsReady end.old }
+    requires none { progress.old ≡ record { place = 0; entries = 0; refused = 0 } }
     requires room { 0 < length into.old }
-    ensures { TurnsTaken D.answers_after pause result turns end.old end.new
-        (drop progress.old.place script.now) (drop progress.new.place script.now)
+    ensures { Ran D.answers_after pause result turns end.old end.new script.now (drop progress.new.place script.now)
         (W.state log.old) (W.state log.new) (L.told link.old) (L.told link.new)
-        progress.old.entries progress.new.entries progress.old.refused progress.new.refused }
+        progress.new.entries progress.new.refused }
 {
+    let start = link.now();
+    match hand(link, log, end, Call::Start(start), &mut progress.entries) {
+        Ok(()) => {}
+        Err(stop) => return Err(stop),
+    }
     let mut done = 0;
     while done < turns && !has_gone(end) {
         match turn(link, log, end, script, progress, pause, into) {

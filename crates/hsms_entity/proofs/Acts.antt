@@ -1,5 +1,7 @@
 -- Acts one after the other.
 use Rattle.std.proofs.Common.{◌≡◌, ℕ, ◌+◌, ◌%◌, ◌^◌, List, [], ◌∷◌, ◌++◌, Option, None, refl, sym, ap, subst, ◌∙◌, append_assoc}
+use Rattle.std.specs.Prelude.{Result, OnOk}
+use Rattle.std.proofs.lemmas.Result.{on_ok_weaker}
 use Rattle.hsms_frame.specs.Frame.{Frame}
 use Rattle.hsms_machine.specs.declared.entry.Entry.{Entry}
 use Rattle.hsms_machine.specs.declared.entry.Event.{Event}
@@ -17,6 +19,10 @@ use Rattle.hsms_entity.specs.Number.{IsFirstFree}
 use Rattle.hsms_entity.specs.End.{Extends}
 use Rattle.hsms_entity.specs.Performing.{Performs, IsLawful}
 use Rattle.hsms_entity.proofs.Lawfuls.{first_same}
+
+-- what follows where a call was done
+pub then_ok : {T E P Q : Type 0} (r : Result T E) → OnOk r P → (P → Q) → OnOk r Q
+then_ok r h f = on_ok_weaker r f h
 
 pub acts_append : (acts more : List Act) (end next end' : EndState) (first later : List Entry) → Acts end acts first next → Acts next more later end' → Acts end (acts ++ more) (first ++ later) end'
 acts_append [] more end next end' first later h k =

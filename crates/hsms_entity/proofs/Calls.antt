@@ -1,5 +1,5 @@
 -- What the calls of an end answer.
-use Rattle.std.proofs.Common.{◌≡◌, ℕ, max, ◌<◌, ◌≤◌, Bool, true, false, List, [], ◌∷◌, Some, None, refl, sym, subst, ◌∙◌, inl, inr, arith}
+use Rattle.std.proofs.Common.{◌≡◌, ℕ, max, ◌<◌, ◌≤◌, Bool, true, false, List, [], ◌∷◌, None, refl, sym, subst, ◌∙◌, inr, arith}
 use Rattle.secs_text.specs.Content.{Content}
 use Rattle.hsms_machine.specs.declared.entry.Entry.{Entry}
 use Rattle.hsms_machine.specs.declared.entry.Event.TheVariants.{Down}
@@ -11,7 +11,8 @@ use Rattle.hsms_entity.specs.Frame.{linktest_req, separate_req}
 use Rattle.hsms_entity.specs.Act.{Act, Acts, logs, asks}
 use Rattle.hsms_entity.specs.Turn.{is_up, opening_of, Told, Turn, start, linktest, separate, lost}
 use Rattle.hsms_entity.specs.Fault.{Meets, is_before}
-use Rattle.hsms_entity.specs.Performing.{Performs}
+use Rattle.hsms_entity.specs.Performing.{Performs, HasLogged}
+use Rattle.hsms_entity.specs.Sound.{IsSound, Completes}
 use Rattle.hsms_entity.specs.End.{Extends, Accepts}
 use Rattle.hsms_entity.specs.EndState.{EndState, EndOf}
 use Rattle.hsms_entity.specs.Inside.{known_of, known}
@@ -63,6 +64,9 @@ accepted {D} answers desk end from end' spent at input acts first entries fresh 
     accepted_at answers desk end end' spent at input entries fresh is meets (turn entries (known end') (acts_of from end' acts entries done))
     (subst (λ (v : View). Extends v entries end'.tracker) same (run_of from end' acts entries done))
 
+pub completed_sound : (end end' : State) (before entries : List Entry) (acts : List Act) → Completes end before acts end' entries → IsSound end'
+completed_sound end end' before entries acts h = h.sound
+
 -- ---- start
 
 pub start_meets : (spent : Bool) (end : State) (now : ℕ) → spent ≡ false → is_before end.tracker.phase ≡ true → Meets (known_of end spent) (start now) None
@@ -70,21 +74,21 @@ unfolding Meets
 start_meets spent end now s u =
     inr (not_spent spent s, inr (up_is_up (is_before end.tracker.phase) u, inr ((λ b. b), inr ((λ b. b), inr ((λ b. b), inr ((λ b. let d : false ≡ true = b.0 in cc), inr ((λ b. b), inr ((λ b. b), refl))))))))
 
-pub started : {D : Type 0} (answers : D → ℕ → Content → Answered) (desk : D) (end end' : State) (spent : Bool) (at : EndOf D) (now moment : ℕ) (first entries : List Entry) → moment ≡ max end.moment now → spent ≡ false → inside_of desk end spent ≡ at → first ≡ [] → is_before end.tracker.phase ≡ true → Performs (record end { moment = moment }) first (opening_of end.settings.link) end' entries → Accepts answers at (start now) entries (inside_of desk end' false)
+pub started : {D : Type 0} (answers : D → ℕ → Content → Answered) (desk : D) (end end' : State) (spent : Bool) (at : EndOf D) (now moment : ℕ) (first entries : List Entry) → moment ≡ max end.moment now → spent ≡ false → inside_of desk end spent ≡ at → first ≡ [] → is_before end.tracker.phase ≡ true → Completes (record end { moment = moment }) first (opening_of end.settings.link) end' entries → Accepts answers at (start now) entries (inside_of desk end' false)
 started answers desk end end' spent at now moment first entries later fresh is empty before h =
     accepted answers desk end (record end { moment = max end.moment now }) end' spent at (start now) (opening_of end.settings.link) first entries fresh is empty (start_meets spent end now fresh before) refl (λ es k h. h)
-    (subst (λ (m : ℕ). Performs (record end { moment = m }) first (opening_of end.settings.link) end' entries) later h)
+    (subst (λ (m : ℕ). Performs (record end { moment = m }) first (opening_of end.settings.link) end' entries) later h.does)
 
 -- ---- lost, separate and linktest
 
-pub lost_accepted : {D : Type 0} (answers : D → ℕ → Content → Answered) (desk : D) (end end' : State) (spent : Bool) (at : EndOf D) (first entries : List Entry) → spent ≡ false → inside_of desk end spent ≡ at → first ≡ [] → is_up end.tracker.phase ≡ true → Performs end first (logs Down ∷ []) end' entries → Accepts answers at lost entries (inside_of desk end' false)
+pub lost_accepted : {D : Type 0} (answers : D → ℕ → Content → Answered) (desk : D) (end end' : State) (spent : Bool) (at : EndOf D) (first entries : List Entry) → spent ≡ false → inside_of desk end spent ≡ at → first ≡ [] → is_up end.tracker.phase ≡ true → HasLogged end first Down end' entries → Accepts answers at lost entries (inside_of desk end' false)
 lost_accepted answers desk end end' spent at first entries fresh is empty up h =
-    accepted answers desk end end end' spent at lost (logs Down ∷ []) first entries fresh is empty (lost_meets spent end fresh up) refl (λ es k d. d) h
+    accepted answers desk end end end' spent at lost (logs Down ∷ []) first entries fresh is empty (lost_meets spent end fresh up) refl (λ es k d. d) h.does
 
-pub separate_accepted : {D : Type 0} (answers : D → ℕ → Content → Answered) (desk : D) (end end' : State) (spent : Bool) (at : EndOf D) (first entries : List Entry) → spent ≡ false → inside_of desk end spent ≡ at → first ≡ [] → is_up end.tracker.phase ≡ true → Performs end first (asks separate_req ∷ logs Down ∷ []) end' entries → Accepts answers at separate entries (inside_of desk end' false)
+pub separate_accepted : {D : Type 0} (answers : D → ℕ → Content → Answered) (desk : D) (end end' : State) (spent : Bool) (at : EndOf D) (first entries : List Entry) → spent ≡ false → inside_of desk end spent ≡ at → first ≡ [] → is_up end.tracker.phase ≡ true → Completes end first (asks separate_req ∷ logs Down ∷ []) end' entries → Accepts answers at separate entries (inside_of desk end' false)
 separate_accepted answers desk end end' spent at first entries fresh is empty up h =
-    accepted answers desk end end end' spent at separate (asks separate_req ∷ logs Down ∷ []) first entries fresh is empty (separate_meets spent end fresh up) refl (λ es k d. d) h
+    accepted answers desk end end end' spent at separate (asks separate_req ∷ logs Down ∷ []) first entries fresh is empty (separate_meets spent end fresh up) refl (λ es k d. d) h.does
 
-pub linktest_accepted : {D : Type 0} (answers : D → ℕ → Content → Answered) (desk : D) (end end' : State) (spent : Bool) (at : EndOf D) (first entries : List Entry) → spent ≡ false → inside_of desk end spent ≡ at → first ≡ [] → is_up end.tracker.phase ≡ true → own_open_of end.tracker < 64 → Performs end first (asks linktest_req ∷ []) end' entries → Accepts answers at linktest entries (inside_of desk end' false)
+pub linktest_accepted : {D : Type 0} (answers : D → ℕ → Content → Answered) (desk : D) (end end' : State) (spent : Bool) (at : EndOf D) (first entries : List Entry) → spent ≡ false → inside_of desk end spent ≡ at → first ≡ [] → is_up end.tracker.phase ≡ true → own_open_of end.tracker < 64 → Completes end first (asks linktest_req ∷ []) end' entries → Accepts answers at linktest entries (inside_of desk end' false)
 linktest_accepted answers desk end end' spent at first entries fresh is empty up room h =
-    accepted answers desk end end end' spent at linktest (asks linktest_req ∷ []) first entries fresh is empty (linktest_meets spent end fresh up room) refl (λ es k d. d) h
+    accepted answers desk end end end' spent at linktest (asks linktest_req ∷ []) first entries fresh is empty (linktest_meets spent end fresh up room) refl (λ es k d. d) h.does

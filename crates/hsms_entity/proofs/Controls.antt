@@ -1,11 +1,13 @@
 -- The responses and Rejects of an own end are lawful, and settle what it owes.
 use Rattle.std.proofs.Common.{◌≡◌, ℕ, ◌+◌, ◌<◌, ◌==◌, Bool, true, false, ◌&&◌, ◌||◌, not, List, [], ◌∷◌, ◌++◌, refl, sym, ap, subst, ◌∙◌, inr, arith, if◌then◌else◌}
 use Rattle.std.specs.List.{list_any}
+use Rattle.std.specs.Int.{from_bool}
 use Rattle.std.proofs.lemmas.Bool.Decides.{nat_tests}
 use Rattle.hsms_frame.specs.declared.header.Header.{Header}
 use Rattle.hsms_frame.specs.Frame.{Frame}
 use Rattle.hsms_frame.specs.declared.kinds.Kind.TheVariants.{SelectReq, SelectRsp, LinktestReq, LinktestRsp, Reject, OtherSType, OtherPType}
 use Rattle.hsms_frame.specs.Header.{kind_of}
+use Rattle.hsms_machine.specs.declared.entry.Entry.{Entry}
 use Rattle.hsms_machine.specs.declared.entry.Event.TheVariants.{Sent}
 use Rattle.hsms_machine.specs.declared.phase.Phase.{Phase}
 use Rattle.hsms_machine.specs.declared.phase.Phase.TheVariants.{Selected}
@@ -23,11 +25,12 @@ use Rattle.hsms_machine.specs.Step.{facts_of, is_selected}
 use Rattle.hsms_entity.specs.declared.state.State.{State}
 use Rattle.hsms_entity.specs.Inside.{after_event}
 use Rattle.hsms_entity.specs.Frame.{select_rsp, linktest_rsp, reject_req}
-use Rattle.hsms_entity.specs.Performing.{IsLawful}
-use Rattle.hsms_entity.specs.AwaitingReply.{PeerAwaits, IsSame, IsAskedToSelect, IsAskedForLink}
+use Rattle.hsms_entity.specs.Act.{logs}
+use Rattle.hsms_entity.specs.Reaction.{rejects as rejects_by}
+use Rattle.hsms_entity.specs.Performing.{IsLawful, Performs, HasLogged}
+use Rattle.hsms_entity.specs.AwaitingReply.{PeerAwaits, Settles, IsAskedToSelect, IsAskedForLink}
 use Rattle.hsms_entity.proofs.Lawfuls.{sent_lawful}
 use Rattle.hsms_entity.proofs.OwnFrames.{IsFine}
-use Rattle.hsms_entity.proofs.Steadiness.{kept_phase}
 use Rattle.hsms_entity.proofs.AwaitingReplies.{IsQuiet, left_by, sent_awaits}
 
 pub same_system : (n : ℕ) → (n == n) ≡ true
@@ -106,6 +109,10 @@ left_answered request response e = ap (λ b. (if not (b || rejects request.heade
 pub one_open : (test : Transaction → Bool) (request : Transaction) (opened : List Transaction) → opened ≡ request ∷ [] → test request ≡ true → list_any test opened ≡ true
 one_open test request opened is e = ap (λ (xs : List Transaction). list_any test xs) is ∙ ap (λ b. b || false) e
 
+pub status_of : (selected : Bool) → from_bool selected ≡ (if selected then 1 else 0)
+status_of true = refl
+status_of false = refl
+
 never_again : (p : Phase) (selected : Bool) → is_selected p ≡ selected → ((if selected then 1 else 0) == 0) ≡ true → p ≡ Selected → ⊥
 never_again p true e zero is = let d : false ≡ true = zero in cc
 never_again p false e zero is = let d : true ≡ false = ap is_selected (sym is) ∙ e in cc
@@ -113,10 +120,6 @@ never_again p false e zero is = let d : true ≡ false = ap is_selected (sym is)
 reject_quiet : (header : Header) (reason : ℕ) → IsQuiet (reject_req header reason).header
 unfolding separates is_data_request is_control_request
 reject_quiet header reason = record { stays = refl; no_data = refl; no_control = refl }
-
-reject_selects : (header : Header) (reason : ℕ) → establishes (reject_req header reason).header ≡ false
-unfolding establishes
-reject_selects header reason = refl
 
 select_quiet : (request : Header) (status : ℕ) → IsQuiet (select_rsp request status).header
 unfolding separates is_data_request is_control_request
@@ -132,18 +135,13 @@ module _ (end : State) (awaits : PeerAwaits end [] []) (header : Header) (reason
       subst (λ (f : Frame). IsLawful end (Sent f)) (sym is)
       (sent_lawful end awaits.up awaits.calm (reject_req header reason) (reject_fine end.tracker (subst IsWithinLimits awaits.settings awaits.within) header reason))
 
-  pub reject_awaits : (end' : State) (frame : Frame) → frame ≡ reject_req header reason → end' ≡ after_event end (Sent frame) → PeerAwaits end' [] []
-  reject_awaits end' frame is after =
-      subst (λ (s : State). PeerAwaits s [] []) (sym (after ∙ ap (λ f. after_event end (Sent f)) is)) (sent_awaits end (reject_req header reason) [] [] awaits (reject_quiet header reason))
-
-  pub reject_same : (end' : State) (frame : Frame) → frame ≡ reject_req header reason → end' ≡ after_event end (Sent frame) → IsSame end end'
-  reject_same end' frame is after =
-      subst (λ (s : State). IsSame end s) (sym (after ∙ ap (λ f. after_event end (Sent f)) is))
-      (record {
-        settings = refl;
-        framer = refl;
-        phase = kept_phase end.tracker.phase (separates (reject_req header reason).header) (establishes (reject_req header reason).header) awaits.up (reject_quiet header reason).stays (reject_selects header reason);
-      })
+  pub reject_settles : (end' : State) (frame : Frame) (before entries : List Entry) → frame ≡ reject_req header reason → HasLogged end before (Sent frame) end' entries → Settles end before (rejects_by header reason) end' entries
+  reject_settles end' frame before entries is sent =
+      record {
+        does = subst (λ (f : Frame). Performs end before (logs (Sent f) ∷ []) end' entries) is sent.does;
+        awaits = subst (λ (s : State). PeerAwaits s [] []) (sym (sent.after ∙ ap (λ f. after_event end (Sent f)) is)) (sent_awaits end (reject_req header reason) [] [] awaits (reject_quiet header reason));
+        framer = ap (λ (s : State). s.framer) sent.after;
+      }
 
 module _ (end : State) (header : Header) (selected : Bool) (asked : IsAskedToSelect end header selected) where
   pub select_rsp_lawful : (frame : Frame) → frame ≡ select_rsp header (if selected then 1 else 0) → IsLawful end (Sent frame)
@@ -155,12 +153,20 @@ module _ (end : State) (header : Header) (selected : Bool) (asked : IsAskedToSel
       (inr (one_open (λ (opened : Transaction). answers opened.header (select_rsp header (if selected then 1 else 0)).header) (record { time = asked.time; header = header }) end.tracker.taken_control asked.awaits.taken_control (answers_select header (if selected then 1 else 0) asked.kind)))
       (never_again end.tracker.phase selected asked.before)))
 
-  pub select_rsp_awaits : (end' : State) (frame : Frame) → frame ≡ select_rsp header (if selected then 1 else 0) → end' ≡ after_event end (Sent frame) → PeerAwaits end' [] []
+  select_rsp_awaits : (end' : State) (frame : Frame) → frame ≡ select_rsp header (if selected then 1 else 0) → end' ≡ after_event end (Sent frame) → PeerAwaits end' [] []
   select_rsp_awaits end' frame is after =
       let sent : PeerAwaits (after_event end (Sent (select_rsp header (if selected then 1 else 0)))) [] (left_by (select_rsp header (if selected then 1 else 0)).header (record { time = asked.time; header = header } ∷ [])) =
       sent_awaits end (select_rsp header (if selected then 1 else 0)) [] (record { time = asked.time; header = header } ∷ []) asked.awaits (select_quiet header (if selected then 1 else 0)) in
       subst (λ (s : State). PeerAwaits s [] []) (sym (after ∙ ap (λ f. after_event end (Sent f)) is))
       (subst (λ xs. PeerAwaits (after_event end (Sent (select_rsp header (if selected then 1 else 0)))) [] xs) (left_answered (record { time = asked.time; header = header }) (select_rsp header (if selected then 1 else 0)).header (answers_select header (if selected then 1 else 0) asked.kind)) sent)
+
+  pub select_settles : (end' : State) (frame : Frame) (before entries : List Entry) → frame ≡ select_rsp header (if selected then 1 else 0) → HasLogged end before (Sent frame) end' entries → Settles end before (logs (Sent (select_rsp header (if selected then 1 else 0))) ∷ []) end' entries
+  select_settles end' frame before entries is sent =
+      record {
+        does = subst (λ (f : Frame). Performs end before (logs (Sent f) ∷ []) end' entries) is sent.does;
+        awaits = select_rsp_awaits end' frame is sent.after;
+        framer = ap (λ (s : State). s.framer) sent.after;
+      }
 
 module _ (end : State) (header : Header) (asked : IsAskedForLink end header) where
   pub linktest_rsp_lawful : (frame : Frame) → frame ≡ linktest_rsp header → IsLawful end (Sent frame)
@@ -170,12 +176,17 @@ module _ (end : State) (header : Header) (asked : IsAskedForLink end header) whe
       (linktest_rsp_fine end.tracker (subst IsWithinLimits asked.awaits.settings asked.awaits.within) header
       (inr (one_open (λ (opened : Transaction). answers opened.header (linktest_rsp header).header) (record { time = asked.time; header = header }) end.tracker.taken_control asked.awaits.taken_control (answers_linktest header asked.kind)))))
 
-  pub linktest_rsp_awaits : (end' : State) (frame : Frame) → frame ≡ linktest_rsp header → end' ≡ after_event end (Sent frame) → PeerAwaits end' [] []
+  linktest_rsp_awaits : (end' : State) (frame : Frame) → frame ≡ linktest_rsp header → end' ≡ after_event end (Sent frame) → PeerAwaits end' [] []
   linktest_rsp_awaits end' frame is after =
       let sent : PeerAwaits (after_event end (Sent (linktest_rsp header))) [] (left_by (linktest_rsp header).header (record { time = asked.time; header = header } ∷ [])) =
       sent_awaits end (linktest_rsp header) [] (record { time = asked.time; header = header } ∷ []) asked.awaits (linktest_quiet header) in
       subst (λ (s : State). PeerAwaits s [] []) (sym (after ∙ ap (λ f. after_event end (Sent f)) is))
       (subst (λ xs. PeerAwaits (after_event end (Sent (linktest_rsp header))) [] xs) (left_answered (record { time = asked.time; header = header }) (linktest_rsp header).header (answers_linktest header asked.kind)) sent)
 
-pub framer_kept : (end end' : State) (frame : Frame) → end' ≡ after_event end (Sent frame) → end'.framer ≡ end.framer
-framer_kept end end' frame after = ap (λ (s : State). s.framer) after
+  pub linktest_settles : (end' : State) (frame : Frame) (before entries : List Entry) → frame ≡ linktest_rsp header → HasLogged end before (Sent frame) end' entries → Settles end before (logs (Sent (linktest_rsp header)) ∷ []) end' entries
+  linktest_settles end' frame before entries is sent =
+      record {
+        does = subst (λ (f : Frame). Performs end before (logs (Sent f) ∷ []) end' entries) is sent.does;
+        awaits = linktest_rsp_awaits end' frame is sent.after;
+        framer = ap (λ (s : State). s.framer) sent.after;
+      }

@@ -1,13 +1,12 @@
 -- What the call `tick` answers.
-use Rattle.std.proofs.Common.{◌≡◌, ℕ, Bool, true, false, List, [], Some, None, refl, sym, ◌∙◌, inl, inr}
+use Rattle.std.proofs.Common.{◌≡◌, ℕ, Bool, true, false, List, [], None, refl, sym, ◌∙◌, inr}
 use Rattle.secs_text.specs.Content.{Content}
 use Rattle.hsms_machine.specs.declared.entry.Entry.{Entry}
 use Rattle.hsms_entity.specs.declared.state.State.{State}
-use Rattle.hsms_entity.specs.declared.fault.EndFault.TheVariants.{NotUp}
 use Rattle.hsms_entity.specs.Answer.{Answered}
 use Rattle.hsms_entity.specs.Turn.{is_up, expiries, tick}
 use Rattle.hsms_entity.specs.Fault.{Meets}
-use Rattle.hsms_entity.specs.Performing.{Performs}
+use Rattle.hsms_entity.specs.Sound.{Completes}
 use Rattle.hsms_entity.specs.EndState.{EndOf}
 use Rattle.hsms_entity.specs.End.{Accepts}
 use Rattle.hsms_entity.specs.Inside.{known_of, known, at_later}
@@ -24,6 +23,6 @@ unfolding Meets
 tick_meets spent end now s u =
     inr (not_true spent s, inr (not_false (is_up end.tracker.phase) u, inr ((λ b. b), inr ((λ b. b), inr ((λ b. b), inr ((λ b. let d : false ≡ true = b.0 in cc), inr ((λ b. b), inr ((λ b. b), refl))))))))
 
-pub ticked : {D : Type 0} (answers : D → ℕ → Content → Answered) (desk : D) (end end' : State) (spent : Bool) (at : EndOf D) (now : ℕ) (first entries : List Entry) → spent ≡ false → inside_of desk end spent ≡ at → first ≡ [] → is_up end.tracker.phase ≡ true → Performs (at_later end now) first (expiries (known (at_later end now))) end' entries → Accepts answers at (tick now) entries (inside_of desk end' false)
+pub ticked : {D : Type 0} (answers : D → ℕ → Content → Answered) (desk : D) (end end' : State) (spent : Bool) (at : EndOf D) (now : ℕ) (first entries : List Entry) → spent ≡ false → inside_of desk end spent ≡ at → first ≡ [] → is_up end.tracker.phase ≡ true → Completes (at_later end now) first (expiries (known (at_later end now))) end' entries → Accepts answers at (tick now) entries (inside_of desk end' false)
 ticked answers desk end end' spent at now first entries fresh is empty up h =
-    accepted answers desk end (at_later end now) end' spent at (tick now) (expiries (known (at_later end now))) first entries fresh is empty (tick_meets spent end now fresh up) refl (λ es k h. h) h
+    accepted answers desk end (at_later end now) end' spent at (tick now) (expiries (known (at_later end now))) first entries fresh is empty (tick_meets spent end now fresh up) refl (λ es k h. h) h.does

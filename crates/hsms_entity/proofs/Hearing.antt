@@ -1,9 +1,8 @@
 -- The call `bytes`.
-use Rattle.std.proofs.Common.{◌≡◌, ℕ, Bool, true, false, List, [], ◌++◌, Some, None, refl, sym, ap, subst, ◌∙◌, inl, inr}
+use Rattle.std.proofs.Common.{◌≡◌, ℕ, Bool, true, false, List, [], ◌++◌, None, refl, sym, ap, subst, ◌∙◌, inr}
 use Rattle.secs_text.specs.Content.{Content}
 use Rattle.hsms_machine.specs.declared.entry.Entry.{Entry}
 use Rattle.hsms_entity.specs.declared.state.State.{State}
-use Rattle.hsms_entity.specs.declared.fault.EndFault.TheVariants.{NotUp}
 use Rattle.hsms_entity.specs.Answer.{Answered}
 use Rattle.hsms_entity.specs.Turn.{is_up, bytes, Receives}
 use Rattle.hsms_entity.specs.Inside.{known_of, known, after_octets}
@@ -49,3 +48,6 @@ bytes_accepted answers desk end end' spent at octets first entries fresh is empt
     accepted_at answers desk end end' spent at (bytes octets) entries fresh is (bytes_meets spent end octets fresh up)
     (h.frames, subst (λ es. Receives (answers desk) (known (after_octets end octets)) h.frames es (known end')) new_is h.received)
     (subst (λ es. Extends end.tracker es end'.tracker) new_is h.run)
+
+pub received_sound : (desk : ℕ → Content → Answered) (end end' : State) (before entries : List Entry) → HasReceivedAll desk end before end' entries → IsSound end'
+received_sound desk end end' before entries h = h.sound

@@ -14,15 +14,15 @@ use Rattle.hsms_machine.specs.declared.open.Transaction.{Transaction}
 use Rattle.hsms_machine.specs.Rule.{Breaks, IsFirst, all_rules, format_rules, transaction_rules}
 use Rattle.hsms_machine.specs.Timer.{IsT7Overdue}
 use Rattle.hsms_machine.specs.View.{oldest_of}
-use Rattle.hsms_machine.specs.Step.{facts_of, phase_after, is_connected}
+use Rattle.hsms_machine.specs.Step.{facts_of, is_connected}
 use Rattle.hsms_entity.specs.declared.state.State.{State}
-use Rattle.hsms_entity.specs.Inside.{known, entry_of, after_event}
+use Rattle.hsms_entity.specs.Inside.{known, entry_of}
 use Rattle.hsms_entity.specs.Turn.{is_up, is_unselected, is_t6_overdue, is_t7_overdue, is_t8_overdue, overdue_cause}
 use Rattle.hsms_entity.specs.Performing.{IsLawful, IsCalm}
-use Rattle.hsms_entity.specs.Sound.{IsSound}
+use Rattle.hsms_entity.specs.Sound.{IsSound, CanCut}
 use Rattle.hsms_entity.specs.Expiring.{IsLate, is_data_overdue, overdue_of}
-use Rattle.hsms_entity.proofs.Lawfuls.{none_of, first_same, down_lawful, down_over_lawful}
-use Rattle.hsms_entity.proofs.Steadiness.{up_is_not_before, up_is_not_over, sound_down}
+use Rattle.hsms_entity.proofs.Lawfuls.{none_of, first_same, down_lawful}
+use Rattle.hsms_entity.proofs.Steadiness.{up_is_not_before, up_is_not_over}
 use Rattle.hsms_entity.proofs.ExpiredData.{none_overdue, found_overdue}
 
 -- ---- T6 is read of the request that was sent first
@@ -206,7 +206,7 @@ module _ (end : State) (late : IsLate end) (in_time : is_data_overdue end ≡ fa
   by_cause false false false cause e6 e7 e = absurd (let d : ◌≡◌ {A = Option Cause} None (Some cause) = e in cc)
 
   -- an end that is cut since a timer ran out
-  pub cut_overdue_lawful : (cause : Cause) → overdue_cause (known end) ≡ Some cause → IsLawful end (Cut cause)
+  cut_overdue_lawful : (cause : Cause) → overdue_cause (known end) ≡ Some cause → IsLawful end (Cut cause)
   cut_overdue_lawful cause e = by_cause (is_t6_overdue end.tracker end.moment) (is_t7_overdue end.tracker end.moment) (is_t8_overdue (known end)) cause refl refl e
 
   calm_if : (b6 b7 b8 : Bool) → b6 ≡ is_t6_overdue end.tracker end.moment → b7 ≡ is_t7_overdue end.tracker end.moment → ◌≡◌ {A = Option Cause} (if b6 then Some T6 else if b7 then Some T7 else if b8 then Some T8 else None) None → IsCalm end
@@ -233,17 +233,24 @@ module _ (end : State) (late : IsLate end) (in_time : is_data_overdue end ≡ fa
         };
       }
 
-  overdue_phase : (p : Phase) (cause : Cause) → is_up p ≡ true → phase_after p (Cut cause) ≡ phase.Over
-  overdue_phase phase.Before cause up = absurd (let d : false ≡ true = up in cc)
-  overdue_phase phase.NotSelected cause up = refl
-  overdue_phase phase.Selected cause up = refl
-  overdue_phase phase.Over cause up = absurd (let d : false ≡ true = up in cc)
-  overdue_phase phase.Gone cause up = absurd (let d : false ≡ true = up in cc)
+  -- a timer ran out
+  pub can_cut_overdue : (cause : Cause) → overdue_cause (known end) ≡ Some cause → CanCut end cause
+  can_cut_overdue cause e =
+      record { settings = late.settings; within = late.within; limit = late.limit; up = late.up; lawful = cut_overdue_lawful cause e }
 
-  pub overdue_down_lawful : (end' : State) (cause : Cause) → end' ≡ after_event end (Cut cause) → IsLawful end' Down
-  overdue_down_lawful end' cause is =
-      subst (λ (s : State). IsLawful s Down) (sym is) (down_over_lawful (after_event end (Cut cause)) (overdue_phase end.tracker.phase cause late.up) (omega arith))
+  -- ---- what the end looks at
 
-  pub overdue_sound : (end' end'' : State) (cause : Cause) → end' ≡ after_event end (Cut cause) → end'' ≡ after_event end' Down → IsSound end''
-  overdue_sound end' end'' cause is down =
-      sound_down (after_event end (Cut cause)) end'' late.settings late.within late.limit (down ∙ ap (λ (s : State). after_event s Down) is)
+  pub cause_t6 : (oldest : Option Header) → is_some oldest ≡ true → oldest ≡ overdue_of end.settings.t6 end.moment (oldest_of end.tracker.sent_control) → Some T6 ≡ overdue_cause (known end)
+  cause_t6 oldest some e =
+      ap (λ b. if b then Some T6 else if is_t7_overdue end.tracker end.moment then Some T7 else if is_t8_overdue (known end) then Some T8 else None) (sym some ∙ t6_told end late oldest e)
+
+  -- T6 isn't overdue
+  module _ (t6 : is_t6_overdue end.tracker end.moment ≡ false) where
+    past_t6 : overdue_cause (known end) ≡ (if is_t7_overdue end.tracker end.moment then Some T7 else if is_t8_overdue (known end) then Some T8 else None)
+    past_t6 = ap (λ b. if b then Some T6 else if is_t7_overdue end.tracker end.moment then Some T7 else if is_t8_overdue (known end) then Some T8 else None) t6
+
+    pub cause_behind : (broken : Option Rule) (t7 : Bool) (cause : Option Cause) → is_some broken ≡ t7
+        → IsFirst (Breaks (facts_of end.tracker) end.tracker.settings (record { time = end.moment; event = Down })) all_rules broken
+        → cause ≡ (if t7 then Some T7 else if is_t8_overdue (known end) then Some T8 else None) → cause ≡ overdue_cause (known end)
+    cause_behind broken t7 cause is told e =
+        e ∙ ap (λ b. if b then Some T7 else if is_t8_overdue (known end) then Some T8 else None) (sym is ∙ t7_told broken t6 told) ∙ sym past_t6

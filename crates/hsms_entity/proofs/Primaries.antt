@@ -1,13 +1,14 @@
 -- What an own end sends after a primary is lawful, and settles what it owes.
-use Rattle.std.proofs.Common.{◌≡◌, ℕ, ◌+◌, ◌≤◌, ◌%◌, ◌==◌, Bool, true, false, ◌&&◌, ◌||◌, not, List, [], ◌∷◌, length, option_to_list, Some, None, refl, sym, ap, subst, ◌∙◌, inl, arith, if◌then◌else◌}
+use Rattle.std.proofs.Common.{◌≡◌, ℕ, ◌+◌, ◌≤◌, ◌%◌, ◌==◌, Bool, true, false, ◌&&◌, ◌||◌, not, List, [], ◌∷◌, ◌++◌, length, option_to_list, Some, None, refl, sym, ap, subst, ◌∙◌, inl, arith, if◌then◌else◌}
 use Rattle.std.proofs.lemmas.Bool.Decides.{nat_tests}
 use Rattle.secs_item.specs.Spelling.{IsText}
 use Rattle.hsms_frame.specs.declared.header.Header.{Header}
 use Rattle.hsms_frame.specs.Frame.{Frame}
 use Rattle.hsms_frame.specs.declared.kinds.Kind.{Kind}
-use Rattle.hsms_frame.specs.declared.kinds.Kind.TheVariants.{Primary, Reply, SelectReq, SelectRsp, LinktestReq, LinktestRsp, Reject, Separate, OtherSType, OtherPType}
+use Rattle.hsms_frame.specs.declared.kinds.Kind.TheVariants.{Primary, Reply as ReplyKind, SelectReq, SelectRsp, LinktestReq, LinktestRsp, Reject, Separate, OtherSType, OtherPType}
 use Rattle.hsms_frame.specs.Build.{data_header_of}
 use Rattle.hsms_frame.specs.Header.{kind_of, kind_by_stype, stream_of, wait_of}
+use Rattle.hsms_machine.specs.declared.entry.Entry.{Entry}
 use Rattle.hsms_machine.specs.declared.entry.Event.TheVariants.{Sent}
 use Rattle.hsms_machine.specs.declared.open.Transaction.{Transaction}
 use Rattle.hsms_machine.specs.Settings.{Parameters, IsWithinLimits}
@@ -16,11 +17,17 @@ use Rattle.hsms_machine.specs.Transaction.{answers, answers_kind, opened_by}
 use Rattle.hsms_entity.specs.declared.state.State.{State}
 use Rattle.hsms_entity.specs.Inside.{after_event}
 use Rattle.hsms_entity.specs.Frame.{abort_of}
-use Rattle.hsms_entity.specs.Performing.{IsLawful}
-use Rattle.hsms_entity.specs.AwaitingReply.{PeerAwaits, IsSame, IsAsked, IsReplyTo}
+use Rattle.hsms_entity.specs.declared.answer.Answer.{Answer}
+use Rattle.hsms_entity.specs.declared.answer.Answer.TheVariants.{Reply, Quiet, NoStream, NoFunction, Illegal}
+use Rattle.hsms_entity.specs.Act.{Act, logs}
+use Rattle.hsms_entity.specs.Answer.{Answered, answered}
+use Rattle.hsms_entity.specs.Reaction.{answers_primary}
+use Rattle.hsms_entity.specs.Performing.{IsLawful, Performs, HasLogged}
+use Rattle.hsms_entity.proofs.Acts.{does_then}
+use Rattle.hsms_entity.specs.AwaitingReply.{PeerAwaits, IsSame, Settles, Interjects, reply_by, replies_by, IsAsked, IsReplyTo}
 use Rattle.hsms_entity.proofs.Lawfuls.{sent_lawful}
 use Rattle.hsms_entity.proofs.DataFrames.{IsSendable, data_fine}
-use Rattle.hsms_entity.proofs.AwaitingReplies.{IsQuiet, left_by, sent_awaits}
+use Rattle.hsms_entity.proofs.AwaitingReplies.{IsQuiet, left_by, sent_awaits, does_nothing}
 use Rattle.hsms_entity.proofs.Controls.{left_answered, one_open, same_system}
 
 -- ---- the function of a primary is odd
@@ -34,11 +41,11 @@ by_stype false false false false true f is = let x : Reject ≡ Primary = is in 
 by_stype false false false false false true is = let x : Separate ≡ Primary = is in cc
 by_stype false false false false false false is = let x : OtherSType ≡ Primary = is in cc
 
-by_function : (odd : Bool) → (if odd then Primary else Reply) ≡ Primary → odd ≡ true
+by_function : (odd : Bool) → (if odd then Primary else ReplyKind) ≡ Primary → odd ≡ true
 by_function true is = refl
-by_function false is = let x : Reply ≡ Primary = is in absurd cc
+by_function false is = let x : ReplyKind ≡ Primary = is in absurd cc
 
-by_data : (zero odd : Bool) (other : Kind) → (other ≡ Primary → ⊥) → (if zero then (if odd then Primary else Reply) else other) ≡ Primary → odd ≡ true
+by_data : (zero odd : Bool) (other : Kind) → (other ≡ Primary → ⊥) → (if zero then (if odd then Primary else ReplyKind) else other) ≡ Primary → odd ≡ true
 by_data true odd other never is = by_function odd is
 by_data false odd other never is = absurd (never is)
 
@@ -101,8 +108,8 @@ module _ (settings : Parameters) (primary : Header) (odd : (primary.byte3 % 2 ==
   abbrev reply_header : Header
   reply_header = data_header_of settings.device (stream_of primary) function false primary.system
 
-  reply_kind : kind_of reply_header ≡ Reply
-  reply_kind = ap (λ (b : Bool). if b then Primary else Reply) (even_reply function primary.byte3 odd either)
+  reply_kind : kind_of reply_header ≡ ReplyKind
+  reply_kind = ap (λ (b : Bool). if b then Primary else ReplyKind) (even_reply function primary.byte3 odd either)
 
   reply_wait : wait_of reply_header ≡ false
   reply_wait = no_wait primary.byte2
@@ -128,7 +135,7 @@ module _ (end : State) (header : Header) (asked : IsAsked end header) (wait : wa
   answers_it : answers header frame.header ≡ true
   answers_it = subst (λ (h : Header). answers header h ≡ true) (sym reply.header) (reply_answers end.settings header odd reply.function reply.either asked.kind wait)
 
-  sendable : IsSendable end.tracker frame Reply
+  sendable : IsSendable end.tracker frame ReplyKind
   sendable =
       record {
         kind_is = ap kind_of reply.header ∙ reply_kind end.settings header odd reply.function reply.either;
@@ -144,7 +151,7 @@ module _ (end : State) (header : Header) (asked : IsAsked end header) (wait : wa
       }
 
   pub reply_lawful : IsLawful end (Sent frame)
-  reply_lawful = sent_lawful end asked.awaits.up asked.awaits.calm frame (data_fine end.tracker frame Reply sendable)
+  reply_lawful = sent_lawful end asked.awaits.up asked.awaits.calm frame (data_fine end.tracker frame ReplyKind sendable)
 
   pub reply_awaits : (end' : State) → end' ≡ after_event end (Sent frame) → PeerAwaits end' [] []
   reply_awaits end' after =
@@ -164,3 +171,63 @@ next_either n = grind (arith, nat_tests)
 
 pub text_reply : (settings : Parameters) (primary : Header) (text : List ℕ) → IsText settings.depth text → 10 + length text ≤ settings.max → IsReplyTo settings primary (record { header = data_header_of settings.device (stream_of primary) (primary.byte3 + 1) false primary.system; text = text })
 text_reply settings primary text is size = record { function = primary.byte3 + 1; either = next_either primary.byte3; header = refl; size = size; text = is }
+
+-- ---- what is sent by the desk's answer
+
+pub not_replied : (end : State) (header : Header) (answer : Answered) (before : List Entry) → IsAsked end header → wait_of header ≡ false → Settles end before (replies_by end.settings header answer) end before
+not_replied end header answer before asked is =
+    record {
+      does = subst (λ (b : Bool). Performs end before (if b then logs (Sent (reply_by end.settings header answer)) ∷ [] else []) end before) (sym is) (does_nothing end before);
+      awaits = not_waiting end header asked is;
+      framer = refl;
+    }
+
+pub replied : (end end' : State) (header : Header) (answer : Answered) (frame : Frame) (before entries : List Entry) → IsAsked end header → wait_of header ≡ true
+    → frame ≡ reply_by end.settings header answer → IsReplyTo end.settings header frame → HasLogged end before (Sent frame) end' entries
+    → Settles end before (replies_by end.settings header answer) end' entries
+replied end end' header answer frame before entries asked wait is reply sent =
+    record {
+      does = subst (λ (b : Bool). Performs end before (if b then logs (Sent (reply_by end.settings header answer)) ∷ [] else []) end' entries) (sym wait)
+          (subst (λ (f : Frame). Performs end before (logs (Sent f) ∷ []) end' entries) is sent.does);
+      awaits = reply_awaits end header asked wait frame reply end' sent.after;
+      framer = ap (λ (s : State). s.framer) sent.after;
+    }
+
+pub aborts_by : (settings : Parameters) (header : Header) (answer : Answer) → ((item : _) → answer ≡ Reply item → ⊥) → abort_of settings header ≡ reply_by settings header (answered answer)
+aborts_by settings header (Reply item) never = absurd (never item refl)
+aborts_by settings header Quiet never = refl
+aborts_by settings header NoStream never = refl
+aborts_by settings header NoFunction never = refl
+aborts_by settings header Illegal never = refl
+
+-- nothing is told before the reply
+pub unwarned : (end end' : State) (header : Header) (answer : Answer) (before entries : List Entry) → (answer ≡ NoStream → ⊥) → (answer ≡ NoFunction → ⊥) → (answer ≡ Illegal → ⊥)
+    → Settles end before (replies_by end.settings header (answered answer)) end' entries → Settles end before (answers_primary end.settings header (answered answer)) end' entries
+unwarned end end' header (Reply item) before entries n1 n2 n3 sent = sent
+unwarned end end' header Quiet before entries n1 n2 n3 sent = sent
+unwarned end end' header NoStream before entries n1 n2 n3 sent = absurd (n1 refl)
+unwarned end end' header NoFunction before entries n1 n2 n3 sent = absurd (n2 refl)
+unwarned end end' header Illegal before entries n1 n2 n3 sent = absurd (n3 refl)
+
+-- an error is told before the reply
+warned_and_replied : (end mid end' : State) (header : Header) (answer : Answered) (before middle entries : List Entry) (acts : List Act)
+    → acts ++ replies_by end.settings header answer ≡ answers_primary end.settings header answer
+    → Interjects end before acts mid middle → Settles mid middle (replies_by mid.settings header answer) end' entries
+    → Settles end before (answers_primary end.settings header answer) end' entries
+warned_and_replied end mid end' header answer before middle entries acts is warned sent =
+    record {
+      does = subst (λ (l : List Act). Performs end before l end' entries) is
+          (does_then end mid end' before middle entries acts (replies_by end.settings header answer) warned.does
+          (subst (λ (s : Parameters). Performs mid middle (replies_by s header answer) end' entries) warned.same.settings sent.does));
+      awaits = sent.awaits;
+      framer = sent.framer ∙ warned.same.framer;
+    }
+
+pub error_told : (end mid new end' : State) (header : Header) (answer error : Answer) (before middle told entries : List Entry) (acts : List Act) → mid ≡ new → middle ≡ told → answer ≡ error
+    → acts ++ replies_by end.settings header (answered error) ≡ answers_primary end.settings header (answered error)
+    → Interjects end before acts new told → Settles mid middle (replies_by mid.settings header (answered answer)) end' entries
+    → Settles end before (answers_primary end.settings header (answered answer)) end' entries
+error_told end mid new end' header answer error before middle told entries acts self_is entries_is is same warned sent =
+    warned_and_replied end mid end' header (answered answer) before middle entries acts
+    (subst (λ (a : Answer). acts ++ replies_by end.settings header (answered a) ≡ answers_primary end.settings header (answered a)) (sym is) same)
+    (subst (λ (s : State). Interjects end before acts s middle) (sym self_is) (subst (λ (l : List Entry). Interjects end before acts new l) (sym entries_is) warned)) sent

@@ -13,9 +13,8 @@ use Rattle.hsms_machine.specs.View.{HasView}
 use Rattle.hsms_entity.specs.declared.state.State.{State}
 use Rattle.hsms_entity.specs.Answer.{Answered}
 use Rattle.hsms_entity.specs.Turn.{is_up, cut_by, warns_too_long, Receives, Rests, is_down, waits, too_short, too_long, TakesOff}
-use Rattle.hsms_entity.specs.Performing.{Performs}
 use Rattle.hsms_entity.specs.End.{Extends}
-use Rattle.hsms_entity.specs.Sound.{IsSound}
+use Rattle.hsms_entity.specs.Sound.{IsSound, Completes}
 use Rattle.hsms_entity.specs.Inside.{known}
 use Rattle.hsms_entity.specs.Receiving.{HasHandled, HasReceived, HasReceivedAll}
 use Rattle.hsms_entity.proofs.Acts.{extends_then}
@@ -23,13 +22,14 @@ use Rattle.hsms_entity.proofs.Acts.{extends_then}
 extends_none : (view : View) → Extends view [] view
 extends_none view = λ log has. subst (λ es. HasView view.settings es view) (sym (append-nil log)) has
 
-pub begun : (desk : ℕ → Content → Answered) (end : State) (before : List Entry) → HasReceived desk end before end before
-begun desk end before =
+pub begun : (desk : ℕ → Content → Answered) (end : State) (before : List Entry) → IsSound end → HasReceived desk end before end before
+begun desk end before sound =
     record {
       new = [];
       added = sym (append-nil before);
       onward = λ frames later end'' h. (frames, h);
       run = extends_none end.tracker;
+      sound = sound;
     }
 
 -- the framer's limit is that of the settings
@@ -49,14 +49,15 @@ one_more desk start end end' before entries more frame rest h up front one =
           (let all = h.onward (frame ∷ frames) (one.new ++ later) end'' (known (off_of end rest), known end', one.new, later, off, one.handled, k, refl) in
           (all.0, subst (λ es. Receives desk (known start) all.0 es end'') (sym (append_assoc h.new one.new later)) all.1));
       run = extends_then start.tracker end.tracker end'.tracker h.new one.new h.run one.run;
+      sound = one.sound;
     }
 
 pub one_more_at : (desk : ℕ → Content → Answered) (start end off end' : State) (before entries more : List Entry) (frame : Frame) (rest : List ℕ) → HasReceived desk start before end entries → is_up end.tracker.phase ≡ true → FramesAs end.settings.max end.framer.pending (Ok (Some frame)) rest → off ≡ off_of end rest → HasHandled desk off entries frame end' more → HasReceived desk start before end' more
 one_more_at desk start end off end' before entries more frame rest h up front is one =
     one_more desk start end end' before entries more frame rest h up front (subst (λ (s : State). HasHandled desk s entries frame end' more) is one)
 
-pub at_rest : (desk : ℕ → Content → Answered) (start end end' : State) (before entries more rest : List Entry) → HasReceived desk start before end entries → Rests (known end) rest (known end') → more ≡ entries ++ rest → Extends end.tracker rest end'.tracker → HasReceivedAll desk start before end' more
-at_rest desk start end end' before entries more rest h rests added run =
+pub at_rest : (desk : ℕ → Content → Answered) (start end end' : State) (before entries more rest : List Entry) → HasReceived desk start before end entries → Rests (known end) rest (known end') → more ≡ entries ++ rest → Extends end.tracker rest end'.tracker → IsSound end' → HasReceivedAll desk start before end' more
+at_rest desk start end end' before entries more rest h rests added run sound =
     let all = h.onward [] rest (known end') rests in
     record {
       new = h.new ++ rest;
@@ -64,20 +65,21 @@ at_rest desk start end end' before entries more rest h rests added run =
       frames = all.0;
       received = all.1;
       run = extends_then start.tracker end.tracker end'.tracker h.new rest h.run run;
+      sound = sound;
     }
 
 pub went_down : (desk : ℕ → Content → Answered) (start end : State) (before entries : List Entry) → HasReceived desk start before end entries → is_up end.tracker.phase ≡ false → HasReceivedAll desk start before end entries
-went_down desk start end before entries h down = at_rest desk start end end before entries entries [] h (is_down down refl refl) (sym (append-nil entries)) (extends_none end.tracker)
+went_down desk start end before entries h down = at_rest desk start end end before entries entries [] h (is_down down refl refl) (sym (append-nil entries)) (extends_none end.tracker) h.sound
 
 pub waits_for_more : (desk : ℕ → Content → Answered) (start end end' : State) (before entries : List Entry) → HasReceived desk start before end entries → is_up end.tracker.phase ≡ true → FramesAs end.settings.max end.framer.pending (Ok None) end.framer.pending → end' ≡ end → HasReceivedAll desk start before end' entries
 waits_for_more desk start end end' before entries h up front is =
-    at_rest desk start end end' before entries entries [] h (waits up front refl (ap (λ (s : State). known s) is)) (sym (append-nil entries)) (subst (λ (s : State). Extends end.tracker [] s.tracker) (sym is) (extends_none end.tracker))
+    at_rest desk start end end' before entries entries [] h (waits up front refl (ap (λ (s : State). known s) is)) (sym (append-nil entries)) (subst (λ (s : State). Extends end.tracker [] s.tracker) (sym is) (extends_none end.tracker)) (subst IsSound (sym is) h.sound)
 
-pub is_too_short : (desk : ℕ → Content → Answered) (start end end' : State) (before entries more : List Entry) (n : ℕ) → HasReceived desk start before end entries → is_up end.tracker.phase ≡ true → FramesAs end.settings.max end.framer.pending (Err (TooShort n)) end.framer.pending → Performs end entries (cut_by Length) end' more → HasReceivedAll desk start before end' more
-is_too_short desk start end end' before entries more n h up front cut = at_rest desk start end end' before entries more cut.new h (too_short n up front cut.done) cut.added cut.run
+pub is_too_short : (desk : ℕ → Content → Answered) (start end end' : State) (before entries more : List Entry) (n : ℕ) → HasReceived desk start before end entries → is_up end.tracker.phase ≡ true → FramesAs end.settings.max end.framer.pending (Err (TooShort n)) end.framer.pending → Completes end entries (cut_by Length) end' more → HasReceivedAll desk start before end' more
+is_too_short desk start end end' before entries more n h up front cut = at_rest desk start end end' before entries more cut.does.new h (too_short n up front cut.does.done) cut.does.added cut.does.run cut.sound
 
-pub is_too_long : (desk : ℕ → Content → Answered) (start end end' : State) (before entries more : List Entry) (n : ℕ) (header : Header) → HasReceived desk start before end entries → is_up end.tracker.phase ≡ true → FramesAs end.settings.max end.framer.pending (Err (TooLong n header)) end.framer.pending → Performs end entries (warns_too_long (known end) header ++ cut_by Length) end' more → HasReceivedAll desk start before end' more
-is_too_long desk start end end' before entries more n header h up front cut = at_rest desk start end end' before entries more cut.new h (too_long n header up front cut.done) cut.added cut.run
+pub is_too_long : (desk : ℕ → Content → Answered) (start end end' : State) (before entries more : List Entry) (n : ℕ) (header : Header) → HasReceived desk start before end entries → is_up end.tracker.phase ≡ true → FramesAs end.settings.max end.framer.pending (Err (TooLong n header)) end.framer.pending → Completes end entries (warns_too_long (known end) header ++ cut_by Length) end' more → HasReceivedAll desk start before end' more
+is_too_long desk start end end' before entries more n header h up front cut = at_rest desk start end end' before entries more cut.does.new h (too_long n header up front cut.does.done) cut.does.added cut.does.run cut.sound
 
 -- the framer is as it was
 pub same_framer : (f g : FramerState) → g.max ≡ f.max → g.pending ≡ f.pending → g ≡ f

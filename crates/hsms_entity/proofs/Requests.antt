@@ -2,6 +2,7 @@
 use Rattle.std.proofs.Common.{◌≡◌, ℕ, ◌+◌, ◌<◌, ◌%◌, ◌^◌, true, false, refl, sym, ap, subst, ◌∙◌, inl, arith, Option, Some, None}
 use Rattle.hsms_frame.specs.Frame.{Frame}
 use Rattle.hsms_machine.specs.declared.entry.Event.TheVariants.{Up, Sent, Taken, Discarded, Cut, Down}
+use Rattle.hsms_machine.specs.declared.entry.Cause.{Cause}
 use Rattle.hsms_machine.specs.declared.entry.Cause.TheVariants.{Length}
 use Rattle.hsms_machine.specs.declared.phase.Phase.{Phase}
 use Rattle.hsms_machine.specs.declared.phase.Phase.TheVariants as phase
@@ -19,7 +20,7 @@ use Rattle.hsms_entity.specs.Inside.{after_event, after_number}
 use Rattle.hsms_entity.specs.Turn.{is_up, BreaksAsTaken}
 use Rattle.hsms_entity.specs.Fault.{is_before}
 use Rattle.hsms_entity.specs.Performing.{IsLawful}
-use Rattle.hsms_entity.specs.Sound.{IsSound}
+use Rattle.hsms_entity.specs.Sound.{IsSound, CanCut}
 use Rattle.hsms_entity.proofs.Lawfuls.{sent_lawful, down_lawful, down_over_lawful, cut_lawful, taken_broken, discarded_lawful}
 use Rattle.hsms_entity.proofs.OwnFrames.{select_req_fine, linktest_req_fine, separate_req_fine}
 use Rattle.hsms_entity.proofs.Steadiness.{IsSteadySend, sent_sound, sound_down, renumbered, up_lawful, up_phase, up_sound, up_none}
@@ -77,20 +78,21 @@ module _ (end : State) (sound : IsSound end) (up : is_up end.tracker.phase ≡ t
 
 -- ---- an end that is cut
 
-cut_phase : (p : Phase) → is_up p ≡ true → phase_after p (Cut Length) ≡ phase.Over
-cut_phase phase.Before up = absurd (let d : false ≡ true = up in cc)
-cut_phase phase.NotSelected up = refl
-cut_phase phase.Selected up = refl
-cut_phase phase.Over up = absurd (let d : false ≡ true = up in cc)
-cut_phase phase.Gone up = absurd (let d : false ≡ true = up in cc)
+cut_phase : (p : Phase) (cause : Cause) → is_up p ≡ true → phase_after p (Cut cause) ≡ phase.Over
+cut_phase phase.Before cause up = absurd (let d : false ≡ true = up in cc)
+cut_phase phase.NotSelected cause up = refl
+cut_phase phase.Selected cause up = refl
+cut_phase phase.Over cause up = absurd (let d : false ≡ true = up in cc)
+cut_phase phase.Gone cause up = absurd (let d : false ≡ true = up in cc)
 
-module _ (end : State) (sound : IsSound end) (up : is_up end.tracker.phase ≡ true) where
-  pub cut_is_lawful : IsLawful end (Cut Length)
-  cut_is_lawful = cut_lawful end up (sound.steady up).calm
+pub cut_down_lawful : (end : State) (cause : Cause) → is_up end.tracker.phase ≡ true → (end' : State) → end' ≡ after_event end (Cut cause) → IsLawful end' Down
+cut_down_lawful end cause up end' is =
+    subst (λ (s : State). IsLawful s Down) (sym is) (down_over_lawful (after_event end (Cut cause)) (cut_phase end.tracker.phase cause up) (omega arith))
 
-  pub cut_down_lawful : (end' : State) → end' ≡ after_event end (Cut Length) → IsLawful end' Down
-  cut_down_lawful end' is =
-      subst (λ (s : State). IsLawful s Down) (sym is) (down_over_lawful (after_event end (Cut Length)) (cut_phase end.tracker.phase up) (omega arith))
+-- octets may be no message
+pub can_cut : (end : State) → IsSound end → is_up end.tracker.phase ≡ true → CanCut end Length
+can_cut end sound up =
+    record { settings = sound.settings; within = sound.within; limit = sound.limit; up = up; lawful = cut_lawful end up (sound.steady up).calm }
 
 -- ---- a frame that is received
 

@@ -1,5 +1,5 @@
 -- What holds of an end after a frame was taken or discarded.
-use Rattle.std.proofs.Common.{◌≡◌, ◌==◌, ℕ, Bool, true, false, ◌&&◌, ◌||◌, List, [], ◌∷◌, ◌++◌, option_to_list, Option, Some, None, refl, sym, ap, subst, ◌∙◌, inl, inr, ◌⊎◌, arith, if◌then◌else◌}
+use Rattle.std.proofs.Common.{◌≡◌, ◌==◌, ℕ, Bool, true, false, ◌&&◌, ◌||◌, List, [], ◌∷◌, ◌++◌, option_to_list, Option, Some, None, refl, sym, ap, subst, ◌∙◌, inl, inr, arith, if◌then◌else◌}
 use Rattle.secs_text.specs.Content.{Content}
 use Rattle.secs_item.specs.Spelling.{IsText}
 use Rattle.hsms_frame.specs.declared.header.Header.{Header}
@@ -29,14 +29,15 @@ use Rattle.hsms_entity.specs.Asked.{name_of, name_in, times, once_more}
 use Rattle.hsms_entity.specs.Inside.{after_event, after_asking}
 use Rattle.hsms_entity.specs.Reaction.{reaction, answers_taken, answers_discarded, rejects, warns, is_control_response}
 use Rattle.hsms_entity.specs.Turn.{is_up, BreaksAsTaken, received_as, IsAnswerOf, asked_with}
-use Rattle.hsms_entity.specs.Performing.{Performs, IsLawful}
+use Rattle.hsms_entity.specs.Performing.{Performs, IsLawful, HasLogged}
 use Rattle.hsms_entity.specs.Sound.{IsSound}
 use Rattle.hsms_entity.specs.Receiving.{HasHandled}
-use Rattle.hsms_entity.specs.AwaitingReply.{PeerAwaits, IsAsked, IsAskedToSelect, IsAskedForLink, CanTake, CanDiscard, IsAnsweredBy, is_silent}
+use Rattle.hsms_entity.specs.AwaitingReply.{PeerAwaits, Settles, Interjects, IsAsked, IsAskedToSelect, IsAskedForLink, CanTake, CanDiscard, IsAnsweredBy, is_silent}
 use Rattle.hsms_entity.proofs.Lawfuls.{down_over_lawful, applies}
 use Rattle.hsms_entity.proofs.Requests.{frame_taken, frame_discarded}
 use Rattle.hsms_entity.proofs.Steadiness.{kept_phase, sound_down}
-use Rattle.hsms_entity.proofs.AwaitingReplies.{taken_awaits, discarded_awaits, sound_awaits}
+use Rattle.hsms_entity.proofs.AwaitingReplies.{taken_awaits, discarded_awaits, sound_awaits, peers_transactions_are_none_between_calls, does_nothing}
+use Rattle.hsms_entity.proofs.Acts.{does_then}
 
 -- ---- rules that a frame doesn't break
 
@@ -240,15 +241,26 @@ pub can_take_later : (end mid : State) (frame : Frame) (header : Header) → mid
 can_take_later end mid frame header is can =
     subst (λ (s : State). CanTake s frame) (sym is) (can_take_asked end frame (once_more (name_in header) end.asked) can)
 
-handled_as : (desk : ℕ → Content → Answered) (end end' : State) (before entries : List Entry) (frame : Frame) (broken : Option Rule) (answer : Answered) → BreaksAsTaken end.tracker frame broken → IsAnswerOf (desk (times (name_in frame.header) end.asked)) end.settings.depth frame broken answer → Performs (asked_so end (asked_with (kind_of frame.header) broken (name_in frame.header) end.asked)) before (logs (received_as frame broken) ∷ reaction end.settings (is_selected end.tracker.phase) frame.header broken answer) end' entries → HasHandled desk end before frame end' entries
-handled_as desk end end' before entries frame broken answer is answers does =
-    record { new = does.new; added = does.added; handled = (broken, answer, is, answers, does.done); run = does.run }
+handled_as : (desk : ℕ → Content → Answered) (end end' : State) (before entries : List Entry) (frame : Frame) (broken : Option Rule) (answer : Answered) → BreaksAsTaken end.tracker frame broken → IsAnswerOf (desk (times (name_in frame.header) end.asked)) end.settings.depth frame broken answer → Performs (asked_so end (asked_with (kind_of frame.header) broken (name_in frame.header) end.asked)) before (logs (received_as frame broken) ∷ reaction end.settings (is_selected end.tracker.phase) frame.header broken answer) end' entries → IsSound end' → end'.framer ≡ end.framer → HasHandled desk end before frame end' entries
+handled_as desk end end' before entries frame broken answer is answers does sound framer =
+    record { new = does.new; added = does.added; handled = (broken, answer, is, answers, does.done); run = does.run; sound = sound; framer = framer }
 
 -- a taken frame of this kind
-pub handled_kind : (desk : ℕ → Content → Answered) (end end' : State) (before entries : List Entry) (frame : Frame) (kind : Kind) (answer : Answered) → BreaksAsTaken end.tracker frame None → kind_of frame.header ≡ kind → (kind ≡ Primary → IsAnsweredBy (desk (times (name_in frame.header) end.asked)) end.settings.depth frame answer) → Performs (asked_so end (asked_with kind None (name_in frame.header) end.asked)) before (logs (Taken frame) ∷ answers_taken end.settings (is_selected end.tracker.phase) kind frame.header answer) end' entries → HasHandled desk end before frame end' entries
-handled_kind desk end end' before entries frame kind answer is kind_is answers does =
+pub handled_kind : (desk : ℕ → Content → Answered) (end end' : State) (before entries : List Entry) (frame : Frame) (kind : Kind) (answer : Answered) → BreaksAsTaken end.tracker frame None → kind_of frame.header ≡ kind → (kind ≡ Primary → IsAnsweredBy (desk (times (name_in frame.header) end.asked)) end.settings.depth frame answer) → Performs (asked_so end (asked_with kind None (name_in frame.header) end.asked)) before (logs (Taken frame) ∷ answers_taken end.settings (is_selected end.tracker.phase) kind frame.header answer) end' entries → IsSound end' → end'.framer ≡ end.framer → HasHandled desk end before frame end' entries
+handled_kind desk end end' before entries frame kind answer is kind_is answers does sound framer =
     handled_as desk end end' before entries frame None answer is (λ e primary. answers (sym kind_is ∙ primary))
-    (subst (λ k. Performs (asked_so end (asked_with k None (name_in frame.header) end.asked)) before (logs (Taken frame) ∷ answers_taken end.settings (is_selected end.tracker.phase) k frame.header answer) end' entries) (sym kind_is) does)
+    (subst (λ k. Performs (asked_so end (asked_with k None (name_in frame.header) end.asked)) before (logs (Taken frame) ∷ answers_taken end.settings (is_selected end.tracker.phase) k frame.header answer) end' entries) (sym kind_is) does) sound framer
+
+-- a taken request that was answered at once
+pub handled_settled : (desk : ℕ → Content → Answered) (end mid end' : State) (before middle entries : List Entry) (frame : Frame) (kind : Kind) → BreaksAsTaken end.tracker frame None → kind_of frame.header ≡ kind → (kind ≡ Primary → ⊥)
+    → asked_with kind None (name_in frame.header) end.asked ≡ end.asked → HasLogged end before (Taken frame) mid middle
+    → Settles mid middle (answers_taken end.settings (is_selected end.tracker.phase) kind frame.header quiet) end' entries → HasHandled desk end before frame end' entries
+handled_settled desk end mid end' before middle entries frame kind is kind_is never unasked first second =
+    handled_kind desk end end' before entries frame kind quiet is kind_is (λ e. absurd (never e))
+    (subst (λ asked. Performs (asked_so end asked) before (logs (Taken frame) ∷ answers_taken end.settings (is_selected end.tracker.phase) kind frame.header quiet) end' entries) (sym unasked)
+    (does_then end mid end' before middle entries (logs (Taken frame) ∷ []) (answers_taken end.settings (is_selected end.tracker.phase) kind frame.header quiet) first.does second.does))
+    (peers_transactions_are_none_between_calls end' second.awaits)
+    (second.framer ∙ ap (λ (s : State). s.framer) first.after)
 
 -- about such a message the desk isn't asked
 silent_asks : (kind : Kind) (name : ℕ) (asked : List (ℕ × ℕ)) → is_silent kind ≡ true → asked_with kind None name asked ≡ asked
@@ -290,16 +302,16 @@ silent_kind settings selected OtherPType header s = refl
 silent_answers : (kind : Kind) → is_silent kind ≡ true → kind ≡ Primary → ⊥
 silent_answers kind s e = let d : false ≡ true = ap is_silent (sym e) ∙ s in cc
 
-pub handled_silent : (desk : ℕ → Content → Answered) (end end' : State) (before entries : List Entry) (frame : Frame) → BreaksAsTaken end.tracker frame None → is_silent (kind_of frame.header) ≡ true → Performs end before (logs (Taken frame) ∷ []) end' entries → HasHandled desk end before frame end' entries
-handled_silent desk end end' before entries frame is silent does =
+pub handled_silent : (desk : ℕ → Content → Answered) (end end' : State) (before entries : List Entry) (frame : Frame) → BreaksAsTaken end.tracker frame None → is_silent (kind_of frame.header) ≡ true → Performs end before (logs (Taken frame) ∷ []) end' entries → IsSound end' → end'.framer ≡ end.framer → HasHandled desk end before frame end' entries
+handled_silent desk end end' before entries frame is silent does sound framer =
     handled_kind desk end end' before entries frame (kind_of frame.header) quiet is refl (λ e. absurd (silent_answers (kind_of frame.header) silent e))
     (subst (λ asked. Performs (asked_so end asked) before (logs (Taken frame) ∷ answers_taken end.settings (is_selected end.tracker.phase) (kind_of frame.header) frame.header quiet) end' entries) (sym (silent_asks (kind_of frame.header) (name_in frame.header) end.asked silent))
-    (subst (λ (acts : List Act). Performs end before (logs (Taken frame) ∷ acts) end' entries) (sym (silent_kind end.settings (is_selected end.tracker.phase) (kind_of frame.header) frame.header silent)) does))
+    (subst (λ (acts : List Act). Performs end before (logs (Taken frame) ∷ acts) end' entries) (sym (silent_kind end.settings (is_selected end.tracker.phase) (kind_of frame.header) frame.header silent)) does)) sound framer
 
-pub handled_discarded : (desk : ℕ → Content → Answered) (end end' : State) (before entries : List Entry) (frame : Frame) (rule : Rule) → BreaksAsTaken end.tracker frame (Some rule) → Performs end before (logs (Discarded frame) ∷ reaction end.settings (is_selected end.tracker.phase) frame.header (Some rule) quiet) end' entries → HasHandled desk end before frame end' entries
-handled_discarded desk end end' before entries frame rule is does =
+pub handled_discarded : (desk : ℕ → Content → Answered) (end end' : State) (before entries : List Entry) (frame : Frame) (rule : Rule) → BreaksAsTaken end.tracker frame (Some rule) → Performs end before (logs (Discarded frame) ∷ reaction end.settings (is_selected end.tracker.phase) frame.header (Some rule) quiet) end' entries → IsSound end' → end'.framer ≡ end.framer → HasHandled desk end before frame end' entries
+handled_discarded desk end end' before entries frame rule is does sound framer =
     handled_as desk end end' before entries frame (Some rule) quiet is (λ e primary. absurd (let d : ◌≡◌ {A = Option Rule} (Some rule) None = e in cc))
-    (subst (λ asked. Performs (asked_so end asked) before (logs (Discarded frame) ∷ reaction end.settings (is_selected end.tracker.phase) frame.header (Some rule) quiet) end' entries) (sym (discarded_asks (kind_of frame.header) rule (name_in frame.header) end.asked)) does)
+    (subst (λ asked. Performs (asked_so end asked) before (logs (Discarded frame) ∷ reaction end.settings (is_selected end.tracker.phase) frame.header (Some rule) quiet) end' entries) (sym (discarded_asks (kind_of frame.header) rule (name_in frame.header) end.asked)) does) sound framer
 
 -- ---- a frame that is judged
 
@@ -335,19 +347,46 @@ module _ (end : State) (frame : Frame) (rule : Rule) (can : CanDiscard end frame
       ap (λ (s : State). s.tracker.phase) is ∙ discarded_phase ∙ unreadable_selected (subst (λ r. BreaksAsTaken end.tracker frame (Some r)) e can.broken)
 
 -- a rule that has no reaction
-pub no_reaction : (settings : Parameters) (selected : Bool) (header : Header) (rule : Rule) → ((rule ≡ Backwards) ⊎ ((rule ≡ NotUp) ⊎ ((rule ≡ Ended) ⊎ ((rule ≡ T3Overdue) ⊎ ((rule ≡ LinkOverdue) ⊎ ((rule ≡ NotDue) ⊎ ((rule ≡ TooLong) ⊎ ((rule ≡ ControlText) ⊎ ((rule ≡ Direction) ⊎ ((rule ≡ WBit) ⊎ ((rule ≡ SystemInUse) ⊎ ((rule ≡ SelectStatus) ⊎ (rule ≡ NoCause))))))))))))) → answers_discarded settings selected header rule ≡ []
-no_reaction settings selected header rule h = elim h [ inl e0 ↦ ap (λ (r : Rule). answers_discarded settings selected header r) e0 | inr q0 ↦ elim q0 [ inl e1 ↦ ap (λ (r : Rule). answers_discarded settings selected header r) e1 | inr q1 ↦ elim q1 [ inl e2 ↦ ap (λ (r : Rule). answers_discarded settings selected header r) e2 | inr q2 ↦ elim q2 [ inl e3 ↦ ap (λ (r : Rule). answers_discarded settings selected header r) e3 | inr q3 ↦ elim q3 [ inl e4 ↦ ap (λ (r : Rule). answers_discarded settings selected header r) e4 | inr q4 ↦ elim q4 [ inl e5 ↦ ap (λ (r : Rule). answers_discarded settings selected header r) e5 | inr q5 ↦ elim q5 [ inl e6 ↦ ap (λ (r : Rule). answers_discarded settings selected header r) e6 | inr q6 ↦ elim q6 [ inl e7 ↦ ap (λ (r : Rule). answers_discarded settings selected header r) e7 | inr q7 ↦ elim q7 [ inl e8 ↦ ap (λ (r : Rule). answers_discarded settings selected header r) e8 | inr q8 ↦ elim q8 [ inl e9 ↦ ap (λ (r : Rule). answers_discarded settings selected header r) e9 | inr q9 ↦ elim q9 [ inl e10 ↦ ap (λ (r : Rule). answers_discarded settings selected header r) e10 | inr q10 ↦ elim q10 [ inl e11 ↦ ap (λ (r : Rule). answers_discarded settings selected header r) e11 | inr q11 ↦ ap (λ (r : Rule). answers_discarded settings selected header r) q11 ] ] ] ] ] ] ] ] ] ] ] ]
+pub no_reaction : (settings : Parameters) (selected : Bool) (header : Header) (rule : Rule)
+    → (rule ≡ PType → ⊥) → (rule ≡ SType → ⊥) → (rule ≡ NotSelected → ⊥) → (rule ≡ Text → ⊥)
+    → (rule ≡ NoTransaction → ⊥) → (rule ≡ Session → ⊥)
+    → answers_discarded settings selected header rule ≡ []
+no_reaction settings selected header PType n1 n2 n3 n4 n5 n6 = absurd (n1 refl)
+no_reaction settings selected header SType n1 n2 n3 n4 n5 n6 = absurd (n2 refl)
+no_reaction settings selected header NotSelected n1 n2 n3 n4 n5 n6 = absurd (n3 refl)
+no_reaction settings selected header Text n1 n2 n3 n4 n5 n6 = absurd (n4 refl)
+no_reaction settings selected header NoTransaction n1 n2 n3 n4 n5 n6 = absurd (n5 refl)
+no_reaction settings selected header Session n1 n2 n3 n4 n5 n6 = absurd (n6 refl)
+no_reaction settings selected header Backwards n1 n2 n3 n4 n5 n6 = refl
+no_reaction settings selected header NotUp n1 n2 n3 n4 n5 n6 = refl
+no_reaction settings selected header Ended n1 n2 n3 n4 n5 n6 = refl
+no_reaction settings selected header T3Overdue n1 n2 n3 n4 n5 n6 = refl
+no_reaction settings selected header LinkOverdue n1 n2 n3 n4 n5 n6 = refl
+no_reaction settings selected header NotDue n1 n2 n3 n4 n5 n6 = refl
+no_reaction settings selected header NoCause n1 n2 n3 n4 n5 n6 = refl
+no_reaction settings selected header TooLong n1 n2 n3 n4 n5 n6 = refl
+no_reaction settings selected header ControlText n1 n2 n3 n4 n5 n6 = refl
+no_reaction settings selected header Direction n1 n2 n3 n4 n5 n6 = refl
+no_reaction settings selected header WBit n1 n2 n3 n4 n5 n6 = refl
+no_reaction settings selected header SystemInUse n1 n2 n3 n4 n5 n6 = refl
+no_reaction settings selected header SelectStatus n1 n2 n3 n4 n5 n6 = refl
 
 pub data_kind : (header : Header) → is_data header ≡ is_data_kind (kind_of header)
 unfolding is_data
 data_kind header = refl
 
-pub selected_of : (p : Phase) → is_selected p ≡ true → p ≡ phase.Selected
-selected_of phase.Before e = absurd (let d : false ≡ true = e in cc)
-selected_of phase.NotSelected e = absurd (let d : false ≡ true = e in cc)
-selected_of phase.Selected e = refl
-selected_of phase.Over e = absurd (let d : false ≡ true = e in cc)
-selected_of phase.Gone e = absurd (let d : false ≡ true = e in cc)
+-- ---- what was sent for a discarded frame
+
+pub nothing_settles : (end : State) (before : List Entry) (acts : List Act) → acts ≡ [] → PeerAwaits end [] [] → Settles end before acts end before
+nothing_settles end before acts none awaits =
+    record { does = subst (λ (l : List Act). Performs end before l end before) (sym none) (does_nothing end before); awaits = awaits; framer = refl }
+
+pub settles_as : (end end' : State) (before entries : List Entry) (acts others : List Act) → acts ≡ others → Settles end before others end' entries → Settles end before acts end' entries
+settles_as end end' before entries acts others same h = subst (λ (l : List Act). Settles end before l end' entries) (sym same) h
+
+pub warned_settles : (end end' : State) (before entries : List Entry) (acts others : List Act) → acts ≡ others → PeerAwaits end [] [] → Interjects end before others end' entries → Settles end before acts end' entries
+warned_settles end end' before entries acts others same awaits h =
+    settles_as end end' before entries acts others same (record { does = h.does; awaits = h.awaits [] [] awaits; framer = h.same.framer })
 
 -- ---- what may follow a frame that was judged
 
@@ -361,8 +400,17 @@ can_discard end frame answer rule sound up some broken lawful =
 
 -- ---- kinds and rules that are told apart
 
-pub silent_of : (kind : Kind) → ((kind ≡ Reply) ⊎ ((kind ≡ SelectRsp) ⊎ ((kind ≡ LinktestRsp) ⊎ ((kind ≡ Reject) ⊎ ((kind ≡ OtherSType) ⊎ (kind ≡ OtherPType)))))) → is_silent kind ≡ true
-silent_of kind h = elim h [ inl e0 ↦ ap is_silent e0 | inr q0 ↦ elim q0 [ inl e1 ↦ ap is_silent e1 | inr q1 ↦ elim q1 [ inl e2 ↦ ap is_silent e2 | inr q2 ↦ elim q2 [ inl e3 ↦ ap is_silent e3 | inr q3 ↦ elim q3 [ inl e4 ↦ ap is_silent e4 | inr e5 ↦ ap is_silent e5 ] ] ] ] ]
+pub silent_of : (kind : Kind) → (kind ≡ SelectReq → ⊥) → (kind ≡ LinktestReq → ⊥) → (kind ≡ Separate → ⊥) → (kind ≡ Primary → ⊥) → is_silent kind ≡ true
+silent_of SelectReq n1 n2 n3 n4 = absurd (n1 refl)
+silent_of LinktestReq n1 n2 n3 n4 = absurd (n2 refl)
+silent_of Separate n1 n2 n3 n4 = absurd (n3 refl)
+silent_of Primary n1 n2 n3 n4 = absurd (n4 refl)
+silent_of Reply n1 n2 n3 n4 = refl
+silent_of SelectRsp n1 n2 n3 n4 = refl
+silent_of LinktestRsp n1 n2 n3 n4 = refl
+silent_of Reject n1 n2 n3 n4 = refl
+silent_of OtherSType n1 n2 n3 n4 = refl
+silent_of OtherPType n1 n2 n3 n4 = refl
 
 -- what an answer to nothing calls for
 pub answers_nothing : (settings : Parameters) (selected : Bool) (header : Header) (rule : Rule) (b : Bool) → rule ≡ NoTransaction → b ≡ is_control_response (kind_of header) → answers_discarded settings selected header rule ≡ (if b then rejects header 3 else [])

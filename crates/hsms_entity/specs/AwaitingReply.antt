@@ -1,19 +1,21 @@
 -- An end while it handles a frame: as between calls, but that the peer may wait for answers. Private functions alone
 -- speak of this.
-use Rattle.std.specs.Prelude.{◌≡◌, ◌≤◌, ℕ, ◌+◌, ◌==◌, ◌||◌, Bool, true, false, List, [], ◌∷◌, length, Option, Some, None, option_to_list}
+use Rattle.std.specs.Prelude.{◌≡◌, ◌≤◌, ℕ, ◌+◌, ◌==◌, ◌||◌, Bool, true, false, List, [], ◌∷◌, length, Option, Some, None, option_to_list, if◌then◌else◌}
 use Rattle.secs_item.specs.Item.{Value}
 use Rattle.secs_item.specs.Spelling.{IsText, IsTextOf}
 use Rattle.secs_text.specs.Content.{Content}
 use Rattle.hsms_frame.specs.declared.kinds.Kind.{Kind}
-use Rattle.hsms_machine.specs.declared.entry.Event.TheVariants.{Taken, Discarded}
+use Rattle.hsms_machine.specs.declared.entry.Event.TheVariants.{Taken, Discarded, Sent}
 use Rattle.hsms_machine.specs.declared.rule.Rule.{Rule}
-use Rattle.hsms_entity.specs.Answer.{Answered}
-use Rattle.hsms_entity.specs.Frame.{message_of}
+use Rattle.hsms_machine.specs.declared.entry.Entry.{Entry}
+use Rattle.hsms_entity.specs.Act.{Act, logs}
+use Rattle.hsms_entity.specs.Answer.{Answered, replies}
+use Rattle.hsms_entity.specs.Frame.{message_of, reply_of, abort_of}
 use Rattle.hsms_frame.specs.Frame.{Frame}
 use Rattle.hsms_frame.specs.Build.{data_header_of}
 use Rattle.hsms_frame.specs.declared.header.Header.{Header}
 use Rattle.hsms_frame.specs.declared.kinds.Kind.TheVariants.{Primary, SelectReq, LinktestReq, Separate}
-use Rattle.hsms_frame.specs.Header.{kind_of, stream_of}
+use Rattle.hsms_frame.specs.Header.{kind_of, stream_of, wait_of}
 use Rattle.hsms_machine.specs.declared.phase.Phase.TheVariants.{Selected}
 use Rattle.hsms_machine.specs.declared.settings.Side.TheVariants.{Passive}
 use Rattle.hsms_machine.specs.Message.{is_data_request}
@@ -27,7 +29,7 @@ use Rattle.hsms_machine.specs.Transaction.{SentData, SentControl, opened_as_at, 
 use Rattle.hsms_machine.specs.View.{own_open_of}
 use Rattle.hsms_entity.specs.declared.state.State.{State}
 use Rattle.hsms_entity.specs.Turn.{is_up, is_unselected, BreaksAsTaken}
-use Rattle.hsms_entity.specs.Performing.{IsCalm, IsLawful}
+use Rattle.hsms_entity.specs.Performing.{IsCalm, IsLawful, Performs}
 
 -- the connection is up, nothing is overdue, and the peer waits for answers to these requests
 pub record PeerAwaits (end : State) (primaries controls : List Transaction) : Type 0 where
@@ -54,6 +56,27 @@ pub record IsSame (end end' : State) : Type 0 where
   pub settings : end'.settings ≡ end.settings
   pub framer : end'.framer ≡ end.framer
   pub phase : end'.tracker.phase ≡ end.tracker.phase
+
+-- these acts were done, the peer waits for nothing, and the same octets are pending
+pub record Settles (end : State) (before : List Entry) (acts : List Act) (end' : State) (entries : List Entry) : Type 0 where
+  pub does : Performs end before acts end' entries
+  pub awaits : PeerAwaits end' [] []
+  pub framer : end'.framer ≡ end.framer
+
+-- these acts were done, and the peer waits for what it did
+pub record Interjects (end : State) (before : List Entry) (acts : List Act) (end' : State) (entries : List Entry) : Type 0 where
+  pub does : Performs end before acts end' entries
+  pub awaits : (primaries controls : List Transaction) → PeerAwaits end primaries controls → PeerAwaits end' primaries controls
+  pub same : IsSame end end'
+
+-- the reply to a primary by the desk's answer, if the primary asks for one
+abbrev pub reply_by : Parameters → Header → Answered → Frame
+reply_by settings primary (replies item) = reply_of settings primary item
+reply_by settings primary _ = abort_of settings primary
+
+abbrev pub replies_by : Parameters → Header → Answered → List Act
+replies_by settings primary answer =
+    if wait_of primary then logs (Sent (reply_by settings primary answer)) ∷ [] else []
 
 -- the peer waits for an answer to this Select.req, and for nothing else
 pub record IsAskedToSelect (end : State) (header : Header) (selected : Bool) : Type 0 where

@@ -1,5 +1,6 @@
 -- What a call of an end answers (this project's own).
-use Rattle.std.specs.Prelude.{◌≡◌, ◌⊎◌, ℕ, true, List, ◌++◌, Some, None}
+use Rattle.std.specs.Prelude.{◌≡◌, ◌⊎◌, ℕ, true, List, ◌++◌, Some, None, Result, MatchResult, Vec}
+use Rattle.std.specs.declared.alloc.Global.{Global}
 use Rattle.secs_text.specs.Content.{Content}
 use Rattle.hsms_machine.specs.declared.entry.Entry.{Entry}
 use Rattle.hsms_machine.specs.declared.view.View.{View}
@@ -28,3 +29,8 @@ abbrev pub Refuses : {D : Type 0} → EndOf D → Told → EndFault → EndOf D 
 Refuses end input Memory end' =
     (Meets end.known input None ⊎ Meets end.known input (Some TooLong)) × (end'.known.spent ≡ true)
 Refuses end input fault end' = Meets end.known input (Some fault) × (end' ≡ end)
+
+-- what a call answers: it is accepted and gives these entries, or refused
+abbrev pub Answers : {D : Type 0} → (D → ℕ → Content → Answered) → EndOf D → Told → Result (Vec Entry Global) EndFault → EndOf D → Type 0
+Answers answers end input result end' =
+    MatchResult result (λ entries. Accepts answers end input entries.items end') (λ fault. Refuses end input fault end')

@@ -9,6 +9,7 @@ use Rattle.hsms_entity.specs.Inside.{known}
 use Rattle.hsms_entity.specs.Answer.{Answered}
 use Rattle.hsms_entity.specs.Turn.{Handles, Receives}
 use Rattle.hsms_entity.specs.End.{Extends}
+use Rattle.hsms_entity.specs.Sound.{IsSound}
 
 -- a frame that was handled: its entry and its reaction are added to the entries of the call
 pub record HasHandled (desk : ℕ → Content → Answered) (end : State) (before : List Entry) (frame : Frame) (end' : State) (entries : List Entry) : Type 0 where
@@ -16,6 +17,8 @@ pub record HasHandled (desk : ℕ → Content → Answered) (end : State) (befor
   pub added : entries ≡ before ++ new
   pub handled : Handles desk (known end) frame new (known end')
   pub run : Extends end.tracker new end'.tracker
+  pub sound : IsSound end'
+  pub framer : end'.framer ≡ end.framer
 
 -- The messages that were received so far. Whatever the messages behind them lead to, all of them lead to.
 pub record HasReceived (desk : ℕ → Content → Answered) (end : State) (before : List Entry) (end' : State) (entries : List Entry) : Type 0 where
@@ -24,6 +27,7 @@ pub record HasReceived (desk : ℕ → Content → Answered) (end : State) (befo
   pub onward : (frames : List Frame) (later : List Entry) (end'' : EndState) → Receives desk (known end') frames later end''
       → (all : List Frame) × Receives desk (known end) all (new ++ later) end''
   pub run : Extends end.tracker new end'.tracker
+  pub sound : IsSound end'
 
 -- all messages at the front were received
 pub record HasReceivedAll (desk : ℕ → Content → Answered) (end : State) (before : List Entry) (end' : State) (entries : List Entry) : Type 0 where
@@ -32,3 +36,4 @@ pub record HasReceivedAll (desk : ℕ → Content → Answered) (end : State) (b
   pub frames : List Frame
   pub received : Receives desk (known end) frames new (known end')
   pub run : Extends end.tracker new end'.tracker
+  pub sound : IsSound end'

@@ -1,12 +1,16 @@
 -- What holds of an end that isn't spent, between two calls. Private functions alone speak of this.
-use Rattle.std.specs.Prelude.{◌≡◌, ◌≤◌, true, []}
+use Rattle.std.specs.Prelude.{◌≡◌, ◌≤◌, true, List, []}
+use Rattle.hsms_machine.specs.declared.entry.Entry.{Entry}
+use Rattle.hsms_machine.specs.declared.entry.Cause.{Cause}
+use Rattle.hsms_machine.specs.declared.entry.Event.TheVariants.{Cut}
 use Rattle.hsms_machine.specs.declared.phase.Phase.TheVariants.{Before, Over}
 use Rattle.hsms_machine.specs.declared.view.View.{View}
 use Rattle.hsms_machine.specs.Settings.{IsWithinLimits}
 use Rattle.hsms_machine.specs.View.{own_open_of}
 use Rattle.hsms_entity.specs.declared.state.State.{State}
+use Rattle.hsms_entity.specs.Act.{Act}
 use Rattle.hsms_entity.specs.Turn.{is_up, is_unselected}
-use Rattle.hsms_entity.specs.Performing.{IsCalm}
+use Rattle.hsms_entity.specs.Performing.{IsCalm, IsLawful, Performs}
 
 -- no entry yet
 pub record IsFresh (view : View) : Type 0 where
@@ -31,3 +35,16 @@ pub record IsSound (end : State) : Type 0 where
   pub not_over : ¬ (end.tracker.phase ≡ Over)
   pub fresh : end.tracker.phase ≡ Before → IsFresh end.tracker
   pub steady : is_up end.tracker.phase ≡ true → IsSteady end
+
+-- the connection may be cut for this cause
+pub record CanCut (end : State) (cause : Cause) : Type 0 where
+  pub settings : end.settings ≡ end.tracker.settings
+  pub within : IsWithinLimits end.settings
+  pub limit : end.framer.max ≡ end.settings.max
+  pub up : is_up end.tracker.phase ≡ true
+  pub lawful : IsLawful end (Cut cause)
+
+-- these acts were done, and then holds what does between two calls
+pub record Completes (end : State) (before : List Entry) (acts : List Act) (end' : State) (entries : List Entry) : Type 0 where
+  pub does : Performs end before acts end' entries
+  pub sound : IsSound end'

@@ -1,9 +1,8 @@
 //! A whole connection from a list of inputs.
 
-ghost use Rattle.std.specs.Prelude.{map, IfOk, MatchResult};
+ghost use Rattle.std.specs.Prelude.{map, IfOk};
 ghost use Rattle.hsms_machine.specs.Run.{IsRun};
 ghost use Rattle.hsms_entity.specs.EndState.{untold};
-ghost use Rattle.hsms_entity.specs.End.{Accepts, Refuses};
 ghost use Rattle.hsms_entity.specs.Drive.{told, IsDriven};
 
 use crate::answer::TurnDesk;
@@ -52,7 +51,7 @@ pub fn drive<D: TurnDesk + Drop>(
     let mut end = End::new(alloc, settings, desk, first_system);
     let mut entries = Vec::new(alloc);
     for input in inputs {
-        match tell(&mut end, input) {
+        match end.tell(input) {
             Ok(mut new) => entries.append(&mut new)?,
             Err(fault) => {
                 if fault == EndFault::Memory {
@@ -63,21 +62,4 @@ pub fn drive<D: TurnDesk + Drop>(
     }
     let pending = Vec::from_slice(alloc, end.pending())?;
     Ok(Driven { entries, pending })
-}
-
-/// Tells an end one input.
-fn tell<D: TurnDesk>(end: &mut End<D>, input: &Input) -> Result<Vec<Entry>, EndFault>
-    ensures { MatchResult result
-        (λ entries. Accepts D.answers_after end.old (told input.now) entries.items end.new)
-        (λ fault. Refuses end.old (told input.now) fault end.new) }
-{
-    match input {
-        Input::Start(now) => end.start(*now),
-        Input::Tick(now) => end.tick(*now),
-        Input::Bytes(octets) => end.bytes(octets),
-        Input::Send(message) => end.send(message),
-        Input::Linktest => end.linktest(),
-        Input::Separate => end.separate(),
-        Input::Lost => end.lost(),
-    }
 }

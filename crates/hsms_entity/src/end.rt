@@ -3,9 +3,10 @@
 use crate::answer::TurnDesk;
 use crate::asked::Asked;
 use crate::fault::EndFault;
+use crate::input::Input;
 use crate::state::State;
 use hsms_frame::Framer;
-use hsms_machine::{Entry, Phase, Settings, Tracker};
+use hsms_machine::{Entry, Event, Phase, Settings, Tracker};
 use secs_text::Message;
 use std::alloc::Global;
 use std::marker::Model;
@@ -48,11 +49,12 @@ impl<D> Model for End<D> {
 }
 
 impl<D: TurnDesk> End<D> {
-    ghost use Rattle.std.specs.Prelude.{◌≡◌, MatchResult};
+    ghost use Rattle.std.specs.Prelude.{◌≡◌};
     ghost use Rattle.hsms_machine.specs.View.{own_open_of};
     ghost use Rattle.hsms_entity.specs.EndState.{untold, untold_since};
     ghost use Rattle.hsms_entity.specs.Due.{next_due, test_due};
-    ghost use Rattle.hsms_entity.specs.End.{Accepts, Refuses};
+    ghost use Rattle.hsms_entity.specs.Drive.{told};
+    ghost use Rattle.hsms_entity.specs.End.{Answers};
     ghost use Rattle.secs_text.specs.View.{content};
     ghost use Rattle.hsms_entity.specs.Turn.{start, tick, bytes, send, linktest, separate, lost};
 
@@ -152,16 +154,14 @@ impl<D: TurnDesk> End<D> {
     /// # Errors
     ///
     /// `Spent`; `NotUp`, where it was up before; `Memory`.
-    #[tactic(auto, using(crate::proofs::Calls::started), unfolding(crate::specs::Fault::Meets))]
+    #[tactic(auto, using(crate::proofs::Calls::started, crate::proofs::Calls::completed_sound), unfolding(crate::specs::Fault::Meets))]
     pub fn start(&mut self, now: u64) -> Result<Vec<Entry>, EndFault>
-        ensures { MatchResult result
-            (λ entries. Accepts D.answers_after self.old (start now) entries.items self.new)
-            (λ fault. Refuses self.old (start now) fault self.new) }
+        ensures { Answers D.answers_after self.old (start now) result self.new }
     {
         if self.spent {
             return Err(EndFault::Spent);
         }
-        if !self.state.is_new() {
+        if !matches!(self.state.tracker.phase(), Phase::Before) {
             return Err(EndFault::NotUp);
         }
         self.spent = true;
@@ -179,11 +179,9 @@ impl<D: TurnDesk> End<D> {
     /// # Errors
     ///
     /// `Spent`, `NotUp`, `Memory`.
-    #[tactic(auto, using(crate::proofs::Ends::ticked), unfolding(crate::specs::Fault::Meets))]
+    #[tactic(auto, using(crate::proofs::Ends::ticked, crate::proofs::Calls::completed_sound), unfolding(crate::specs::Fault::Meets))]
     pub fn tick(&mut self, now: u64) -> Result<Vec<Entry>, EndFault>
-        ensures { MatchResult result
-            (λ entries. Accepts D.answers_after self.old (tick now) entries.items self.new)
-            (λ fault. Refuses self.old (tick now) fault self.new) }
+        ensures { Answers D.answers_after self.old (tick now) result self.new }
     {
         self.state.ready(self.spent)?;
         self.spent = true;
@@ -198,11 +196,9 @@ impl<D: TurnDesk> End<D> {
     /// # Errors
     ///
     /// Each of [`EndFault`], in its order, but `TooDeep` before `TooLong`. `Memory` may come in place of `TooLong`.
-    #[tactic(auto, using(crate::proofs::Sent::send_refused), unfolding(crate::specs::Fault::Meets))]
+    #[tactic(auto, using(crate::proofs::Sent::send_refused, crate::proofs::Calls::completed_sound), unfolding(crate::specs::Fault::Meets))]
     pub fn send(&mut self, message: &Message) -> Result<Vec<Entry>, EndFault>
-        ensures { MatchResult result
-            (λ entries. Accepts D.answers_after self.old (send (content message.now)) entries.items self.new)
-            (λ fault. Refuses self.old (send (content message.now)) fault self.new) }
+        ensures { Answers D.answers_after self.old (send (content message.now)) result self.new }
     {
         self.state.ready(self.spent)?;
         if let Some(fault) = self.state.hindrance(message) {
@@ -224,16 +220,14 @@ impl<D: TurnDesk> End<D> {
     /// # Errors
     ///
     /// `Spent`, `NotUp`, `Memory`.
-    #[tactic(auto, using(crate::proofs::Calls::lost_accepted), unfolding(crate::specs::Fault::Meets))]
+    #[tactic(auto, using(crate::proofs::Calls::lost_accepted, crate::proofs::Requests::lost_lawful), unfolding(crate::specs::Fault::Meets))]
     pub fn lost(&mut self) -> Result<Vec<Entry>, EndFault>
-        ensures { MatchResult result
-            (λ entries. Accepts D.answers_after self.old lost entries.items self.new)
-            (λ fault. Refuses self.old lost fault self.new) }
+        ensures { Answers D.answers_after self.old lost result self.new }
     {
         self.state.ready(self.spent)?;
         self.spent = true;
         let mut entries = Vec::new(self.state.alloc);
-        self.state.lose(&mut entries)?;
+        self.state.log(&mut entries, Event::Down)?;
         self.spent = false;
         Ok(entries)
     }
@@ -243,11 +237,9 @@ impl<D: TurnDesk> End<D> {
     /// # Errors
     ///
     /// `Spent`, `NotUp`, `Memory`.
-    #[tactic(auto, using(crate::proofs::Calls::separate_accepted), unfolding(crate::specs::Fault::Meets))]
+    #[tactic(auto, using(crate::proofs::Calls::separate_accepted, crate::proofs::Calls::completed_sound), unfolding(crate::specs::Fault::Meets))]
     pub fn separate(&mut self) -> Result<Vec<Entry>, EndFault>
-        ensures { MatchResult result
-            (λ entries. Accepts D.answers_after self.old separate entries.items self.new)
-            (λ fault. Refuses self.old separate fault self.new) }
+        ensures { Answers D.answers_after self.old separate result self.new }
     {
         self.state.ready(self.spent)?;
         self.spent = true;
@@ -262,11 +254,9 @@ impl<D: TurnDesk> End<D> {
     /// # Errors
     ///
     /// `Spent`, `NotUp`, `Full`, `Memory`.
-    #[tactic(auto, using(crate::proofs::Calls::linktest_accepted), unfolding(crate::specs::Fault::Meets))]
+    #[tactic(auto, using(crate::proofs::Calls::linktest_accepted, crate::proofs::Calls::completed_sound), unfolding(crate::specs::Fault::Meets))]
     pub fn linktest(&mut self) -> Result<Vec<Entry>, EndFault>
-        ensures { MatchResult result
-            (λ entries. Accepts D.answers_after self.old linktest entries.items self.new)
-            (λ fault. Refuses self.old linktest fault self.new) }
+        ensures { Answers D.answers_after self.old linktest result self.new }
     {
         self.state.ready(self.spent)?;
         if self.state.tracker.own_open() >= 64 {
@@ -286,11 +276,9 @@ impl<D: TurnDesk> End<D> {
     /// # Errors
     ///
     /// `Spent`, `NotUp`, `Memory`.
-    #[tactic(auto, using(crate::proofs::Hearing::bytes_accepted), unfolding(crate::specs::Fault::Meets))]
+    #[tactic(auto, using(crate::proofs::Hearing::bytes_accepted, crate::proofs::Hearing::received_sound), unfolding(crate::specs::Fault::Meets))]
     pub fn bytes(&mut self, octets: &[u8]) -> Result<Vec<Entry>, EndFault>
-        ensures { MatchResult result
-            (λ entries. Accepts D.answers_after self.old (bytes octets.now) entries.items self.new)
-            (λ fault. Refuses self.old (bytes octets.now) fault self.new) }
+        ensures { Answers D.answers_after self.old (bytes octets.now) result self.new }
     {
         self.state.ready(self.spent)?;
         self.spent = true;
@@ -298,5 +286,24 @@ impl<D: TurnDesk> End<D> {
         self.state.hear(&self.desk, &mut entries, octets)?;
         self.spent = false;
         Ok(entries)
+    }
+
+    /// Makes the call that the input says.
+    ///
+    /// # Errors
+    ///
+    /// Those of the call.
+    pub fn tell(&mut self, input: &Input) -> Result<Vec<Entry>, EndFault>
+        ensures { Answers D.answers_after self.old (told input.now) result self.new }
+    {
+        match input {
+            Input::Start(now) => self.start(*now),
+            Input::Tick(now) => self.tick(*now),
+            Input::Bytes(octets) => self.bytes(octets),
+            Input::Send(message) => self.send(message),
+            Input::Linktest => self.linktest(),
+            Input::Separate => self.separate(),
+            Input::Lost => self.lost(),
+        }
     }
 }

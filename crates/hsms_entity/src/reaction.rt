@@ -1,25 +1,20 @@
 //! What an end sends at once after a received frame.
 
-ghost use Rattle.std.specs.Prelude.{◌≡◌, ◌<◌, ◌==◌, ◌%◌, ◌&&◌, ◌++◌, [], ◌∷◌, true, List, OnOk, IfOk, option_map, if◌then◌else◌};
+ghost use Rattle.std.specs.Prelude.{◌≡◌, ◌<◌, ◌==◌, ◌%◌, ◌&&◌, [], true, OnOk, IfOk, option_map};
 ghost use Rattle.std.specs.List.{AllByRecursion};
 ghost use Rattle.secs_item.specs.Item.{view};
 ghost use Rattle.hsms_frame.specs.Header.{header_octets};
-ghost use Rattle.hsms_machine.specs.declared.entry.Event.TheVariants.{Sent};
-ghost use Rattle.hsms_machine.specs.declared.open.Transaction.{Transaction};
 ghost use Rattle.hsms_machine.specs.declared.phase.Phase.TheVariants.{Selected};
 ghost use Rattle.hsms_machine.specs.Settings.{IsWithinLimits};
 ghost use Rattle.hsms_machine.specs.Step.{is_selected as is_selected_phase};
-ghost use Rattle.hsms_entity.specs.declared.answer.Answer.TheVariants.{Reply};
-ghost use Rattle.hsms_entity.specs.Act.{logs};
 ghost use Rattle.hsms_entity.specs.Answer.{answered};
-ghost use Rattle.hsms_entity.specs.Frame.{warning, select_rsp as select_rsp_of, linktest_rsp as linktest_rsp_of, abort_of, reply_of};
-ghost use Rattle.hsms_entity.specs.Reaction.{warns, rejects, aborts, answers_primary};
-ghost use Rattle.hsms_entity.specs.Performing.{Performs};
-ghost use Rattle.hsms_entity.specs.AwaitingReply.{PeerAwaits, IsSame, IsAskedToSelect, IsAskedForLink, IsAsked, IsReplyTo};
+ghost use Rattle.hsms_entity.specs.Frame.{warning, abort_of, reply_of};
+ghost use Rattle.hsms_entity.specs.Reaction.{warns, rejects, answers_primary};
+ghost use Rattle.hsms_entity.specs.AwaitingReply.{PeerAwaits, Settles, Interjects, replies_by, IsAsked, IsReplyTo};
 
 use crate::answer::Answer;
 use crate::state::{State, bare};
-use hsms_frame::{Frame, Header, data_header, linktest_rsp, reject_of, select_rsp};
+use hsms_frame::{Frame, Header, data_header, reject_of};
 use hsms_machine::{Entry, Event, Phase, Role};
 use secs_item::Item;
 use std::alloc::{AllocError, Global};
@@ -47,8 +42,8 @@ impl State {
         ensures exact { IfOk result (λ frame. frame ≡ warning self.now.settings function header number) }
         ensures octets { IfOk result (λ frame. AllByRecursion (λ n. n < 256) (header_octets header)) }
     {
-        let octets = header.octets();
-        let text = header_item(self.alloc, octets.as_slice())?;
+        let mut text = vec![in self.alloc; 33, 10]?;
+        text.extend_from_slice(&header.octets())?;
         Ok(Frame {
             header: data_header(self.settings.device(), 9, function, false, number),
             text,
@@ -65,16 +60,13 @@ impl State {
         requires awaits { PeerAwaits self.old self.old.tracker.taken_data self.old.tracker.taken_control }
         requires odd { (function % 2 == 1) ≡ true }
         requires selected { self.old.tracker.phase ≡ Selected }
-        ensures does { OnOk result (Performs self.old entries.old.items (warns self.old.settings function header) self.new entries.new.items) }
-        ensures awaits { OnOk result ((primaries controls : List Transaction) → PeerAwaits self.old primaries controls → PeerAwaits self.new primaries controls) }
-        ensures same { OnOk result (IsSame self.old self.new) }
+        ensures { OnOk result (Interjects self.old entries.old.items (warns self.old.settings function header) self.new entries.new.items) }
     {
         match self.settings.role() {
             Role::Equipment => {
                 let number = self.free_number();
                 let frame = self.warning_frame(function, header, number)?;
-                self.send_numbered(entries, frame, number)?;
-                Ok(())
+                self.send_numbered(entries, frame, number)
             }
             Role::Host => Ok(()),
         }
@@ -88,50 +80,10 @@ impl State {
         reason: u8,
     ) -> Result<(), AllocError>
         requires { PeerAwaits self.old [] [] }
-        ensures does { OnOk result (Performs self.old entries.old.items (rejects header reason) self.new entries.new.items) }
-        ensures awaits { OnOk result (PeerAwaits self.new [] []) }
-        ensures same { OnOk result (IsSame self.old self.new) }
+        ensures { OnOk result (Settles self.old entries.old.items (rejects header reason) self.new entries.new.items) }
     {
-        self.log(
-            entries,
-            Event::Sent(bare(self.alloc, reject_of(header, reason))),
-        )?;
-        Ok(())
-    }
-
-    /// Answers a Select.req that was taken.
-    pub fn answer_select(
-        &mut self,
-        entries: &mut Vec<Entry>,
-        header: Header,
-        selected: bool,
-    ) -> Result<(), AllocError>
-        requires { IsAskedToSelect self.old header selected }
-        ensures does { OnOk result (Performs self.old entries.old.items (logs (Sent (select_rsp_of header (if selected then 1 else 0))) ∷ []) self.new entries.new.items) }
-        ensures awaits { OnOk result (PeerAwaits self.new [] []) }
-        ensures framer { OnOk result (self.new.framer ≡ self.old.framer) }
-    {
-        let status = if selected { 1 } else { 0 };
-        self.log(
-            entries,
-            Event::Sent(bare(self.alloc, select_rsp(header, status))),
-        )?;
-        Ok(())
-    }
-
-    /// Answers a Linktest.req that was taken.
-    pub fn answer_linktest(
-        &mut self,
-        entries: &mut Vec<Entry>,
-        header: Header,
-    ) -> Result<(), AllocError>
-        requires { IsAskedForLink self.old header }
-        ensures does { OnOk result (Performs self.old entries.old.items (logs (Sent (linktest_rsp_of header)) ∷ []) self.new entries.new.items) }
-        ensures awaits { OnOk result (PeerAwaits self.new [] []) }
-        ensures framer { OnOk result (self.new.framer ≡ self.old.framer) }
-    {
-        self.log(entries, Event::Sent(bare(self.alloc, linktest_rsp(header))))?;
-        Ok(())
+        let frame = bare(self.alloc, reject_of(header, reason));
+        self.log(entries, Event::Sent(frame))
     }
 
     /// SxF0, which aborts a primary.
@@ -161,60 +113,27 @@ impl State {
         Ok(Frame { header, text })
     }
 
-    /// Aborts a primary, if it asks for a reply.
-    fn abort(&mut self, entries: &mut Vec<Entry>, header: Header) -> Result<(), AllocError>
-        requires { IsAsked self.old header }
-        ensures does { OnOk result (Performs self.old entries.old.items (aborts self.old.settings header) self.new entries.new.items) }
-        ensures awaits { OnOk result (PeerAwaits self.new [] []) }
-        ensures framer { OnOk result (self.new.framer ≡ self.old.framer) }
-    {
-        if !header.wait() {
-            return Ok(());
-        }
-        let frame = self.abort_frame(header);
-        self.log(entries, Event::Sent(frame))?;
-        Ok(())
-    }
-
-    /// Sends the reply to a primary, if it asks for one.
+    /// Replies to a primary, if it asks for a reply: by the answer's item, or else by SxF0.
     fn reply(
         &mut self,
         entries: &mut Vec<Entry>,
         header: Header,
-        item: Option<Item>,
+        answer: Answer,
     ) -> Result<(), AllocError>
         requires { IsAsked self.old header }
-        ensures does { OnOk result (Performs self.old entries.old.items (answers_primary self.old.settings header (answered (Reply item))) self.new entries.new.items) }
-        ensures awaits { OnOk result (PeerAwaits self.new [] []) }
-        ensures framer { OnOk result (self.new.framer ≡ self.old.framer) }
+        ensures { OnOk result (Settles self.old entries.old.items (replies_by self.old.settings header (answered answer)) self.new entries.new.items) }
     {
         if !header.wait() {
             return Ok(());
         }
-        let frame = self.reply_frame(header, item)?;
-        self.log(entries, Event::Sent(frame))?;
-        Ok(())
+        let frame = match answer {
+            Answer::Reply(item) => self.reply_frame(header, item)?,
+            _ => self.abort_frame(header),
+        };
+        self.log(entries, Event::Sent(frame))
     }
 
-    /// Tells of an error of a primary, if the end is equipment, and aborts it.
-    fn warn_and_abort(
-        &mut self,
-        entries: &mut Vec<Entry>,
-        function: u8,
-        header: Header,
-    ) -> Result<(), AllocError>
-        requires asked { IsAsked self.old header }
-        requires odd { (function % 2 == 1) ≡ true }
-        ensures does { OnOk result (Performs self.old entries.old.items (warns self.old.settings function header ++ aborts self.old.settings header) self.new entries.new.items) }
-        ensures awaits { OnOk result (PeerAwaits self.new [] []) }
-        ensures framer { OnOk result (self.new.framer ≡ self.old.framer) }
-    {
-        self.warn(entries, function, header)?;
-        self.abort(entries, header)?;
-        Ok(())
-    }
-
-    /// Sends what the desk's answer to a taken primary asks for.
+    /// Sends what the desk's answer to a taken primary asks for: the word of an error, and the reply.
     pub fn answer_primary(
         &mut self,
         entries: &mut Vec<Entry>,
@@ -222,27 +141,14 @@ impl State {
         answer: Answer,
     ) -> Result<(), AllocError>
         requires { IsAsked self.old header }
-        ensures does { OnOk result (Performs self.old entries.old.items (answers_primary self.old.settings header (answered answer)) self.new entries.new.items) }
-        ensures awaits { OnOk result (PeerAwaits self.new [] []) }
-        ensures framer { OnOk result (self.new.framer ≡ self.old.framer) }
+        ensures { OnOk result (Settles self.old entries.old.items (answers_primary self.old.settings header (answered answer)) self.new entries.new.items) }
     {
         match answer {
-            Answer::Reply(item) => self.reply(entries, header, item)?,
-            Answer::Quiet => self.abort(entries, header)?,
-            Answer::NoStream => self.warn_and_abort(entries, 3, header)?,
-            Answer::NoFunction => self.warn_and_abort(entries, 5, header)?,
-            Answer::Illegal => self.warn_and_abort(entries, 7, header)?,
+            Answer::NoStream => self.warn(entries, 3, header)?,
+            Answer::NoFunction => self.warn(entries, 5, header)?,
+            Answer::Illegal => self.warn(entries, 7, header)?,
+            _ => return self.reply(entries, header, answer),
         }
-        Ok(())
+        self.reply(entries, header, answer)
     }
-}
-
-/// The text of a message of stream 9: an item of the ten octets of a header.
-fn header_item(alloc: Global, octets: &[u8]) -> Result<Vec<u8>, AllocError>
-    ensures items { IfOk result (λ text. text.items ≡ 33 ∷ 10 ∷ octets.now) }
-    ensures fits { IfOk result (λ text. AllByRecursion (λ n. n < 256) octets.now) }
-{
-    let mut text = vec![in alloc; 33, 10]?;
-    text.extend_from_slice(octets)?;
-    Ok(text)
 }

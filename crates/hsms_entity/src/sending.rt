@@ -6,8 +6,7 @@ ghost use Rattle.secs_item.specs.Spelling.{IsText};
 ghost use Rattle.secs_text.specs.View.{content};
 ghost use Rattle.hsms_entity.specs.Act.{asks};
 ghost use Rattle.hsms_entity.specs.Frame.{text_of as text_of_item, is_within_depth as is_item_within_depth, fitting_text as fitting_text_of, message_frame as message_frame_of};
-ghost use Rattle.hsms_entity.specs.Performing.{Performs};
-ghost use Rattle.hsms_entity.specs.Sound.{IsSound};
+ghost use Rattle.hsms_entity.specs.Sound.{IsSound, Completes};
 ghost use Rattle.hsms_entity.specs.Sending.{IsSpelt, hindrance_of};
 
 use crate::fault::EndFault;
@@ -57,14 +56,10 @@ impl State {
             return Ok(None);
         }
         match text_of(self.alloc, item)? {
-            Some(text) => {
-                if text.len() <= self.settings.max() as usize - HEADER_LENGTH {
-                    Ok(Some(text))
-                } else {
-                    Ok(None)
-                }
+            Some(text) if text.len() <= self.settings.max() as usize - HEADER_LENGTH => {
+                Ok(Some(text))
             }
-            None => Ok(None),
+            _ => Ok(None),
         }
     }
 
@@ -79,29 +74,17 @@ impl State {
         requires unhindered { hindrance_of self.old (content message.now) ≡ None }
         requires fits { fitting_text_of self.old.settings (content message.now).item ≡ Some text.items }
         requires spelled { IsText self.old.settings.depth text.items }
-        ensures does { OnOk result (Performs self.old entries.old.items (asks (message_frame_of self.old.settings (content message.now) text.items) ∷ []) self.new entries.new.items) }
-        ensures sound { OnOk result (IsSound self.new) }
+        ensures { OnOk result (Completes self.old entries.old.items (asks (message_frame_of self.old.settings (content message.now) text.items) ∷ []) self.new entries.new.items) }
     {
         let number = self.free_number();
-        let frame = self.message_frame(message, text, number);
-        self.send_numbered(entries, frame, number)?;
-        Ok(())
-    }
-
-    fn message_frame(&self, message: &Message, text: Vec<u8>, number: u32) -> Frame
-        ensures frame { result ≡ message_frame_of self.now.settings (content message.now) text.items number }
-        ensures stream { (content message.now).stream < 128 }
-    {
-        Frame {
-            header: data_header(
-                self.settings.device(),
-                message.stream(),
-                message.function(),
-                message.wait(),
-                number,
-            ),
-            text,
-        }
+        let header = data_header(
+            self.settings.device(),
+            message.stream(),
+            message.function(),
+            message.wait(),
+            number,
+        );
+        self.send_numbered(entries, Frame { header, text }, number)
     }
 }
 

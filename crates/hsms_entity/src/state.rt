@@ -6,7 +6,7 @@ ghost use Rattle.hsms_entity.specs.Frame.{bare as bare_frame};
 use crate::asked::Asked;
 use crate::fault::EndFault;
 use hsms_frame::{Frame, Framer, Header, linktest_req, select_req, separate as separate_req};
-use hsms_machine::{Entry, Event, Phase, Settings, Side, Tracker};
+use hsms_machine::{Cause, Entry, Event, Phase, Settings, Side, Tracker};
 use std::alloc::{AllocError, Global};
 
 /// The state of an end, without its desk.
@@ -31,24 +31,22 @@ pub struct State {
 }
 
 impl State {
-    ghost use Rattle.std.specs.Prelude.{◌≤◌, ◌<◌, ℕ, true, false, [], ◌∷◌, OnOk, IfErr};
-    ghost use Rattle.hsms_frame.specs.Frame.{Frame as FrameValue};
+    ghost use Rattle.std.specs.Prelude.{◌≤◌, ◌<◌, true, false, [], ◌∷◌, OnOk, IfErr};
     ghost use Rattle.hsms_machine.specs.declared.entry.Event.TheVariants.{Sent, Down};
     ghost use Rattle.hsms_machine.specs.View.{own_open_of};
     ghost use Rattle.hsms_entity.specs.Act.{logs, asks};
-    ghost use Rattle.hsms_entity.specs.Inside.{after_event, after_number, IsRefusedAs};
+    ghost use Rattle.hsms_entity.specs.Inside.{IsRefusedAs};
     ghost use Rattle.hsms_entity.specs.Fault.{is_before};
     ghost use Rattle.hsms_entity.specs.Frame.{linktest_req as linktest_req_of, separate_req as separate_req_of};
-    ghost use Rattle.hsms_entity.specs.Turn.{opening_of, is_up as is_connection_up};
-    ghost use Rattle.hsms_entity.specs.Sound.{IsSound};
-    ghost use Rattle.hsms_entity.specs.Performing.{IsLawful, Performs};
+    ghost use Rattle.hsms_entity.specs.Turn.{opening_of, cut_by, is_up as is_connection_up};
+    ghost use Rattle.hsms_entity.specs.Sound.{IsSound, CanCut, Completes};
+    ghost use Rattle.hsms_entity.specs.Performing.{IsLawful, HasLogged, HasAsked};
     ghost use Rattle.hsms_entity.specs.Number.{IsFirstFree};
 
     /// Logs an event at the end's moment.
     pub fn log(&mut self, entries: &mut Vec<Entry>, event: Event) -> Result<(), AllocError>
         requires { IsLawful self.old event }
-        ensures does { OnOk result (Performs self.old entries.old.items (logs event ∷ []) self.new entries.new.items) }
-        ensures after { OnOk result (self.new ≡ after_event self.old event) }
+        ensures { OnOk result (HasLogged self.old entries.old.items event self.new entries.new.items) }
     {
         let entry = Entry {
             time: self.moment,
@@ -68,9 +66,7 @@ impl State {
     ) -> Result<(), AllocError>
         requires free { IsFirstFree self.old.tracker self.old.next number }
         requires lawful { IsLawful self.old (Sent frame) }
-        ensures does { OnOk result ((asked : ℕ → FrameValue) → asked number ≡ frame
-            → Performs self.old entries.old.items (asks asked ∷ []) self.new entries.new.items) }
-        ensures after { OnOk result (self.new ≡ after_number self.old frame number) }
+        ensures { OnOk result (HasAsked self.old entries.old.items frame number self.new entries.new.items) }
     {
         self.log(entries, Event::Sent(frame))?;
         self.next = number.wrapping_add(1);
@@ -99,27 +95,18 @@ impl State {
         }
     }
 
-    /// Whether there was no connection yet.
-    pub fn is_new(&self) -> bool
-        ensures { result ≡ is_before self.now.tracker.phase }
-    {
-        matches!(self.tracker.phase(), Phase::Before)
-    }
-
     /// Logs that the connection came up. An active end then asks for a session.
     pub fn start(&mut self, entries: &mut Vec<Entry>, now: u64) -> Result<(), AllocError>
         requires sound { IsSound self.old }
         requires before { is_before self.old.tracker.phase ≡ true }
-        ensures does { OnOk result (Performs (record self.old { moment = now }) entries.old.items (opening_of self.old.settings.link) self.new entries.new.items) }
-        ensures sound { OnOk result (IsSound self.new) }
+        ensures { OnOk result (Completes (record self.old { moment = now }) entries.old.items (opening_of self.old.settings.link) self.new entries.new.items) }
     {
         self.moment = now;
         self.log(entries, Event::Up)?;
         match self.settings.link() {
             Side::Active => {
                 let number = self.free_number();
-                self.send_numbered(entries, bare(self.alloc, select_req(number)), number)?;
-                Ok(())
+                self.send_numbered(entries, bare(self.alloc, select_req(number)), number)
             }
             Side::Passive => Ok(()),
         }
@@ -130,34 +117,29 @@ impl State {
         requires sound { IsSound self.old }
         requires up { is_connection_up self.old.tracker.phase ≡ true }
         requires room { own_open_of self.old.tracker < 64 }
-        ensures does { OnOk result (Performs self.old entries.old.items (asks linktest_req_of ∷ []) self.new entries.new.items) }
-        ensures sound { OnOk result (IsSound self.new) }
+        ensures { OnOk result (Completes self.old entries.old.items (asks linktest_req_of ∷ []) self.new entries.new.items) }
     {
         let number = self.free_number();
-        self.send_numbered(entries, bare(self.alloc, linktest_req(number)), number)?;
-        Ok(())
+        self.send_numbered(entries, bare(self.alloc, linktest_req(number)), number)
     }
 
     /// Ends the session and the connection.
     pub fn separate(&mut self, entries: &mut Vec<Entry>) -> Result<(), AllocError>
         requires sound { IsSound self.old }
         requires up { is_connection_up self.old.tracker.phase ≡ true }
-        ensures does { OnOk result (Performs self.old entries.old.items (asks separate_req_of ∷ logs Down ∷ []) self.new entries.new.items) }
-        ensures sound { OnOk result (IsSound self.new) }
+        ensures { OnOk result (Completes self.old entries.old.items (asks separate_req_of ∷ logs Down ∷ []) self.new entries.new.items) }
     {
         let number = self.free_number();
         self.send_numbered(entries, bare(self.alloc, separate_req(number)), number)?;
-        self.log(entries, Event::Down)?;
-        Ok(())
+        self.log(entries, Event::Down)
     }
 
-    /// Logs that the connection was lost.
-    pub fn lose(&mut self, entries: &mut Vec<Entry>) -> Result<(), AllocError>
-        requires sound { IsSound self.old }
-        requires up { is_connection_up self.old.tracker.phase ≡ true }
-        ensures does { OnOk result (Performs self.old entries.old.items (logs Down ∷ []) self.new entries.new.items) }
-        ensures sound { OnOk result (IsSound self.new) }
+    /// Cuts the connection.
+    pub fn cut(&mut self, entries: &mut Vec<Entry>, cause: Cause) -> Result<(), AllocError>
+        requires { CanCut self.old cause }
+        ensures { OnOk result (Completes self.old entries.old.items (cut_by cause) self.new entries.new.items) }
     {
+        self.log(entries, Event::Cut(cause))?;
         self.log(entries, Event::Down)
     }
 

@@ -1,5 +1,6 @@
 -- What is laid on a page.
-use Rattle.std.proofs.Common.{◌≡◌, ◌+◌, ◌++◌, ℕ, List, [], ◌∷◌, refl, sym, ap, ◌∙◌, subst, append_assoc, replicate}
+use Rattle.std.proofs.Common.{◌≡◌, ◌+◌, ◌++◌, ℕ, true, false, List, [], ◌∷◌, Some, None, refl, sym, ap, ◌∙◌, subst, append_assoc, replicate}
+use Rattle.std.specs.Prelude.{Option, IfSome}
 use Rattle.std.proofs.lemmas.List.{append-nil, replicate_more}
 use Rattle.secs_text.specs.Laid.{Lays}
 use Rattle.hsms_explain.specs.declared.note.Note.{Note}
@@ -30,6 +31,21 @@ some_then old mid new (one, first) (other, second) = (one ++ other, adds_then ol
 
 pub adds_is : (old new : Page) (one other : List ℕ) → one ≡ other → Adds old new one → Adds old new other
 adds_is old new one other is adds = let P : List ℕ → Type 0 = λ w. Adds old new w in subst P is adds
+
+-- ---- a page that is refused
+
+pub adds_refused : (old new : Page) (words : List ℕ) → new.told.is_refused ≡ true → new.block ≡ [] → Adds old new words
+adds_refused old new words refused none = record {
+  grows = λ text told.
+      let all = text ++ words in
+      (all, λ kept. let other : true ≡ false = sym refused ∙ kept in absurd cc, sym (append-nil all) ∙ ap (λ b. all ++ b) (sym none));
+}
+
+-- it takes each words
+pub said_refused : (output : Option (List ℕ)) (old new : Page) → ((words : List ℕ) → Adds old new words)
+    → (said : List ℕ) × IfSome output (λ words. said ≡ words) × Adds old new said
+said_refused None old new refused = ([], tt, refused [])
+said_refused (Some words) old new refused = (words, refl, refused words)
 
 -- ---- what is told is put together, and let go
 

@@ -11,7 +11,8 @@ use Rattle.hsms_machine.specs.declared.rule.Rule.{Rule}
 use Rattle.hsms_machine.specs.declared.rule.Rule.TheVariants.{Backwards, NotUp, Ended, T3Overdue, LinkOverdue, NotDue, TooLong, PType, SType, ControlText, Session, Direction, NotSelected, WBit, Text, SystemInUse, NoTransaction, SelectStatus, NoCause}
 use Rattle.hsms_log.specs.declared.step.What.{What}
 use Rattle.hsms_log.specs.declared.step.What.TheVariants.{Up, Frame, T3, Cut, Down}
-use Rattle.hsms_explain.specs.Sort.{rule_number, kind_number, detail_of, frame_number, event_number, frame_of, IsInRange, SortsAreApart, FramesAreApart}
+use Rattle.hsms_machine.specs.Rule.{rule_number}
+use Rattle.hsms_explain.specs.Sort.{kind_number, detail_of, frame_number, event_number, frame_of, IsInRange, SortsAreApart, FramesAreApart}
 
 -- ---- numbers, and what they stand for
 

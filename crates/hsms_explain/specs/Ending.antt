@@ -4,6 +4,7 @@ use Rattle.hsms_log.specs.declared.verdict.Summary.{Summary}
 use Rattle.hsms_log.specs.declared.verdict.Why.{Why}
 use Rattle.hsms_log.specs.declared.verdict.Verdict.{Verdict}
 use Rattle.hsms_log.specs.declared.verdict.Verdict.TheVariants.{Pass, Fail}
+use Rattle.hsms_log.specs.Verdict.{counts_text}
 use Rattle.hsms_options.specs.declared.excerpt.Telling.{Telling}
 use Rattle.hsms_options.specs.declared.excerpt.Telling.TheVariants.{Text, Json, Html}
 use Rattle.hsms_lines.specs.Verdict.{verdict_line_of}
@@ -15,18 +16,10 @@ use Rattle.hsms_explain.specs.Words.{why_name}
 abbrev pub member_of : List ℕ → ℕ → List ℕ
 member_of name number = name ++ decimal number
 
-abbrev pub flow_members_of : Summary → List ℕ
-flow_members_of s =
-    member_of (codes ",\"entries\":") s.entries ++ member_of (codes ",\"sent\":") s.sent ++ member_of (codes ",\"taken\":") s.taken
-
-abbrev pub loss_members_of : Summary → List ℕ
-loss_members_of s = member_of (codes ",\"discarded\":") s.discarded ++ member_of (codes ",\"expired\":") s.expired
-
 -- the log passes, and this is what it holds
 abbrev pub pass_object_of : Summary → List ℕ
 pass_object_of s =
-    codes "{\"type\":\"verdict\",\"verdict\":\"pass\"" ++ flow_members_of s ++ loss_members_of s
-    ++ member_of (codes ",\"waiting\":") s.waiting ++ codes "}\n"
+    codes "{\"type\":\"verdict\",\"verdict\":\"pass\"" ++ counts_text (codes ",\"") (codes "\":") s ++ codes "}\n"
 
 -- the log fails at a line, which breaks this rule or can't be read
 abbrev pub fail_object_of : ℕ → Why → List ℕ

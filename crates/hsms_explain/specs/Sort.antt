@@ -9,30 +9,9 @@ use Rattle.hsms_machine.specs.declared.entry.Cause.TheVariants.{T6, T7, T8, Leng
 use Rattle.hsms_machine.specs.declared.entry.Mark.{Mark}
 use Rattle.hsms_machine.specs.declared.entry.Mark.TheVariants.{Sent, Taken, Discarded}
 use Rattle.hsms_machine.specs.declared.rule.Rule.{Rule}
-use Rattle.hsms_machine.specs.declared.rule.Rule.TheVariants.{Backwards, NotUp, Ended, T3Overdue, LinkOverdue, NotDue, TooLong, PType, SType, ControlText, Session, Direction, NotSelected, WBit, Text, SystemInUse, NoTransaction, SelectStatus, NoCause}
+use Rattle.hsms_machine.specs.Rule.{rule_number}
 use Rattle.hsms_log.specs.declared.step.What.{What}
 use Rattle.hsms_log.specs.declared.step.What.TheVariants.{Up, Frame, T3, Cut, Down}
-
-abbrev pub rule_number : Rule → ℕ
-rule_number Backwards = 0
-rule_number NotUp = 1
-rule_number Ended = 2
-rule_number T3Overdue = 3
-rule_number LinkOverdue = 4
-rule_number NotDue = 5
-rule_number TooLong = 6
-rule_number PType = 7
-rule_number SType = 8
-rule_number ControlText = 9
-rule_number Session = 10
-rule_number Direction = 11
-rule_number NotSelected = 12
-rule_number WBit = 13
-rule_number Text = 14
-rule_number SystemInUse = 15
-rule_number NoTransaction = 16
-rule_number SelectStatus = 17
-rule_number NoCause = 18
 
 abbrev pub kind_number : Kind → ℕ
 kind_number Primary = 0

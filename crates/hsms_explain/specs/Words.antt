@@ -2,12 +2,10 @@
 use Rattle.std.specs.Prelude.{◌≡◌, ◌⊎◌, ℕ, List, [], ◌++◌, codes, decimal, nat_lt, if◌then◌else◌}
 use Rattle.hsms_log.specs.declared.verdict.Why.{Why}
 use Rattle.hsms_log.specs.declared.verdict.Why.TheVariants.{Unreadable, Broken}
-use Rattle.hsms_machine.specs.declared.entry.Cause.{Cause}
-use Rattle.hsms_machine.specs.declared.entry.Cause.TheVariants.{T6, T7, T8, Length}
 use Rattle.hsms_machine.specs.declared.rule.Rule.{Rule}
 use Rattle.hsms_machine.specs.declared.rule.Rule.TheVariants.{WBit}
 use Rattle.hsms_options.specs.Sentence.{sentence_of}
-use Rattle.hsms_lines.specs.Verdict.{rule_name}
+use Rattle.hsms_machine.specs.Rule.{rule_name}
 use Rattle.hsms_explain.specs.declared.words.Tie.{Tie}
 use Rattle.hsms_explain.specs.declared.words.Tie.TheVariants.{Answers, Rejects, Expires}
 use Rattle.hsms_explain.specs.declared.words.Closing.{Closing}
@@ -26,12 +24,6 @@ closing_text c = tie_word c.tie ++ codes " line " ++ decimal c.line ++ codes " a
 
 abbrev pub concern_text : Concern → List ℕ
 concern_text c = codes "concerns line " ++ decimal c.line
-
-abbrev pub cause_word : Cause → List ℕ
-cause_word T6 = codes "t6"
-cause_word T7 = codes "t7"
-cause_word T8 = codes "t8"
-cause_word Length = codes "length"
 
 abbrev pub why_name : Why → List ℕ
 why_name Unreadable = codes "unreadable"

@@ -1,7 +1,7 @@
 //! The verdict, as the last thing that is told.
 
 ghost use Rattle.std.specs.Prelude.{◌≡◌, ◌++◌, IfOk, OnOk, string_bytes};
-ghost use Rattle.hsms_explain.specs.Ending.{ending_of, fail_object_of, flow_members_of, loss_members_of, mark_of, member_of, page_end_of, pass_object_of, verdict_object_of};
+ghost use Rattle.hsms_explain.specs.Ending.{ending_of, fail_object_of, mark_of, member_of, page_end_of, pass_object_of, verdict_object_of};
 
 use crate::words::name_of;
 use hsms_lines::verdict_line;
@@ -34,28 +34,9 @@ fn pass_object(alloc: Global, summary: Summary) -> Result<String, AllocError>
     ensures { IfOk result (λ object. string_bytes object ≡ pass_object_of summary) }
 {
     let mut object = String::from_str(alloc, "{\"type\":\"verdict\",\"verdict\":\"pass\"")?;
-    push_flow(&mut object, summary)?;
-    push_losses(&mut object, summary)?;
-    push_member(&mut object, ",\"waiting\":", summary.waiting)?;
+    summary.push_counts(&mut object, ",\"", "\":")?;
     object.push_str("}\n")?;
     Ok(object)
-}
-
-fn push_flow(object: &mut String, summary: Summary) -> Result<(), AllocError>
-    ensures { OnOk result (string_bytes object.new ≡ string_bytes object.old ++ flow_members_of summary) }
-{
-    push_member(object, ",\"entries\":", summary.entries)?;
-    push_member(object, ",\"sent\":", summary.sent)?;
-    push_member(object, ",\"taken\":", summary.taken)?;
-    Ok(())
-}
-
-fn push_losses(object: &mut String, summary: Summary) -> Result<(), AllocError>
-    ensures { OnOk result (string_bytes object.new ≡ string_bytes object.old ++ loss_members_of summary) }
-{
-    push_member(object, ",\"discarded\":", summary.discarded)?;
-    push_member(object, ",\"expired\":", summary.expired)?;
-    Ok(())
 }
 
 fn fail_object(alloc: Global, line: u64, why: Why) -> Result<String, AllocError>

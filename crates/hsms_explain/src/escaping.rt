@@ -1,7 +1,6 @@
 //! Text in a page of HTML.
 
 use crate::page::Page;
-use std::alloc::{AllocError, Global};
 use std::fmt;
 
 // U+FFFD, which stands in place of an octet that has no place in a text.
@@ -32,19 +31,13 @@ pub fn lay_text(page: &mut Page, octets: &[u8]) {
 }
 
 /// Lays words as text.
-pub fn lay_words<D: fmt::Display>(
-    alloc: Global,
-    page: &mut Page,
-    words: &D,
-) -> Result<(), AllocError> {
-    let words = words.to_string(alloc)?;
+pub fn lay_words<D: fmt::Display>(page: &mut Page, words: &D) {
+    let words = page.words(words);
     lay_text(page, words.as_bytes());
-    Ok(())
 }
 
 /// Lays octets of the log as text. What isn't UTF-8 in them is replaced by U+FFFD.
-pub fn lay_octets(alloc: Global, page: &mut Page, octets: &[u8]) -> Result<(), AllocError> {
-    let text = String::from_utf8_lossy(alloc, octets)?;
-    lay_text(page, text.as_str().as_bytes());
-    Ok(())
+pub fn lay_octets(page: &mut Page, octets: &[u8]) {
+    let text = page.text(octets);
+    lay_text(page, text.as_bytes());
 }

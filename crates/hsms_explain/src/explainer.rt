@@ -122,19 +122,19 @@ impl Explainer {
     {
         self.end_last(alloc)?;
         let verdict = self.verdict();
-        self.tell_rest(alloc)?;
+        self.tell_rest();
         Ok(verdict)
     }
 
     // Tells what comes behind all lines.
-    fn tell_rest(&mut self, alloc: Global) -> Result<(), AllocError>
+    fn tell_rest(&mut self)
         ensures tally { self.new.report.tally ≡ self.old.report.tally }
-        ensures shown { OnOk result (KeepsShown self.old.report self.new.report) }
+        ensures shown { KeepsShown self.old.report self.new.report }
     {
-        self.report.tell_gap(alloc, self.stage.lines())?;
+        self.report.tell_gap(self.stage.lines());
         match &self.stage {
-            Stage::Unjudged(_) => self.report.tell_unjudged(alloc, Unjudged::Unreadable),
-            Stage::Judged(known) => self.report.tell_end(alloc, &known.primaries),
+            Stage::Unjudged(_) => self.report.tell_unjudged(Unjudged::Unreadable),
+            Stage::Judged(known) => self.report.tell_end(&known.primaries),
         }
     }
 

@@ -63,7 +63,7 @@ pub fn explain_to<R: Source, W: Sink>(
             Err(_) => return Err(ToolFault::Device("Read")),
         };
         if count == 0 {
-            return conclude(alloc, excerpt.form, sink, explainer);
+            return conclude(alloc, excerpt.form, sink, &mut explainer);
         }
         explainer.take(alloc, &block[..count])?;
         write_told(sink, &mut explainer)?;
@@ -76,12 +76,12 @@ fn conclude<W: Sink>(
     alloc: Global,
     form: Telling,
     sink: &mut W,
-    mut explainer: Explainer,
+    explainer: &mut Explainer,
 ) -> Result<bool, ToolFault>
-    ensures told { IfOk result (λ passes. (text : List ℕ) → length text < 2 ^ 63 → HasHeard explainer text
+    ensures told { IfOk result (λ passes. (text : List ℕ) → length text < 2 ^ 63 → HasHeard explainer.old text
         → Concludes form text passes (W.state sink.old).written (W.state sink.new).written) }
     ensures first { OnOk result ((excerpt : Asked) (start : Option (List ℕ)) (text : List ℕ) → length text < 2 ^ 63
-        → HasHeard explainer text → IsWritten excerpt start explainer.report (W.state sink.old).written
+        → HasHeard explainer.old text → IsWritten excerpt start explainer.old.report (W.state sink.old).written
         → TellsFirstFailure excerpt text start (W.state sink.new).written) }
     ensures some { OnErr result (GrowsBySome (W.state sink.old).written (W.state sink.new).written) }
     ensures fault { IfErr result IsOfTelling }
@@ -89,7 +89,7 @@ fn conclude<W: Sink>(
 {
     each_text_has_one_verdict();
     let verdict = explainer.finish(alloc)?;
-    write_told(sink, &mut explainer)?;
+    write_told(sink, explainer)?;
     let ending = ending(alloc, form, verdict)?;
     put(sink, ending.as_bytes())?;
     Ok(passes(verdict))

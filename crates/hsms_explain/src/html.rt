@@ -12,15 +12,13 @@ use crate::note::{Failing, Note, UNREADABLE};
 use crate::page::Page;
 use crate::primaries::{Outcome, Primaries, Times};
 use crate::style::STYLE;
-use crate::tally::Tally;
 use crate::text::behind_time;
 use crate::told::{Carried, Told};
-use crate::words::{Alike, Concern, Gap, System, Unjudged, name_of};
+use crate::words::{Concern, Gap, System, name_of};
 use hsms_frame::{Header, Kind, kind};
 use hsms_log::{Step, What, Why};
 use hsms_machine::{GREATEST_DEPTH, Mark, Remedy, Role, Rule, Settings};
 use hsms_options::sentence;
-use std::alloc::{AllocError, Global};
 use std::fmt;
 
 // What stands before the style, and what stands between it and the lines.
@@ -74,23 +72,23 @@ pub fn end_lines(page: &mut Page, links: &Links) {
 
 /// Writes a line of the log and its notes: with `utc` times as dates.
 pub fn write_line(
-    alloc: Global,
     page: &mut Page,
     links: &mut Links,
     told: Told<'_, '_>,
     notes: &[Note],
     utc: bool,
-) -> Result<(), AllocError> {
-    links.note(told.number)?;
+) {
+    if links.note(told.number).is_err() {
+        page.refuse();
+    }
     begin_row(page, told, notes);
-    write_said(alloc, page, told, utc)?;
-    write_closings(alloc, page, links, notes)?;
-    write_ahead(page, links, told, notes)?;
+    write_said(page, told, utc);
+    write_closings(page, links, notes);
+    write_ahead(page, links, told, notes);
     for note in notes {
-        write_failure(alloc, page, links, note, utc)?;
+        write_failure(page, links, note, utc);
     }
     put(page, "</div>\n");
-    Ok(())
 }
 
 // Begins the row of a line, and writes its number.
@@ -138,108 +136,54 @@ fn is_data(header: Header) -> bool {
     }
 }
 
-// Writes what a line says.
-fn write_said(
-    alloc: Global,
-    page: &mut Page,
-    told: Told<'_, '_>,
-    utc: bool,
-) -> Result<(), AllocError> {
-    match told.carried {
-        Carried::Entry(step, text) => {
-            write_time(alloc, page, step.time, utc)?;
-            write_entry(alloc, page, told, step, text)
-        }
-        Carried::Nothing | Carried::Unreadable => {
-            write_element(alloc, page, "pre", told.shown())
-        }
-    }
-}
-
-fn write_time(alloc: Global, page: &mut Page, time: u64, utc: bool) -> Result<(), AllocError> {
+// Writes what a line says: a frame as an arrow, the words of another entry, and else the line as it is.
+fn write_said(page: &mut Page, told: Told<'_, '_>, utc: bool) {
+    let Carried::Entry(step, text) = told.carried else {
+        return write_element(page, "pre", told.shown());
+    };
     put(page, "<span>");
-    lay_words(alloc, page, &Moment { time, utc })?;
+    lay_words(
+        page,
+        &Moment {
+            time: step.time,
+            utc,
+        },
+    );
     put(page, "</span>");
-    Ok(())
+    match step.what {
+        What::Frame(_, header) => write_frame(page, header, text),
+        _ => write_element(page, "b", behind_time(told.octets)),
+    }
 }
 
 // Writes an element whose text are octets of the log.
-fn write_element(
-    alloc: Global,
-    page: &mut Page,
-    name: &str,
-    octets: &[u8],
-) -> Result<(), AllocError> {
+fn write_element(page: &mut Page, name: &str, octets: &[u8]) {
     put(page, "<");
     put(page, name);
     put(page, ">");
-    lay_octets(alloc, page, octets)?;
+    lay_octets(page, octets);
     put(page, "</");
     put(page, name);
     put(page, ">");
-    Ok(())
 }
 
-// Writes an entry: a frame as an arrow, the words of another one.
-fn write_entry(
-    alloc: Global,
-    page: &mut Page,
-    told: Told<'_, '_>,
-    step: Step,
-    text: &[u8],
-) -> Result<(), AllocError> {
-    match step.what {
-        What::Frame(_, header) => write_frame(alloc, page, header, text),
-        What::Up | What::T3(_) | What::Cut(_) | What::Down => {
-            write_element(alloc, page, "b", behind_time(told.octets))
-        }
-    }
-}
-
-// Writes a frame: what it is, and folded the line that `hsms show` shows of it.
-fn write_frame(
-    alloc: Global,
-    page: &mut Page,
-    header: Header,
-    text: &[u8],
-) -> Result<(), AllocError> {
-    let octets = page.message(header, text, GREATEST_DEPTH)?;
-    let shown = String::from_utf8_lossy(alloc, octets)?;
-    let line = shown.trim_end();
-    put(page, "<details><summary>");
-    write_label(alloc, page, header, line)?;
-    put(page, "</summary><pre>");
-    lay_text(page, line.as_bytes());
-    put(page, "</pre></details>");
-    Ok(())
-}
-
-// Writes what a frame is, and its system bytes.
-fn write_label(
-    alloc: Global,
-    page: &mut Page,
-    header: Header,
-    line: &str,
-) -> Result<(), AllocError> {
-    put(page, "<b>");
+// Writes a frame: what it is, its system bytes, and folded the line that `hsms show` shows of it.
+fn write_frame(page: &mut Page, header: Header, text: &[u8]) {
+    let line = page.message(header, text, GREATEST_DEPTH);
+    put(page, "<details><summary><b>");
     if is_data(header) {
-        write_data(alloc, page, header)?;
+        lay_words(page, &Function::of(header));
+        if header.wait() {
+            put(page, " W");
+        }
     } else {
-        write_control(page, line);
+        write_control(page, &line);
     }
     put(page, "</b> <i>");
-    lay_words(alloc, page, &System(header.system))?;
-    put(page, "</i>");
-    Ok(())
-}
-
-// Writes the stream and the function of data, and whether it asks for a reply.
-fn write_data(alloc: Global, page: &mut Page, header: Header) -> Result<(), AllocError> {
-    lay_words(alloc, page, &Function::of(header))?;
-    if header.wait() {
-        put(page, " W");
-    }
-    Ok(())
+    lay_words(page, &System(header.system));
+    put(page, "</i></summary><pre>");
+    lay_text(page, line.as_bytes());
+    put(page, "</pre></details>");
 }
 
 // Writes what a control message is: the first word of its line, and what stands behind its system bytes.
@@ -255,21 +199,19 @@ fn write_control(page: &mut Page, line: &str) {
 // Writes words in a paragraph behind its front, as a link to the line `to`, and with the id to which the link `reply` of
 // the line `closed` leads, where there are such lines.
 fn write_link<D: fmt::Display>(
-    alloc: Global,
     page: &mut Page,
     front: &str,
     to: Option<u64>,
     closed: Option<u64>,
     words: &D,
-) -> Result<(), AllocError> {
+) {
     put(page, front);
     put(page, "<a");
     write_line_number(page, " id=\"r", closed);
     write_line_number(page, " href=\"#l", to);
     put(page, ">");
-    lay_words(alloc, page, words)?;
+    lay_words(page, words);
     put(page, "</a></p>");
-    Ok(())
 }
 
 // Writes an attribute that ends with the number of a line, if there is one.
@@ -281,51 +223,44 @@ fn write_line_number(page: &mut Page, front: &str, line: Option<u64>) {
 }
 
 // Writes what a line closes.
-fn write_closings(
-    alloc: Global,
-    page: &mut Page,
-    links: &mut Links,
-    notes: &[Note],
-) -> Result<(), AllocError> {
+fn write_closings(page: &mut Page, links: &mut Links, notes: &[Note]) {
     for note in notes {
         if let Note::Closes(closing) = note {
             let closed = links.close(closing.line);
             let to = links.told(closing.line);
-            write_link(alloc, page, "<p class=\"at\">", to, closed, closing)?;
+            write_link(page, "<p class=\"at\">", to, closed, closing);
         }
     }
-    Ok(())
 }
 
 // Writes a link to what will close the transaction that a line opens, and where a connection begins what is open.
-fn write_ahead(
-    page: &mut Page,
-    links: &mut Links,
-    told: Told<'_, '_>,
-    notes: &[Note],
-) -> Result<(), AllocError> {
-    if let Carried::Entry(step, _) = told.carried {
-        if opens(step.what, notes) && links.open(told.number)? {
-            put_number(page, "<p class=\"at\"><a href=\"#r", told.number);
-            put(page, "\">reply</a></p>");
+fn write_ahead(page: &mut Page, links: &mut Links, told: Told<'_, '_>, notes: &[Note]) {
+    let Carried::Entry(step, _) = told.carried else {
+        return;
+    };
+    match step.what {
+        What::Frame(Mark::Sent | Mark::Taken, header) => {
+            if asks(header) && notes.iter().all(lets_stand) {
+                write_reply(page, links, told.number);
+            }
         }
-        if matches!(step.what, What::Up) {
+        What::Up => {
             write_open(page, links);
             links.close_all();
         }
+        _ => {}
     }
-    Ok(())
 }
 
-// Whether an entry opens a transaction that a line may close.
-fn opens(what: What, notes: &[Note]) -> bool {
-    match what {
-        What::Frame(Mark::Sent | Mark::Taken, header) => {
-            asks(header) && notes.iter().all(lets_stand)
+// Writes a link to what will close the transaction that a line opens, where there is room for one more.
+fn write_reply(page: &mut Page, links: &mut Links, line: u64) {
+    match links.open(line) {
+        Ok(true) => {
+            put_number(page, "<p class=\"at\"><a href=\"#r", line);
+            put(page, "\">reply</a></p>");
         }
-        What::Frame(Mark::Discarded, _) | What::Up | What::T3(_) | What::Cut(_) | What::Down => {
-            false
-        }
+        Ok(false) => {}
+        Err(_) => page.refuse(),
     }
 }
 
@@ -366,78 +301,48 @@ fn write_open(page: &mut Page, links: &Links) {
     put(page, "</p>\n");
 }
 
-fn write_failure(
-    alloc: Global,
-    page: &mut Page,
-    links: &mut Links,
-    note: &Note,
-    utc: bool,
-) -> Result<(), AllocError> {
+fn write_failure(page: &mut Page, links: &mut Links, note: &Note, utc: bool) {
     match note {
-        Note::Closes(_) => Ok(()),
-        Note::Fails(failing) => write_failing(alloc, page, links, failing, utc),
-        Note::FailsAlike(alike) => write_alike(alloc, page, links, alike),
+        Note::Closes(_) => {}
+        Note::Fails(failing) => write_failing(page, links, failing, utc),
+        Note::FailsAlike(alike) => {
+            let to = links.told(alike.line);
+            write_link(page, "<div class=\"f\"><p>", to, None, alike);
+            put(page, "</div>");
+        }
     }
 }
 
-fn write_alike(
-    alloc: Global,
-    page: &mut Page,
-    links: &Links,
-    alike: &Alike,
-) -> Result<(), AllocError> {
-    let to = links.told(alike.line);
-    write_link(alloc, page, "<div class=\"f\"><p>", to, None, alike)?;
-    put(page, "</div>");
-    Ok(())
-}
-
-fn write_failing(
-    alloc: Global,
-    page: &mut Page,
-    links: &mut Links,
-    failing: &Failing,
-    utc: bool,
-) -> Result<(), AllocError> {
-    write_rule(page, name_of(failing.why), failing.sentence);
-    write_concern(alloc, page, links, failing)?;
+fn write_failing(page: &mut Page, links: &mut Links, failing: &Failing, utc: bool) {
+    put(page, "<div class=\"f\"><p><b>FAIL ");
+    put(page, name_of(failing.why));
+    put(page, "</b>: ");
+    lay_text(page, failing.sentence.as_bytes());
+    put(page, "</p>");
+    write_concern(page, links, failing);
     if let Some(expected) = failing.expected {
         let to = failing.expected_line().and_then(|line| links.told(line));
-        write_link(alloc, page, "<p>", to, None, &expected)?;
+        write_link(page, "<p>", to, None, &expected);
     }
     if let Some(going_on) = failing.going_on(utc) {
         put(page, "<p>");
-        lay_words(alloc, page, &going_on)?;
+        lay_words(page, &going_on);
         put(page, "</p>");
     }
     put(page, "</div>");
-    Ok(())
-}
-
-fn write_rule(page: &mut Page, name: &str, sentence: &str) {
-    put(page, "<div class=\"f\"><p><b>FAIL ");
-    put(page, name);
-    put(page, "</b>: ");
-    lay_text(page, sentence.as_bytes());
-    put(page, "</p>");
 }
 
 // Writes which line a failure concerns. Where that is supposed to have expired, it is closed.
-fn write_concern(
-    alloc: Global,
-    page: &mut Page,
-    links: &mut Links,
-    failing: &Failing,
-) -> Result<(), AllocError> {
+fn write_concern(page: &mut Page, links: &mut Links, failing: &Failing) {
     let Some(line) = failing.concerns else {
-        return Ok(());
+        return;
     };
     let closed = match failing.remedy {
         Some(Remedy::ExpireFirst(_, _)) => links.close(line),
         _ => None,
     };
     let to = links.told(line);
-    write_link(alloc, page, "<p>", to, closed, &Concern { line })
+    write_link(page, "<p>", to, closed, &Concern { line });
 }
 
 /// Writes that lines are left out.
@@ -452,16 +357,11 @@ pub fn write_gap(page: &mut Page, gap: Gap) {
     put(page, " left out</div>\n");
 }
 
-/// Writes that nothing was judged.
-pub fn write_unjudged(
-    alloc: Global,
-    page: &mut Page,
-    unjudged: Unjudged,
-) -> Result<(), AllocError> {
-    put(page, "<p>");
-    lay_words(alloc, page, &unjudged)?;
+/// Writes words in a paragraph behind its front.
+pub fn write_words<D: fmt::Display>(page: &mut Page, front: &str, words: &D) {
+    put(page, front);
+    lay_words(page, words);
     put(page, "</p>\n");
-    Ok(())
 }
 
 /// Writes the groups of the failures, each with a link to the first of them.
@@ -504,60 +404,31 @@ fn matter_of(why: Why) -> &'static str {
     }
 }
 
-/// Writes how often each rule was broken.
-pub fn write_failures(alloc: Global, page: &mut Page, tally: &Tally) -> Result<(), AllocError> {
-    put(page, "<p class=\"counts\">");
-    lay_words(alloc, page, tally)?;
-    put(page, "</p>\n");
-    Ok(())
-}
-
 /// Writes what became of the primaries that ask for a reply.
-pub fn write_primaries(
-    alloc: Global,
-    page: &mut Page,
-    links: &Links,
-    primaries: &Primaries,
-) -> Result<(), AllocError> {
+pub fn write_primaries(page: &mut Page, links: &Links, primaries: &Primaries) {
     if primaries.len() == 0 {
-        return Ok(());
+        return;
     }
     put(page, COLUMNS);
     for place in 0..primaries.len() {
         if let Some(outcome) = primaries.outcome(place) {
-            write_outcome(alloc, page, links, outcome)?;
+            write_outcome(page, links, outcome);
         }
     }
     put(page, "</table>\n");
-    Ok(())
 }
 
 // Writes what became of the primaries of a kind.
-fn write_outcome(
-    alloc: Global,
-    page: &mut Page,
-    links: &Links,
-    outcome: Outcome,
-) -> Result<(), AllocError> {
+fn write_outcome(page: &mut Page, links: &Links, outcome: Outcome) {
     put(page, "<tr><td>");
     match outcome.function() {
-        Some(function) => lay_words(alloc, page, &function)?,
+        Some(function) => lay_words(page, &function),
         None => put(page, "others"),
     }
     put(page, " W ");
     put(page, outcome.way());
     put_number(page, "</td><td>", outcome.counts.opened);
     put(page, "</td>");
-    write_counts(page, outcome);
-    match outcome.times {
-        Some(times) => write_times(page, links, times),
-        None => put(page, "<td></td><td></td><td></td><td></td>"),
-    }
-    put(page, "</tr>\n");
-    Ok(())
-}
-
-fn write_counts(page: &mut Page, outcome: Outcome) {
     for (_, count) in outcome.fates() {
         put(page, "<td>");
         if count > 0 {
@@ -565,6 +436,11 @@ fn write_counts(page: &mut Page, outcome: Outcome) {
         }
         put(page, "</td>");
     }
+    match outcome.times {
+        Some(times) => write_times(page, links, times),
+        None => put(page, "<td></td><td></td><td></td><td></td>"),
+    }
+    put(page, "</tr>\n");
 }
 
 fn write_times(page: &mut Page, links: &Links, times: Times) {

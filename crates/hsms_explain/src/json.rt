@@ -7,14 +7,11 @@ use crate::page::Page;
 use crate::primaries::Outcome;
 use crate::tally::Tally;
 use crate::told::{Carried, Told};
-use crate::words::{
-    Alike, Closing, Gap, GoingOn, Put, Rest, System, Unjudged, name_of, word, word_of,
-};
+use crate::words::{Alike, Closing, Gap, GoingOn, Put, Rest, System, Unjudged, name_of, word_of};
 use hsms_frame::{Header, Kind, kind};
-use hsms_log::{Step, What};
-use hsms_machine::{Cause, GREATEST_DEPTH, Mark};
+use hsms_log::{Step, What, cause_word};
+use hsms_machine::{GREATEST_DEPTH, Mark};
 use serde::{Described, Serialize, Serializer};
-use std::alloc::{AllocError, Global};
 use std::fmt;
 
 // An object of members, by their names.
@@ -32,6 +29,7 @@ enum Member<'a> {
     Expected(Option<Expected>),
     Remedy(Option<GoingOn>),
     Put(Option<Put>),
+    System(Option<System>),
     Rules(&'a Tally),
 }
 
@@ -73,6 +71,7 @@ impl Member<'_> {
             Member::Expected(words) => send_words(out, name, words),
             Member::Remedy(words) => send_words(out, name, words),
             Member::Put(words) => send_words(out, name, words),
+            Member::System(words) => send_words(out, name, words),
             Member::Rules(tally) => send_rules(out, name, tally),
         }
     }
@@ -120,8 +119,20 @@ impl LineObject<'_> {
         match step.what {
             What::Frame(mark, header) => self.send_frame(out, mark, header, text),
             What::Up => send_text(out, "kind", "up"),
-            What::T3(system) => send_expiry(out, system),
-            What::Cut(cause) => send_cut(out, cause),
+            What::T3(system) => send_members(
+                out,
+                &[
+                    ("kind", Member::Text("t3")),
+                    ("system", Member::System(Some(System(system)))),
+                ],
+            ),
+            What::Cut(cause) => send_members(
+                out,
+                &[
+                    ("kind", Member::Text("cut")),
+                    ("cause", Member::Text(cause_word(cause))),
+                ],
+            ),
             What::Down => send_text(out, "kind", "down"),
         }
     }
@@ -198,16 +209,6 @@ fn send_rules<S: Serializer>(out: &mut S, name: &str, tally: &Tally) -> Result<(
 fn send_time<S: Serializer>(out: &mut S, time: u64, utc: bool) -> Result<(), S::Error> {
     send_number(out, "time", time)?;
     send_words(out, "utc", &Moment { time, utc }.date())
-}
-
-fn send_expiry<S: Serializer>(out: &mut S, system: u32) -> Result<(), S::Error> {
-    send_text(out, "kind", "t3")?;
-    send_words(out, "system", &Some(System(system)))
-}
-
-fn send_cut<S: Serializer>(out: &mut S, cause: Cause) -> Result<(), S::Error> {
-    send_text(out, "kind", "cut")?;
-    send_text(out, "cause", word(cause))
 }
 
 // Sends what a data message says behind its system bytes.
@@ -315,49 +316,37 @@ fn mark_word(mark: Mark) -> &'static str {
 }
 
 /// Writes an object in a line.
-pub fn write_object<T: Serialize>(
-    alloc: Global,
-    page: &mut Page,
-    object: &T,
-) -> Result<(), AllocError> {
-    match serde_json::to_vec(alloc, object) {
+pub fn write_object<T: Serialize>(page: &mut Page, object: &T) {
+    match serde_json::to_vec(page.alloc(), object) {
         Ok(octets) => {
             page.lay(&octets);
             page.lay(b"\n");
-            Ok(())
         }
-        Err(_) => Err(AllocError),
+        Err(_) => page.refuse(),
     }
 }
 
 /// Writes a line of the log and its notes: with `utc` the date of its time besides. What isn't UTF-8 in a line that
 /// carries no entry is replaced by U+FFFD.
-pub fn write_line(
-    alloc: Global,
-    page: &mut Page,
-    told: Told<'_, '_>,
-    notes: &[Note],
-    utc: bool,
-) -> Result<(), AllocError> {
-    let shown = shown(alloc, page, told)?;
+pub fn write_line(page: &mut Page, told: Told<'_, '_>, notes: &[Note], utc: bool) {
+    let shown = shown(page, told);
     let object = LineObject {
         told,
         shown: shown.as_str(),
         notes,
         utc,
     };
-    write_object(alloc, page, &object)
+    write_object(page, &object);
 }
 
 // The line in which `hsms show` shows a frame, without its end, and of another line its octets.
-fn shown(alloc: Global, page: &mut Page, told: Told<'_, '_>) -> Result<String, AllocError> {
+fn shown(page: &mut Page, told: Told<'_, '_>) -> String {
     if let Carried::Entry(step, text) = told.carried {
         if let What::Frame(_, header) = step.what {
-            let line = page.message(header, text, GREATEST_DEPTH)?;
-            return String::from_utf8_lossy(alloc, line.trim_ascii_end());
+            return page.message(header, text, GREATEST_DEPTH);
         }
     }
-    String::from_utf8_lossy(alloc, told.shown())
+    page.text(told.shown())
 }
 
 // That lines are left out.

@@ -211,7 +211,7 @@ fn sentence_of(what: What, rule: Rule) -> &'static str
                 sentence(rule)
             }
         }
-        What::Up | What::T3(_) | What::Cut(_) | What::Down => sentence(rule),
+        _ => sentence(rule),
     }
 }
 
@@ -254,10 +254,6 @@ fn thrown_away(step: Step) -> Step
             time: step.time,
             what: What::Frame(Mark::Discarded, header),
         },
-        What::Frame(Mark::Sent | Mark::Discarded, _)
-        | What::Up
-        | What::T3(_)
-        | What::Cut(_)
-        | What::Down => step,
+        _ => step,
     }
 }

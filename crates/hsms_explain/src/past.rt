@@ -69,14 +69,6 @@ impl Requests {
         self.closed.clear();
     }
 
-    fn open(&mut self, request: Request) -> Result<(), AllocError> {
-        keep(&mut self.opened, request)
-    }
-
-    fn close(&mut self, closed: Closed) -> Result<(), AllocError> {
-        keep(&mut self.closed, closed)
-    }
-
     /// The last request with these system bytes, if it is kept.
     pub fn last_of(&self, system: u32) -> Option<Request> {
         let mut requests = self.opened.iter().rev().copied();
@@ -119,13 +111,13 @@ impl Past {
             What::Frame(mark, header) => self.note_frame(line, mark, header, is_closing),
             What::T3(system) => {
                 let tie = Tie::Expires;
-                self.sent.close(Closed { tie, line, system })
+                keep(&mut self.sent.closed, Closed { tie, line, system })
             }
             What::Cut(_) => {
                 self.over = Some(line);
                 Ok(())
             }
-            What::Down => Ok(()),
+            _ => Ok(()),
         }
     }
 
@@ -151,7 +143,9 @@ impl Past {
             }
             Kind::Primary | Kind::LinktestReq => self.note_request(line, mark, header),
             Kind::Separate => {
-                self.note_end(line, mark);
+                if mark != Mark::Discarded {
+                    self.over = Some(line);
+                }
                 Ok(())
             }
             Kind::Reply
@@ -171,14 +165,8 @@ impl Past {
             is_discarded,
         };
         match mark {
-            Mark::Sent => self.sent.open(request),
-            Mark::Taken | Mark::Discarded => self.received.open(request),
-        }
-    }
-
-    fn note_end(&mut self, line: u64, mark: Mark) {
-        if mark != Mark::Discarded {
-            self.over = Some(line);
+            Mark::Sent => keep(&mut self.sent.opened, request),
+            Mark::Taken | Mark::Discarded => keep(&mut self.received.opened, request),
         }
     }
 
@@ -198,8 +186,8 @@ impl Past {
             system: header.system,
         };
         match mark {
-            Mark::Sent => self.received.close(closed),
-            Mark::Taken | Mark::Discarded => self.sent.close(closed),
+            Mark::Sent => keep(&mut self.received.closed, closed),
+            Mark::Taken | Mark::Discarded => keep(&mut self.sent.closed, closed),
         }
     }
 }

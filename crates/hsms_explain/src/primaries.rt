@@ -132,7 +132,7 @@ impl Primaries {
                 Ok(())
             }
             What::Frame(mark, header) => self.note_primary(mark, header),
-            What::T3(_) | What::Cut(_) | What::Down => Ok(()),
+            _ => Ok(()),
         }
     }
 
@@ -168,7 +168,7 @@ impl Primaries {
             return Ok(());
         };
         if let Some(kind) = self.replies.note_closed(key, fate, after, line)? {
-            if fate == Fate::Answered {
+            if matches!(fate, Fate::Answered) {
                 self.count_time(alloc, kind, after)?;
             }
         }
@@ -230,7 +230,7 @@ fn closing_of(what: What) -> Option<(u64, Fate)> {
             fate_by(header),
         )),
         What::T3(system) => Some((key(Direction::Sent, system), Fate::Expired)),
-        What::Frame(Mark::Discarded, _) | What::Up | What::Cut(_) | What::Down => None,
+        _ => None,
     }
 }
 

@@ -12,7 +12,7 @@ use std::alloc::{AllocError, Global};
 const MOST: usize = 64;
 
 /// What ended the wait for a reply.
-#[derive(Clone, Copy, PartialEq, Eq)]
+#[derive(Clone, Copy)]
 pub enum Fate {
     Answered,
     Aborted,

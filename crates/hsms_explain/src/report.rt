@@ -70,44 +70,41 @@ impl Report {
     }
 
     /// Tells that lines are left out at the end of so many.
-    pub fn tell_gap(&mut self, alloc: Global, lines: u64) -> Result<(), AllocError>
+    pub fn tell_gap(&mut self, lines: u64)
         ensures tally { self.new.tally ≡ self.old.tally }
-        ensures shown { OnOk result (KeepsShown self.old self.new) }
+        ensures shown { KeepsShown self.old self.new }
     {
-        self.window.finish(alloc, &mut self.page, lines)
+        self.window.finish(&mut self.page, lines);
     }
 
     /// Tells that nothing was judged.
-    pub fn tell_unjudged(&mut self, alloc: Global, unjudged: Unjudged) -> Result<(), AllocError>
+    pub fn tell_unjudged(&mut self, unjudged: Unjudged)
         ensures tally { self.new.tally ≡ self.old.tally }
-        ensures shown { OnOk result (KeepsShown self.old self.new) }
+        ensures shown { KeepsShown self.old self.new }
     {
-        self.window
-            .teller()
-            .unjudged(alloc, &mut self.page, unjudged)
+        self.window.teller().unjudged(&mut self.page, unjudged);
     }
 
     /// Tells the failures behind a log that was judged, and what became of its primaries.
-    pub fn tell_end(&mut self, alloc: Global, primaries: &Primaries) -> Result<(), AllocError>
+    pub fn tell_end(&mut self, primaries: &Primaries)
         ensures tally { self.new.tally ≡ self.old.tally }
-        ensures shown { OnOk result (KeepsShown self.old self.new) }
+        ensures shown { KeepsShown self.old self.new }
     {
-        self.tell_emptiness(alloc)?;
+        self.tell_emptiness();
         let teller = self.window.teller();
-        teller.groups(alloc, &mut self.page, &self.groups)?;
-        teller.failures(alloc, &mut self.page, &self.tally)?;
-        teller.primaries(alloc, &mut self.page, self.window.links(), primaries)
+        teller.groups(&mut self.page, &self.groups);
+        teller.failures(&mut self.page, &self.tally);
+        teller.primaries(&mut self.page, self.window.links(), primaries);
     }
 
     // Tells that there was no entry, where there was none.
-    fn tell_emptiness(&mut self, alloc: Global) -> Result<(), AllocError>
+    fn tell_emptiness(&mut self)
         ensures tally { self.new.tally ≡ self.old.tally }
-        ensures shown { OnOk result (KeepsShown self.old self.new) }
+        ensures shown { KeepsShown self.old self.new }
     {
         if self.tally.is_empty() {
-            return self.tell_unjudged(alloc, Unjudged::NoEntry);
+            self.tell_unjudged(Unjudged::NoEntry);
         }
-        Ok(())
     }
 
     /// Tells a line, and what is noted of it, in a log whose frames have at most so many octets. Its failures are counted.

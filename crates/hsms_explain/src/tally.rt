@@ -52,14 +52,7 @@ impl Tally {
         Tally {
             failures: Vec::new(alloc),
             first: None,
-            entries: Summary {
-                entries: 0,
-                sent: 0,
-                taken: 0,
-                discarded: 0,
-                expired: 0,
-                waiting: 0,
-            },
+            entries: Summary::default(),
         }
     }
 
@@ -72,7 +65,7 @@ impl Tally {
         match what {
             What::Frame(mark, _) => self.count_frame(mark),
             What::T3(_) => self.entries.expired = self.entries.expired.saturating_add(1),
-            What::Up | What::Cut(_) | What::Down => {}
+            _ => {}
         }
     }
 

@@ -1,6 +1,6 @@
 //! The form in which a log is told.
 
-ghost use Rattle.std.specs.Prelude.{◌≡◌, ℕ, List, OnOk};
+ghost use Rattle.std.specs.Prelude.{◌≡◌, ℕ, List};
 ghost use Rattle.hsms_options.specs.declared.excerpt.Telling.TheVariants.{Text};
 ghost use Rattle.hsms_explain.specs.Page.{Adds, AddsSome};
 ghost use Rattle.hsms_explain.specs.Written.{LineTold, gap_text};
@@ -17,7 +17,6 @@ use crate::{html, json, text};
 use hsms_machine::Settings;
 use hsms_options::{Excerpt, Telling};
 use serde::Serialize;
-use std::alloc::{AllocError, Global};
 use std::fmt;
 
 /// Writes what is told in the form that is asked for, with times as they are or as dates.
@@ -69,147 +68,102 @@ impl Teller {
     }
 
     /// Writes a line, and what is noted of it.
-    pub fn line(
-        self,
-        alloc: Global,
-        page: &mut Page,
-        links: &mut Links,
-        told: Told<'_, '_>,
-        notes: &[Note],
-    ) -> Result<(), AllocError>
-        ensures { OnOk result (self.form ≡ Text
-            → (words : List ℕ) × LineTold told.entry notes.now words × Adds page.old page.new words) }
+    pub fn line(self, page: &mut Page, links: &mut Links, told: Told<'_, '_>, notes: &[Note])
+        ensures { self.form ≡ Text → (words : List ℕ) × LineTold told.entry notes.now words × Adds page.old page.new words }
     {
         match self.form {
-            Telling::Text => text::write_line(alloc, page, told, notes, self.utc),
-            Telling::Json => json::write_line(alloc, page, told, notes, self.utc),
-            Telling::Html => html::write_line(alloc, page, links, told, notes, self.utc),
+            Telling::Text => text::write_line(page, told, notes, self.utc),
+            Telling::Json => json::write_line(page, told, notes, self.utc),
+            Telling::Html => html::write_line(page, links, told, notes, self.utc),
         }
     }
 
     /// Writes that lines are left out.
-    pub fn gap(self, alloc: Global, page: &mut Page, gap: Gap) -> Result<(), AllocError>
-        ensures { OnOk result (self.form ≡ Text → Adds page.old page.new gap_text) }
+    pub fn gap(self, page: &mut Page, gap: Gap)
+        ensures { self.form ≡ Text → Adds page.old page.new gap_text }
     {
         match self.form {
-            Telling::Text => {
-                text::write_gap(page);
-                Ok(())
-            }
-            Telling::Json => json::write_object(alloc, page, &gap),
-            Telling::Html => {
-                html::write_gap(page, gap);
-                Ok(())
-            }
+            Telling::Text => text::write_gap(page),
+            Telling::Json => json::write_object(page, &gap),
+            Telling::Html => html::write_gap(page, gap),
         }
     }
 
     /// Writes that nothing was judged.
-    pub fn unjudged(
-        self,
-        alloc: Global,
-        page: &mut Page,
-        unjudged: Unjudged,
-    ) -> Result<(), AllocError>
-        ensures { OnOk result (self.form ≡ Text → AddsSome page.old page.new) }
+    pub fn unjudged(self, page: &mut Page, unjudged: Unjudged)
+        ensures { self.form ≡ Text → AddsSome page.old page.new }
     {
         match self.form {
-            Telling::Html => html::write_unjudged(alloc, page, unjudged),
-            Telling::Text | Telling::Json => self.remark(alloc, page, &unjudged),
+            Telling::Html => html::write_words(page, "<p>", &unjudged),
+            Telling::Text | Telling::Json => self.remark(page, &unjudged),
         }
     }
 
     /// Writes of each group how many failures it has, or how many of them weren't told whole.
-    pub fn groups(self, alloc: Global, page: &mut Page, groups: &Groups) -> Result<(), AllocError>
-        ensures { OnOk result (self.form ≡ Text → AddsSome page.old page.new) }
+    pub fn groups(self, page: &mut Page, groups: &Groups)
+        ensures { self.form ≡ Text → AddsSome page.old page.new }
     {
         match self.form {
-            Telling::Html => {
-                html::write_groups(page, groups);
-                Ok(())
-            }
-            Telling::Text | Telling::Json => self.rests(alloc, page, groups),
+            Telling::Html => html::write_groups(page, groups),
+            Telling::Text | Telling::Json => self.rests(page, groups),
         }
     }
 
     // Writes of each group how many failures weren't told whole.
-    fn rests(self, alloc: Global, page: &mut Page, groups: &Groups) -> Result<(), AllocError>
-        ensures { OnOk result (self.form ≡ Text → AddsSome page.old page.new) }
+    fn rests(self, page: &mut Page, groups: &Groups)
+        ensures { self.form ≡ Text → AddsSome page.old page.new }
     {
         for group in groups.iter() {
-            self.optional(alloc, page, group.rest())?;
+            self.optional(page, group.rest());
         }
-        Ok(())
     }
 
     /// Writes how often each rule was broken.
-    pub fn failures(self, alloc: Global, page: &mut Page, tally: &Tally) -> Result<(), AllocError>
-        ensures { OnOk result (self.form ≡ Text → AddsSome page.old page.new) }
+    pub fn failures(self, page: &mut Page, tally: &Tally)
+        ensures { self.form ≡ Text → AddsSome page.old page.new }
     {
         match self.form {
-            Telling::Html => html::write_failures(alloc, page, tally),
-            Telling::Text | Telling::Json => self.remark(alloc, page, tally),
+            Telling::Html => html::write_words(page, "<p class=\"counts\">", tally),
+            Telling::Text | Telling::Json => self.remark(page, tally),
         }
     }
 
     /// Writes what became of the primaries of each kind.
-    pub fn primaries(
-        self,
-        alloc: Global,
-        page: &mut Page,
-        links: &Links,
-        primaries: &Primaries,
-    ) -> Result<(), AllocError>
-        ensures { OnOk result (self.form ≡ Text → AddsSome page.old page.new) }
+    pub fn primaries(self, page: &mut Page, links: &Links, primaries: &Primaries)
+        ensures { self.form ≡ Text → AddsSome page.old page.new }
     {
         match self.form {
-            Telling::Html => html::write_primaries(alloc, page, links, primaries),
-            Telling::Text | Telling::Json => self.outcomes(alloc, page, primaries),
+            Telling::Html => html::write_primaries(page, links, primaries),
+            Telling::Text | Telling::Json => self.outcomes(page, primaries),
         }
     }
 
-    fn outcomes(
-        self,
-        alloc: Global,
-        page: &mut Page,
-        primaries: &Primaries,
-    ) -> Result<(), AllocError>
-        ensures { OnOk result (self.form ≡ Text → AddsSome page.old page.new) }
+    fn outcomes(self, page: &mut Page, primaries: &Primaries)
+        ensures { self.form ≡ Text → AddsSome page.old page.new }
     {
         for place in 0..primaries.len() {
-            self.optional(alloc, page, primaries.outcome(place))?;
+            self.optional(page, primaries.outcome(place));
         }
-        Ok(())
     }
 
     // Writes a remark, if there is one.
-    fn optional<T: fmt::Display + Serialize + Drop>(
-        self,
-        alloc: Global,
-        page: &mut Page,
-        remark: Option<T>,
-    ) -> Result<(), AllocError>
-        ensures { OnOk result (self.form ≡ Text → AddsSome page.old page.new) }
+    fn optional<T: fmt::Display + Serialize + Drop>(self, page: &mut Page, remark: Option<T>)
+        ensures { self.form ≡ Text → AddsSome page.old page.new }
     {
         match remark {
-            Some(remark) => self.remark(alloc, page, &remark),
-            None => Ok(()),
+            Some(remark) => self.remark(page, &remark),
+            None => {}
         }
     }
 
     // Writes what stands in a line of its own, as text or as an object.
-    fn remark<T: fmt::Display + Serialize>(
-        self,
-        alloc: Global,
-        page: &mut Page,
-        remark: &T,
-    ) -> Result<(), AllocError>
-        ensures { OnOk result (self.form ≡ Text → AddsSome page.old page.new) }
+    fn remark<T: fmt::Display + Serialize>(self, page: &mut Page, remark: &T)
+        ensures { self.form ≡ Text → AddsSome page.old page.new }
     {
         match self.form {
-            Telling::Text => text::write_words(alloc, page, remark),
-            Telling::Json => json::write_object(alloc, page, remark),
-            Telling::Html => Ok(()),
+            Telling::Text => text::write_words(page, remark),
+            Telling::Json => json::write_object(page, remark),
+            Telling::Html => {}
         }
     }
 }

@@ -123,8 +123,9 @@ impl Window {
         ensures excerpt { self.new.excerpt ≡ self.old.excerpt }
     {
         if self.is_told(notes) {
-            self.tell_held(alloc, page, max)?;
-            self.tell(alloc, page, told, notes)
+            self.tell_held(page, max);
+            self.tell(page, told, notes);
+            Ok(())
         } else {
             self.hold(alloc, told, notes)
         }
@@ -162,22 +163,14 @@ impl Window {
     }
 
     // Tells a line, behind those that were told.
-    fn tell(
-        &mut self,
-        alloc: Global,
-        page: &mut Page,
-        told: Told<'_, '_>,
-        notes: &[Note],
-    ) -> Result<(), AllocError>
-        ensures told { OnOk result (self.old.excerpt.form ≡ Text
-            → TellsNext self.old.last page.old page.new told.entry notes.now) }
+    fn tell(&mut self, page: &mut Page, told: Told<'_, '_>, notes: &[Note])
+        ensures told { self.old.excerpt.form ≡ Text → TellsNext self.old.last page.old page.new told.entry notes.now }
         ensures behind { self.new.behind ≡ self.old.behind }
         ensures excerpt { self.new.excerpt ≡ self.old.excerpt }
         ensures held { self.new.held ≡ self.old.held }
     {
-        self.go_to(alloc, page, told.number)?;
-        let teller = self.teller();
-        teller.line(alloc, page, &mut self.links, told, notes)
+        self.go_to(page, told.number);
+        self.teller().line(page, &mut self.links, told, notes);
     }
 
     // Holds a line in place of the oldest one that is held.
@@ -214,75 +207,66 @@ impl Window {
     }
 
     // Tells the lines that are held, in their order, and holds none any more.
-    fn tell_held(&mut self, alloc: Global, page: &mut Page, max: u32) -> Result<(), AllocError>
-        ensures told { OnOk result (self.old.excerpt.form ≡ Text → AddsSome page.old page.new) }
+    fn tell_held(&mut self, page: &mut Page, max: u32)
+        ensures told { self.old.excerpt.form ≡ Text → AddsSome page.old page.new }
         ensures behind { self.new.behind ≡ self.old.behind }
         ensures excerpt { self.new.excerpt ≡ self.old.excerpt }
-        ensures held { OnOk result (self.new.held.items ≡ []) }
+        ensures held { self.new.held.items ≡ [] }
     {
         while let Some(held) = self.held.pop_front() {
-            self.tell_one(alloc, page, &held, max)?;
+            self.tell_one(page, &held, max);
         }
-        Ok(())
     }
 
-    fn tell_one(
-        &mut self,
-        alloc: Global,
-        page: &mut Page,
-        held: &Held,
-        max: u32,
-    ) -> Result<(), AllocError>
-        ensures told { OnOk result (self.old.excerpt.form ≡ Text → AddsSome page.old page.new) }
+    fn tell_one(&mut self, page: &mut Page, held: &Held, max: u32)
+        ensures told { self.old.excerpt.form ≡ Text → AddsSome page.old page.new }
         ensures behind { self.new.behind ≡ self.old.behind }
         ensures excerpt { self.new.excerpt ≡ self.old.excerpt }
         ensures held { self.new.held ≡ self.old.held }
     {
-        self.go_to(alloc, page, held.number)?;
+        self.go_to(page, held.number);
         let teller = self.teller();
-        let carried = held.carried(max, &mut self.octets)?;
+        let Ok(carried) = held.carried(max, &mut self.octets) else {
+            return page.refuse();
+        };
         let told = Told {
             number: held.number,
             octets: &held.octets,
             limit: held.octets.len(),
             carried,
         };
-        teller.line(alloc, page, &mut self.links, told, &held.notes)
+        teller.line(page, &mut self.links, told, &held.notes);
     }
 
     // Tells that lines are left out before this one, where it doesn't follow the last one that was told.
-    fn go_to(&mut self, alloc: Global, page: &mut Page, number: u64) -> Result<(), AllocError>
-        ensures told { OnOk result (self.old.excerpt.form ≡ Text
-            → Adds page.old page.new (left_out self.old.last number)) }
+    fn go_to(&mut self, page: &mut Page, number: u64)
+        ensures told { self.old.excerpt.form ≡ Text → Adds page.old page.new (left_out self.old.last number) }
         ensures last { self.new.last ≡ number }
         ensures behind { self.new.behind ≡ self.old.behind }
         ensures excerpt { self.new.excerpt ≡ self.old.excerpt }
         ensures held { self.new.held ≡ self.old.held }
     {
-        let told = self.leave_out(alloc, page, number.saturating_sub(1));
+        self.leave_out(page, number.saturating_sub(1));
         self.last = number;
-        told
     }
 
     // Tells which lines are left out behind the last one that was told, up to this one.
-    fn leave_out(&self, alloc: Global, page: &mut Page, to: u64) -> Result<(), AllocError>
-        ensures { OnOk result (self.now.excerpt.form ≡ Text
-            → Adds page.old page.new (left_out self.now.last (to + 1))) }
+    fn leave_out(&self, page: &mut Page, to: u64)
+        ensures { self.now.excerpt.form ≡ Text → Adds page.old page.new (left_out self.now.last (to + 1)) }
     {
         if to <= self.last {
-            return Ok(());
+            return;
         }
         let from = self.last + 1;
-        self.teller().gap(alloc, page, Gap { from, to })
+        self.teller().gap(page, Gap { from, to });
     }
 
     /// Tells that no line follows, and which are left out behind the last one that was told: the log has so many lines.
-    pub fn finish(&self, alloc: Global, page: &mut Page, lines: u64) -> Result<(), AllocError>
-        ensures { OnOk result (self.now.excerpt.form ≡ Text → AddsSome page.old page.new) }
+    pub fn finish(&self, page: &mut Page, lines: u64)
+        ensures { self.now.excerpt.form ≡ Text → AddsSome page.old page.new }
     {
-        self.leave_out(alloc, page, lines)?;
+        self.leave_out(page, lines);
         self.teller().end_lines(page, &self.links);
-        Ok(())
     }
 
     /// The lines to which links may lead.

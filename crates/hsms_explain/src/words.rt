@@ -1,17 +1,16 @@
 //! The words that stand below a line.
 
 ghost use Rattle.std.specs.Prelude.{◌≡◌, Some};
-ghost use Rattle.hsms_explain.specs.Words.{alike_text, cause_word, closing_text, concern_text, rest_text, tie_word, why_name};
+ghost use Rattle.hsms_explain.specs.Words.{alike_text, closing_text, concern_text, rest_text, tie_word, why_name};
 
 use crate::moment::Moment;
 use hsms_frame::{Kind, kind};
-use hsms_lines::rule_name;
-use hsms_log::{What, Why};
+use hsms_log::{What, Why, cause_word};
 use hsms_machine::{Cause, Remedy};
 use std::fmt;
 
 /// What an entry is to the transaction that it closes.
-#[derive(Clone, Copy, PartialEq, Eq)]
+#[derive(Clone, Copy)]
 pub enum Tie {
     Answers,
     Rejects,
@@ -29,7 +28,7 @@ impl Tie {
                     Tie::Answers
                 }
             }
-            What::Up | What::T3(_) | What::Cut(_) | What::Down => Tie::Expires,
+            _ => Tie::Expires,
         }
     }
 }
@@ -176,7 +175,7 @@ pub fn name_of(why: Why) -> &'static str
 {
     match why {
         Why::Unreadable => "unreadable",
-        Why::Broken(rule) => rule_name(rule),
+        Why::Broken(rule) => rule.name(),
     }
 }
 
@@ -212,7 +211,7 @@ impl fmt::Display for Put {
         match *self {
             Put::T3(time, system) => write!(f, "{time} t3 {system:08x}"),
             Put::Cut(time, cause) => {
-                let cause = word(cause);
+                let cause = cause_word(cause);
                 write!(f, "{time} cut {cause}")
             }
             Put::Down(time) => write!(f, "{time} down"),
@@ -236,17 +235,5 @@ impl fmt::Display for GoingOn {
             Remedy::Discard => write!(f, "goes on as if it were thrown away"),
             _ => write!(f, "goes on without it"),
         }
-    }
-}
-
-/// The word of a cause, as in a log.
-pub fn word(cause: Cause) -> &'static str
-    ensures { result.now ≡ cause_word cause }
-{
-    match cause {
-        Cause::T6 => "t6",
-        Cause::T7 => "t7",
-        Cause::T8 => "t8",
-        Cause::Length => "length",
     }
 }

@@ -1,5 +1,5 @@
 -- What stands at the front of pending octets.
-use Rattle.std.proofs.Common.{◌≡◌, ◌≤◌, ◌<◌, ◌+◌, ◌^◌, ◌++◌, ℕ, List, length, take, drop, Some, Ok, Err, refl, sym, ◌∙◌, ap, subst, arith}
+use Rattle.std.proofs.Common.{◌≡◌, ◌≤◌, ◌<◌, ◌+◌, ◌^◌, ◌++◌, ℕ, zero, suc, true, false, List, length, take, drop, Some, Ok, Err, refl, sym, ◌∙◌, ap, subst, arith}
 use Rattle.std.proofs.lemmas.List.{length-take-le, length-drop, drop-drop}
 use Rattle.hsms_frame.specs.declared.header.Header.{Header}
 use Rattle.hsms_frame.specs.declared.fault.FrameFault.TheVariants.{Memory}
@@ -43,9 +43,15 @@ whole_at_front max octets text h size front same =
       omega arith,
     )
 
--- the same where its text finds no memory
-pub whole_unread : (max : ℕ) (octets : List ℕ) (h : Header) (size : ℕ) → IsFrontOf max octets h size → 0 < length (take size (drop 14 octets))
+-- the same where its text, which isn't empty, finds no memory
+pub whole_unread : (max : ℕ) (octets : List ℕ) (h : Header) (size : ℕ) → IsFrontOf max octets h size → 0 < size
     → FramesAs max octets (Err Memory) octets
 whole_unread max octets h size front some =
     let a = whole_at_front max octets (take size (drop 14 octets)) h size front refl in
-    (_, _, a.0, a.1, a.2, some, refl)
+    let there : 14 + size ≤ length octets = front.there in
+    let room : size ≤ length (drop 14 octets) = omega (arith, there, length-drop 14 octets) in
+    (_, _, a.0, a.1, a.2, omega (arith, some, length-take-le size (drop 14 octets) room), refl)
+
+pub not_empty : (size : ℕ) → (size ≡ 0 → false ≡ true) → 0 < size
+not_empty zero empty = let no = empty refl in cc
+not_empty (suc n) empty = omega arith

@@ -16,10 +16,7 @@ pub fn data_header(device: u16, stream: u8, function: u8, wait: bool, system: u3
     Header {
         session: device,
         byte2: if wait { stream + 128 } else { stream },
-        byte3: function,
-        ptype: 0,
-        stype: DATA,
-        system,
+        ..control_header(DATA, function, system)
     }
 }
 
@@ -64,18 +61,14 @@ pub fn separate(system: u32) -> Header
 pub fn reject_of(header: Header, reason: u8) -> Header
     ensures { result ≡ reject_header_of header reason }
 {
-    let rejected = if reason == 2 {
-        header.ptype
-    } else {
-        header.stype
-    };
     Header {
         session: header.session,
-        byte2: rejected,
-        byte3: reason,
-        ptype: 0,
-        stype: REJECT_REQ,
-        system: header.system,
+        byte2: if reason == 2 {
+            header.ptype
+        } else {
+            header.stype
+        },
+        ..control_header(REJECT_REQ, reason, header.system)
     }
 }
 

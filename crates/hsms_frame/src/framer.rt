@@ -7,7 +7,7 @@ use crate::fault::FrameFault;
 use crate::frame::Frame;
 use crate::header::{HEADER_LENGTH, Header};
 use crate::leading::drop_front;
-use std::alloc::{AllocError, Global};
+use std::alloc::Global;
 use std::marker::Model;
 
 /// Takes octets in pieces, and gives the messages that they make up (SEMI E37, section 8.1). However the octets are cut
@@ -79,20 +79,13 @@ impl Framer {
     /// Each leaves the pending octets as they are: `TooShort`, once four octets are there, where they count fewer than
     /// ten; `TooLong`, once fourteen are there, where the first four count more than the limit; `Memory`, only where a
     /// whole message is there that has a text.
-    #[tactic(auto, using(crate::proofs::Determined::one_framed))]
+    #[tactic(auto, using(crate::proofs::Determined::one_of_framer))]
     pub fn next(&mut self) -> Result<Option<Frame>, FrameFault>
         // The answer is one to the pending octets.
         ensures answer { FramesAs self.old.max self.old.pending result self.new.pending }
         // No other answer is.
         ensures only { (answer : _) (rest : _) → FramesAs self.old.max self.old.pending answer rest
             → (answer ≡ Err FrameFault.Memory) ⊎ (result ≡ Err FrameFault.Memory) ⊎ (result ≡ answer) }
-        ensures max { self.new.max ≡ self.old.max }
-    {
-        self.take_front()
-    }
-
-    fn take_front(&mut self) -> Result<Option<Frame>, FrameFault>
-        ensures answer { FramesAs self.old.max self.old.pending result self.new.pending }
         ensures max { self.new.max ≡ self.old.max }
     {
         let alloc = *self.octets.allocator();
@@ -112,18 +105,9 @@ fn front_frame(alloc: Global, octets: &[u8], max: u32) -> Result<Option<Frame>, 
     let Some((header, size)) = front(octets, max)? else {
         return Ok(None);
     };
-    let text = text_of(alloc, &octets[14..14 + size])?;
+    let mut text = Vec::with_capacity(alloc, size)?;
+    text.extend_from_slice(&octets[14..14 + size])?;
     Ok(Some(Frame { header, text }))
-}
-
-// The octets as a text. An empty one takes no memory.
-fn text_of(alloc: Global, octets: &[u8]) -> Result<Vec<u8>, AllocError>
-    ensures ok { IfOk result (λ text. text.items ≡ octets.now) }
-    ensures err { OnErr result (0 < length octets.now) }
-{
-    let mut text = Vec::with_capacity(alloc, octets.len())?;
-    text.extend_from_slice(octets)?;
-    Ok(text)
 }
 
 /// The header of the message at the front of octets, and how many octets its text has, which lies behind the first

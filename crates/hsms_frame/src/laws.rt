@@ -3,15 +3,12 @@
 
 ghost use Rattle.hsms_frame.specs.Laws.{HeadersAreOctets, MessagesAreOctets, OneMessageAtFront, SomeAnswer, OneAnswer, SomeAnswerToPending, OneAnswerToPending, GivesWhatWasPushed, AnyPiecesGiveTheSame};
 
-/// Each octet of a header or a message, whose numbers are in their ranges, is below 256.
-pub fn all_are_octets()
+/// No message's octets are the beginning of another's, and no octets are those of two messages. Each octet of a header or
+/// a message, whose numbers are in their ranges, is below 256.
+pub fn one_message_at_front()
+    ensures one { OneMessageAtFront }
     ensures headers { HeadersAreOctets }
     ensures messages { MessagesAreOctets }
-{}
-
-/// No message's octets are the beginning of another's, and no octets are those of two messages.
-pub fn one_message_at_front()
-    ensures { OneMessageAtFront }
 {}
 
 /// An input that is read has exactly one answer, unless memory is wanting or a read fails.
@@ -27,12 +24,8 @@ pub fn one_answer_to_pending()
 {}
 
 /// Over any calls of a framer, what was pushed is the octets of the messages that were given, in order, and then what
-/// is pending.
-pub fn messages_are_what_was_pushed()
-    ensures { GivesWhatWasPushed }
-{}
-
-/// However the same octets are cut into pieces, the messages are the same.
+/// is pending. However the same octets are cut into pieces, the messages are the same.
 pub fn any_pieces_give_the_same()
-    ensures { AnyPiecesGiveTheSame }
+    ensures pushed { GivesWhatWasPushed }
+    ensures same { AnyPiecesGiveTheSame }
 {}

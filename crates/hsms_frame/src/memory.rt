@@ -1,8 +1,8 @@
 //! Devices in memory that fail on purpose, for tests.
 
-ghost use Rattle.std.specs.Prelude.{◌≡◌, ◌<◌, ◌≤◌, ◌+◌, ◌-◌, ◌⊎◌, ◌↔◌, [], ◌++◌, Some, drop, take, length, vec_len, min, IsErr, IfOk, OnErr};
+ghost use Rattle.std.specs.Prelude.{◌≡◌, ◌<◌, ◌≤◌, ◌⊎◌, ◌↔◌, [], Some, drop, take, length, min, IsErr, IfOk, OnErr};
 ghost use Rattle.hsms_frame.specs.Device.{Takes, IsAtEnd, Stays, Grows, CountsPull, CountsGive};
-ghost use Rattle.hsms_frame.specs.Memory.{source_of, sink_of};
+ghost use Rattle.hsms_frame.specs.Memory.{feed_of, source_of, sink_of};
 
 use crate::device::{Failed, Sink, Source};
 use crate::leading::copy_front;
@@ -43,15 +43,7 @@ impl Feed {
     /// A source of these octets. `piece` is at least 1.
     pub fn new(octets: Vec<u8>, piece: usize, fuse: u64) -> Feed
         requires { 0 < piece }
-        ensures { result ≡ record {
-          left = octets.items;
-          piece = piece;
-          fuse = fuse;
-          pulls = 0;
-          empty_pulls = 0;
-          ends = 0;
-          failures = 0;
-        } }
+        ensures { result ≡ feed_of octets.items piece fuse }
     {
         Feed {
             octets,
@@ -174,19 +166,8 @@ impl Sink for Store {
         if is_spent || self.place == self.room.len() {
             return Err(self.tally.fail());
         }
-        let count = overwrite(&mut self.room, self.place, from, self.piece);
+        let count = copy_front(from, &mut self.room[self.place..], self.piece);
         self.place += count;
         Ok(count)
     }
-}
-
-// Copies what fits of the front of a slice over the room from a place on, and says how many octets.
-fn overwrite(room: &mut Vec<u8>, place: usize, from: &[u8], piece: usize) -> usize
-    requires { place ≤ vec_len room.old }
-    ensures count { result ≡ min (min (length from.now) (vec_len room.old - place)) piece }
-    ensures len { vec_len room.new ≡ vec_len room.old }
-    ensures written { take (place + result) room.new.items ≡ take place room.old.items ++ take result from.now }
-    ensures behind { drop (place + result) room.new.items ≡ drop result (drop place room.old.items) }
-{
-    copy_front(from, &mut room[place..], piece)
 }

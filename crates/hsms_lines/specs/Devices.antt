@@ -22,12 +22,6 @@ HasWord word (Device given) = given.now ≡ word
 HasWord word (Refused _) = Unit {0}
 HasWord word Memory = Unit {0}
 
--- a read failed
-abbrev pub IsRead : ToolFault → Type 0
-IsRead (Device word) = word.now ≡ codes "Read"
-IsRead (Refused _) = ⊥
-IsRead Memory = ⊥
-
 -- a fault of the input: a read failed, or there is more than the command takes
 abbrev pub IsReading : ToolFault → Type 0
 IsReading (Device word) = (word.now ≡ codes "Read") ⊎ (word.now ≡ codes "Endless")

@@ -18,4 +18,4 @@ mod verdict;
 
 pub use line::give_line;
 pub use outlet::{lay_hex_line, lay_line, put, put_out};
-pub use verdict::{name as rule_name, verdict_line};
+pub use verdict::verdict_line;

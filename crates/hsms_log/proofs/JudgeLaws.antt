@@ -1,8 +1,8 @@
 -- How what the judge knows grows with a line.
-use Rattle.std.proofs.Common.{◌≡◌, ◌+◌, ◌++◌, ℕ, List, [], ◌∷◌, length, Bool, Some, None, refl, sym, ap, ◌∙◌, subst, arith, append_assoc, length-append, zero-add}
+use Rattle.std.proofs.Common.{◌≡◌, ◌+◌, ◌++◌, ℕ, List, [], ◌∷◌, length, Bool, Some, None, Ok, Err, refl, sym, ap, ◌∙◌, subst, arith, append_assoc, length-append, zero-add}
 use Rattle.std.proofs.lemmas.List.{append-nil}
 use Rattle.std.proofs.lemmas.List.Sums.{sum_by-append}
-use Rattle.std.specs.Prelude.{Option, option_to_list, count_by, if◌then◌else◌, MatchOption}
+use Rattle.std.specs.Prelude.{Option, Result, IfOk, option_to_list, count_by, if◌then◌else◌, MatchOption}
 use Rattle.hsms_machine.specs.declared.entry.Entry.{Entry}
 use Rattle.hsms_machine.specs.declared.rule.Rule.{Rule}
 use Rattle.hsms_machine.specs.Settings.{Parameters}
@@ -10,7 +10,7 @@ use Rattle.hsms_machine.specs.Transaction.{SentData}
 use Rattle.hsms_machine.specs.Run.{Broken as IsFirstBroken}
 use Rattle.hsms_machine.specs.declared.view.View.{View}
 use Rattle.hsms_machine.specs.View.{open_of, waiting_of, HasView, ForEachRun}
-use Rattle.hsms_log.specs.declared.session.Session.{Session}
+use Rattle.hsms_log.specs.declared.judging.Session.{Session}
 use Rattle.hsms_log.specs.declared.verdict.Why.{Why}
 use Rattle.hsms_log.specs.declared.verdict.Why.TheVariants.{Unreadable, Broken}
 use Rattle.hsms_log.specs.Counters.{Counters}
@@ -18,7 +18,7 @@ use Rattle.hsms_log.specs.Spelling.{SpellsSettings, Carries}
 use Rattle.hsms_log.specs.Log.{CarryLog, SpellLog}
 use Rattle.hsms_log.specs.Verdict.{FailsAfter, LineFails, is_sent, is_taken, is_discarded, is_expired}
 use Rattle.hsms_log.specs.declared.judging.Judge.{Judge}
-use Rattle.hsms_log.specs.Judging.{Counts, Tracks, Follows, counted}
+use Rattle.hsms_log.specs.Judging.{Counts, Tracks, Follows, IsJudged, counted}
 
 pub carry_more : (max : ℕ) (lines : List (List ℕ)) (log : List Entry) (line : List ℕ) (carried : Option Entry) → CarryLog max lines log → Carries max line carried
     → CarryLog max (lines ++ line ∷ []) (log ++ option_to_list carried)
@@ -115,6 +115,30 @@ first_follows judge session tally before line none spelled has tally_is follows 
     let tracks : Tracks session tally (line ∷ []) = ([], (spelled, refl), has, counted.1) in
     let S : List (List ℕ) → Type 0 = λ lines. Tracks session tally lines in
     record { number = counted.0; state = subst S (ap (λ l. l ++ line ∷ []) (sym state.0)) tracks }
+
+-- a judge that has read the settings tracks the lines that it follows
+tracked : (judge : Judge) (session : Session) (before : List (List ℕ)) → judge.session ≡ Some session → Follows judge before → Tracks session judge.tally before
+tracked judge session before some follows =
+    let P : Option Session → Type 0 = λ o. MatchOption o ((before ≡ []) × Counts judge.tally []) (λ s. Tracks s judge.tally before) in
+    subst P some follows.state
+
+-- so it has judged the line that they were told
+pub judged_follows : {E : Type 0} (r : Result (Option Why) E) (old new : Judge) (session later : Session) (line : List ℕ)
+    → old.session ≡ Some session → new.session ≡ Some later
+    → IfOk r (IsJudged old.tally.lines new.tally.lines (Tracks session old.tally) (Tracks later new.tally) line)
+    → IfOk r (IsJudged old.tally.lines new.tally.lines (Follows old) (Follows new) line)
+judged_follows (Ok None) old new session later line some some' judged =
+    let P : Option Session → List (List ℕ) → Type 0 = λ o lines. MatchOption o ((lines ≡ []) × Counts new.tally []) (λ s. Tracks s new.tally lines) in (
+      judged.0,
+      λ before follows.
+          let size : length (before ++ line ∷ []) ≡ length before + 1 = length-append before (line ∷ []) in
+          let lines : new.tally.lines ≡ old.tally.lines + 1 = judged.0 in
+          let number = follows.number in
+          let Q : Option Session → Type 0 = λ o. P o (before ++ line ∷ []) in
+          record { number = omega (arith, size, number, lines); state = subst Q (sym some') (judged.1 before (tracked old session before some follows)) },
+    )
+judged_follows (Ok (Some why)) old new session later line some some' judged = (judged.0, λ before follows. judged.1 before (tracked old session before some follows))
+judged_follows (Err e) old new session later line some some' judged = tt
 
 -- how many sent primaries are open, as the tracker tells it
 pub waiting_is : (s : Parameters) (log : List Entry) (view : View) → HasView s log view → waiting_of view ≡ length (open_of SentData log)

@@ -10,14 +10,15 @@ use Rattle.std.proofs.Math.Seq.{take-append-add, take-suc}
 use Rattle.hsms_frame.specs.Frame.{Frame}
 use Rattle.hsms_frame.specs.Header.{header_octets}
 use Rattle.hsms_log.specs.Spelling.{message_octets}
-use Rattle.hsms_frame.specs.Device.{Grows, GrowsByFront}
+use Rattle.hsms_frame.specs.Count.{count_failure, next_count}
+use Rattle.hsms_frame.specs.Device.{Grows, GrowsByFront, SinkState}
 use Rattle.hsms_machine.specs.declared.settings.Role.{Role}
 use Rattle.hsms_machine.specs.declared.settings.Role.TheVariants.{Host, Equipment}
 use Rattle.hsms_machine.specs.declared.settings.Side.{Side}
 use Rattle.hsms_machine.specs.declared.settings.Side.TheVariants.{Active, Passive}
 use Rattle.hsms_machine.specs.Settings.{Parameters}
 use Rattle.hsms_log.specs.Spelling.{settings_line, role_word, link_word}
-use Rattle.hsms_log.specs.Writing.{Puts, spaced, version_text, words_of, opening_of, numbers_of}
+use Rattle.hsms_log.specs.Writing.{HasFailed, HasWritten, Puts, Writes, spaced, version_text, words_of, opening_of, numbers_of}
 
 pub grows_then : (old mid new : Option (List ℕ)) (a b : List ℕ) → Grows old mid a → Grows mid new b → Grows old new (a ++ b)
 grows_then old mid new a b h k octets told = k (octets ++ a) (h octets told) ∙ ap Some (append_assoc octets a b)
@@ -37,13 +38,22 @@ front_of_second old mid new a b h k octets told =
       x.2 ∙ ap Some (append_assoc octets a (take x.0 b)) ∙ ap (λ l. Some (octets ++ l)) (sym (take-append-add a b x.0)),
     )
 
--- a last part, whose answer is the answer
-pub puts_then : {F : Type 0} (r : Result (Unit {0}) F) (old mid new : Option (List ℕ)) (a b : List ℕ) → Grows old mid a → Puts r mid new b → Puts r old new (a ++ b)
-puts_then (Ok _) old mid new a b h k = grows_then old mid new a b h k
-puts_then (Err _) old mid new a b h k = front_of_second old mid new a b h k
+pub written_none : (old : SinkState) → HasWritten old old []
+written_none old = (λ octets told. told ∙ ap Some (sym (append-nil octets)), refl)
 
-pub grows_none : (old : Option (List ℕ)) → Grows old old []
-grows_none old octets told = told ∙ ap Some (sym (append-nil octets))
+pub written_then : (old mid new : SinkState) (a b : List ℕ) → HasWritten old mid a → HasWritten mid new b → HasWritten old new (a ++ b)
+written_then old mid new a b h k = (grows_then old.written mid.written new.written a b h.0 k.0, k.1 ∙ h.1)
+
+pub failed_first : (old mid : SinkState) (a b : List ℕ) → HasFailed old mid a → HasFailed old mid (a ++ b)
+failed_first old mid a b h = (front_of_first old.written mid.written a b h.0, h.1)
+
+pub failed_second : (old mid new : SinkState) (a b : List ℕ) → HasWritten old mid a → HasFailed mid new b → HasFailed old new (a ++ b)
+failed_second old mid new a b h k = (front_of_second old.written mid.written new.written a b h.0 k.0, k.1 ∙ ap next_count h.1)
+
+-- a last part, whose answer is the answer
+pub writes_then : {F : Type 0} (r : Result (Unit {0}) F) (old mid new : SinkState) (a b : List ℕ) → HasWritten old mid a → Writes r mid new b → Writes r old new (a ++ b)
+writes_then (Ok _) old mid new a b h k = written_then old mid new a b h k
+writes_then (Err _) old mid new a b h k = failed_second old mid new a b h k
 
 -- digits of octets that are joined
 pub encode-append : (a b : List ℕ) → encode_lower (a ++ b) ≡ encode_lower a ++ encode_lower b
@@ -52,14 +62,14 @@ encode-append [] b = refl
 encode-append (x ∷ a) b = ap (λ l. slice_index lower_digits (x / 16) ∷ slice_index lower_digits (x % 16) ∷ l) (encode-append a b)
 
 -- the same octets under another name
-pub front_along : (old new : Option (List ℕ)) (a b : List ℕ) → a ≡ b → GrowsByFront old new a → GrowsByFront old new b
-front_along old new a b e h = let P : List ℕ → Type 0 = λ l. GrowsByFront old new l in subst P e h
+pub failed_along : (old new : SinkState) (a b : List ℕ) → a ≡ b → HasFailed old new a → HasFailed old new b
+failed_along old new a b e h = let P : List ℕ → Type 0 = λ l. HasFailed old new l in subst P e h
 
-pub grows_along : (old new : Option (List ℕ)) (a b : List ℕ) → a ≡ b → Grows old new a → Grows old new b
-grows_along old new a b e h = let P : List ℕ → Type 0 = λ l. Grows old new l in subst P e h
+pub written_along : (old new : SinkState) (a b : List ℕ) → a ≡ b → HasWritten old new a → HasWritten old new b
+written_along old new a b e h = let P : List ℕ → Type 0 = λ l. HasWritten old new l in subst P e h
 
-pub puts_along : {F : Type 0} (r : Result (Unit {0}) F) (old new : Option (List ℕ)) (a b : List ℕ) → a ≡ b → Puts r old new a → Puts r old new b
-puts_along r old new a b e h = let P : List ℕ → Type 0 = λ l. Puts r old new l in subst P e h
+pub writes_along : {F : Type 0} (r : Result (Unit {0}) F) (old new : SinkState) (a b : List ℕ) → a ≡ b → Writes r old new a → Writes r old new b
+writes_along r old new a b e h = let P : List ℕ → Type 0 = λ l. Writes r old new l in subst P e h
 
 pub encode-nil : encode_lower [] ≡ []
 unfolding encode_with
@@ -73,8 +83,17 @@ empty_is [] h = refl
 empty_is (x ∷ l) h = absurd (omega arith)
 
 -- the exit of a part that failed
-pub puts_err : {F : Type 0} (r : Result (Unit {0}) F) (e : F) (old new : Option (List ℕ)) (octets : List ℕ) → r ≡ Err e → GrowsByFront old new octets → Puts r old new octets
-puts_err {F} r e old new octets is h = let P : Result (Unit {0}) F → Type 0 = λ x. Puts x old new octets in subst P (sym is) h
+pub writes_err : {F : Type 0} (r : Result (Unit {0}) F) (e : F) (old new : SinkState) (octets : List ℕ) → r ≡ Err e → HasFailed old new octets → Writes r old new octets
+writes_err {F} r e old new octets is h = let P : Result (Unit {0}) F → Type 0 = λ x. Writes x old new octets in subst P (sym is) h
+
+-- what was written, and the failures, each by itself
+pub writes_puts : {F : Type 0} (r : Result (Unit {0}) F) (old new : SinkState) (octets : List ℕ) → Writes r old new octets → Puts r old.written new.written octets
+writes_puts (Ok _) old new octets h = h.0
+writes_puts (Err _) old new octets h = h.0
+
+pub writes_failures : {F : Type 0} (r : Result (Unit {0}) F) (old new : SinkState) (octets : List ℕ) → Writes r old new octets → new.failures ≡ count_failure r old.failures
+writes_failures (Ok _) old new octets h = h.1
+writes_failures (Err _) old new octets h = h.1
 
 -- the digits of a message are those of its header and of its text
 pub message_digits : (frame : Frame) (front text : List ℕ) → front ≡ header_octets frame.header → text ≡ frame.text
@@ -135,3 +154,7 @@ line_parts s =
 pub words_are : (s : Parameters) (role : Role) (link : Side) → s.role ≡ role → s.link ≡ link → 32 ∷ (role_word role ++ 32 ∷ link_word link) ≡ words_of s
 words_are s role link p q =
     ap (λ r. 32 ∷ (role_word r ++ 32 ∷ link_word link)) (sym p) ∙ ap (λ l. 32 ∷ (role_word s.role ++ 32 ∷ link_word l)) (sym q)
+
+-- a text that was added to twice
+pub added_twice : (old mid new a b : List ℕ) → mid ≡ old ++ a → new ≡ mid ++ b → new ≡ old ++ (a ++ b)
+added_twice old mid new a b h k = k ∙ ap (λ l. l ++ b) h ∙ append_assoc old a b

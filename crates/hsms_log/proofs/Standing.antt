@@ -1,10 +1,10 @@
 -- What the reader of a text in pieces knows.
-use Rattle.std.proofs.Common.{◌≡◌, ◌+◌, ◌++◌, inl, inr, ℕ, List, [], ◌∷◌, length, eqb, false, Some, None, Ok, Err, sym, ap, ◌∙◌, subst, arith, append_assoc}
-use Rattle.std.specs.Prelude.{Option, Result, MatchOption, IfOk, IfSome}
+use Rattle.std.proofs.Common.{◌≡◌, ◌+◌, ◌++◌, ◌==◌, Bool, inl, inr, ℕ, List, [], ◌∷◌, length, eqb, false, Some, None, Ok, Err, refl, sym, ap, ◌∙◌, subst, arith, append_assoc}
+use Rattle.std.specs.Prelude.{Option, Result, MatchOption, IfOk}
 use Rattle.std.specs.Str.Lines.{strip_carriage_return}
 use Rattle.std.proofs.lemmas.List.{append-nil}
 use Rattle.std.proofs.lemmas.List.Elements.{All-nil, All-append}
-use Rattle.hsms_log.specs.declared.session.Session.{Session}
+use Rattle.hsms_log.specs.declared.judging.Session.{Session}
 use Rattle.hsms_log.specs.declared.judging.Judge.{Judge}
 use Rattle.hsms_log.specs.declared.verdict.Why.{Why}
 use Rattle.hsms_log.specs.declared.verdict.Why.TheVariants.{Unreadable}
@@ -13,8 +13,8 @@ use Rattle.hsms_log.specs.declared.verdict.Verdict.TheVariants.{Pass, Fail}
 use Rattle.hsms_log.specs.Counters.{Counters}
 use Rattle.hsms_log.specs.Lines.{HasNone, IsOverlong, ended_lines, open_line, last_lines}
 use Rattle.hsms_log.specs.Verdict.{FailsAfter, LinesJudged, Judges, OverlongAfter, FailsOnward, Fails}
-use Rattle.hsms_log.specs.Judging.{Follows, Counts, Tracks, limit_after}
-use Rattle.hsms_log.specs.LineReader.{Reading, Stands, FailsAs}
+use Rattle.hsms_log.specs.Judging.{Follows, Counts, IsJudged, Tracks, limit_after}
+use Rattle.hsms_log.specs.LineReader.{Reading, Stands, EndsLine, FailsAs}
 use Rattle.hsms_log.proofs.LineLemmas.{ended_lines-first, ended_lines-none, open_line-first, open_line-none}
 use Rattle.hsms_log.proofs.GrowingTexts.{ended_lines-append, open_line-append, HasNone-open_line, FailsSoFar-onward}
 
@@ -112,14 +112,20 @@ line_fails old start text part line why none start_is line_is fails stands =
     FailsSoFar-onward (text ++ (part ++ 10 ∷ [])) (old.judge.tally.lines + 1) why
     (inl (ended_lines text, line, [], all, ap (λ k. k + 1) stands.lines.number, fails (ended_lines text) (subst S (sym start_is) stands.lines)))
 
--- the same of the answer of the line's judge
-pub answer_fails : {E : Type 0} (r : Result (Option Why) E) (old : Reading) (start : Judge) (part line : List ℕ) → HasNone 10 part → start ≡ old.judge
-    → line ≡ strip_carriage_return (old.held ++ part)
-    → IfOk r (λ answer. IfSome answer (λ why. (before : List (List ℕ)) → Follows start before → FailsAfter before line why))
-    → IfOk r (λ answer. IfSome answer (λ why. (text : List ℕ) → Stands old text → FailsOnward (text ++ (part ++ 10 ∷ [])) (old.judge.tally.lines + 1) why))
-answer_fails (Ok (Some why)) old start part line none start_is line_is fails = λ text. line_fails old start text part line why none start_is line_is fails
-answer_fails (Ok None) old start part line none start_is line_is fails = tt
-answer_fails (Err e) old start part line none start_is line_is fails = tt
+-- the line that ends was judged
+pub line_ended : {E : Type 0} (r : Result (Option Why) E) (old new : Reading) (start : Judge) (part line : List ℕ) → HasNone 10 part → new.held ≡ []
+    → start ≡ old.judge → line ≡ strip_carriage_return (old.held ++ part)
+    → IfOk r (IsJudged start.tally.lines new.judge.tally.lines (Follows start) (Follows new.judge) line)
+    → IfOk r (EndsLine old new part)
+line_ended (Ok None) old new start part line none held_is start_is line_is judged = (
+  judged.0 ∙ ap (λ (j : Judge). j.tally.lines + 1) start_is,
+  λ text. line_stands old new start text part line none held_is start_is line_is judged.1,
+)
+line_ended (Ok (Some why)) old new start part line none held_is start_is line_is judged = (
+  judged.0 ∙ ap (λ (j : Judge). j.tally.lines) start_is,
+  λ text. line_fails old start text part line why none start_is line_is judged.1,
+)
+line_ended (Err e) old new start part line none held_is start_is line_is judged = tt
 
 overlong_after : (session : Option Session) (tally : Counters) (lines : List (List ℕ)) (part : List ℕ)
     → MatchOption session ((lines ≡ []) × Counts tally []) (λ s. Tracks s tally lines) → IsOverlong (limit_after session) part → OverlongAfter lines part
@@ -158,6 +164,39 @@ pub last_judged : (reader : Reading) (text : List ℕ) (verdict : Verdict)
 last_judged reader text verdict judged stands =
     let P : List ℕ → Type 0 = λ o. LinesJudged (ended_lines text ++ last_lines o) verdict in
     subst P stands.held (judged (ended_lines text) stands.lines)
+
+-- nothing follows the last line feed
+pub last_none : (reader : Reading) (start : Judge) (verdict : Verdict) → start ≡ reader.judge → reader.held ≡ []
+    → ((lines : List (List ℕ)) → Follows start lines → LinesJudged lines verdict)
+    → (text : List ℕ) → Stands reader text → Judges text verdict
+last_none reader start verdict start_is none judged text =
+    last_judged reader text verdict (λ before follows.
+    let P : List ℕ → Type 0 = λ o. LinesJudged (before ++ last_lines o) verdict in
+    let Q : List (List ℕ) → Type 0 = λ l. LinesJudged l verdict in
+    let S : Judge → Type 0 = λ j. Follows j before in
+    subst P (sym none) (subst Q (sym (append-nil before)) (judged before (subst S (sym start_is) follows))))
+
+-- a vector that isn't empty has octets
+pub some_held : (xs : List ℕ) (n : ℕ) (b : Bool) → n ≡ length xs → b ≡ (n == 0) → b ≡ false → xs ≡ [] → ⊥
+some_held xs n b is test none empty =
+    let zero_is : n ≡ 0 = is ∙ ap length empty in
+    let bad : false ≡ (0 == 0) = sym none ∙ test ∙ ap (λ (k : ℕ). k == 0) zero_is in cc
+
+last_some : (held : List ℕ) → (held ≡ [] → ⊥) → strip_carriage_return held ∷ [] ≡ last_lines held
+last_some [] some = absurd (some refl)
+last_some (octet ∷ octets) some = refl
+
+-- what follows it is a line, which doesn't fail
+pub last_follows : (reader : Reading) (start later : Judge) (line : List ℕ) (verdict : Verdict) → start ≡ reader.judge → (reader.held ≡ [] → ⊥)
+    → line ≡ strip_carriage_return reader.held → ((before : List (List ℕ)) → Follows start before → Follows later (before ++ line ∷ []))
+    → ((lines : List (List ℕ)) → Follows later lines → LinesJudged lines verdict)
+    → (text : List ℕ) → Stands reader text → Judges text verdict
+last_follows reader start later line verdict start_is some line_is follows judged text =
+    last_judged reader text verdict (λ before stands.
+    let P : List (List ℕ) → Type 0 = λ l. LinesJudged (before ++ l) verdict in
+    let S : Judge → Type 0 = λ j. Follows j before in
+    let last : line ∷ [] ≡ last_lines reader.held = ap (λ l. l ∷ []) line_is ∙ last_some reader.held some in
+    subst P last (judged (before ++ line ∷ []) (follows before (subst S (sym start_is) stands))))
 
 -- a failure of each text that begins with this one is one of this text
 pub judged_onward : (text : List ℕ) (verdict : Verdict) → FailsAs text verdict → Judges text verdict

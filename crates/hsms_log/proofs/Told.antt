@@ -1,6 +1,6 @@
 -- What is told to an audit in place of its line.
-use Rattle.std.proofs.Common.{◌≡◌, ◌≤◌, ◌<◌, ◌+◌, ◌*◌, ◌^◌, ◌++◌, ℕ, List, [], ◌∷◌, length, refl, sym, ap, ◌∙◌, Ok, Err, Some, None, subst, arith, length-append}
-use Rattle.std.specs.Prelude.{Option, Result, IfOk, IfSome, MatchOption, codes, decimal}
+use Rattle.std.proofs.Common.{◌≡◌, ◌≤◌, ◌<◌, ◌+◌, ◌*◌, ◌^◌, ◌++◌, ℕ, List, [], ◌∷◌, length, refl, sym, ap, ◌∙◌, Some, None, subst, arith, length-append}
+use Rattle.std.specs.Prelude.{Option, MatchOption, codes, decimal}
 use Rattle.std.specs.Str.Lines.{strip_carriage_return}
 use Rattle.std.proofs.lemmas.Fmt.{length-decimal-le}
 use Rattle.hex.specs.Hex.{encode_lower}
@@ -10,7 +10,7 @@ use Rattle.hsms_machine.specs.declared.entry.Entry.{Entry}
 use Rattle.hsms_machine.specs.declared.entry.Event.{Event}
 use Rattle.hsms_machine.specs.declared.entry.Event.TheVariants.{Up, Sent, Taken, Discarded, T3, Cut, Down}
 use Rattle.hsms_machine.specs.declared.entry.Cause.TheVariants.{T6, T7, T8, Length}
-use Rattle.hsms_log.specs.declared.session.Session.{Session}
+use Rattle.hsms_log.specs.declared.judging.Session.{Session}
 use Rattle.hsms_log.specs.declared.judging.Judge.{Judge}
 use Rattle.hsms_log.specs.declared.verdict.Verdict.{Verdict}
 use Rattle.hsms_log.specs.declared.verdict.Verdict.TheVariants.{Fail}
@@ -70,22 +70,6 @@ entry_short max entry time sized =
 -- such a line carries the entry
 pub entry_carried : (max : ℕ) (entry : Entry) → IsEntry entry → message_size entry.event ≤ max → Carries max (entry_line entry) (Some entry)
 entry_carried max entry fits sized = (entry_short max entry fits.time sized, entry_written entry fits)
-
--- a judge that has read the settings tracks the lines that it follows
-pub tracked : (judge : Judge) (session : Session) (before : List (List ℕ)) → judge.session ≡ Some session → Follows judge before → Tracks session judge.tally before
-tracked judge session before some follows =
-    let P : Option Session → Type 0 = λ o. MatchOption o ((before ≡ []) × Counts judge.tally []) (λ s. Tracks s judge.tally before) in
-    subst P some follows.state
-
--- what an entry fails by, where it is judged by a line that carries it
-pub line_answered : {E : Type 0} (r : Result (Option Why) E) (judge : Judge) (session : Session) (entry : Entry) (line : List ℕ)
-    → judge.session ≡ Some session → Carries session.settings.max line (Some entry)
-    → IfOk r (λ answer. IfSome answer (λ why. (other : List ℕ) → Carries session.settings.max other (Some entry)
-    → (before : List (List ℕ)) → Tracks session judge.tally before → FailsAfter before other why))
-    → IfOk r (λ answer. IfSome answer (λ why. (before : List (List ℕ)) → Follows judge before → FailsAfter before line why))
-line_answered (Ok (Some why)) judge session entry line some carries fails = λ before follows. fails line carries before (tracked judge session before some follows)
-line_answered (Ok None) judge session entry line some carries fails = tt
-line_answered (Err e) judge session entry line some carries fails = tt
 
 -- a comment carries nothing
 pub comment_carried : (max : ℕ) (line : List ℕ) → 256 ≤ max → IsComment line → Carries max line None

@@ -1,15 +1,16 @@
 -- What the judge of a log knows between two lines.
-use Rattle.std.specs.Prelude.{◌≡◌, ◌+◌, ◌≤◌, if◌then◌else◌, ℕ, List, [], length, count_by, Option, Some, None, MatchOption}
+use Rattle.std.specs.Prelude.{◌≡◌, ◌+◌, ◌++◌, ◌≤◌, if◌then◌else◌, ℕ, List, [], ◌∷◌, length, count_by, Option, Some, None, MatchOption}
 use Rattle.hsms_machine.specs.declared.entry.Entry.{Entry}
 use Rattle.hsms_machine.specs.declared.entry.Event.{Event}
-use Rattle.hsms_machine.specs.declared.entry.Event.TheVariants.{Up, Sent, Taken, Discarded, T3, Cut, Down}
+use Rattle.hsms_machine.specs.declared.entry.Event.TheVariants.{Sent, Taken, Discarded}
 use Rattle.hsms_machine.specs.View.{HasView}
-use Rattle.hsms_log.specs.declared.session.Session.{Session}
+use Rattle.hsms_log.specs.declared.judging.Session.{Session}
 use Rattle.hsms_log.specs.declared.judging.Judge.{Judge}
+use Rattle.hsms_log.specs.declared.verdict.Why.{Why}
 use Rattle.hsms_log.specs.Spelling.{settings_limit, line_limit}
 use Rattle.hsms_log.specs.Log.{SpellLog}
 use Rattle.hsms_log.specs.Counters.{Counters}
-use Rattle.hsms_log.specs.Verdict.{is_sent, is_taken, is_discarded, is_expired}
+use Rattle.hsms_log.specs.Verdict.{FailsAfter, is_sent, is_taken, is_discarded, is_expired}
 
 -- the numbers of entries by kind
 pub record Counts (tally : Counters) (log : List Entry) : Type 0 where
@@ -35,6 +36,14 @@ abbrev pub Tracks : Session → Counters → List (List ℕ) → Type 0
 Tracks session tally lines =
     (log : List Entry) × SpellLog lines session.settings log × HasView session.settings log session.tracker × Counts tally log
 
+-- What judging a line left, by what it answered: that the line doesn't fail, and then what was known after the lines
+-- before it is known after it, and it is counted; or why it fails after them, and it isn't.
+abbrev pub IsJudged : (old new : ℕ) → (Before After : List (List ℕ) → Type 0) → List ℕ → Option Why → Type 0
+IsJudged old new Before After line None =
+    (new ≡ old + 1) × ((before : List (List ℕ)) → Before before → After (before ++ line ∷ []))
+IsJudged old new Before After line (Some why) =
+    (new ≡ old) × ((before : List (List ℕ)) → Before before → FailsAfter before line why)
+
 -- the judge stands after these lines, which don't fail
 pub record Follows (judge : Judge) (lines : List (List ℕ)) : Type 0 where
   pub number : judge.tally.lines ≡ length lines
@@ -47,13 +56,10 @@ limit_after (Some session) = line_limit session.settings.max
 
 -- how many octets have header and text of the message of an event
 abbrev pub message_size : Event → ℕ
-message_size Up = 0
 message_size (Sent frame) = 10 + length frame.text
 message_size (Taken frame) = 10 + length frame.text
 message_size (Discarded frame) = 10 + length frame.text
-message_size (T3 system) = 0
-message_size (Cut cause) = 0
-message_size Down = 0
+message_size _ = 0
 
 -- the settings were read, and they allow the message of an entry
 abbrev pub Allows : Option Session → Entry → Type 0

@@ -1,6 +1,7 @@
 -- What is known of a text that is read in pieces.
-use Rattle.std.specs.Prelude.{◌≡◌, ℕ, List}
+use Rattle.std.specs.Prelude.{◌≡◌, ◌+◌, ◌++◌, ℕ, List, [], ◌∷◌, Option, Some, None}
 use Rattle.hsms_log.specs.declared.judging.Judge.{Judge}
+use Rattle.hsms_log.specs.declared.verdict.Why.{Why}
 use Rattle.hsms_log.specs.declared.verdict.Verdict.{Verdict}
 use Rattle.hsms_log.specs.declared.verdict.Verdict.TheVariants.{Pass, Fail}
 use Rattle.hsms_log.specs.Lines.{ended_lines, open_line, IsOverlong}
@@ -17,6 +18,16 @@ pub record Stands (reader : Reading) (text : List ℕ) : Type 0 where
   pub lines : Follows reader.judge (ended_lines text)
   pub held : reader.held ≡ open_line text
   pub goes_on : IsOverlong (limit_after reader.judge.session) reader.held → ⊥
+
+-- What judging the line that ends with this part left, by what was answered: that it doesn't fail, and then the reader
+-- stands after it, and it is counted; or why each text that goes on with it fails there, and it isn't.
+abbrev pub EndsLine : (old new : Reading) → List ℕ → Option Why → Type 0
+EndsLine old new part None =
+    (new.judge.tally.lines ≡ old.judge.tally.lines + 1)
+    × ((text : List ℕ) → Stands old text → Stands new (text ++ (part ++ 10 ∷ [])))
+EndsLine old new part (Some why) =
+    (new.judge.tally.lines ≡ old.judge.tally.lines)
+    × ((text : List ℕ) → Stands old text → FailsOnward (text ++ (part ++ 10 ∷ [])) (old.judge.tally.lines + 1) why)
 
 -- the verdict is a failure of each text that begins with this one
 abbrev pub FailsAs : List ℕ → Verdict → Type 0

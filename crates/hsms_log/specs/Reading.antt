@@ -1,5 +1,5 @@
 -- What reading a line answers, as functions on lists.
-use Rattle.std.specs.Prelude.{◌==◌, ◌^◌, ◌&&◌, not, ℕ, Bool, List, [], ◌∷◌, Option, Some, None, length, take, drop, slice_index, nat_lt, codes, if◌then◌else◌}
+use Rattle.std.specs.Prelude.{◌≡◌, ◌≤◌, ◌==◌, ◌^◌, ◌&&◌, not, ℕ, Bool, true, List, [], ◌∷◌, Option, Some, None, length, take, drop, slice_index, nat_lt, codes, if◌then◌else◌}
 use Rattle.std.specs.Str.{bytes_eq}
 use Rattle.std.specs.List.{list_all}
 use Rattle.std.specs.Char.{is_ascii_digit}
@@ -28,6 +28,13 @@ is_decimal word = list_all is_ascii_digit word && (nat_lt 0 (length word) && not
 unfoldable pub number_of : List ℕ → Option ℕ
 number_of word =
     if is_decimal word && nat_lt (digits_value 10 word) (2 ^ 64) then Some (digits_value 10 word) else None
+
+-- the digits at the front of a text, at most nineteen: the number that they spell, and how many they are
+pub record IsFrontNumber (text : List ℕ) (answer : ℕ × ℕ) : Type 0 where
+  pub few : answer.1 ≤ 19
+  pub within : answer.1 ≤ length text
+  pub digits : list_all is_ascii_digit (take answer.1 text) ≡ true
+  pub value : answer.0 ≡ digits_value 10 (take answer.1 text)
 
 -- the text before the first space, and the text after it
 abbrev pub word_at : List ℕ → Option (List ℕ × List ℕ)

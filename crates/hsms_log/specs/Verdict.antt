@@ -1,5 +1,5 @@
 -- When a text passes, and where and why it fails (this project's own, over the runs of hsms_machine).
-use Rattle.std.specs.Prelude.{◌≡◌, ◌+◌, ◌++◌, ◌⊎◌, ℕ, Bool, true, false, List, [], ◌∷◌, Option, Some, length, count_by}
+use Rattle.std.specs.Prelude.{◌≡◌, ◌+◌, ◌++◌, ◌⊎◌, ℕ, Bool, true, false, List, [], ◌∷◌, Option, Some, length, count_by, codes, decimal}
 use Rattle.hsms_machine.specs.declared.entry.Entry.{Entry}
 use Rattle.hsms_machine.specs.declared.entry.Event.{Event}
 use Rattle.hsms_machine.specs.declared.entry.Event.TheVariants.{Sent, Taken, Discarded, T3}
@@ -42,6 +42,17 @@ summary_of log = record {
   expired = count_by (λ entry. is_expired entry.event) log;
   waiting = length (open_of SentData log);
 }
+
+-- a count by its name, and what stands before and behind the name
+abbrev pub count_text : List ℕ → List ℕ → List ℕ → ℕ → List ℕ
+count_text before name behind count = before ++ name ++ behind ++ decimal count
+
+-- each count of a summary
+abbrev pub counts_text : List ℕ → List ℕ → Summary → List ℕ
+counts_text before behind s =
+    count_text before (codes "entries") behind s.entries ++ (count_text before (codes "sent") behind s.sent
+    ++ (count_text before (codes "taken") behind s.taken ++ (count_text before (codes "discarded") behind s.discarded
+    ++ (count_text before (codes "expired") behind s.expired ++ count_text before (codes "waiting") behind s.waiting))))
 
 -- the lines spell the settings and a run
 pub record SpellRun (lines : List (List ℕ)) (s : Parameters) (log : List Entry) : Type 0 where

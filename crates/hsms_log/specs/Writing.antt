@@ -1,6 +1,7 @@
 -- What a call that writes these octets leaves.
-use Rattle.std.specs.Prelude.{◌++◌, ℕ, List, [], ◌∷◌, Option, Result, Ok, Err, codes, decimal}
-use Rattle.hsms_frame.specs.Device.{Grows, GrowsByFront}
+use Rattle.std.specs.Prelude.{◌≡◌, ◌++◌, ℕ, List, [], ◌∷◌, Option, Result, Ok, Err, codes, decimal}
+use Rattle.hsms_frame.specs.Count.{next_count}
+use Rattle.hsms_frame.specs.Device.{Grows, GrowsByFront, SinkState}
 use Rattle.hsms_machine.specs.Settings.{Parameters}
 use Rattle.hsms_log.specs.Spelling.{role_word, link_word}
 
@@ -8,6 +9,19 @@ use Rattle.hsms_log.specs.Spelling.{role_word, link_word}
 abbrev pub Puts : {F : Type 0} → Result (Unit {0}) F → Option (List ℕ) → Option (List ℕ) → List ℕ → Type 0
 Puts (Ok _) old new octets = Grows old new octets
 Puts (Err _) old new octets = GrowsByFront old new octets
+
+-- all of the octets were written, and nothing failed
+abbrev pub HasWritten : SinkState → SinkState → List ℕ → Type 0
+HasWritten old new octets = Grows old.written new.written octets × (new.failures ≡ old.failures)
+
+-- a part of them from their front was written, and then the sink failed
+abbrev pub HasFailed : SinkState → SinkState → List ℕ → Type 0
+HasFailed old new octets = GrowsByFront old.written new.written octets × (new.failures ≡ next_count old.failures)
+
+-- for private contracts: the one or the other, by the answer
+abbrev pub Writes : {F : Type 0} → Result (Unit {0}) F → SinkState → SinkState → List ℕ → Type 0
+Writes (Ok _) old new octets = HasWritten old new octets
+Writes (Err _) old new octets = HasFailed old new octets
 
 -- a decimal number behind a space
 abbrev pub spaced : ℕ → List ℕ

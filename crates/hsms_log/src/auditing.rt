@@ -70,15 +70,6 @@ pub fn audit_within<R: Source>(
         (HasEnded (R.state source.old).ends (R.state source.new).ends)) }
     ensures counts { CountsAudit reads result (R.state source.old) (R.state source.new) }
 {
-    audit_blocks(alloc, source, reads)
-}
-
-// Reads block by block, and judges each line as soon as it has ended or is too long.
-fn audit_blocks<R: Source>(alloc: Global, source: &mut R, reads: u32) -> Result<Verdict, AuditFault>
-    ensures answer { WhereTold (R.state source.old).left (λ input. AuditsAs input result (R.state source.new).left
-        (HasEnded (R.state source.old).ends (R.state source.new).ends)) }
-    ensures counts { CountsAudit reads result (R.state source.old) (R.state source.new) }
-{
     front_of_run_is_run();
     each_entry_has_one_answer();
     let mut reader = LineReader::new(alloc);

@@ -1,14 +1,13 @@
 //! Judging a line that is not the first.
 
-ghost use Rattle.std.specs.Prelude.{◌≡◌, ◌+◌, ◌-◌, ◌<◌, ◌≤◌, ◌^◌, ◌++◌, [], ◌∷◌, List, ℕ, Some, None, Ok, IfOk, IfSome, IsSome, length};
-ghost use Rattle.hsms_log.specs.Verdict.{FailsAfter};
+ghost use Rattle.std.specs.Prelude.{◌-◌, ◌<◌, ◌≤◌, ◌^◌, List, ℕ, Some, IfOk, length};
 ghost use Rattle.hsms_machine.specs.Entry.{frame_entry};
 ghost use Rattle.hsms_log.specs.Spelling.{Carries, IsBlank, line_limit};
 ghost use Rattle.hsms_log.specs.Carried.{SpellsNoFrame};
-ghost use Rattle.hsms_log.specs.Judging.{Tracks};
+ghost use Rattle.hsms_log.specs.Judging.{IsJudged, Tracks};
 
+use crate::judging::Session;
 use crate::reading::{FrameLine, entry_of, frame_at_front, is_blank, read_plain_line};
-use crate::session::Session;
 use crate::tally::Tally;
 use crate::verdict::Why;
 use hsms_frame::HEADER_LENGTH;
@@ -24,10 +23,7 @@ pub fn judge_entry_line(
     line: &[u8],
 ) -> Result<Option<Why>, AllocError>
     requires { tally.old.lines < 2 ^ 64 - 1 }
-    ensures follows { result ≡ Ok None → (before : List (List ℕ)) → Tracks session.old tally.old before → Tracks session.new tally.new (before ++ line.now ∷ []) }
-    ensures same { IfOk result (λ answer. IsSome answer → tally.new.lines ≡ tally.old.lines) }
-    ensures number { result ≡ Ok None → tally.new.lines ≡ tally.old.lines + 1 }
-    ensures fails { IfOk result (λ answer. IfSome answer (λ why. (before : List (List ℕ)) → Tracks session.old tally.old before → FailsAfter before line.now why)) }
+    ensures { IfOk result (IsJudged tally.old.lines tally.new.lines (Tracks session.old tally.old) (Tracks session.new tally.new) line.now) }
 {
     let max = session.settings.max();
     if line.len() > 2 * max as usize + 64 {
@@ -54,12 +50,8 @@ fn frame_line(
     text: &[u8],
 ) -> Result<Option<Why>, AllocError>
     requires { tally.old.lines < 2 ^ 64 - 1 }
-    ensures follows { result ≡ Ok None → (line : List ℕ) → Carries session.old.settings.max line (Some (frame_entry frame.time frame.mark frame.header text.now))
-        → (before : List (List ℕ)) → Tracks session.old tally.old before → Tracks session.new tally.new (before ++ line ∷ []) }
-    ensures same { IfOk result (λ answer. IsSome answer → tally.new.lines ≡ tally.old.lines) }
-    ensures number { result ≡ Ok None → tally.new.lines ≡ tally.old.lines + 1 }
-    ensures fails { IfOk result (λ answer. IfSome answer (λ why. (line : List ℕ) → Carries session.old.settings.max line (Some (frame_entry frame.time frame.mark frame.header text.now))
-        → (before : List (List ℕ)) → Tracks session.old tally.old before → FailsAfter before line why)) }
+    ensures { (line : List ℕ) → Carries session.old.settings.max line (Some (frame_entry frame.time frame.mark frame.header text.now))
+        → IfOk result (IsJudged tally.old.lines tally.new.lines (Tracks session.old tally.old) (Tracks session.new tally.new) line) }
 {
     let FrameLine { time, mark, header } = frame;
     let entry = EntryRef::of_frame(time, mark, header, text);
@@ -82,10 +74,7 @@ fn other_line(
     requires fits { length line.now ≤ line_limit session.old.settings.max }
     requires entry { IsBlank line.now → ⊥ }
     requires other { SpellsNoFrame line.now }
-    ensures follows { result ≡ Ok None → (before : List (List ℕ)) → Tracks session.old tally.old before → Tracks session.new tally.new (before ++ line.now ∷ []) }
-    ensures same { IfOk result (λ answer. IsSome answer → tally.new.lines ≡ tally.old.lines) }
-    ensures number { result ≡ Ok None → tally.new.lines ≡ tally.old.lines + 1 }
-    ensures fails { IfOk result (λ answer. IfSome answer (λ why. (before : List (List ℕ)) → Tracks session.old tally.old before → FailsAfter before line.now why)) }
+    ensures { IfOk result (IsJudged tally.old.lines tally.new.lines (Tracks session.old tally.old) (Tracks session.new tally.new) line.now) }
 {
     match read_plain_line(line) {
         Some(step) => carried_entry(session, tally, &entry_of(step, Vec::new(alloc))),
@@ -100,12 +89,8 @@ pub fn carried_entry(
     entry: &Entry,
 ) -> Result<Option<Why>, AllocError>
     requires { tally.old.lines < 2 ^ 64 - 1 }
-    ensures follows { result ≡ Ok None → (line : List ℕ) → Carries session.old.settings.max line (Some entry.now)
-        → (before : List (List ℕ)) → Tracks session.old tally.old before → Tracks session.new tally.new (before ++ line ∷ []) }
-    ensures same { IfOk result (λ answer. IsSome answer → tally.new.lines ≡ tally.old.lines) }
-    ensures number { result ≡ Ok None → tally.new.lines ≡ tally.old.lines + 1 }
-    ensures fails { IfOk result (λ answer. IfSome answer (λ why. (line : List ℕ) → Carries session.old.settings.max line (Some entry.now)
-        → (before : List (List ℕ)) → Tracks session.old tally.old before → FailsAfter before line why)) }
+    ensures { (line : List ℕ) → Carries session.old.settings.max line (Some entry.now)
+        → IfOk result (IsJudged tally.old.lines tally.new.lines (Tracks session.old tally.old) (Tracks session.new tally.new) line) }
 {
     if let Some(rule) = session.tracker.step(entry)? {
         return Ok(Some(Why::Broken(rule)));

@@ -3,15 +3,21 @@ ghost use Rattle.hsms_log.specs.Judging.{message_size};
 
 use crate::entry_line::{carried_entry, judge_entry_line};
 use crate::range::{entry_is_in_range, settings_are_in_range};
-use crate::session::Session;
 use crate::settings_line::read_settings;
 use crate::tally::Tally;
 use crate::verdict::{Verdict, Why};
-use hsms_machine::{Entry, Event, Tracker};
+use hsms_machine::{Entry, Event, Settings, Tracker};
 use std::alloc::{AllocError, Global};
 
 /// How many octets the line of the settings has at most, without its end.
 const SETTINGS_LIMIT: usize = 256;
+
+/// The settings of a log, and the judge of its entries.
+#[derive(Drop)]
+pub struct Session {
+    pub settings: Settings,
+    pub tracker: Tracker,
+}
 
 /// What is known of a log between two lines, and memory for the octets of a frame, used again from line to line.
 #[derive(Drop)]
@@ -22,9 +28,9 @@ pub struct Judge {
 }
 
 impl Judge {
-    ghost use Rattle.std.specs.Prelude.{◌≡◌, ◌↔◌, ◌+◌, ◌-◌, ◌<◌, ◌^◌, ◌++◌, [], ◌∷◌, List, ℕ, None, Ok, IfOk, IfSome, IsSome, IsTrue};
-    ghost use Rattle.hsms_log.specs.Verdict.{FailsAfter, LinesJudged};
-    ghost use Rattle.hsms_log.specs.Judging.{Allows, Follows, limit_after};
+    ghost use Rattle.std.specs.Prelude.{◌≡◌, ◌↔◌, ◌+◌, ◌-◌, ◌<◌, ◌^◌, ◌++◌, [], ◌∷◌, List, ℕ, None, IfOk, IsSome, IsTrue};
+    ghost use Rattle.hsms_log.specs.Verdict.{LinesJudged};
+    ghost use Rattle.hsms_log.specs.Judging.{Allows, Follows, IsJudged, limit_after};
     ghost use Rattle.hsms_log.specs.Spelling.{IsComment, entry_line};
 
     pub fn new(alloc: Global) -> Judge
@@ -40,10 +46,7 @@ impl Judge {
     /// Judges the next line, and says why it fails.
     pub fn line(&mut self, alloc: Global, line: &[u8]) -> Result<Option<Why>, AllocError>
         requires { self.old.tally.lines < 2 ^ 64 - 1 }
-        ensures follows { result ≡ Ok None → (before : List (List ℕ)) → Follows self.old before → Follows self.new (before ++ line.now ∷ []) }
-        ensures number { result ≡ Ok None → self.new.tally.lines ≡ self.old.tally.lines + 1 }
-        ensures same { IfOk result (λ answer. IsSome answer → self.new.tally.lines ≡ self.old.tally.lines) }
-        ensures fails { IfOk result (λ answer. IfSome answer (λ why. (before : List (List ℕ)) → Follows self.old before → FailsAfter before line.now why)) }
+        ensures { IfOk result (IsJudged self.old.tally.lines self.new.tally.lines (Follows self.old) (Follows self.new) line.now) }
     {
         match &mut self.session {
             None => Ok(self.first_line(alloc, line)),
@@ -57,10 +60,7 @@ impl Judge {
     pub fn entry(&mut self, entry: &Entry) -> Result<Option<Why>, AllocError>
         requires room { self.old.tally.lines < 2 ^ 64 - 1 }
         requires allowed { Allows self.old.session entry.now }
-        ensures follows { result ≡ Ok None → (before : List (List ℕ)) → Follows self.old before → Follows self.new (before ++ entry_line entry.now ∷ []) }
-        ensures number { result ≡ Ok None → self.new.tally.lines ≡ self.old.tally.lines + 1 }
-        ensures same { IfOk result (λ answer. IsSome answer → self.new.tally.lines ≡ self.old.tally.lines) }
-        ensures fails { IfOk result (λ answer. IfSome answer (λ why. (before : List (List ℕ)) → Follows self.old before → FailsAfter before (entry_line entry.now) why)) }
+        ensures { IfOk result (IsJudged self.old.tally.lines self.new.tally.lines (Follows self.old) (Follows self.new) (entry_line entry.now)) }
     {
         match &mut self.session {
             None => Ok(Some(Why::Unreadable)),
@@ -99,10 +99,7 @@ impl Judge {
     fn first_line(&mut self, alloc: Global, line: &[u8]) -> Option<Why>
         requires first { self.old.session ≡ None }
         requires room { self.old.tally.lines < 2 ^ 64 - 1 }
-        ensures follows { result ≡ None → (before : List (List ℕ)) → Follows self.old before → Follows self.new (before ++ line.now ∷ []) }
-        ensures number { result ≡ None → self.new.tally.lines ≡ self.old.tally.lines + 1 }
-        ensures same { IsSome result → self.new.tally.lines ≡ self.old.tally.lines }
-        ensures fails { IfSome result (λ why. (before : List (List ℕ)) → Follows self.old before → FailsAfter before line.now why) }
+        ensures { IsJudged self.old.tally.lines self.new.tally.lines (Follows self.old) (Follows self.new) line.now result }
     {
         let Some(settings) = read_settings(line) else {
             return Some(Why::Unreadable);
@@ -153,6 +150,6 @@ fn size_of(event: &Event) -> u64
 {
     match event {
         Event::Sent(frame) | Event::Taken(frame) | Event::Discarded(frame) => frame.length(),
-        Event::Up | Event::T3(_) | Event::Cut(_) | Event::Down => 0,
+        _ => 0,
     }
 }

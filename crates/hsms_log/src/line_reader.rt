@@ -1,12 +1,10 @@
 //! A text that is read in pieces, and judged line by line.
 
-ghost use Rattle.std.specs.Prelude.{◌-◌, ◌<◌, ◌^◌, ◌++◌, List, ℕ, IfOk};
-ghost use Rattle.hsms_log.specs.Lines.{last_lines};
-ghost use Rattle.hsms_log.specs.Verdict.{LinesJudged, Judges as IsVerdictOn};
-ghost use Rattle.hsms_log.specs.Judging.{Follows};
+ghost use Rattle.std.specs.Prelude.{IfOk};
+ghost use Rattle.hsms_log.specs.Verdict.{Judges as IsVerdictOn};
 
 use crate::judging::Judge;
-use crate::line::{is_overlong, split_at_first, without_carriage_return};
+use crate::line::{split_at_first, without_carriage_return};
 use crate::range::entry_is_in_range;
 use crate::verdict::{Verdict, Why};
 use hsms_machine::Entry;
@@ -44,9 +42,9 @@ impl Model for LineReader {
 impl LineReader {
     ghost use Rattle.std.specs.Prelude.{◌≡◌, ◌↔◌, ◌+◌, ◌-◌, ◌<◌, ◌≤◌, ◌^◌, ◌++◌, [], ◌∷◌, List, ℕ, None, Ok, IfOk, IfSome, IsSome, IsTrue, length};
     ghost use Rattle.hsms_log.specs.Lines.{HasNone, IsOverlong};
-    ghost use Rattle.hsms_log.specs.Verdict.{Judges, FailsOnward};
+    ghost use Rattle.hsms_log.specs.Verdict.{Judges};
     ghost use Rattle.hsms_log.specs.Judging.{Allows, limit_after};
-    ghost use Rattle.hsms_log.specs.LineReader.{Stands, FailsAs, IsFailure};
+    ghost use Rattle.hsms_log.specs.LineReader.{Stands, EndsLine, FailsAs, IsFailure};
     ghost use Rattle.hsms_log.specs.Spelling.{IsComment, entry_line};
 
     /// The reader of a text of which nothing was read.
@@ -128,11 +126,7 @@ impl LineReader {
     fn end_line(&mut self, alloc: Global, part: &[u8]) -> Result<Option<Why>, AllocError>
         requires room { self.old.judge.tally.lines < 2 ^ 64 - 1 }
         requires part { HasNone 10 part.now }
-        ensures stands { result ≡ Ok None → (text : List ℕ) → Stands self.old text → Stands self.new (text ++ (part.now ++ 10 ∷ [])) }
-        ensures number { result ≡ Ok None → self.new.judge.tally.lines ≡ self.old.judge.tally.lines + 1 }
-        ensures same { IfOk result (λ answer. IsSome answer → self.new.judge.tally.lines ≡ self.old.judge.tally.lines) }
-        ensures fails { IfOk result (λ answer. IfSome answer (λ why. (text : List ℕ) → Stands self.old text
-            → FailsOnward (text ++ (part.now ++ 10 ∷ [])) (self.old.judge.tally.lines + 1) why)) }
+        ensures { IfOk result (EndsLine self.old self.new part.now) }
     {
         if self.held.is_empty() {
             return self.judge.line(alloc, without_carriage_return(part));
@@ -158,7 +152,7 @@ impl LineReader {
             return Ok(Some(Why::Unreadable));
         }
         self.held.extend_from_slice(part)?;
-        if is_overlong(&self.held, limit) {
+        if self.held.len() == limit + 1 && self.held[limit] != b'\r' {
             return Ok(Some(Why::Unreadable));
         }
         Ok(None)
@@ -170,22 +164,14 @@ impl LineReader {
         ensures { IfOk result (λ verdict. (text : List ℕ) → Stands self text → Judges text verdict) }
     {
         let LineReader { mut judge, held } = self;
-        judge_last(alloc, &mut judge, &held)
+        if held.is_empty() {
+            return Ok(judge.verdict());
+        }
+        if let Some(why) = judge.line(alloc, without_carriage_return(&held))? {
+            return Ok(judge.failure(why));
+        }
+        Ok(judge.verdict())
     }
-}
-
-/// Judges what follows the last line feed, at the end of the text.
-fn judge_last(alloc: Global, judge: &mut Judge, rest: &[u8]) -> Result<Verdict, AllocError>
-    requires { judge.old.tally.lines < 2 ^ 64 - 1 }
-    ensures { IfOk result (λ verdict. (before : List (List ℕ)) → Follows judge.old before → LinesJudged (before ++ last_lines rest.now) verdict) }
-{
-    if rest.is_empty() {
-        return Ok(judge.verdict());
-    }
-    if let Some(why) = judge.line(alloc, without_carriage_return(rest))? {
-        return Ok(judge.failure(why));
-    }
-    Ok(judge.verdict())
 }
 
 /// The verdict on the text of a log, which is held whole.

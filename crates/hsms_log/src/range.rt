@@ -27,39 +27,27 @@ fn event_is_in_range(event: &Event)
         Event::T3(system) => {
             let _system = *system;
         }
-        Event::Up | Event::Cut(_) | Event::Down => {}
+        _ => {}
     }
 }
 
 fn message_is_in_range(frame: &Frame)
     ensures { IsMessage frame.now }
 {
-    header_is_in_range(frame.header);
-    octets_are_in_range(frame.text.as_slice());
+    parts_are_in_range(frame.header, frame.text.as_slice());
 }
 
-fn header_is_in_range(header: Header)
-    ensures { IsHeader header }
+fn parts_are_in_range(header: Header, text: &[u8])
+    ensures header { IsHeader header }
+    ensures text { IsOctets text.now }
 {
     let _header = header;
-}
-
-fn octets_are_in_range(octets: &[u8])
-    ensures { IsOctets octets.now }
-{
-    let _count = octets.len();
+    let _count = text.len();
 }
 
 /// All settings that a program holds are within their limits.
 pub fn settings_are_in_range(settings: &Settings)
     ensures { IsWithinLimits settings.now }
 {
-    let _version = settings.version();
-    let _device = settings.device();
-    let _t3 = settings.t3();
-    let _t6 = settings.t6();
-    let _t7 = settings.t7();
-    let _t8 = settings.t8();
-    let _max = settings.max();
-    let _depth = settings.depth();
+    settings.are_within_limits();
 }

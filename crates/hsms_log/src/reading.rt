@@ -1,6 +1,6 @@
 //! What a line that is not the first carries.
 
-ghost use Rattle.std.specs.Prelude.{◌≡◌, ◌≢◌, ◌↔◌, ◌<◌, ◌≤◌, ◌/◌, ◌%◌, ◌^◌, ◌++◌, ◌∷◌, [], true, false, ℕ, List, Option, None, Ok, IsTrue, IfOk, IfErr, IfNone, IfSome, OnErr, OnOk, length, vec_len, take, drop, codes};
+ghost use Rattle.std.specs.Prelude.{◌≡◌, ◌↔◌, ◌<◌, ◌≤◌, ◌/◌, ◌%◌, ◌^◌, ◌++◌, ◌∷◌, [], true, false, ℕ, List, Option, None, Ok, IsTrue, IfOk, IfErr, IfNone, IfSome, OnErr, OnOk, length, vec_len, take, drop};
 ghost use Rattle.hsms_frame.specs.Frame.{Frame as Message};
 ghost use Rattle.hsms_machine.specs.declared.entry.Event.{Event as Happening};
 ghost use Rattle.hsms_machine.specs.declared.entry.Entry.{Entry as LogEntry};
@@ -13,7 +13,7 @@ ghost use Rattle.hsms_log.specs.FrameLine.{IsSpelled, mark_word};
 
 use crate::digits::decode;
 use crate::fault::LineFault;
-use crate::number::{after_prefix, number_at};
+use crate::number::number_at;
 use crate::step::{Step, What};
 use hsms_frame::{Frame, HEADER_LENGTH, Header, drop_front};
 use hsms_machine::{Cause, Entry, Event, Mark};
@@ -215,19 +215,8 @@ fn read_plain_event(text: &[u8]) -> Option<What>
     ensures found { IfSome result (λ what. IsEvent (event_of what []) × SpellsEvent text.now (event_of what [])) }
     ensures none { IfNone result ((event : Happening) → IsEvent event → SpellsEvent text.now event → HasFrame event) }
 {
-    if let Some(digits) = after_prefix(text, b"t3 ") {
-        return Some(What::T3(read_system(digits)?));
-    }
-    event_of_words(text)
-}
-
-/// Reads an event that is words alone.
-fn event_of_words(text: &[u8]) -> Option<What>
-    ensures found { IfSome result (λ what. IsEvent (event_of what []) × SpellsEvent text.now (event_of what [])) }
-    ensures none { IfNone result ((text.now ≢ codes "up") × (text.now ≢ codes "down") × (text.now ≢ codes "cut t6")
-        × (text.now ≢ codes "cut t7") × (text.now ≢ codes "cut t8") × (text.now ≢ codes "cut length")) }
-{
     match text {
+        [b't', b'3', b' ', digits @ ..] => Some(What::T3(read_system(digits)?)),
         b"up" => Some(What::Up),
         b"down" => Some(What::Down),
         b"cut t6" => Some(What::Cut(Cause::T6)),

@@ -8,11 +8,7 @@ use std::marker::Model;
 #[derive(Default, Drop)]
 pub struct Tally {
     lines: u64,
-    entries: u64,
-    sent: u64,
-    taken: u64,
-    discarded: u64,
-    expired: u64,
+    counts: Summary,
 }
 
 impl Model for Tally {
@@ -20,9 +16,9 @@ impl Model for Tally {
 
     ghost Value = { Counters };
 
-    ghost view = { λ t. record { lines = t.lines; entries = t.entries; sent = t.sent; taken = t.taken; discarded = t.discarded; expired = t.expired } };
+    ghost view = { λ t. record { lines = t.lines; entries = t.counts.entries; sent = t.counts.sent; taken = t.counts.taken; discarded = t.counts.discarded; expired = t.counts.expired } };
 
-    ghost invariant = { λ t. IsBounded (record { lines = t.lines; entries = t.entries; sent = t.sent; taken = t.taken; discarded = t.discarded; expired = t.expired }) };
+    ghost invariant = { λ t. IsBounded (record { lines = t.lines; entries = t.counts.entries; sent = t.counts.sent; taken = t.counts.taken; discarded = t.counts.discarded; expired = t.counts.expired }) };
 }
 
 impl Tally {
@@ -45,13 +41,13 @@ impl Tally {
         ensures { self.new ≡ counted self.old entry.now }
     {
         self.lines += 1;
-        self.entries += 1;
+        self.counts.entries += 1;
         match &entry.event {
-            Event::Sent(_) => self.sent += 1,
-            Event::Taken(_) => self.taken += 1,
-            Event::Discarded(_) => self.discarded += 1,
-            Event::T3(_) => self.expired += 1,
-            Event::Up | Event::Cut(_) | Event::Down => {}
+            Event::Sent(_) => self.counts.sent += 1,
+            Event::Taken(_) => self.counts.taken += 1,
+            Event::Discarded(_) => self.counts.discarded += 1,
+            Event::T3(_) => self.counts.expired += 1,
+            _ => {}
         }
     }
 
@@ -61,11 +57,11 @@ impl Tally {
         ensures { (time : ℕ) (header : Header) (text : List ℕ) → self.new ≡ counted self.old (frame_entry time mark header text) }
     {
         self.lines += 1;
-        self.entries += 1;
+        self.counts.entries += 1;
         match mark {
-            Mark::Sent => self.sent += 1,
-            Mark::Taken => self.taken += 1,
-            Mark::Discarded => self.discarded += 1,
+            Mark::Sent => self.counts.sent += 1,
+            Mark::Taken => self.counts.taken += 1,
+            Mark::Discarded => self.counts.discarded += 1,
         }
     }
 
@@ -81,12 +77,8 @@ impl Tally {
         ensures { result ≡ record { entries = self.now.entries; sent = self.now.sent; taken = self.now.taken; discarded = self.now.discarded; expired = self.now.expired; waiting = waiting } }
     {
         Summary {
-            entries: self.entries,
-            sent: self.sent,
-            taken: self.taken,
-            discarded: self.discarded,
-            expired: self.expired,
             waiting,
+            ..self.counts
         }
     }
 }

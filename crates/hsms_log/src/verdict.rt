@@ -1,9 +1,10 @@
 //! What an audit answers.
 
 use hsms_machine::Rule;
+use std::alloc::AllocError;
 
 /// What a log that passes holds: how many entries, and how many of them are of which kind.
-#[derive(Clone, Copy, Debug, PartialEq, Eq)]
+#[derive(Clone, Copy, Debug, Default, PartialEq, Eq)]
 pub struct Summary {
     /// All entries.
     pub entries: u64,
@@ -17,6 +18,41 @@ pub struct Summary {
     pub expired: u64,
     /// Sent primaries with the W bit that are open at the end of the log.
     pub waiting: u64,
+}
+
+impl Summary {
+    ghost use Rattle.std.specs.Prelude.{◌≡◌, ◌++◌, OnOk, string_bytes};
+    ghost use Rattle.hsms_log.specs.Verdict.{count_text, counts_text};
+
+    /// Adds each count to a text: what stands before its name, the name, what stands behind it, and the number.
+    pub fn push_counts(
+        &self,
+        text: &mut String,
+        before: &str,
+        behind: &str,
+    ) -> Result<(), AllocError>
+        ensures { OnOk result (string_bytes text.new ≡ string_bytes text.old ++ counts_text before.now behind.now self.now) }
+    {
+        Self::push_count(text, before, "entries", behind, self.entries)?;
+        Self::push_count(text, before, "sent", behind, self.sent)?;
+        Self::push_count(text, before, "taken", behind, self.taken)?;
+        Self::push_count(text, before, "discarded", behind, self.discarded)?;
+        Self::push_count(text, before, "expired", behind, self.expired)?;
+        Self::push_count(text, before, "waiting", behind, self.waiting)?;
+        Ok(())
+    }
+
+    fn push_count(
+        text: &mut String,
+        before: &str,
+        name: &str,
+        behind: &str,
+        count: u64,
+    ) -> Result<(), AllocError>
+        ensures { OnOk result (string_bytes text.new ≡ string_bytes text.old ++ count_text before.now name.now behind.now count) }
+    {
+        write!(text, "{before}{name}{behind}{count}")
+    }
 }
 
 /// Why a line fails.

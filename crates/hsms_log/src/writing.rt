@@ -4,8 +4,8 @@ ghost use Rattle.std.specs.Prelude.{◌≡◌, ◌<◌, ◌++◌, [], ◌∷◌,
 ghost use Rattle.std.specs.List.{flat_map};
 ghost use Rattle.hex.specs.Hex.{encode_lower};
 ghost use Rattle.hsms_frame.specs.Count.{count_failure};
-ghost use Rattle.hsms_log.specs.Writing.{Puts, words_of, opening_of, numbers_of, spaced};
-ghost use Rattle.hsms_log.specs.Spelling.{SpellsSettings, SpellsEntry, entry_line, settings_line, event_text, message_octets, system_octets};
+ghost use Rattle.hsms_log.specs.Writing.{Puts, Writes, words_of, opening_of, numbers_of, spaced};
+ghost use Rattle.hsms_log.specs.Spelling.{SpellsSettings, SpellsEntry, entry_line, settings_line, event_text, message_octets, cause_word as cause_word_of};
 
 use crate::fault::LogFault;
 use crate::hexadecimal::{digits_of_few, digits_of_sixteen};
@@ -28,27 +28,25 @@ pub fn write_entry<W: Sink>(sink: &mut W, entry: &Entry) -> Result<(), LogFault>
 
 /// Writes a space, the event and the end of the line.
 fn put_event<W: Sink>(sink: &mut W, event: &Event) -> Result<(), LogFault>
-    ensures written { Puts result (W.state sink.old).written (W.state sink.new).written (32 ∷ (event_text event.now ++ 10 ∷ [])) }
-    ensures failures { (W.state sink.new).failures ≡ count_failure result (W.state sink.old).failures }
+    ensures { Writes result (W.state sink.old) (W.state sink.new) (32 ∷ (event_text event.now ++ 10 ∷ [])) }
 {
     match event {
         Event::Up => put(sink, b" up\n"),
         Event::Sent(frame) => put_message(sink, b" > ", frame),
         Event::Taken(frame) => put_message(sink, b" < ", frame),
         Event::Discarded(frame) => put_message(sink, b" ! ", frame),
-        Event::T3(system) => put_system(sink, *system),
-        Event::Cut(Cause::T6) => put(sink, b" cut t6\n"),
-        Event::Cut(Cause::T7) => put(sink, b" cut t7\n"),
-        Event::Cut(Cause::T8) => put(sink, b" cut t8\n"),
-        Event::Cut(Cause::Length) => put(sink, b" cut length\n"),
+        Event::T3(system) => {
+            let digits = digits_of_few(system.to_be_bytes().as_slice());
+            put_word(sink, b" t3 ", &digits[..8])
+        }
+        Event::Cut(cause) => put_word(sink, b" cut ", cause_word(*cause).as_bytes()),
         Event::Down => put(sink, b" down\n"),
     }
 }
 
 /// Writes a mark, a message's header and text, and the end of the line.
 fn put_message<W: Sink>(sink: &mut W, mark: &[u8], frame: &Frame) -> Result<(), LogFault>
-    ensures written { Puts result (W.state sink.old).written (W.state sink.new).written (mark.now ++ (encode_lower (message_octets frame.now) ++ 10 ∷ [])) }
-    ensures failures { (W.state sink.new).failures ≡ count_failure result (W.state sink.old).failures }
+    ensures { Writes result (W.state sink.old) (W.state sink.new) (mark.now ++ (encode_lower (message_octets frame.now) ++ 10 ∷ [])) }
 {
     put(sink, mark)?;
     put_hex(sink, frame.header.octets().as_slice())?;
@@ -56,19 +54,30 @@ fn put_message<W: Sink>(sink: &mut W, mark: &[u8], frame: &Frame) -> Result<(), 
     put(sink, b"\n")
 }
 
-fn put_system<W: Sink>(sink: &mut W, system: u32) -> Result<(), LogFault>
-    ensures written { Puts result (W.state sink.old).written (W.state sink.new).written (32 ∷ 116 ∷ 51 ∷ 32 ∷ (encode_lower (system_octets system) ++ 10 ∷ [])) }
-    ensures failures { (W.state sink.new).failures ≡ count_failure result (W.state sink.old).failures }
+/// Writes a word behind another, and the end of the line.
+fn put_word<W: Sink>(sink: &mut W, front: &[u8], word: &[u8]) -> Result<(), LogFault>
+    ensures { Writes result (W.state sink.old) (W.state sink.new) (front.now ++ (word.now ++ 10 ∷ [])) }
 {
-    put(sink, b" t3 ")?;
-    put_hex(sink, system.to_be_bytes().as_slice())?;
+    put(sink, front)?;
+    put(sink, word)?;
     put(sink, b"\n")
+}
+
+/// The word of a cause, as in a log.
+pub fn cause_word(cause: Cause) -> &'static str
+    ensures { result.now ≡ cause_word_of cause }
+{
+    match cause {
+        Cause::T6 => "t6",
+        Cause::T7 => "t7",
+        Cause::T8 => "t8",
+        Cause::Length => "length",
+    }
 }
 
 /// Writes octets as hexadecimal digits in lower case, sixteen octets at once.
 fn put_hex<W: Sink>(sink: &mut W, octets: &[u8]) -> Result<(), LogFault>
-    ensures written { Puts result (W.state sink.old).written (W.state sink.new).written (encode_lower octets.now) }
-    ensures failures { (W.state sink.new).failures ≡ count_failure result (W.state sink.old).failures }
+    ensures { Writes result (W.state sink.old) (W.state sink.new) (encode_lower octets.now) }
 {
     let mut rest = octets;
     while let Some((front, others)) = rest.split_first_chunk::<16>() {
@@ -79,16 +88,14 @@ fn put_hex<W: Sink>(sink: &mut W, octets: &[u8]) -> Result<(), LogFault>
 }
 
 fn put_number<W: Sink>(sink: &mut W, number: u64) -> Result<(), LogFault>
-    ensures written { Puts result (W.state sink.old).written (W.state sink.new).written (decimal number) }
-    ensures failures { (W.state sink.new).failures ≡ count_failure result (W.state sink.old).failures }
+    ensures { Writes result (W.state sink.old) (W.state sink.new) (decimal number) }
 {
     let mut buffer = Buffer::new();
     put(sink, buffer.format(number).as_bytes())
 }
 
 fn put<W: Sink>(sink: &mut W, octets: &[u8]) -> Result<(), LogFault>
-    ensures written { Puts result (W.state sink.old).written (W.state sink.new).written octets.now }
-    ensures failures { (W.state sink.new).failures ≡ count_failure result (W.state sink.old).failures }
+    ensures { Writes result (W.state sink.old) (W.state sink.new) octets.now }
 {
     give_all(sink, octets)?;
     Ok(())
@@ -109,8 +116,7 @@ pub fn write_settings<W: Sink>(sink: &mut W, settings: &Settings) -> Result<(), 
 
 /// Writes the words before the numbers.
 fn put_opening<W: Sink>(sink: &mut W, settings: &Settings) -> Result<(), LogFault>
-    ensures written { Puts result (W.state sink.old).written (W.state sink.new).written (opening_of settings.now) }
-    ensures failures { (W.state sink.new).failures ≡ count_failure result (W.state sink.old).failures }
+    ensures { Writes result (W.state sink.old) (W.state sink.new) (opening_of settings.now) }
 {
     put(sink, b"hsms-log")?;
     put_spaced(sink, u64::from(settings.version()))?;
@@ -145,8 +151,7 @@ fn numbers(settings: &Settings) -> [u64; 7]
 
 /// Writes numbers, each behind a space, and the end of the line.
 fn put_numbers<W: Sink>(sink: &mut W, numbers: &[u64]) -> Result<(), LogFault>
-    ensures written { Puts result (W.state sink.old).written (W.state sink.new).written (flat_map spaced numbers.now ++ 10 ∷ []) }
-    ensures failures { (W.state sink.new).failures ≡ count_failure result (W.state sink.old).failures }
+    ensures { Writes result (W.state sink.old) (W.state sink.new) (flat_map spaced numbers.now ++ 10 ∷ []) }
 {
     for number in numbers {
         put_spaced(sink, *number)?;
@@ -156,8 +161,7 @@ fn put_numbers<W: Sink>(sink: &mut W, numbers: &[u64]) -> Result<(), LogFault>
 
 /// Writes a number behind a space.
 fn put_spaced<W: Sink>(sink: &mut W, number: u64) -> Result<(), LogFault>
-    ensures written { Puts result (W.state sink.old).written (W.state sink.new).written (spaced number) }
-    ensures failures { (W.state sink.new).failures ≡ count_failure result (W.state sink.old).failures }
+    ensures { Writes result (W.state sink.old) (W.state sink.new) (spaced number) }
 {
     put(sink, b" ")?;
     put_number(sink, number)

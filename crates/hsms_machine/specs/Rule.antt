@@ -1,6 +1,6 @@
 -- The rules of a session log, each stated once over the facts before an entry (this project's profile of SEMI E37 and
 -- E37.1; an item as in SEMI E5).
-use Rattle.std.specs.Prelude.{◌≡◌, ◌+◌, ◌<◌, ◌==◌, Bool, true, false, ◌⊎◌, ℕ, List, [], ◌∷◌, ◌++◌, Option, Some, None, length, IsTrue}
+use Rattle.std.specs.Prelude.{◌≡◌, ◌+◌, ◌<◌, ◌==◌, Bool, true, false, ◌⊎◌, ℕ, List, [], ◌∷◌, ◌++◌, Option, Some, None, length, codes, IsTrue}
 use Rattle.secs_item.specs.Spelling.{IsText}
 use Rattle.hsms_frame.specs.Header.{kind_of}
 use Rattle.hsms_frame.specs.declared.header.Header.{Header}
@@ -22,6 +22,50 @@ use Rattle.hsms_machine.specs.Message.{is_data, is_control, is_response, is_requ
 use Rattle.hsms_machine.specs.Transaction.{answers, SentData, SentControl, TakenData, TakenControl}
 use Rattle.hsms_machine.specs.Session.{Facts}
 use Rattle.hsms_machine.specs.Timer.{IsT3Overdue, IsT6Overdue, IsT7Overdue, IsNotDue}
+
+-- the name of a rule
+abbrev pub rule_name : Rule → List ℕ
+rule_name Backwards = codes "Backwards"
+rule_name NotUp = codes "NotUp"
+rule_name Ended = codes "Ended"
+rule_name T3Overdue = codes "T3Overdue"
+rule_name LinkOverdue = codes "LinkOverdue"
+rule_name NotDue = codes "NotDue"
+rule_name TooLong = codes "TooLong"
+rule_name PType = codes "PType"
+rule_name SType = codes "SType"
+rule_name ControlText = codes "ControlText"
+rule_name Session = codes "Session"
+rule_name Direction = codes "Direction"
+rule_name NotSelected = codes "NotSelected"
+rule_name WBit = codes "WBit"
+rule_name Text = codes "Text"
+rule_name SystemInUse = codes "SystemInUse"
+rule_name NoTransaction = codes "NoTransaction"
+rule_name SelectStatus = codes "SelectStatus"
+rule_name NoCause = codes "NoCause"
+
+-- the place of a rule in the order in which they are tried, from 0
+abbrev pub rule_number : Rule → ℕ
+rule_number Backwards = 0
+rule_number NotUp = 1
+rule_number Ended = 2
+rule_number T3Overdue = 3
+rule_number LinkOverdue = 4
+rule_number NotDue = 5
+rule_number TooLong = 6
+rule_number PType = 7
+rule_number SType = 8
+rule_number ControlText = 9
+rule_number Session = 10
+rule_number Direction = 11
+rule_number NotSelected = 12
+rule_number WBit = 13
+rule_number Text = 14
+rule_number SystemInUse = 15
+rule_number NoTransaction = 16
+rule_number SelectStatus = 17
+rule_number NoCause = 18
 
 -- ---- order
 

@@ -87,6 +87,15 @@ pool_after pool opened entry =
     filter (λ transaction. not (is_closed_by pool entry.event transaction)) opened
     ++ option_to_list (opened_as pool entry)
 
+-- the view with what is open after an entry, and all else as before
+abbrev pub pools_after : View → Entry → View
+pools_after view entry = record view {
+  sent_data = pool_after SentData view.sent_data entry;
+  sent_control = pool_after SentControl view.sent_control entry;
+  taken_data = pool_after TakenData view.taken_data entry;
+  taken_control = pool_after TakenControl view.taken_control entry;
+}
+
 -- the view after a lawful entry
 abbrev pub view_after : View → Entry → View
 view_after view entry = record {

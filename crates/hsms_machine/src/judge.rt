@@ -18,7 +18,7 @@ impl View {
     ghost use Rattle.hsms_machine.specs.declared.rule.Rule.{Rule};
     ghost use Rattle.secs_item.specs.Spelling.{IsText};
     ghost use Rattle.hsms_machine.specs.Message.{is_request, is_response as is_response_message};
-    ghost use Rattle.hsms_machine.specs.Timer.{IsTimed, IsT6Overdue, IsT7Overdue, IsNotDue, IsCutNotDue};
+    ghost use Rattle.hsms_machine.specs.Timer.{IsTimed, IsT6Overdue, IsNotDue, IsCutNotDue};
     ghost use Rattle.hsms_machine.specs.Rule.{Breaks, FrameBreaks, IsNotUp, IsNoCause, IsInUse, IsAnswer, IsFirst, needs_session, order_rules, timer_rules, format_rules, transaction_rules};
     ghost use Rattle.hsms_machine.specs.Act.{event_of, entry_of, frame_of};
     ghost use Rattle.hsms_machine.specs.Step.{facts_of, IsBrokenAt};
@@ -108,7 +108,11 @@ impl View {
     {
         match act {
             Act::T3(_) | Act::Cut(Cause::T6) | Act::Cut(Cause::T7) => false,
-            _ => self.is_t6_overdue(time) || self.is_t7_overdue(time),
+            _ => {
+                self.is_t6_overdue(time)
+                    || self.phase == Phase::NotSelected
+                        && u64::from(self.settings.t7()) < time.saturating_sub(self.up_time)
+            }
         }
     }
 
@@ -116,13 +120,6 @@ impl View {
         ensures { IsTrue result ↔ IsT6Overdue (facts_of self.now) self.now.settings time }
     {
         self.is_timed() && self.sent_control.has_overdue(time, self.settings.t6())
-    }
-
-    fn is_t7_overdue(&self, time: u64) -> bool
-        ensures { IsTrue result ↔ IsT7Overdue (facts_of self.now) self.now.settings time }
-    {
-        self.phase == Phase::NotSelected
-            && u64::from(self.settings.t7()) < time.saturating_sub(self.up_time)
     }
 
     #[inline(always)]
@@ -147,7 +144,7 @@ impl View {
                 Phase::NotSelected | Phase::Over => time.saturating_sub(self.up_time)
                     < u64::from(self.settings.t7()),
             },
-            Cause::T8 | Cause::Length => false,
+            _ => false,
         }
     }
 
@@ -159,7 +156,7 @@ impl View {
             Act::Sent(message) => self.broken_frame(Flow::Outgoing, *message, text),
             Act::Taken(message) => self.broken_frame(Flow::Incoming, *message, text),
             Act::Discarded(message) => self.broken_discard(*message, text),
-            Act::Up | Act::T3(_) | Act::Cut(_) | Act::Down => None,
+            _ => None,
         }
     }
 
@@ -190,7 +187,8 @@ impl View {
     fn broken_format(&self, flow: Flow, message: Message, text: &[u8]) -> Option<Rule>
         ensures { IsFirst (FrameBreaks (facts_of self.now) self.now.settings flow (frame_of message text.now)) format_rules result }
     {
-        if self.is_too_long(text) {
+        let max = self.settings.max() as usize;
+        if max - HEADER_LENGTH < text.len() {
             return Some(Rule::TooLong);
         }
         match message.kind() {
@@ -207,13 +205,6 @@ impl View {
         } else {
             None
         }
-    }
-
-    fn is_too_long(&self, text: &[u8]) -> bool
-        ensures { IsTrue result ↔ (self.now.settings.max < 10 + length text.now) }
-    {
-        let max = self.settings.max() as usize;
-        max - HEADER_LENGTH < text.len()
     }
 
     fn broken_transaction(&self, flow: Flow, message: Message, text: &[u8]) -> Option<Rule>

@@ -1,7 +1,7 @@
 //! What the rules ask of a header.
 
 ghost use Rattle.std.specs.Prelude.{◌≡◌};
-ghost use Rattle.hsms_machine.specs.Message.{is_data_request as opens_data_transaction, is_control_request as opens_control_transaction, establishes as is_establishment, separates as is_separation, is_data as carries_data, is_control as is_control_message, is_response as is_response_message, may_conclude as is_of_conclusive_kind, has_right_session as is_session_right, has_right_direction as is_direction_right, has_right_wait as is_wait_right, is_from_active as comes_from_active, is_from_equipment as comes_from_equipment};
+ghost use Rattle.hsms_machine.specs.Message.{is_data_request as opens_data_transaction, is_control_request as opens_control_transaction, establishes as is_establishment, is_data as carries_data, is_control as is_control_message, is_response as is_response_message, may_conclude as is_of_conclusive_kind, has_right_session as is_session_right, has_right_direction as is_direction_right, has_right_wait as is_wait_right};
 ghost use Rattle.hsms_machine.specs.Transaction.{answers as is_answer, is_reply_to as is_reply, concludes as is_conclusion};
 
 use crate::flow::Flow;
@@ -131,13 +131,6 @@ pub fn establishes(message: Message) -> bool
     matches!(message.kind(), Kind::SelectRsp) && message.header().byte3 == 0
 }
 
-#[tactic(auto, unfolding(crate::specs::Message::separates))]
-pub fn separates(message: Message) -> bool
-    ensures { result ≡ is_separation message }
-{
-    matches!(message.kind(), Kind::Separate)
-}
-
 #[tactic(auto, unfolding(crate::specs::Message::is_data))]
 pub fn is_data(message: Message) -> bool
     ensures { result ≡ carries_data message }
@@ -177,29 +170,19 @@ pub fn has_right_session(settings: Settings, message: Message) -> bool
     }
 }
 
-fn is_from_active(link: Side, flow: Flow) -> bool
-    ensures { result ≡ comes_from_active link flow }
-{
-    (link == Side::Active) == (flow == Flow::Outgoing)
-}
-
-fn is_from_equipment(role: Role, flow: Flow) -> bool
-    ensures { result ≡ comes_from_equipment role flow }
-{
-    (role == Role::Equipment) == (flow == Flow::Outgoing)
-}
-
 /// Whether the end from which the message comes may send it.
 #[tactic(auto, unfolding(crate::specs::Message::has_right_direction))]
 pub fn has_right_direction(settings: Settings, flow: Flow, message: Message) -> bool
     ensures { result ≡ is_direction_right settings flow message }
 {
-    let from_active = is_from_active(settings.link(), flow);
+    let is_outgoing = flow == Flow::Outgoing;
+    let from_active = (settings.link() == Side::Active) == is_outgoing;
     match message.kind() {
         Kind::SelectReq => from_active,
         Kind::SelectRsp => !from_active,
         Kind::Primary => {
-            message.header().stream() != ERROR_STREAM || is_from_equipment(settings.role(), flow)
+            let from_equipment = (settings.role() == Role::Equipment) == is_outgoing;
+            message.header().stream() != ERROR_STREAM || from_equipment
         }
         _ => true,
     }

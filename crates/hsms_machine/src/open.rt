@@ -10,7 +10,7 @@ use std::alloc::{AllocError, Global};
 use std::marker::Model;
 
 /// A transaction: when it was opened, in milliseconds, and the header of its request.
-#[derive(Clone, Copy, Debug, PartialEq, Eq)]
+#[derive(Clone, Copy, Debug)]
 pub struct Transaction {
     pub time: u64,
     pub header: Header,
@@ -22,7 +22,7 @@ const MOST: usize = usize::MAX / 4;
 /// Open transactions, in order of opening: no two with the same system bytes, and none before an earlier one. One that
 /// is opened where no other is open stands beside the map of those that are opened behind it: where one is open at a
 /// time, none is hashed.
-#[derive(Debug)]
+#[derive(Debug, Drop)]
 pub struct Transactions {
     oldest: Option<Transaction>,
     queue: Queue,
@@ -40,20 +40,11 @@ impl Model for Transactions {
     ghost invariant = { λ t. AreListed t.oldest t.queue };
 }
 
-// Written out: a proof over a tracker that is dropped then has one step for each list, not one for each of its parts.
-impl Drop for Transactions {
-    fn drop(self) {
-        let Transactions { oldest: _, queue } = self;
-        drop(queue);
-    }
-}
-
 impl Transactions {
     ghost use Rattle.std.specs.Prelude.{◌≡◌, ◌-◌, ◌^◌, ◌<◌, ◌==◌, ◌&&◌, not, [], ◌∷◌, ◌++◌, option_to_list, length, filter, true, false, nat_lt, nat_le, OnOk, OnErr, IfSome, IfNone};
     ghost use Rattle.std.specs.List.{list_any, find};
     ghost use Rattle.hsms_machine.specs.Timer.{least_in, due_times, due_at};
     ghost use Rattle.hsms_machine.specs.Transaction.{answers as is_answer, concludes as is_conclusion};
-    ghost use Rattle.hsms_machine.specs.View.{oldest_of};
     ghost use Rattle.hsms_machine.specs.Ordered.{AreInOrder, AreApart, AreUntil, uses, first_of};
 
     /// No transaction.
@@ -94,14 +85,6 @@ impl Transactions {
             Some(opened) => Some(opened),
             None => self.queue.first(),
         }
-    }
-
-    /// The time and the header of the transaction that was opened first.
-    pub fn oldest(&self) -> Option<(u64, Header)>
-        ensures { result ≡ oldest_of self.now }
-    {
-        let opened = self.first()?;
-        Some((opened.time, opened.header))
     }
 
     /// The transaction of these system bytes.
@@ -261,7 +244,7 @@ impl Transactions {
     {
         if Self::has_system(self.oldest, other.header().system) {
             self.oldest = Self::unconcluded(self.oldest, other);
-        } else if !self.queue.is_empty() {
+        } else if self.queue.len() > 0 {
             self.queue.remove_concluded(other);
         }
     }

@@ -79,7 +79,7 @@ impl Places {
         match act {
             Act::Sent(message) => !self.view.is_in_use(Flow::Outgoing, *message),
             Act::Taken(message) => !self.view.is_in_use(Flow::Incoming, *message),
-            Act::Up | Act::Discarded(_) | Act::T3(_) | Act::Cut(_) | Act::Down => true,
+            _ => true,
         }
     }
 
@@ -98,7 +98,7 @@ impl Places {
                 Self::concluded(&self.view.sent_data, &self.view.sent_control, *message)
             }
             Act::T3(system) => Some(self.view.sent_data.get(*system)?.time),
-            Act::Up | Act::Discarded(_) | Act::Cut(_) | Act::Down => None,
+            _ => None,
         }
     }
 
@@ -126,7 +126,7 @@ impl Places {
             Act::Taken(message) => {
                 Self::using(&self.view.taken_data, &self.view.taken_control, *message)
             }
-            Act::Up | Act::Discarded(_) | Act::T3(_) | Act::Cut(_) | Act::Down => None,
+            _ => None,
         }
     }
 

@@ -13,7 +13,7 @@ const MANY: usize = 64;
 ///
 /// The map has closed ones at its front, which are counted. They go together, once they are many and more than a half of
 /// it, so that closing the oldest moves none.
-#[derive(Debug)]
+#[derive(Debug, Drop)]
 pub struct Queue {
     items: IndexMap<u32, Transaction>,
     closed: usize,
@@ -30,14 +30,6 @@ impl Model for Queue {
     ghost view = { λ t. drop t.closed (values t.items) };
 
     ghost invariant = { λ t. AreKept t.closed t.items.entries };
-}
-
-// Written out: a proof over a tracker that is dropped then has one step for each map, not one for each of its parts.
-impl Drop for Queue {
-    fn drop(self) {
-        let Queue { items, closed: _ } = self;
-        drop(items);
-    }
 }
 
 impl Queue {
@@ -62,14 +54,6 @@ impl Queue {
         ensures bound { result < 2 ^ 63 }
     {
         self.items.len() - self.closed
-    }
-
-    /// Whether none is open.
-    #[inline(always)]
-    pub fn is_empty(&self) -> bool
-        ensures { result ≡ (length self.now == 0) }
-    {
-        self.len() == 0
     }
 
     /// The transaction that was opened first.
@@ -153,24 +137,16 @@ impl Queue {
         self.closed = 0;
     }
 
-    /// The place of the transaction that the message, which goes in the other direction, answers or rejects.
-    #[inline(always)]
-    fn place_concluded(&self, other: Message) -> Option<usize>
-        ensures none { IfNone result (list_any (λ opened. is_conclusion opened.header other) self.now ≡ false) }
-        ensures place { IfSome result (λ place. remove self.now place ≡ filter (λ opened. not (is_conclusion opened.header other)) self.now) }
-    {
-        let (place, opened) = self.found(other.header().system)?;
-        concludes(opened.header, other).then_some(place)
-    }
-
     /// Takes out what the message, which goes in the other direction, answers or rejects.
     #[inline(never)]
     pub fn remove_concluded(&mut self, other: Message)
         ensures { self.new ≡ filter (λ opened. not (is_conclusion opened.header other)) self.old }
     {
-        match self.place_concluded(other) {
-            Some(place) => self.remove_at(place),
-            None => {}
+        let Some((place, opened)) = self.found(other.header().system) else {
+            return;
+        };
+        if concludes(opened.header, other) {
+            self.remove_at(place);
         }
     }
 
@@ -178,9 +154,8 @@ impl Queue {
     pub fn remove_system(&mut self, system: u32)
         ensures { self.new ≡ filter (λ opened. not (opened.header.system == system)) self.old }
     {
-        match self.found(system) {
-            Some((place, _)) => self.remove_at(place),
-            None => {}
+        if let Some((place, _)) = self.found(system) {
+            self.remove_at(place);
         }
     }
 

@@ -26,7 +26,7 @@ impl View {
     ghost use Rattle.std.specs.Prelude.{◌≡◌, []};
     ghost use Rattle.hsms_machine.specs.Act.{event_of, entry_of};
     ghost use Rattle.hsms_machine.specs.Ordered.{first_of};
-    ghost use Rattle.hsms_machine.specs.Repair.{remedy_of, discarded, lacks_down, expired, cut, cut_by_t7, expiry_of};
+    ghost use Rattle.hsms_machine.specs.Repair.{remedy_of, discarded, lacks_down, expired, cut, expiry_of};
 
     /// What the rule asks for that the entry broke first.
     pub fn remedy(&self, rule: Rule, time: u64, act: &Act) -> Remedy
@@ -82,15 +82,11 @@ impl View {
             Some(opened) if u64::from(limit) < time.saturating_sub(opened.time) => {
                 Remedy::CutFirst(self.expiry(time, opened.time, limit), Cause::T6)
             }
-            _ => self.cut_by_t7(time),
+            _ => {
+                let expiry = self.expiry(time, self.up_time, self.settings.t7());
+                Remedy::CutFirst(expiry, Cause::T7)
+            }
         }
-    }
-
-    fn cut_by_t7(&self, time: u64) -> Remedy
-        ensures { result ≡ cut_by_t7 self.now time }
-    {
-        let expiry = self.expiry(time, self.up_time, self.settings.t7());
-        Remedy::CutFirst(expiry, Cause::T7)
     }
 
     /// When the limit had passed since a time: no later than now, and no earlier than the last entry.

@@ -49,3 +49,35 @@ pub enum Rule {
     /// A discarded frame that could have been taken.
     NoCause,
 }
+
+impl Rule {
+    ghost use Rattle.std.specs.Prelude.{◌≡◌};
+    ghost use Rattle.hsms_machine.specs.Rule.{rule_name};
+
+    /// Its name, as a verdict tells it.
+    pub fn name(self) -> &'static str
+        ensures { result.now ≡ rule_name self }
+    {
+        match self {
+            Rule::Backwards => "Backwards",
+            Rule::NotUp => "NotUp",
+            Rule::Ended => "Ended",
+            Rule::T3Overdue => "T3Overdue",
+            Rule::LinkOverdue => "LinkOverdue",
+            Rule::NotDue => "NotDue",
+            Rule::TooLong => "TooLong",
+            Rule::PType => "PType",
+            Rule::SType => "SType",
+            Rule::ControlText => "ControlText",
+            Rule::Session => "Session",
+            Rule::Direction => "Direction",
+            Rule::NotSelected => "NotSelected",
+            Rule::WBit => "WBit",
+            Rule::Text => "Text",
+            Rule::SystemInUse => "SystemInUse",
+            Rule::NoTransaction => "NoTransaction",
+            Rule::SelectStatus => "SelectStatus",
+            Rule::NoCause => "NoCause",
+        }
+    }
+}

@@ -206,4 +206,11 @@ impl Settings {
     {
         LEAST_TIME <= time && time <= GREATEST_TIME
     }
+
+    /// That all of them are within their limits. Called for this fact alone; it does nothing.
+    pub fn are_within_limits(&self)
+        ensures { IsWithinLimits self.now }
+    {
+        let _version = self.version;
+    }
 }

@@ -177,7 +177,8 @@ impl Tracker {
     pub fn oldest_data(&self) -> Option<(u64, Header)>
         ensures { result ≡ oldest_of self.now.sent_data }
     {
-        self.view.sent_data.oldest()
+        let opened = self.view.sent_data.first()?;
+        Some((opened.time, opened.header))
     }
 
     /// The time and the header of the sent Select.req or Linktest.req that was opened first of those that
@@ -185,7 +186,8 @@ impl Tracker {
     pub fn oldest_control(&self) -> Option<(u64, Header)>
         ensures { result ≡ oldest_of self.now.sent_control }
     {
-        self.view.sent_control.oldest()
+        let opened = self.view.sent_control.first()?;
+        Some((opened.time, opened.header))
     }
 
     /// That what is open is in order: in each of the four lists of the view no time falls, none is later than that of

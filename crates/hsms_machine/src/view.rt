@@ -1,12 +1,11 @@
 //! What the rules need to know of the entries so far, and how an entry changes it.
 
 use crate::entry::Act;
-use crate::message::{
-    Message, establishes, is_control_request, is_data_request, may_conclude, separates,
-};
+use crate::message::{Message, establishes, is_control_request, is_data_request, may_conclude};
 use crate::open::{Transaction, Transactions};
 use crate::phase::Phase;
 use crate::settings::Settings;
+use hsms_frame::Kind;
 use std::alloc::{AllocError, Global};
 
 /// What the rules need to know of the entries so far.
@@ -25,11 +24,11 @@ pub struct View {
 impl View {
     ghost use Rattle.std.specs.Prelude.{◌≡◌, ◌++◌, [], false, not, filter, IsTrue, OnOk, OnErr, option_to_list};
     ghost use Rattle.hsms_machine.specs.Message.{is_request, is_data_request as opens_data_transaction, is_control_request as opens_control_transaction};
-    ghost use Rattle.hsms_machine.specs.Transaction.{opens, opened_by, concludes as is_conclusion, SentData, SentControl, TakenData, TakenControl};
+    ghost use Rattle.hsms_machine.specs.Transaction.{opens, opened_by, concludes as is_conclusion};
     ghost use Rattle.hsms_machine.specs.Session.{ends_session as is_end_of_session, selects as is_selection};
     ghost use Rattle.hsms_machine.specs.View.{view_of};
     ghost use Rattle.hsms_machine.specs.Act.{event_of, entry_of};
-    ghost use Rattle.hsms_machine.specs.Step.{view_after, pool_after, phase_after, IsUntil, IsFresh};
+    ghost use Rattle.hsms_machine.specs.Step.{view_after, pools_after, phase_after, IsUntil, IsFresh};
     ghost use Rattle.hsms_machine.specs.Ordered.{AreUntil, uses};
 
     /// The view of an empty log.
@@ -71,12 +70,7 @@ impl View {
     fn take_transactions_in(&mut self, time: u64, act: &Act) -> Result<(), AllocError>
         requires fresh { IsFresh self.old act.now }
         requires until { IsUntil time self.old }
-        ensures ok { OnOk result (self.new ≡ record self.old {
-          sent_data = pool_after SentData self.old.sent_data (entry_of time act.now []);
-          sent_control = pool_after SentControl self.old.sent_control (entry_of time act.now []);
-          taken_data = pool_after TakenData self.old.taken_data (entry_of time act.now []);
-          taken_control = pool_after TakenControl self.old.taken_control (entry_of time act.now []);
-        }) }
+        ensures ok { OnOk result (self.new ≡ pools_after self.old (entry_of time act.now [])) }
         ensures err { OnErr result (self.new ≡ self.old) }
         ensures opens { OnErr result (IsTrue (opens (event_of act.now []))) }
     {
@@ -173,11 +167,12 @@ impl View {
         }
     }
 
+    #[tactic(auto, unfolding(crate::specs::Message::separates))]
     fn ends_session(act: &Act) -> bool
         ensures { result ≡ is_end_of_session (event_of act.now []) }
     {
         match act {
-            Act::Sent(message) | Act::Taken(message) => separates(*message),
+            Act::Sent(message) | Act::Taken(message) => matches!(message.kind(), Kind::Separate),
             Act::Cut(_) => true,
             _ => false,
         }

@@ -1,6 +1,6 @@
 -- What the words of a command line ask for.
-use Rattle.std.proofs.Common.{◌≡◌, ◌≢◌, ◌<◌, ◌≤◌, ◌^◌, ◌&&◌, ◌⊎◌, ℕ, Bool, true, false, List, [], ◌∷◌, Some, None, Ok, Err, refl, sym, ◌∙◌, ap, subst, inl, inr, arith}
-use Rattle.std.specs.Prelude.{Option, Result, IfOk, IfErr, if◌then◌else◌, nat_le}
+use Rattle.std.proofs.Common.{◌≡◌, ◌≢◌, ◌<◌, ◌≤◌, ◌^◌, ◌&&◌, ◌⊎◌, ℕ, Bool, true, false, List, [], ◌∷◌, Some, None, Ok, Err, refl, sym, ◌∙◌, ap, ap₂, subst, inl, inr, arith}
+use Rattle.std.specs.Prelude.{Option, Result, IfOk, IfErr, if◌then◌else◌, nat_le, option_map}
 use Rattle.std.specs.Str.Parse.{ParsesUnsigned, digits_value, without_leading_plus}
 use Rattle.std.proofs.lemmas.Bool.Decides.{nat_tests}
 use Rattle.clap.proofs.OnLiterals.{clap_on_literals}
@@ -76,6 +76,16 @@ number_read {E} gives n found r parses few none value = go (one_of n.name (rows_
     go (Some t) is = rw (sym (sym is ∙ one_text-rows found n.name)) (tried gives n t r parses few (value t is))
 
 -- ---- the command line
+
+-- what was entered is of this name, and has these rows
+pub entered_as : {C : Type 0} (f : C → Text × List Row) (entered : Option C) (name : Text) (rows : List Row)
+    → Some name ≡ option_map (λ c. (f c).0) entered → Some rows ≡ option_map (λ e. e.1) (option_map f entered)
+    → option_map f entered ≡ Some (name, rows)
+entered_as f None name rows is_name is_rows = absurd cc
+entered_as f (Some c) name rows is_name is_rows =
+    let named : (f c).0 ≡ name = cc in
+    let same : (f c).1 ≡ rows = cc in
+    ap₂ (λ (a : Text) (b : List Row). Some (a, b)) named same
 
 command_is_simple : is_simple command_line ≡ true
 unfolding clap_on_literals

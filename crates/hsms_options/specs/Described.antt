@@ -2,8 +2,8 @@
 use Rattle.std.specs.Prelude.{◌++◌, List, [], ◌∷◌, map}
 use Rattle.clap.specs.Words.{App, Rule, Shape, new_app, with_subcommand}
 use Rattle.hsms_options.specs.declared.describing.Subcommand.{Subcommand}
-use Rattle.hsms_options.specs.declared.describing_options.Described.{Described}
-use Rattle.hsms_options.specs.declared.describing_options.Described.TheVariants.{Flag, Word, Needed, Number}
+use Rattle.hsms_options.specs.declared.tables.Described.{Described}
+use Rattle.hsms_options.specs.declared.tables.Described.TheVariants.{Flag, Word, Needed, Number}
 use Rattle.hsms_options.specs.Number.{flag_option, needed_option, number_told, option_of, text_option}
 
 -- the option that is described

@@ -7,7 +7,7 @@ use Rattle.clap.specs.ValueTests.{is_unsigned_in}
 use Rattle.clap.specs.Words.{Row, Rule, Text, first_of, new_rule, one_of}
 use Rattle.clap.specs.declared.builder.action.ArgAction.TheVariants.{SetTrue}
 use Rattle.clap.specs.declared.builder.value_parser.ValueParser.TheVariants.{Signed}
-use Rattle.hsms_options.specs.declared.limits.Numbered.{Numbered}
+use Rattle.hsms_options.specs.declared.tables.Numbered.{Numbered}
 
 -- an option with a number: its name, between which numbers it is, and what it is where it is left out, if it may be
 pub record Number : Type 0 where

@@ -3,14 +3,12 @@
 ghost use Rattle.std.specs.Prelude.{◌≡◌, Option, IfSome, None, codes};
 ghost use Rattle.std.specs.declared.net.ip_addr.IpAddr.{IpAddr};
 ghost use Rattle.clap.specs.Words.{first_of, found_of, rows_of};
-ghost use Rattle.hsms_machine.specs.Settings.{Parameters};
 ghost use Rattle.hsms_machine.specs.declared.settings.Role.{Role};
-ghost use Rattle.hsms_options.specs.Capturing.{HasCapturing, HasEnd, HasPeer, IsCapturingWithinLimits, log_word, other_role};
-ghost use Rattle.hsms_options.specs.Service.{HasNumbers};
+ghost use Rattle.hsms_options.specs.Capturing.{HasCapturing, HasPeer, IsCapturingWithinLimits, log_word, other_role};
 ghost use Rattle.hsms_options.specs.declared.capturing.Capturing.{Capturing};
 
-use crate::limits::CAPTURED_PORT;
 use crate::service::{role_named, settings_with};
+use crate::tables::CAPTURED_PORT;
 use crate::values::{flag_of, short_of, text_of, text_or};
 use clap::ArgMatches;
 use hsms_machine::{Role, Settings, Side};
@@ -44,8 +42,8 @@ pub fn capturing_of(options: &ArgMatches<'_>) -> Option<Capturing>
     let peer = peer_of(options)?;
     let log = log_of(options)?;
     let role = role_named(text_or(options, "active", "host"))?;
-    let active = end_of(options, role, Side::Active)?;
-    let passive = end_of(options, other_role(role), Side::Passive)?;
+    let active = settings_with(options, role, Side::Active)?.several();
+    let passive = settings_with(options, other_role(role), Side::Passive)?.several();
     Some(Capturing {
         port,
         peer,
@@ -86,13 +84,4 @@ fn other_role(role: Role) -> Role
         Role::Host => Role::Equipment,
         Role::Equipment => Role::Host,
     }
-}
-
-// The settings of an end of this role and side.
-fn end_of(options: &ArgMatches<'_>, role: Role, link: Side) -> Option<Settings>
-    ensures asks { IfSome result (HasEnd (rows_of (found_of options.now)) role link) }
-    ensures none { result ≡ None → (settings : Parameters) → HasNumbers (rows_of (found_of options.now)) settings → ⊥ }
-{
-    let settings = settings_with(options, role, link)?;
-    Some(settings.several())
 }

@@ -1,16 +1,16 @@
 //! The command as it is described to `clap`: its subcommands, their options, and the ranges of these.
 
-ghost use Rattle.std.specs.Prelude.{◌≡◌, IfOk, [], map};
-ghost use Rattle.clap.specs.Words.{app_of};
-ghost use Rattle.hsms_options.specs.Described.{rule_described, shape_described, with_subcommands};
-ghost use Rattle.hsms_options.specs.Excerpt.{explain_rules};
-ghost use Rattle.hsms_options.specs.Options.{command_line, encode_command, show_command};
+ghost use Rattle.std.specs.Prelude.{◌≡◌, IfOk, [], false, map};
+ghost use Rattle.clap.specs.Words.{app_of, rule_of};
+ghost use Rattle.hsms_options.specs.Described.{rule_described, shape_described};
+ghost use Rattle.hsms_options.specs.Number.{ranged_option, text_option};
+ghost use Rattle.hsms_options.specs.Options.{command_line};
 
-use crate::describing_capture::{CAPTURE_HELP, capture_options};
-use crate::describing_options::{DEPTH_OPTION, DEVICE_OPTION, Described, MAX_OPTION, with_options};
-use crate::describing_serve::{SERVE_HELP, SERVE_USAGE, serve_options};
-use crate::limits::{AROUND, FROM, SYSTEM, TO};
-use clap::Command;
+use crate::tables::{
+    Described, Numbered, capture_options, encode_options, explain_options, serve_options,
+    show_options,
+};
+use clap::{Arg, ArgAction, Command, value_parser};
 use std::alloc::{AllocError, Global};
 
 const SHOW_HELP: &str = "Example: hsms show < capture.bin\n\n\
@@ -57,10 +57,34 @@ const EXPLAIN_HELP: &str =
     can't be written (Write), there are more than 4294967295 reads (Endless), or memory is wanting (Memory). What was told\n\
     before a fault stays told.";
 
+const CAPTURE_HELP: &str =
+    "It reads a file of pcap or pcapng once. For each TCP connection at the port it tells two lines, of the end that\n\
+    connects and of the one that listens: both addresses, what the end is, and the verdict of `hsms audit` on its log,\n\
+    with the packet of a failing line. Where something is missing nothing behind it is judged, and a line says\n\
+    `incomplete` and the packet that shows it.\n\n\
+    With --log it writes the log of one role instead, of all connections between two addresses, in version 2. A comment\n\
+    above each line names its packet.\n\n\
+    Example: hsms capture < tool.pcap\n\
+    Example: hsms capture --log host < tool.pcap | hsms explain\n\n\
+    Statuses: 0 each log passes, and nothing is missing; 1 a log fails; 2 the command line is refused, or the capture:\n\
+    something is missing in it (Lost, Length, Differs, Full, CutOff), it can't be read (Capture, Time), nothing came up\n\
+    (NoConnection), or with --log there are several at once or other addresses (Overlap, Peer); 3 standard input can't\n\
+    be read (Read), the output can't be written (Write), there are 2^64 - 4 blocks or more (Endless), or memory is\n\
+    wanting (Memory). What was told before a fault stays told.\n\n\
+    With -v a fault is told in words too.";
+
 const ENCODE_HELP: &str = "Example: echo 'S1F13 W <L> .' | hsms encode > message.bin\n\n\
     Statuses: 0 every message is encoded; 2 the command line is refused, or the input (Input, Syntax, Number, Count,\n\
     Deep, TooLarge, TooLong); 3 the input can't be read (Read), the output can't be written (Write), or memory is\n\
     wanting (Memory). Nothing is written where the input is refused.\n\n\
+    With -v a fault is told in words too.";
+
+const SERVE_HELP: &str =
+    "Each end answers Select, Linktest, S1F1, S1F13 and S2F25, and rejects or aborts what it may not take.\n\n\
+    Example: hsms serve --role equipment --link passive --address 127.0.0.1 --port 5000 > equipment.log\n\n\
+    Statuses: 0 the connection was served to its end; 1 not all was sent, with --all-sent; 2 the command line or the\n\
+    script is refused (Input, Syntax, Number, Count, Deep); 3 there is no connection, or it broke (Link), the log can't\n\
+    be written (Log), all turns are used (Turns), standard input can't be read (Read), or memory is wanting (Memory).\n\n\
     With -v a fault is told in words too.";
 
 const VERSION: &str = "0.2 (session logs of versions 1 and 2)";
@@ -78,74 +102,6 @@ pub struct Subcommand {
     pub help: &'static str,
     /// Its options.
     pub options: &'static [Described],
-}
-
-static SHOW_OPTIONS: [Described; 4] = [
-    MAX_OPTION,
-    DEPTH_OPTION,
-    Described::Flag("hex", "Read each message from a line of hexadecimal"),
-    Described::Flag(
-        "bare",
-        "With --hex: lines of header and text alone, as the hexadecimal of a log's lines",
-    ),
-];
-
-static EXPLAIN_OPTIONS: [Described; 6] = [
-    Described::Word(
-        "only",
-        "failures",
-        "Tell only the lines that fail, and those around them",
-    ),
-    Described::Number(
-        AROUND,
-        "With --only: lines told before each of them, and behind it: 0 to 1000 [default: 5]",
-    ),
-    Described::Number(
-        FROM,
-        "First line that is told; the log is judged from line 1 on [default: 1]",
-    ),
-    Described::Number(
-        TO,
-        "Last line that is told; the log is judged to its end [default: the last one]",
-    ),
-    Described::Word(
-        "form",
-        "FORM",
-        "Tell it as text; as json, an object a line; or as html, a page [default: text]",
-    ),
-    Described::Flag(
-        "utc",
-        "Tell times as dates, where the log has them in milliseconds since 1970",
-    ),
-];
-
-static ENCODE_OPTIONS: [Described; 5] = [
-    DEVICE_OPTION,
-    Described::Number(
-        SYSTEM,
-        "System bytes of the first message, from which they are counted up: 0 to 4294967295 [default: 1]",
-    ),
-    MAX_OPTION,
-    DEPTH_OPTION,
-    Described::Flag("hex", "Write each message as a line of hexadecimal"),
-];
-
-fn show_options() -> &'static [Described]
-    ensures { map rule_described result.now ≡ show_command.rules }
-{
-    &SHOW_OPTIONS
-}
-
-fn explain_options() -> &'static [Described]
-    ensures { map rule_described result.now ≡ explain_rules }
-{
-    &EXPLAIN_OPTIONS
-}
-
-fn encode_options() -> &'static [Described]
-    ensures { map rule_described result.now ≡ encode_command.rules }
-{
-    &ENCODE_OPTIONS
 }
 
 fn subcommands() -> [Subcommand; 6]
@@ -190,7 +146,9 @@ fn subcommands() -> [Subcommand; 6]
         Subcommand {
             name: "serve",
             about: "Serves one HSMS connection, and writes its log",
-            usage: Some(SERVE_USAGE),
+            usage: Some(
+                "hsms serve --role ROLE --link LINK --address A --port P [OPTIONS] [--send < NOTATION] > LOG",
+            ),
             help: SERVE_HELP,
             options: serve_options(),
         },
@@ -201,27 +159,15 @@ fn subcommands() -> [Subcommand; 6]
 pub fn command<'a>(alloc: Global) -> Result<Command<'a>, AllocError>
     ensures { IfOk result (λ command. app_of command ≡ command_line) }
 {
-    let hsms = Command::new(alloc, "hsms")
+    let mut hsms = Command::new(alloc, "hsms")
         .bin_name("hsms")?
         .about("Audits HSMS session logs, reads and writes HSMS messages, and serves a connection")
         .version(VERSION)
         .subcommand_required(true);
-    with_subcommands(alloc, hsms, &subcommands())
-}
-
-// A command with these subcommands more.
-fn with_subcommands<'a>(
-    alloc: Global,
-    command: Command<'a>,
-    subcommands: &[Subcommand],
-) -> Result<Command<'a>, AllocError>
-    ensures { IfOk result (λ c. app_of c ≡ with_subcommands (app_of command.entry) (map shape_described subcommands.now)) }
-{
-    let mut with_them = command;
-    for subcommand in subcommands {
-        with_them = with_them.subcommand(subcommand.command(alloc)?)?;
+    for subcommand in &subcommands() {
+        hsms = hsms.subcommand(subcommand.command(alloc)?)?;
     }
-    Ok(with_them)
+    Ok(hsms)
 }
 
 impl Subcommand {
@@ -231,10 +177,57 @@ impl Subcommand {
         let command = Command::new(alloc, self.name)
             .about(self.about)
             .after_help(self.help);
-        let command = match self.usage {
+        let mut command = match self.usage {
             Some(usage) => command.override_usage(usage),
             None => command,
         };
-        with_options(alloc, command, self.options)
+        for option in self.options {
+            command = command.arg(option.arg(alloc))?;
+        }
+        Ok(command)
     }
+}
+
+impl Described {
+    fn arg<'a>(self, alloc: Global) -> Arg<'a>
+        ensures rule { rule_of result ≡ rule_described self }
+        ensures local { result.global ≡ false }
+    {
+        match self {
+            Described::Flag(name, help) => Arg::new(alloc, name)
+                .long(name)
+                .help(help)
+                .action(ArgAction::SetTrue),
+            Described::Word(name, value, help) => word_option(alloc, name, value, help),
+            Described::Needed(name, value, help) => {
+                word_option(alloc, name, value, help).required(true)
+            }
+            Described::Number(number, help) => {
+                number_option(alloc, number, help).required(number.4.is_none())
+            }
+        }
+    }
+}
+
+// An option with a number in decimal.
+#[tactic(auto, using(crate::proofs::Ranges::narrowed))]
+fn number_option<'a>(alloc: Global, number: Numbered, help: &'a str) -> Arg<'a>
+    ensures rule { rule_of result ≡ ranged_option number.0.now number.2 number.3 }
+    ensures local { result.global ≡ false }
+{
+    let Numbered(name, value, least, greatest, _) = number;
+    word_option(alloc, name, value, help).value_parser(value_parser!(u32).range(
+        i64::from(least)..=i64::from(greatest),
+    ))
+}
+
+// An option with a text, which stands as `value` in the help.
+fn word_option<'a>(alloc: Global, name: &'a str, value: &'a str, help: &'a str) -> Arg<'a>
+    ensures rule { rule_of result ≡ text_option name.entry.now }
+    ensures local { result.global ≡ false }
+{
+    Arg::new(alloc, name)
+        .long(name)
+        .value_name(value)
+        .help(help)
 }

@@ -7,7 +7,7 @@ ghost use Rattle.hsms_options.specs.declared.excerpt.Excerpt.{Excerpt};
 ghost use Rattle.hsms_options.specs.declared.excerpt.Lines.{Lines};
 ghost use Rattle.hsms_options.specs.declared.excerpt.Telling.{Telling};
 
-use crate::limits::{AROUND, FROM, LAST_LINE, TO};
+use crate::tables::{AROUND, FROM, LAST_LINE, TO};
 use crate::values::{flag_of, number_of, text_of, text_or};
 use clap::ArgMatches;
 

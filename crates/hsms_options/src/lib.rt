@@ -13,15 +13,12 @@
 
 mod capturing;
 mod describing;
-mod describing_capture;
-mod describing_options;
-mod describing_serve;
 mod excerpt;
 mod fault;
-mod limits;
 mod options;
 mod sentences;
 mod service;
+mod tables;
 mod values;
 
 pub use capturing::Capturing;

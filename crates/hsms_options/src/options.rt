@@ -1,19 +1,18 @@
 //! What the command line asks for. It is looked at before anything is read.
 
-ghost use Rattle.std.specs.Prelude.{◌≡◌, ◌≢◌, IfOk, IfErr, IfSome, None, Some, codes, map, string_bytes};
+ghost use Rattle.std.specs.Prelude.{◌≡◌, ◌≢◌, IfOk, IfErr, IfSome, None, codes, map, string_bytes};
 ghost use Rattle.clap.specs.Words.{found_of, kind_of, rows_of, subcommand_rows_of};
 ghost use Rattle.clap.specs.declared.error.kind.ErrorKind.TheVariants.{OutOfMemory};
-ghost use Rattle.hsms_options.specs.Options.{AsksBy, AsksFor, AsksForTask, CallsForText, IsHelp, IsTaskWithinLimits, IsWithinLimits, Spells, SpellsNothing, form_in};
-ghost use Rattle.hsms_options.specs.Status.{IsRefusedAs, IsRefusedFor};
+ghost use Rattle.hsms_options.specs.Options.{AsksBy, AsksFor, CallsForText, IsHelp, IsWithinLimits, Spells, SpellsNothing, form_in};
+ghost use Rattle.hsms_options.specs.Status.{IsRefusedFor};
 ghost use Rattle.hsms_options.specs.declared.options.Request.{Request};
-ghost use Rattle.hsms_options.specs.declared.options.Task.{Task};
 
 use crate::capturing::{Capturing, capturing_of};
 use crate::describing::command;
 use crate::excerpt::{Excerpt, excerpt_of};
 use crate::fault::{ToolFault, no_request};
-use crate::limits::{DEVICE, MAX, SYSTEM};
 use crate::service::{Service, service_of};
+use crate::tables::{DEVICE, MAX, SYSTEM};
 use crate::values::{depth_of, flag_of, number_of, short_of};
 use clap::error::ErrorKind;
 use clap::{ArgMatches, Error};
@@ -100,58 +99,44 @@ fn asked<'a>(alloc: Global, matches: &ArgMatches<'a>) -> Result<Request<'a>, Too
         ((request : Request) → AsksBy (subcommand_rows_of matches.now) request → ⊥) (codes "command line")) }
 {
     match matches.subcommand() {
-        Some((name, options)) => asked_by(alloc, name, options),
+        Some((name, options)) => match asked_by(name, options) {
+            Some(request) => Ok(request),
+            None => Err(no_request(alloc)),
+        },
         None => Err(no_request(alloc)),
     }
 }
 
 // What a subcommand asks for, with these options.
-fn asked_by<'a>(
-    alloc: Global,
-    name: &str,
-    options: &ArgMatches<'a>,
-) -> Result<Request<'a>, ToolFault>
-    ensures asks { IfOk result (AsksFor name.now (rows_of (found_of options.now))) }
-    ensures limits { IfOk result IsWithinLimits }
-    ensures refusal { IfErr result (IsRefusedFor
-        ((request : Request) → AsksFor name.now (rows_of (found_of options.now)) request → ⊥) (codes "command line")) }
+fn asked_by<'a>(name: &str, options: &ArgMatches<'a>) -> Option<Request<'a>>
+    ensures asks { IfSome result (AsksFor name.now (rows_of (found_of options.now))) }
+    ensures limits { IfSome result IsWithinLimits }
+    ensures none { result ≡ None → (request : Request)
+        → AsksFor name.now (rows_of (found_of options.now)) request → ⊥ }
 {
     match name {
-        "audit" => Ok(Request::Task(Task::Audit)),
-        "explain" => Ok(Request::Explain(if_asked(alloc, excerpt_of(options))?)),
-        "capture" => Ok(Request::Capture(if_asked(alloc, capturing_of(options))?)),
-        "show" => Ok(Request::Task(if_asked(alloc, asked_to_show(options))?)),
-        "encode" => Ok(Request::Task(if_asked(alloc, asked_to_encode(options))?)),
-        // The toolchain has no rule for a generic call, as `if_asked`, by which words are handed on that are borrowed.
+        "audit" => Some(Request::Task(Task::Audit)),
+        "explain" => Some(Request::Explain(excerpt_of(options)?)),
+        "capture" => Some(Request::Capture(capturing_of(options)?)),
+        "show" => Some(Request::Task(Task::Show(Showing {
+            max: number_of(options, MAX)?,
+            depth: depth_of(options)?,
+            form: form_of(options)?,
+        }))),
+        "encode" => Some(Request::Task(Task::Encode(Encoding {
+            device: short_of(options, DEVICE)?,
+            system: number_of(options, SYSTEM)?,
+            max: number_of(options, MAX)?,
+            depth: depth_of(options)?,
+            hex: flag_of(options, "hex"),
+        }))),
+        // The toolchain has no rule for `?` here, by which words are handed on that are borrowed.
         "serve" => match service_of(options) {
-            Some(service) => Ok(Request::Serve(service)),
-            None => Err(no_request(alloc)),
+            Some(service) => Some(Request::Serve(service)),
+            None => None,
         },
-        _ => Err(no_request(alloc)),
+        _ => None,
     }
-}
-
-fn if_asked<T>(alloc: Global, asked: Option<T>) -> Result<T, ToolFault>
-    ensures ok { IfOk result (λ it. asked ≡ Some it) }
-    ensures err { IfErr result (λ fault. (asked ≡ None) × IsRefusedAs (codes "command line") fault) }
-{
-    match asked {
-        Some(it) => Ok(it),
-        None => Err(no_request(alloc)),
-    }
-}
-
-fn asked_to_show(options: &ArgMatches<'_>) -> Option<Task>
-    ensures asks { IfSome result (AsksForTask (codes "show") (rows_of (found_of options.now))) }
-    ensures limits { IfSome result IsTaskWithinLimits }
-    ensures none { result ≡ None → (task : Task)
-        → AsksForTask (codes "show") (rows_of (found_of options.now)) task → ⊥ }
-{
-    Some(Task::Show(Showing {
-        max: number_of(options, MAX)?,
-        depth: depth_of(options)?,
-        form: form_of(options)?,
-    }))
 }
 
 fn form_of(options: &ArgMatches<'_>) -> Option<Form>
@@ -163,21 +148,6 @@ fn form_of(options: &ArgMatches<'_>) -> Option<Form>
         (true, true) => Some(Form::BareLines),
         (false, true) => None,
     }
-}
-
-fn asked_to_encode(options: &ArgMatches<'_>) -> Option<Task>
-    ensures asks { IfSome result (AsksForTask (codes "encode") (rows_of (found_of options.now))) }
-    ensures limits { IfSome result IsTaskWithinLimits }
-    ensures none { result ≡ None → (task : Task)
-        → AsksForTask (codes "encode") (rows_of (found_of options.now)) task → ⊥ }
-{
-    Some(Task::Encode(Encoding {
-        device: short_of(options, DEVICE)?,
-        system: number_of(options, SYSTEM)?,
-        max: number_of(options, MAX)?,
-        depth: depth_of(options)?,
-        hex: flag_of(options, "hex"),
-    }))
 }
 
 // The answer where `clap` doesn't match the words: the text of help or of the version, or a refusal.

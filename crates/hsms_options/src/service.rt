@@ -2,14 +2,13 @@
 
 ghost use Rattle.std.specs.Prelude.{◌≡◌, ◌≤◌, IfSome, None};
 ghost use Rattle.clap.specs.Words.{found_of, rows_of};
-ghost use Rattle.hsms_machine.specs.Settings.{IsTimeLimit, Parameters};
+ghost use Rattle.hsms_machine.specs.Settings.{Parameters};
 ghost use Rattle.hsms_machine.specs.declared.settings.Role.{Role};
 ghost use Rattle.hsms_machine.specs.declared.settings.Side.{Side};
-ghost use Rattle.hsms_options.specs.Service.{AsksToServe, HasNumbers, HasRepeat, HasSettings, role_word, side_word};
-ghost use Rattle.hsms_options.specs.declared.service.Repeat.{Repeat};
+ghost use Rattle.hsms_options.specs.Service.{AsksToServe, HasNumbers, role_word, side_word};
 ghost use Rattle.hsms_options.specs.declared.service.Service.{Service};
 
-use crate::limits::{
+use crate::tables::{
     CONNECTIONS, DEVICE, FIRST_SYSTEM, LINKTEST, MAX, PORT, T3, T5, T6, T7, T8, TURNS,
 };
 use crate::values::{depth_of, flag_of, number_of, short_of, text_of, text_or};
@@ -64,8 +63,10 @@ pub fn service_of<'a>(options: &ArgMatches<'a>) -> Option<Service<'a>>
     ensures port { IfSome result (λ service. (1 ≤ service.port) × (service.port ≤ 65535)) }
     ensures none { result ≡ None → (service : Service) → AsksToServe (rows_of (found_of options.now)) service → ⊥ }
 {
+    let role = role_named(text_of(options, "role")?)?;
+    let link = side_named(text_of(options, "link")?)?;
     Some(Service {
-        settings: settings_of(options)?,
+        settings: settings_with(options, role, link)?,
         address: text_of(options, "address")?,
         port: short_of(options, PORT)?,
         first_system: number_of(options, FIRST_SYSTEM)?,
@@ -76,31 +77,13 @@ pub fn service_of<'a>(options: &ArgMatches<'a>) -> Option<Service<'a>>
         send: flag_of(options, "send"),
         answer: flag_of(options, "answer"),
         all_sent: flag_of(options, "all-sent"),
-        repeat: repeat_of(options)?,
+        repeat: Repeat {
+            again: flag_of(options, "again"),
+            once: flag_of(options, "once"),
+            connections: number_of(options, CONNECTIONS)?,
+            t5: number_of(options, T5)?,
+        },
     })
-}
-
-// What the options say of connections one after the other, if their numbers are within their limits.
-fn repeat_of(options: &ArgMatches<'_>) -> Option<Repeat>
-    ensures asks { IfSome result (HasRepeat (rows_of (found_of options.now))) }
-    ensures within { IfSome result (λ repeat. (1 ≤ repeat.connections) × IsTimeLimit repeat.t5) }
-    ensures none { result ≡ None → (repeat : Repeat) → HasRepeat (rows_of (found_of options.now)) repeat → ⊥ }
-{
-    Some(Repeat {
-        again: flag_of(options, "again"),
-        once: flag_of(options, "once"),
-        connections: number_of(options, CONNECTIONS)?,
-        t5: number_of(options, T5)?,
-    })
-}
-
-fn settings_of(options: &ArgMatches<'_>) -> Option<Settings>
-    ensures asks { IfSome result (λ settings. HasSettings (rows_of (found_of options.now)) settings) }
-    ensures none { result ≡ None → (settings : Parameters) → HasSettings (rows_of (found_of options.now)) settings → ⊥ }
-{
-    let role = role_named(text_of(options, "role")?)?;
-    let link = side_named(text_of(options, "link")?)?;
-    settings_with(options, role, link)
 }
 
 /// The settings of an end of this role and side with the numbers of the options, for a log of one connection.

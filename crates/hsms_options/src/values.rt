@@ -4,7 +4,7 @@ ghost use Rattle.std.specs.Prelude.{◌≡◌, ◌≤◌, ◌&&◌, IfSome, Some
 ghost use Rattle.clap.specs.Words.{first_of, found_of, rows_of};
 ghost use Rattle.hsms_options.specs.Number.{IsFlag, IsOf, depth_number, number_in, number_told};
 
-use crate::limits::{DEPTH, Numbered};
+use crate::tables::{DEPTH, Numbered};
 use clap::ArgMatches;
 
 /// The number of `--depth`, where it is from 1 to 100.

@@ -171,7 +171,7 @@ fn room_of(entry: &Entry) -> usize {
             .len()
             .saturating_mul(2)
             .saturating_add(50),
-        Event::Up | Event::T3(_) | Event::Cut(_) | Event::Down => 50,
+        _ => 50,
     }
 }
 

@@ -1,14 +1,14 @@
 //! The counts that a link keeps of its calls.
 
-ghost use Rattle.std.specs.Prelude.{◌≡◌, ◌<◌, IsErr, false};
-ghost use Rattle.hsms_ends.specs.Link.{IsGot, Sends, Waits};
+ghost use Rattle.std.specs.Prelude.{Err, []};
+ghost use Rattle.hsms_ends.specs.Link.{IsGot, Waits};
 ghost use Rattle.hsms_service.specs.Counters.{told_of};
 
 use hsms_ends::{Got, LinkFault};
 
 /// How many waits were answered, how many of them by `Closed`, and whether the last one so; how often the link failed.
 /// The counts stay at their greatest value.
-#[derive(Clone, Copy, Debug)]
+#[derive(Clone, Copy, Debug, Default)]
 pub struct Counters {
     pub waits: u64,
     pub closes: u64,
@@ -17,18 +17,6 @@ pub struct Counters {
 }
 
 impl Counters {
-    /// None so far.
-    pub fn new() -> Counters
-        ensures { result ≡ record { waits = 0; closes = 0; is_closed = false; failures = 0 } }
-    {
-        Counters {
-            waits: 0,
-            closes: 0,
-            is_closed: false,
-            failures: 0,
-        }
-    }
-
     /// Counts a wait that is answered.
     pub fn heard(&mut self, got: Got, into: &[u8]) -> Result<Got, LinkFault>
         requires { IsGot into.now got }
@@ -42,22 +30,11 @@ impl Counters {
         Ok(got)
     }
 
-    /// Counts a wait that fails.
-    pub fn failed_wait(&mut self, into: &[u8]) -> Result<Got, LinkFault>
-        ensures { Waits (told_of self.old) (told_of self.new) into.now result }
+    /// Counts a wait that fails, or a send, which leaves the same.
+    pub fn failed(&mut self) -> LinkFault
+        ensures { Waits (told_of self.old) (told_of self.new) [] (Err result) }
     {
-        let _ = into;
         self.failures = self.failures.saturating_add(1);
-        Err(LinkFault)
-    }
-
-    /// Counts a send that fails.
-    pub fn failed_send(&mut self, octets: &[u8]) -> Result<usize, LinkFault>
-        ensures err { IsErr result }
-        ensures sent { Sends (told_of self.old) (told_of self.new) octets.now result }
-    {
-        let _ = octets;
-        self.failures = self.failures.saturating_add(1);
-        Err(LinkFault)
+        LinkFault
     }
 }

@@ -1,6 +1,6 @@
 //! The script of `hsms serve`: messages in notation.
 
-ghost use Rattle.std.specs.Prelude.{◌≡◌, ◌≤◌, ◌++◌, IfOk, IfErr, OnOk, [], ◌∷◌, codes, filter, map, not, if◌then◌else◌};
+ghost use Rattle.std.specs.Prelude.{◌≡◌, ◌++◌, IfOk, IfErr, OnOk, [], ◌∷◌, codes, filter, map, not, if◌then◌else◌};
 ghost use Rattle.hsms_ends.specs.declared.step.Step.TheVariants.{Send, Separate};
 ghost use Rattle.hsms_frame.specs.Count.{next_count};
 ghost use Rattle.hsms_frame.specs.Device.{WhereTold};
@@ -9,7 +9,7 @@ ghost use Rattle.hsms_lines.specs.Devices.{CountsFailure, HasWord};
 
 use hsms_ends::Step;
 use hsms_frame::Source;
-use hsms_options::ToolFault;
+use hsms_options::{Service, ToolFault};
 use hsms_tasks::{INPUT_LIMIT, messages_of, read_whole};
 use secs_text::Message;
 use std::alloc::{AllocError, Global};
@@ -23,35 +23,33 @@ pub struct Script {
     pub replies: Vec<Message>,
 }
 
-/// Reads the whole input as messages in notation. With `answer` those with an even function are replies (SEMI E5,
-/// function). The others are steps, each of which is sent; with `send` the session is separated then (SEMI E37,
-/// section 7). `depth` is the deepest nesting of lists.
+/// Reads the whole input as messages in notation, for a service. Where that is to answer, those with an even function are
+/// replies (SEMI E5, function). The others are steps, each of which is sent; where it is to send, the session is separated
+/// then (SEMI E37, section 7).
 ///
 /// # Errors
 ///
-/// - `Refused`: the input has more than 67,108,864 octets (`Input`), or isn't messages within the depth (`Syntax`,
-///   `Number`, `Count`, `Deep`).
+/// - `Refused`: the input has more than 67,108,864 octets (`Input`), or isn't messages within the depth of the service's
+///   settings (`Syntax`, `Number`, `Count`, `Deep`).
 /// - `Device`: `Read`, where a read failed in this call, and at most 67,108,864 octets were taken before it.
 /// - `Memory`.
 pub fn read_script<R: Source>(
     alloc: Global,
     source: &mut R,
-    depth: u8,
-    send: bool,
-    answer: bool,
+    service: &Service<'_>,
 ) -> Result<Script, ToolFault>
-    requires { depth ≤ 100 }
-    ensures ok { IfOk result (λ script. WhereTold (R.state source.old).left (IsScript depth send answer script)) }
+    ensures ok { IfOk result (λ script. WhereTold (R.state source.old).left
+        (IsScript service.now.settings.depth service.now.send service.now.answer script)) }
     ensures err { IfErr result (λ fault. WhereTold (R.state source.old).left
-        (λ input. IsNoScript depth input fault (R.state source.new).left)) }
+        (λ input. IsNoScript service.now.settings.depth input fault (R.state source.new).left)) }
     ensures word { IfErr result (HasWord (codes "Read")) }
     ensures end { OnOk result ((R.state source.new).ends ≡ next_count (R.state source.old).ends) }
     ensures reads { CountsFailure (codes "Read") result (R.state source.old).failures (R.state source.new).failures }
 {
     let input = read_whole(alloc, source, INPUT_LIMIT)?;
-    let messages = messages_of(alloc, &input, depth)?;
-    let (replies, sent) = parted(alloc, messages, answer)?;
-    let steps = steps_of(alloc, sent, send)?;
+    let messages = messages_of(alloc, &input, service.settings.depth())?;
+    let (replies, sent) = parted(alloc, messages, service.answer)?;
+    let steps = steps_of(alloc, sent, service.send)?;
     Ok(Script { steps, replies })
 }
 

@@ -1,9 +1,9 @@
 //! `hsms serve`: one connection, served.
 
-ghost use Rattle.std.specs.Prelude.{◌≡◌, ◌||◌, not, if◌then◌else◌, []};
+ghost use Rattle.std.specs.Prelude.{◌≡◌, if◌then◌else◌, []};
 ghost use Rattle.hsms_machine.specs.Settings.{several_of};
 ghost use Rattle.hsms_ends.specs.Again.{ServesAgain};
-ghost use Rattle.hsms_service.specs.Serving.{ServesTo, TellsServe, TellsServed, TellsServedAgain, TellsWanting, own_answer, pause_for};
+ghost use Rattle.hsms_service.specs.Serving.{ServesTo, TellsServe, TellsServed, TellsServedAgain, own_answer, pause_for};
 
 use crate::desks::OwnDesk;
 use hsms_ends::{
@@ -105,18 +105,10 @@ pub fn told_again(
 ) -> Result<bool, ToolFault>
     ensures { TellsServedAgain all_sent served wanting result }
 {
-    match served {
-        Ok(served) => told_wanting(is_well(all_sent, served.complete), wanting),
-        Err(fault) => Err(fault_told(fault)),
-    }
-}
-
-fn told_wanting(well: bool, wanting: Option<ServeFault>) -> Result<bool, ToolFault>
-    ensures { TellsWanting well wanting result }
-{
-    match wanting {
-        Some(fault) => Err(fault_told(fault)),
-        None => Ok(well),
+    match (served, wanting) {
+        (Ok(served), None) => Ok(!all_sent || served.complete),
+        (Ok(_), Some(fault)) => Err(fault_told(fault)),
+        (Err(fault), _) => Err(fault_told(fault)),
     }
 }
 
@@ -126,15 +118,9 @@ pub fn told(all_sent: bool, served: Result<Served, ServeFault>) -> Result<bool, 
     ensures { TellsServed all_sent served result }
 {
     match served {
-        Ok(served) => Ok(is_well(all_sent, served.is_complete())),
+        Ok(served) => Ok(!all_sent || served.is_complete()),
         Err(fault) => Err(fault_told(fault)),
     }
-}
-
-fn is_well(all_sent: bool, complete: bool) -> bool
-    ensures { result ≡ (not all_sent || complete) }
-{
-    !all_sent || complete
 }
 
 /// A fault of serving, as the command tells it.

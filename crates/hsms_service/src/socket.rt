@@ -64,14 +64,14 @@ impl<'a, 's, R: Clock + Net> Link for SocketLink<'a, 's, R> {
             Ok(0) => self.counters.heard(Got::Closed, into),
             Ok(count) => self.counters.heard(Got::Octets(count), into),
             Err(error) if is_quiet(error.kind()) => self.counters.heard(Got::Quiet, into),
-            Err(_) => self.counters.failed_wait(into),
+            Err(_) => Err(self.counters.failed()),
         }
     }
 
     fn send(&mut self, octets: &[u8]) -> Result<usize, LinkFault> {
         match self.wire.write(octets) {
             Ok(count) if count > 0 || octets.is_empty() => Ok(count),
-            _ => self.counters.failed_send(octets),
+            _ => Err(self.counters.failed()),
         }
     }
 }
@@ -84,22 +84,15 @@ impl<'a, 's, R: Clock + Net> Again for SocketLink<'a, 's, R> {
             return true;
         }
         self.hang_up();
-        let rt = self.rt;
-        let service = self.service;
-        if self.listener.is_none() {
-            pause(rt, service);
-        }
-        match next_stream(rt, service, &self.listener) {
+        pause(self.rt, self.service);
+        match next_stream(self.rt, self.service, &self.listener) {
             Ok(stream) => {
                 self.failures = self.counters.failures;
                 self.wire.go_over(stream);
-                true
             }
-            Err(error) => {
-                self.fault = Some(error.kind());
-                false
-            }
+            Err(error) => self.fault = Some(error.kind()),
         }
+        self.fault.is_none()
     }
 }
 
@@ -130,7 +123,7 @@ pub fn connected<'a, 's, R: Clock + Net>(
         service,
         listener,
         wire: Wire::new(rt, stream),
-        counters: Counters::new(),
+        counters: Counters::default(),
         failures: 0,
         is_new: true,
         fault: None,
@@ -154,27 +147,26 @@ fn next_stream<R: Clock + Net>(
 ) -> io::Result<R::Stream> {
     for _ in 0..u64::MAX {
         match stream_of(rt, service, listener) {
-            Err(error) if is_passing(error.kind(), listener.is_some()) => {}
+            Err(error) if is_passing(error.kind(), service) => pause(rt, service),
             answer => return answer,
-        }
-        if listener.is_none() {
-            pause(rt, service);
         }
     }
     Err(io::Error::from(ErrorKind::TimedOut))
 }
 
 // Whether the next connection may be had, though one wasn't.
-fn is_passing(kind: ErrorKind, is_listening: bool) -> bool {
-    if is_listening {
-        matches!(kind, ErrorKind::ConnectionAborted | ErrorKind::Interrupted)
-    } else {
-        kind != ErrorKind::OutOfMemory
+fn is_passing(kind: ErrorKind, service: &Service<'_>) -> bool {
+    match service.settings.link() {
+        Side::Active => kind != ErrorKind::OutOfMemory,
+        Side::Passive => matches!(kind, ErrorKind::ConnectionAborted | ErrorKind::Interrupted),
     }
 }
 
+// Waits for T5 before an end connects. One that listens needn't wait.
 fn pause<R: Clock>(rt: &R, service: &Service<'_>) {
-    sleep(rt, Duration::from_millis(u64::from(service.repeat.t5)));
+    if service.settings.link() == Side::Active {
+        sleep(rt, Duration::from_millis(u64::from(service.repeat.t5)));
+    }
 }
 
 // A connection: the next one that is listened for, or one that is made. A small message waits for no other one, and

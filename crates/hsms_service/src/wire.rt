@@ -136,14 +136,10 @@ impl<'a, C: Clock, S: Read + Write + OpenStream + Drop> Wire<'a, C, S> {
     /// milliseconds are over. A connection that is closed while octets lie unread is reset, and the peer loses what it
     /// was sent and hasn't read.
     pub fn hang_up(&mut self, longest: u64) {
-        if self.stream.shutdown(Shutdown::Write).is_ok() {
-            let until = self.time().saturating_add(longest);
-            self.let_go(until);
+        if self.stream.shutdown(Shutdown::Write).is_err() {
+            return;
         }
-    }
-
-    // Reads until the peer has closed the connection, the reads fail, or that time has come.
-    fn let_go(&mut self, until: u64) {
+        let until = self.time().saturating_add(longest);
         let mut room = [0u8; ROOM];
         for _ in 0..u64::MAX {
             let goes_on = match self.read_until(Some(until), &mut room) {

@@ -5,7 +5,7 @@ ghost use Rattle.hsms_frame.specs.Count.{next_count};
 ghost use Rattle.hsms_frame.specs.Ahead.{ReadsMore};
 ghost use Rattle.hsms_frame.specs.Device.{WhereTold, IsAtEnd};
 ghost use Rattle.hsms_frame.specs.Framing.{IsFrontOf};
-ghost use Rattle.hsms_show.specs.Ahead.{FindsHolding, FindsNext, IsUnread, Tells, TellsFound, EndsAs, is_open};
+ghost use Rattle.hsms_show.specs.Ahead.{FindsHolding, FindsNext, IsUnread, TellsFound, EndsAs, is_open};
 ghost use Rattle.hsms_lines.specs.Devices.{CountsFailure, HasWord, IsReadOrWrite};
 
 use hsms_frame::{Ahead, AheadFault, FrameFault, Header, Sink, Source, front};
@@ -142,18 +142,7 @@ fn told_found(
 {
     match found {
         Ok(found) => Ok(found),
-        Err(fault) => Err(told(alloc, fault)),
-    }
-}
-
-// A fault of octets in words, or want of memory for them.
-fn told(alloc: Global, fault: FrameFault) -> ToolFault
-    ensures { Tells fault result }
-{
-    match fault {
-        FrameFault::Memory => ToolFault::Memory,
-        FrameFault::TooShort { .. } | FrameFault::TooLong { .. } => {
-            refusal(fault.to_string(alloc))
-        }
+        Err(FrameFault::Memory) => Err(ToolFault::Memory),
+        Err(fault) => Err(refusal(fault.to_string(alloc))),
     }
 }

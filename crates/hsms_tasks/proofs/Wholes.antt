@@ -3,11 +3,11 @@ use Rattle.std.proofs.Common.{◌≡◌, ◌≤◌, ◌<◌, ◌+◌, ◌++◌, 
 use Rattle.std.specs.Prelude.{Option}
 use Rattle.std.proofs.lemmas.List.{append-nil, append_assoc, length-append, take-append-drop, take_at}
 use Rattle.std.proofs.lemmas.Bool.Decides.{nat_tests}
-use Rattle.hsms_frame.specs.Device.{WhereTold, Takes, IsAtEnd, Stays, ends_after}
+use Rattle.hsms_frame.specs.Device.{WhereTold, Takes, IsAtEnd, ends_after}
 use Rattle.hsms_options.specs.declared.fault.ToolFault.{ToolFault}
 use Rattle.hsms_options.specs.declared.fault.ToolFault.TheVariants.{Refused, Device, Memory}
 use Rattle.hsms_tasks.specs.Encode.{IsReadPast, IsPartOfInput}
-use Rattle.hsms_lines.specs.Devices.{CountsFailure, HasWord, IsRead}
+use Rattle.hsms_lines.specs.Devices.{CountsFailure, HasWord}
 use Rattle.hsms_options.specs.Status.{IsRefusedAs}
 
 -- these octets were read, and the others are left
@@ -54,15 +54,6 @@ refused limit input octets (Refused words) left read past told_as = (read.1 past
 refused limit input octets (Device word) left read past told_as = absurd told_as
 refused limit input octets Memory left read past told_as = tt
 
--- a read failed, and took nothing
-pub fails_to_read : (initial mid left : Option (List ℕ)) (octets : List ℕ) (limit : ℕ) (fault : ToolFault) → ReadSoFar initial mid octets
-    → length octets ≤ limit → Stays mid left → IsRead fault → WhereTold initial (λ input. IsPartOfInput limit input fault left)
-fails_to_read initial mid left octets limit (Refused words) so_far within stays is input told = absurd is
-fails_to_read initial mid left octets limit (Device word) so_far within stays is input told =
-    let a = so_far input told in
-    (is, (octets, a.0, within, a.1, stays a.0 a.2))
-fails_to_read initial mid left octets limit Memory so_far within stays is input told = tt
-
 -- a vector whose whole slice was written
 pub rewritten : (len : ℕ) (part old : List ℕ) → length part ≡ len → take len (part ++ drop (length part) old) ≡ part
 rewritten len part old size = take_at part (drop (length part) old) len size
@@ -82,8 +73,3 @@ pub worded : (words word : List ℕ) (fault : ToolFault) → IsRefusedAs words f
 worded words word (Refused given) told_as = tt
 worded words word (Device given) told_as = absurd told_as
 worded words word Memory told_as = tt
-
-pub word_of_read : (fault : ToolFault) → IsRead fault → HasWord (codes "Read") fault
-word_of_read (Refused given) is = absurd is
-word_of_read (Device given) is = is
-word_of_read Memory is = tt

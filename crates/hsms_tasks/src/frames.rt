@@ -10,17 +10,6 @@ use hsms_options::{Encoding, ToolFault, refusal, refused};
 use secs_text::{Head, Receiver};
 use std::alloc::{AllocError, Global};
 
-// Adds octets, if there are any.
-#[inline(always)]
-fn push_some(output: &mut Vec<u8>, octets: &[u8]) -> Result<(), AllocError>
-    ensures { OnOk result (output.new.items ≡ output.old.items ++ octets.now) }
-{
-    if octets.is_empty() {
-        return Ok(());
-    }
-    output.extend_from_slice(octets)
-}
-
 // Adds the octets of a frame.
 fn push_octets(output: &mut Vec<u8>, header: Header, text: &[u8]) -> Result<(), AllocError>
     requires { 10 + length text.now < 2 ^ 32 }
@@ -28,7 +17,10 @@ fn push_octets(output: &mut Vec<u8>, header: Header, text: &[u8]) -> Result<(), 
 {
     let length = 10 + text.len() as u32;
     output.extend_from_slice(&front_octets(length, header))?;
-    push_some(output, text)?;
+    if text.is_empty() {
+        return Ok(());
+    }
+    output.extend_from_slice(text)?;
     Ok(())
 }
 

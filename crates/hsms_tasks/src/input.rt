@@ -1,10 +1,10 @@
 //! The whole of an input.
 
-ghost use Rattle.std.specs.Prelude.{◌≡◌, ◌≤◌, ◌<◌, length, vec_len, IfOk, OnOk, IfErr, OnErr, Ok, codes};
+ghost use Rattle.std.specs.Prelude.{◌≡◌, ◌≤◌, vec_len, IfOk, OnOk, IfErr, codes};
 ghost use Rattle.hsms_frame.specs.Count.{next_count};
-ghost use Rattle.hsms_frame.specs.Device.{WhereTold, Takes, IsAtEnd, Stays, ends_after};
+ghost use Rattle.hsms_frame.specs.Device.{WhereTold};
 ghost use Rattle.hsms_tasks.specs.Encode.{IsWholeInput, IsReadPast, IsPartOfInput};
-ghost use Rattle.hsms_lines.specs.Devices.{CountsFailure, HasWord, IsRead};
+ghost use Rattle.hsms_lines.specs.Devices.{CountsFailure, HasWord};
 
 use hsms_frame::Source;
 use hsms_options::{ToolFault, refused};
@@ -47,29 +47,13 @@ fn read_past<R: Source>(alloc: Global, source: &mut R, limit: usize) -> Result<V
     let mut octets = Vec::new(alloc);
     let mut block = vec![in alloc; 0u8; BLOCK]?;
     while octets.len() <= limit {
-        let count = pull(source, &mut block)?;
+        let Ok(count) = source.pull(&mut block) else {
+            return Err(ToolFault::Device("Read"));
+        };
         if count == 0 {
             return Ok(octets);
         }
         octets.extend_from_slice(&block[..count])?;
     }
     Ok(octets)
-}
-
-/// Reads some octets to the front of a slice with room, and says how many: none only at the end of the input.
-pub fn pull<R: Source>(source: &mut R, into: &mut [u8]) -> Result<usize, ToolFault>
-    ensures len { length into.new ≡ length into.old }
-    ensures bound { IfOk result (λ n. n ≤ length into.new) }
-    ensures octets { IfOk result (λ n. Takes (R.state source.old).left (R.state source.new).left n into.new) }
-    ensures end { IfOk result (λ n. n ≡ 0 → 0 < length into.new → IsAtEnd (R.state source.old).left) }
-    ensures ends { IfOk result (λ n. (R.state source.new).ends
-        ≡ ends_after (length into.new) (Ok n) (R.state source.old).ends) }
-    ensures none_lost { OnErr result (Stays (R.state source.old).left (R.state source.new).left) }
-    ensures word { IfErr result IsRead }
-    ensures reads { CountsFailure (codes "Read") result (R.state source.old).failures (R.state source.new).failures }
-{
-    match source.pull(into) {
-        Ok(count) => Ok(count),
-        Err(_) => Err(ToolFault::Device("Read")),
-    }
 }

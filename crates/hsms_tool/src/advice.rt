@@ -1,7 +1,7 @@
 //! Words for people: what a fault says, and what to do about it.
 
 use crate::place::placed;
-use hsms_options::ToolFault;
+use hsms_options::{Service, ToolFault};
 use std::alloc::{AllocError, Global};
 use std::io::{BufRead, ErrorKind};
 
@@ -29,19 +29,19 @@ pub struct Failure {
 
 impl Failure {
     /// A fault, and what is known of it.
-    pub fn of(fault: ToolFault, known: Known) -> Failure {
+    pub fn new(fault: ToolFault, known: Known) -> Failure {
         Failure { fault, known }
     }
 
     /// A fault, and what is to be said of it, unless memory was wanting for that.
     pub fn said(fault: ToolFault, words: Result<String, AllocError>) -> Failure {
-        Failure::of(fault, words.map_or(Known::Nothing, Known::Said))
+        Failure::new(fault, words.map_or(Known::Nothing, Known::Said))
     }
 }
 
 impl From<ToolFault> for Failure {
     fn from(fault: ToolFault) -> Failure {
-        Failure::of(fault, Known::Nothing)
+        Failure::new(fault, Known::Nothing)
     }
 }
 
@@ -60,53 +60,40 @@ const CAPTURES: [[u8; 4]; 5] = [
     [0x0a, 0x0d, 0x0d, 0x0a],
 ];
 
-/// The words for a fault: what happened, and what to do. They may be several lines.
+/// The words for a fault: what happened, and what to do. They may be several lines. Of a notation they begin with the
+/// place, where the fault has one: the line and the column; the line itself follows, with a mark below the place.
 pub fn words_for(alloc: Global, failure: &Failure) -> Result<String, AllocError> {
     let name = failure.fault.to_string(alloc)?;
     let name = name.as_str();
+    let (name, place) = name.split_once(" at=").unwrap_or((name, ""));
+    let sentence = said_of(name, SENTENCES).unwrap_or("see docs/FORMATS.md");
     let said = match &failure.known {
         Known::Said(words) => words.as_str(),
-        Known::Notation(input) => return notation_words(alloc, name, input),
+        Known::Notation(input) => match place.parse::<usize>() {
+            Ok(at) => return placed(alloc, input, at, sentence),
+            Err(_) => sentence,
+        },
         Known::Packets => {
             "this is a pcap file, a capture of packets: hsms capture reads it, and docs/CAPTURES.md tells more"
         }
-        Known::Capture => said_of(name, CAPTURE_SENTENCES).unwrap_or(sentence(name)),
-        Known::Nothing => sentence(name),
+        Known::Capture => said_of(name, CAPTURE_SENTENCES).unwrap_or(sentence),
+        Known::Nothing => sentence,
     };
     String::from_str(alloc, said)
 }
 
 /// Whether a file of packets begins as this input does, of which nothing was read yet.
 pub fn begins_as_capture<R: BufRead>(input: &mut R) -> bool {
-    match input.fill_buf() {
-        Ok(octets) => CAPTURES.iter().any(|mark| octets.starts_with(mark)),
-        Err(_) => false,
-    }
-}
-
-// The words for a fault of a notation: with the place, where the fault has one, the line and the column, and the line
-// itself with a mark below the place.
-fn notation_words(alloc: Global, name: &str, input: &[u8]) -> Result<String, AllocError> {
-    let what = sentence(name);
-    match told_place(name) {
-        Some(at) => placed(alloc, input, at, what),
-        None => String::from_str(alloc, what),
-    }
-}
-
-// The place that a fault of a notation has.
-fn told_place(name: &str) -> Option<usize> {
-    let (_, number) = name.split_once(" at=")?;
-    number.parse().ok()
+    input.fill_buf().is_ok_and(|octets| CAPTURES.iter().any(|mark| octets.starts_with(mark)))
 }
 
 /// Why there is no connection.
 pub fn link_words(
     alloc: Global,
-    address: &str,
-    port: u16,
+    service: &Service<'_>,
     kind: ErrorKind,
 ) -> Result<String, AllocError> {
+    let (address, port) = (service.address, service.port);
     match kind {
         ErrorKind::ConnectionRefused => format!(in alloc;
             "connection refused by {address}:{port}: nobody listens there. Start the other end first, or see --address and --port"
@@ -165,11 +152,6 @@ const CAPTURE_SENTENCES: &str = "\
     Overlap: here a connection comes up while another one is up, and a log has one at a time: without --log each is judged\n\
     Peer: this connection is one of other addresses, and a log is of two: say by --with which peer is meant\n\
     NoConnection: no connection came up at --port: is this the port of HSMS, and does the capture begin before the connection does, or is --joined given?";
-
-// What a fault of this name says, and what to do.
-fn sentence(name: &str) -> &'static str {
-    said_of(name, SENTENCES).unwrap_or("see docs/FORMATS.md")
-}
 
 // What a table says of the first word of a fault, which may have its place behind that.
 fn said_of(name: &str, table: &'static str) -> Option<&'static str> {

@@ -7,7 +7,8 @@ use Rattle.hsms_log.specs.Spelling.{role_word}
 use Rattle.hsms_log.specs.declared.verdict.Why.TheVariants.{Unreadable, Broken}
 use Rattle.hsms_log.specs.declared.verdict.Verdict.{Verdict}
 use Rattle.hsms_log.specs.declared.verdict.Verdict.TheVariants.{Pass, Fail}
-use Rattle.hsms_lines.specs.Verdict.{rule_name, verdict_line_of}
+use Rattle.hsms_machine.specs.Rule.{rule_name}
+use Rattle.hsms_lines.specs.Verdict.{verdict_line_of}
 use Rattle.hsms_capture.specs.declared.packet.Side.{Side}
 use Rattle.hsms_capture.specs.declared.packet.Side.TheVariants.{Active, Passive}
 use Rattle.hsms_accounts.specs.declared.account.Told.{Told}

@@ -7,7 +7,7 @@ ghost use Rattle.hsms_wire.specs.Line.{address_text, end_line_of, front_of, lack
 use crate::shortfall::Shortfall;
 use hsms_accounts::{Pair, Told};
 use hsms_capture::Side;
-use hsms_lines::{rule_name, verdict_line};
+use hsms_lines::verdict_line;
 use hsms_log::{Verdict, Why};
 use hsms_machine::Role;
 use std::alloc::{AllocError, Global};
@@ -112,7 +112,7 @@ fn push_verdict(
     match why {
         Why::Unreadable => write!(line, "fail line={number} packet={packet} unreadable\n"),
         Why::Broken(rule) => {
-            let name = rule_name(rule);
+            let name = rule.name();
             write!(line, "fail line={number} packet={packet} rule={name}\n")
         }
     }

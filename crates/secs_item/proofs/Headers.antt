@@ -62,6 +62,9 @@ format_with_code-code_of format.U1 = refl
 format_with_code-code_of format.U2 = refl
 format_with_code-code_of format.U4 = refl
 
+pub code_of_list : format_with_code 0 ≡ Some format.List
+code_of_list = format_with_code-code_of format.List
+
 code_is : (code : ℕ) (f : Format) → format_with_code code ≡ Some f → code_of f ≡ code
 unfolding format_with_code
 code_is code f e = code_among all_formats code f e
@@ -153,3 +156,9 @@ header_reads depth f field number rest some few fits deep_enough whole =
     let left : length after - field ≡ length rest = omega arith in
     rw (low, high, there, format_with_code-code_of f, allowed, long, value, left)
     (ok_body (is_list f) (eqb (number % value_size f) 0) (ltb (length rest) number) (record { format = f; size = 1 + field; length = number }) (λ lists. (eq-eqb _ 0 (whole lists).0, le-ltb _ _ (whole lists).1)))
+
+-- a list whose length octet is missing
+pub short_list_cut : (depth : ℕ) (rest : List ℕ) → length rest < 1 → 0 < depth → header_at depth (1 ∷ rest) ≡ Err truncated
+unfolding header_at
+short_list_cut depth [] none some = rw (code_of_list, is_deep true depth (λ e. some)) refl
+short_list_cut depth (octet ∷ rest) none some = absurd (omega (arith, none))

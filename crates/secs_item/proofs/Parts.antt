@@ -22,18 +22,18 @@ unfolding format_with_code
 masks_right first lt = eqb-true _ _ (agree_below_at (λ k. eqb (get_or MASKS k 0) (mask_for (short_format k))) (λ k. true) 256 first refl lt)
 
 -- one octet alone begins a list with one length octet
-pub list_mask : (first : ℕ) → first < 256 → get_or MASKS first 0 ≡ 0x80 → first ≡ 1
+pub list_mask : (first : ℕ) → first < 256 → get_or MASKS first 0 ≡ 8 → first ≡ 1
 list_mask first lt is =
-    let same = agree_below_at (λ k. eqb (get_or MASKS k 0) 0x80) (λ k. eqb k 1) 256 first refl lt in
+    let same = agree_below_at (λ k. eqb (get_or MASKS k 0) 8) (λ k. eqb k 1) 256 first refl lt in
     eqb-true first 1 (sym same ∙ eq-eqb _ _ is)
 
 -- one length octet follows where the mask is that of values
-short_mask : (first mask : ℕ) → mask ≡ mask_for (short_format first) → mask < 128 → (first % 4 ≡ 1) × (mask ≡ mask_for (format_with_code (first / 4)))
+short_mask : (first mask : ℕ) → mask ≡ mask_for (short_format first) → mask < 8 → (first % 4 ≡ 1) × (mask ≡ mask_for (format_with_code (first / 4)))
 short_mask first mask is low = by_test (eqb (first % 4) 1) refl
   where
     by_test : (b : Bool) → eqb (first % 4) 1 ≡ b → (first % 4 ≡ 1) × (mask ≡ mask_for (format_with_code (first / 4)))
     by_test true e = (eqb-true _ _ e, is ∙ rw e refl)
-    by_test false e = let m : mask ≡ 0xff = is ∙ rw e refl in absurd (omega arith)
+    by_test false e = let m : mask ≡ 0x2E = is ∙ rw e refl in absurd (omega arith)
 
 -- where a number has none of the bits of a format's mask, it is a number of whole values
 mask_is_size : (f : Format) (n : ℕ) → bit_and n (value_size f - 1) ≡ n % value_size f
@@ -95,16 +95,16 @@ list_read depth place number octets room first is deep =
     (ap (header_at depth) front ∙ faultless depth 1 rest format.List (λ e. absurd cc) long refl (λ lists. deep) (λ lists. absurd cc)) refl
 
 -- the format with this code has this mask
-values_with : (o : Option Format) (mask : ℕ) → mask ≡ mask_for o → mask < 128 → (f : Format) × (o ≡ Some f) × (is_list f ≡ false) × (mask ≡ value_size f - 1)
+values_with : (o : Option Format) (mask : ℕ) → mask ≡ mask_for o → mask < 8 → (f : Format) × (o ≡ Some f) × (is_list f ≡ false) × (mask ≡ value_size f - 1)
 values_with None mask is low = absurd (omega arith)
 values_with (Some f) mask is low = by_kind (is_list f) refl
   where
     by_kind : (b : Bool) → is_list f ≡ b → (g : Format) × (Some f ≡ Some g) × (is_list g ≡ false) × (mask ≡ value_size g - 1)
-    by_kind true lists = let m : mask ≡ 0x80 = is ∙ rw lists refl in absurd (omega arith)
+    by_kind true lists = let m : mask ≡ 8 = is ∙ rw lists refl in absurd (omega arith)
     by_kind false lists = (f, refl, lists, is ∙ rw lists refl)
 
 -- a header of values
-values_of_field : (depth place first number field : ℕ) (octets rest : List ℕ) (mask : ℕ) → drop place octets ≡ first ∷ rest → field ≡ first % 4 → (field ≡ 0 → ⊥) → field ≤ length rest → mask ≡ mask_for (format_with_code (first / 4)) → mask < 128
+values_of_field : (depth place first number field : ℕ) (octets rest : List ℕ) (mask : ℕ) → drop place octets ≡ first ∷ rest → field ≡ first % 4 → (field ≡ 0 → ⊥) → field ≤ length rest → mask ≡ mask_for (format_with_code (first / 4)) → mask < 8
     → number ≡ big_number field rest → bit_and number mask ≡ 0 → number ≤ length rest - field
     → ◌≡◌ {A = Result Part ItemFault} (Ok (record { end = place + 1 + field + number; elements = 0 })) (part_from place (header_at depth (drop place octets)))
 values_of_field depth place first number field octets rest mask front field_is some long is low number_is whole there =
@@ -116,7 +116,7 @@ values_of_field depth place first number field octets rest mask front field_is s
     ∙ from_values place (header_at depth (drop place octets)) (record { format = p.0; size = 1 + first % 4; length = big_number (first % 4) rest }) (ap (header_at depth) front ∙ read) p.2
 
 -- the same with one length octet
-pub values_read : (depth place number mask : ℕ) (octets : List ℕ) → place + 2 ≤ length octets → mask ≡ mask_for (short_format (get_or octets place 0)) → mask < 128
+pub values_read : (depth place number mask : ℕ) (octets : List ℕ) → place + 2 ≤ length octets → mask ≡ mask_for (short_format (get_or octets place 0)) → mask < 8
     → number ≡ get_or octets (place + 1) 0 → bit_and number mask ≡ 0 → place + 2 + number ≤ length octets
     → ◌≡◌ {A = Result Part ItemFault} (Ok (record { end = place + 2 + number; elements = 0 })) (part_from place (header_at depth (drop place octets)))
 values_read depth place number mask octets room mask_is low is whole there =

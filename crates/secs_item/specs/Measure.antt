@@ -24,10 +24,10 @@ part_from place (Err reason) = Err (fault_at place reason)
 abbrev pub short_format : ℕ → Option Format
 short_format first = if first % 4 == 1 then format_with_code (first / 4) else None
 
--- by format: the octets of one value, less one; 0x80 for a list, and 0xff where there is none
+-- by format: the octets of one value, less one; 8 for a list, and the code of a point where there is none
 abbrev pub mask_for : Option Format → ℕ
-mask_for None = 0xff
-mask_for (Some format) = if is_list format then 0x80 else (value_size format - 1)
+mask_for None = 0x2E
+mask_for (Some format) = if is_list format then 8 else (value_size format - 1)
 
 -- what is known of a part that is read at a place of so many octets
 pub record LiesIn (depth place octets : ℕ) (part : Part) : Type 0 where

@@ -1,6 +1,6 @@
 //! Item headers.
 
-ghost use Rattle.std.specs.Prelude.{◌≡◌, ◌≤◌, ◌<◌, ◌+◌, ◌%◌, ◌^◌, ◌∷◌, true, false, length, take, drop, IfOk};
+ghost use Rattle.std.specs.Prelude.{◌≡◌, ◌≤◌, ◌<◌, ◌+◌, ◌%◌, ◌^◌, true, false, length, take, drop, IfOk};
 ghost use Rattle.byteorder.specs.Endian.{big_number};
 ghost use Rattle.secs_item.specs.Format.{is_list, value_size};
 ghost use Rattle.secs_item.specs.Header.{header_at};
@@ -56,30 +56,6 @@ pub(crate) fn header_octets(format: Format, field: usize, number: usize) -> [u8;
     }
 }
 
-/// Reads the rest of a list's header, whose first octet stands at `place` and says that one length octet follows.
-#[inline(always)]
-#[tactic(auto, unfolding(crate::specs::Header::header_at, crate::specs::Format::format_with_code))]
-fn short_list(rest: &[u8], place: usize, depth: u8) -> Result<Header, ItemFault>
-    requires { place + length rest.now + 1 < 2 ^ 64 }
-    ensures read { result ≡ header_from place (header_at depth (1 ∷ rest.now)) }
-    ensures list { IfOk result (λ h. is_list h.format ≡ true) }
-    ensures deep { IfOk result (λ h. 0 < depth) }
-    ensures behind { IfOk result (λ h. place < h.body) }
-    ensures header { IfOk result (λ h. h.body ≤ place + 1 + length rest.now) }
-{
-    if depth == 0 {
-        return Err(ItemFault::Deep { at: place });
-    }
-    if rest.is_empty() {
-        return Err(ItemFault::Truncated { at: place });
-    }
-    Ok(Header {
-        format: Format::List,
-        body: place + 2,
-        length: read_length(rest, 1),
-    })
-}
-
 /// Reads the header at `place`, where lists may still be nested `depth` deep. The body of an item that isn't a list is
 /// there whole: one that is cut off is a fault.
 ///
@@ -87,7 +63,7 @@ fn short_list(rest: &[u8], place: usize, depth: u8) -> Result<Header, ItemFault>
 ///
 /// The first fault of the header, at `place`.
 #[inline(always)]
-#[tactic(auto, unfolding(crate::specs::Header::header_at))]
+#[tactic(auto, unfolding(crate::specs::Header::header_at), using(crate::proofs::Headers::code_of_list))]
 pub fn read_header(octets: &[u8], place: usize, depth: u8) -> Result<Header, ItemFault>
     requires { place ≤ length octets.now }
     ensures read { result ≡ header_from place (header_at depth (drop place octets.now)) }
@@ -101,7 +77,17 @@ pub fn read_header(octets: &[u8], place: usize, depth: u8) -> Result<Header, Ite
         return Err(ItemFault::Truncated { at: place });
     };
     if first == SHORT_LIST {
-        return short_list(rest, place, depth);
+        if depth == 0 {
+            return Err(ItemFault::Deep { at: place });
+        }
+        let [length, ..] = rest else {
+            return Err(ItemFault::Truncated { at: place });
+        };
+        return Ok(Header {
+            format: Format::List,
+            body: place + 2,
+            length: usize::from(*length),
+        });
     }
     let length_octets = usize::from(first % 4);
     if length_octets == 0 {

@@ -56,30 +56,21 @@ fn end_of_elements<const N: usize>(
     }
 }
 
-/// The same, with a row for no more counts than are needed in most sessions, or for all.
-fn end_of_list(octets: &[u8], place: usize, count: usize, depth: u8) -> Result<usize, ItemFault>
-    requires within { place ≤ length octets.now }
-    requires some { 0 < depth }
-    requires few { depth ≤ 100 }
-    ensures { result ≡ end_from place (elements_by (item_at (depth - 1)) count (drop place octets.now)) }
-{
-    if usize::from(depth) <= USUAL_DEPTH {
-        end_of_elements::<USUAL_DEPTH>(octets, place, count, depth)
-    } else {
-        end_of_elements::<MAX_DEPTH>(octets, place, count, depth)
-    }
-}
-
-/// The place after the item at the front. Only where that is a list with elements are counts made.
+/// The place after the item at the front. Only where that is a list with elements are counts made: a row of no more than
+/// are needed in most sessions, or of all.
 fn end_of_item(octets: &[u8], depth: u8) -> Result<usize, ItemFault>
     requires { depth ≤ 100 }
     ensures { result ≡ end_from 0 (item_at depth octets.now) }
 {
     let part = read_part(octets, 0, depth)?;
-    if part.elements > 0 {
-        return end_of_list(octets, part.end, part.elements, depth);
+    if part.elements == 0 {
+        return Ok(part.end);
     }
-    Ok(part.end)
+    if usize::from(depth) <= USUAL_DEPTH {
+        end_of_elements::<USUAL_DEPTH>(octets, part.end, part.elements, depth)
+    } else {
+        end_of_elements::<MAX_DEPTH>(octets, part.end, part.elements, depth)
+    }
 }
 
 /// How many octets spell the item at the front. Its lists are nested at most `depth` deep, and the depth is at most

@@ -32,8 +32,7 @@ impl Value for bool {
     }
 
     fn push_octets(self, octets: &mut Vec<u8>) -> Result<(), AllocError> {
-        octets.push(u8::from(self))?;
-        Ok(())
+        octets.extend_from_slice(&[u8::from(self)])
     }
 }
 
@@ -45,8 +44,7 @@ impl Value for i8 {
     }
 
     fn push_octets(self, octets: &mut Vec<u8>) -> Result<(), AllocError> {
-        octets.push(self.cast_unsigned())?;
-        Ok(())
+        octets.extend_from_slice(&self.to_be_bytes())
     }
 }
 

@@ -16,7 +16,7 @@ use Rattle.secs_text.specs.Fault.{any_messages}
 use Rattle.secs_text.specs.Places.{Rules, Before, walk, start, type_wanted, after_type, in_item, after_name, ◌>>=◌}
 use Rattle.secs_text.specs.Reads.{count_seen}
 use Rattle.secs_text.specs.Spellings.{named}
-use Rattle.secs_text.specs.declared.count.Count.{Count}
+use Rattle.secs_text.specs.declared.token.Count.{Count}
 use Rattle.secs_text.specs.declared.fault.TextFault.TheVariants as fault
 use Rattle.secs_text.specs.declared.token.Token.{Token}
 use Rattle.secs_text.specs.Octets.{is_white, is_digit, is_of_word}

@@ -1,13 +1,15 @@
 -- Putting octets into a block, one word after another.
-use Rattle.std.proofs.Common.{◌≡◌, ℕ, zero, suc, ◌+◌, ◌*◌, ◌/◌, ◌%◌, ◌≤◌, ◌<◌, ◌^◌, true, cond, eqb, ltb, lt-ltb, le-ltb, List, [], ◌∷◌, ◌++◌, length, get_or, take, drop, codes, refl, ap, sym, ◌∙◌, arith, append_assoc, append-nil, subst, length-append, length-take-le, take-add, take-take, take_at, drop_at}
+use Rattle.std.proofs.Common.{◌≡◌, ℕ, zero, suc, ◌+◌, ◌*◌, ◌/◌, ◌%◌, ◌≤◌, ◌<◌, ◌^◌, ◌&&◌, Bool, true, cond, eqb, ltb, lt-ltb, le-ltb, List, [], ◌∷◌, ◌++◌, length, get_or, take, drop, codes, refl, ap, sym, ◌∙◌, arith, append_assoc, append-nil, subst, length-append, length-take-le, take-add, take-take, take_at, drop_at}
 use Rattle.std.specs.Fmt.{decimal}
 use Rattle.std.specs.Cmp.Lexicographic.{pointwise}
-use Rattle.std.proofs.lemmas.Bool.{agree_below_at, ltb-true}
+use Rattle.std.proofs.lemmas.Bool.{ltb-true}
+use Rattle.std.proofs.lemmas.List.{drop-drop, drop-take}
 use Rattle.std.proofs.lemmas.Fmt.{AppendsLastDigit, decimal_from_appends, decimal_step, length-decimal-le}
 use Rattle.secs_item.specs.Equality.{octets_Decides}
 use Rattle.secs_text.specs.declared.tables.TheConstants.{WORDS, NUMBERS}
-use Rattle.secs_text.specs.Laid.{Laid, Puts, two_decimals}
+use Rattle.secs_text.specs.Laid.{IsPlace, Laid, Puts, two_decimals}
 use Rattle.secs_text.specs.Printed.{hexadecimal, two_digits}
+use Rattle.secs_text.proofs.Fronts.{both}
 
 -- a second text begins where the first ended
 pub laid_then : {a b c xs ys : List ℕ} {i j k : ℕ} → Laid a b i xs j → Laid b c j ys k → Laid a c i (xs ++ ys) k
@@ -36,13 +38,29 @@ laid_less {a} {b} {xs} {i} {j} n within few p =
 
 -- ---- the tables
 
+-- whether the next rows of a table are right, each of so many octets
+abbrev rows : ℕ → (ℕ → List ℕ → Bool) → ℕ → ℕ → List ℕ → Bool
+rows size right zero k table = true
+rows size right (suc n) k table = right k table && rows size right n (k + 1) (drop size table)
+
+row_at : (size : ℕ) (right : ℕ → List ℕ → Bool) (n k i j m : ℕ) (table : List ℕ) → rows size right n k table ≡ true → i < n → j ≡ k + i → m ≡ size * i → right j (drop m table) ≡ true
+row_at size right zero k i j m table all lt number place = absurd (omega arith)
+row_at size right (suc n) k zero j m table all lt number place =
+    let first : j ≡ k = omega arith in
+    let front : m ≡ 0 = omega (arith, place) in
+    rw (first, front) (both _ _ all).0
+row_at size right (suc n) k (suc i) j m table all lt number place =
+    let further : size + size * i ≡ m = grind (arith, place) in
+    ap (λ o. right j o) (sym (drop-drop (size * i) size table ∙ ap (λ q. drop q table) further))
+    ∙ row_at size right n (k + 1) i j (size * i) (drop size table) (both _ _ all).1 (omega arith) (omega arith) refl
+
 pub words_right : (octet : ℕ) → octet < 256 → take 5 (drop (8 * octet) WORDS) ≡ codes " " ++ hexadecimal (octet ∷ [])
 words_right octet lt =
-    (octets_Decides _ _).0 (agree_below_at (λ k. pointwise eqb (take 5 (drop (8 * k) WORDS)) (codes " " ++ hexadecimal (k ∷ []))) (λ k. true) 256 octet refl lt)
+    (octets_Decides _ _).0 (row_at 8 (λ k word. pointwise eqb (take 5 word) (codes " " ++ hexadecimal (k ∷ []))) 256 0 octet octet (8 * octet) WORDS refl lt (omega arith) refl)
 
 pub digits_right : (octet : ℕ) → octet < 256 → take 2 (drop (8 * octet + 3) WORDS) ≡ two_digits octet
 digits_right octet lt =
-    (octets_Decides _ _).0 (agree_below_at (λ k. pointwise eqb (take 2 (drop (8 * k + 3) WORDS)) (two_digits k)) (λ k. true) 256 octet refl lt)
+    ap (take 2) (sym (drop-drop 3 (8 * octet) WORDS)) ∙ sym (drop-take 3 2 (drop (8 * octet) WORDS)) ∙ ap (drop 3) (words_right octet lt)
 
 -- the digits of a number, at most so many
 abbrev by_digits : ℕ → ℕ → List ℕ
@@ -52,19 +70,19 @@ by_digits (suc k) n = cond (ltb n 10) ((48 + n) ∷ []) (by_digits k (n / 10) ++
 appends : AppendsLastDigit by_digits
 appends = record { one = λ k n lt. rw (lt-ltb n 10 lt) refl; more = λ k n le. rw (le-ltb n 10 le) refl }
 
-abbrev number_at : ℕ → List ℕ
-number_at n = drop (4 * n) NUMBERS
-
 pub numbers_right : (n : ℕ) → n < 256 → take (get_or (drop (4 * n) NUMBERS) 3 0) (drop (4 * n) NUMBERS) ≡ decimal n
 numbers_right n lt =
-    (octets_Decides _ _).0 (agree_below_at (λ k. pointwise eqb (take (get_or (number_at k) 3 0) (number_at k)) (by_digits 3 k)) (λ k. true) 256 n refl lt)
+    (octets_Decides _ _).0 (row_at 4 (λ k number. pointwise eqb (take (get_or number 3 0) number) (by_digits 3 k)) 256 0 n n (4 * n) NUMBERS refl lt (omega arith) refl)
     ∙ decimal_from_appends by_digits appends 3 n (omega arith) (length-decimal-le 3 n (omega arith) (omega arith) (omega arith))
 
 pub numbers_short : (n : ℕ) → n < 256 → get_or (drop (4 * n) NUMBERS) 3 0 < 5
-numbers_short n lt = ltb-true _ 5 (agree_below_at (λ k. ltb (get_or (number_at k) 3 0) 5) (λ k. true) 256 n refl lt)
+numbers_short n lt = ltb-true _ 5 (row_at 4 (λ k number. ltb (get_or number 3 0) 5) 256 0 n n (4 * n) NUMBERS refl lt (omega arith) refl)
 
 pub pairs_right : (n : ℕ) → n < 100 → take 2 (drop (4 * n + 401) NUMBERS) ≡ two_decimals n
-pairs_right n lt = (octets_Decides _ _).0 (agree_below_at (λ k. pointwise eqb (take 2 (drop (4 * k + 401) NUMBERS)) (two_decimals k)) (λ k. true) 100 n refl lt)
+pairs_right n lt =
+    let place : 401 + 4 * n ≡ 4 * n + 401 = omega arith in
+    ap (take 2) (sym (drop-drop (4 * n) 401 NUMBERS ∙ ap (λ m. drop m NUMBERS) place))
+    ∙ (octets_Decides _ _).0 (row_at 4 (λ k pair. pointwise eqb (take 2 pair) (two_decimals k)) 100 0 n n (4 * n) (drop 401 NUMBERS) refl lt (omega arith) refl)
 
 -- a number by its hundreds
 pub decimal_hundreds : (n : ℕ) → 100 ≤ n → n < 2 ^ 64 → decimal (n / 100) ++ two_decimals (n % 100) ≡ decimal n
@@ -78,19 +96,17 @@ decimal_hundreds n enough small =
 
 -- ---- putting them to an output
 
-pub puts_nothing : (G : List ℕ → Type 0) (block : List ℕ) (at : ℕ) → at ≤ 65536 → length block ≡ 65536 → Puts G block at G block at []
-puts_nothing G block at within size = record {
+pub puts_nothing : (G : List ℕ → Type 0) (block : List ℕ) (at : ℕ) → IsPlace block at → Puts G block at G block at []
+puts_nothing G block at place = record {
   octets = λ given h. (given, h, sym (append-nil (given ++ take at block)));
-  within = within;
-  size = size;
+  place = place;
 }
 
 -- all that stands in the block was given
-pub puts_given : (G H : List ℕ → Type 0) (block : List ℕ) (at : ℕ) → length block ≡ 65536 → ((given : List ℕ) → G given → H (given ++ take at block)) → Puts G block at H block 0 []
-puts_given G H block at size gives = record {
+pub puts_given : (G H : List ℕ → Type 0) (block : List ℕ) (at : ℕ) → IsPlace block at → ((given : List ℕ) → G given → H (given ++ take at block)) → Puts G block at H block 0 []
+puts_given G H block at place gives = record {
   octets = λ given h. (given ++ take at block, gives given h, refl);
-  within = omega arith;
-  size = size;
+  place = record { size = place.size; within = omega arith };
 }
 
 -- what is laid behind what was put
@@ -99,13 +115,8 @@ puts_laid {G} {H} {block} {now} {new} {from} {at} {end} {xs} {ys} p q within = r
   octets = λ given h.
       let a = p.octets given h in
       (a.0, a.1, ap (λ o. a.0 ++ o) q.octets ∙ sym (append_assoc a.0 (take at now) ys) ∙ ap (λ o. o ++ ys) a.2 ∙ append_assoc (given ++ take from block) xs ys);
-  within = within;
-  size = q.size ∙ p.size;
+  place = record { size = q.size ∙ p.place.size; within = within };
 }
-
--- what is laid at first
-pub puts_first : (G : List ℕ → Type 0) {block new : List ℕ} {from end : ℕ} {ys : List ℕ} → from ≤ 65536 → length block ≡ 65536 → Laid block new from ys end → end ≤ 65536 → Puts G block from G new end ys
-puts_first G {block} {new} {from} within size q at_most = puts_laid (puts_nothing G block from within size) q at_most
 
 -- what is put behind what was put
 pub puts_then : {G H K : List ℕ → Type 0} {block now new : List ℕ} {from at end : ℕ} {xs ys : List ℕ} → Puts G block from H now at xs → Puts H now at K new end ys → Puts G block from K new end (xs ++ ys)
@@ -114,8 +125,7 @@ puts_then {G} {H} {K} {block} {now} {new} {from} {at} {end} {xs} {ys} p q = reco
       let a = p.octets given h in
       let b = q.octets a.0 a.1 in
       (b.0, b.1, b.2 ∙ ap (λ o. o ++ ys) a.2 ∙ append_assoc (given ++ take from block) xs ys);
-  within = q.within;
-  size = q.size;
+  place = q.place;
 }
 
 -- room was made behind what was put

@@ -1,34 +1,21 @@
 -- Octets that words of hexadecimal digits spell.
-use Rattle.std.proofs.Common.{◌≡◌, ℕ, suc, ◌+◌, ◌*◌, ◌<◌, ◌≤◌, Bool, true, false, ◌&&◌, List, [], ◌∷◌, ◌++◌, length, drop, get_or, refl, sym, ap, ◌∙◌, arith, append_assoc, append-nil, if◌then◌else◌}
+use Rattle.std.proofs.Common.{◌≡◌, ℕ, suc, ◌+◌, ◌*◌, ◌<◌, Bool, true, false, List, [], ◌∷◌, ◌++◌, length, drop, get_or, refl, sym, ap, ◌∙◌, arith, append_assoc, append-nil, if◌then◌else◌}
 use Rattle.std.specs.Prelude.{Option, Some, None, option_map, option_and_then, ◌==◌}
 use Rattle.std.proofs.Math.Seq.{drop-cons, drop-length}
-use Rattle.std.proofs.lemmas.Bool.{eqb-true, eq-eqb}
-use Rattle.secs_text.specs.Words.{octet_of, octets_of, octet_then, octet_of_digits, only, hex_octets, sized}
+use Rattle.std.proofs.lemmas.Bool.{eqb-true, eq-eqb, ne_eqb}
+use Rattle.secs_item.specs.Short.{octet_alone}
+use Rattle.secs_text.specs.Words.{octet_of, octets_of, octet_then, octet_of_digits, only, hex_octets, sized, float_of}
 
-single_of : (o : Option ℕ) (octets : Option (List ℕ)) → ((octets ≡ Some []) → ⊥) → option_and_then only (octet_then o octets) ≡ None
-single_of (Some o) (Some (p ∷ octets)) more = refl
-single_of (Some o) (Some []) more = absurd (more refl)
-single_of (Some o) None more = refl
-single_of None octets more = refl
-
-not_nothing : (o : Option ℕ) (octets : Option (List ℕ)) → octet_then o octets ≡ Some [] → ⊥
-not_nothing (Some o) (Some octets) e = cc
-not_nothing (Some o) None e = cc
-not_nothing None octets e = cc
-
-some_octets : (high : ℕ) (digits : List ℕ) → hex_octets (high ∷ digits) ≡ Some [] → ⊥
-some_octets high [] e = cc
-some_octets high (low ∷ digits) e = not_nothing (octet_of_digits high low) (hex_octets digits) e
-
--- a word of more than two digits spells no single octet
-pub long_word : (w : List ℕ) → 5 ≤ length w → octet_of w ≡ None
-unfolding octet_of octets_of
-long_word [] le = absurd (omega arith)
-long_word (a ∷ []) le = absurd (omega arith)
-long_word (a ∷ b ∷ []) le = absurd (omega arith)
-long_word (a ∷ b ∷ c ∷ []) le = absurd (omega arith)
-long_word (a ∷ b ∷ c ∷ d ∷ []) le = absurd (omega arith)
-long_word (a ∷ b ∷ c ∷ d ∷ e ∷ w) le = elim ((a == 0x30) && (b == 0x78)) as (λ t. option_and_then only (if t then hex_octets (c ∷ d ∷ e ∷ w) else None) ≡ None) [ true ↦ single_of (octet_of_digits c d) (hex_octets (e ∷ w)) (some_octets e w) | false ↦ refl ]
+-- a word that spells one octet spells as many as a float of one octet has
+pub one_octet : (w : List ℕ) → float_of 1 w ≡ option_map octet_alone (octet_of w)
+unfolding octet_of float_of
+one_octet w = alone (octets_of w)
+  where
+    alone : (octets : Option (List ℕ)) → option_and_then (sized 1) octets ≡ option_map octet_alone (option_and_then only octets)
+    alone None = refl
+    alone (Some []) = refl
+    alone (Some (o ∷ [])) = refl
+    alone (Some (o ∷ p ∷ os)) = rw (ne_eqb (length (o ∷ p ∷ os)) 1 (λ e. omega arith)) refl
 
 then_length : (o : Option ℕ) (rest : Option (List ℕ)) (n : ℕ) → ((octets : List ℕ) → rest ≡ Some octets → n ≡ 2 * length octets) → (octets : List ℕ) → octet_then o rest ≡ Some octets → n + 2 ≡ 2 * length octets
 then_length (Some o) (Some rest) n more octets e =

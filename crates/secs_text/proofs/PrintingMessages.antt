@@ -40,6 +40,6 @@ pub in_block : {G H : List ℕ → Type 0} {slice new text : List ℕ} {at : ℕ
     → (given : List ℕ) → G given → (now : List ℕ) × H now × (now ++ take at (take len (new ++ drop (length new) items)) ≡ given ++ before ++ text)
 in_block {G} {H} {slice} {new} {text} {at} items before len used front size same long p given h =
     let a = p.octets given h in
-    let there : at ≤ len = omega (arith, p.within, size, long, ap length same) in
-    let kept : take at (take len (new ++ drop (length new) items)) ≡ take at new = take-take at len (new ++ drop (length new) items) there ∙ take-append-le at new (drop (length new) items) (omega (arith, p.within, p.size)) in
+    let there : at ≤ len = omega (arith, p.place.within, size, long, ap length same) in
+    let kept : take at (take len (new ++ drop (length new) items)) ≡ take at new = take-take at len (new ++ drop (length new) items) there ∙ take-append-le at new (drop (length new) items) (omega (arith, p.place.within, p.place.size)) in
     (a.0, a.1, ap (λ o. a.0 ++ o) kept ∙ a.2 ∙ ap (λ o. given ++ o ++ text) (ap (take used) same ∙ front))

@@ -3,7 +3,7 @@ use Rattle.std.specs.Prelude.{◌≡◌, ◌^◌, ◌<◌, ◌-◌, ℕ, true, f
 use Rattle.std.specs.List.{list_all, prefix_len}
 use Rattle.std.specs.Str.Parse.{digits_value}
 use Rattle.secs_item.specs.declared.format.Format.{Format}
-use Rattle.secs_text.specs.declared.count.Count.{Count}
+use Rattle.secs_text.specs.declared.token.Count.{Count}
 use Rattle.secs_text.specs.declared.token.Token.{Token}
 use Rattle.secs_text.specs.Octets.{is_white, is_digit, is_of_word}
 use Rattle.secs_text.specs.Seen.{seen, is_last}

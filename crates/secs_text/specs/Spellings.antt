@@ -38,11 +38,6 @@ word_octets format.U8 w = option_map (big_bytes 8) (number_below (2 ^ 64) w)
 word_octets format.F4 w = float_of 4 w
 word_octets format.F8 w = float_of 8 w
 
--- the octets of a quoted text in an item of this format
-abbrev pub quoted_octets : Format → List ℕ → Option (List ℕ)
-quoted_octets format.Ascii text = Some text
-quoted_octets f text = None
-
 -- octets that were laid, if they could be
 abbrev pub laid : Bool → List ℕ → Option (List ℕ)
 laid true octets = Some octets

@@ -1,15 +1,15 @@
 //! Fast paths for tokens in canonical spacing: several are read at once where they stand as `print` writes them.
 
 ghost use Rattle.std.specs.Prelude.{◌≡◌, ◌≤◌, ◌<◌, ◌+◌, length, true, false, Some, IfSome, IfNone, OnSome};
-ghost use Rattle.secs_text.specs.AsPrinted.{IsOpening, IsWait, IsHead, NamesType, IsCounted, IsSmall, IsLettered, IsHeaded};
+ghost use Rattle.secs_text.specs.AsPrinted.{IsOpening, IsWait, IsHead, NamesType, IsCounted, IsSmall, IsLettered};
 ghost use Rattle.secs_text.specs.Left.{left, octets_left};
 ghost use Rattle.secs_text.specs.Octets.{is_of_word};
 
-use crate::count::Count;
 use crate::octet::{is_digit, is_of_word};
+use crate::token::Count;
 use crate::tokens::Tokens;
 use crate::type_name::format_named;
-use crate::word::leading_numeral;
+use crate::word::{leading_number, number_of_digits};
 use secs_item::Format;
 
 /// A type name of one or two octets at the front, and how many it has. A space and a `[` stand behind it.
@@ -43,10 +43,12 @@ fn long_count_front(octets: &[u8]) -> Option<(u64, usize)>
     ensures counts { IfSome result (λ n. IsCounted n.0 n.1 octets.now) }
     ensures within { IfSome result (λ n. n.1 < length octets.now) }
 {
-    let (number, size) = leading_numeral(octets)?;
+    let (size, number) = leading_number(octets);
     if size == octets.len() || octets[size] != b']' {
         return None;
     }
+    let (digits, _) = octets.split_at(size);
+    let number = number_of_digits(digits, number)?;
     Some((number, size))
 }
 
@@ -74,16 +76,14 @@ pub fn next_wait(tokens: &mut Tokens) -> bool
     ensures none { result ≡ false → tokens.new ≡ tokens.old }
 {
     let (_, rest) = tokens.text.split_at(tokens.place);
-    match rest {
-        [b' ', b'W', after, ..] => {
-            if is_of_word(*after) {
-                return false;
-            }
-            tokens.place += 2;
-            true
-        }
-        _ => false,
+    let [b' ', b'W', after, ..] = rest else {
+        return false;
+    };
+    if is_of_word(*after) {
+        return false;
     }
+    tokens.place += 2;
+    true
 }
 
 /// The number that one or two digits at the front spell, and how many they are. No digit is behind them.
@@ -116,22 +116,6 @@ fn lettered_number(letter: u8, octets: &[u8]) -> Option<(u8, usize)>
     Some((number, size + 1))
 }
 
-/// The stream and function that a head at the front names, each with one or two digits, and how many octets it has.
-#[inline(always)]
-fn head_front(octets: &[u8]) -> Option<(u8, u8, usize)>
-    ensures headed { IfSome result (λ h. IsHeaded h.0 h.1 h.2 octets.now) }
-    ensures stream { IfSome result (λ h. h.0 < 128) }
-    ensures within { IfSome result (λ h. (0 < h.2) × (h.2 ≤ length octets.now)) }
-{
-    let (stream, first) = lettered_number(b'S', octets)?;
-    let (_, rest) = octets.split_at(first);
-    let (function, second) = lettered_number(b'F', rest)?;
-    if is_of_word(rest[second]) {
-        return None;
-    }
-    Some((stream, function, first + second))
-}
-
 /// Takes the head of a message, if its stream and function have one or two digits each.
 #[inline(always)]
 pub fn next_head(tokens: &mut Tokens) -> Option<(u8, u8)>
@@ -141,7 +125,12 @@ pub fn next_head(tokens: &mut Tokens) -> Option<(u8, u8)>
     ensures none { IfNone result (tokens.new ≡ tokens.old) }
 {
     let (at, rest) = tokens.past_white();
-    let (stream, function, size) = head_front(rest)?;
-    tokens.place = at + size;
+    let (stream, first) = lettered_number(b'S', rest)?;
+    let (_, behind) = rest.split_at(first);
+    let (function, second) = lettered_number(b'F', behind)?;
+    if is_of_word(behind[second]) {
+        return None;
+    }
+    tokens.place = at + (first + second);
     Some((stream, function))
 }

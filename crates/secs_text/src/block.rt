@@ -1,7 +1,7 @@
 //! A block of octets on their way to an output.
 
 ghost use Rattle.std.specs.Prelude.{◌≡◌, ◌≤◌, ◌+◌, ◌++◌, ℕ, List, [], length, take, IfOk};
-ghost use Rattle.secs_text.specs.Laid.{Lays, Puts};
+ghost use Rattle.secs_text.specs.Laid.{IsPlace, Lays, Puts};
 
 use crate::laying::{lay_slice, lay_word};
 use std::alloc::{AllocError, Global};
@@ -125,8 +125,7 @@ fn give_front<O: Output>(out: &mut O, block: &[u8], at: usize)
 #[inline(always)]
 #[tactic(auto, using(crate::proofs::Blocks::puts_nothing, crate::proofs::Blocks::puts_given))]
 pub fn room<O: Output>(out: &mut O, block: &[u8], at: usize) -> usize
-    requires size { length block.now ≡ 65536 }
-    requires within { at ≤ 65536 }
+    requires { IsPlace block.now at }
     ensures puts { Puts (O.Given out.old) block.now at (O.Given out.new) block.now result [] }
     ensures free { result + 24704 ≤ 65536 }
 {

@@ -11,9 +11,7 @@ ghost use Rattle.secs_text.specs.Widths.{is_width, width_of, unsigned, octets_of
 ghost use Rattle.secs_text.specs.Words.{number_below, signed_below, octet_of, float_of, truth_of};
 
 use crate::laying::{lay_byte, lay_digits, lay_natural, lay_number, lay_octet, lay_slice};
-use crate::word::{
-    float_of, number, number_below, octet_of, octet_of_digits, signed_below, truth_of,
-};
+use crate::word::{float_of, number_at_most, octet_of_digits, signed_at_most};
 use byteorder::{BigEndian, ByteOrder};
 
 /// A format whose values are single words, each for `N` octets.
@@ -59,8 +57,9 @@ impl WordFormat<1> for Octets {
         lay_octet(block, at, octets[0])
     }
 
+    #[tactic(auto, using(crate::proofs::Hexadecimal::one_octet))]
     fn parse(word: &[u8]) -> Option<[u8; 1]> {
-        Some([octet_of(word)?])
+        float_of(word)
     }
 }
 
@@ -92,8 +91,13 @@ impl WordFormat<1> for Truths {
         lay_byte(block, at, if octets[0] != 0 { b'T' } else { b'F' })
     }
 
+    #[tactic(auto, unfolding(crate::specs::Words::truth_of))]
     fn parse(word: &[u8]) -> Option<[u8; 1]> {
-        Some([u8::from(truth_of(word)?)])
+        match word {
+            [b'T'] => Some([1]),
+            [b'F'] => Some([0]),
+            _ => None,
+        }
     }
 }
 
@@ -110,19 +114,6 @@ impl ShortWord<2> for Truths {
     }
 }
 
-/// The number that a word spells, if `N` octets hold it.
-#[inline(always)]
-fn number_in<const N: usize>(word: &[u8]) -> Option<u64>
-    requires { is_width N ≡ true }
-    ensures value { result ≡ number_below (2 ^ (8 * N)) word.now }
-    ensures fits { IfSome result (λ n. n < 256 ^ N) }
-{
-    if N == 8 {
-        return number(word);
-    }
-    number_below(1 << (8 * N), word)
-}
-
 /// Numbers of `N` octets.
 pub struct Unsigned;
 
@@ -137,7 +128,7 @@ impl<const N: usize> WordFormat<N> for Unsigned {
     }
 
     fn parse(word: &[u8]) -> Option<[u8; N]> {
-        let number = number_in::<N>(word)?;
+        let number = number_at_most(u64::MAX >> (64 - 8 * N), word)?;
         let mut octets = [0; N];
         BigEndian::write_uint(&mut octets, number, N);
         Some(octets)
@@ -177,25 +168,11 @@ impl<const N: usize> WordFormat<N> for Signed {
     }
 
     fn parse(word: &[u8]) -> Option<[u8; N]> {
-        let number = signed_below(1 << (8 * N - 1), word)?;
+        let number = signed_at_most(u64::MAX >> (65 - 8 * N), word)?;
         let mut octets = [0; N];
         BigEndian::write_int(&mut octets, number, N);
         Some(octets)
     }
-}
-
-/// Lays at most eight octets in hexadecimal, after a space.
-fn lay_hexadecimal(block: &mut [u8], at: usize, octets: &[u8]) -> usize
-    requires few { length octets.now ≤ 8 }
-    requires room { at + 48 ≤ length block.old }
-    ensures laid { Laid block.old block.new at (codes " " ++ hexadecimal octets.now) result }
-    ensures near { result ≤ at + 48 }
-{
-    let mut end = lay_slice(block, at, b" 0x");
-    for octet in octets {
-        end = lay_digits(block, end, *octet);
-    }
-    end
 }
 
 /// Floating point of `N` octets, in hexadecimal.
@@ -207,7 +184,11 @@ impl<const N: usize> WordFormat<N> for Floats {
     ghost spelled = { float_of N };
 
     fn lay(block: &mut [u8], at: usize, octets: &[u8; N]) -> usize {
-        lay_hexadecimal(block, at, octets)
+        let mut end = lay_slice(block, at, b" 0x");
+        for octet in octets {
+            end = lay_digits(block, end, *octet);
+        }
+        end
     }
 
     fn parse(word: &[u8]) -> Option<[u8; N]> {

@@ -119,21 +119,6 @@ fn lay_ten_thousands(block: &mut [u8], at: usize, number: u64) -> usize
     lay_pair(block, at, number % 100)
 }
 
-/// Lays a number below 256,000,000.
-#[inline(always)]
-fn lay_millions(block: &mut [u8], at: usize, number: u64) -> usize
-    requires small { number < 256000000 }
-    requires room { at + 12 ≤ length block.old }
-    ensures laid { Laid block.old block.new at (decimal number) result }
-    ensures near { result ≤ at + 10 }
-{
-    if number < 2560000 {
-        return lay_ten_thousands(block, at, number);
-    }
-    let at = lay_ten_thousands(block, at, number / 100);
-    lay_pair(block, at, number % 100)
-}
-
 /// Lays a number that is not negative.
 #[inline(always)]
 pub fn lay_natural(block: &mut [u8], at: usize, number: u64) -> usize
@@ -141,11 +126,14 @@ pub fn lay_natural(block: &mut [u8], at: usize, number: u64) -> usize
     ensures laid { Laid block.old block.new at (decimal number) result }
     ensures near { result ≤ at + 40 }
 {
-    if number < 256000000 {
-        lay_millions(block, at, number)
-    } else {
-        lay_number(block, at, number)
+    if number >= 256000000 {
+        return lay_number(block, at, number);
     }
+    if number < 2560000 {
+        return lay_ten_thousands(block, at, number);
+    }
+    let at = lay_ten_thousands(block, at, number / 100);
+    lay_pair(block, at, number % 100)
 }
 
 /// Lays a number.

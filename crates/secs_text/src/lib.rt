@@ -17,7 +17,6 @@
 
 mod as_printed;
 mod block;
-mod count;
 mod fault;
 mod formats;
 pub mod laws;

@@ -1,17 +1,16 @@
 //! Reading the opening of an item: its type name and its count.
 
-ghost use Rattle.std.specs.Prelude.{◌≡◌, ◌≤◌, ◌<◌, ◌+◌, length, IfOk, Some};
+ghost use Rattle.std.specs.Prelude.{◌≡◌, ◌≤◌, ◌<◌, ◌+◌, length, IfOk};
 ghost use Rattle.secs_item.specs.Item.{Value};
 ghost use Rattle.secs_text.specs.Left.{left, octets_left};
-ghost use Rattle.secs_text.specs.Places.{Rules, Before, walk, type_wanted, after_type, count_wanted, in_item};
+ghost use Rattle.secs_text.specs.Places.{Rules, Before, walk, type_wanted, after_type, in_item};
 ghost use Rattle.secs_text.specs.Body.{nothing_of};
 ghost use Rattle.secs_text.specs.Reads.{Reads, count_seen, Checks};
 ghost use Rattle.secs_item.specs.declared.format.Format.TheVariants as format;
 
 use crate::as_printed::next_opening;
-use crate::count::Count;
 use crate::fault::TextFault;
-use crate::token::Token;
+use crate::token::{Count, Token};
 use crate::tokens::Tokens;
 use crate::type_name::format_named;
 use crate::word::number;
@@ -37,31 +36,6 @@ fn type_name(tokens: &mut Tokens, opening: usize, depth: u8) -> Result<Format, T
     }
 }
 
-/// Reads the number of a count and the `]`, after the `[`.
-#[inline(always)]
-fn count_after(tokens: &mut Tokens, opening: usize) -> Result<Count, TextFault>
-    ensures reads { (rules : Rules) (b : Before) (v : Value)
-        → Reads result (walk rules (count_wanted b v opening) (left tokens.old))
-        (λ c. walk rules (in_item b (record { count = count_seen (Some c); so_far = v })) (left tokens.new)) }
-    ensures no_longer { octets_left tokens.new ≤ octets_left tokens.old }
-{
-    let next = tokens.next();
-    let Token::Word(word) = next.token else {
-        return Err(TextFault::Syntax { at: next.at });
-    };
-    let Some(number) = number(word) else {
-        return Err(TextFault::Number { at: next.at });
-    };
-    let next = tokens.next();
-    match next.token {
-        Token::BracketEnd => Ok(Count {
-            at: opening,
-            number,
-        }),
-        _ => Err(TextFault::Syntax { at: next.at }),
-    }
-}
-
 /// Reads the count, if one is written.
 #[inline(never)]
 fn optional_count(tokens: &mut Tokens) -> Result<Option<Count>, TextFault>
@@ -71,13 +45,43 @@ fn optional_count(tokens: &mut Tokens) -> Result<Option<Count>, TextFault>
     ensures no_longer { octets_left tokens.new ≤ octets_left tokens.old }
 {
     let mut ahead = *tokens;
-    let next = ahead.next();
-    let Token::Bracket = next.token else {
+    let bracket = ahead.next();
+    let Token::Bracket = bracket.token else {
         return Ok(None);
     };
     *tokens = ahead;
-    let count = count_after(tokens, next.at)?;
-    Ok(Some(count))
+    let next = tokens.next();
+    let Token::Word(word) = next.token else {
+        return Err(TextFault::Syntax { at: next.at });
+    };
+    let Some(number) = number(word) else {
+        return Err(TextFault::Number { at: next.at });
+    };
+    let next = tokens.next();
+    let Token::BracketEnd = next.token else {
+        return Err(TextFault::Syntax { at: next.at });
+    };
+    let at = bracket.at;
+    Ok(Some(Count { at, number }))
+}
+
+/// Reads the type name after the `<` that stood at `opening`, and the count, if one is written, token by token. Lists may
+/// be nested `depth` deep.
+#[inline(never)]
+fn long_opening(
+    tokens: &mut Tokens,
+    opening: usize,
+    depth: u8,
+) -> Result<(Format, Option<Count>), TextFault>
+    ensures reads { (rules : Rules) (b : Before) → length b.lists + depth ≡ rules.depth
+        → Reads result (walk rules (type_wanted b opening) (left tokens.old))
+        (λ o. walk rules (in_item b (record { count = count_seen o.1; so_far = nothing_of o.0 })) (left tokens.new)) }
+    ensures list { IfOk result (λ o. o.0 ≡ format.List → 0 < depth) }
+    ensures no_longer { octets_left tokens.new ≤ octets_left tokens.old }
+{
+    let format = type_name(tokens, opening, depth)?;
+    let count = optional_count(tokens)?;
+    Ok((format, count))
 }
 
 /// Reads the type name of an item whose `<` stood at `opening`, and its count, if one is written. Lists may be nested
@@ -100,9 +104,7 @@ pub fn format_and_count(
             _ => Ok((format, Some(count))),
         };
     }
-    let format = type_name(tokens, opening, depth)?;
-    let count = optional_count(tokens)?;
-    Ok((format, count))
+    long_opening(tokens, opening, depth)
 }
 
 /// Checks a count, if one is written, against how many there are.

@@ -61,8 +61,7 @@ fn next_name(tokens: &mut Tokens) -> Result<Option<(u8, u8)>, TextFault>
     if let Token::End = next.token {
         return Ok(None);
     }
-    let name = head(next)?;
-    Ok(Some(name))
+    Ok(Some(head(next)?))
 }
 
 /// Reads a message whose stream and function were read, and adds its text. Lists may be nested `depth` deep. Gives its

@@ -5,12 +5,10 @@ pub mod messages;
 mod text;
 mod values;
 
-ghost use Rattle.std.specs.Prelude.{◌≡◌, ◌≤◌, ◌++◌, List, true, false, length, codes, string_bytes, IfOk, IfErr, OnOk};
-ghost use Rattle.std.specs.Str.{IsUtf8};
-ghost use Rattle.secs_item.specs.Format.{is_list};
-ghost use Rattle.secs_item.specs.Item.{view, views, format_of, list};
+ghost use Rattle.std.specs.Prelude.{◌≡◌, ◌≤◌, ◌++◌, true, length, codes, string_bytes, IfOk, IfErr, OnOk};
+ghost use Rattle.secs_item.specs.Item.{view};
 ghost use Rattle.secs_text.specs.Held.{IsHeld, IsHeldMessage};
-ghost use Rattle.secs_text.specs.Laid.{Puts};
+ghost use Rattle.secs_text.specs.Laid.{IsPlace, Puts};
 ghost use Rattle.secs_text.specs.Notation.{Notation};
 ghost use Rattle.secs_text.specs.Printed.{printed_item, printed};
 ghost use Rattle.secs_text.specs.View.{content};
@@ -41,27 +39,7 @@ impl Output for Gathered {
     }
 }
 
-/// Puts an item of values, after a space.
-fn put_values_item<O: Output>(
-    alloc: Global,
-    out: &mut O,
-    block: &mut [u8],
-    from: usize,
-    item: &Item,
-) -> Result<usize, AllocError>
-    requires no_list { is_list (format_of (view item.now)) ≡ false }
-    requires size { length block.old ≡ 65536 }
-    requires within { from ≤ 65536 }
-    ensures puts { IfOk result (λ at. Puts (O.Given out.old) block.old from (O.Given out.new) block.new at
-        (codes " " ++ printed_item (view item.now))) }
-    ensures held { OnOk result (IsHeld (view item.now)) }
-{
-    let octets = body_octets(alloc, item)?;
-    Ok(put_item_of_values(out, block, from, item.format(), &octets))
-}
-
 /// Puts an item, after a space.
-#[cycle(put)]
 fn put_tree<O: Output>(
     alloc: Global,
     out: &mut O,
@@ -69,33 +47,15 @@ fn put_tree<O: Output>(
     from: usize,
     item: &Item,
 ) -> Result<usize, AllocError>
-    requires size { length block.old ≡ 65536 }
-    requires within { from ≤ 65536 }
+    requires { IsPlace block.old from }
     ensures puts { IfOk result (λ at. Puts (O.Given out.old) block.old from (O.Given out.new) block.new at
         (codes " " ++ printed_item (view item.now))) }
     ensures held { OnOk result (IsHeld (view item.now)) }
 {
-    match item {
-        Item::List(elements) => put_list(alloc, out, block, from, elements),
-        _ => put_values_item(alloc, out, block, from, item),
-    }
-}
-
-/// Puts a list, after a space.
-#[cycle(put)]
-fn put_list<O: Output>(
-    alloc: Global,
-    out: &mut O,
-    block: &mut [u8],
-    from: usize,
-    elements: &[Item],
-) -> Result<usize, AllocError>
-    requires size { length block.old ≡ 65536 }
-    requires within { from ≤ 65536 }
-    ensures puts { IfOk result (λ at. Puts (O.Given out.old) block.old from (O.Given out.new) block.new at
-        (codes " " ++ printed_item (list (views elements.now)))) }
-    ensures held { OnOk result (IsHeld (list (views elements.now))) }
-{
+    let Item::List(elements) = item else {
+        let octets = body_octets(alloc, item)?;
+        return Ok(put_item_of_values(out, block, from, item.format(), &octets));
+    };
     let mut at = put_opening(out, block, from, Format::List, elements.len());
     for element in elements {
         at = put_tree(alloc, out, block, at, element)?;
@@ -110,7 +70,7 @@ fn put_message<O: Output>(
     block: &mut [u8],
     message: &Message,
 ) -> Result<usize, AllocError>
-    requires { length block.old ≡ 65536 }
+    requires { IsPlace block.old 0 }
     ensures puts { IfOk result (λ at. Puts (O.Given out.old) block.old 0 (O.Given out.new) block.new at
         (printed (content message.now))) }
     ensures held { OnOk result (IsHeldMessage (content message.now)) }
@@ -126,21 +86,6 @@ fn put_message<O: Output>(
     };
     let at = put_tree(alloc, out, block, at, item)?;
     Ok(put_stop(out, block, at))
-}
-
-/// The notation as text, if it is whole.
-fn text_of(gathered: Gathered) -> Result<String, TextFault>
-    requires { gathered.is_whole ≡ true → IsUtf8 gathered.octets.items }
-    ensures text { IfOk result (λ text. (gathered.is_whole ≡ true) × (string_bytes text ≡ gathered.octets.items)) }
-    ensures memory { IfErr result (λ f. f ≡ Memory) }
-{
-    if !gathered.is_whole {
-        return Err(TextFault::Memory);
-    }
-    let Ok(text) = String::from_utf8(gathered.octets) else {
-        unreachable!()
-    };
-    Ok(text)
 }
 
 /// The printed form of a message, which is its notation: read again, it is that message.
@@ -162,5 +107,11 @@ pub fn print(alloc: Global, message: &Message) -> Result<String, TextFault>
     let block = room.as_mut_slice();
     let end = put_message(alloc, &mut out, block, message)?;
     out.give(&block[..end]);
-    text_of(out)
+    if !out.is_whole {
+        return Err(TextFault::Memory);
+    }
+    let Ok(text) = String::from_utf8(out.octets) else {
+        unreachable!()
+    };
+    Ok(text)
 }

@@ -1,6 +1,6 @@
 //! Octets that may stand between quotes, looked at sixteen at once.
 
-ghost use Rattle.std.specs.Prelude.{◌≡◌, ◌≤◌, ◌+◌, length, drop, map, not};
+ghost use Rattle.std.specs.Prelude.{◌≡◌, ◌≤◌, length, map, not};
 ghost use Rattle.std.specs.List.{prefix_len};
 ghost use Rattle.std.specs.Simd.Lanes.{mask_l};
 ghost use Rattle.secs_text.specs.Octets.{is_quotable};
@@ -17,18 +17,6 @@ fn others(octets: u8x16) -> u64
     (unprintable | octets.simd_eq(u8x16::splat(b'"'))).to_bitmask()
 }
 
-/// Where the octets end that may stand between quotes, from this place on: octets are looked at one by one.
-fn end_of_few(octets: &[u8], from: usize) -> usize
-    requires { from ≤ length octets.now }
-    ensures { result ≡ from + prefix_len is_quotable (drop from octets.now) }
-{
-    let mut i = from;
-    while i < octets.len() && is_quotable(octets[i]) {
-        i += 1;
-    }
-    i
-}
-
 /// How many octets at the front may stand between quotes.
 #[inline(always)]
 pub fn quotable_length(octets: &[u8]) -> usize
@@ -43,5 +31,8 @@ pub fn quotable_length(octets: &[u8]) -> usize
         }
         i += 16;
     }
-    end_of_few(octets, i)
+    while i < octets.len() && is_quotable(octets[i]) {
+        i += 1;
+    }
+    i
 }

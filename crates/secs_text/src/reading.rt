@@ -84,10 +84,10 @@ fn message(
     };
     let message = Message::new(stream, function, wait, Some(item));
     let next = tokens.next();
-    match next.token {
-        Token::Stop => Ok(message),
-        _ => Err(TextFault::Syntax { at: next.at }),
-    }
+    let Token::Stop = next.token else {
+        return Err(TextFault::Syntax { at: next.at });
+    };
+    Ok(message)
 }
 
 /// Reads a text that is one message, place by place.
@@ -98,10 +98,10 @@ fn read_one(alloc: Global, text: &[u8], depth: u8) -> Result<Message, TextFault>
     let first = tokens.next();
     let message = message(alloc, &mut tokens, first, depth)?;
     let next = tokens.next();
-    match next.token {
-        Token::End => Ok(message),
-        _ => Err(TextFault::Syntax { at: next.at }),
-    }
+    let Token::End = next.token else {
+        return Err(TextFault::Syntax { at: next.at });
+    };
+    Ok(message)
 }
 
 /// Reads a text that is any number of messages, place by place.

@@ -1,11 +1,11 @@
 //! What words spell.
 
-ghost use Rattle.std.specs.Prelude.{◌≡◌, ◌≤◌, ◌<◌, ◌^◌, ◌*◌, ◌%◌, ◌==◌, ◌&&◌, if◌then◌else◌, not, true, length, take, option_and_then, Some, IfSome};
+ghost use Rattle.std.specs.Prelude.{◌≡◌, ◌≤◌, ◌<◌, ◌+◌, ◌^◌, ◌*◌, ◌%◌, ◌==◌, ◌&&◌, if◌then◌else◌, not, true, length, take, option_and_then, Some, IfSome};
 ghost use Rattle.std.specs.List.{prefix_len, list_all};
 ghost use Rattle.std.specs.Str.Parse.{digits_value};
 ghost use Rattle.secs_text.specs.Octets.{is_digit};
 ghost use Rattle.std.specs.Int.Signed.{mag};
-ghost use Rattle.secs_text.specs.Words.{is_numeral, number_below, signed_below, octet_of_digits, hex_octets, sized, octet_of, float_of, truth_of, head_of_parts, head_word, bad_head, no_head};
+ghost use Rattle.secs_text.specs.Words.{is_numeral, number_below, signed_below, octet_of_digits, hex_octets, sized, float_of, head_of_parts, head_word, bad_head, no_head};
 ghost use Rattle.secs_text.specs.SeenWord.{head_seen, IsStream};
 
 use crate::octet::{all_digits, is_digit};
@@ -13,7 +13,7 @@ use crate::octet::{all_digits, is_digit};
 /// The digits at the front of octets: how many they are, and the number that they spell, modulo 2^64.
 #[inline(always)]
 #[tactic(auto, using(crate::proofs::Fronts::front_ends, crate::proofs::Fronts::front_is_whole))]
-fn leading_number(octets: &[u8]) -> (usize, u64)
+pub fn leading_number(octets: &[u8]) -> (usize, u64)
     ensures length { result.0 ≡ prefix_len is_digit octets.now }
     ensures within { result.0 ≤ length octets.now }
     ensures number { result.1 ≡ digits_value 10 (take result.0 octets.now) % 2 ^ 64 }
@@ -48,7 +48,7 @@ fn long_number(numeral: &[u8]) -> Option<u64>
 
 /// The number that digits spell, if they are a numeral and it is below 2^64. `number` is what they spell, modulo 2^64.
 #[inline(always)]
-fn number_of_digits(digits: &[u8], number: u64) -> Option<u64>
+pub fn number_of_digits(digits: &[u8], number: u64) -> Option<u64>
     requires all { list_all is_digit digits.now ≡ true }
     requires number { number ≡ digits_value 10 digits.now % 2 ^ 64 }
     ensures { result ≡ number_below (2 ^ 64) digits.now }
@@ -65,18 +65,6 @@ fn number_of_digits(digits: &[u8], number: u64) -> Option<u64>
     Some(number)
 }
 
-/// The number that the digits at the front spell, if they are a numeral and it is below 2^64, and how many they are.
-#[inline(always)]
-pub fn leading_numeral(octets: &[u8]) -> Option<(u64, usize)>
-    ensures value { IfSome result (λ n. number_below (2 ^ 64) (take n.1 octets.now) ≡ Some n.0) }
-    ensures within { IfSome result (λ n. n.1 ≤ length octets.now) }
-{
-    let (size, number) = leading_number(octets);
-    let (digits, _) = octets.split_at(size);
-    let number = number_of_digits(digits, number)?;
-    Some((number, size))
-}
-
 /// The number that a word spells, if it is below 2^64.
 pub fn number(word: &[u8]) -> Option<u64>
     ensures { result ≡ number_below (2 ^ 64) word.now }
@@ -88,34 +76,34 @@ pub fn number(word: &[u8]) -> Option<u64>
     number_of_digits(word, number)
 }
 
-/// The number that a word spells, if it is below the limit.
+/// The number that a word spells, if it is at most this.
 #[inline(always)]
 #[tactic(auto, unfolding(crate::specs::Words::number_below))]
-pub fn number_below(limit: u64, word: &[u8]) -> Option<u64>
-    ensures value { result ≡ number_below limit word.now }
-    ensures below { IfSome result (λ n. n < limit) }
+pub fn number_at_most(most: u64, word: &[u8]) -> Option<u64>
+    ensures value { result ≡ number_below (most + 1) word.now }
+    ensures within { IfSome result (λ n. n ≤ most) }
 {
-    number(word).filter(|n| *n < limit)
+    number(word).filter(|n| *n <= most)
 }
 
-/// The number that a word spells, if it is at least `-half` and below `half`.
+/// The number that a word spells, if it is at least `-most - 1` and at most `most`.
 #[tactic(auto, unfolding(crate::specs::Words::signed_below))]
-pub fn signed_below(half: u64, word: &[u8]) -> Option<i64>
-    requires { half ≤ 2 ^ 63 }
-    ensures value { result ≡ signed_below half word.now }
-    ensures fits { IfSome result (λ z. mag z < half) }
+pub fn signed_at_most(most: u64, word: &[u8]) -> Option<i64>
+    requires { most < 2 ^ 63 }
+    ensures value { result ≡ signed_below (most + 1) word.now }
+    ensures within { IfSome result (λ z. mag z ≤ most) }
 {
     match word {
         [] => None,
         [b'-', rest @ ..] => {
-            let number = number_below(half + 1, rest)?;
+            let number = number_at_most(most + 1, rest)?;
             if number == 0 {
                 None
             } else {
-                Some(-((number - 1) as i64) - 1)
+                Some(-1 - (number - 1) as i64)
             }
         }
-        _ => Some(number_below(half, word)? as i64),
+        _ => Some(number_at_most(most, word)? as i64),
     }
 }
 
@@ -148,29 +136,6 @@ pub fn octet_of_digits(high: u8, low: u8) -> Option<u8>
         return None;
     }
     Some(number as u8)
-}
-
-/// The one octet that a word spells.
-#[tactic(auto, unfolding(crate::specs::Words::octet_of, crate::specs::Words::octets_of))]
-pub fn octet_of(word: &[u8]) -> Option<u8>
-    ensures { result ≡ octet_of word.now }
-{
-    match word {
-        [b'0', b'x', high, low] => octet_of_digits(*high, *low),
-        _ => None,
-    }
-}
-
-/// The truth value that a word spells.
-#[tactic(auto, unfolding(crate::specs::Words::truth_of))]
-pub fn truth_of(word: &[u8]) -> Option<bool>
-    ensures { result ≡ truth_of word.now }
-{
-    match word {
-        [b'T'] => Some(true),
-        [b'F'] => Some(false),
-        _ => None,
-    }
 }
 
 /// The octets that digits spell, two digits for each, if there are as many as wanted.
@@ -239,7 +204,7 @@ fn head_of_parts(stream: &[u8], number: u64, rest: &[u8]) -> HeadWord
     let Some(stream_number) = number_of_digits(stream, number).filter(|n| *n < 128) else {
         return wrong_head(stream, function);
     };
-    let Some(function_number) = number_below(256, function) else {
+    let Some(function_number) = number_at_most(255, function) else {
         return wrong_head(stream, function);
     };
     HeadWord::Head(stream_number as u8, function_number as u8)

@@ -1,40 +1,18 @@
 //! Reading items from notation straight onto octets.
 
-ghost use Rattle.std.specs.Prelude.{◌≡◌, ◌≤◌, ◌+◌, false};
-ghost use Rattle.secs_item.specs.Format.{is_list};
+ghost use Rattle.std.specs.Prelude.{◌≡◌, ◌≤◌, ◌+◌};
 ghost use Rattle.secs_item.specs.Item.{list, no_elements};
-ghost use Rattle.secs_text.specs.Body.{nothing_of};
 ghost use Rattle.secs_text.specs.Left.{left, octets_left};
 ghost use Rattle.secs_text.specs.Places.{type_wanted, in_item};
 ghost use Rattle.secs_text.specs.Reads.{count_seen};
-ghost use Rattle.secs_text.specs.Spellings.{ItemRead, Deep, Anywhere};
+ghost use Rattle.secs_text.specs.Spellings.{ItemRead, Deep};
 
-use crate::count::Count;
 use crate::fault::TextFault;
 use crate::opening::{check_count, format_and_count};
 use crate::parsing::values::parse_values;
-use crate::token::Token;
+use crate::token::{Count, Token};
 use crate::tokens::Tokens;
 use secs_item::{Format, patch_header};
-
-/// Reads the values of an item, after its type name and its count, and adds the item's octets. Says whether it has any.
-fn item_of_values(
-    out: &mut Vec<u8>,
-    tokens: &mut Tokens,
-    format: Format,
-    count: Option<Count>,
-) -> Result<bool, TextFault>
-    requires no_list { is_list format ≡ false }
-    ensures reads { ItemRead Anywhere (λ b. in_item b (record { count = count_seen count; so_far = nothing_of format })) result
-        (left tokens.old) (left tokens.new) out.old.items out.new.items }
-    ensures no_longer { octets_left tokens.new ≤ octets_left tokens.old }
-{
-    let start = out.len();
-    out.extend_from_slice(&[0, 0])?;
-    parse_values(out, tokens, format, count)?;
-    let number = out.len() - start - 2;
-    Ok(patch_header(out, start, format, number)?)
-}
 
 /// Reads the elements of a list, after its type name and its count, and adds the list's octets. Lists in it may be
 /// nested `depth` deep. Says whether the list and each element have octets.
@@ -57,8 +35,7 @@ fn elements(
         let next = tokens.next();
         match next.token {
             Token::Less => {
-                let item_fits = item(out, tokens, next.at, depth)?;
-                fits = fits && item_fits;
+                fits &= item(out, tokens, next.at, depth)?;
                 number += 1;
             }
             Token::Greater => break,
@@ -87,8 +64,12 @@ pub fn item(
     ensures no_longer { octets_left tokens.new ≤ octets_left tokens.old }
 {
     let (format, count) = format_and_count(tokens, opening, depth)?;
-    match format {
-        Format::List => elements(out, tokens, count, depth - 1),
-        _ => item_of_values(out, tokens, format, count),
-    }
+    let Format::List = format else {
+        let start = out.len();
+        out.extend_from_slice(&[0, 0])?;
+        parse_values(out, tokens, format, count)?;
+        let number = out.len() - start - 2;
+        return Ok(patch_header(out, start, format, number)?);
+    };
+    elements(out, tokens, count, depth - 1)
 }

@@ -1,19 +1,17 @@
 //! Values from their words onto octets.
 
-ghost use Rattle.std.specs.Prelude.{◌≡◌, ◌≤◌, ◌<◌, ◌+◌, ◌/◌, true, false, length, IfOk, OnOk};
-ghost use Rattle.std.specs.List.{AllByRecursion};
+ghost use Rattle.std.specs.Prelude.{◌≡◌, ◌≤◌, ◌+◌, true, false, length, IfOk, OnOk};
 ghost use Rattle.secs_item.specs.Format.{is_list, value_size};
 ghost use Rattle.secs_text.specs.Left.{left, octets_left};
 ghost use Rattle.secs_text.specs.Reads.{count_seen};
-ghost use Rattle.secs_text.specs.Spellings.{GathersMore, Lays, ValuesRead, quoted_octets, word_octets};
+ghost use Rattle.secs_text.specs.Spellings.{GathersMore, Lays, ValuesRead, word_octets};
 ghost use Rattle.secs_text.specs.Widths.{is_width};
 
-use crate::count::Count;
 use crate::fault::TextFault;
 use crate::formats::{Floats, Octets, Signed, Truths, Unsigned, WordFormat};
 use crate::opening::check_count;
 use crate::parsing::runs::parse_run;
-use crate::token::Token;
+use crate::token::{Count, Token};
 use crate::tokens::Tokens;
 use secs_item::{Format, octets_known};
 use std::alloc::AllocError;
@@ -60,19 +58,6 @@ fn push_value(out: &mut Vec<u8>, format: Format, word: &[u8]) -> Result<bool, Al
     }
 }
 
-/// Adds octets of text that stood between quotes, if they may stand in an item of this format.
-fn push_quoted(out: &mut Vec<u8>, format: Format, text: &[u8]) -> Result<bool, AllocError>
-    ensures octets { IfOk result (λ is_text. Lays is_text out.old.items out.new.items (quoted_octets format text.now)) }
-    ensures fit { AllByRecursion (λ n. n < 256) text.now }
-{
-    octets_known(text);
-    let Format::Ascii = format else {
-        return Ok(false);
-    };
-    out.extend_from_slice(text)?;
-    Ok(true)
-}
-
 /// Adds the octets of the values that come next, where a value of this format is one octet, as far as their words stand
 /// as they are printed.
 fn parse_printed(out: &mut Vec<u8>, tokens: &mut Tokens, format: Format) -> Result<(), AllocError>
@@ -110,9 +95,11 @@ pub fn parse_values(
                 }
             }
             Token::Quoted(text) => {
-                if !push_quoted(out, format, text)? {
+                let Format::Ascii = format else {
                     return Err(TextFault::Syntax { at: next.at });
-                }
+                };
+                octets_known(text);
+                out.extend_from_slice(text)?;
             }
             Token::Greater => break,
             _ => return Err(TextFault::Syntax { at: next.at }),

@@ -1,13 +1,13 @@
 //! Printing items straight from their octets. For each list that isn't at its end it is kept how many elements are
 //! still to come.
 
-ghost use Rattle.std.specs.Prelude.{◌≡◌, ◌≤◌, ◌<◌, ◌+◌, ◌-◌, ◌/◌, ◌++◌, ℕ, List, Ok, false, true, length, take, drop, IsOk, codes, decimal};
+ghost use Rattle.std.specs.Prelude.{◌≡◌, ◌≤◌, ◌<◌, ◌+◌, ◌-◌, ◌/◌, ◌++◌, ℕ, List, Ok, false, true, length, drop, IsOk, codes, decimal};
 ghost use Rattle.secs_item.specs.declared.format.Format.TheVariants.{Ascii};
 ghost use Rattle.secs_item.specs.Format.{is_list, value_size};
 ghost use Rattle.secs_item.specs.Item.{Value, Elements};
 ghost use Rattle.secs_item.specs.Reading.{item_at, elements_by, values_of};
 ghost use Rattle.secs_text.specs.Body.{body_of};
-ghost use Rattle.secs_text.specs.Laid.{Laid, Puts, opening_of, words_of};
+ghost use Rattle.secs_text.specs.Laid.{Laid, IsPlace, Puts, opening_of, words_of};
 ghost use Rattle.secs_text.specs.Printed.{printed_elements, printed_item, printed_values};
 ghost use Rattle.secs_text.specs.Widths.{is_width};
 
@@ -16,7 +16,7 @@ use crate::formats::{Floats, Octets, Signed, Truths, Unsigned, WordFormat};
 use crate::laying::{lay_byte, lay_number, lay_small, lay_word};
 use crate::printing::values::{put_text, put_words};
 use crate::type_name::opening_word;
-use secs_item::{Format, Header, MAX_DEPTH, read_header};
+use secs_item::{Format, MAX_DEPTH, read_header};
 
 /// Lays a number.
 #[inline(always)]
@@ -41,8 +41,7 @@ pub fn put_opening<O: Output>(
     format: Format,
     body_length: usize,
 ) -> usize
-    requires size { length block.old ≡ 65536 }
-    requires within { from ≤ 65536 }
+    requires { IsPlace block.old from }
     ensures { Puts (O.Given out.old) block.old from (O.Given out.new) block.new result
         (opening_of format (body_length / value_size format)) }
 {
@@ -56,22 +55,11 @@ pub fn put_opening<O: Output>(
 /// Puts what ends an item.
 #[inline(always)]
 pub fn put_end<O: Output>(out: &mut O, block: &mut [u8], from: usize) -> usize
-    requires size { length block.old ≡ 65536 }
-    requires within { from ≤ 65536 }
+    requires { IsPlace block.old from }
     ensures { Puts (O.Given out.old) block.old from (O.Given out.new) block.new result (codes ">") }
 {
     let at = room(out, block, from);
     lay_byte(block, at, b'>')
-}
-
-/// The body of an item of values with this header.
-#[inline(always)]
-fn body(octets: &[u8], header: Header) -> &[u8]
-    requires { header.body + header.length ≤ length octets.now }
-    ensures octets { result.now ≡ take header.length (drop header.body octets.now) }
-    ensures length { length result.now ≡ header.length }
-{
-    &octets[header.body..header.body + header.length]
 }
 
 /// Puts an item of values that are single words, with this body, after a space.
@@ -85,8 +73,7 @@ fn put_item_of_words<const N: usize, W: WordFormat<N>, O: Output>(
 ) -> usize
     requires width { is_width N ≡ true }
     requires words { (o : List ℕ) → words_of W.printed N o ≡ printed_values (body_of (values_of format o)) }
-    requires size { length block.old ≡ 65536 }
-    requires within { from ≤ 65536 }
+    requires place { IsPlace block.old from }
     ensures { Puts (O.Given out.old) block.old from (O.Given out.new) block.new result
         (opening_of format (length body.now / value_size format)
         ++ printed_values (body_of (values_of format body.now)) ++ codes ">") }
@@ -101,44 +88,37 @@ fn put_item_of_words<const N: usize, W: WordFormat<N>, O: Output>(
 pub fn put_item_of_values<O: Output>(
     out: &mut O,
     block: &mut [u8],
-    from: usize,
+    at: usize,
     format: Format,
     body: &[u8],
 ) -> usize
     requires no_list { is_list format ≡ false }
-    requires size { length block.old ≡ 65536 }
-    requires within { from ≤ 65536 }
-    ensures { Puts (O.Given out.old) block.old from (O.Given out.new) block.new result
+    requires place { IsPlace block.old at }
+    ensures { Puts (O.Given out.old) block.old at (O.Given out.new) block.new result
         (opening_of format (length body.now / value_size format)
         ++ printed_values (body_of (values_of format body.now)) ++ codes ">") }
 {
     match format {
         Format::List => unreachable!(),
-        Format::Binary => put_item_of_words::<1, Octets, O>(out, block, from, Format::Binary, body),
-        Format::Boolean => put_item_of_words::<1, Truths, O>(
-            out,
-            block,
-            from,
-            Format::Boolean,
-            body,
-        ),
+        Format::Binary => put_item_of_words::<1, Octets, O>(out, block, at, Format::Binary, body),
+        Format::Boolean => put_item_of_words::<1, Truths, O>(out, block, at, Format::Boolean, body),
         Format::Ascii => {
-            let at = put_opening(out, block, from, Format::Ascii, body.len());
+            let at = put_opening(out, block, at, Format::Ascii, body.len());
             let at = put_text(out, block, at, body);
             put_end(out, block, at)
         }
-        Format::Jis8 => put_item_of_words::<1, Octets, O>(out, block, from, Format::Jis8, body),
-        Format::Char2 => put_item_of_words::<1, Octets, O>(out, block, from, Format::Char2, body),
-        Format::I1 => put_item_of_words::<1, Signed, O>(out, block, from, Format::I1, body),
-        Format::I2 => put_item_of_words::<2, Signed, O>(out, block, from, Format::I2, body),
-        Format::I4 => put_item_of_words::<4, Signed, O>(out, block, from, Format::I4, body),
-        Format::I8 => put_item_of_words::<8, Signed, O>(out, block, from, Format::I8, body),
-        Format::U1 => put_item_of_words::<1, Unsigned, O>(out, block, from, Format::U1, body),
-        Format::U2 => put_item_of_words::<2, Unsigned, O>(out, block, from, Format::U2, body),
-        Format::U4 => put_item_of_words::<4, Unsigned, O>(out, block, from, Format::U4, body),
-        Format::U8 => put_item_of_words::<8, Unsigned, O>(out, block, from, Format::U8, body),
-        Format::F4 => put_item_of_words::<4, Floats, O>(out, block, from, Format::F4, body),
-        Format::F8 => put_item_of_words::<8, Floats, O>(out, block, from, Format::F8, body),
+        Format::Jis8 => put_item_of_words::<1, Octets, O>(out, block, at, Format::Jis8, body),
+        Format::Char2 => put_item_of_words::<1, Octets, O>(out, block, at, Format::Char2, body),
+        Format::I1 => put_item_of_words::<1, Signed, O>(out, block, at, Format::I1, body),
+        Format::I2 => put_item_of_words::<2, Signed, O>(out, block, at, Format::I2, body),
+        Format::I4 => put_item_of_words::<4, Signed, O>(out, block, at, Format::I4, body),
+        Format::I8 => put_item_of_words::<8, Signed, O>(out, block, at, Format::I8, body),
+        Format::U1 => put_item_of_words::<1, Unsigned, O>(out, block, at, Format::U1, body),
+        Format::U2 => put_item_of_words::<2, Unsigned, O>(out, block, at, Format::U2, body),
+        Format::U4 => put_item_of_words::<4, Unsigned, O>(out, block, at, Format::U4, body),
+        Format::U8 => put_item_of_words::<8, Unsigned, O>(out, block, at, Format::U8, body),
+        Format::F4 => put_item_of_words::<4, Floats, O>(out, block, at, Format::F4, body),
+        Format::F8 => put_item_of_words::<8, Floats, O>(out, block, at, Format::F8, body),
     }
 }
 
@@ -158,12 +138,10 @@ fn put_elements<O: Output>(
     requires some { 0 < depth }
     requires few { depth ≤ 100 }
     requires measured { IsOk (elements_by (item_at (depth - 1)) count (drop place octets.now)) }
-    requires size { length block.old ≡ 65536 }
-    requires within { from ≤ 65536 }
+    requires place { IsPlace block.old from }
     ensures puts { (es : Elements) (n : ℕ) → elements_by (item_at (depth - 1)) count (drop place octets.now) ≡ Ok (es, n)
         → Puts (O.Given out.old) block.old from (O.Given out.new) block.new result (printed_elements es ++ codes ">") }
-    ensures size { length block.new ≡ 65536 }
-    ensures within { result ≤ 65536 }
+    ensures place { IsPlace block.new result }
 {
     let mut counts = [0; MAX_DEPTH];
     counts[0] = count;
@@ -192,9 +170,9 @@ fn put_elements<O: Output>(
                 lists += 1;
             }
         } else {
-            let body = body(octets, header);
-            at = put_item_of_values(out, block, at, header.format, body);
             end = header.body + header.length;
+            let body = &octets[header.body..end];
+            at = put_item_of_values(out, block, at, header.format, body);
         }
     }
     at
@@ -210,12 +188,10 @@ pub fn put_item<O: Output>(
 ) -> usize
     requires few { depth ≤ 100 }
     requires measured { IsOk (item_at depth octets.now) }
-    requires size { length block.old ≡ 65536 }
-    requires within { from ≤ 65536 }
+    requires place { IsPlace block.old from }
     ensures puts { (v : Value) (n : ℕ) → item_at depth octets.now ≡ Ok (v, n)
         → Puts (O.Given out.old) block.old from (O.Given out.new) block.new result (codes " " ++ printed_item v) }
-    ensures size { length block.new ≡ 65536 }
-    ensures within { result ≤ 65536 }
+    ensures place { IsPlace block.new result }
 {
     let Ok(header) = read_header(octets, 0, depth) else {
         unreachable!()
@@ -224,5 +200,6 @@ pub fn put_item<O: Output>(
         let at = put_opening(out, block, from, Format::List, header.length);
         return put_elements(out, block, at, octets, header.body, header.length, depth);
     }
-    put_item_of_values(out, block, from, header.format, body(octets, header))
+    let body = &octets[header.body..header.body + header.length];
+    put_item_of_values(out, block, from, header.format, body)
 }

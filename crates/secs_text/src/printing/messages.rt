@@ -1,11 +1,11 @@
 //! Printing messages straight from their octets.
 
-ghost use Rattle.std.specs.Prelude.{◌≡◌, ◌≤◌, ◌+◌, ◌++◌, ℕ, List, [], Option, Err, length, codes, decimal, if◌then◌else◌, IsOk, IfErr, OnOk, OnErr};
+ghost use Rattle.std.specs.Prelude.{◌≡◌, ◌≤◌, ◌++◌, ℕ, List, [], Option, Err, length, codes, decimal, if◌then◌else◌, IsOk, IfErr, OnOk, OnErr};
 ghost use Rattle.secs_item.specs.Fault.{TextFaults, IsTold, fault_at};
 ghost use Rattle.secs_item.specs.Header.{Reason};
 ghost use Rattle.secs_item.specs.Item.{Value};
 ghost use Rattle.secs_item.specs.Spelling.{IsText, IsTextOf};
-ghost use Rattle.secs_text.specs.Laid.{Laid, Puts};
+ghost use Rattle.secs_text.specs.Laid.{IsPlace, Puts};
 ghost use Rattle.secs_text.specs.Printed.{printed};
 
 use crate::block::{Block, Output, room};
@@ -24,13 +24,13 @@ pub struct Head {
     pub wait: bool,
 }
 
-/// Lays a head.
-fn lay_head(block: &mut [u8], at: usize, head: Head) -> usize
-    requires { at + 64 ≤ length block.old }
-    ensures laid { Laid block.old block.new at
-        (codes "S" ++ decimal head.stream ++ codes "F" ++ decimal head.function ++ (if head.wait then codes " W" else [])) result }
-    ensures near { result ≤ at + 64 }
+/// Puts a head.
+pub fn put_head<O: Output>(out: &mut O, block: &mut [u8], from: usize, head: Head) -> usize
+    requires { IsPlace block.old from }
+    ensures { Puts (O.Given out.old) block.old from (O.Given out.new) block.new result
+        (codes "S" ++ decimal head.stream ++ codes "F" ++ decimal head.function ++ (if head.wait then codes " W" else [])) }
 {
+    let at = room(out, block, from);
     let at = lay_byte(block, at, b'S');
     let at = lay_small(block, at, head.stream);
     let at = lay_byte(block, at, b'F');
@@ -42,21 +42,9 @@ fn lay_head(block: &mut [u8], at: usize, head: Head) -> usize
     }
 }
 
-/// Puts a head.
-pub fn put_head<O: Output>(out: &mut O, block: &mut [u8], from: usize, head: Head) -> usize
-    requires size { length block.old ≡ 65536 }
-    requires within { from ≤ 65536 }
-    ensures { Puts (O.Given out.old) block.old from (O.Given out.new) block.new result
-        (codes "S" ++ decimal head.stream ++ codes "F" ++ decimal head.function ++ (if head.wait then codes " W" else [])) }
-{
-    let at = room(out, block, from);
-    lay_head(block, at, head)
-}
-
 /// Puts what ends a message.
 pub fn put_stop<O: Output>(out: &mut O, block: &mut [u8], from: usize) -> usize
-    requires size { length block.old ≡ 65536 }
-    requires within { from ≤ 65536 }
+    requires { IsPlace block.old from }
     ensures { Puts (O.Given out.old) block.old from (O.Given out.new) block.new result (codes " .") }
 {
     let at = room(out, block, from);
@@ -74,13 +62,11 @@ fn put_message<O: Output>(
 ) -> usize
     requires few { depth ≤ 100 }
     requires measured { IsText depth text.now }
-    requires size { length block.old ≡ 65536 }
-    requires within { from ≤ 65536 }
+    requires place { IsPlace block.old from }
     ensures puts { (item : Option Value) → IsTextOf depth text.now item
         → Puts (O.Given out.old) block.old from (O.Given out.new) block.new result
         (printed (record { stream = head.stream; function = head.function; wait = head.wait; item = item })) }
-    ensures size { length block.new ≡ 65536 }
-    ensures within { result ≤ 65536 }
+    ensures place { IsPlace block.new result }
 {
     let at = put_head(out, block, from, head);
     if text.is_empty() {

@@ -56,18 +56,6 @@ fn lay_octets(block: &mut [u8], from: usize, quoted: bool, octets: &[u8]) -> (us
     (at, in_quotes)
 }
 
-/// Whether all octets may stand between quotes.
-#[inline(always)]
-fn are_quotable<const N: usize>(octets: &[u8; N]) -> bool
-    ensures { result ≡ list_all is_quotable octets.now }
-{
-    let mut are_all = true;
-    for octet in octets {
-        are_all &= is_quotable(*octet);
-    }
-    are_all
-}
-
 /// Lays eight octets of text, where a quote is open or not, and tells whether one is open behind them.
 #[inline(always)]
 fn lay_run(block: &mut [u8], from: usize, quoted: bool, octets: &[u8; 8]) -> (usize, bool)
@@ -77,7 +65,11 @@ fn lay_run(block: &mut [u8], from: usize, quoted: bool, octets: &[u8; 8]) -> (us
     ensures near { result.0 ≤ from + 48 * length octets.now }
     ensures size { length block.new ≡ length block.old }
 {
-    if !are_quotable(octets) {
+    let mut are_quotable = true;
+    for octet in octets {
+        are_quotable &= is_quotable(*octet);
+    }
+    if !are_quotable {
         return lay_octets(block, from, quoted, octets.as_slice());
     }
     let at = lay_quote(block, from, quoted);
@@ -100,18 +92,4 @@ pub fn lay_text(block: &mut [u8], from: usize, quoted: bool, octets: &[u8]) -> (
         rest = after;
     }
     lay_octets(block, at, in_quotes, rest)
-}
-
-/// Lays octets of text, where a quote is open or not, and closes the quote that is open behind them.
-pub fn lay_last(block: &mut [u8], at: usize, in_quotes: bool, octets: &[u8]) -> usize
-    requires { at + 48 * length octets.now < length block.old }
-    ensures laid { Laid block.old block.new at (printed_text in_quotes octets.now) result }
-    ensures within { result ≤ length block.old }
-{
-    let (end, quoted) = lay_text(block, at, in_quotes, octets);
-    if quoted {
-        lay_byte(block, end, b'"')
-    } else {
-        end
-    }
 }

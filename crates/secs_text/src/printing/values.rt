@@ -1,36 +1,33 @@
 //! Printing the values of an item straight from its body.
 
 ghost use Rattle.std.specs.Prelude.{◌≡◌, ◌≤◌, ◌+◌, ◌*◌, false, true, length};
-ghost use Rattle.secs_text.specs.Laid.{Laid, Puts, words_of};
+ghost use Rattle.secs_text.specs.Laid.{Laid, IsPlace, Puts, words_of};
 ghost use Rattle.secs_text.specs.Printed.{printed_text};
 ghost use Rattle.secs_text.specs.Widths.{is_width};
 
 use crate::block::{Output, room};
 use crate::formats::WordFormat;
-use crate::printing::text::{lay_last, lay_text};
+use crate::laying::lay_byte;
+use crate::printing::text::lay_text;
 
 /// How many octets of a body are laid at a time.
 const CHUNK: usize = 512;
 
 /// Lays the words of values, each after a space. What is left over behind whole values isn't looked at.
-fn lay_words<const N: usize, W: WordFormat<N>>(
-    block: &mut [u8],
-    from: usize,
-    octets: &[u8],
-) -> usize
+fn lay_words<const N: usize, W: WordFormat<N>>(block: &mut [u8], at: usize, octets: &[u8]) -> usize
     requires width { is_width N ≡ true }
-    requires room { from + 48 * length octets.now ≤ length block.old }
-    ensures laid { Laid block.old block.new from (words_of W.printed N octets.now) result }
+    requires room { at + 48 * length octets.now ≤ length block.old }
+    ensures laid { Laid block.old block.new at (words_of W.printed N octets.now) result }
     ensures within { result ≤ length block.old }
     ensures size { length block.new ≡ length block.old }
 {
-    let mut at = from;
+    let mut end = at;
     let mut rest = octets;
     while let Some((first, after)) = rest.split_first_chunk::<N>() {
-        at = W::lay(block, at, first);
+        end = W::lay(block, end, first);
         rest = after;
     }
-    at
+    end
 }
 
 /// Puts the words of values, each after a space.
@@ -41,8 +38,7 @@ pub fn put_words<const N: usize, W: WordFormat<N>, O: Output>(
     octets: &[u8],
 ) -> usize
     requires width { is_width N ≡ true }
-    requires size { length block.old ≡ 65536 }
-    requires within { from ≤ 65536 }
+    requires place { IsPlace block.old from }
     ensures { Puts (O.Given out.old) block.old from (O.Given out.new) block.new result (words_of W.printed N octets.now) }
 {
     let mut at = room(out, block, from);
@@ -58,8 +54,7 @@ pub fn put_words<const N: usize, W: WordFormat<N>, O: Output>(
 
 /// Puts octets of text.
 pub fn put_text<O: Output>(out: &mut O, block: &mut [u8], from: usize, octets: &[u8]) -> usize
-    requires size { length block.old ≡ 65536 }
-    requires within { from ≤ 65536 }
+    requires { IsPlace block.old from }
     ensures { Puts (O.Given out.old) block.old from (O.Given out.new) block.new result
         (printed_text false octets.now) }
 {
@@ -73,5 +68,10 @@ pub fn put_text<O: Output>(out: &mut O, block: &mut [u8], from: usize, octets: &
         in_quotes = quoted;
         rest = after;
     }
-    lay_last(block, at, in_quotes, rest)
+    let (end, quoted) = lay_text(block, at, in_quotes, rest);
+    if quoted {
+        lay_byte(block, end, b'"')
+    } else {
+        end
+    }
 }

@@ -1,39 +1,18 @@
 //! Reading items: each list by its elements, each item of values by its octets.
 
-ghost use Rattle.std.specs.Prelude.{◌≡◌, ◌≤◌, ◌+◌, false, length};
-ghost use Rattle.secs_item.specs.Format.{is_list};
+ghost use Rattle.std.specs.Prelude.{◌≡◌, ◌≤◌, ◌+◌, length};
 ghost use Rattle.secs_item.specs.Item.{view, views, list, no_elements};
-ghost use Rattle.secs_text.specs.Body.{nothing_of};
 ghost use Rattle.secs_text.specs.Left.{left, octets_left};
 ghost use Rattle.secs_text.specs.Places.{Rules, Before, walk, type_wanted, in_item, closed};
 ghost use Rattle.secs_text.specs.Reads.{Reads, count_seen};
 
-use crate::count::Count;
 use crate::fault::TextFault;
 use crate::opening::{check_count, format_and_count};
 use crate::parsing::values::parse_values;
-use crate::token::Token;
+use crate::token::{Count, Token};
 use crate::tokens::Tokens;
 use secs_item::{Format, Item, item_of_values};
 use std::alloc::Global;
-
-/// Reads the values of an item, after its type name and its count.
-fn values(
-    alloc: Global,
-    tokens: &mut Tokens,
-    format: Format,
-    count: Option<Count>,
-) -> Result<Item, TextFault>
-    requires no_list { is_list format ≡ false }
-    ensures reads { (rules : Rules) (b : Before)
-        → Reads result (walk rules (in_item b (record { count = count_seen count; so_far = nothing_of format })) (left tokens.old))
-        (λ i. walk rules (closed b.lists b (view i)) (left tokens.new)) }
-    ensures no_longer { octets_left tokens.new ≤ octets_left tokens.old }
-{
-    let mut body = Vec::new(alloc);
-    parse_values(&mut body, tokens, format, count)?;
-    Ok(item_of_values(alloc, format, &body)?)
-}
 
 /// Reads items up to the `>` of their list. Lists in them may be nested `depth` deep.
 #[cycle(read_item)]
@@ -76,8 +55,10 @@ pub fn item(
     ensures no_longer { octets_left tokens.new ≤ octets_left tokens.old }
 {
     let (format, count) = format_and_count(tokens, opening, depth)?;
-    match format {
-        Format::List => Ok(Item::List(elements(alloc, tokens, count, depth - 1)?)),
-        _ => values(alloc, tokens, format, count),
-    }
+    let Format::List = format else {
+        let mut body = Vec::new(alloc);
+        parse_values(&mut body, tokens, format, count)?;
+        return Ok(item_of_values(alloc, format, &body)?);
+    };
+    Ok(Item::List(elements(alloc, tokens, count, depth - 1)?))
 }

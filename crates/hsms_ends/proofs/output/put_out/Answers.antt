@@ -39,9 +39,9 @@ returns-in-Err-send_event g c =
     let first = puts_then (Err Link) log before mid (told c.args.link.now) (told c.loop-place.link) (told c.send_event.new.link) (take i xs) (x ∷ []) nothing_heard nothing_heard c.loop-place.invariant.1
     (puts_no_link x before mid (told c.loop-place.link) (told c.send_event.new.link) (c.in-Ok.ensures.written, c.in-Ok.ensures.failures) c.in-Err-send_event.ensures) in
     let rest = rw take_rest at c.log_rest.ensures in
-    puts_along c.log_rest.result log now (told c.args.link.now) (told c.send_event.new.link) ((take i xs ++ x ∷ []) ++ drop (i + 1) xs) xs nothing_heard
+    puts_along (Err c.log_rest.result) log now (told c.args.link.now) (told c.send_event.new.link) ((take i xs ++ x ∷ []) ++ drop (i + 1) xs) xs nothing_heard
     (parted_at xs i x c.loop-place-test.true c.index-entries-place.is)
-    (puts_rest c.log_rest.result log mid now (told c.args.link.now) (told c.send_event.new.link) (take i xs ++ x ∷ []) (drop (i + 1) xs) nothing_heard first rest)
+    (puts_rest (Err c.log_rest.result) log mid now (told c.args.link.now) (told c.send_event.new.link) (take i xs ++ x ∷ []) (drop (i + 1) xs) nothing_heard first rest)
 
 pub returns-in-Err : goal.returns-in-Err
 returns-in-Err g c =

@@ -14,15 +14,15 @@ loop-input-init g c =
 
 pub loop-input-preserved : goal.loop-input-preserved
 loop-input-preserved g c =
-    subst (λ (inputs : List Told). HasDriven g.D.TurnDesk.answers_after c.args.settings c.args.desk c.args.first_system inputs c.match-tell.entries.items c.tell.new.end)
+    subst (λ (inputs : List Told). HasDriven g.D.TurnDesk.answers_after c.args.settings c.args.desk c.args.first_system inputs c.match-tell.entries.items c.tell.new.self)
     (next_told c.args.inputs.now c.loop-input.input-index c.input-item.result c.loop-input-test.true c.input-item.is)
     (elim c.match-tell.branch [
       | in-Ok+in_ok-append-in-Ok w ↦
-          one_accepted g.D.TurnDesk.answers_after c.args.settings c.args.desk c.args.first_system (map told (take c.loop-input.input-index c.args.inputs.now)) c.loop-input.entries.items c.match-tell.entries.items c.loop-input.end c.tell.new.end (told c.input-item.result) w.in-Ok.new.items
+          one_accepted g.D.TurnDesk.answers_after c.args.settings c.args.desk c.args.first_system (map told (take c.loop-input.input-index c.args.inputs.now)) c.loop-input.entries.items c.match-tell.entries.items c.loop-input.end c.tell.new.self (told c.input-item.result) w.in-Ok.new.items
           c.loop-input.invariant w.in-Ok.ensures (ap (λ (v : Vec Entry Global). v.items) w.entries-is ∙ w.in_ok-append-in-Ok.ensures.items)
       | in-Err+else-eq w ↦
-          subst (λ (entries : List Entry). HasDriven g.D.TurnDesk.answers_after c.args.settings c.args.desk c.args.first_system (map told (take c.loop-input.input-index c.args.inputs.now) ++ told c.input-item.result ∷ []) entries c.tell.new.end) (sym (ap (λ (v : Vec Entry Global). v.items) w.entries-is))
-          (one_refused g.D.TurnDesk.answers_after c.args.settings c.args.desk c.args.first_system (map told (take c.loop-input.input-index c.args.inputs.now)) c.loop-input.entries.items c.loop-input.end c.tell.new.end (told c.input-item.result) w.in-Err.fault
+          subst (λ (entries : List Entry). HasDriven g.D.TurnDesk.answers_after c.args.settings c.args.desk c.args.first_system (map told (take c.loop-input.input-index c.args.inputs.now) ++ told c.input-item.result ∷ []) entries c.tell.new.self) (sym (ap (λ (v : Vec Entry Global). v.items) w.entries-is))
+          (one_refused g.D.TurnDesk.answers_after c.args.settings c.args.desk c.args.first_system (map told (take c.loop-input.input-index c.args.inputs.now)) c.loop-input.entries.items c.loop-input.end c.tell.new.self (told c.input-item.result) w.in-Err.fault
           c.loop-input.invariant w.in-Err.ensures (λ m. let d : false ≡ true = (rw m at w.if-eq.ensures) in cc))
     ])
 

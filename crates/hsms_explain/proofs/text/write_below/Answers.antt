@@ -1,7 +1,5 @@
-use Rattle.hsms_explain.proofs.Following.{on_ok_more}
 use Rattle.hsms_explain.proofs.Pages.{adds_then}
 use Rattle.hsms_explain.proofs.text.write_below.Goals as goal
 
 pub returns : goal.returns
-returns g c =
-    on_ok_more _ _ c.write_words.result (λ said. (said.0, said.1, adds_then _ _ _ _ _ c.lay.ensures said.2)) c.write_words.ensures
+returns g c = let said = c.write_words.ensures in (said.0, said.1, adds_then _ _ _ _ _ c.lay.ensures said.2)

@@ -1,19 +1,26 @@
-use Rattle.std.proofs.Common.{◌≡◌, ◌++◌, [], List, take, refl, sym, subst, arith, append_assoc}
+use Rattle.std.proofs.Common.{◌≡◌, ◌++◌, [], List, codes, decimal, take, refl, sym, subst, arith, append_assoc}
 use Rattle.std.proofs.lemmas.List.{append-nil, take_all, take_more}
 use Rattle.hsms_explain.specs.declared.note.Note.{Note}
+use Rattle.hsms_explain.specs.Page.{padded}
 use Rattle.hsms_explain.specs.Written.{NotesTold}
 use Rattle.hsms_explain.proofs.Pages.{adds_is, adds_then, notes_told_more}
 use Rattle.hsms_explain.proofs.text.write_line.Goals as goal
 
 pub loop-note-init : goal.loop-note-init
 loop-note-init c =
-    let said = c.in_ok-write_said.ensures in
-    (said.0, [], said.1, refl, adds_is _ _ _ _ (sym (append-nil said.0)) said.2)
+    let said = c.write_carried.ensures in
+    let line = padded 6 (decimal c.args.told.number) ++ codes " " ++ said.0 in (
+      line,
+      [],
+      (said.0, said.1, refl),
+      refl,
+      adds_is _ _ _ _ (sym (append-nil line)) (adds_then _ _ _ _ _ (adds_then _ _ _ _ _ c.lay_number.ensures c.lay.ensures) said.2),
+    )
 
 pub loop-note-preserved : goal.loop-note-preserved
 loop-note-preserved c =
     let inv = c.loop-note.invariant in
-    let note = c.in_ok-write_note.ensures in
+    let note = c.write_note.ensures in
     let P : List Note → Type 0 = λ n. NotesTold n (inv.1 ++ note.0) in (
       inv.0,
       inv.1 ++ note.0,

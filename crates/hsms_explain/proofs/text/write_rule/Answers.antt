@@ -4,8 +4,8 @@ use Rattle.hsms_explain.proofs.text.write_rule.Goals as goal
 
 pub returns : goal.returns
 returns c =
-    adds_is _ _ _ _ (ap (λ n. codes "       " ++ codes "FAIL " ++ n ++ codes ": " ++ c.as_bytes-2.result.now ++ codes "\n") c.as_bytes.ensures.value
-    ∙ ap (λ s. codes "       " ++ codes "FAIL " ++ c.args.name.now ++ codes ": " ++ s ++ codes "\n") c.as_bytes-2.ensures.value)
+    adds_is _ _ _ _ (ap (λ n. codes "       FAIL " ++ n ++ codes ": " ++ c.as_bytes-2.result.now ++ codes "\n") c.as_bytes.ensures.value
+    ∙ ap (λ s. codes "       FAIL " ++ c.args.name.now ++ codes ": " ++ s ++ codes "\n") c.as_bytes-2.ensures.value)
     (adds_then _ _ _ _ _
-    (adds_then _ _ _ _ _ (adds_then _ _ _ _ _ (adds_then _ _ _ _ _ (adds_then _ _ _ _ _ c.lay.ensures c.lay-2.ensures) c.lay-3.ensures) c.lay-4.ensures) c.lay-5.ensures)
-    c.lay-6.ensures)
+    (adds_then _ _ _ _ _ (adds_then _ _ _ _ _ (adds_then _ _ _ _ _ c.lay.ensures c.lay-2.ensures) c.lay-3.ensures) c.lay-4.ensures)
+    c.lay-5.ensures)

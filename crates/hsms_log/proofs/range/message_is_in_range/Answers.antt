@@ -8,4 +8,4 @@ returns c =
     let H : Frame → Type 0 = λ frame. IsHeader frame.header in
     let P : List ℕ → Type 0 = λ octets. IsOctets octets in
     let text : c.as_slice.result.now ≡ c.args.frame.now.text = c.as_slice.ensures.value ∙ ap (λ (frame : Frame). frame.text) c.frame.view_is in
-    record { header = subst H c.frame.view_is c.header_is_in_range.ensures; text = subst P text c.octets_are_in_range.ensures }
+    record { header = subst H c.frame.view_is c.parts_are_in_range.ensures.header; text = subst P text c.parts_are_in_range.ensures.text }

@@ -36,7 +36,7 @@ returns-in_err-input-clause-err g c =
 
 pub returns-clause-ok : goal.returns-clause-ok
 returns-clause-ok g c = λ input told.
-    let noted = rw c.deref.ensures.value at c.in_ok-messages.ensures.ok in
-    let sent : List Message → List Step = λ ms. map (λ m. Send m) ms ++ (if c.args.send then Separate ∷ [] else []) in
+    let noted = rw (c.deref.ensures.value, c.depth.ensures.value) at c.in_ok-messages.ensures.ok in
+    let sent : List Message → List Step = λ ms. map (λ m. Send m) ms ++ (if c.args.service.now.send then Separate ∷ [] else []) in
     let script : Script = record { steps = c.in_ok-steps.steps; replies = c.in_ok-replies.replies } in
     reads_script _ _ _ _ _ _ script (c.in_ok-input.ensures.ok input told) noted c.in_ok-replies.ensures.0 (c.in_ok-steps.ensures ∙ ap sent c.in_ok-replies.ensures.1)

@@ -20,6 +20,3 @@ pub loop-i-preserved : goal.loop-i-preserved
 loop-i-preserved c =
     let run = run_through is_quotable c.args.octets.now c.loop-i.i 16 (omega arith) (omega (arith, c.others-found.ensures)) in
     (omega (arith, run, c.loop-i.invariant.0), omega arith)
-
-pub returns-clause-within : goal.returns-clause-within
-returns-clause-within c = omega (arith, run_bound is_quotable c.args.octets.now c.loop-i.i c.loop-i.invariant.1)

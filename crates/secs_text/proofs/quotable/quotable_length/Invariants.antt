@@ -8,3 +8,9 @@ invariant-loop-i l = (prefix_len is_quotable l.octets ≡ l.i + prefix_len is_qu
 
 abbrev pub decreases-loop-i : goal.decreases-loop-i
 decreases-loop-i l = length l.octets - l.i
+
+abbrev pub invariant-loop-i-2 : goal.invariant-loop-i-2
+invariant-loop-i-2 l = (prefix_len is_quotable l.octets ≡ l.i + prefix_len is_quotable (drop l.i l.octets)) × (l.i ≤ length l.octets)
+
+abbrev pub decreases-loop-i-2 : goal.decreases-loop-i-2
+decreases-loop-i-2 l = length l.octets - l.i

@@ -1,10 +1,12 @@
 use Rattle.hsms_entity.specs.Inside.{after_octets}
+use Rattle.hsms_entity.proofs.Acts.{then_ok}
 use Rattle.hsms_entity.proofs.Hearing.{heard_sound, heard_all}
 use Rattle.hsms_entity.proofs.state.State.hear.Goals as goal
 
 pub receive_all-requires : goal.receive_all-requires
 receive_all-requires g c = heard_sound c.args.self.now c.take_in.new.self c.args.octets.now c.in_ok-take_in.ensures c.requires
 
-pub returns-clause-received : goal.returns-clause-received
-returns-clause-received g c =
-    heard_all (g.D.TurnDesk.answers_after c.args.desk.now) (after_octets c.args.self.now c.args.octets.now) c.take_in.new.self c.receive_all.new.self c.args.entries.now.items c.receive_all.new.entries.items c.in_ok-take_in.ensures c.in_ok-receive_all.ensures.received
+pub returns : goal.returns
+returns g c =
+    then_ok c.receive_all.result c.receive_all.ensures
+    (λ all. heard_all (g.D.TurnDesk.answers_after c.args.desk.now) (after_octets c.args.self.now c.args.octets.now) c.take_in.new.self c.receive_all.new.self c.args.entries.now.items c.receive_all.new.entries.items c.in_ok-take_in.ensures all)

@@ -1,25 +1,39 @@
-use Rattle.std.proofs.Common.{Bool, [], ◌∷◌, sym, subst, ◌∙◌, option_map, if◌then◌else◌}
-use Rattle.secs_item.specs.Item.{view}
-use Rattle.hsms_machine.specs.declared.entry.Event.TheVariants.{Sent}
-use Rattle.hsms_entity.specs.Act.{logs}
-use Rattle.hsms_entity.specs.Frame.{reply_of}
-use Rattle.hsms_entity.specs.Performing.{Performs}
-use Rattle.hsms_entity.proofs.AwaitingReplies.{does_nothing}
-use Rattle.hsms_entity.proofs.Primaries.{not_waiting, reply_lawful, reply_awaits}
+use Rattle.std.proofs.Common.{◌≡◌, ap, sym, subst, ◌∙◌}
+use Rattle.hsms_frame.specs.Frame.{Frame}
+use Rattle.hsms_entity.specs.declared.answer.Answer.{Answer}
+use Rattle.hsms_entity.specs.Answer.{answered}
+use Rattle.hsms_entity.specs.AwaitingReply.{IsReplyTo, reply_by}
+use Rattle.hsms_entity.proofs.Acts.{then_ok}
+use Rattle.hsms_entity.proofs.Primaries.{not_replied, replied, reply_lawful, aborts_by, abort_reply}
+use Rattle.hsms_entity.proofs.state.State.reply.Goals.{in-Reply+in_ok-frame-in-Reply, in_default}
 use Rattle.hsms_entity.proofs.state.State.reply.Goals as goal
 
-pub returns-then-not-wait-clause-does : goal.returns-then-not-wait-clause-does
-returns-then-not-wait-clause-does c =
-    subst (λ (b : Bool). Performs c.args.self.now c.args.entries.now.items (if b then logs (Sent (reply_of c.args.self.now.settings c.args.header (option_map view c.args.item))) ∷ [] else []) c.args.self.now c.args.entries.now.items)
-    (sym (sym c.wait.ensures ∙ c.if-not-wait.true)) (does_nothing c.args.self.now c.args.entries.now.items)
-
-pub returns-then-not-wait-clause-awaits : goal.returns-then-not-wait-clause-awaits
-returns-then-not-wait-clause-awaits c = not_waiting c.args.self.now c.args.header c.requires (sym c.wait.ensures ∙ c.if-not-wait.true)
+pub returns-then-not-wait : goal.returns-then-not-wait
+returns-then-not-wait c = not_replied c.args.self.now c.args.header _ c.args.entries.now.items c.requires (sym c.wait.ensures ∙ c.if-not-wait.true)
 
 pub log-requires : goal.log-requires
-log-requires c = reply_lawful c.args.self.now c.args.header c.requires (sym c.wait.ensures ∙ c.if-not-wait.false) c.in_ok-frame.frame c.in_ok-frame.ensures.shape
+log-requires c =
+    let settings = c.args.self.now.settings in
+    let shape : IsReplyTo settings c.args.header c.match-answer-4.frame =
+    elim c.match-answer-4.branch [
+      | in-Reply+in_ok-frame-in-Reply w ↦ subst (λ (f : Frame). IsReplyTo settings c.args.header f) (sym w.frame-is) w.in_ok-frame-in-Reply.ensures.shape
+      | in_default w ↦ abort_reply settings c.args.header c.match-answer-4.frame c.requires.awaits.within (w.frame-is ∙ w.abort_frame-frame.ensures)
+    ] in
+    reply_lawful c.args.self.now c.args.header c.requires (sym c.wait.ensures ∙ c.if-not-wait.false) c.match-answer-4.frame shape
 
-pub returns-clause-awaits : goal.returns-clause-awaits
-returns-clause-awaits c =
-    reply_awaits c.args.self.now c.args.header c.requires (sym c.wait.ensures ∙ c.if-not-wait.false) c.in_ok-frame.frame c.in_ok-frame.ensures.shape
-    c.log.new.self c.in_ok-log.ensures.after
+pub returns : goal.returns
+returns c =
+    let settings = c.args.self.now.settings in
+    let shape : IsReplyTo settings c.args.header c.match-answer-4.frame =
+    elim c.match-answer-4.branch [
+      | in-Reply+in_ok-frame-in-Reply w ↦ subst (λ (f : Frame). IsReplyTo settings c.args.header f) (sym w.frame-is) w.in_ok-frame-in-Reply.ensures.shape
+      | in_default w ↦ abort_reply settings c.args.header c.match-answer-4.frame c.requires.awaits.within (w.frame-is ∙ w.abort_frame-frame.ensures)
+    ] in
+    let exact : c.match-answer-4.frame ≡ reply_by settings c.args.header (answered c.args.answer) =
+    elim c.match-answer-4.branch [
+      | in-Reply+in_ok-frame-in-Reply w ↦ w.frame-is ∙ w.in_ok-frame-in-Reply.ensures.exact ∙ ap (λ (a : Answer). reply_by settings c.args.header (answered a)) (sym w.in-Reply.is)
+      | in_default w ↦ w.frame-is ∙ w.abort_frame-frame.ensures ∙ aborts_by settings c.args.header c.args.answer w.in_default.not-Reply
+    ] in
+    then_ok c.log.result c.log.ensures
+    (λ sent. replied c.args.self.now c.log.new.self c.args.header (answered c.args.answer) c.match-answer-4.frame c.args.entries.now.items c.log.new.entries.items c.requires
+    (sym c.wait.ensures ∙ c.if-not-wait.false) exact shape sent)

@@ -3,8 +3,8 @@ use Rattle.hsms_entity.specs.declared.state.State.{State}
 use Rattle.hsms_entity.proofs.Acts.{does_number}
 use Rattle.hsms_entity.proofs.state.State.send_numbered.Goals as goal
 
-pub returns-clause-does : goal.returns-clause-does
-returns-clause-does c = does_number c.args.self.now c.log.new.self _ c.args.entries.now.items c.log.new.entries.items c.args.frame c.args.number c.in_ok-log.ensures.does refl c.requires.free
-
-pub returns-clause-after : goal.returns-clause-after
-returns-clause-after c = ap (λ (s : State). record s { next = (c.args.number + 1) % 2 ^ 32 }) c.in_ok-log.ensures.after
+pub returns : goal.returns
+returns c = record {
+  does = does_number c.args.self.now c.log.new.self _ c.args.entries.now.items c.log.new.entries.items c.args.frame c.args.number c.in_ok-log.ensures.does refl c.requires.free;
+  after = ap (λ (s : State). record s { next = (c.args.number + 1) % 2 ^ 32 }) c.in_ok-log.ensures.after;
+}

@@ -5,7 +5,7 @@ use Rattle.hsms_entity.specs.Frame.{bare, separate_req}
 use Rattle.hsms_entity.specs.Act.{logs, asks}
 use Rattle.hsms_entity.specs.Inside.{after_number}
 use Rattle.hsms_entity.specs.Performing.{IsLawful}
-use Rattle.hsms_entity.proofs.Acts.{does_then}
+use Rattle.hsms_entity.proofs.Acts.{does_then, then_ok}
 use Rattle.hsms_entity.proofs.Requests.{separate_lawful, separated_down_lawful, separated_sound}
 use Rattle.hsms_entity.proofs.state.State.separate.Goals as goal
 
@@ -19,13 +19,13 @@ log-requires c =
     separated_down_lawful c.args.self.now c.requires.sound c.requires.up c.send_numbered.new.self c.free_number-number.result
     (c.in_ok-send_numbered.ensures.after ∙ ap (λ (f : Frame). after_number c.args.self.now f c.free_number-number.result) (c.bare.ensures ∙ ap bare c.separate.ensures))
 
-pub returns-clause-does : goal.returns-clause-does
-returns-clause-does c =
-    does_then c.args.self.now c.send_numbered.new.self c.log.new.self c.args.entries.now.items c.send_numbered.new.entries.items c.log.new.entries.items (asks separate_req ∷ []) (logs Down ∷ [])
-    (c.in_ok-send_numbered.ensures.does separate_req (sym (c.bare.ensures ∙ ap bare c.separate.ensures))) c.in_ok-log.ensures.does
-
-pub returns-clause-sound : goal.returns-clause-sound
-returns-clause-sound c =
-    separated_sound c.args.self.now c.requires.sound c.requires.up c.send_numbered.new.self c.log.new.self c.free_number-number.result
-    (c.in_ok-send_numbered.ensures.after ∙ ap (λ (f : Frame). after_number c.args.self.now f c.free_number-number.result) (c.bare.ensures ∙ ap bare c.separate.ensures))
-    c.in_ok-log.ensures.after
+pub returns : goal.returns
+returns c =
+    let frame = c.bare.ensures ∙ ap bare c.separate.ensures in
+    then_ok c.log.result c.log.ensures
+    (λ down. record {
+      does = does_then c.args.self.now c.send_numbered.new.self c.log.new.self c.args.entries.now.items c.send_numbered.new.entries.items c.log.new.entries.items (asks separate_req ∷ []) (logs Down ∷ [])
+          (c.in_ok-send_numbered.ensures.does separate_req (sym frame)) down.does;
+      sound = separated_sound c.args.self.now c.requires.sound c.requires.up c.send_numbered.new.self c.log.new.self c.free_number-number.result
+          (c.in_ok-send_numbered.ensures.after ∙ ap (λ (f : Frame). after_number c.args.self.now f c.free_number-number.result) frame) down.after;
+    })

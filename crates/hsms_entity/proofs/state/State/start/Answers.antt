@@ -11,7 +11,7 @@ use Rattle.hsms_entity.specs.Inside.{after_number}
 use Rattle.hsms_entity.specs.Performing.{IsLawful, Performs}
 use Rattle.hsms_entity.specs.Sound.{IsSound}
 use Rattle.hsms_entity.specs.Turn.{opening_of}
-use Rattle.hsms_entity.proofs.Acts.{does_then}
+use Rattle.hsms_entity.proofs.Acts.{does_then, then_ok}
 use Rattle.hsms_entity.proofs.Requests.{start_lawful, started_sound, started_room, started_up, started_settings, is_before_phase, select_lawful, select_sound}
 use Rattle.hsms_entity.proofs.state.State.start.Goals as goal
 
@@ -26,19 +26,20 @@ send_numbered-requires-clause-lawful c =
     (started_up c.args.self.now c.args.now c.requires.sound (is_before_phase c.args.self.now.tracker.phase c.requires.before) c.log.new.self after)
     c.free_number-number.result (sym c.in-Active.ensures) c.free_number-number.ensures.free)
 
-pub returns-in_ok-send_numbered-in-Active-clause-does : goal.returns-in_ok-send_numbered-in-Active-clause-does
-returns-in_ok-send_numbered-in-Active-clause-does c =
+pub returns-in-Active : goal.returns-in-Active
+returns-in-Active c =
     let start : State = record c.args.self.now { moment = c.args.now } in
-    let active : c.args.self.now.settings.link ≡ Active =
-    ap (λ (p : Parameters). p.link) (sym (started_settings c.args.self.now c.args.now c.requires.sound (is_before_phase c.args.self.now.tracker.phase c.requires.before) c.log.new.self c.in_ok-log.ensures.after)) ∙ sym c.in-Active.ensures in
-    subst (λ (link : Side). Performs start c.args.entries.now.items (opening_of link) c.send_numbered.new.self c.send_numbered.new.entries.items) (sym active)
-    (does_then start c.log.new.self c.send_numbered.new.self c.args.entries.now.items c.log.new.entries.items c.send_numbered.new.entries.items (logs Up ∷ []) (asks select_req ∷ [])
-    c.in_ok-log.ensures.does (c.in_ok-send_numbered-in-Active.ensures.does select_req (sym (c.bare.ensures ∙ ap bare c.select_req.ensures))))
-
-pub returns-in_ok-send_numbered-in-Active-clause-sound : goal.returns-in_ok-send_numbered-in-Active-clause-sound
-returns-in_ok-send_numbered-in-Active-clause-sound c =
     let after = c.in_ok-log.ensures.after in
-    subst IsSound (sym (c.in_ok-send_numbered-in-Active.ensures.after ∙ ap (λ (f : Frame). after_number c.log.new.self f c.free_number-number.result) (c.bare.ensures ∙ ap bare c.select_req.ensures)))
-    (select_sound c.log.new.self (started_sound c.args.self.now c.args.now c.requires.sound (is_before_phase c.args.self.now.tracker.phase c.requires.before) c.log.new.self after)
-    (started_up c.args.self.now c.args.now c.requires.sound (is_before_phase c.args.self.now.tracker.phase c.requires.before) c.log.new.self after)
-    c.free_number-number.result (started_room c.args.self.now c.args.now c.requires.sound (is_before_phase c.args.self.now.tracker.phase c.requires.before) c.log.new.self after) c.free_number-number.ensures.free)
+    let before = is_before_phase c.args.self.now.tracker.phase c.requires.before in
+    let active : c.args.self.now.settings.link ≡ Active =
+    ap (λ (p : Parameters). p.link) (sym (started_settings c.args.self.now c.args.now c.requires.sound before c.log.new.self after)) ∙ sym c.in-Active.ensures in
+    then_ok c.send_numbered.result c.send_numbered.ensures
+    (λ sent. record {
+      does = subst (λ (link : Side). Performs start c.args.entries.now.items (opening_of link) c.send_numbered.new.self c.send_numbered.new.entries.items) (sym active)
+          (does_then start c.log.new.self c.send_numbered.new.self c.args.entries.now.items c.log.new.entries.items c.send_numbered.new.entries.items (logs Up ∷ []) (asks select_req ∷ [])
+          c.in_ok-log.ensures.does (sent.does select_req (sym (c.bare.ensures ∙ ap bare c.select_req.ensures))));
+      sound = subst IsSound (sym (sent.after ∙ ap (λ (f : Frame). after_number c.log.new.self f c.free_number-number.result) (c.bare.ensures ∙ ap bare c.select_req.ensures)))
+          (select_sound c.log.new.self (started_sound c.args.self.now c.args.now c.requires.sound before c.log.new.self after)
+          (started_up c.args.self.now c.args.now c.requires.sound before c.log.new.self after)
+          c.free_number-number.result (started_room c.args.self.now c.args.now c.requires.sound before c.log.new.self after) c.free_number-number.ensures.free);
+    })

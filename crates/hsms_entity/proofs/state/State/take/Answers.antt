@@ -1,70 +1,77 @@
-use Rattle.std.proofs.Common.{◌≡◌, [], ◌∷◌, ◌∙◌, Bool, true, ap, subst, sym, if◌then◌else◌}
-use Rattle.std.proofs.lemmas.Result.{on_ok_weaker}
+use Rattle.hsms_entity.specs.Reaction.{answers_primary}
+use Rattle.hsms_entity.specs.Inside.{after_asking}
+use Rattle.hsms_machine.specs.Settings.{Parameters}
+use Rattle.std.proofs.Common.{◌≡◌, ℕ, [], ◌∷◌, ◌∙◌, Bool, true, refl, ap, subst, sym, if◌then◌else◌}
+use Rattle.std.specs.Int.{from_bool}
+use Rattle.hsms_frame.specs.Build.{control_header_of}
+use Rattle.hsms_frame.specs.declared.header.Header.{Header}
 use Rattle.hsms_frame.specs.Frame.{Frame}
+use Rattle.hsms_machine.specs.Step.{is_selected}
 use Rattle.hsms_frame.specs.Header.{kind_of}
 use Rattle.hsms_frame.specs.declared.kinds.Kind.TheVariants.{SelectReq, LinktestReq, Separate, Primary}
-use Rattle.hsms_machine.specs.declared.entry.Event.TheVariants.{Taken, Sent, Down}
+use Rattle.hsms_machine.specs.declared.entry.Event.TheVariants.{Taken, Down}
 use Rattle.hsms_entity.specs.declared.state.State.{State}
-use Rattle.hsms_entity.specs.Answer.{quiet}
+use Rattle.hsms_entity.specs.Answer.{quiet, answered}
 use Rattle.hsms_entity.specs.Act.{logs}
-use Rattle.hsms_entity.specs.Frame.{select_rsp, linktest_rsp}
+use Rattle.hsms_entity.specs.Frame.{bare, select_rsp, linktest_rsp}
 use Rattle.hsms_entity.specs.Performing.{Performs}
-use Rattle.hsms_entity.specs.AwaitingReply.{IsAskedToSelect, IsAskedForLink, is_silent}
-use Rattle.hsms_entity.proofs.Acts.{does_then}
+use Rattle.hsms_entity.specs.AwaitingReply.{is_silent, CanTake, IsAsked}
+use Rattle.hsms_entity.proofs.Acts.{does_then, then_ok}
+use Rattle.hsms_entity.proofs.Controls.{select_rsp_lawful, select_settles, linktest_rsp_lawful, linktest_settles, status_of}
 use Rattle.hsms_entity.proofs.AwaitingReplies.{peers_transactions_are_none_between_calls}
-use Rattle.hsms_entity.proofs.Takings.{handled_kind, handled_silent, asked_to_select, asked_for_link, separated_down, separated_sound, owes_nothing, silent_of}
+use Rattle.hsms_entity.proofs.Takings.{handled_kind, handled_settled, handled_silent, asked_to_select, asked_for_link, separated_down, separated_sound, owes_nothing, silent_of, readable, asked_by_primary, can_take_later, counted}
 use Rattle.hsms_entity.proofs.state.State.take.Goals as goal
 
 -- ---- Select.req
 
-pub answer_select-requires : goal.answer_select-requires
-answer_select-requires g c =
+-- the status is 1 where the session stands already
+select_frame : (request inside : Header) (selected given : Bool) (status : ℕ) (header : Header) (frame : Frame) → inside ≡ request → given ≡ selected → status ≡ from_bool given → header ≡ control_header_of 2 status inside.system → frame ≡ bare header
+    → frame ≡ select_rsp request (if selected then 1 else 0)
+select_frame request inside selected given status header frame same is status_is header_is frame_is =
+    frame_is ∙ ap bare (header_is ∙ ap (λ (n : ℕ). control_header_of 2 n inside.system) (status_is ∙ ap from_bool is ∙ status_of selected))
+    ∙ ap (λ (h : Header). select_rsp h (if selected then 1 else 0)) same
+
+pub log-requires-in-SelectReq : goal.log-requires-in-SelectReq
+log-requires-in-SelectReq g c =
     let kind : kind_of c.args.frame.header ≡ SelectReq = ap (λ (f : Frame). kind_of f.header) (sym c.frame.view_is) ∙ sym c.in-SelectReq.ensures in
-    subst (λ (f : Frame). IsAskedToSelect c.log.new.self f.header c.is_selected-selected.result) (sym c.frame.view_is)
-    (subst (λ (b : Bool). IsAskedToSelect c.log.new.self c.args.frame.header b) (sym c.is_selected-selected.ensures)
-    (asked_to_select c.args.self.now c.args.frame c.requires c.log.new.self c.in_ok-log-in-SelectReq.ensures.after kind))
+    let asked = asked_to_select c.args.self.now c.args.frame c.requires c.log.new.self c.in_ok-log-in-SelectReq.ensures.after kind in
+    select_rsp_lawful c.log.new.self c.args.frame.header (is_selected c.args.self.now.tracker.phase) asked c.bare-response.result
+    (select_frame c.args.frame.header c.frame.inside.header (is_selected c.args.self.now.tracker.phase) c.is_selected.result c.from-status.result c.select_rsp.result c.bare-response.result
+    (ap (λ (f : Frame). f.header) c.frame.view_is) c.is_selected.ensures c.from-status.ensures c.select_rsp.ensures c.bare-response.ensures)
 
-pub returns-in_ok-log-in-SelectReq-clause-handled : goal.returns-in_ok-log-in-SelectReq-clause-handled
-returns-in_ok-log-in-SelectReq-clause-handled g c =
+pub returns-in_ok-log-in-SelectReq : goal.returns-in_ok-log-in-SelectReq
+returns-in_ok-log-in-SelectReq g c =
     let kind : kind_of c.args.frame.header ≡ SelectReq = ap (λ (f : Frame). kind_of f.header) (sym c.frame.view_is) ∙ sym c.in-SelectReq.ensures in
-    on_ok_weaker c.answer_select.result
-    (λ does. handled_kind (g.D.TurnDesk.answers_after c.args.desk.now) c.args.self.now c.answer_select.new.self c.args.entries.now.items c.answer_select.new.entries.items c.args.frame SelectReq quiet c.requires.broken kind
-    (λ e. absurd (let d : SelectReq ≡ Primary = e in cc))
-    (subst (λ (b : Bool). Performs c.args.self.now c.args.entries.now.items (logs (Taken c.args.frame) ∷ logs (Sent (select_rsp c.args.frame.header (if b then 1 else 0))) ∷ []) c.answer_select.new.self c.answer_select.new.entries.items) c.is_selected-selected.ensures
-    (does_then c.args.self.now c.log.new.self c.answer_select.new.self c.args.entries.now.items c.log.new.entries.items c.answer_select.new.entries.items (logs (Taken c.args.frame) ∷ []) (logs (Sent (select_rsp c.args.frame.header (if c.is_selected-selected.result then 1 else 0))) ∷ []) c.in_ok-log-in-SelectReq.ensures.does
-    (subst (λ (f : Frame). Performs c.log.new.self c.log.new.entries.items (logs (Sent (select_rsp f.header (if c.is_selected-selected.result then 1 else 0))) ∷ []) c.answer_select.new.self c.answer_select.new.entries.items) c.frame.view_is does))))
-    c.answer_select.ensures.does
-
-pub returns-in_ok-log-in-SelectReq-clause-sound : goal.returns-in_ok-log-in-SelectReq-clause-sound
-returns-in_ok-log-in-SelectReq-clause-sound g c = on_ok_weaker c.answer_select.result (λ awaits. peers_transactions_are_none_between_calls c.answer_select.new.self awaits) c.answer_select.ensures.awaits
-
-pub returns-in_ok-log-in-SelectReq-clause-framer : goal.returns-in_ok-log-in-SelectReq-clause-framer
-returns-in_ok-log-in-SelectReq-clause-framer g c = on_ok_weaker c.answer_select.result (λ same. same ∙ ap (λ (s : State). s.framer) c.in_ok-log-in-SelectReq.ensures.after) c.answer_select.ensures.framer
+    let mid = c.log.new in
+    let late = c.log-in-SelectReq.new in
+    let first = c.in_ok-log-in-SelectReq.ensures in
+    let asked = asked_to_select c.args.self.now c.args.frame c.requires mid.self first.after kind in
+    then_ok c.log-in-SelectReq.result c.log-in-SelectReq.ensures
+    (λ sent. handled_settled (g.D.TurnDesk.answers_after c.args.desk.now) c.args.self.now mid.self late.self c.args.entries.now.items mid.entries.items late.entries.items c.args.frame SelectReq c.requires.broken kind
+    (λ e. let d : SelectReq ≡ Primary = e in cc) refl first
+    (select_settles mid.self c.args.frame.header (is_selected c.args.self.now.tracker.phase) asked late.self c.bare-response.result mid.entries.items late.entries.items
+    (select_frame c.args.frame.header c.frame.inside.header (is_selected c.args.self.now.tracker.phase) c.is_selected.result c.from-status.result c.select_rsp.result c.bare-response.result
+    (ap (λ (f : Frame). f.header) c.frame.view_is) c.is_selected.ensures c.from-status.ensures c.select_rsp.ensures c.bare-response.ensures) sent))
 
 -- ---- Linktest.req
 
-pub answer_linktest-requires : goal.answer_linktest-requires
-answer_linktest-requires g c =
+pub log-requires-in-LinktestReq-2 : goal.log-requires-in-LinktestReq-2
+log-requires-in-LinktestReq-2 g c =
     let kind : kind_of c.args.frame.header ≡ LinktestReq = ap (λ (f : Frame). kind_of f.header) (sym c.frame.view_is) ∙ sym c.in-LinktestReq.ensures in
-    subst (λ (f : Frame). IsAskedForLink c.log-in-LinktestReq.new.self f.header) (sym c.frame.view_is)
-    (asked_for_link c.args.self.now c.args.frame c.requires c.log-in-LinktestReq.new.self c.in_ok-log-in-LinktestReq.ensures.after kind)
+    linktest_rsp_lawful c.log-in-LinktestReq.new.self c.args.frame.header (asked_for_link c.args.self.now c.args.frame c.requires c.log-in-LinktestReq.new.self c.in_ok-log-in-LinktestReq.ensures.after kind) c.bare.result
+    (c.bare.ensures ∙ ap bare c.linktest_rsp.ensures ∙ ap (λ (f : Frame). linktest_rsp f.header) c.frame.view_is)
 
-pub returns-in_ok-log-in-LinktestReq-clause-handled : goal.returns-in_ok-log-in-LinktestReq-clause-handled
-returns-in_ok-log-in-LinktestReq-clause-handled g c =
+pub returns-in_ok-log-in-LinktestReq : goal.returns-in_ok-log-in-LinktestReq
+returns-in_ok-log-in-LinktestReq g c =
     let kind : kind_of c.args.frame.header ≡ LinktestReq = ap (λ (f : Frame). kind_of f.header) (sym c.frame.view_is) ∙ sym c.in-LinktestReq.ensures in
-    let logged = c.log-in-LinktestReq.new in
-    on_ok_weaker c.answer_linktest.result
-    (λ does. handled_kind (g.D.TurnDesk.answers_after c.args.desk.now) c.args.self.now c.answer_linktest.new.self c.args.entries.now.items c.answer_linktest.new.entries.items c.args.frame LinktestReq quiet c.requires.broken kind
-    (λ e. absurd (let d : LinktestReq ≡ Primary = e in cc))
-    (does_then c.args.self.now logged.self c.answer_linktest.new.self c.args.entries.now.items logged.entries.items c.answer_linktest.new.entries.items (logs (Taken c.args.frame) ∷ []) (logs (Sent (linktest_rsp c.args.frame.header)) ∷ []) c.in_ok-log-in-LinktestReq.ensures.does
-    (subst (λ (f : Frame). Performs logged.self logged.entries.items (logs (Sent (linktest_rsp f.header)) ∷ []) c.answer_linktest.new.self c.answer_linktest.new.entries.items) c.frame.view_is does)))
-    c.answer_linktest.ensures.does
-
-pub returns-in_ok-log-in-LinktestReq-clause-sound : goal.returns-in_ok-log-in-LinktestReq-clause-sound
-returns-in_ok-log-in-LinktestReq-clause-sound g c = on_ok_weaker c.answer_linktest.result (λ awaits. peers_transactions_are_none_between_calls c.answer_linktest.new.self awaits) c.answer_linktest.ensures.awaits
-
-pub returns-in_ok-log-in-LinktestReq-clause-framer : goal.returns-in_ok-log-in-LinktestReq-clause-framer
-returns-in_ok-log-in-LinktestReq-clause-framer g c = on_ok_weaker c.answer_linktest.result (λ same. same ∙ ap (λ (s : State). s.framer) c.in_ok-log-in-LinktestReq.ensures.after) c.answer_linktest.ensures.framer
+    let mid = c.log-in-LinktestReq.new in
+    let late = c.log-in-LinktestReq-2.new in
+    let first = c.in_ok-log-in-LinktestReq.ensures in
+    then_ok c.log-in-LinktestReq-2.result c.log-in-LinktestReq-2.ensures
+    (λ sent. handled_settled (g.D.TurnDesk.answers_after c.args.desk.now) c.args.self.now mid.self late.self c.args.entries.now.items mid.entries.items late.entries.items c.args.frame LinktestReq c.requires.broken kind
+    (λ e. let d : LinktestReq ≡ Primary = e in cc) refl first
+    (linktest_settles mid.self c.args.frame.header (asked_for_link c.args.self.now c.args.frame c.requires mid.self first.after kind) late.self c.bare.result mid.entries.items late.entries.items
+    (c.bare.ensures ∙ ap bare c.linktest_rsp.ensures ∙ ap (λ (f : Frame). linktest_rsp f.header) c.frame.view_is) sent))
 
 -- ---- Separate.req
 
@@ -73,33 +80,68 @@ log-requires-in-Separate-2 g c =
     let kind : kind_of c.args.frame.header ≡ Separate = ap (λ (f : Frame). kind_of f.header) (sym c.frame.view_is) ∙ sym c.in-Separate.ensures in
     separated_down c.args.self.now c.args.frame c.requires c.log-in-Separate.new.self c.in_ok-log-in-Separate.ensures.after kind
 
-pub returns-in_ok-log-in-Separate-clause-handled : goal.returns-in_ok-log-in-Separate-clause-handled
-returns-in_ok-log-in-Separate-clause-handled g c =
+pub returns-in_ok-log-in-Separate : goal.returns-in_ok-log-in-Separate
+returns-in_ok-log-in-Separate g c =
     let kind : kind_of c.args.frame.header ≡ Separate = ap (λ (f : Frame). kind_of f.header) (sym c.frame.view_is) ∙ sym c.in-Separate.ensures in
     let logged = c.log-in-Separate.new in
     let down = c.log-in-Separate-2.new in
-    on_ok_weaker c.log-in-Separate-2.result
-    (λ does. handled_kind (g.D.TurnDesk.answers_after c.args.desk.now) c.args.self.now down.self c.args.entries.now.items down.entries.items c.args.frame Separate quiet c.requires.broken kind
+    let first = c.in_ok-log-in-Separate.ensures in
+    then_ok c.log-in-Separate-2.result c.log-in-Separate-2.ensures
+    (λ second. handled_kind (g.D.TurnDesk.answers_after c.args.desk.now) c.args.self.now down.self c.args.entries.now.items down.entries.items c.args.frame Separate quiet c.requires.broken kind
     (λ e. absurd (let d : Separate ≡ Primary = e in cc))
-    (does_then c.args.self.now logged.self down.self c.args.entries.now.items logged.entries.items down.entries.items (logs (Taken c.args.frame) ∷ []) (logs Down ∷ []) c.in_ok-log-in-Separate.ensures.does does))
-    c.log-in-Separate-2.ensures.does
+    (does_then c.args.self.now logged.self down.self c.args.entries.now.items logged.entries.items down.entries.items (logs (Taken c.args.frame) ∷ []) (logs Down ∷ []) first.does second.does)
+    (separated_sound c.args.self.now c.args.frame c.requires logged.self down.self first.after second.after)
+    (ap (λ (s : State). s.framer) second.after ∙ ap (λ (s : State). s.framer) first.after))
 
-pub returns-in_ok-log-in-Separate-clause-sound : goal.returns-in_ok-log-in-Separate-clause-sound
-returns-in_ok-log-in-Separate-clause-sound g c =
-    on_ok_weaker c.log-in-Separate-2.result (λ after. separated_sound c.args.self.now c.args.frame c.requires c.log-in-Separate.new.self c.log-in-Separate-2.new.self c.in_ok-log-in-Separate.ensures.after after) c.log-in-Separate-2.ensures.after
+-- ---- primaries
+
+pub ask-requires : goal.ask-requires
+ask-requires g c =
+    let kind : kind_of c.args.frame.header ≡ Primary = ap (λ (f : Frame). kind_of f.header) (sym c.frame.view_is) ∙ sym c.in-Primary.ensures in
+    readable c.args.self.now c.args.frame c.requires kind
+
+pub log-requires-in-Primary : goal.log-requires-in-Primary
+log-requires-in-Primary g c =
+    (can_take_later c.args.self.now (record c.args.self.now { asked = c.count.new.self }) c.args.frame c.frame.inside.header
+    (counted c.args.self.now c.frame.inside.header c.stream.result c.function.result c.count.new.self c.stream.ensures c.function.ensures c.in_ok-count-in-Primary.ensures) c.requires).lawful
+
+pub answer_primary-requires : goal.answer_primary-requires
+answer_primary-requires g c =
+    let kind : kind_of c.args.frame.header ≡ Primary = ap (λ (f : Frame). kind_of f.header) (sym c.frame.view_is) ∙ sym c.in-Primary.ensures in
+    let after : State = record c.args.self.now { asked = c.count.new.self } in
+    let asked : after ≡ after_asking c.args.self.now c.frame.inside.header =
+    counted c.args.self.now c.frame.inside.header c.stream.result c.function.result c.count.new.self c.stream.ensures c.function.ensures c.in_ok-count-in-Primary.ensures in
+    let can : CanTake after c.args.frame = can_take_later c.args.self.now after c.args.frame c.frame.inside.header asked c.requires in
+    subst (λ (f : Frame). IsAsked c.log-in-Primary.new.self f.header) (sym c.frame.view_is)
+    (asked_by_primary after c.args.frame can c.log-in-Primary.new.self c.in_ok-log-in-Primary.ensures.after kind)
+
+pub returns-in_ok-log-in-Primary : goal.returns-in_ok-log-in-Primary
+returns-in_ok-log-in-Primary g c =
+    let kind : kind_of c.args.frame.header ≡ Primary = ap (λ (f : Frame). kind_of f.header) (sym c.frame.view_is) ∙ sym c.in-Primary.ensures in
+    let after : State = record c.args.self.now { asked = c.count.new.self } in
+    let asked : after ≡ after_asking c.args.self.now c.args.frame.header =
+    counted c.args.self.now c.frame.inside.header c.stream.result c.function.result c.count.new.self c.stream.ensures c.function.ensures c.in_ok-count-in-Primary.ensures
+    ∙ ap (λ (f : Frame). after_asking c.args.self.now f.header) c.frame.view_is in
+    let logged = c.in_ok-log-in-Primary.ensures in
+    let settings : c.log-in-Primary.new.self.settings ≡ c.args.self.now.settings =
+    ap (λ (s : State). s.settings) logged.after ∙ ap (λ (s : State). s.settings) asked in
+    then_ok c.answer_primary.result c.answer_primary.ensures
+    (λ sent. handled_kind (g.D.TurnDesk.answers_after c.args.desk.now) c.args.self.now c.answer_primary.new.self c.args.entries.now.items c.answer_primary.new.entries.items c.args.frame Primary (answered c.in_ok-answer-in-Primary.answer) c.requires.broken kind
+    (λ e. c.in_ok-answer-in-Primary.ensures)
+    (subst (λ (s : State). Performs s c.args.entries.now.items (logs (Taken c.args.frame) ∷ answers_primary c.args.self.now.settings c.args.frame.header (answered c.in_ok-answer-in-Primary.answer)) c.answer_primary.new.self c.answer_primary.new.entries.items) asked
+    (does_then after c.log-in-Primary.new.self c.answer_primary.new.self c.args.entries.now.items c.log-in-Primary.new.entries.items c.answer_primary.new.entries.items (logs (Taken c.args.frame) ∷ []) (answers_primary c.args.self.now.settings c.args.frame.header (answered c.in_ok-answer-in-Primary.answer)) logged.does
+    (subst (λ (s : Parameters). Performs c.log-in-Primary.new.self c.log-in-Primary.new.entries.items (answers_primary s c.args.frame.header (answered c.in_ok-answer-in-Primary.answer)) c.answer_primary.new.self c.answer_primary.new.entries.items) settings
+    (subst (λ (f : Frame). Performs c.log-in-Primary.new.self c.log-in-Primary.new.entries.items (answers_primary c.log-in-Primary.new.self.settings f.header (answered c.in_ok-answer-in-Primary.answer)) c.answer_primary.new.self c.answer_primary.new.entries.items) c.frame.view_is sent.does))))
+    (peers_transactions_are_none_between_calls c.answer_primary.new.self sent.awaits)
+    (sent.framer ∙ ap (λ (s : State). s.framer) logged.after))
 
 -- ---- the others
 
-pub returns-in-Reply-clause-handled : goal.returns-in-Reply-clause-handled
-returns-in-Reply-clause-handled g c =
-    let silent : is_silent (kind_of c.args.frame.header) ≡ true = ap (λ (f : Frame). is_silent (kind_of f.header)) (sym c.frame.view_is) ∙ ap is_silent (sym c.kind.ensures) ∙ silent_of c.kind.result c.in-Reply.is in
-    on_ok_weaker c.log-in-Reply.result
-    (λ does. handled_silent (g.D.TurnDesk.answers_after c.args.desk.now) c.args.self.now c.log-in-Reply.new.self c.args.entries.now.items c.log-in-Reply.new.entries.items c.args.frame c.requires.broken silent does)
-    c.log-in-Reply.ensures.does
-
-pub returns-in-Reply-clause-sound : goal.returns-in-Reply-clause-sound
-returns-in-Reply-clause-sound g c =
-    let silent : is_silent (kind_of c.args.frame.header) ≡ true = ap (λ (f : Frame). is_silent (kind_of f.header)) (sym c.frame.view_is) ∙ ap is_silent (sym c.kind.ensures) ∙ silent_of c.kind.result c.in-Reply.is in
-    on_ok_weaker c.log-in-Reply.result
-    (λ after. peers_transactions_are_none_between_calls c.log-in-Reply.new.self (owes_nothing c.args.self.now c.args.frame c.requires c.log-in-Reply.new.self after silent))
-    c.log-in-Reply.ensures.after
+pub returns-in_default : goal.returns-in_default
+returns-in_default g c =
+    let silent : is_silent (kind_of c.args.frame.header) ≡ true = ap (λ (f : Frame). is_silent (kind_of f.header)) (sym c.frame.view_is) ∙ ap is_silent (sym c.kind.ensures)
+    ∙ silent_of c.kind.result c.in_default.not-SelectReq c.in_default.not-LinktestReq c.in_default.not-Separate c.in_default.not-Primary in
+    then_ok c.log-in_default.result c.log-in_default.ensures
+    (λ logged. handled_silent (g.D.TurnDesk.answers_after c.args.desk.now) c.args.self.now c.log-in_default.new.self c.args.entries.now.items c.log-in_default.new.entries.items c.args.frame c.requires.broken silent logged.does
+    (peers_transactions_are_none_between_calls c.log-in_default.new.self (owes_nothing c.args.self.now c.args.frame c.requires c.log-in_default.new.self logged.after silent))
+    (ap (λ (s : State). s.framer) logged.after))

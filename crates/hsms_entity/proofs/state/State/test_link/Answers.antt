@@ -1,10 +1,11 @@
 use Rattle.std.proofs.Common.{sym, ap, subst, ◌∙◌}
 use Rattle.hsms_frame.specs.Frame.{Frame}
 use Rattle.hsms_machine.specs.declared.entry.Event.TheVariants.{Sent}
-use Rattle.hsms_entity.specs.Frame.{bare}
+use Rattle.hsms_entity.specs.Frame.{bare, linktest_req}
 use Rattle.hsms_entity.specs.Inside.{after_number}
 use Rattle.hsms_entity.specs.Performing.{IsLawful}
 use Rattle.hsms_entity.specs.Sound.{IsSound}
+use Rattle.hsms_entity.proofs.Acts.{then_ok}
 use Rattle.hsms_entity.proofs.Requests.{linktest_lawful, linktest_sound}
 use Rattle.hsms_entity.proofs.state.State.test_link.Goals as goal
 
@@ -13,7 +14,11 @@ send_numbered-requires-clause-lawful c =
     subst (λ (f : Frame). IsLawful c.args.self.now (Sent f)) (sym (c.bare.ensures ∙ ap bare c.linktest_req.ensures))
     (linktest_lawful c.args.self.now c.requires.sound c.requires.up c.free_number-number.result c.free_number-number.ensures.free)
 
-pub returns-clause-sound : goal.returns-clause-sound
-returns-clause-sound c =
-    subst IsSound (sym (c.in_ok-send_numbered.ensures.after ∙ ap (λ (f : Frame). after_number c.args.self.now f c.free_number-number.result) (c.bare.ensures ∙ ap bare c.linktest_req.ensures)))
-    (linktest_sound c.args.self.now c.requires.sound c.requires.up c.free_number-number.result c.requires.room c.free_number-number.ensures.free)
+pub returns : goal.returns
+returns c =
+    then_ok c.send_numbered.result c.send_numbered.ensures
+    (λ sent. record {
+      does = sent.does linktest_req (sym (c.bare.ensures ∙ ap bare c.linktest_req.ensures));
+      sound = subst IsSound (sym (sent.after ∙ ap (λ (f : Frame). after_number c.args.self.now f c.free_number-number.result) (c.bare.ensures ∙ ap bare c.linktest_req.ensures)))
+          (linktest_sound c.args.self.now c.requires.sound c.requires.up c.free_number-number.result c.requires.room c.free_number-number.ensures.free);
+    })

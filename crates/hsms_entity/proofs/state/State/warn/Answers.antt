@@ -1,9 +1,10 @@
-use Rattle.std.proofs.Common.{[], ◌∷◌, sym, subst, if◌then◌else◌}
+use Rattle.std.proofs.Common.{[], ◌∷◌, refl, sym, subst, if◌then◌else◌}
 use Rattle.hsms_machine.specs.declared.settings.Role.{Role}
 use Rattle.hsms_entity.specs.Act.{asks}
 use Rattle.hsms_entity.specs.Frame.{warning}
 use Rattle.hsms_entity.specs.Reaction.{is_equipment}
 use Rattle.hsms_entity.specs.Performing.{Performs}
+use Rattle.hsms_entity.proofs.Acts.{then_ok}
 use Rattle.hsms_entity.proofs.AwaitingReplies.{does_nothing}
 use Rattle.hsms_entity.proofs.Warned.{warn_lawful, warn_awaits, warn_same}
 use Rattle.hsms_entity.proofs.state.State.warn.Goals as goal
@@ -13,25 +14,23 @@ send_numbered-requires-clause-lawful c =
     warn_lawful c.args.self.now c.args.self.now.tracker.taken_data c.args.self.now.tracker.taken_control c.requires.awaits c.args.function c.args.header c.free_number-number.result c.requires.odd
     c.in_ok-frame-in-Equipment.frame c.in_ok-frame-in-Equipment.ensures.exact c.requires.selected (sym c.in-Equipment.ensures) c.in_ok-frame-in-Equipment.ensures.octets
 
-pub returns-in_ok-send_numbered-in-Equipment-clause-does :
-    goal.returns-in_ok-send_numbered-in-Equipment-clause-does
-returns-in_ok-send_numbered-in-Equipment-clause-does c =
-    subst (λ (r : Role). Performs c.args.self.now c.args.entries.now.items (if is_equipment r then asks (warning c.args.self.now.settings c.args.function c.args.header) ∷ [] else []) c.send_numbered.new.self c.send_numbered.new.entries.items) c.in-Equipment.ensures
-    (c.in_ok-send_numbered-in-Equipment.ensures.does (warning c.args.self.now.settings c.args.function c.args.header) (sym c.in_ok-frame-in-Equipment.ensures.exact))
+pub returns-in_ok-frame-in-Equipment : goal.returns-in_ok-frame-in-Equipment
+returns-in_ok-frame-in-Equipment c =
+    let frame = c.in_ok-frame-in-Equipment.ensures.exact in
+    then_ok c.send_numbered.result c.send_numbered.ensures
+    (λ sent. record {
+      does = subst (λ (r : Role). Performs c.args.self.now c.args.entries.now.items (if is_equipment r then asks (warning c.args.self.now.settings c.args.function c.args.header) ∷ [] else []) c.send_numbered.new.self c.send_numbered.new.entries.items) c.in-Equipment.ensures
+          (sent.does (warning c.args.self.now.settings c.args.function c.args.header) (sym frame));
+      awaits = λ primaries controls awaits. warn_awaits c.args.self.now primaries controls awaits c.args.function c.args.header c.free_number-number.result c.requires.odd
+          c.send_numbered.new.self c.in_ok-frame-in-Equipment.frame frame sent.after;
+      same = warn_same c.args.self.now c.args.self.now.tracker.taken_data c.args.self.now.tracker.taken_control c.requires.awaits c.args.function c.args.header c.free_number-number.result c.requires.odd
+          c.send_numbered.new.self c.in_ok-frame-in-Equipment.frame frame sent.after;
+    })
 
-pub returns-in_ok-send_numbered-in-Equipment-clause-awaits :
-    goal.returns-in_ok-send_numbered-in-Equipment-clause-awaits
-returns-in_ok-send_numbered-in-Equipment-clause-awaits c =
-    λ primaries controls awaits. warn_awaits c.args.self.now primaries controls awaits c.args.function c.args.header c.free_number-number.result c.requires.odd
-    c.send_numbered.new.self c.in_ok-frame-in-Equipment.frame c.in_ok-frame-in-Equipment.ensures.exact c.in_ok-send_numbered-in-Equipment.ensures.after
-
-pub returns-in_ok-send_numbered-in-Equipment-clause-same :
-    goal.returns-in_ok-send_numbered-in-Equipment-clause-same
-returns-in_ok-send_numbered-in-Equipment-clause-same c =
-    warn_same c.args.self.now c.args.self.now.tracker.taken_data c.args.self.now.tracker.taken_control c.requires.awaits c.args.function c.args.header c.free_number-number.result c.requires.odd
-    c.send_numbered.new.self c.in_ok-frame-in-Equipment.frame c.in_ok-frame-in-Equipment.ensures.exact c.in_ok-send_numbered-in-Equipment.ensures.after
-
-pub returns-in-Host-clause-does : goal.returns-in-Host-clause-does
-returns-in-Host-clause-does c =
-    subst (λ (r : Role). Performs c.args.self.now c.args.entries.now.items (if is_equipment r then asks (warning c.args.self.now.settings c.args.function c.args.header) ∷ [] else []) c.args.self.now c.args.entries.now.items) c.in-Host.ensures
-    (does_nothing c.args.self.now c.args.entries.now.items)
+pub returns-in-Host : goal.returns-in-Host
+returns-in-Host c = record {
+  does = subst (λ (r : Role). Performs c.args.self.now c.args.entries.now.items (if is_equipment r then asks (warning c.args.self.now.settings c.args.function c.args.header) ∷ [] else []) c.args.self.now c.args.entries.now.items) c.in-Host.ensures
+      (does_nothing c.args.self.now c.args.entries.now.items);
+  awaits = λ primaries controls awaits. awaits;
+  same = record { settings = refl; framer = refl; phase = refl };
+}

@@ -10,8 +10,10 @@ use Rattle.hsms_entity.proofs.state.State.warn_expired.Goals as goal
 
 pub loop-header-init : goal.loop-header-init
 loop-header-init c = record {
-  does = subst (λ (acts : List Act). Performs c.args.self.now c.args.entries.now.items acts c.args.self.now c.args.entries.now.items) (no_warning (is_equipment c.args.self.now.settings.role)) (does_nothing c.args.self.now c.args.entries.now.items);
-  sound = c.requires.sound;
+  told = record {
+    does = subst (λ (acts : List Act). Performs c.args.self.now c.args.entries.now.items acts c.args.self.now c.args.entries.now.items) (no_warning (is_equipment c.args.self.now.settings.role)) (does_nothing c.args.self.now c.args.entries.now.items);
+    sound = c.requires.sound;
+  };
   settings = refl;
   selected = c.requires.selected;
 }
@@ -22,7 +24,7 @@ warn-requires-clause-selected c = may_warn c.loop-header.self.tracker.phase c.ar
 pub warn-requires-clause-awaits : goal.warn-requires-clause-awaits
 warn-requires-clause-awaits c =
     awaits_own c.loop-header.self [] []
-    (sound_awaits c.loop-header.self c.loop-header.invariant.sound
+    (sound_awaits c.loop-header.self c.loop-header.invariant.told.sound
     (ap is_up (may_warn c.loop-header.self.tracker.phase c.args.expired.now c.loop-header.header-index c.loop-header-test.true c.loop-header.invariant.selected)))
 
 pub loop-header-preserved : goal.loop-header-preserved
@@ -30,9 +32,11 @@ loop-header-preserved c =
     let none : Header = record { session = 0; byte2 = 0; byte3 = 0; ptype = 0; stype = 0; system = 0 } in
     let selected = may_warn c.loop-header.self.tracker.phase c.args.expired.now c.loop-header.header-index c.loop-header-test.true c.loop-header.invariant.selected in
     record {
-      does = one_warned c.args.self.now c.loop-header.self c.warn.new.self c.args.entries.now.items c.loop-header.entries.items c.warn.new.entries.items c.args.expired.now c.loop-header.header-index none c.loop-header-test.true
-          c.loop-header.invariant.settings c.loop-header.invariant.does c.in_ok-warn.ensures.does;
-      sound = peers_transactions_are_none_between_calls c.warn.new.self (c.in_ok-warn.ensures.awaits [] [] (sound_awaits c.loop-header.self c.loop-header.invariant.sound (ap is_up selected)));
+      told = record {
+        does = one_warned c.args.self.now c.loop-header.self c.warn.new.self c.args.entries.now.items c.loop-header.entries.items c.warn.new.entries.items c.args.expired.now c.loop-header.header-index none c.loop-header-test.true
+            c.loop-header.invariant.settings c.loop-header.invariant.told.does c.in_ok-warn.ensures.does;
+        sound = peers_transactions_are_none_between_calls c.warn.new.self (c.in_ok-warn.ensures.awaits [] [] (sound_awaits c.loop-header.self c.loop-header.invariant.told.sound (ap is_up selected)));
+      };
       settings = c.in_ok-warn.ensures.same.settings ∙ c.loop-header.invariant.settings;
       selected = still_may_warn c.loop-header.self.tracker.phase c.warn.new.self.tracker.phase c.args.expired.now (c.in_ok-warn.ensures.same.phase ∙ selected);
     }

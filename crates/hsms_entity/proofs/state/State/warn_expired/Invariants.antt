@@ -1,13 +1,11 @@
 use Rattle.std.proofs.Common.{◌≡◌, take}
-use Rattle.hsms_entity.specs.Performing.{Performs}
-use Rattle.hsms_entity.specs.Sound.{IsSound}
+use Rattle.hsms_entity.specs.Sound.{Completes}
 use Rattle.hsms_entity.specs.Expiring.{MayWarn, warnings_of}
 use Rattle.hsms_entity.proofs.state.State.warn_expired.Given as goal
 
 abbrev pub invariant-loop-header : goal.invariant-loop-header
 invariant-loop-header l = record {
-  does : Performs l.fn.self l.fn.entries.items (warnings_of l.fn.self.settings (take l.header-index l.expired)) l.self l.entries.items;
-  sound : IsSound l.self;
+  told : Completes l.fn.self l.fn.entries.items (warnings_of l.fn.self.settings (take l.header-index l.expired)) l.self l.entries.items;
   settings : l.self.settings ≡ l.fn.self.settings;
   selected : MayWarn l.self.tracker.phase l.expired;
 }

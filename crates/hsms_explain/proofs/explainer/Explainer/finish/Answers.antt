@@ -15,7 +15,7 @@ returns-clause-judges c = λ text few heard.
 pub returns-clause-first : goal.returns-clause-first
 returns-clause-first c = λ text heard some.
     let P : Tally → Type 0 = λ t. IsOfFirst c.verdict-verdict.result t.first in
-    subst P (sym c.in_ok-tell_rest.ensures.tally) (c.verdict-verdict.ensures.first (lines_of text) (c.in_ok-end_last.ensures.told text heard).0 some)
+    subst P (sym c.tell_rest.ensures.tally) (c.verdict-verdict.ensures.first (lines_of text) (c.in_ok-end_last.ensures.told text heard).0 some)
 
 pub returns-clause-shown : goal.returns-clause-shown
-returns-clause-shown c = keeps_then _ _ _ c.in_ok-end_last.ensures.shown c.in_ok-tell_rest.ensures.shown
+returns-clause-shown c = keeps_then _ _ _ c.in_ok-end_last.ensures.shown c.tell_rest.ensures.shown

@@ -1,7 +1,6 @@
 use Rattle.std.proofs.Common.{refl}
-use Rattle.hsms_explain.proofs.Following.{on_ok_more}
 use Rattle.hsms_explain.proofs.Firsts.{keeps_on}
 use Rattle.hsms_explain.proofs.report.Report.tell_gap.Goals as goal
 
 pub returns-clause-shown : goal.returns-clause-shown
-returns-clause-shown c = on_ok_more _ _ c.finish.result (λ some. keeps_on _ _ refl refl refl some) c.finish.ensures
+returns-clause-shown c = keeps_on _ _ refl refl refl c.finish.ensures

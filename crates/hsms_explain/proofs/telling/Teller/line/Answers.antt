@@ -1,13 +1,12 @@
 use Rattle.std.proofs.Common.{◌≡◌, ◌∙◌, sym}
 use Rattle.hsms_options.specs.declared.excerpt.Telling.TheVariants.{Text, Json, Html}
-use Rattle.hsms_explain.proofs.Following.{on_ok, on_ok_more}
 use Rattle.hsms_explain.proofs.telling.Teller.line.Goals as goal
 
 pub returns-in-Text : goal.returns-in-Text
-returns-in-Text c = on_ok_more _ _ c.write_line.result (λ told is. told) c.write_line.ensures
+returns-in-Text c = λ is. c.write_line.ensures
 
 pub returns-in-Json : goal.returns-in-Json
-returns-in-Json c = on_ok _ c.write_line-in-Json.result (λ is. let other : Json ≡ Text = sym c.in-Json.is ∙ is in absurd cc)
+returns-in-Json c = λ is. let other : Json ≡ Text = sym c.in-Json.is ∙ is in absurd cc
 
 pub returns-in-Html : goal.returns-in-Html
-returns-in-Html c = on_ok _ c.write_line-in-Html.result (λ is. let other : Html ≡ Text = sym c.in-Html.is ∙ is in absurd cc)
+returns-in-Html c = λ is. let other : Html ≡ Text = sym c.in-Html.is ∙ is in absurd cc

@@ -6,4 +6,4 @@ pub loop-place-init : goal.loop-place-init
 loop-place-init c = λ is. ([], adds_none _)
 
 pub loop-place-preserved : goal.loop-place-preserved
-loop-place-preserved c = λ is. some_then _ _ _ (c.loop-place.invariant is) (c.in_ok-optional.ensures is)
+loop-place-preserved c = λ is. some_then _ _ _ (c.loop-place.invariant is) (c.optional.ensures is)

@@ -6,4 +6,4 @@ pub loop-group-init : goal.loop-group-init
 loop-group-init c = λ is. ([], adds_none _)
 
 pub loop-group-preserved : goal.loop-group-preserved
-loop-group-preserved c = λ is. some_then _ _ _ (c.loop-group.invariant is) (c.in_ok-optional.ensures is)
+loop-group-preserved c = λ is. some_then _ _ _ (c.loop-group.invariant is) (c.optional.ensures is)

@@ -6,4 +6,4 @@ use Rattle.hsms_explain.proofs.window.Window.finish.Goals as goal
 pub returns : goal.returns
 returns c = λ is.
     let P : Page → Type 0 = λ p. AddsSome c.args.page.now p in
-    subst P (sym (c.end_lines.ensures (c.teller.ensures ∙ is))) (_, c.in_ok-leave_out.ensures is)
+    subst P (sym (c.end_lines.ensures (c.teller.ensures ∙ is))) (_, c.leave_out.ensures is)

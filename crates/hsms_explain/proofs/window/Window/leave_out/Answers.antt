@@ -1,5 +1,4 @@
 use Rattle.std.proofs.Common.{◌≤◌, ◌<◌, ◌+◌, ◌∙◌, arith}
-use Rattle.hsms_explain.proofs.Following.{on_ok_more}
 use Rattle.hsms_explain.proofs.Windows.{follows, leaves_out}
 use Rattle.hsms_explain.proofs.window.Window.leave_out.Goals as goal
 
@@ -10,7 +9,7 @@ returns-then-to-self c = λ is.
     follows c.args.page.now last (c.args.to + 1) near
 
 pub returns : goal.returns
-returns c =
+returns c = λ is.
     let last = c.args.self.now.last in
     let far : last + 1 < c.args.to + 1 = omega (arith, c.if-to-self.false) in
-    on_ok_more _ _ c.gap.result (λ gap is. leaves_out _ _ last (c.args.to + 1) far (gap (c.teller.ensures ∙ is))) c.gap.ensures
+    leaves_out _ _ last (c.args.to + 1) far (c.gap.ensures (c.teller.ensures ∙ is))

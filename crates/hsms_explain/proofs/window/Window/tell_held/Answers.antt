@@ -8,7 +8,7 @@ loop-held-init c = (λ is. ([], adds_none c.args.page.now), refl, refl)
 pub loop-held-preserved : goal.loop-held-preserved
 loop-held-preserved c =
     let inv = c.loop-held.invariant in
-    let one = c.in_ok-tell_one.ensures in (
+    let one = c.tell_one.ensures in (
       λ is. some_then _ _ _ (inv.0 is) (one.told (ap (λ e. e.form) inv.1 ∙ is)),
       one.excerpt ∙ inv.1,
       one.behind ∙ inv.2,

@@ -10,14 +10,13 @@ loop-part-preserved c =
     let found = c.in-Some.ensures.found in
     let part = c.in-Some.part.now in
     let more = c.in-Some.more.now in
-    let stands = rw c.in_default-2.is at c.in_ok-why.ensures.stands in
-    let number = rw c.in_default-2.is at c.in_ok-why.ensures.number in
-    let lines = number refl in
+    let ended = rw c.in_default-2.is at c.in_ok-why.ensures in
+    let lines = ended.0 in
     let size : length c.loop-part.rest.now ≡ length part + length (10 ∷ more) = ap length found.0 ∙ length-append part (10 ∷ more) in
     let P : List ℕ → Type 0 = λ l. Stands c.end_line.new.self l in (
       inv.0 ++ (part ++ 10 ∷ []),
       parts_on c.args.octets.now inv.0 c.loop-part.rest.now part more inv.1 found.0,
-      λ text h. subst P (append_assoc text inv.0 (part ++ 10 ∷ [])) (stands refl (text ++ inv.0) (inv.2 text h)),
+      λ text h. subst P (append_assoc text inv.0 (part ++ 10 ∷ [])) (ended.1 (text ++ inv.0) (inv.2 text h)),
       omega (arith, inv.3, size, lines),
     )
 
@@ -25,11 +24,10 @@ pub returns-in-Some-2-clause-fails : goal.returns-in-Some-2-clause-fails
 returns-in-Some-2-clause-fails c =
     let inv = c.loop-part.invariant in
     let found = c.in-Some.ensures.found in
-    let fails = rw c.in-Some-2.is at c.in_ok-why.ensures.fails in
-    let same = rw c.in-Some-2.is at c.in_ok-why.ensures.same in
-    let lines = ap (λ (r : Reading). r.judge.tally.lines + 1) c.self.view_is ∙ ap (λ n. n + 1) (same refl) in
+    let ended = rw c.in-Some-2.is at c.in_ok-why.ensures in
+    let lines = ap (λ (r : Reading). r.judge.tally.lines + 1) c.self.view_is ∙ ap (λ n. n + 1) ended.0 in
     λ text h. line_failed c.args.octets.now inv.0 c.loop-part.rest.now c.in-Some.part.now c.in-Some.more.now text _ _ c.in-Some-2.why c.failure.result
-    inv.1 found.0 c.failure.ensures lines (fails (text ++ inv.0) (inv.2 text h))
+    inv.1 found.0 c.failure.ensures lines (ended.1 (text ++ inv.0) (inv.2 text h))
 
 pub returns-in-Some-3-clause-fails : goal.returns-in-Some-3-clause-fails
 returns-in-Some-3-clause-fails c =

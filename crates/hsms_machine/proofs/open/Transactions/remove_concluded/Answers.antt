@@ -1,5 +1,4 @@
 use Rattle.std.proofs.Common.{◌≡◌, ◌≤◌, ◌∙◌, ◌++◌, [], not, true, false, length, filter, option_to_list, ap, sym, subst, arith}
-use Rattle.std.proofs.lemmas.Bool.{eqb-true}
 use Rattle.hsms_machine.specs.Ordered.{uses}
 use Rattle.hsms_machine.specs.Transaction.{concludes}
 use Rattle.hsms_machine.proofs.Mapped.{concludes_only}
@@ -20,8 +19,8 @@ returns-then-has_system c =
     filter_oldest (λ x. concludes x.header c.args.other) c.args.other.system (concludes_only c.args.other) oldest c.unconcluded-self-inside.result c.self.inside.queue c.self.invariant.apart used c.unconcluded-self-inside.ensures
     ∙ ap (filter (λ x. not (concludes x.header c.args.other))) c.self.view_is
 
-pub invariant_of-self-then-not-is_empty : goal.invariant_of-self-then-not-is_empty
-invariant_of-self-then-not-is_empty c =
+pub invariant_of-self-then-len-gt0 : goal.invariant_of-self-then-len-gt0
+invariant_of-self-then-len-gt0 c =
     let oldest = c.self.inside.oldest in
     let queue = c.self.inside.queue in
     let left = c.remove_concluded.new.self in
@@ -29,19 +28,19 @@ invariant_of-self-then-not-is_empty c =
     let few : length left ≤ length queue = subst (λ l. length l ≤ length queue) (sym c.remove_concluded.ensures) (fewer (λ x. not (concludes x.header c.args.other)) queue) in
     listed-filter (λ x. not (concludes x.header c.args.other)) oldest oldest queue left c.self.invariant (filter_later (λ x. concludes x.header c.args.other) c.args.other.system (concludes_only c.args.other) oldest queue left unused c.remove_concluded.ensures) few
 
-pub returns-then-not-is_empty : goal.returns-then-not-is_empty
-returns-then-not-is_empty c =
+pub returns-then-len-gt0 : goal.returns-then-len-gt0
+returns-then-len-gt0 c =
     let oldest = c.self.inside.oldest in
     let unused : uses c.args.other.system (option_to_list oldest) ≡ false = rw c.header.ensures at (sym c.has_system.ensures ∙ c.if-has_system.false) in
     filter_later (λ x. concludes x.header c.args.other) c.args.other.system (concludes_only c.args.other) oldest c.self.inside.queue c.remove_concluded.new.self unused c.remove_concluded.ensures
     ∙ ap (filter (λ x. not (concludes x.header c.args.other))) c.self.view_is
 
-pub returns-else-not-is_empty : goal.returns-else-not-is_empty
-returns-else-not-is_empty c =
+pub returns-else-len-gt0 : goal.returns-else-len-gt0
+returns-else-len-gt0 c =
     let oldest = c.self.inside.oldest in
     let queue = c.self.inside.queue in
     let unused : uses c.args.other.system (option_to_list oldest) ≡ false = rw c.header.ensures at (sym c.has_system.ensures ∙ c.if-has_system.false) in
-    let none : queue ≡ [] = nothing_queued queue (eqb-true (length queue) 0 (sym c.is_empty.ensures ∙ c.if-not-is_empty.false)) in
+    let none : queue ≡ [] = nothing_queued queue (omega (arith, c.len.ensures.value, c.if-len-gt0.false)) in
     let kept : option_to_list oldest ++ queue ≡ filter (λ x. not (concludes x.header c.args.other)) (option_to_list oldest ++ queue) =
     filter_later (λ x. concludes x.header c.args.other) c.args.other.system (concludes_only c.args.other) oldest queue queue unused (none ∙ ap (filter (λ x. not (concludes x.header c.args.other))) (sym none)) in
     let view = c.self.view_is in

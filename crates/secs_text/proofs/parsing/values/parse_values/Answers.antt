@@ -2,7 +2,7 @@ use Rattle.std.proofs.Common.{◌∙◌, ap, rules}
 use Rattle.secs_text.specs.Left.{left}
 use Rattle.secs_text.specs.Reads.{count_seen}
 use Rattle.secs_text.specs.Seen.{seen, then_tokens}
-use Rattle.secs_text.proofs.ParsingValues.{none_gathered, word_gathered, quoted_gathered}
+use Rattle.secs_text.proofs.ParsingValues.{none_gathered, word_gathered, quoted_gathered, no_word, values_read}
 use Rattle.secs_text.proofs.parsing.values.parse_values.Goals as goal
 
 pub loop-word-init : goal.loop-word-init
@@ -22,8 +22,20 @@ loop-word-preserved-else-not-branch c = record {
 
 pub loop-word-preserved : goal.loop-word-preserved
 loop-word-preserved c = record {
-  gathered = quoted_gathered c.next-next.result.at c.in-Quoted.text.now (left c.next-next.new.self) c.push_quoted.new.out.items c.in_ok-push_quoted-in-Quoted.ensures.fit c.loop-word.invariant.gathered
+  gathered = quoted_gathered c.next-next.result.at c.in-Quoted.text.now (left c.next-next.new.self) c.extend_from_slice.new.self.items c.octets_known.ensures c.loop-word.invariant.gathered
       (c.next-next.ensures.tokens ∙ ap (λ t. then_tokens (record { at = c.next-next.result.at; token = seen t }) (left c.next-next.new.self)) c.in-Quoted.is)
-      c.in_ok-push_quoted-in-Quoted.field-0 c.if-not-branch-2.false c.in_ok-push_quoted-in-Quoted.ensures.octets;
+      c.in-Ascii.is c.in_ok-extend_from_slice-in-Quoted.ensures.items;
   no_longer = search rules;
 }
+
+pub returns-then-not-branch-clause-values : goal.returns-then-not-branch-clause-values
+returns-then-not-branch-clause-values c =
+    no_word c.next-next.result.at c.in-Word.word.now (left c.next-next.new.self) c.push_value.new.out.items c.loop-word.invariant.gathered
+    (c.next-next.ensures.tokens ∙ ap (λ t. then_tokens (record { at = c.next-next.result.at; token = seen t }) (left c.next-next.new.self)) c.in-Word.is)
+    c.in_ok-push_value-in-Word.field-0 c.if-not-branch.true c.in_ok-push_value-in-Word.ensures.octets
+
+pub returns-clause-values : goal.returns-clause-values
+returns-clause-values c =
+    values_read c.next-next.result.at _ (left c.next-next.new.self) c.check_count.result c.loop-word.invariant.gathered
+    (c.next-next.ensures.tokens ∙ ap (λ t. then_tokens (record { at = c.next-next.result.at; token = seen t }) (left c.next-next.new.self)) c.in-Greater.is)
+    (search rules) (search rules) c.check_count.ensures

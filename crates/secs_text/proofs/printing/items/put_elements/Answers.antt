@@ -10,9 +10,8 @@ loop-lists-init g c = record {
   nested = omega arith;
   there = c.requires.there;
   row = refl;
-  size = c.requires.size;
-  within = c.requires.within;
-  putting = λ es n read. putting_starts _ c.args.block.now c.args.from _ c.args.depth c.args.octets.now c.args.count c.args.place es n c.requires.within c.requires.size refl read;
+  place = c.requires.place;
+  putting = λ es n read. putting_starts _ c.args.block.now c.args.from _ c.args.depth c.args.octets.now c.args.count c.args.place es n c.requires.place refl read;
 }
 
 pub loop-lists-preserved-then-left-eq0 : goal.loop-lists-preserved-then-left-eq0
@@ -24,8 +23,7 @@ loop-lists-preserved-then-left-eq0 g c =
       nested = omega arith;
       there = k.invariant.there;
       row = k.invariant.row;
-      size = c.put_end-at.ensures.size;
-      within = c.put_end-at.ensures.within;
+      place = c.put_end-at.ensures.place;
       putting = λ es n read. putting_closes k.counts c.args.depth c.args.octets.now k.lists i k.end _ (k.invariant.putting es n read) lists_is c.if-left-eq0.true c.put_end-at.ensures;
     }
 
@@ -50,8 +48,7 @@ loop-lists-preserved-then-header-eq0 g c =
       nested = k.invariant.nested;
       there = c.in-Ok.ensures.header;
       row = simp length-set k.invariant.row;
-      size = c.put_end-at-then-header-eq0.ensures.size;
-      within = c.put_end-at-then-header-eq0.ensures.within;
+      place = c.put_end-at-then-header-eq0.ensures.place;
       putting = λ es n read. putting_empty k.counts c.args.depth c.args.octets.now k.lists i k.end _ (k.invariant.putting es n read) lists_is (omega arith) c.if-left-eq0.false h c.in-Ok.ensures.read of_list deep (omega arith) (list_opening h of_list c.put_opening-at.ensures) c.from.result c.from.ensures c.if-header-eq0.true c.put_end-at-then-header-eq0.ensures;
     }
 
@@ -67,8 +64,7 @@ loop-lists-preserved-else-header-eq0 g c =
       nested = omega arith;
       there = c.in-Ok.ensures.header;
       row = simp length-set k.invariant.row;
-      size = c.put_opening-at.ensures.size;
-      within = c.put_opening-at.ensures.within;
+      place = c.put_opening-at.ensures.place;
       putting = λ es n read. putting_list k.counts c.args.depth c.args.octets.now k.lists i k.end _ (k.invariant.putting es n read) lists_is (omega arith) c.if-left-eq0.false h c.in-Ok.ensures.read of_list deep (omega arith) (list_opening h of_list c.put_opening-at.ensures) c.from.result c.from.ensures;
     }
 
@@ -84,9 +80,8 @@ loop-lists-preserved g c =
       nested = k.invariant.nested;
       there = there;
       row = simp length-set k.invariant.row;
-      size = c.put_item_of_values-at.ensures.size;
-      within = c.put_item_of_values-at.ensures.within;
-      putting = λ es n read. putting_values k.counts c.args.depth c.args.octets.now k.lists i k.end _ (k.invariant.putting es n read) lists_is (omega arith) c.if-left-eq0.false h c.in-Ok.ensures.read no_list there (values_by_body h c.args.octets.now c.body-body.result.now c.body-body.ensures.octets c.body-body.ensures.length c.put_item_of_values-at.ensures);
+      place = c.put_item_of_values-at.ensures.place;
+      putting = λ es n read. putting_values k.counts c.args.depth c.args.octets.now k.lists i k.end _ (k.invariant.putting es n read) lists_is (omega arith) c.if-left-eq0.false h c.in-Ok.ensures.read no_list there (values_by_body h c.args.octets.now there c.put_item_of_values-at.ensures);
     }
 
 pub returns-clause-puts : goal.returns-clause-puts

@@ -26,4 +26,4 @@ pub returns-clause-puts : goal.returns-clause-puts
 returns-clause-puts g c = λ v n read.
     let h = c.in-Ok.header in
     let no_list : is_list h.format ≡ false = sym c.is_list.ensures ∙ c.if-is_list.false in
-    puts_same _ (item_values c.args.depth c.args.octets.now v n h read c.in-Ok.ensures.read no_list (c.in-Ok.ensures.values no_list)) (values_by_body h c.args.octets.now c.body.result.now c.body.ensures.octets c.body.ensures.length c.put_item_of_values.ensures)
+    puts_same _ (item_values c.args.depth c.args.octets.now v n h read c.in-Ok.ensures.read no_list (c.in-Ok.ensures.values no_list)) (values_by_body h c.args.octets.now (c.in-Ok.ensures.values no_list) c.put_item_of_values.ensures)

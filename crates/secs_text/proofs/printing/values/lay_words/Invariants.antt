@@ -5,8 +5,8 @@ use Rattle.secs_text.proofs.printing.values.lay_words.Given as goal
 
 abbrev pub invariant-loop-first : goal.invariant-loop-first
 invariant-loop-first g l = record {
-  room : l.at + 48 * length l.rest ≤ length l.block;
-  laid : LaysOn l.initial.block l.block l.from l.at (words_of g.W.WordFormat.printed g.row.N l.octets) (words_of g.W.WordFormat.printed g.row.N l.rest);
+  room : l.end + 48 * length l.rest ≤ length l.block;
+  laid : LaysOn l.initial.block l.block l.at l.end (words_of g.W.WordFormat.printed g.row.N l.octets) (words_of g.W.WordFormat.printed g.row.N l.rest);
 }
 
 abbrev pub decreases-loop-first : goal.decreases-loop-first

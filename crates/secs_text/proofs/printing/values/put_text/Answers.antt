@@ -1,6 +1,6 @@
 use Rattle.std.proofs.Common.{◌≡◌, ◌++◌, length, take, ap, ◌∙◌, arith, take-append-drop}
 use Rattle.std.proofs.lemmas.List.{length-take}
-use Rattle.secs_text.proofs.PrintingText.{text_starts, text_room, text_chunk, text_all}
+use Rattle.secs_text.proofs.PrintingText.{last_closes, last_ends, text_starts, text_room, text_chunk, text_all}
 use Rattle.secs_text.proofs.printing.values.put_text.Goals as goal
 
 pub loop-rest-init : goal.loop-rest-init
@@ -28,7 +28,16 @@ loop-rest-preserved g c =
       text = text_room given c.args.block.now c.args.from c.args.octets.now (g.O.Output.Given k.out) (g.O.Output.Given c.room-at-in-loop-rest.new.out) c.lay_text-end.new.block c.lay_text-end.result.0 c.room-at-in-loop-rest.result c.lay_text-end.result.1 after c.room-at-in-loop-rest.ensures.puts laid;
     }
 
-pub returns : goal.returns
-returns g c =
+pub returns-then-quoted : goal.returns-then-quoted
+returns-then-quoted g c =
     let k = c.loop-rest in
-    text_all (g.O.Output.Given c.args.out.now) c.args.block.now c.args.from c.args.octets.now (g.O.Output.Given k.out) k.block c.lay_last.new.block k.at c.lay_last.result k.in_quotes k.rest.now c.lay_last.ensures.laid (omega (arith, c.lay_last.ensures.within, k.invariant.size)) k.invariant.text
+    let t = c.lay_text-end-2.ensures.text in
+    text_all (g.O.Output.Given c.args.out.now) c.args.block.now c.args.from c.args.octets.now (g.O.Output.Given k.out) k.block c.lay_byte.new.block k.at c.lay_byte.result k.in_quotes k.rest.now
+    (last_closes t.0 k.in_quotes c.lay_text-end-2.result.1 k.rest.now c.if-quoted.true t.1 c.lay_byte.ensures t.2) (omega (arith, c.lay_byte.ensures.moved, c.lay_text-end-2.ensures.near, k.invariant.free, k.invariant.size)) k.invariant.text
+
+pub returns-else-quoted : goal.returns-else-quoted
+returns-else-quoted g c =
+    let k = c.loop-rest in
+    let t = c.lay_text-end-2.ensures.text in
+    text_all (g.O.Output.Given c.args.out.now) c.args.block.now c.args.from c.args.octets.now (g.O.Output.Given k.out) k.block c.lay_text-end-2.new.block k.at c.lay_text-end-2.result.0 k.in_quotes k.rest.now
+    (last_ends t.0 k.in_quotes c.lay_text-end-2.result.1 k.rest.now c.if-quoted.false t.1 t.2) (omega (arith, c.lay_text-end-2.ensures.near, k.invariant.free, k.invariant.size)) k.invariant.text

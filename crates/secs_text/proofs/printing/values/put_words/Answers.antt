@@ -8,7 +8,7 @@ use Rattle.secs_text.proofs.printing.values.put_words.Goals as goal
 pub loop-rest-init : goal.loop-rest-init
 loop-rest-init g c = record {
   free = c.room-at.ensures.free;
-  size = c.requires.size;
+  size = c.requires.place.size;
   puts = words_start (g.O.Output.Given c.args.out.now) c.args.block.now c.args.from (words_of g.W.WordFormat.printed g.row.N c.args.octets.now) (g.O.Output.Given c.room-at.new.out) c.room-at.result c.room-at.ensures.puts;
 }
 

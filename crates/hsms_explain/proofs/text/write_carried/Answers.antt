@@ -1,0 +1,14 @@
+use Rattle.std.proofs.Common.{◌++◌, ℕ, List, codes, refl, sym, subst}
+use Rattle.hsms_explain.specs.declared.told.Carried.{Carried}
+use Rattle.hsms_explain.specs.Page.{Adds}
+use Rattle.hsms_explain.specs.Written.{CarriedSaid}
+use Rattle.hsms_explain.proofs.Pages.{adds_then}
+use Rattle.hsms_explain.proofs.text.write_carried.Goals as goal
+
+pub returns-in-Entry : goal.returns-in-Entry
+returns-in-Entry c =
+    let time = c.write_time.ensures in
+    let said = c.write_what.ensures in
+    let P : Carried → Type 0 = λ w. (words : List ℕ) × CarriedSaid w words × Adds c.args.page.now c.write_what.new.page words in
+    subst P (sym c.in-Entry.is)
+    (time.0 ++ codes " " ++ said.0, (time.0, said.0, said.1, refl), adds_then _ _ _ _ _ (adds_then _ _ _ _ _ time.1 c.lay.ensures) said.2)

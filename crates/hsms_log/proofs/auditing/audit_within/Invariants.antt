@@ -1,0 +1,16 @@
+use Rattle.std.proofs.Common.{◌≡◌, ◌≤◌, ◌+◌, ◌*◌}
+use Rattle.hsms_log.specs.Auditing.{RisesBy, HasRead}
+use Rattle.hsms_log.proofs.auditing.audit_within.Given as goal
+
+-- the reader stands after what was read, and each read was counted
+abbrev pub invariant-loop : goal.invariant-loop
+invariant-loop g l =
+    let old = g.R.Source.state l.initial.source in
+    let now = g.R.Source.state l.source in
+    HasRead old.left l.reader now.left
+    × (l.reader.judge.tally.lines ≤ 4096 * l.counter)
+    × RisesBy old.pulls now.pulls l.counter
+    × (now.pulls ≤ old.pulls + l.counter)
+    × (now.ends ≡ old.ends)
+    × (now.empty_pulls ≡ old.empty_pulls)
+    × (now.failures ≡ old.failures)
