@@ -3,7 +3,7 @@
 ghost use Rattle.std.specs.Prelude.{◌≡◌, ◌<◌, ℕ, List, Option, drop, length, true, MatchResult};
 ghost use Rattle.hsms_entity.specs.Turn.{tick as ticks};
 ghost use Rattle.hsms_entity.specs.End.{Accepts, Refuses};
-ghost use Rattle.hsms_ends.specs.Link.{moment_heard, nothing_heard};
+ghost use Rattle.hsms_ends.specs.Link.{Asks, moment_heard, nothing_heard};
 ghost use Rattle.hsms_ends.specs.PutOut.{AllFitLengthField};
 ghost use Rattle.hsms_ends.specs.Turning.{HasNotGone, MustWait, has_gone as is_down, is_idle as is_free, is_step_due as step_due, input_of, is_test_due as test_due, test_moment as moment_of_test};
 ghost use Rattle.hsms_ends.specs.Outcome.{called, IsReady, Yields, Handed, Followed, Continued, TurnTaken, Ran};
@@ -91,6 +91,13 @@ fn hand<L: Link, W: Sink, D: TurnDesk>(
     }
 }
 
+/// Asks the clock: the link's moment.
+fn now<L: Link>(link: &mut L) -> u64
+    ensures { Asks (L.told link.old) (L.told link.new) result }
+{
+    link.now()
+}
+
 /// Asks the clock, and tells the end the moment.
 fn tick<L: Link, W: Sink, D: TurnDesk>(
     link: &mut L,
@@ -102,7 +109,7 @@ fn tick<L: Link, W: Sink, D: TurnDesk>(
     ensures { (now : ℕ) × Handed D.answers_after result end.old (ticks now) end.new (W.state log.old) (W.state log.new)
         (L.told link.old) (L.told link.new) (moment_heard now) count.old count.new }
 {
-    let now = link.now();
+    let now = now(link);
     hand(link, log, end, Call::Tick(now), count)
 }
 
@@ -285,7 +292,7 @@ pub fn run<L: Link, W: Sink, D: TurnDesk>(
         (W.state log.old) (W.state log.new) (L.told link.old) (L.told link.new)
         progress.new.entries progress.new.refused }
 {
-    let start = link.now();
+    let start = now(link);
     match hand(link, log, end, Call::Start(start), &mut progress.entries) {
         Ok(()) => {}
         Err(stop) => return Err(stop),

@@ -14,7 +14,7 @@ loop-done-init g c =
     let opened : SinkState = g.W.Sink.state c.hand.new.log in
     let first = c.args.progress.now in (
       omega arith,
-      ready_handed g.D.TurnDesk.answers_after c.args.end.now c.hand.new.end (start c.now-start.result) log opened (told c.now-start.new.self) (told c.hand.new.link) _ first.entries c.hand.new.count c.requires.ready c.in-Ok.ensures,
+      ready_handed g.D.TurnDesk.answers_after c.args.end.now c.hand.new.end (start c.now-start.result) log opened (told c.now-start.new.link) (told c.hand.new.link) _ first.entries c.hand.new.count c.requires.ready c.in-Ok.ensures,
       none_so_far g.D.TurnDesk.answers_after c.args.pause c.hand.new.end (drop first.place c.args.script.now) opened (told c.hand.new.link) c.hand.new.count first.refused,
       c.requires.room,
     )
@@ -46,7 +46,7 @@ returns-in-Err g c =
     let begun = c.now-start.result in
     ran_cut g.D.TurnDesk.answers_after c.args.pause c.in-Err.stop begun c.args.turns c.args.end.now c.hand.new.end c.args.script.now _ log log' (told c.args.link.now) (told c.hand.new.link) before.entries c.hand.new.count before.refused
     (ap (λ p. p.entries) c.requires.none) (ap (λ p. p.refused) c.requires.none)
-    (handed_asked g.D.TurnDesk.answers_after (Err c.in-Err.stop) c.args.end.now (start begun) c.hand.new.end log log' (told c.args.link.now) (told c.now-start.new.self) (told c.hand.new.link) before.entries c.hand.new.count begun c.now-start.ensures c.in-Err.ensures)
+    (handed_asked g.D.TurnDesk.answers_after (Err c.in-Err.stop) c.args.end.now (start begun) c.hand.new.end log log' (told c.args.link.now) (told c.now-start.new.link) (told c.hand.new.link) before.entries c.hand.new.count begun c.now-start.ensures c.in-Err.ensures)
 
 pub returns-in-Err-turn : goal.returns-in-Err-turn
 returns-in-Err-turn g c =
@@ -63,7 +63,7 @@ returns-in-Err-turn g c =
     ran_turns g.D.TurnDesk.answers_after c.args.pause (Err c.in-Err-turn.stop) begun c.args.turns c.args.end.now c.hand.new.end c.turn.new.end script first.place after.place log opened log' (told c.args.link.now) (told c.hand.new.link) (told c.turn.new.link)
     first.entries c.hand.new.count after.entries first.refused after.refused
     (ap (λ p. p.place) c.requires.none) (ap (λ p. p.entries) c.requires.none) (ap (λ p. p.refused) c.requires.none)
-    (handed_asked g.D.TurnDesk.answers_after (Ok tt) c.args.end.now (start begun) c.hand.new.end log opened (told c.args.link.now) (told c.now-start.new.self) (told c.hand.new.link) first.entries c.hand.new.count begun c.now-start.ensures c.in-Ok.ensures)
+    (handed_asked g.D.TurnDesk.answers_after (Ok tt) c.args.end.now (start begun) c.hand.new.end log opened (told c.args.link.now) (told c.now-start.new.link) (told c.hand.new.link) first.entries c.hand.new.count begun c.now-start.ensures c.in-Ok.ensures)
     (taken_cut g.D.TurnDesk.answers_after c.args.pause c.in-Err-turn.stop c.args.turns c.hand.new.end c.loop-done.end c.turn.new.end (drop first.place script) (drop now.place script) (drop after.place script) opened mid log' (told c.hand.new.link) (told c.loop-done.link) (told c.turn.new.link)
     c.hand.new.count now.entries after.entries first.refused now.refused after.refused c.loop-done.done c.loop-done.invariant.2 (omega arith) c.in-Err-turn.ensures.taken)
 
@@ -81,7 +81,7 @@ returns-else-not-has_gone g c =
     ran_turns g.D.TurnDesk.answers_after c.args.pause (Ok tt) begun c.args.turns c.args.end.now c.hand.new.end c.loop-done.end script first.place now.place log opened mid (told c.args.link.now) (told c.hand.new.link) (told c.loop-done.link)
     first.entries c.hand.new.count now.entries first.refused now.refused
     (ap (λ p. p.place) c.requires.none) (ap (λ p. p.entries) c.requires.none) (ap (λ p. p.refused) c.requires.none)
-    (handed_asked g.D.TurnDesk.answers_after (Ok tt) c.args.end.now (start begun) c.hand.new.end log opened (told c.args.link.now) (told c.now-start.new.self) (told c.hand.new.link) first.entries c.hand.new.count begun c.now-start.ensures c.in-Ok.ensures)
+    (handed_asked g.D.TurnDesk.answers_after (Ok tt) c.args.end.now (start begun) c.hand.new.end log opened (told c.args.link.now) (told c.now-start.new.link) (told c.hand.new.link) first.entries c.hand.new.count begun c.now-start.ensures c.in-Ok.ensures)
     (taken_whole g.D.TurnDesk.answers_after c.args.pause c.args.turns c.hand.new.end c.loop-done.end (drop first.place script) (drop now.place script) opened mid (told c.hand.new.link) (told c.loop-done.link)
     c.hand.new.count now.entries first.refused now.refused c.loop-done.done c.loop-done.invariant.2 c.loop-done.invariant.0
     (λ up. absurd (let e : true ≡ false = sym gone ∙ up in cc)))
@@ -99,7 +99,7 @@ returns-after-loop-done g c =
     ran_turns g.D.TurnDesk.answers_after c.args.pause (Ok tt) begun c.args.turns c.args.end.now c.hand.new.end c.loop-done.end script first.place now.place log opened mid (told c.args.link.now) (told c.hand.new.link) (told c.loop-done.link)
     first.entries c.hand.new.count now.entries first.refused now.refused
     (ap (λ p. p.place) c.requires.none) (ap (λ p. p.entries) c.requires.none) (ap (λ p. p.refused) c.requires.none)
-    (handed_asked g.D.TurnDesk.answers_after (Ok tt) c.args.end.now (start begun) c.hand.new.end log opened (told c.args.link.now) (told c.now-start.new.self) (told c.hand.new.link) first.entries c.hand.new.count begun c.now-start.ensures c.in-Ok.ensures)
+    (handed_asked g.D.TurnDesk.answers_after (Ok tt) c.args.end.now (start begun) c.hand.new.end log opened (told c.args.link.now) (told c.now-start.new.link) (told c.hand.new.link) first.entries c.hand.new.count begun c.now-start.ensures c.in-Ok.ensures)
     (taken_whole g.D.TurnDesk.answers_after c.args.pause c.args.turns c.hand.new.end c.loop-done.end (drop first.place script) (drop now.place script) opened mid (told c.hand.new.link) (told c.loop-done.link)
     c.hand.new.count now.entries first.refused now.refused c.loop-done.done c.loop-done.invariant.2 c.loop-done.invariant.0
     (λ up. omega arith))

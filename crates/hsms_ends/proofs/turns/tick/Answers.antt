@@ -9,4 +9,4 @@ returns g c =
     let log : SinkState = g.W.Sink.state c.args.log.now in
     let log' : SinkState = g.W.Sink.state c.hand.new.log in
     let now = c.now-now.result in
-    (now, handed_asked g.D.TurnDesk.answers_after c.hand.result c.args.end.now (ticks now) c.hand.new.end log log' (told c.args.link.now) (told c.now-now.new.self) (told c.hand.new.link) c.args.count.now c.hand.new.count now c.now-now.ensures c.hand.ensures)
+    (now, handed_asked g.D.TurnDesk.answers_after c.hand.result c.args.end.now (ticks now) c.hand.new.end log log' (told c.args.link.now) (told c.now-now.new.link) (told c.hand.new.link) c.args.count.now c.hand.new.count now c.now-now.ensures c.hand.ensures)
