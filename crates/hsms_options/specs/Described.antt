@@ -11,7 +11,7 @@ abbrev pub rule_described : Described → Rule
 rule_described (Flag name help) = flag_option name.now
 rule_described (Word name value help) = text_option name.now
 rule_described (Needed name value help) = needed_option name.now
-rule_described (Number number help) = option_of (number_told number)
+rule_described (Number number value help) = option_of (number_told number)
 
 -- the subcommand that is described
 abbrev pub shape_described : Subcommand → Shape

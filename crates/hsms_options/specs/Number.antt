@@ -18,7 +18,7 @@ pub record Number : Type 0 where
 
 -- the number of an option that is told
 abbrev pub number_told : Numbered → Number
-number_told n = record { name = n.0.now; least = n.2; greatest = n.3; left_out = n.4 }
+number_told n = record { name = n.0.now; least = n.1; greatest = n.2; left_out = n.3 }
 
 -- one of the numbers that an option may have
 abbrev pub IsOf : Number → ℕ → Type 0

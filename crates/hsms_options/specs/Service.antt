@@ -113,6 +113,12 @@ HasRepeat rows repeat =
     IsFlag (codes "again") rows repeat.again × IsFlag (codes "once") rows repeat.once
     × (number_in connections_number rows ≡ Some repeat.connections) × (number_in t5_number rows ≡ Some repeat.t5)
 
+-- the matches have these numbers of a service: its port, its first system bytes, its turns, and when it tests its link
+abbrev pub HasOwnNumbers : List Row → ℕ → ℕ → ℕ → ℕ → Type 0
+HasOwnNumbers rows port first_system turns linktest =
+    (number_in port_number rows ≡ Some port) × (number_in first_system_number rows ≡ Some first_system)
+    × (number_in turns_number rows ≡ Some turns) × (number_in linktest_number rows ≡ Some linktest)
+
 -- the matches ask for this service
 abbrev pub AsksToServe : List Row → Service → Type 0
 AsksToServe rows service =

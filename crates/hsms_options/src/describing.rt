@@ -202,8 +202,8 @@ impl Described {
             Described::Needed(name, value, help) => {
                 word_option(alloc, name, value, help).required(true)
             }
-            Described::Number(number, help) => {
-                number_option(alloc, number, help).required(number.4.is_none())
+            Described::Number(number, value, help) => {
+                number_option(alloc, number, value, help).required(number.3.is_none())
             }
         }
     }
@@ -211,11 +211,11 @@ impl Described {
 
 // An option with a number in decimal.
 #[tactic(auto, using(crate::proofs::Ranges::narrowed))]
-fn number_option<'a>(alloc: Global, number: Numbered, help: &'a str) -> Arg<'a>
-    ensures rule { rule_of result ≡ ranged_option number.0.now number.2 number.3 }
+fn number_option<'a>(alloc: Global, number: Numbered, value: &'a str, help: &'a str) -> Arg<'a>
+    ensures rule { rule_of result ≡ ranged_option number.0.now number.1 number.2 }
     ensures local { result.global ≡ false }
 {
-    let Numbered(name, value, least, greatest, _) = number;
+    let Numbered(name, least, greatest, _) = number;
     word_option(alloc, name, value, help).value_parser(value_parser!(u32).range(
         i64::from(least)..=i64::from(greatest),
     ))

@@ -3,9 +3,13 @@
 ghost use Rattle.std.specs.Prelude.{◌≡◌, ◌≢◌, IfOk, IfErr, IfSome, None, codes, map, string_bytes};
 ghost use Rattle.clap.specs.Words.{found_of, kind_of, rows_of, subcommand_rows_of};
 ghost use Rattle.clap.specs.declared.error.kind.ErrorKind.TheVariants.{OutOfMemory};
-ghost use Rattle.hsms_options.specs.Options.{AsksBy, AsksFor, CallsForText, IsHelp, IsWithinLimits, Spells, SpellsNothing, form_in};
+ghost use Rattle.hsms_options.specs.Options.{AsksBy, AsksFor, AsksForTask, CallsForText, IsHelp, IsTaskWithinLimits, IsWithinLimits, Spells, SpellsNothing, form_in};
 ghost use Rattle.hsms_options.specs.Status.{IsRefusedFor};
+ghost use Rattle.hsms_options.specs.declared.options.Encoding.{Encoding};
 ghost use Rattle.hsms_options.specs.declared.options.Request.{Request};
+ghost use Rattle.hsms_options.specs.declared.options.Showing.{Showing};
+ghost use Rattle.hsms_options.specs.declared.options.Task.{Task};
+ghost use Rattle.hsms_options.specs.declared.options.Task.TheVariants as asked;
 
 use crate::capturing::{Capturing, capturing_of};
 use crate::describing::command;
@@ -115,26 +119,65 @@ fn asked_by<'a>(name: &str, options: &ArgMatches<'a>) -> Option<Request<'a>>
         → AsksFor name.now (rows_of (found_of options.now)) request → ⊥ }
 {
     match name {
-        "audit" => Some(Request::Task(Task::Audit)),
         "explain" => Some(Request::Explain(excerpt_of(options)?)),
         "capture" => Some(Request::Capture(capturing_of(options)?)),
-        "show" => Some(Request::Task(Task::Show(Showing {
-            max: number_of(options, MAX)?,
-            depth: depth_of(options)?,
-            form: form_of(options)?,
-        }))),
-        "encode" => Some(Request::Task(Task::Encode(Encoding {
-            device: short_of(options, DEVICE)?,
-            system: number_of(options, SYSTEM)?,
-            max: number_of(options, MAX)?,
-            depth: depth_of(options)?,
-            hex: flag_of(options, "hex"),
-        }))),
         // The toolchain has no rule for `?` here, by which words are handed on that are borrowed.
         "serve" => match service_of(options) {
             Some(service) => Some(Request::Serve(service)),
             None => None,
         },
+        _ => Some(Request::Task(task_of(name, options)?)),
+    }
+}
+
+// The same, where it is a task.
+fn task_of(name: &str, options: &ArgMatches<'_>) -> Option<Task>
+    ensures asks { IfSome result (AsksForTask name.now (rows_of (found_of options.now))) }
+    ensures limits { IfSome result IsTaskWithinLimits }
+    ensures none { result ≡ None → (task : Task) → AsksForTask name.now (rows_of (found_of options.now)) task → ⊥ }
+{
+    match name {
+        "audit" => Some(Task::Audit),
+        "show" => Some(Task::Show(showing_of(options)?)),
+        "encode" => Some(Task::Encode(encoding_of(options)?)),
+        _ => None,
+    }
+}
+
+// How `hsms show` is to show messages.
+fn showing_of(options: &ArgMatches<'_>) -> Option<Showing>
+    ensures asks { IfSome result (λ s. AsksForTask (codes "show") (rows_of (found_of options.now)) (asked.Show s)) }
+    ensures limits { IfSome result (λ s. IsTaskWithinLimits (asked.Show s)) }
+    ensures none { result ≡ None → (s : Showing)
+        → AsksForTask (codes "show") (rows_of (found_of options.now)) (asked.Show s) → ⊥ }
+{
+    Some(Showing {
+        max: number_of(options, MAX)?,
+        depth: depth_of(options)?,
+        form: form_of(options)?,
+    })
+}
+
+// How `hsms encode` is to encode messages.
+fn encoding_of(options: &ArgMatches<'_>) -> Option<Encoding>
+    ensures asks { IfSome result (λ e. AsksForTask (codes "encode") (rows_of (found_of options.now)) (asked.Encode e)) }
+    ensures limits { IfSome result (λ e. IsTaskWithinLimits (asked.Encode e)) }
+    ensures none { result ≡ None → (e : Encoding)
+        → AsksForTask (codes "encode") (rows_of (found_of options.now)) (asked.Encode e) → ⊥ }
+{
+    match (
+        short_of(options, DEVICE),
+        number_of(options, SYSTEM),
+        number_of(options, MAX),
+        depth_of(options),
+    ) {
+        (Some(device), Some(system), Some(max), Some(depth)) => Some(Encoding {
+            device,
+            system,
+            max,
+            depth,
+            hex: flag_of(options, "hex"),
+        }),
         _ => None,
     }
 }

@@ -1,11 +1,12 @@
 //! The options of `hsms serve`: which connection is to be served, and how.
 
-ghost use Rattle.std.specs.Prelude.{◌≡◌, ◌≤◌, IfSome, None};
-ghost use Rattle.clap.specs.Words.{found_of, rows_of};
+ghost use Rattle.std.specs.Prelude.{◌≡◌, ◌≤◌, IfSome, Some, None, codes};
+ghost use Rattle.clap.specs.Words.{first_of, found_of, rows_of};
 ghost use Rattle.hsms_machine.specs.Settings.{Parameters};
 ghost use Rattle.hsms_machine.specs.declared.settings.Role.{Role};
 ghost use Rattle.hsms_machine.specs.declared.settings.Side.{Side};
-ghost use Rattle.hsms_options.specs.Service.{AsksToServe, HasNumbers, role_word, side_word};
+ghost use Rattle.hsms_options.specs.Service.{AsksToServe, HasNumbers, HasOwnNumbers, HasRepeat, HasSettings, role_word, side_word};
+ghost use Rattle.hsms_options.specs.declared.service.Repeat.{Repeat};
 ghost use Rattle.hsms_options.specs.declared.service.Service.{Service};
 
 use crate::tables::{
@@ -63,27 +64,63 @@ pub fn service_of<'a>(options: &ArgMatches<'a>) -> Option<Service<'a>>
     ensures port { IfSome result (λ service. (1 ≤ service.port) × (service.port ≤ 65535)) }
     ensures none { result ≡ None → (service : Service) → AsksToServe (rows_of (found_of options.now)) service → ⊥ }
 {
-    let role = role_named(text_of(options, "role")?)?;
-    let link = side_named(text_of(options, "link")?)?;
+    let (port, first_system, turns, linktest) = numbers_of(options)?;
     Some(Service {
-        settings: settings_with(options, role, link)?,
+        settings: settings_of(options)?,
         address: text_of(options, "address")?,
-        port: short_of(options, PORT)?,
-        first_system: number_of(options, FIRST_SYSTEM)?,
-        turns: number_of(options, TURNS)?,
-        linktest: number_of(options, LINKTEST)?,
+        repeat: repeat_of(options)?,
+        port,
+        first_system,
+        turns,
+        linktest,
         mdln: text_or(options, "mdln", ""),
         softrev: text_or(options, "softrev", ""),
         send: flag_of(options, "send"),
         answer: flag_of(options, "answer"),
         all_sent: flag_of(options, "all-sent"),
-        repeat: Repeat {
-            again: flag_of(options, "again"),
-            once: flag_of(options, "once"),
-            connections: number_of(options, CONNECTIONS)?,
-            t5: number_of(options, T5)?,
-        },
     })
+}
+
+// Of a service its port, its first system bytes, how many turns it takes, and when it tests its link.
+fn numbers_of(options: &ArgMatches<'_>) -> Option<(u16, u32, u32, u32)>
+    ensures asks { IfSome result (λ n. HasOwnNumbers (rows_of (found_of options.now)) n.0 n.1 n.2 n.3) }
+    ensures port { IfSome result (λ n. (1 ≤ n.0) × (n.0 ≤ 65535)) }
+    ensures none { result ≡ None → (s : Service)
+        → HasOwnNumbers (rows_of (found_of options.now)) s.port s.first_system s.turns s.linktest → ⊥ }
+{
+    match (
+        short_of(options, PORT),
+        number_of(options, FIRST_SYSTEM),
+        number_of(options, TURNS),
+        number_of(options, LINKTEST),
+    ) {
+        (Some(port), Some(first_system), Some(turns), Some(linktest)) => {
+            Some((port, first_system, turns, linktest))
+        }
+        _ => None,
+    }
+}
+
+// What they say of connections one after the other.
+fn repeat_of(options: &ArgMatches<'_>) -> Option<Repeat>
+    ensures asks { IfSome result (HasRepeat (rows_of (found_of options.now))) }
+    ensures none { result ≡ None → (repeat : Repeat) → HasRepeat (rows_of (found_of options.now)) repeat → ⊥ }
+{
+    Some(Repeat {
+        connections: number_of(options, CONNECTIONS)?,
+        t5: number_of(options, T5)?,
+        again: flag_of(options, "again"),
+        once: flag_of(options, "once"),
+    })
+}
+
+// The settings of the end that they name, for a log of one connection.
+fn settings_of(options: &ArgMatches<'_>) -> Option<Settings>
+    ensures asks { IfSome result (HasSettings (rows_of (found_of options.now))) }
+    ensures none { result ≡ None → (settings : Parameters) → HasSettings (rows_of (found_of options.now)) settings → ⊥ }
+{
+    let role = role_named(text_of(options, "role")?)?;
+    settings_with(options, role, side_of(options)?)
 }
 
 /// The settings of an end of this role and side with the numbers of the options, for a log of one connection.
@@ -92,14 +129,20 @@ pub fn settings_with(options: &ArgMatches<'_>, role: Role, link: Side) -> Option
     ensures asks { IfSome result (HasNumbers (rows_of (found_of options.now))) }
     ensures none { result ≡ None → (settings : Parameters) → HasNumbers (rows_of (found_of options.now)) settings → ⊥ }
 {
-    let device = short_of(options, DEVICE)?;
-    let t3 = number_of(options, T3)?;
-    let t6 = number_of(options, T6)?;
-    let t7 = number_of(options, T7)?;
-    let t8 = number_of(options, T8)?;
-    let max = number_of(options, MAX)?;
-    let depth = depth_of(options)?;
-    Settings::new(role, link, device, t3, t6, t7, t8, max, depth)
+    match (
+        short_of(options, DEVICE),
+        number_of(options, T3),
+        number_of(options, T6),
+        number_of(options, T7),
+        number_of(options, T8),
+        number_of(options, MAX),
+        depth_of(options),
+    ) {
+        (Some(device), Some(t3), Some(t6), Some(t7), Some(t8), Some(max), Some(depth)) => {
+            Settings::new(role, link, device, t3, t6, t7, t8, max, depth)
+        }
+        _ => None,
+    }
 }
 
 /// The role of this name.
@@ -114,14 +157,16 @@ pub fn role_named(name: &str) -> Option<Role>
     }
 }
 
-// The side of this name.
-fn side_named(name: &str) -> Option<Side>
-    ensures some { IfSome result (λ side. name.now ≡ side_word side) }
-    ensures none { result ≡ None → (side : Side) → name.now ≡ side_word side → ⊥ }
+// The side that they name.
+fn side_of(options: &ArgMatches<'_>) -> Option<Side>
+    ensures some { IfSome result (λ side. first_of (codes "link") (rows_of (found_of options.now)) ≡ Some (side_word side)) }
+    ensures none { result ≡ None → (side : Side)
+        → first_of (codes "link") (rows_of (found_of options.now)) ≡ Some (side_word side) → ⊥ }
 {
-    match name {
-        "active" => Some(Side::Active),
-        "passive" => Some(Side::Passive),
-        _ => None,
+    match text_of(options, "link") {
+        Some("active") => Some(Side::Active),
+        Some("passive") => Some(Side::Passive),
+        Some(_) => None,
+        None => None,
     }
 }

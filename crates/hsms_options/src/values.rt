@@ -32,7 +32,7 @@ pub fn number_of(options: &ArgMatches<'_>, number: Numbered) -> Option<u32>
     ensures value { result ≡ number_in (number_told number) (rows_of (found_of options.now)) }
     ensures within { IfSome result (IsOf (number_told number)) }
 {
-    let Numbered(name, _, least, greatest, left_out) = number;
+    let Numbered(name, least, greatest, left_out) = number;
     match options.try_get_one::<u32>(name) {
         Ok(Some(number)) => within(number, least, greatest),
         Ok(None) => left_out,

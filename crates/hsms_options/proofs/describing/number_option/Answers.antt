@@ -10,10 +10,10 @@ pub returns-clause-rule : goal.returns-clause-rule
 returns-clause-rule c =
     let read : (z : ℤ) (n : ℕ) → n ≤ 4294967295 → z ≡ pos n → to_z w64 (of_z w64 z) ≡ pos n =
     λ z n most is. ap (λ i. to_z w64 (of_z w64 i)) is ∙ to_z_pos w64 n (omega (arith, most)) in
-    let least : c.args.number.2 ≤ 4294967295 = omega arith in
-    let greatest : c.args.number.3 ≤ 4294967295 = omega arith in
-    let parser = narrowed c.value_parser.result c.range.result _ _ c.args.number.2 c.args.number.3 least greatest c.value_parser.ensures
-    (c.new.ensures.start ∙ read _ c.args.number.2 least c.from.ensures) (c.new.ensures.end ∙ read _ c.args.number.3 greatest c.from-2.ensures)
+    let least : c.args.number.1 ≤ 4294967295 = omega arith in
+    let greatest : c.args.number.2 ≤ 4294967295 = omega arith in
+    let parser = narrowed c.value_parser.result c.range.result _ _ c.args.number.1 c.args.number.2 least greatest c.value_parser.ensures
+    (c.new.ensures.start ∙ read _ c.args.number.1 least c.from.ensures) (c.new.ensures.end ∙ read _ c.args.number.2 greatest c.from-2.ensures)
     c.range.ensures in
     let given = c.value_parser-2.ensures.given in
     ap rule_of c.value_parser-2.ensures.others
