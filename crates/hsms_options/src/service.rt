@@ -101,7 +101,7 @@ fn numbers_of(options: &ArgMatches<'_>) -> Option<(u16, u32, u32, u32)>
     }
 }
 
-// What they say of connections one after the other.
+// Whether connections are served one after the other, and which, by these options.
 fn repeat_of(options: &ArgMatches<'_>) -> Option<Repeat>
     ensures asks { IfSome result (HasRepeat (rows_of (found_of options.now))) }
     ensures none { result ≡ None → (repeat : Repeat) → HasRepeat (rows_of (found_of options.now)) repeat → ⊥ }
@@ -114,7 +114,7 @@ fn repeat_of(options: &ArgMatches<'_>) -> Option<Repeat>
     })
 }
 
-// The settings of the end that they name, for a log of one connection.
+// The settings of an end of the role and side that these options name, for a log of one connection.
 fn settings_of(options: &ArgMatches<'_>) -> Option<Settings>
     ensures asks { IfSome result (HasSettings (rows_of (found_of options.now))) }
     ensures none { result ≡ None → (settings : Parameters) → HasSettings (rows_of (found_of options.now)) settings → ⊥ }
@@ -157,7 +157,7 @@ pub fn role_named(name: &str) -> Option<Role>
     }
 }
 
-// The side that they name.
+// The side that these options name.
 fn side_of(options: &ArgMatches<'_>) -> Option<Side>
     ensures some { IfSome result (λ side. first_of (codes "link") (rows_of (found_of options.now)) ≡ Some (side_word side)) }
     ensures none { result ≡ None → (side : Side)
