@@ -13,7 +13,7 @@ use Rattle.hsms_machine.specs.declared.settings.Side.{Side}
 use Rattle.hsms_machine.specs.declared.settings.Side.TheVariants.{Active, Passive}
 use Rattle.hsms_machine.specs.Settings.{Parameters, IsWithinLimits}
 use Rattle.hsms_log.specs.Spelling.{settings_line, role_word, link_word, SpellsSettings}
-use Rattle.hsms_log.specs.Reading.{settings_at, version_at, times_at, number_at, number_of, word_at, role_of, link_of, after, below}
+use Rattle.hsms_log.specs.Reading.{settings_at, version_at, end_at, times_at, limits_of, u32_at, number_at, number_of, word_at, role_of, link_of, after, below}
 use Rattle.hsms_log.proofs.Binds.{bind_step, some_inj, below_fits, below_some}
 use Rattle.hsms_log.proofs.Numbers.{number_at-spelled, number_at-some, number_of-decimal, number_of-some, word_at-some}
 
@@ -72,37 +72,47 @@ version_at-spelled : (n : ℕ) (rest : List ℕ) → n < 2 ^ 8 → version_at (c
 unfolding version_at after
 version_at-spelled n rest h = rw (number_at-spelled n rest (omega arith), below_fits (2 ^ 8) n h) refl
 
+u32_at-spelled : (n : ℕ) (rest : List ℕ) → n < 2 ^ 32 → u32_at (decimal n ++ 32 ∷ rest) ≡ Some (n, rest)
+unfolding u32_at
+u32_at-spelled n rest h = rw (number_at-spelled n rest (omega arith), below_fits (2 ^ 32) n h) refl
+
 times_at-spelled : (a b c d : ℕ) (rest : List ℕ) → a < 2 ^ 32 → b < 2 ^ 32 → c < 2 ^ 32 → d < 2 ^ 32
     → times_at (decimal a ++ 32 ∷ (decimal b ++ 32 ∷ (decimal c ++ 32 ∷ (decimal d ++ 32 ∷ rest)))) ≡ Some (a, b, c, d, rest)
 unfolding times_at
 times_at-spelled a b c d rest ha hb hc hd =
     rw (
-      number_at-spelled a (decimal b ++ 32 ∷ (decimal c ++ 32 ∷ (decimal d ++ 32 ∷ rest))) (omega arith),
-      below_fits (2 ^ 32) a ha,
-      number_at-spelled b (decimal c ++ 32 ∷ (decimal d ++ 32 ∷ rest)) (omega arith),
-      below_fits (2 ^ 32) b hb,
-      number_at-spelled c (decimal d ++ 32 ∷ rest) (omega arith),
-      below_fits (2 ^ 32) c hc,
-      number_at-spelled d rest (omega arith),
-      below_fits (2 ^ 32) d hd,
+      u32_at-spelled a (decimal b ++ 32 ∷ (decimal c ++ 32 ∷ (decimal d ++ 32 ∷ rest))) ha,
+      u32_at-spelled b (decimal c ++ 32 ∷ (decimal d ++ 32 ∷ rest)) hb,
+      u32_at-spelled c (decimal d ++ 32 ∷ rest) hc,
+      u32_at-spelled d rest hd,
     ) refl
+
+end_at-spelled : (r : Role) (l : Side) (n : ℕ) (rest : List ℕ) → n < 2 ^ 16
+    → end_at (role_word r ++ 32 ∷ (link_word l ++ 32 ∷ (decimal n ++ 32 ∷ rest))) ≡ Some (r, l, n, rest)
+unfolding end_at
+end_at-spelled r l n rest h =
+    rw (
+      word_at-role r _,
+      role_of-word r,
+      word_at-link l _,
+      link_of-word l,
+      number_at-spelled n rest (omega arith),
+      below_fits (2 ^ 16) n h,
+    ) refl
+
+limits_of-spelled : (max depth : ℕ) → max < 2 ^ 32 → depth < 2 ^ 8 → limits_of (decimal max ++ 32 ∷ decimal depth) ≡ Some (max, depth)
+unfolding limits_of
+limits_of-spelled max depth hm hd =
+    rw (u32_at-spelled max (decimal depth) hm, number_of-decimal depth (omega arith), below_fits (2 ^ 8) depth hd) refl
 
 settings_at-line : (s : Parameters) → IsWithinLimits s → settings_at (settings_line s) ≡ Some s
 unfolding settings_at settings_line
 settings_at-line s w =
     rw (
       version_at-spelled s.version _ (omega arith),
-      word_at-role s.role _,
-      role_of-word s.role,
-      word_at-link s.link _,
-      link_of-word s.link,
-      number_at-spelled s.device _ (omega arith),
-      below_fits (2 ^ 16) s.device (omega arith),
+      end_at-spelled s.role s.link s.device _ (omega arith),
       times_at-spelled s.t3 s.t6 s.t7 s.t8 _ (omega arith) (omega arith) (omega arith) (omega arith),
-      number_at-spelled s.max _ (omega arith),
-      below_fits (2 ^ 32) s.max (omega arith),
-      number_of-decimal s.depth (omega arith),
-      below_fits (2 ^ 8) s.depth (omega arith),
+      limits_of-spelled s.max s.depth (omega arith) (omega arith),
     ) refl
 
 -- ---- read, so spelled
@@ -124,56 +134,76 @@ version_at-some line x h =
     (after-some (codes "hsms-log ") line rest rest_is
     ∙ ap (λ t. codes "hsms-log " ++ t) (numbers_front (2 ^ 8) rest v.0 version v.1 v_is version_is)))))
 
+u32_at-some : (text : List ℕ) (x : ℕ × List ℕ) → u32_at text ≡ Some x → text ≡ decimal x.0 ++ 32 ∷ x.1
+unfolding u32_at
+u32_at-some text x h =
+    bind_step (number_at text) _ x h (λ n n_is h.
+    bind_step (below (2 ^ 32) n.0) _ x h (λ number number_is h.
+    let P : ℕ × List ℕ → Type 0 = λ y. text ≡ decimal y.0 ++ 32 ∷ y.1 in
+    subst P (some_inj {A = ℕ × List ℕ} (number, n.1) x h) (numbers_front (2 ^ 32) text n.0 number n.1 n_is number_is)))
+
 times_at-some : (text : List ℕ) (x : ℕ × ℕ × ℕ × ℕ × List ℕ) → times_at text ≡ Some x
     → text ≡ decimal x.0 ++ 32 ∷ (decimal x.1 ++ 32 ∷ (decimal x.2 ++ 32 ∷ (decimal x.3 ++ 32 ∷ x.4)))
 unfolding times_at
 times_at-some text x h =
-    bind_step (number_at text) _ x h (λ a a_is h.
-    bind_step (below (2 ^ 32) a.0) _ x h (λ t3 t3_is h.
-    bind_step (number_at a.1) _ x h (λ b b_is h.
-    bind_step (below (2 ^ 32) b.0) _ x h (λ t6 t6_is h.
-    bind_step (number_at b.1) _ x h (λ c c_is h.
-    bind_step (below (2 ^ 32) c.0) _ x h (λ t7 t7_is h.
-    bind_step (number_at c.1) _ x h (λ d d_is h.
-    bind_step (below (2 ^ 32) d.0) _ x h (λ t8 t8_is h.
-    let same = some_inj {A = ℕ × ℕ × ℕ × ℕ × List ℕ} (t3, t6, t7, t8, d.1) x h in
+    bind_step (u32_at text) _ x h (λ a a_is h.
+    bind_step (u32_at a.1) _ x h (λ b b_is h.
+    bind_step (u32_at b.1) _ x h (λ c c_is h.
+    bind_step (u32_at c.1) _ x h (λ d d_is h.
+    let same = some_inj {A = ℕ × ℕ × ℕ × ℕ × List ℕ} (a.0, b.0, c.0, d.0, d.1) x h in
     let P : ℕ × ℕ × ℕ × ℕ × List ℕ → Type 0 =
     λ y. text ≡ decimal y.0 ++ 32 ∷ (decimal y.1 ++ 32 ∷ (decimal y.2 ++ 32 ∷ (decimal y.3 ++ 32 ∷ y.4))) in
     subst P same
-    (numbers_front (2 ^ 32) text a.0 t3 a.1 a_is t3_is
-    ∙ ap (λ t. decimal t3 ++ 32 ∷ t) (numbers_front (2 ^ 32) a.1 b.0 t6 b.1 b_is t6_is
-    ∙ ap (λ t. decimal t6 ++ 32 ∷ t) (numbers_front (2 ^ 32) b.1 c.0 t7 c.1 c_is t7_is
-    ∙ ap (λ t. decimal t7 ++ 32 ∷ t) (numbers_front (2 ^ 32) c.1 d.0 t8 d.1 d_is t8_is))))))))))))
+    (u32_at-some text a a_is
+    ∙ ap (λ t. decimal a.0 ++ 32 ∷ t) (u32_at-some a.1 b b_is
+    ∙ ap (λ t. decimal b.0 ++ 32 ∷ t) (u32_at-some b.1 c c_is
+    ∙ ap (λ t. decimal c.0 ++ 32 ∷ t) (u32_at-some c.1 d d_is))))))))
+
+end_at-some : (text : List ℕ) (x : Role × Side × ℕ × List ℕ) → end_at text ≡ Some x
+    → text ≡ role_word x.0 ++ 32 ∷ (link_word x.1 ++ 32 ∷ (decimal x.2 ++ 32 ∷ x.3))
+unfolding end_at
+end_at-some text x h =
+    bind_step (word_at text) _ x h (λ a a_is h.
+    bind_step (role_of a.0) _ x h (λ role role_is h.
+    bind_step (word_at a.1) _ x h (λ b b_is h.
+    bind_step (link_of b.0) _ x h (λ link link_is h.
+    bind_step (number_at b.1) _ x h (λ c c_is h.
+    bind_step (below (2 ^ 16) c.0) _ x h (λ device device_is h.
+    let same = some_inj {A = Role × Side × ℕ × List ℕ} (role, link, device, c.1) x h in
+    let P : Role × Side × ℕ × List ℕ → Type 0 =
+    λ y. text ≡ role_word y.0 ++ 32 ∷ (link_word y.1 ++ 32 ∷ (decimal y.2 ++ 32 ∷ y.3)) in
+    subst P same
+    (word_at-some text a.0 a.1 a_is ∙ ap (λ w. w ++ 32 ∷ a.1) (role_of-some a.0 role role_is)
+    ∙ ap (λ t. role_word role ++ 32 ∷ t) (word_at-some a.1 b.0 b.1 b_is ∙ ap (λ w. w ++ 32 ∷ b.1) (link_of-some b.0 link link_is)
+    ∙ ap (λ t. link_word link ++ 32 ∷ t) (numbers_front (2 ^ 16) b.1 c.0 device c.1 c_is device_is)))))))))
 
 last_number : (bound : ℕ) (word : List ℕ) (m n : ℕ) → number_of word ≡ Some m → below bound m ≡ Some n → word ≡ decimal n
 last_number bound word m n a b = (number_of-some word m a).1 ∙ ap decimal (below_some bound m n b).1
+
+limits_of-some : (text : List ℕ) (x : ℕ × ℕ) → limits_of text ≡ Some x → text ≡ decimal x.0 ++ 32 ∷ decimal x.1
+unfolding limits_of
+limits_of-some text x h =
+    bind_step (u32_at text) _ x h (λ max max_is h.
+    bind_step (number_of max.1) _ x h (λ e e_is h.
+    bind_step (below (2 ^ 8) e) _ x h (λ depth depth_is h.
+    let P : ℕ × ℕ → Type 0 = λ y. text ≡ decimal y.0 ++ 32 ∷ decimal y.1 in
+    subst P (some_inj {A = ℕ × ℕ} (max.0, depth) x h)
+    (u32_at-some text max max_is ∙ ap (λ t. decimal max.0 ++ 32 ∷ t) (last_number (2 ^ 8) max.1 e depth e_is depth_is)))))
 
 settings_at-some : (line : List ℕ) (s : Parameters) → settings_at line ≡ Some s → line ≡ settings_line s
 unfolding settings_at settings_line
 settings_at-some line s h =
     bind_step (version_at line) _ s h (λ v v_is h.
-    bind_step (word_at v.1) _ s h (λ a a_is h.
-    bind_step (role_of a.0) _ s h (λ role role_is h.
-    bind_step (word_at a.1) _ s h (λ b b_is h.
-    bind_step (link_of b.0) _ s h (λ link link_is h.
-    bind_step (number_at b.1) _ s h (λ c c_is h.
-    bind_step (below (2 ^ 16) c.0) _ s h (λ device device_is h.
-    bind_step (times_at c.1) _ s h (λ times times_is h.
-    bind_step (number_at times.4) _ s h (λ d d_is h.
-    bind_step (below (2 ^ 32) d.0) _ s h (λ max max_is h.
-    bind_step (number_of d.1) _ s h (λ e e_is h.
-    bind_step (below (2 ^ 8) e) _ s h (λ depth depth_is h.
+    bind_step (end_at v.1) _ s h (λ a a_is h.
+    bind_step (times_at a.3) _ s h (λ t t_is h.
+    bind_step (limits_of t.4) _ s h (λ l l_is h.
     let same = some_inj _ s h in
     let P : Parameters → Type 0 = λ p. line ≡ settings_line p in
     subst P same
     (version_at-some line v v_is
-    ∙ ap (λ t. codes "hsms-log " ++ (decimal v.0 ++ 32 ∷ t)) (word_at-some v.1 a.0 a.1 a_is ∙ ap (λ w. w ++ 32 ∷ a.1) (role_of-some a.0 role role_is)
-    ∙ ap (λ t. role_word role ++ 32 ∷ t) (word_at-some a.1 b.0 b.1 b_is ∙ ap (λ w. w ++ 32 ∷ b.1) (link_of-some b.0 link link_is)
-    ∙ ap (λ t. link_word link ++ 32 ∷ t) (numbers_front (2 ^ 16) b.1 c.0 device c.1 c_is device_is
-    ∙ ap (λ t. decimal device ++ 32 ∷ t) (times_at-some c.1 times times_is
-    ∙ ap (λ t. decimal times.0 ++ 32 ∷ (decimal times.1 ++ 32 ∷ (decimal times.2 ++ 32 ∷ (decimal times.3 ++ 32 ∷ t))))
-    (numbers_front (2 ^ 32) times.4 d.0 max d.1 d_is max_is
-    ∙ ap (λ t. decimal max ++ 32 ∷ t) (last_number (2 ^ 8) d.1 e depth e_is depth_is)))))))))))))))))))
+    ∙ ap (λ r. codes "hsms-log " ++ (decimal v.0 ++ 32 ∷ r)) (end_at-some v.1 a a_is
+    ∙ ap (λ r. role_word a.0 ++ 32 ∷ (link_word a.1 ++ 32 ∷ (decimal a.2 ++ 32 ∷ r))) (times_at-some a.3 t t_is
+    ∙ ap (λ r. decimal t.0 ++ 32 ∷ (decimal t.1 ++ 32 ∷ (decimal t.2 ++ 32 ∷ (decimal t.3 ++ 32 ∷ r)))) (limits_of-some t.4 l l_is))))))))
 
 -- ---- the limit
 

@@ -70,32 +70,46 @@ version_at line = do
   version ← below (2 ^ 8) v.0
   Some (version, v.1)
 
--- the four times, and what follows them
-unfoldable pub times_at : List ℕ → Option (ℕ × ℕ × ℕ × ℕ × List ℕ)
-times_at text = do
-  a ← number_at text
-  t3 ← below (2 ^ 32) a.0
-  b ← number_at a.1
-  t6 ← below (2 ^ 32) b.0
-  c ← number_at b.1
-  t7 ← below (2 ^ 32) c.0
-  d ← number_at c.1
-  t8 ← below (2 ^ 32) d.0
-  Some (t3, t6, t7, t8, d.1)
-
--- the settings, where their numbers fit their types
-unfoldable pub settings_at : List ℕ → Option Parameters
-settings_at line = do
-  v ← version_at line
-  a ← word_at v.1
+-- the role, the side and the device of an end, and what follows them
+unfoldable pub end_at : List ℕ → Option (Role × Side × ℕ × List ℕ)
+end_at text = do
+  a ← word_at text
   role ← role_of a.0
   b ← word_at a.1
   link ← link_of b.0
   c ← number_at b.1
   device ← below (2 ^ 16) c.0
-  times ← times_at c.1
-  d ← number_at times.4
-  max ← below (2 ^ 32) d.0
-  e ← number_of d.1
+  Some (role, link, device, c.1)
+
+-- a number of 32 bits, and what follows it
+unfoldable pub u32_at : List ℕ → Option (ℕ × List ℕ)
+u32_at text = do
+  n ← number_at text
+  number ← below (2 ^ 32) n.0
+  Some (number, n.1)
+
+-- the four times, and what follows them
+unfoldable pub times_at : List ℕ → Option (ℕ × ℕ × ℕ × ℕ × List ℕ)
+times_at text = do
+  a ← u32_at text
+  b ← u32_at a.1
+  c ← u32_at b.1
+  d ← u32_at c.1
+  Some (a.0, b.0, c.0, d.0, d.1)
+
+-- the greatest length of a message, and the greatest depth of items
+unfoldable pub limits_of : List ℕ → Option (ℕ × ℕ)
+limits_of text = do
+  max ← u32_at text
+  e ← number_of max.1
   depth ← below (2 ^ 8) e
-  Some (record { version = v.0; role = role; link = link; device = device; t3 = times.0; t6 = times.1; t7 = times.2; t8 = times.3; max = max; depth = depth })
+  Some (max.0, depth)
+
+-- the settings, where their numbers fit their types
+unfoldable pub settings_at : List ℕ → Option Parameters
+settings_at line = do
+  v ← version_at line
+  a ← end_at v.1
+  t ← times_at a.3
+  l ← limits_of t.4
+  Some (record { version = v.0; role = a.0; link = a.1; device = a.2; t3 = t.0; t6 = t.1; t7 = t.2; t8 = t.3; max = l.0; depth = l.1 })

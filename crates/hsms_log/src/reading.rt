@@ -1,10 +1,11 @@
 //! What a line that is not the first carries.
 
-ghost use Rattle.std.specs.Prelude.{◌≡◌, ◌↔◌, ◌<◌, ◌≤◌, ◌/◌, ◌%◌, ◌^◌, ◌++◌, ◌∷◌, [], true, false, ℕ, List, Option, None, Ok, IsTrue, IfOk, IfErr, IfNone, IfSome, OnErr, OnOk, length, vec_len, take, drop};
+ghost use Rattle.std.specs.Prelude.{◌≡◌, ◌≢◌, ◌↔◌, ◌<◌, ◌≤◌, ◌/◌, ◌%◌, ◌^◌, ◌++◌, ◌∷◌, [], true, false, ℕ, List, Option, None, Ok, IsTrue, IfOk, IfErr, IfNone, IfSome, OnErr, OnOk, length, vec_len, take, drop, codes};
 ghost use Rattle.hsms_frame.specs.Frame.{Frame as Message};
 ghost use Rattle.hsms_machine.specs.declared.entry.Event.{Event as Happening};
 ghost use Rattle.hsms_machine.specs.declared.entry.Entry.{Entry as LogEntry};
-ghost use Rattle.hsms_log.specs.Spelling.{Carries, IsBlank, SpellsEntry, SpellsEvent, IsEvent, IsMessage, IsHexOf, message_octets, system_octets};
+ghost use Rattle.hsms_log.specs.Spelling.{Carries, IsBlank, SpellsEntry, SpellsEvent, IsEvent, IsMessage, IsHexOf, cause_word, message_octets, system_octets};
+ghost use Rattle.hsms_machine.specs.declared.entry.Cause.{Cause as CutCause};
 ghost use Rattle.hsms_machine.specs.Entry.{frame_entry};
 ghost use Rattle.hsms_log.specs.Step.{entry_by, event_of};
 ghost use Rattle.hsms_log.specs.Carried.{carried_by, CarriesFrame, HasFrame, SpellsFramesAlone, SpellsNoFrame};
@@ -217,12 +218,35 @@ fn read_plain_event(text: &[u8]) -> Option<What>
 {
     match text {
         [b't', b'3', b' ', digits @ ..] => Some(What::T3(read_system(digits)?)),
+        [b'c', b'u', b't', b' ', cause @ ..] => Some(What::Cut(read_cause(cause)?)),
+        _ => read_word(text),
+    }
+}
+
+/// Reads the word of an event that has no other.
+#[inline(always)]
+fn read_word(text: &[u8]) -> Option<What>
+    ensures found { IfSome result (λ what. IsEvent (event_of what []) × SpellsEvent text.now (event_of what [])) }
+    ensures none { IfNone result ((text.now ≢ codes "up") × (text.now ≢ codes "down")) }
+{
+    match text {
         b"up" => Some(What::Up),
         b"down" => Some(What::Down),
-        b"cut t6" => Some(What::Cut(Cause::T6)),
-        b"cut t7" => Some(What::Cut(Cause::T7)),
-        b"cut t8" => Some(What::Cut(Cause::T8)),
-        b"cut length" => Some(What::Cut(Cause::Length)),
+        _ => None,
+    }
+}
+
+/// Reads why a connection was cut.
+#[inline(always)]
+fn read_cause(word: &[u8]) -> Option<Cause>
+    ensures found { IfSome result (λ cause. word.now ≡ cause_word cause) }
+    ensures none { IfNone result ((cause : CutCause) → word.now ≢ cause_word cause) }
+{
+    match word {
+        b"t6" => Some(Cause::T6),
+        b"t7" => Some(Cause::T7),
+        b"t8" => Some(Cause::T8),
+        b"length" => Some(Cause::Length),
         _ => None,
     }
 }

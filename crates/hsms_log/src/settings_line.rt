@@ -3,7 +3,7 @@
 ghost use Rattle.std.specs.Prelude.{◌≡◌, ◌≤◌, ◌↔◌, ℕ, Option, Some, None, IsSome, IfSome, IfNone, option_map};
 ghost use Rattle.hsms_machine.specs.Settings.{Parameters, IsWithinLimits};
 ghost use Rattle.hsms_log.specs.Spelling.{SpellsSettings};
-ghost use Rattle.hsms_log.specs.Reading.{role_of, link_of, version_at as version_and_rest, times_at as times_and_rest, settings_at};
+ghost use Rattle.hsms_log.specs.Reading.{role_of, link_of, version_at as version_and_rest, end_at as end_and_rest, times_at as times_and_rest, limits_of as limits_in, u32_at as u32_and_rest, settings_at};
 ghost use Rattle.hsms_log.specs.Fields.{IsOf};
 
 use crate::number::{after_prefix, number, number_at, word_at};
@@ -39,16 +39,9 @@ fn version_and_settings(line: &[u8]) -> Option<(u8, Option<Settings>)>
     ensures none { result ≡ None → settings_at line.now ≡ None }
 {
     let (version, rest) = version_at(line)?;
-    let (role, rest) = word_at(rest)?;
-    let role = read_role(role)?;
-    let (link, rest) = word_at(rest)?;
-    let link = read_link(link)?;
-    let (device, rest) = number_at(rest)?;
-    let device = u16::try_from(device).ok()?;
+    let (role, link, device, rest) = end_at(rest)?;
     let (t3, t6, t7, t8, rest) = times_at(rest)?;
-    let (max, rest) = number_at(rest)?;
-    let max = u32::try_from(max).ok()?;
-    let depth = u8::try_from(number(rest)?).ok()?;
+    let (max, depth) = limits_of(rest)?;
     let settings = Settings::new(role, link, device, t3, t6, t7, t8, max, depth);
     Some((version, settings))
 }
@@ -62,6 +55,19 @@ fn version_at(line: &[u8]) -> Option<(u8, &[u8])>
     let (version, rest) = number_at(rest)?;
     let version = u8::try_from(version).ok()?;
     Some((version, rest))
+}
+
+/// The role, the side and the device of an end, and what follows them.
+#[tactic(auto, unfolding(crate::specs::Reading::end_at))]
+fn end_at(text: &[u8]) -> Option<(Role, Side, u16, &[u8])>
+    ensures { option_map (λ x. (x.0, x.1, x.2, x.3.now)) result ≡ end_and_rest text.now }
+{
+    let (role, text) = word_at(text)?;
+    let role = read_role(role)?;
+    let (link, text) = word_at(text)?;
+    let link = read_link(link)?;
+    let (device, text) = number_at(text)?;
+    Some((role, link, u16::try_from(device).ok()?, text))
 }
 
 #[tactic(auto, unfolding(crate::specs::Reading::role_of))]
@@ -95,13 +101,27 @@ fn read_link(word: &[u8]) -> Option<Side>
 fn times_at(text: &[u8]) -> Option<(u32, u32, u32, u32, &[u8])>
     ensures { option_map (λ x. (x.0, x.1, x.2, x.3, x.4.now)) result ≡ times_and_rest text.now }
 {
-    let (t3, text) = number_at(text)?;
-    let t3 = u32::try_from(t3).ok()?;
-    let (t6, text) = number_at(text)?;
-    let t6 = u32::try_from(t6).ok()?;
-    let (t7, text) = number_at(text)?;
-    let t7 = u32::try_from(t7).ok()?;
-    let (t8, text) = number_at(text)?;
-    let t8 = u32::try_from(t8).ok()?;
+    let (t3, text) = u32_at(text)?;
+    let (t6, text) = u32_at(text)?;
+    let (t7, text) = u32_at(text)?;
+    let (t8, text) = u32_at(text)?;
     Some((t3, t6, t7, t8, text))
+}
+
+/// The greatest length of a message, and the greatest depth of items.
+#[tactic(auto, unfolding(crate::specs::Reading::limits_of))]
+fn limits_of(text: &[u8]) -> Option<(u32, u8)>
+    ensures { result ≡ limits_in text.now }
+{
+    let (max, text) = u32_at(text)?;
+    Some((max, u8::try_from(number(text)?).ok()?))
+}
+
+/// A number of 32 bits, and what follows it.
+#[tactic(auto, unfolding(crate::specs::Reading::u32_at))]
+fn u32_at(text: &[u8]) -> Option<(u32, &[u8])>
+    ensures { option_map (λ x. (x.0, x.1.now)) result ≡ u32_and_rest text.now }
+{
+    let (number, text) = number_at(text)?;
+    Some((u32::try_from(number).ok()?, text))
 }
