@@ -25,11 +25,11 @@ FramesAs max pending (Err Memory) rest =
     (f : Frame) × (more : List ℕ) × (pending ≡ frame_octets f ++ more) × IsFrame f × (10 + length f.text ≤ max)
     × (0 < length f.text) × (rest ≡ pending)
 
--- what an answer leaves of octets: they stay, or the message that was given is taken away
-abbrev pub rest_after : Result (Option Frame) FrameFault → List ℕ → List ℕ
-rest_after (Ok (Some f)) octets = drop (14 + length f.text) octets
-rest_after (Ok None) octets = octets
-rest_after (Err fault) octets = octets
+-- how many octets an answer takes away: those of the message that was given, or none
+abbrev pub size_of : Result (Option Frame) FrameFault → ℕ
+size_of (Ok (Some f)) = 14 + length f.text
+size_of (Ok None) = 0
+size_of (Err fault) = 0
 
 -- the header and the size of the text of a message that is there whole
 pub record IsFrontOf (max : ℕ) (octets : List ℕ) (h : Header) (size : ℕ) : Type 0 where

@@ -1,7 +1,7 @@
 //! Messages from octets that come in pieces.
 
-ghost use Rattle.std.specs.Prelude.{◌≡◌, ◌≤◌, ◌<◌, ◌+◌, [], ◌⊎◌, drop, length, vec_len, IfOk, IfSome, OnOk, OnErr, IsOkUnless, Err};
-ghost use Rattle.hsms_frame.specs.Framing.{FramesAs, FrontAs, IsPushed, rest_after};
+ghost use Rattle.std.specs.Prelude.{◌≡◌, ◌≤◌, ◌<◌, ◌+◌, [], ◌⊎◌, drop, length, vec_len, OnOk, OnErr, IsOkUnless, Err};
+ghost use Rattle.hsms_frame.specs.Framing.{FramesAs, FrontAs, IsPushed, size_of};
 
 use crate::fault::FrameFault;
 use crate::frame::Frame;
@@ -90,17 +90,26 @@ impl Framer {
     {
         let alloc = *self.octets.allocator();
         let answer = front_frame(alloc, &self.octets[self.place..], self.max);
-        if let Ok(Some(frame)) = &answer {
-            self.place += 14 + frame.text.len();
-        }
+        self.place += taken_by(&answer);
         answer
+    }
+}
+
+// How many octets an answer takes away from the front.
+#[inline(always)]
+fn taken_by(answer: &Result<Option<Frame>, FrameFault>) -> usize
+    ensures { result ≡ size_of answer.now }
+{
+    match answer {
+        Ok(Some(frame)) => 14 + frame.text.len(),
+        Ok(None) | Err(_) => 0,
     }
 }
 
 // The message at the front of octets, if it is there whole.
 fn front_frame(alloc: Global, octets: &[u8], max: u32) -> Result<Option<Frame>, FrameFault>
-    ensures answer { FramesAs max octets.now result (rest_after result octets.now) }
-    ensures bound { IfOk result (λ frame. IfSome frame (λ f. 14 + length f.text ≤ length octets.now)) }
+    ensures answer { FramesAs max octets.now result (drop (size_of result) octets.now) }
+    ensures bound { size_of result ≤ length octets.now }
 {
     let Some((header, size)) = front(octets, max)? else {
         return Ok(None);

@@ -83,9 +83,7 @@ impl Source for Feed {
             return Err(self.tally.fail());
         }
         let count = copy_front(&self.octets[self.place..], into, self.piece);
-        if count == 0 && !into.is_empty() {
-            self.tally.end();
-        }
+        self.tally.end(into.len(), count);
         self.place += count;
         Ok(count)
     }

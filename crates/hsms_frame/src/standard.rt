@@ -41,9 +41,7 @@ impl<R: Read> Source for Reader<R> {
         let Ok(count) = self.inner.read(into) else {
             return Err(self.tally.fail());
         };
-        if count == 0 && !into.is_empty() {
-            self.tally.end();
-        }
+        self.tally.end(into.len(), count);
         Ok(count)
     }
 }

@@ -1,7 +1,8 @@
 //! Counts of a device's calls, each of which stays at its greatest value.
 
-ghost use Rattle.std.specs.Prelude.{◌≡◌, if◌then◌else◌};
+ghost use Rattle.std.specs.Prelude.{◌≡◌, Ok, if◌then◌else◌};
 ghost use Rattle.hsms_frame.specs.Count.{next_count};
+ghost use Rattle.hsms_frame.specs.Device.{ends_after};
 
 use crate::device::Failed;
 
@@ -28,11 +29,13 @@ impl Tally {
         }
     }
 
-    /// Counts that the end was found.
-    pub fn end(&mut self)
-        ensures { self.new ≡ record self.old { ends = next_count self.old.ends } }
+    /// Counts that the end was found, where a read into so much room gave so many octets: none, though there was room.
+    pub fn end(&mut self, room: usize, count: usize)
+        ensures { self.new ≡ record self.old { ends = ends_after room (Ok count) self.old.ends } }
     {
-        self.ends = self.ends.saturating_add(1);
+        if count == 0 && room > 0 {
+            self.ends = self.ends.saturating_add(1);
+        }
     }
 
     /// Counts a failure, and gives it.
