@@ -38,8 +38,7 @@ impl Summary {
         Self::push_count(text, before, "taken", behind, self.taken)?;
         Self::push_count(text, before, "discarded", behind, self.discarded)?;
         Self::push_count(text, before, "expired", behind, self.expired)?;
-        Self::push_count(text, before, "waiting", behind, self.waiting)?;
-        Ok(())
+        Self::push_count(text, before, "waiting", behind, self.waiting)
     }
 
     fn push_count(

@@ -1,5 +1,6 @@
 use Rattle.std.proofs.Common.{◌++◌, codes}
 use Rattle.std.specs.Prelude.{string_bytes}
+use Rattle.std.proofs.lemmas.Result.{on_ok_weaker}
 use Rattle.hsms_log.specs.Verdict.{count_text}
 use Rattle.hsms_log.proofs.Parts.{added_twice}
 use Rattle.hsms_log.proofs.verdict.Summary.push_counts.Goals as goal
@@ -21,8 +22,10 @@ returns c =
     let fourth = string_bytes c.push_count-4.new.text in
     let fifth = string_bytes c.push_count-5.new.text in
     let last = string_bytes c.push_count-6.new.text in
+    on_ok_weaker c.push_count-6.result (λ added.
     added_twice (string_bytes c.args.text.now) first last entries (sent ++ (taken ++ (discarded ++ (expired ++ waiting)))) c.in_ok-push_count.ensures
     (added_twice first second last sent (taken ++ (discarded ++ (expired ++ waiting))) c.in_ok-push_count-2.ensures
     (added_twice second third last taken (discarded ++ (expired ++ waiting)) c.in_ok-push_count-3.ensures
     (added_twice third fourth last discarded (expired ++ waiting) c.in_ok-push_count-4.ensures
-    (added_twice fourth fifth last expired waiting c.in_ok-push_count-5.ensures c.in_ok-push_count-6.ensures))))
+    (added_twice fourth fifth last expired waiting c.in_ok-push_count-5.ensures added)))))
+    c.push_count-6.ensures
