@@ -1,15 +1,16 @@
 -- Messages from octets, from their parts.
-use Rattle.std.proofs.Common.{◌≡◌, ℕ, ◌<◌, ◌≤◌, Bool, List, [], ◌++◌, length, take, drop, codes, sym, ap, ◌∙◌, if◌then◌else◌, append-nil, take-take, arith}
+use Rattle.std.proofs.Common.{◌≡◌, ℕ, ◌<◌, ◌≤◌, Bool, List, [], ◌++◌, length, take, drop, codes, refl, sym, subst, ap, ◌∙◌, if◌then◌else◌, append-nil, take-take, arith}
 use Rattle.std.proofs.lemmas.List.{take-append-le}
-use Rattle.std.specs.Prelude.{Option, None, Ok}
+use Rattle.std.specs.Prelude.{Option, None, Ok, MatchOption}
 use Rattle.std.specs.Fmt.{decimal}
 use Rattle.secs_item.specs.Item.{Value}
 use Rattle.secs_item.specs.Reading.{item_at}
 use Rattle.secs_item.specs.Spelling.{IsTextOf}
 use Rattle.secs_item.proofs.Fronts.{text_item, text_none, whole_front, front_read}
 use Rattle.secs_text.specs.Content.{Content}
+use Rattle.secs_text.specs.Held.{IsHeld, IsHeldMessage}
 use Rattle.secs_text.specs.Laid.{Puts}
-use Rattle.secs_text.specs.Printed.{printed, printed_item}
+use Rattle.secs_text.specs.Printed.{printed, printed_item, printed_optional}
 use Rattle.secs_text.proofs.Blocks.{puts_then, puts_same}
 
 abbrev pub head_text : ℕ → ℕ → Bool → List ℕ
@@ -34,6 +35,19 @@ with_item stream function wait depth text item some is head put_item stop =
     let p = text_item depth text item some is in
     let read = front_read depth text p.0 (length text) (whole_front depth text p.0 p.2) in
     puts_same (printed (message_of stream function wait item)) (ap (λ (o : Option Value). printed (message_of stream function wait o)) (sym p.1)) (puts_then (puts_then head (put_item p.0 (length text) read)) stop)
+
+-- of a message with these parts
+pub put_parts : {G H K L : List ℕ → Type 0} {block a b now : List ℕ} {from i j at : ℕ} {text : List ℕ} (m : Content) (stream function : ℕ) (wait : Bool) (item : Option Value) → stream ≡ m.stream → function ≡ m.function → wait ≡ m.wait → item ≡ m.item → text ≡ printed_optional item
+    → Puts G block from H a i (head_text stream function wait) → Puts H a i K b j text → Puts K b j L now at (codes " .") → Puts G block from L now at (printed m)
+put_parts m stream function wait item stream_is function_is wait_is item_is text_is head put stop =
+    puts_same (printed m) (rw (text_is, stream_is, function_is, wait_is, item_is) refl) (puts_then (puts_then head put) stop)
+
+pub parts_held : (m : Content) (stream function : ℕ) (item : Option Value) → stream ≡ m.stream → function ≡ m.function → item ≡ m.item → stream < 128 → function < 256 → MatchOption item (Unit {0}) IsHeld → IsHeldMessage m
+parts_held m stream function item stream_is function_is item_is few small held = record {
+  stream = omega (arith, stream_is);
+  function = omega (arith, function_is);
+  item = subst (λ (o : Option Value). MatchOption o (Unit {0}) IsHeld) item_is held;
+}
 
 -- what was put into the octets of a block, as contracts see the block
 pub in_block : {G H : List ℕ → Type 0} {slice new text : List ℕ} {at : ℕ} (items before : List ℕ) (len used : ℕ) → take used items ≡ before → length items ≡ 65536 → slice ≡ items → length slice ≡ len → Puts G slice used H new at text
