@@ -1,11 +1,30 @@
-use Rattle.std.proofs.Common.{◌∙◌, ◌%◌, List, ℕ, ap, sym, length}
+use Rattle.std.proofs.Common.{◌≡◌, ◌+◌, ◌∙◌, ◌%◌, ◌∷◌, List, ℕ, ap, sym, length, arith}
 use Rattle.secs_item.specs.Format.{value_size}
-use Rattle.secs_item.specs.Item.{values}
+use Rattle.secs_item.specs.Item.{list, values, views, with_element}
 use Rattle.secs_item.specs.Reading.{values_of}
 use Rattle.secs_text.specs.Left.{left}
-use Rattle.secs_text.specs.Places.{walk, closed}
+use Rattle.secs_text.specs.Places.{Before, walk, in_item, closed}
+use Rattle.secs_text.specs.Reads.{count_seen}
+use Rattle.secs_text.specs.Seen.{seen, then_tokens}
 use Rattle.secs_text.proofs.ReadingValues.{gathered_whole, gathered_values}
+use Rattle.secs_text.proofs.Views.{views_push}
 use Rattle.secs_text.proofs.reading.items.+read_item.Goals as goal
+
+pub elements-loop-items-preserved : goal.elements-loop-items-preserved
+elements-loop-items-preserved t c =
+    let count = count_seen c.args.count in
+    let items = c.loop-items.items.items in
+    record {
+      reads = λ rules b deep.
+          let inner : Before = record b { lists = record { count = count; so_far = list (views items) } ∷ b.lists } in
+          c.loop-items.invariant.reads rules b deep
+          ∙ ap (λ ps. walk rules (in_item b (record { count = count; so_far = list (views items) })) ps)
+          (c.next-next.ensures.tokens ∙ ap (λ u. then_tokens (record { at = c.next-next.result.at; token = seen u }) (left c.next-next.new.self)) c.in-Less.is)
+          ∙ c.in_ok-item-in-Less.ensures.reads rules inner (omega arith)
+          ∙ ap (λ es. walk rules (in_item b (record { count = count; so_far = list es })) (left c.item.new.tokens))
+          (sym (ap views c.in_ok-push-in-Less.ensures.items ∙ views_push items c.in_ok-item-in-Less.field-0));
+      no_longer = omega arith;
+    }
 
 pub item-item_of_values-requires-clause-whole : goal.item-item_of_values-requires-clause-whole
 item-item_of_values-requires-clause-whole t c =
