@@ -56,6 +56,12 @@ item_patched {f} {c} old from mid now fits start end h kept start_is end_is patc
           ∙ ap (λ g. option_map (λ o. old ++ o) (framed g (value_size g * count_of_values h.held) body)) (sym h.form);
     }
 
+-- the two octets are there
+pub two_kept : {f : Format} {c : Option Count} {before after : List Placed} (old from mid : List ℕ) (start : ℕ)
+    → Closed f c before after from mid → from ≡ old ++ 0 ∷ 0 ∷ [] → start ≡ length old → start + 2 ≤ length mid
+two_kept old from mid start h kept start_is =
+    omega (arith, start_is, ap length h.octets, length-append from (short_body h.held), ap length kept, length-append old (0 ∷ 0 ∷ []))
+
 -- ---- lists
 
 -- elements, to which these tokens lead up to those, inside a list with this count

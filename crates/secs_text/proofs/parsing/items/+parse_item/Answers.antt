@@ -1,8 +1,8 @@
-use Rattle.std.proofs.Common.{◌∙◌, ap, rules}
+use Rattle.std.proofs.Common.{◌≤◌, ◌+◌, ◌∙◌, ap, length, arith, rules}
 use Rattle.secs_text.specs.Left.{left}
 use Rattle.secs_text.specs.Reads.{count_seen}
 use Rattle.secs_text.specs.Seen.{seen, then_tokens}
-use Rattle.secs_text.proofs.ParsingItems.{ListedSoFar, none_listed, element_listed, list_unfit, list_patched, item_patched}
+use Rattle.secs_text.proofs.ParsingItems.{ListedSoFar, none_listed, element_listed, list_unfit, list_patched, two_kept, item_patched}
 use Rattle.secs_text.proofs.parsing.items.+parse_item.Goals as goal
 
 pub elements-loop-out-init : goal.elements-loop-out-init
@@ -31,6 +31,20 @@ elements-returns-clause-reads t c =
     list_patched c.next-next.result.at (left c.next-next.new.self) c.loop-out.invariant.listed
     (c.next-next.ensures.tokens ∙ ap (λ u. then_tokens (record { at = c.next-next.result.at; token = seen u }) (left c.next-next.new.self)) c.in-Greater.is)
     c.in_ok-patch_header.field-0 c.len-start.result c.patch_header.new.out.items c.if-not-fits.false c.in_ok-check_count.ensures (search rules) (record { holds = c.in_ok-patch_header.ensures.fits; octets = c.in_ok-patch_header.ensures.octets })
+
+pub item-overflow_sub-number : goal.item-overflow_sub-number
+item-overflow_sub-number t c =
+    let kept = two_kept c.args.out.now.items c.extend_from_slice.new.self.items c.parse_values.new.out.items c.len-start.result c.in_ok-parse_values.ensures.values c.in_ok-extend_from_slice.ensures.items (search rules) in
+    omega (arith, c.len.ensures, c.parse_values.new.out.ok)
+
+pub item-overflow_sub-number-in_default : goal.item-overflow_sub-number-in_default
+item-overflow_sub-number-in_default t c =
+    let kept = two_kept c.args.out.now.items c.extend_from_slice.new.self.items c.parse_values.new.out.items c.len-start.result c.in_ok-parse_values.ensures.values c.in_ok-extend_from_slice.ensures.items (search rules) in
+    omega (arith, c.len.ensures, c.parse_values.new.out.ok)
+
+pub item-patch_header-requires : goal.item-patch_header-requires
+item-patch_header-requires t c =
+    two_kept c.args.out.now.items c.extend_from_slice.new.self.items c.parse_values.new.out.items c.len-start.result c.in_ok-parse_values.ensures.values c.in_ok-extend_from_slice.ensures.items (search rules)
 
 pub item-returns-in_default-clause-reads : goal.item-returns-in_default-clause-reads
 item-returns-in_default-clause-reads t c =
