@@ -32,3 +32,12 @@ loop-i-preserved g c =
           (subst (λ os. AreShortWords g.W.ShortWord.reads size os text after) (sym (take_more_set k.octets count c.in-Some.octet room)) more);
       room = length-set k.octets count c.in-Some.octet ∙ k.invariant.room;
     }
+
+pub returns-in_default-clause-words : goal.returns-in_default-clause-words
+returns-in_default-clause-words g c = c.loop-i.invariant.words
+
+pub returns-clause-words : goal.returns-clause-words
+returns-clause-words g c =
+    let text = c.args.text.now in
+    let whole : c.args.from + c.loop-i.i ≡ c.args.to = omega (arith, c.loop-i-test.false, c.requires.ordered, c.requires.there, c.as_chunks.ensures.front_len) in
+    subst (λ n. AreShortWords g.W.ShortWord.reads g.row.N (take n c.loop-i.octets) text (drop (g.row.N * n) text)) whole c.loop-i.invariant.words
