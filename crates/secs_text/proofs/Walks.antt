@@ -5,7 +5,7 @@ use Rattle.secs_item.specs.Item.{Values, values}
 use Rattle.secs_text.specs.Content.{Content}
 use Rattle.secs_text.specs.Token.{Placed}
 use Rattle.secs_text.specs.Seen.{seen, then_tokens}
-use Rattle.secs_text.specs.Places.{Rules, Before, Count, start, is_empty, walk, in_item}
+use Rattle.secs_text.specs.Places.{Rules, Before, Count, start, after_wait, stop_wanted, is_empty, walk, in_item}
 use Rattle.secs_text.specs.declared.fault.TextFault.TheVariants as fault
 use Rattle.secs_text.specs.declared.token.Token.{Token}
 use Rattle.secs_text.specs.declared.token.Token.TheVariants as token
@@ -33,3 +33,27 @@ no_head_word rules ms at token.BracketEnd ts word last = refl
 no_head_word rules ms at token.Stop ts word last = refl
 no_head_word rules ms at token.Broken ts word last = refl
 no_head_word rules ms at token.End ts word last = rw (last refl) refl
+
+-- what is neither an item nor the end of a message
+pub no_text_wanted : (rules : Rules) (ms : List Content) (m : Content) (at : ℕ) (t : Token) (ts : List Placed) → (t ≡ token.Stop → ⊥) → (t ≡ token.Less → ⊥) → walk rules (after_wait ms m) (then_tokens (record { at = at; token = seen t }) ts) ≡ Err (fault.Syntax at)
+no_text_wanted rules ms m at (token.Word w) ts stop less = refl
+no_text_wanted rules ms m at (token.Quoted q) ts stop less = refl
+no_text_wanted rules ms m at token.Less ts stop less = absurd (less refl)
+no_text_wanted rules ms m at token.Greater ts stop less = refl
+no_text_wanted rules ms m at token.Bracket ts stop less = refl
+no_text_wanted rules ms m at token.BracketEnd ts stop less = refl
+no_text_wanted rules ms m at token.Stop ts stop less = absurd (stop refl)
+no_text_wanted rules ms m at token.Broken ts stop less = refl
+no_text_wanted rules ms m at token.End ts stop less = refl
+
+-- what doesn't end a message
+pub no_stop : (rules : Rules) (ms : List Content) (m : Content) (at : ℕ) (t : Token) (ts : List Placed) → (t ≡ token.Stop → ⊥) → walk rules (stop_wanted ms m) (then_tokens (record { at = at; token = seen t }) ts) ≡ Err (fault.Syntax at)
+no_stop rules ms m at (token.Word w) ts stop = refl
+no_stop rules ms m at (token.Quoted q) ts stop = refl
+no_stop rules ms m at token.Less ts stop = refl
+no_stop rules ms m at token.Greater ts stop = refl
+no_stop rules ms m at token.Bracket ts stop = refl
+no_stop rules ms m at token.BracketEnd ts stop = refl
+no_stop rules ms m at token.Stop ts stop = absurd (stop refl)
+no_stop rules ms m at token.Broken ts stop = refl
+no_stop rules ms m at token.End ts stop = refl

@@ -5,6 +5,7 @@ use Rattle.secs_text.specs.Content.{Content}
 use Rattle.secs_text.specs.Left.{left}
 use Rattle.secs_text.specs.Places.{walk, start, after_wait, stop_wanted, before_item}
 use Rattle.secs_text.specs.Seen.{seen, then_tokens}
+use Rattle.secs_text.proofs.Walks.{no_stop, no_text_wanted}
 use Rattle.secs_text.proofs.reading.message.Goals as goal
 
 pub returns-in-Stop-clause-reads : goal.returns-in-Stop-clause-reads
@@ -30,3 +31,32 @@ returns-clause-reads c = λ rules ms deep may last.
     ∙ ap (λ ps. walk rules (stop_wanted ms (record waited { item = Some item })) ps)
     (c.next-next.ensures.tokens ∙ ap (λ t. then_tokens (record { at = c.next-next.result.at; token = seen t }) (left c.next-next.new.self)) c.in-Stop-token.is)
     ∙ ap (λ m. walk rules (start (ms ++ m ∷ [])) (left c.next-next.new.self)) (sym c.new-message.ensures)
+
+pub returns-in_default : goal.returns-in_default
+returns-in_default c = record {
+  reads = λ rules ms deep may last.
+      let next = c.optional_wait-wait.result.1 in
+      let head : Content = record { stream = c.in_ok-stream.stream; function = c.in_ok-stream.function; wait = false; item = None } in
+      c.in_ok-stream.ensures.reads rules ms (left c.args.tokens.now) may last
+      ∙ c.optional_wait-wait.ensures.reads rules ms head refl
+      ∙ no_text_wanted rules ms (record head { wait = c.optional_wait-wait.result.0 }) next.at next.token (left c.optional_wait-wait.new.tokens) c.in_default.not-Stop c.in_default.not-Less;
+  no_longer = c.optional_wait-wait.ensures.no_longer;
+  started = tt;
+}
+
+pub returns-in_default-token : goal.returns-in_default-token
+returns-in_default-token c = record {
+  reads = λ rules ms deep may last.
+      let next = c.optional_wait-wait.result.1 in
+      let head : Content = record { stream = c.in_ok-stream.stream; function = c.in_ok-stream.function; wait = false; item = None } in
+      let waited : Content = record head { wait = c.optional_wait-wait.result.0 } in
+      let whole : Content = record waited { item = Some (view c.in_ok-item-in-Less.item) } in
+      c.in_ok-stream.ensures.reads rules ms (left c.args.tokens.now) may last
+      ∙ c.optional_wait-wait.ensures.reads rules ms head refl
+      ∙ ap (λ t. walk rules (after_wait ms waited) (then_tokens (record { at = next.at; token = seen t }) (left c.optional_wait-wait.new.tokens))) c.in-Less.is
+      ∙ c.in_ok-item-in-Less.ensures.reads rules (before_item ms waited) (omega arith)
+      ∙ ap (λ ps. walk rules (stop_wanted ms whole) ps) c.next-next.ensures.tokens
+      ∙ no_stop rules ms whole c.next-next.result.at c.next-next.result.token (left c.next-next.new.self) c.in_default-token.not-Stop;
+  no_longer = omega arith;
+  started = tt;
+}
