@@ -1,8 +1,8 @@
-use Rattle.std.proofs.Common.{◌≤◌, ◌+◌, ◌∙◌, ap, length, arith, rules}
+use Rattle.std.proofs.Common.{◌∙◌, ap, arith, rules}
 use Rattle.secs_text.specs.Left.{left}
 use Rattle.secs_text.specs.Reads.{count_seen}
 use Rattle.secs_text.specs.Seen.{seen, then_tokens}
-use Rattle.secs_text.proofs.ParsingItems.{ListedSoFar, none_listed, element_listed, list_unfit, list_patched, two_kept, item_patched}
+use Rattle.secs_text.proofs.ParsingItems.{none_listed, element_listed, list_unfit, list_patched, two_kept, item_patched}
 use Rattle.secs_text.proofs.parsing.items.+parse_item.Goals as goal
 
 pub elements-loop-out-init : goal.elements-loop-out-init

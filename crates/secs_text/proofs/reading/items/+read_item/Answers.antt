@@ -1,6 +1,6 @@
-use Rattle.std.proofs.Common.{◌≡◌, ◌+◌, ◌∙◌, ◌%◌, ◌∷◌, List, ℕ, ap, sym, length, arith}
+use Rattle.std.proofs.Common.{◌∙◌, ◌%◌, ◌∷◌, List, ℕ, ap, sym, length, arith}
 use Rattle.secs_item.specs.Format.{value_size}
-use Rattle.secs_item.specs.Item.{list, values, views, with_element}
+use Rattle.secs_item.specs.Item.{list, values, views}
 use Rattle.secs_item.specs.Reading.{values_of}
 use Rattle.secs_text.specs.Left.{left}
 use Rattle.secs_text.specs.Places.{Before, walk, in_item, closed}
