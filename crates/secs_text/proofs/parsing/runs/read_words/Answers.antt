@@ -1,7 +1,7 @@
-use Rattle.std.proofs.Common.{◌≡◌, ◌<◌, ◌+◌, ◌-◌, ◌*◌, ◌/◌, ◌++◌, length, take, drop, get_or, slice_set, sym, ap, ap₂, ◌∙◌, subst, arith}
+use Rattle.std.proofs.Common.{◌≡◌, ◌<◌, ◌≤◌, ◌+◌, ◌-◌, ◌*◌, ◌/◌, ◌++◌, length, take, drop, get_or, slice_set, sym, ap, ap₂, ◌∙◌, subst, arith}
 use Rattle.std.proofs.lemmas.List.{drop-drop, get_or-drop, get_or-take, length-drop, length-set, length-take-le, take-append-drop, take_more_set}
 use Rattle.secs_text.specs.ShortWord.{AreShortWords}
-use Rattle.secs_text.proofs.ShortWords.{part_at, part_within, words_more, times_next}
+use Rattle.secs_text.proofs.ShortWords.{part_at, part_within, parts_within, words_more, times_next}
 use Rattle.secs_text.proofs.parsing.runs.read_words.Goals as goal
 
 pub loop-i-preserved : goal.loop-i-preserved
@@ -33,11 +33,10 @@ loop-i-preserved g c =
       room = length-set k.octets count c.in-Some.octet ∙ k.invariant.room;
     }
 
-pub returns-in_default-clause-words : goal.returns-in_default-clause-words
-returns-in_default-clause-words g c = c.loop-i.invariant.words
+pub returns-in_default-clause-within : goal.returns-in_default-clause-within
+returns-in_default-clause-within g c =
+    let read : c.args.from + c.loop-i.i ≤ length c.args.text.now / g.row.N = omega (arith, c.loop-i-test.true, c.requires.ordered, c.requires.there, c.as_chunks.ensures.front_len) in
+    parts_within g.row.N (c.args.from + c.loop-i.i) (length c.args.text.now) c.requires.some read
 
-pub returns-clause-words : goal.returns-clause-words
-returns-clause-words g c =
-    let text = c.args.text.now in
-    let whole : c.args.from + c.loop-i.i ≡ c.args.to = omega (arith, c.loop-i-test.false, c.requires.ordered, c.requires.there, c.as_chunks.ensures.front_len) in
-    subst (λ n. AreShortWords g.W.ShortWord.reads g.row.N (take n c.loop-i.octets) text (drop (g.row.N * n) text)) whole c.loop-i.invariant.words
+pub returns-clause-within : goal.returns-clause-within
+returns-clause-within g c = parts_within g.row.N c.args.to (length c.args.text.now) c.requires.some c.requires.there
