@@ -6,7 +6,7 @@ use std::alloc::{AllocError, Global};
 use std::io::{BufRead, ErrorKind};
 
 /// What is known of a fault besides its name.
-#[derive(Debug, Drop)]
+#[derive(Drop)]
 pub enum Known {
     /// Nothing more.
     Nothing,
@@ -21,7 +21,7 @@ pub enum Known {
 }
 
 /// Why the command ends before its work is done, and what is known of it.
-#[derive(Debug, Drop)]
+#[derive(Drop)]
 pub struct Failure {
     pub fault: ToolFault,
     pub known: Known,
