@@ -3,10 +3,10 @@
 ghost use Rattle.std.specs.Prelude.{◌≡◌, ◌≤◌, ◌<◌, ◌+◌, ◌-◌, Ok, true, false, drop, take, length, vec_len, nat_lt, if◌then◌else◌, IfOk, OnOk, OnErr};
 ghost use Rattle.std.specs.List.{slice_range};
 ghost use Rattle.hsms_frame.specs.Ahead.{ReadsMore, ends_after_more, failures_after_more, most_ahead};
-ghost use Rattle.hsms_frame.specs.Count.{next_count};
+ghost use Rattle.hsms_frame.specs.Count.{next_count, count_failure};
 ghost use Rattle.hsms_frame.specs.Device.{WhereTold, IsAtEnd, Stays};
 
-use crate::device::Source;
+use crate::device::{Failed, Source};
 use crate::fault::AheadFault;
 use std::alloc::{AllocError, Global};
 use std::marker::Model;
@@ -128,19 +128,19 @@ fn read_behind<R: Source>(
     end: usize,
     most: usize,
     source: &mut R,
-) -> Result<usize, AheadFault>
+) -> Result<usize, Failed>
     requires { (end < most) × (most ≤ vec_len octets.old) }
     ensures ok { IfOk result (λ count. WhereTold (R.state source.old).left
         (λ input. ReadsMore (take end octets.old.items) input (take (end + count) octets.new.items) (R.state source.new).left)) }
     ensures within { IfOk result (λ count. end + count ≤ most) }
-    ensures none { result ≡ Ok 0 → IsAtEnd (R.state source.old).left }
+    ensures none { IfOk result (λ count. count ≡ 0 → IsAtEnd (R.state source.old).left) }
     ensures front { take end octets.new.items ≡ take end octets.old.items }
     ensures length { vec_len octets.new ≡ vec_len octets.old }
     ensures err { OnErr result (Stays (R.state source.old).left (R.state source.new).left) }
     ensures ends { IfOk result (λ count. (R.state source.new).ends
         ≡ (if nat_lt 0 count then (R.state source.old).ends else next_count (R.state source.old).ends)) }
     ensures ends_stay { OnErr result ((R.state source.new).ends ≡ (R.state source.old).ends) }
-    ensures failures { (R.state source.new).failures ≡ failures_after_more result (R.state source.old).failures }
+    ensures failures { (R.state source.new).failures ≡ count_failure result (R.state source.old).failures }
 {
-    Ok(source.pull(&mut octets[end..most])?)
+    source.pull(&mut octets[end..most])
 }

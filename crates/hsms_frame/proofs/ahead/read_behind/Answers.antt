@@ -1,18 +1,34 @@
-use Rattle.std.proofs.Common.{◌≤◌, ◌+◌, ◌++◌, ◌∙◌, ℕ, List, length, take, drop, ap, arith}
-use Rattle.std.proofs.lemmas.List.{length-take-le}
-use Rattle.hsms_frame.proofs.Tails.{more_read}
-use Rattle.hsms_frame.proofs.Tails.{front_of_written}
+use Rattle.std.proofs.Common.{◌≡◌, ◌≤◌, ◌+◌, ◌-◌, ◌∙◌, length, take, drop, ap, arith}
+use Rattle.std.proofs.lemmas.List.{length-drop, length-take, length-take-le}
+use Rattle.hsms_frame.proofs.Tails.{ends_behind, ends_stay, front_is_kept, none_behind, reads_behind, within_behind}
 use Rattle.hsms_frame.proofs.ahead.read_behind.Goals as goal
 
-pub returns-clause-ok : goal.returns-clause-ok
-returns-clause-ok g c = λ input told.
-    let t = c.in_ok-pull.ensures.octets input told in
-    let n = c.in_ok-pull.field-0 in
-    let end = c.args.end in
+-- the octets lie within the vector, and the pull has the room behind them
+within : (g : _) (c : goal.After-octets-1 g) → c.args.end ≤ length c.deref_mut.result.now
+within g c = omega (arith, c.requires, c.deref_mut.ensures.len)
+
+room : (g : _) (c : goal.After-octets-1 g) → length c.pull.new.into + c.args.end ≡ c.args.most
+room g c =
     let whole = c.deref_mut.result.now in
-    let part = c.pull.new.into in
-    let fits : end ≤ length whole = omega (arith, c.requires, c.deref_mut.ensures.len) in
-    let short : end + n ≤ c.args.octets.now.len = omega (arith, fits, c.deref_mut.ensures.len, c.in_ok-pull.ensures.bound, c.pull.auto.into) in
-    let now = front_of_written (take end whole) part _ _ end n c.args.octets.now.len (length-take-le end whole fits) c.in_ok-pull.ensures.bound short
-    ∙ ap (λ (xs : List ℕ). take end xs ++ take n part) c.deref_mut.ensures.value in
-    (drop n input, t.2, more_read (take end c.args.octets.now.items) part _ input n now t.1)
+    omega (arith, c.requires, c.deref_mut.ensures.len, c.pull.auto.into, length-take (c.args.most - c.args.end) (drop c.args.end whole), length-drop c.args.end whole)
+
+pub returns-clause-ok : goal.returns-clause-ok
+returns-clause-ok g c =
+    reads_behind _ _ _ _ _ _ _ _ _ _ c.deref_mut.ensures.value (within g c) (omega (arith, room g c, c.requires)) c.pull.ensures.bound c.pull.ensures.octets
+
+pub returns-clause-within : goal.returns-clause-within
+returns-clause-within g c = within_behind _ _ _ _ (room g c) c.pull.ensures.bound
+
+pub returns-clause-none : goal.returns-clause-none
+returns-clause-none g c = none_behind _ _ _ (omega (arith, room g c, c.requires)) c.pull.ensures.end
+
+pub returns-clause-front : goal.returns-clause-front
+returns-clause-front g c =
+    let whole = c.deref_mut.result.now in
+    front_is_kept (take c.args.end whole) _ _ _ _ (length-take-le c.args.end whole (within g c)) (omega (arith, c.requires)) ∙ ap (take c.args.end) c.deref_mut.ensures.value
+
+pub returns-clause-ends : goal.returns-clause-ends
+returns-clause-ends g c = ends_behind _ _ _ _ (omega (arith, room g c, c.requires, c.pull.auto.into)) c.pull.ensures.counts.ends
+
+pub returns-clause-ends_stay : goal.returns-clause-ends_stay
+returns-clause-ends_stay g c = ends_stay _ _ _ _ c.pull.ensures.counts.ends
