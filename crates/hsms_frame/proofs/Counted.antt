@@ -1,0 +1,60 @@
+-- What a fill counts, told of what is read by it: of a part that has to be there, or of a whole that may be missing.
+use Rattle.std.proofs.Common.{◌≡◌, ◌≤◌, ◌<◌, ℕ, Some, None, Ok, Err, sym, subst, arith}
+use Rattle.std.specs.Prelude.{Option, Result}
+use Rattle.std.specs.Result.{IsErrAnd}
+use Rattle.std.proofs.lemmas.Bool.Decides.{nat_tests}
+use Rattle.hsms_frame.specs.declared.device.Failed.{Failed}
+use Rattle.hsms_frame.specs.declared.fault.ReadFault.{ReadFault}
+use Rattle.hsms_frame.specs.declared.fault.ReadFault.TheVariants.{Memory, CutOff, Read}
+use Rattle.hsms_frame.specs.Count.{next_count}
+use Rattle.hsms_frame.specs.Device.{SourceState, CountsFill, ends_after_fill}
+use Rattle.hsms_frame.specs.Reading.{CountsPart, CountsWhole}
+
+-- a fill that isn't full finds the end, and a full one doesn't
+found : (room n old new : ℕ) → n < room → new ≡ ends_after_fill room (Ok n) old → new ≡ next_count old
+found room n old new less step = grind (arith, nat_tests, step, less)
+
+not_found : (room n old new : ℕ) → room ≤ n → new ≡ ends_after_fill room (Ok n) old → new ≡ old
+not_found room n old new full step = grind (arith, nat_tests, step, full)
+
+-- a fill failed, and so did what is read by it
+pub part_failed : {T : Type 0} (r : Result T ReadFault) (room : ℕ) (e : Failed) (old new : SourceState) → IsErrAnd r (λ x. x ≡ Read)
+    → CountsFill room (Err e) old new → CountsPart r old new
+part_failed (Ok x) room e old new fails counts = absurd fails
+part_failed {T} (Err x) room e old new fails counts =
+    let P : ReadFault → Type 0 = λ y. CountsPart {T = T} (Err y) old new in
+    subst P (sym fails) (record { empty_pulls = counts.empty_pulls; ends = counts.ends; failures = counts.failures })
+
+pub whole_failed : {T : Type 0} (r : Result (Option T) ReadFault) (room : ℕ) (e : Failed) (old new : SourceState) → IsErrAnd r (λ x. x ≡ Read)
+    → CountsFill room (Err e) old new → CountsWhole r old new
+whole_failed (Ok x) room e old new fails counts = absurd fails
+whole_failed {T} (Err x) room e old new fails counts =
+    let P : ReadFault → Type 0 = λ y. CountsWhole {T = T} (Err y) old new in
+    subst P (sym fails) (record { empty_pulls = counts.empty_pulls; ends = counts.ends; failures = counts.failures })
+
+pub not_memory : {T : Type 0} (r : Result T ReadFault) → IsErrAnd r (λ x. x ≡ Read) → r ≡ Err Memory → ⊥
+not_memory (Ok x) fails is = absurd fails
+not_memory (Err x) fails is = absurd cc
+
+-- the input ended before it was full
+pub part_cut : {T : Type 0} (room n : ℕ) (old new : SourceState) → n < room → CountsFill room (Ok n) old new → CountsPart {T = T} (Err CutOff) old new
+part_cut room n old new less counts =
+    record { empty_pulls = counts.empty_pulls; ends = found room n _ _ less counts.ends; failures = counts.failures }
+
+pub whole_cut : {T : Type 0} (room n : ℕ) (old new : SourceState) → n < room → CountsFill room (Ok n) old new → CountsWhole {T = T} (Err CutOff) old new
+whole_cut room n old new less counts =
+    record { empty_pulls = counts.empty_pulls; ends = found room n _ _ less counts.ends; failures = counts.failures }
+
+pub whole_missing : {T : Type 0} (room n : ℕ) (old new : SourceState) → n < room → CountsFill room (Ok n) old new → CountsWhole {T = T} (Ok None) old new
+whole_missing room n old new less counts =
+    record { empty_pulls = counts.empty_pulls; ends = found room n _ _ less counts.ends; failures = counts.failures }
+
+-- it was full
+pub part_full : {T : Type 0} (x : T) (room n : ℕ) (old new : SourceState) → room ≤ n → CountsFill room (Ok n) old new → CountsPart (Ok x) old new
+part_full x room n old new full counts =
+    record { empty_pulls = counts.empty_pulls; ends = not_found room n _ _ full counts.ends; failures = counts.failures }
+
+pub whole_full : {T : Type 0} (x : T) (room n : ℕ) (old new : SourceState) → room ≤ n → CountsFill room (Ok n) old new
+    → CountsWhole (Ok (Some x)) old new
+whole_full x room n old new full counts =
+    record { empty_pulls = counts.empty_pulls; ends = not_found room n _ _ full counts.ends; failures = counts.failures }
