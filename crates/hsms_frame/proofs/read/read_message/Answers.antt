@@ -3,6 +3,7 @@ use Rattle.std.proofs.lemmas.Result.{err_from_is_err_and}
 use Rattle.std.proofs.lemmas.List.{length-drop}
 use Rattle.hsms_frame.specs.Frame.{IsOctets}
 use Rattle.hsms_frame.proofs.Spelled.{behind}
+use Rattle.hsms_frame.proofs.Counted.{whole_as_long, whole_as_none, whole_as_short, whole_as_some, whole_fails, whole_stops, whole_then}
 use Rattle.hsms_frame.proofs.Determined.{one_answer_told}
 use Rattle.hsms_frame.proofs.Exits.{behind-drop, cut_at_length, cut_at_header, cut_at_text, too_short, too_long, read_whole}
 use Rattle.hsms_frame.proofs.read.read_message.Goals as goal
@@ -72,3 +73,30 @@ returns-in_err-text-clause-only g c = one_answer_told _ _ _ _ (returns-in_err-te
 
 pub returns-clause-only : goal.returns-clause-only
 returns-clause-only g c = one_answer_told _ _ _ _ (returns-clause-answer g c)
+
+pub returns-in_err-length-clause-counts : goal.returns-in_err-length-clause-counts
+returns-in_err-length-clause-counts g c = whole_fails _ _ _ _ c.from_residual.ensures.1 c.in_err-length.ensures.counts
+
+pub returns-in_default-clause-counts : goal.returns-in_default-clause-counts
+returns-in_default-clause-counts g c = whole_as_none _ _ (rw c.in_default.is at c.in_ok-length.ensures.counts)
+
+pub returns-then-length-clause-counts : goal.returns-then-length-clause-counts
+returns-then-length-clause-counts g c = whole_as_short _ _ _ _ (rw c.in-Some.is at c.in_ok-length.ensures.counts)
+
+pub returns-in_err-read_all-clause-counts : goal.returns-in_err-read_all-clause-counts
+returns-in_err-read_all-clause-counts g c =
+    whole_stops _ _ _ _ _ _ c.from_residual-in_err-read_all.ensures.1 (rw c.in-Some.is at c.in_ok-length.ensures.counts) c.in_err-read_all.ensures.counts
+
+pub returns-then-length-max-clause-counts : goal.returns-then-length-max-clause-counts
+returns-then-length-max-clause-counts g c =
+    whole_as_long _ _ _ _ _ (whole_then _ _ _ _ _ (rw c.in-Some.is at c.in_ok-length.ensures.counts) c.in_ok-read_all.ensures.counts)
+
+pub returns-in_err-text-clause-counts : goal.returns-in_err-text-clause-counts
+returns-in_err-text-clause-counts g c =
+    let first = whole_then _ _ _ _ _ (rw c.in-Some.is at c.in_ok-length.ensures.counts) c.in_ok-read_all.ensures.counts in
+    whole_stops _ _ _ _ _ _ c.from_residual-in_err-text.ensures.1 first c.in_err-text.ensures.counts
+
+pub returns-clause-counts : goal.returns-clause-counts
+returns-clause-counts g c =
+    let first = whole_then _ _ _ _ _ (rw c.in-Some.is at c.in_ok-length.ensures.counts) c.in_ok-read_all.ensures.counts in
+    whole_as_some _ _ _ _ (whole_then _ _ _ _ _ first c.in_ok-text.ensures.counts)
