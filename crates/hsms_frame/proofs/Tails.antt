@@ -97,13 +97,13 @@ pub still_there : (grown new now : List ℕ) (count : ℕ) → slice_range grown
 still_there grown new now count held kept = front_of_range new count ∙ kept ∙ sym (front_of_range grown count) ∙ held
 
 -- what was read stands behind it
-pub reads_more : (grown new now input : List ℕ) (left : Option (List ℕ)) (count n : ℕ) → slice_range grown 0 count ≡ now
-    → ReadsMore (take count grown) input (take (count + n) new) left → ReadsMore now input (slice_range new 0 (count + n)) left
-reads_more grown new now input left count n held (rest, left_is, same) = (
+pub reads_more : (grown new now input : List ℕ) (left : Option (List ℕ)) (count n given : ℕ) → slice_range grown 0 count ≡ now
+    → ReadsMore (take count grown) input (take (count + n) new) left → given ≡ n → ReadsMore now input (slice_range new 0 (count + given)) left
+reads_more grown new now input left count n given held (rest, left_is, same) all = (
   rest,
   left_is,
   ap (λ (xs : List ℕ). xs ++ input) (sym held ∙ front_of_range grown count) ∙ same
-      ∙ ap (λ (xs : List ℕ). xs ++ rest) (sym (front_of_range new (count + n))),
+      ∙ ap (λ (xs : List ℕ). xs ++ rest) (sym (front_of_range new (count + n))) ∙ ap (λ k. slice_range new 0 (count + k) ++ rest) (sym all),
 )
 
 -- how many there are then
@@ -115,36 +115,36 @@ pub count_before : (own whole now : List ℕ) (place end len : ℕ) → whole �
 count_before own whole now place end len same view size order within =
     length_of_range whole now place end order (omega arith) (ap (λ xs. slice_range xs place end) same ∙ view)
 
-pub more_ahead : (new now : List ℕ) (count n len : ℕ) → length now ≡ count → len ≡ length new → count + n ≤ len
-    → ◌≡◌ {A = Result Bool AheadFault} (Ok (nat_lt 0 n)) (Ok true) → length now < length (slice_range new 0 (count + n))
-more_ahead new now count n len size whole within is =
+pub more_ahead : (new now : List ℕ) (count n given len : ℕ) → length now ≡ count → len ≡ length new → count + n ≤ len → given ≡ n
+    → ◌≡◌ {A = Result Bool AheadFault} (Ok (nat_lt 0 n)) (Ok true) → length now < length (slice_range new 0 (count + given))
+more_ahead new now count n given len size whole within all is =
     let test : nat_lt 0 n ≡ true = cc in
     let some : 0 < n = grind (arith, nat_tests, test) in
-    let inside : count + n ≤ length new = omega arith in
-    omega (arith, count_ahead new now count n size inside, some)
+    let inside : count + given ≤ length new = omega arith in
+    omega (arith, count_ahead new now count given size inside, some, all)
 
-pub none_ahead : (new now : List ℕ) (count n : ℕ) (X : Type 0) → slice_range new 0 count ≡ now → (n ≡ 0 → X)
-    → ◌≡◌ {A = Result Bool AheadFault} (Ok (nat_lt 0 n)) (Ok false) → (slice_range new 0 (count + n) ≡ now) × X
-none_ahead new now count n X held end is =
+pub none_ahead : (new now : List ℕ) (count n given : ℕ) (X : Type 0) → slice_range new 0 count ≡ now → (n ≡ 0 → X) → given ≡ n
+    → ◌≡◌ {A = Result Bool AheadFault} (Ok (nat_lt 0 n)) (Ok false) → (slice_range new 0 (count + given) ≡ now) × X
+none_ahead new now count n given X held end all is =
     let test : nat_lt 0 n ≡ false = cc in
     let none : n ≡ 0 = grind (arith, nat_tests, test) in
-    let same : count + n ≡ count = omega (arith, none) in
+    let same : count + given ≡ count = omega (arith, none, all) in
     (ap (λ k. slice_range new 0 k) same ∙ held, end none)
 
 -- as many as before are within the bound
 pub bound_kept : (view now : List ℕ) → view ≡ now → length view ≤ most_ahead (length now)
 bound_kept view now same = omega (arith, ap length same)
 
-pub bound_ahead : (new now : List ℕ) (count n most : ℕ) → length now ≡ count → most ≡ max (count + 65536) 131072 → count + n ≤ most
-    → length (slice_range new 0 (count + n)) ≤ most_ahead (length now)
-bound_ahead new now count n most size is within =
-    let cut : length (take (count + n) new) ≤ count + n = omega (arith, length-take (count + n) new) in
-    omega (arith, ap length (front_of_range new (count + n)), cut, size, within, is)
+pub bound_ahead : (new now : List ℕ) (count n given most : ℕ) → length now ≡ count → most ≡ max (count + 65536) 131072 → count + n ≤ most → given ≡ n
+    → length (slice_range new 0 (count + given)) ≤ most_ahead (length now)
+bound_ahead new now count n given most size is within all =
+    let cut : length (take (count + given) new) ≤ count + given = omega (arith, length-take (count + given) new) in
+    omega (arith, ap length (front_of_range new (count + given)), cut, size, within, is, all)
 
 -- what was read lies within the room, which is as large as before, at least
-pub within_room : (count n most own grown new : ℕ) → most ≡ max (count + 65536) 131072 → count + n ≤ most → count + 65536 ≤ grown
-    → 131072 ≤ own → own ≤ grown → new ≡ grown → (0 ≤ count + n) × (count + n ≤ new) × (131072 ≤ new)
-within_room count n most own grown new is within room large longer kept = (omega arith, omega arith, omega arith)
+pub within_room : (count n given most own grown new : ℕ) → most ≡ max (count + 65536) 131072 → count + n ≤ most → count + 65536 ≤ grown
+    → 131072 ≤ own → own ≤ grown → new ≡ grown → given ≡ n → (0 ≤ count + given) × (count + given ≤ new) × (131072 ≤ new)
+within_room count n given most own grown new is within room large longer kept all = (omega arith, omega arith, omega arith)
 
 -- the ways out of a read ahead that failed
 pub no_answer : {E : Type 0} (X : Type 0) (r : Result Bool E) (b : Bool) → IsErr r → r ≡ Ok b → X

@@ -1,4 +1,4 @@
-use Rattle.std.proofs.Common.{◌≡◌, ◌∙◌, refl, sym}
+use Rattle.std.proofs.Common.{◌≡◌, ◌∙◌, refl, sym, arith}
 use Rattle.std.specs.List.{slice_range}
 use Rattle.std.proofs.lemmas.Result.{IfOk-from_err}
 use Rattle.hsms_frame.proofs.Tails.{bound_ahead, bound_kept, count_before, memory_wanted, more_ahead, moved_is_there, no_answer, no_end_found, none_ahead, on_err, read_failed, reads_more, stays_on_err, still_there, within_room}
@@ -67,31 +67,31 @@ returns-in_err-count-clause-failures g c = read_failed _ _ _ c.from_residual-in_
 
 pub invariant_of-self-2 : goal.invariant_of-self-2
 invariant_of-self-2 g c =
-    within_room _ _ _ _ _ _ c.max-most.ensures c.in_ok-count.ensures.within c.in_ok-make_room.ensures.room c.self.invariant.2 c.make_room.ensures.longer
-    c.in_ok-count.ensures.length
+    within_room _ _ _ _ _ _ _ c.max-most.ensures c.in_ok-count.ensures.within c.in_ok-make_room.ensures.room c.self.invariant.2 c.make_room.ensures.longer
+    c.in_ok-count.ensures.length (omega arith)
 
 pub returns-clause-ok : goal.returns-clause-ok
 returns-clause-ok g c = λ input told.
     let e = c.move_to_front-self-inside.ensures in
-    reads_more _ _ _ _ _ _ _ (moved_is_there _ _ _ _ _ _ _ _ _ _ c.deref_mut.ensures.value c.self.view_is c.deref_mut.ensures.len c.self.invariant.1
-    e.length e.end e.front c.make_room.ensures.front) (c.in_ok-count.ensures.ok input told)
+    reads_more _ _ _ _ _ _ _ _ (moved_is_there _ _ _ _ _ _ _ _ _ _ c.deref_mut.ensures.value c.self.view_is c.deref_mut.ensures.len c.self.invariant.1
+    e.length e.end e.front c.make_room.ensures.front) (c.in_ok-count.ensures.ok input told) (omega arith)
 
 pub returns-clause-more : goal.returns-clause-more
 returns-clause-more g c =
     let e = c.move_to_front-self-inside.ensures in
     let size = count_before _ _ _ _ _ _ c.deref_mut.ensures.value c.self.view_is c.deref_mut.ensures.len c.self.invariant.0 c.self.invariant.1 in
-    let room = within_room _ _ _ _ _ _ c.max-most.ensures c.in_ok-count.ensures.within c.in_ok-make_room.ensures.room c.self.invariant.2
-    c.make_room.ensures.longer c.in_ok-count.ensures.length in
-    more_ahead _ _ _ _ _ (size ∙ sym e.end) c.read_behind.new.octets.ok.0 room.1
+    let room = within_room _ _ _ _ _ _ _ c.max-most.ensures c.in_ok-count.ensures.within c.in_ok-make_room.ensures.room c.self.invariant.2
+    c.make_room.ensures.longer c.in_ok-count.ensures.length refl in
+    more_ahead _ _ _ _ _ _ (size ∙ sym e.end) c.read_behind.new.octets.ok.0 room.1 (omega arith)
 
 pub returns-clause-none : goal.returns-clause-none
 returns-clause-none g c =
     let e = c.move_to_front-self-inside.ensures in
-    none_ahead _ _ _ _ _ (still_there _ _ _ _ (moved_is_there _ _ _ _ _ _ _ _ _ _ c.deref_mut.ensures.value c.self.view_is c.deref_mut.ensures.len
-    c.self.invariant.1 e.length e.end e.front c.make_room.ensures.front) c.in_ok-count.ensures.front) c.in_ok-count.ensures.none
+    none_ahead _ _ _ _ _ _ (still_there _ _ _ _ (moved_is_there _ _ _ _ _ _ _ _ _ _ c.deref_mut.ensures.value c.self.view_is c.deref_mut.ensures.len
+    c.self.invariant.1 e.length e.end e.front c.make_room.ensures.front) c.in_ok-count.ensures.front) c.in_ok-count.ensures.none (omega arith)
 
 pub returns-clause-bound : goal.returns-clause-bound
 returns-clause-bound g c =
     let e = c.move_to_front-self-inside.ensures in
     let size = count_before _ _ _ _ _ _ c.deref_mut.ensures.value c.self.view_is c.deref_mut.ensures.len c.self.invariant.0 c.self.invariant.1 in
-    bound_ahead _ _ _ _ _ (size ∙ sym e.end) c.max-most.ensures c.in_ok-count.ensures.within
+    bound_ahead _ _ _ _ _ _ (size ∙ sym e.end) c.max-most.ensures c.in_ok-count.ensures.within (omega arith)
