@@ -1,7 +1,8 @@
 -- The view of an item, level by level.
-use Rattle.std.proofs.Common.{◌≡◌, ℕ, ℤ, ◌+◌, ◌<◌, ◌≤◌, Bool, List, length, drop, get_or, Vec, Global, sym, ap, ◌∙◌, rules}
-use Rattle.std.proofs.lemmas.List.{at_drop_more, at_drop_all}
-use Rattle.secs_item.specs.Item.{list, values, no_elements, element, binary, boolean, ascii, jis8, char2, i1, i2, i4, i8, u1, u2, u4, u8, f4, f8, view, views}
+use Rattle.std.proofs.Common.{◌≡◌, ℕ, ℤ, ◌+◌, ◌<◌, ◌≤◌, Bool, List, [], ◌∷◌, ◌++◌, length, map, take, drop, get_or, Vec, Global, Result, Ok, Err, sym, ap, ◌∙◌, rules}
+use Rattle.std.specs.Prelude.{IfOk, IsOkAnd, MatchResult}
+use Rattle.std.proofs.lemmas.List.{at_drop_more, at_drop_all, take_more, take_all, map-append}
+use Rattle.secs_item.specs.Item.{Value, list, Values, values, no_elements, element, binary, boolean, ascii, jis8, char2, i1, i2, i4, i8, u1, u2, u4, u8, f4, f8, elements_of, view, views}
 use Rattle.secs_item.specs.declared.item.Item.{Item, the_lemmas, List as item_list, Binary as item_binary, Boolean as item_boolean, Ascii as item_ascii, Jis8 as item_jis8, Char2 as item_char2, I1 as item_i1, I2 as item_i2, I4 as item_i4, I8 as item_i8, U1 as item_u1, U2 as item_u2, U4 as item_u4, U8 as item_u8, F4 as item_f4, F8 as item_f8}
 
 pub view-List : (v : Vec Item Global) → view (item_list v) ≡ list (views v.items)
@@ -59,3 +60,24 @@ views_from items i x lt is = at_drop_more (λ (xs : List Item). views xs) items 
 
 pub views_done : (items : List Item) (i : ℕ) → length items ≤ i → views (drop i items) ≡ no_elements
 views_done items i le = at_drop_all (λ (xs : List Item). views xs) items i le
+
+-- ---- elements that are copied one after another
+
+pub next_copied : (copies items now : List Item) (i : ℕ) (copy x : Item) → now ≡ copies ++ copy ∷ [] → view copy ≡ view x → x ≡ get_or items i x → i < length items → map view copies ≡ map view (take i items)
+    → map view now ≡ map view (take (i + 1) items)
+next_copied copies items now i copy x now_is same x_is lt before =
+    let one : map view (copy ∷ []) ≡ map view (get_or items i x ∷ []) = ap (λ (v : Value). v ∷ []) (same ∙ ap view x_is) in
+    ap (map view) now_is ∙ map-append view copies (copy ∷ []) ∙ ap (λ vs. vs ++ map view (copy ∷ [])) before ∙ ap (λ vs. map view (take i items) ++ vs) one
+    ∙ sym (map-append view (take i items) (get_or items i x ∷ [])) ∙ sym (ap (map view) (take_more items i x lt))
+
+pub all_copied : (copies items : List Item) (i : ℕ) → map view copies ≡ map view (take i items) → length items ≤ i → views copies ≡ views items
+all_copied copies items i same le = ap elements_of same ∙ ap views (take_all i items le)
+
+-- the copied values make an equal item
+pub copied : {X E : Type 0} (make : Vec X Global → Item) (form : List X → Values) → ((v : Vec X Global) → view (make v) ≡ values (form v.items))
+    → (item : Item) (v : Vec X Global) (slice : List X) (copy : Result (Vec X Global) E) (made : Result Item E) → item ≡ make v → slice ≡ v.items → IfOk copy (λ w. w.items ≡ slice)
+    → MatchResult copy (λ w. IsOkAnd made (λ other. other ≡ make w)) (λ e. made ≡ Err e) → IfOk made (λ other. view other ≡ view item)
+copied make form shown item v slice (Ok w) (Ok other) item_is slice_is same made_is = ap view made_is ∙ shown w ∙ ap (λ xs. values (form xs)) (same ∙ slice_is) ∙ sym (shown v) ∙ sym (ap view item_is)
+copied make form shown item v slice (Ok w) (Err e) item_is slice_is same made_is = tt
+copied make form shown item v slice (Err e) (Ok other) item_is slice_is same made_is = absurd cc
+copied make form shown item v slice (Err e) (Err f) item_is slice_is same made_is = tt

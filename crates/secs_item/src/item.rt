@@ -1,6 +1,7 @@
 //! Data items.
 
-ghost use Rattle.std.specs.Prelude.{◌≡◌, ◌↔◌, IfOk, IsTrue, min};
+ghost use Rattle.std.specs.Prelude.{◌≡◌, ◌↔◌, false, IfOk, IsTrue, min};
+ghost use Rattle.secs_item.specs.Format.{is_list};
 ghost use Rattle.secs_item.specs.Item.{count_of, format_of, nest, view, views};
 
 use crate::format::Format;
@@ -36,30 +37,14 @@ impl Item {
     pub fn copy(&self, alloc: Global) -> Result<Item, AllocError>
         ensures { IfOk result (λ item. view item ≡ view self.now) }
     {
-        match self {
-            Item::List(elements) => {
-                let mut copies = Vec::with_capacity(alloc, elements.len())?;
-                for element in elements {
-                    copies.push(element.copy(alloc)?)?;
-                }
-                Ok(Item::List(copies))
-            }
-            Item::Binary(values) => Ok(Item::Binary(Vec::from_slice(alloc, values)?)),
-            Item::Boolean(values) => Ok(Item::Boolean(Vec::from_slice(alloc, values)?)),
-            Item::Ascii(values) => Ok(Item::Ascii(Vec::from_slice(alloc, values)?)),
-            Item::Jis8(values) => Ok(Item::Jis8(Vec::from_slice(alloc, values)?)),
-            Item::Char2(values) => Ok(Item::Char2(Vec::from_slice(alloc, values)?)),
-            Item::I1(values) => Ok(Item::I1(Vec::from_slice(alloc, values)?)),
-            Item::I2(values) => Ok(Item::I2(Vec::from_slice(alloc, values)?)),
-            Item::I4(values) => Ok(Item::I4(Vec::from_slice(alloc, values)?)),
-            Item::I8(values) => Ok(Item::I8(Vec::from_slice(alloc, values)?)),
-            Item::U1(values) => Ok(Item::U1(Vec::from_slice(alloc, values)?)),
-            Item::U2(values) => Ok(Item::U2(Vec::from_slice(alloc, values)?)),
-            Item::U4(values) => Ok(Item::U4(Vec::from_slice(alloc, values)?)),
-            Item::U8(values) => Ok(Item::U8(Vec::from_slice(alloc, values)?)),
-            Item::F4(values) => Ok(Item::F4(Vec::from_slice(alloc, values)?)),
-            Item::F8(values) => Ok(Item::F8(Vec::from_slice(alloc, values)?)),
+        let Item::List(elements) = self else {
+            return copy_values(self, alloc);
+        };
+        let mut copies = Vec::with_capacity(alloc, elements.len())?;
+        for element in elements {
+            copies.push(element.copy(alloc)?)?;
         }
+        Ok(Item::List(copies))
     }
 
     /// What the item holds.
@@ -108,6 +93,32 @@ impl Item {
             Item::F4(values) => values.len(),
             Item::F8(values) => values.len(),
         }
+    }
+}
+
+/// An equal item of an item that is no list, in memory of its own.
+#[inline(always)]
+fn copy_values(item: &Item, alloc: Global) -> Result<Item, AllocError>
+    requires { is_list (format_of (view item.now)) ≡ false }
+    ensures { IfOk result (λ copy. view copy ≡ view item.now) }
+{
+    match item {
+        Item::List(_) => unreachable!(),
+        Item::Binary(values) => Vec::from_slice(alloc, values).map(Item::Binary),
+        Item::Boolean(values) => Vec::from_slice(alloc, values).map(Item::Boolean),
+        Item::Ascii(values) => Vec::from_slice(alloc, values).map(Item::Ascii),
+        Item::Jis8(values) => Vec::from_slice(alloc, values).map(Item::Jis8),
+        Item::Char2(values) => Vec::from_slice(alloc, values).map(Item::Char2),
+        Item::I1(values) => Vec::from_slice(alloc, values).map(Item::I1),
+        Item::I2(values) => Vec::from_slice(alloc, values).map(Item::I2),
+        Item::I4(values) => Vec::from_slice(alloc, values).map(Item::I4),
+        Item::I8(values) => Vec::from_slice(alloc, values).map(Item::I8),
+        Item::U1(values) => Vec::from_slice(alloc, values).map(Item::U1),
+        Item::U2(values) => Vec::from_slice(alloc, values).map(Item::U2),
+        Item::U4(values) => Vec::from_slice(alloc, values).map(Item::U4),
+        Item::U8(values) => Vec::from_slice(alloc, values).map(Item::U8),
+        Item::F4(values) => Vec::from_slice(alloc, values).map(Item::F4),
+        Item::F8(values) => Vec::from_slice(alloc, values).map(Item::F8),
     }
 }
 
