@@ -4,7 +4,7 @@ use Rattle.std.specs.Bool.{Decides}
 use Rattle.std.specs.Cmp.Lexicographic.{pointwise}
 use Rattle.std.proofs.lemmas.Slice.Eq.{slice_eq-Decides}
 use Rattle.secs_item.specs.declared.item.Item.{Item}
-use Rattle.secs_item.specs.Item.{Value, values, Values, Elements, element, view, views}
+use Rattle.secs_item.specs.Item.{Value, list, values, Values, Elements, element, view, views}
 use Rattle.secs_item.proofs.Views.{views_from, views_done}
 
 -- what `==` on the values says of the items
@@ -15,6 +15,12 @@ same_by make one decides xs ys v w r v_is w_is r_is =
     (λ h. v_is ∙ ap (λ zs. values (make zs)) (d.0 h) ∙ sym w_is, λ e. d.1 (one xs ys (inner (sym v_is ∙ e ∙ w_is))))
   where
     inner : values (make xs) ≡ values (make ys) → make xs ≡ make ys
+    inner e = cc
+
+pub same_lists : (items others : List Item) (v w : Value) (r : Bool) → v ≡ list (views items) → w ≡ list (views others) → (r ≡ true → views items ≡ views others) × (views items ≡ views others → r ≡ true) → (r ≡ true → v ≡ w) × (v ≡ w → r ≡ true)
+same_lists items others v w r v_is w_is d = (λ h. v_is ∙ ap list (d.0 h) ∙ sym w_is, λ e. d.1 (inner (sym v_is ∙ e ∙ w_is)))
+  where
+    inner : list (views items) ≡ list (views others) → views items ≡ views others
     inner e = cc
 
 -- two tests that tell the same fact are alike

@@ -7,6 +7,7 @@ pub mod Again
 pub mod Faults
 pub mod Fronts
 pub mod Views
+pub mod Variants
 pub mod Equals
 pub mod Shorts
 pub mod Building

@@ -1,7 +1,11 @@
 use Rattle.std.proofs.Common.{rules, sym, ap, ◌∙◌}
 use Rattle.secs_item.specs.Item.{view, views, list}
 use Rattle.secs_item.proofs.Views.{view-List, next_copied, all_copied}
+use Rattle.secs_item.proofs.Variants.{is_no_list}
 use Rattle.secs_item.proofs.item.Item.+copy.Goals as goal
+
+pub copy_values-requires : goal.copy_values-requires
+copy_values-requires t c = is_no_list c.args.self.now c.in_default.not-List
 
 pub returns-in_default : goal.returns-in_default
 returns-in_default t c = c.copy_values.ensures
