@@ -73,11 +73,13 @@ next_copied copies items now i copy x now_is same x_is lt before =
 pub all_copied : (copies items : List Item) (i : ℕ) → map view copies ≡ map view (take i items) → length items ≤ i → views copies ≡ views items
 all_copied copies items i same le = ap elements_of same ∙ ap views (take_all i items le)
 
--- the copied values make an equal item
-pub copied : {X E : Type 0} (make : Vec X Global → Item) (form : List X → Values) → ((v : Vec X Global) → view (make v) ≡ values (form v.items))
-    → (item : Item) (v : Vec X Global) (slice : List X) (copy : Result (Vec X Global) E) (made : Result Item E) → item ≡ make v → slice ≡ v.items → IfOk copy (λ w. w.items ≡ slice)
-    → MatchResult copy (λ w. IsOkAnd made (λ other. other ≡ make w)) (λ e. made ≡ Err e) → IfOk made (λ other. view other ≡ view item)
-copied make form shown item v slice (Ok w) (Ok other) item_is slice_is same made_is = ap view made_is ∙ shown w ∙ ap (λ xs. values (form xs)) (same ∙ slice_is) ∙ sym (shown v) ∙ sym (ap view item_is)
-copied make form shown item v slice (Ok w) (Err e) item_is slice_is same made_is = tt
-copied make form shown item v slice (Err e) (Ok other) item_is slice_is same made_is = absurd cc
-copied make form shown item v slice (Err e) (Err f) item_is slice_is same made_is = tt
+-- ---- items that are made of values
+
+-- what was made stands for the values that it was made of
+pub made_as : {X E : Type 0} (make : Vec X Global → Item) (form : List X → Values) → ((v : Vec X Global) → view (make v) ≡ values (form v.items))
+    → (xs : List X) (w : Value) (read : Result (Vec X Global) E) (made : Result Item E) → w ≡ values (form xs) → IfOk read (λ v. v.items ≡ xs)
+    → MatchResult read (λ v. IsOkAnd made (λ item. item ≡ make v)) (λ e. made ≡ Err e) → IfOk made (λ item. view item ≡ w)
+made_as make form shown xs w (Ok v) (Ok item) w_is same is = ap view is ∙ shown v ∙ ap (λ ys. values (form ys)) same ∙ sym w_is
+made_as make form shown xs w (Ok v) (Err e) w_is same is = tt
+made_as make form shown xs w (Err e) (Ok item) w_is same is = absurd cc
+made_as make form shown xs w (Err e) (Err f) w_is same is = tt
