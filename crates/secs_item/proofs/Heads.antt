@@ -1,5 +1,5 @@
 -- What a header is read as, where the format is known.
-use Rattle.std.proofs.Common.{◌≡◌, ℕ, ◌+◌, ◌-◌, ◌/◌, ◌%◌, ◌<◌, ◌≤◌, Bool, true, false, List, ◌∷◌, length, take, drop, Some, None, Result, Ok, Err, refl, sym, ap, ◌∙◌, arith, inl, inr, eqb, ltb, eq-eqb}
+use Rattle.std.proofs.Common.{◌≡◌, ℕ, ◌+◌, ◌-◌, ◌/◌, ◌%◌, ◌<◌, ◌≤◌, Bool, true, false, List, ◌∷◌, length, take, drop, Some, None, Result, Ok, Err, refl, sym, ◌∙◌, arith, inl, inr, eqb, ltb, eq-eqb}
 use Rattle.std.specs.Prelude.{◌⊎◌}
 use Rattle.std.proofs.lemmas.Bool.{le-ltb, lt-ltb, ne_eqb}
 use Rattle.std.proofs.lemmas.List.{length-drop, take_all}
@@ -9,7 +9,7 @@ use Rattle.secs_item.specs.declared.fault.ItemFault.TheVariants.{NoLength, Forma
 use Rattle.secs_item.specs.declared.format.Format.{Format}
 use Rattle.secs_item.specs.declared.header.Header.{Header}
 use Rattle.secs_item.specs.Format.{format_with_code, is_list, value_size}
-use Rattle.secs_item.specs.Header.{Reason, ragged, truncated, Head, checked_body, checked_field, header_at}
+use Rattle.secs_item.specs.Header.{checked_body, checked_field, header_at}
 use Rattle.secs_item.specs.Measure.{header_from}
 use Rattle.secs_item.proofs.Headers.{is_deep, ok_body}
 
@@ -18,9 +18,9 @@ at_place octets front place is = sym (take_all (length octets - place) (drop pla
 
 shallow : (lists : Bool) (depth : ℕ) → ((lists ≡ true) × (depth ≡ 0 → ⊥)) ⊎ (lists ≡ false) → lists ≡ true → 0 < depth
 shallow lists depth h is = elim h [
-      | inl p ↦ omega (arith, p.1)
-      | inr p ↦ absurd cc
-    ]
+  | inl p ↦ omega (arith, p.1)
+  | inr p ↦ absurd cc
+]
 
 pub field_missing : (octets rest : List ℕ) (place depth first field : ℕ) → take (length octets - place) (drop place octets) ≡ first ∷ rest → field ≡ first % 4 → field ≡ 0
     → Err (NoLength place) ≡ header_from place (header_at depth (drop place octets))
