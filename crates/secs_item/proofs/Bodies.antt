@@ -1,9 +1,9 @@
 -- The values of an item and their octets, one after another.
-use Rattle.std.proofs.Common.{◌≡◌, ℕ, zero, suc, ◌+◌, ◌*◌, ◌/◌, ◌%◌, ◌<◌, false, List, [], ◌∷◌, ◌++◌, ◌-◌, length, take, drop, refl, sym, ap, ◌∙◌, arith, add-zero, append_assoc}
-use Rattle.std.proofs.lemmas.List.{nil_from_length, length-take, length-drop, length-append, take_at, drop_at, take-append-drop}
+use Rattle.std.proofs.Common.{◌≡◌, ℕ, zero, suc, ◌+◌, ◌*◌, ◌/◌, ◌%◌, ◌<◌, false, List, [], ◌∷◌, ◌++◌, ◌-◌, length, take, drop, get_or, refl, sym, ap, ◌∙◌, arith, add-zero, append_assoc, append-nil}
+use Rattle.std.proofs.lemmas.List.{nil_from_length, length-take, length-drop, length-append, take_at, drop_at, take-append-drop, take_more}
 use Rattle.std.proofs.lemmas.Nat.{div-mul-add, mod-mul-add, div-add-mod'}
-use Rattle.std.specs.List.{flat_map}
-use Rattle.std.proofs.lemmas.List.Concat.{flat_map-cons}
+use Rattle.std.specs.List.{flat_map, AllByRecursion}
+use Rattle.std.proofs.lemmas.List.Concat.{flat_map-cons, flat_map-append}
 use Rattle.secs_item.specs.Short.{octet_alone}
 use Rattle.std.specs.Int.{w8, w16, w32, w64}
 use Rattle.byteorder.specs.Endian.{big_number}
@@ -139,3 +139,17 @@ left_behind size count i before after left is e =
   where
     step : (k : ℕ) → before ≡ suc k * size → after ≡ k * size
     step k g = omega (arith, g, e)
+
+-- one value more is added
+pub next_pushed : {X : Type 0} (f : X → List ℕ) (xs : List X) (i : ℕ) (x : X) (before now new : List ℕ) → i < length xs → x ≡ get_or xs i x → now ≡ before ++ flat_map f (take i xs) → new ≡ now ++ f x → new ≡ before ++ flat_map f (take (i + 1) xs)
+next_pushed f xs i x before now new lt is so_far pushed =
+    let more : flat_map f (take (i + 1) xs) ≡ flat_map f (take i xs) ++ f x =
+      ap (flat_map f) (take_more xs i x lt ∙ ap (λ y. take i xs ++ y ∷ []) (sym is)) ∙ flat_map-append f (take i xs) (x ∷ []) ∙ ap (λ ys. flat_map f (take i xs) ++ ys) (append-nil (f x)) in
+    pushed ∙ ap (λ ys. ys ++ f x) so_far ∙ append_assoc before (flat_map f (take i xs)) (f x) ∙ ap (λ ys. before ++ ys) (sym more)
+
+all_and : {X : Type 0} (P : X → Type 0) (xs : List X) (x : X) → AllByRecursion P xs → P x → AllByRecursion P (xs ++ x ∷ [])
+all_and P [] x all here = (here, tt)
+all_and P (y ∷ ys) x all here = (all.0, all_and P ys x all.1 here)
+
+pub next_in_range : {X : Type 0} (P : X → Type 0) (xs : List X) (i : ℕ) (x : X) → i < length xs → x ≡ get_or xs i x → AllByRecursion P (take i xs) → P x → AllByRecursion P (take (i + 1) xs)
+next_in_range P xs i x lt is all here = rw (take_more xs i x lt, ← is) (all_and P (take i xs) x all here)
