@@ -1,5 +1,5 @@
 -- The values of an item and their octets, one after another.
-use Rattle.std.proofs.Common.{◌≡◌, ℕ, zero, suc, ◌+◌, ◌*◌, ◌/◌, ◌%◌, ◌<◌, false, List, [], ◌∷◌, ◌++◌, ◌-◌, length, take, drop, get_or, refl, sym, ap, ◌∙◌, arith, add-zero, append_assoc, append-nil}
+use Rattle.std.proofs.Common.{◌≡◌, ℕ, zero, suc, ◌+◌, ◌*◌, ◌/◌, ◌%◌, ◌<◌, ◌≤◌, false, List, [], ◌∷◌, ◌++◌, ◌-◌, length, take, drop, get_or, refl, sym, ap, ◌∙◌, arith, add-zero, append_assoc, append-nil}
 use Rattle.std.proofs.lemmas.List.{nil_from_length, length-take, length-drop, length-append, take_at, drop_at, take-append-drop, take_more}
 use Rattle.std.proofs.lemmas.Nat.{div-mul-add, mod-mul-add, div-add-mod'}
 use Rattle.std.specs.List.{flat_map, AllByRecursion}
@@ -129,6 +129,32 @@ pieces_go_on one size count i read rest first after x total left first_is after_
     let x_at : x ≡ one (take size rest) = x_is ∙ ap one first_is in
     let next : pieces one size (count - i) rest ≡ x ∷ pieces one size (count - (i + 1)) after = rw (k, x_at, after_is) refl in
     append_assoc read (x ∷ []) (pieces one size (count - (i + 1)) after) ∙ ap (λ (ys : List _). read ++ ys) (sym next) ∙ so_far
+
+-- all pieces are left
+pub pieces_to_read : {X : Type 0} (one : List ℕ → X) (size by : ℕ) (read : List X) (octets : List ℕ) → by ≡ size → read ≡ [] → read ++ pieces one size (length octets / by - 0) octets ≡ each one size octets
+pieces_to_read one size by read octets is none =
+    let all : length octets / by - 0 ≡ length octets / by = omega arith in
+    rw (all, is, none) refl
+
+pub all_left : (size by len : ℕ) → by ≡ size → 0 < size → len % size ≡ 0 → len ≡ (len / by - 0) * size
+all_left size by len is some whole =
+    let all : len / by - 0 ≡ len / by = omega arith in
+    rw (all, is) (omega (arith, whole))
+
+-- no piece is left
+pub pieces_done : {X : Type 0} (one : List ℕ → X) (size count i : ℕ) (read : List X) (rest : List ℕ) (total : List X) → count ≤ i → read ++ pieces one size (count - i) rest ≡ total → read ≡ total
+pieces_done one size count i read rest total le so_far =
+    let none : count - i ≡ 0 = omega arith in
+    sym (append-nil read) ∙ rw none at so_far
+
+-- one piece at least is left
+pub piece_there : (size count i left : ℕ) → i < count → left ≡ (count - i) * size → size ≤ left
+piece_there size count i left lt is =
+    let k : count - i ≡ suc (count - (i + 1)) = omega arith in
+    step (count - (i + 1)) (is ∙ ap (λ (n : ℕ). n * size) k)
+  where
+    step : (k : ℕ) → left ≡ suc k * size → size ≤ left
+    step k g = omega (arith, g)
 
 -- what is left behind one piece
 pub left_behind : (size count i before after : ℕ) → i < count → before ≡ (count - i) * size → after + size ≡ before → after ≡ (count - (i + 1)) * size
