@@ -1,8 +1,8 @@
 -- The view of an item, level by level.
-use Rattle.std.proofs.Common.{◌≡◌, ℕ, ℤ, ◌+◌, ◌<◌, ◌≤◌, Bool, List, [], ◌∷◌, ◌++◌, length, map, take, drop, get_or, Vec, Global, Result, Ok, Err, sym, ap, ◌∙◌, rules}
+use Rattle.std.proofs.Common.{◌≡◌, ℕ, ℤ, ◌+◌, ◌<◌, ◌≤◌, Bool, List, [], ◌∷◌, ◌++◌, length, map, take, drop, get_or, Vec, Global, max, min, Result, Ok, Err, sym, ap, ◌∙◌, rules, arith}
 use Rattle.std.specs.Prelude.{IfOk, IsOkAnd, MatchResult}
 use Rattle.std.proofs.lemmas.List.{at_drop_more, at_drop_all, take_more, take_all, map-append}
-use Rattle.secs_item.specs.Item.{Value, list, Values, values, no_elements, element, binary, boolean, ascii, jis8, char2, i1, i2, i4, i8, u1, u2, u4, u8, f4, f8, elements_of, view, views}
+use Rattle.secs_item.specs.Item.{Value, list, Values, values, no_elements, element, binary, boolean, ascii, jis8, char2, i1, i2, i4, i8, u1, u2, u4, u8, f4, f8, elements_of, nest, nest_of_elements, view, views}
 use Rattle.secs_item.specs.declared.item.Item.{Item, the_lemmas, List as item_list, Binary as item_binary, Boolean as item_boolean, Ascii as item_ascii, Jis8 as item_jis8, Char2 as item_char2, I1 as item_i1, I2 as item_i2, I4 as item_i4, I8 as item_i8, U1 as item_u1, U2 as item_u2, U4 as item_u4, U8 as item_u8, F4 as item_f4, F8 as item_f8}
 
 pub view-List : (v : Vec Item Global) → view (item_list v) ≡ list (views v.items)
@@ -60,6 +60,17 @@ views_from items i x lt is = at_drop_more (λ (xs : List Item). views xs) items 
 
 pub views_done : (items : List Item) (i : ℕ) → length items ≤ i → views (drop i items) ≡ no_elements
 views_done items i le = at_drop_all (λ (xs : List Item). views xs) items i le
+
+-- ---- how deep the elements are
+
+deeper : (greatest deepest one others all now : ℕ) → all ≡ max one others → now ≡ max deepest (min one greatest) → max now (min others greatest) ≡ max deepest (min all greatest)
+deeper greatest deepest one others all now is now_is = omega arith
+
+pub next_nested : (items : List Item) (i : ℕ) (x : Item) (greatest deepest nested now total : ℕ) → i < length items → x ≡ get_or items i x → nested ≡ min (nest (view x)) greatest → now ≡ max deepest nested
+    → max deepest (min (nest_of_elements (views (drop i items))) greatest) ≡ total → max now (min (nest_of_elements (views (drop (i + 1) items))) greatest) ≡ total
+next_nested items i x greatest deepest nested now total lt x_is is now_is so_far =
+    deeper greatest deepest (nest (view x)) (nest_of_elements (views (drop (i + 1) items))) (nest_of_elements (views (drop i items))) now
+    (ap (λ es. nest_of_elements es) (views_from items i x lt x_is)) (now_is ∙ ap (max deepest) is) ∙ so_far
 
 -- ---- elements that are copied one after another
 
