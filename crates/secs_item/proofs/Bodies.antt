@@ -170,7 +170,7 @@ left_behind size count i before after left is e =
 pub next_pushed : {X : Type 0} (f : X → List ℕ) (xs : List X) (i : ℕ) (x : X) (before now new : List ℕ) → i < length xs → x ≡ get_or xs i x → now ≡ before ++ flat_map f (take i xs) → new ≡ now ++ f x → new ≡ before ++ flat_map f (take (i + 1) xs)
 next_pushed f xs i x before now new lt is so_far pushed =
     let more : flat_map f (take (i + 1) xs) ≡ flat_map f (take i xs) ++ f x =
-      ap (flat_map f) (take_more xs i x lt ∙ ap (λ y. take i xs ++ y ∷ []) (sym is)) ∙ flat_map-append f (take i xs) (x ∷ []) ∙ ap (λ ys. flat_map f (take i xs) ++ ys) (append-nil (f x)) in
+    ap (flat_map f) (take_more xs i x lt ∙ ap (λ y. take i xs ++ y ∷ []) (sym is)) ∙ flat_map-append f (take i xs) (x ∷ []) ∙ ap (λ ys. flat_map f (take i xs) ++ ys) (append-nil (f x)) in
     pushed ∙ ap (λ ys. ys ++ f x) so_far ∙ append_assoc before (flat_map f (take i xs)) (f x) ∙ ap (λ ys. before ++ ys) (sym more)
 
 all_and : {X : Type 0} (P : X → Type 0) (xs : List X) (x : X) → AllByRecursion P xs → P x → AllByRecursion P (xs ++ x ∷ [])
