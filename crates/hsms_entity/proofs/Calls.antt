@@ -1,5 +1,7 @@
 -- What the calls of an end answer.
-use Rattle.std.proofs.Common.{◌≡◌, ℕ, max, ◌<◌, ◌≤◌, Bool, true, false, List, [], ◌∷◌, None, refl, sym, subst, ◌∙◌, inr, arith}
+use Rattle.std.proofs.Common.{◌≡◌, ℕ, max, ◌<◌, ◌≤◌, Bool, true, false, List, [], ◌∷◌, Some, None, refl, sym, ap, subst, ◌∙◌, inl, inr, ◌⊎◌, Vec, Global, arith}
+use Rattle.std.specs.Prelude.{Result, Ok, Err, IsErrAnd}
+use Rattle.std.proofs.lemmas.Result.{err_from_is_err_and}
 use Rattle.secs_text.specs.Content.{Content}
 use Rattle.hsms_machine.specs.declared.entry.Entry.{Entry}
 use Rattle.hsms_machine.specs.declared.entry.Event.TheVariants.{Down}
@@ -10,12 +12,14 @@ use Rattle.hsms_entity.specs.Answer.{Answered}
 use Rattle.hsms_entity.specs.Frame.{linktest_req, separate_req}
 use Rattle.hsms_entity.specs.Act.{Act, Acts, logs, asks}
 use Rattle.hsms_entity.specs.Turn.{is_up, opening_of, Told, Turn, start, linktest, separate, lost}
-use Rattle.hsms_entity.specs.Fault.{Meets, is_before}
+use Rattle.hsms_entity.specs.declared.fault.EndFault.{EndFault}
+use Rattle.hsms_entity.specs.declared.fault.EndFault.TheVariants.{Spent, NotUp, NotSelected, NotPrimary, Nine, Full, TooLong, TooDeep, Memory}
+use Rattle.hsms_entity.specs.Fault.{Meets, IsNotUp, is_before}
 use Rattle.hsms_entity.specs.Performing.{Performs, HasLogged}
 use Rattle.hsms_entity.specs.Sound.{IsSound, Completes}
-use Rattle.hsms_entity.specs.End.{Extends, Accepts}
+use Rattle.hsms_entity.specs.End.{Extends, Accepts, Refuses, Answers}
 use Rattle.hsms_entity.specs.EndState.{EndState, EndOf}
-use Rattle.hsms_entity.specs.Inside.{known_of, known}
+use Rattle.hsms_entity.specs.Inside.{known_of, known, IsRefusedAs}
 
 pub acts_of : (end end' : State) (acts : List Act) (entries : List Entry) → Performs end [] acts end' entries → Acts (known end) acts entries (known end')
 acts_of end end' acts entries h = subst (λ es. Acts (known end) acts es (known end')) (sym h.added) h.done
@@ -56,6 +60,31 @@ accepted_at {D} answers desk end end' spent at input entries fresh is meets turn
     subst (λ (k : EndOf D). Accepts answers k input entries (inside_of desk end' false)) is
     (subst (λ (b : Bool). Accepts answers (inside_of desk end b) input entries (inside_of desk end' false)) (sym fresh)
     (record { meets = subst (λ (b : Bool). Meets (known_of end b) input None) fresh meets; turn = turn; run = run; desk = refl }))
+
+-- a call that needs a connection is refused at once
+refused_by : {D : Type 0} (desk : D) (end : State) (spent : Bool) (at : EndOf D) (input : Told) (fault : EndFault) → inside_of desk end spent ≡ at → (is_up end.tracker.phase ≡ false → IsNotUp (known_of end spent) input) → IsRefusedAs spent (is_up end.tracker.phase) fault → Refuses at input fault at
+unfolding Meets
+refused_by {D} desk end spent at input Spent is down r = (subst (λ (k : EndOf D). Meets k.known input (Some Spent)) is (inl (r, refl)), refl)
+refused_by {D} desk end spent at input NotUp is down r = (subst (λ (k : EndOf D). Meets k.known input (Some NotUp)) is (inr (not_spent spent r.0, inl (down r.1, refl))), refl)
+refused_by desk end spent at input NotSelected is down r = absurd r
+refused_by desk end spent at input NotPrimary is down r = absurd r
+refused_by desk end spent at input Nine is down r = absurd r
+refused_by desk end spent at input Full is down r = absurd r
+refused_by desk end spent at input TooLong is down r = absurd r
+refused_by desk end spent at input TooDeep is down r = absurd r
+refused_by desk end spent at input Memory is down r = absurd r
+
+pub refused_at_once : {D : Type 0} (answers : D → ℕ → Content → Answered) (desk : D) (end : State) (spent : Bool) (at : EndOf D) (input : Told) (fault : EndFault) (result : Result (Vec Entry Global) EndFault) → inside_of desk end spent ≡ at → (is_up end.tracker.phase ≡ false → IsNotUp (known_of end spent) input) → IsRefusedAs spent (is_up end.tracker.phase) fault → IsErrAnd result (λ e. e ≡ fault) → Answers answers at input result at
+refused_at_once {D} answers desk end spent at input fault result is down refused err =
+    let told = err_from_is_err_and result err in
+    subst (λ (r : Result (Vec Entry Global) EndFault). Answers answers at input r at) (sym (told.1 ∙ ap (λ (e : EndFault). Err e) told.2)) (refused_by desk end spent at input fault is down refused)
+
+-- memory was refused in a call that meets no fault, or may meet `TooLong`
+pub out_of_memory : {D : Type 0} (answers : D → ℕ → Content → Answered) (desk : D) (end end' : State) (spent : Bool) (at : EndOf D) (input : Told) (result : Result (Vec Entry Global) EndFault) → inside_of desk end spent ≡ at → Meets (known_of end spent) input None ⊎ Meets (known_of end spent) input (Some TooLong) → IsErrAnd result (λ e. e ≡ Memory) → Answers answers at input result (inside_of desk end' true)
+out_of_memory {D} answers desk end end' spent at input result is meets err =
+    let told = err_from_is_err_and result err in
+    subst (λ (r : Result (Vec Entry Global) EndFault). Answers answers at input r (inside_of desk end' true)) (sym (told.1 ∙ ap (λ (e : EndFault). Err e) told.2))
+    (subst (λ (k : EndOf D). Meets k.known input None ⊎ Meets k.known input (Some TooLong)) is meets, refl)
 
 -- an input whose turn is these acts, from this end on
 pub accepted : {D : Type 0} (answers : D → ℕ → Content → Answered) (desk : D) (end from end' : State) (spent : Bool) (at : EndOf D) (input : Told) (acts : List Act) (first entries : List Entry) → spent ≡ false → inside_of desk end spent ≡ at → first ≡ [] → Meets (known_of end spent) input None → from.tracker ≡ end.tracker → ((es : List Entry) (k : EndState) → Acts (known from) acts es k → Turn (answers desk) (known end) input es k) → Performs from first acts end' entries → Accepts answers at input entries (inside_of desk end' false)

@@ -4,8 +4,8 @@ use Rattle.secs_text.specs.View.{content}
 use Rattle.hsms_entity.specs.Act.{asks}
 use Rattle.hsms_entity.specs.Frame.{fitting_text, message_frame}
 use Rattle.hsms_entity.specs.Turn.{send}
-use Rattle.hsms_entity.proofs.Calls.{accepted}
-use Rattle.hsms_entity.proofs.Sent.{send_meets, send_refused}
+use Rattle.hsms_entity.proofs.Calls.{accepted, refused_at_once, out_of_memory}
+use Rattle.hsms_entity.proofs.Sent.{send_meets, send_refused, send_memory}
 use Rattle.hsms_entity.proofs.end.End.send.Goals as goal
 
 pub returns-in-Some : goal.returns-in-Some
@@ -21,3 +21,18 @@ returns g c =
     (asks (message_frame c.self.inside.state.settings (content c.args.message.now) c.in-Some-2.text.items) ∷ []) c.new-entries.result.items c.send.new.entries.items c.in_ok-ready.ensures.fresh c.self.view_is c.new-entries.ensures.items
     (send_meets c.self.inside.spent c.self.inside.state (content c.args.message.now) c.in_ok-ready.ensures.fresh c.in_ok-ready.ensures.up c.in-Some-2.text.items (sym c.in_default.ensures) fit)
     refl (λ es k h. (c.in-Some-2.text.items, fit, h)) c.in_ok-send.ensures.does
+
+pub returns-in_err-ready : goal.returns-in_err-ready
+returns-in_err-ready g c =
+    refused_at_once g.D.TurnDesk.answers_after c.self.inside.desk c.self.inside.state c.self.inside.spent c.args.self.now (send (content c.args.message.now)) c.in_err-ready.field-0.0 c.from_residual.result
+    c.self.view_is (λ down. down) c.in_err-ready.ensures.refused c.from_residual.ensures.1
+
+pub returns-in_err-text : goal.returns-in_err-text
+returns-in_err-text g c =
+    out_of_memory g.D.TurnDesk.answers_after c.self.inside.desk c.self.inside.state c.self.inside.state c.self.inside.spent c.args.self.now (send (content c.args.message.now)) c.from_residual-in_err-text.result
+    c.self.view_is (send_memory c.self.inside.spent c.self.inside.state (content c.args.message.now) c.in_ok-ready.ensures.fresh c.in_ok-ready.ensures.up (sym c.in_default.ensures)) c.from_residual-in_err-text.ensures.1
+
+pub returns-in_err-send : goal.returns-in_err-send
+returns-in_err-send g c =
+    out_of_memory g.D.TurnDesk.answers_after c.self.inside.desk c.self.inside.state c.send.new.self c.self.inside.spent c.args.self.now (send (content c.args.message.now)) c.from_residual-in_err-send.result
+    c.self.view_is (send_memory c.self.inside.spent c.self.inside.state (content c.args.message.now) c.in_ok-ready.ensures.fresh c.in_ok-ready.ensures.up (sym c.in_default.ensures)) c.from_residual-in_err-send.ensures.1
