@@ -21,7 +21,7 @@ use Rattle.hsms_entity.specs.declared.answer.Answer.{Answer}
 use Rattle.hsms_entity.specs.declared.answer.Answer.TheVariants.{Reply, Quiet, NoStream, NoFunction, Illegal}
 use Rattle.hsms_entity.specs.Act.{Act, logs}
 use Rattle.hsms_entity.specs.Answer.{Answered, answered}
-use Rattle.hsms_entity.specs.Reaction.{answers_primary}
+use Rattle.hsms_entity.specs.Reaction.{warns, answers_primary}
 use Rattle.hsms_entity.specs.Performing.{IsLawful, Performs, HasLogged}
 use Rattle.hsms_entity.proofs.Acts.{does_then}
 use Rattle.hsms_entity.specs.AwaitingReply.{PeerAwaits, IsSame, Settles, Interjects, reply_by, replies_by, IsAsked, IsReplyTo}
@@ -210,7 +210,7 @@ unwarned end end' header NoFunction before entries n1 n2 n3 sent = absurd (n2 re
 unwarned end end' header Illegal before entries n1 n2 n3 sent = absurd (n3 refl)
 
 -- an error is told before the reply
-warned_and_replied : (end mid end' : State) (header : Header) (answer : Answered) (before middle entries : List Entry) (acts : List Act)
+pub warned_and_replied : (end mid end' : State) (header : Header) (answer : Answered) (before middle entries : List Entry) (acts : List Act)
     → acts ++ replies_by end.settings header answer ≡ answers_primary end.settings header answer
     → Interjects end before acts mid middle → Settles mid middle (replies_by mid.settings header answer) end' entries
     → Settles end before (answers_primary end.settings header answer) end' entries
@@ -223,11 +223,10 @@ warned_and_replied end mid end' header answer before middle entries acts is warn
       framer = sent.framer ∙ warned.same.framer;
     }
 
-pub error_told : (end mid new end' : State) (header : Header) (answer error : Answer) (before middle told entries : List Entry) (acts : List Act) → mid ≡ new → middle ≡ told → answer ≡ error
-    → acts ++ replies_by end.settings header (answered error) ≡ answers_primary end.settings header (answered error)
-    → Interjects end before acts new told → Settles mid middle (replies_by mid.settings header (answered answer)) end' entries
-    → Settles end before (answers_primary end.settings header (answered answer)) end' entries
-error_told end mid new end' header answer error before middle told entries acts self_is entries_is is same warned sent =
-    warned_and_replied end mid end' header (answered answer) before middle entries acts
-    (subst (λ (a : Answer). acts ++ replies_by end.settings header (answered a) ≡ answers_primary end.settings header (answered a)) (sym is) same)
-    (subst (λ (s : State). Interjects end before acts s middle) (sym self_is) (subst (λ (l : List Entry). Interjects end before acts new l) (sym entries_is) warned)) sent
+-- the error is told by the function of stream 9 that stands for it
+pub told_as : (settings : Parameters) (header : Header) (answer error : Answer) (function by : ℕ) → answer ≡ error → function ≡ by
+    → warns settings by header ++ replies_by settings header (answered error) ≡ answers_primary settings header (answered error)
+    → warns settings function header ++ replies_by settings header (answered answer) ≡ answers_primary settings header (answered answer)
+told_as settings header answer error function by is function_is same =
+    subst (λ (n : ℕ). warns settings n header ++ replies_by settings header (answered answer) ≡ answers_primary settings header (answered answer)) (sym function_is)
+    (subst (λ (a : Answer). warns settings by header ++ replies_by settings header (answered a) ≡ answers_primary settings header (answered a)) (sym is) same)

@@ -75,7 +75,7 @@ impl State {
                 let answer = self.ask(desk, &frame)?;
                 self.asked.count(header.stream(), header.function())?;
                 self.log(entries, Event::Taken(frame))?;
-                self.answer_primary(entries, header, answer)
+                self.answer_primary(entries, header, &answer)
             }
             _ => self.log(entries, Event::Taken(frame)),
         }

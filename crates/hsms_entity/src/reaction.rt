@@ -96,15 +96,15 @@ impl State {
     }
 
     /// The reply to a primary with an item, or SxF0 where there is none.
-    fn reply_frame(&self, header: Header, item: Option<Item>) -> Result<Frame, AllocError>
+    fn reply_frame(&self, header: Header, item: Option<&Item>) -> Result<Frame, AllocError>
         requires { IsWithinLimits self.now.settings }
-        ensures exact { IfOk result (λ frame. frame ≡ reply_of self.now.settings header (option_map view item)) }
+        ensures exact { IfOk result (λ frame. frame ≡ reply_of self.now.settings header (option_map (λ i. view i.now) item.entry)) }
         ensures shape { IfOk result (λ frame. IsReplyTo self.now.settings header frame) }
     {
         if header.byte3 == 255 {
             return Ok(self.abort_frame(header));
         }
-        let Some(text) = self.fitting_text(item.as_ref())? else {
+        let Some(text) = self.fitting_text(item)? else {
             return Ok(self.abort_frame(header));
         };
         let device = self.settings.device();
@@ -118,16 +118,16 @@ impl State {
         &mut self,
         entries: &mut Vec<Entry>,
         header: Header,
-        answer: Answer,
+        answer: &Answer,
     ) -> Result<(), AllocError>
         requires { IsAsked self.old header }
-        ensures { OnOk result (Settles self.old entries.old.items (replies_by self.old.settings header (answered answer)) self.new entries.new.items) }
+        ensures { OnOk result (Settles self.old entries.old.items (replies_by self.old.settings header (answered answer.now)) self.new entries.new.items) }
     {
         if !header.wait() {
             return Ok(());
         }
         let frame = match answer {
-            Answer::Reply(item) => self.reply_frame(header, item)?,
+            Answer::Reply(item) => self.reply_frame(header, item.as_ref())?,
             _ => self.abort_frame(header),
         };
         self.log(entries, Event::Sent(frame))
@@ -138,17 +138,18 @@ impl State {
         &mut self,
         entries: &mut Vec<Entry>,
         header: Header,
-        answer: Answer,
+        answer: &Answer,
     ) -> Result<(), AllocError>
         requires { IsAsked self.old header }
-        ensures { OnOk result (Settles self.old entries.old.items (answers_primary self.old.settings header (answered answer)) self.new entries.new.items) }
+        ensures { OnOk result (Settles self.old entries.old.items (answers_primary self.old.settings header (answered answer.now)) self.new entries.new.items) }
     {
-        match answer {
-            Answer::NoStream => self.warn(entries, 3, header)?,
-            Answer::NoFunction => self.warn(entries, 5, header)?,
-            Answer::Illegal => self.warn(entries, 7, header)?,
+        let function = match answer {
+            Answer::NoStream => 3,
+            Answer::NoFunction => 5,
+            Answer::Illegal => 7,
             _ => return self.reply(entries, header, answer),
-        }
+        };
+        self.warn(entries, function, header)?;
         self.reply(entries, header, answer)
     }
 }

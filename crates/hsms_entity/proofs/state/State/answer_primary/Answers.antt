@@ -1,28 +1,36 @@
-use Rattle.std.proofs.Common.{ap, refl, Vec, Global}
-use Rattle.hsms_machine.specs.declared.entry.Entry.{Entry}
+use Rattle.std.proofs.Common.{◌≡◌, ◌++◌, ◌%◌, ◌==◌, ap, refl}
 use Rattle.hsms_entity.specs.declared.answer.Answer.TheVariants.{NoStream, NoFunction, Illegal}
-use Rattle.hsms_entity.specs.Reaction.{warns}
+use Rattle.hsms_entity.specs.Answer.{answered}
+use Rattle.hsms_entity.specs.AwaitingReply.{replies_by}
+use Rattle.hsms_entity.specs.Reaction.{warns, answers_primary}
 use Rattle.hsms_entity.proofs.Acts.{then_ok}
-use Rattle.hsms_entity.proofs.Primaries.{unwarned, error_told}
-use Rattle.hsms_entity.proofs.state.State.answer_primary.Goals.{in-NoStream+in_ok-warn-in-NoStream, in-NoFunction+in_ok-warn-in-NoFunction, in-Illegal+in_ok-warn-in-Illegal}
+use Rattle.hsms_entity.proofs.Primaries.{unwarned, told_as, warned_and_replied}
+use Rattle.hsms_entity.proofs.state.State.answer_primary.Goals.{in-NoStream, in-NoFunction, in-Illegal}
 use Rattle.hsms_entity.proofs.state.State.answer_primary.Goals as goal
+
+pub warn-requires-clause-odd : goal.warn-requires-clause-odd
+warn-requires-clause-odd c = elim c.match-answer.branch [
+    | in-NoStream w ↦ ap (λ n. n % 2 == 1) w.function-is
+    | in-NoFunction w ↦ ap (λ n. n % 2 == 1) w.function-is
+    | in-Illegal w ↦ ap (λ n. n % 2 == 1) w.function-is
+  ]
 
 pub returns-in_default : goal.returns-in_default
 returns-in_default c =
     then_ok c.reply.result c.reply.ensures
-    (λ sent. unwarned c.args.self.now c.reply.new.self c.args.header c.args.answer c.args.entries.now.items c.reply.new.entries.items c.in_default.not-NoStream c.in_default.not-NoFunction c.in_default.not-Illegal sent)
+    (λ sent. unwarned c.args.self.now c.reply.new.self c.args.header c.args.answer.now c.args.entries.now.items c.reply.new.entries.items c.in_default.not-NoStream c.in_default.not-NoFunction c.in_default.not-Illegal sent)
 
 pub returns : goal.returns
 returns c =
-    let end = c.args.self.now in
-    let mid = c.match-answer.self in
-    let late = c.reply-2.new in
+    let settings = c.args.self.now.settings in
+    let header = c.args.header in
+    let answer = c.args.answer.now in
+    let told : warns settings c.match-answer.function header ++ replies_by settings header (answered answer) ≡ answers_primary settings header (answered answer) =
+    elim c.match-answer.branch [
+      | in-NoStream w ↦ told_as settings header answer NoStream c.match-answer.function 3 w.in-NoStream.is w.function-is refl
+      | in-NoFunction w ↦ told_as settings header answer NoFunction c.match-answer.function 5 w.in-NoFunction.is w.function-is refl
+      | in-Illegal w ↦ told_as settings header answer Illegal c.match-answer.function 7 w.in-Illegal.is w.function-is refl
+    ] in
     then_ok c.reply-2.result c.reply-2.ensures
-    (λ sent. elim c.match-answer.branch [
-      | in-NoStream+in_ok-warn-in-NoStream w ↦ error_told end mid w.warn.new.self late.self c.args.header c.args.answer NoStream c.args.entries.now.items c.match-answer.entries.items w.warn.new.entries.items late.entries.items (warns end.settings 3 c.args.header)
-          w.self-is (ap (λ (v : Vec Entry Global). v.items) w.entries-is) w.in-NoStream.is refl w.in_ok-warn-in-NoStream.ensures sent
-      | in-NoFunction+in_ok-warn-in-NoFunction w ↦ error_told end mid w.warn-in-NoFunction.new.self late.self c.args.header c.args.answer NoFunction c.args.entries.now.items c.match-answer.entries.items w.warn-in-NoFunction.new.entries.items late.entries.items (warns end.settings 5 c.args.header)
-          w.self-is (ap (λ (v : Vec Entry Global). v.items) w.entries-is) w.in-NoFunction.is refl w.in_ok-warn-in-NoFunction.ensures sent
-      | in-Illegal+in_ok-warn-in-Illegal w ↦ error_told end mid w.warn-in-Illegal.new.self late.self c.args.header c.args.answer Illegal c.args.entries.now.items c.match-answer.entries.items w.warn-in-Illegal.new.entries.items late.entries.items (warns end.settings 7 c.args.header)
-          w.self-is (ap (λ (v : Vec Entry Global). v.items) w.entries-is) w.in-Illegal.is refl w.in_ok-warn-in-Illegal.ensures sent
-    ])
+    (warned_and_replied c.args.self.now c.warn.new.self c.reply-2.new.self header (answered answer) c.args.entries.now.items c.warn.new.entries.items c.reply-2.new.entries.items
+    (warns settings c.match-answer.function header) told c.in_ok-warn.ensures)

@@ -1,9 +1,12 @@
-use Rattle.std.proofs.Common.{◌≡◌, ap, sym, subst, ◌∙◌}
+use Rattle.std.proofs.Common.{◌≡◌, Option, option_map, ap, sym, subst, ◌∙◌}
+use Rattle.secs_item.specs.Item.{Value, view}
 use Rattle.hsms_frame.specs.Frame.{Frame}
 use Rattle.hsms_entity.specs.declared.answer.Answer.{Answer}
 use Rattle.hsms_entity.specs.Answer.{answered}
+use Rattle.hsms_entity.specs.Frame.{reply_of}
 use Rattle.hsms_entity.specs.AwaitingReply.{IsReplyTo, reply_by}
 use Rattle.hsms_entity.proofs.Acts.{then_ok}
+use Rattle.hsms_entity.proofs.Messages.{option_through}
 use Rattle.hsms_entity.proofs.Primaries.{not_replied, replied, reply_lawful, aborts_by, abort_reply}
 use Rattle.hsms_entity.proofs.state.State.reply.Goals.{in-Reply+in_ok-frame-in-Reply, in_default}
 use Rattle.hsms_entity.proofs.state.State.reply.Goals as goal
@@ -14,26 +17,28 @@ returns-then-not-wait c = not_replied c.args.self.now c.args.header _ c.args.ent
 pub log-requires : goal.log-requires
 log-requires c =
     let settings = c.args.self.now.settings in
-    let shape : IsReplyTo settings c.args.header c.match-answer-4.frame =
-    elim c.match-answer-4.branch [
+    let shape : IsReplyTo settings c.args.header c.match-answer.frame =
+    elim c.match-answer.branch [
       | in-Reply+in_ok-frame-in-Reply w ↦ subst (λ (f : Frame). IsReplyTo settings c.args.header f) (sym w.frame-is) w.in_ok-frame-in-Reply.ensures.shape
-      | in_default w ↦ abort_reply settings c.args.header c.match-answer-4.frame c.requires.awaits.within (w.frame-is ∙ w.abort_frame-frame.ensures)
+      | in_default w ↦ abort_reply settings c.args.header c.match-answer.frame c.requires.awaits.within (w.frame-is ∙ w.abort_frame-frame.ensures)
     ] in
-    reply_lawful c.args.self.now c.args.header c.requires (sym c.wait.ensures ∙ c.if-not-wait.false) c.match-answer-4.frame shape
+    reply_lawful c.args.self.now c.args.header c.requires (sym c.wait.ensures ∙ c.if-not-wait.false) c.match-answer.frame shape
 
 pub returns : goal.returns
 returns c =
     let settings = c.args.self.now.settings in
-    let shape : IsReplyTo settings c.args.header c.match-answer-4.frame =
-    elim c.match-answer-4.branch [
+    let shape : IsReplyTo settings c.args.header c.match-answer.frame =
+    elim c.match-answer.branch [
       | in-Reply+in_ok-frame-in-Reply w ↦ subst (λ (f : Frame). IsReplyTo settings c.args.header f) (sym w.frame-is) w.in_ok-frame-in-Reply.ensures.shape
-      | in_default w ↦ abort_reply settings c.args.header c.match-answer-4.frame c.requires.awaits.within (w.frame-is ∙ w.abort_frame-frame.ensures)
+      | in_default w ↦ abort_reply settings c.args.header c.match-answer.frame c.requires.awaits.within (w.frame-is ∙ w.abort_frame-frame.ensures)
     ] in
-    let exact : c.match-answer-4.frame ≡ reply_by settings c.args.header (answered c.args.answer) =
-    elim c.match-answer-4.branch [
-      | in-Reply+in_ok-frame-in-Reply w ↦ w.frame-is ∙ w.in_ok-frame-in-Reply.ensures.exact ∙ ap (λ (a : Answer). reply_by settings c.args.header (answered a)) (sym w.in-Reply.is)
-      | in_default w ↦ w.frame-is ∙ w.abort_frame-frame.ensures ∙ aborts_by settings c.args.header c.args.answer w.in_default.not-Reply
+    let exact : c.match-answer.frame ≡ reply_by settings c.args.header (answered c.args.answer.now) =
+    elim c.match-answer.branch [
+      | in-Reply+in_ok-frame-in-Reply w ↦ w.frame-is ∙ w.in_ok-frame-in-Reply.ensures.exact
+          ∙ ap (λ (o : Option Value). reply_of settings c.args.header o) (option_through (λ item. item.now) view w.as_ref.result ∙ ap (λ item. option_map view item) w.as_ref.ensures.value)
+          ∙ ap (λ (a : Answer). reply_by settings c.args.header (answered a)) (sym w.in-Reply.is)
+      | in_default w ↦ w.frame-is ∙ w.abort_frame-frame.ensures ∙ aborts_by settings c.args.header c.args.answer.now w.in_default.not-Reply
     ] in
     then_ok c.log.result c.log.ensures
-    (λ sent. replied c.args.self.now c.log.new.self c.args.header (answered c.args.answer) c.match-answer-4.frame c.args.entries.now.items c.log.new.entries.items c.requires
+    (λ sent. replied c.args.self.now c.log.new.self c.args.header (answered c.args.answer.now) c.match-answer.frame c.args.entries.now.items c.log.new.entries.items c.requires
     (sym c.wait.ensures ∙ c.if-not-wait.false) exact shape sent)
