@@ -27,7 +27,7 @@ use Rattle.hsms_entity.specs.Answer.{Answered, quiet}
 use Rattle.hsms_entity.specs.Act.{Act, logs}
 use Rattle.hsms_entity.specs.Asked.{name_of, name_in, times, once_more}
 use Rattle.hsms_entity.specs.Inside.{after_event, after_asking}
-use Rattle.hsms_entity.specs.Reaction.{reaction, answers_taken, answers_discarded, rejects, warns, is_control_response}
+use Rattle.hsms_entity.specs.Reaction.{reaction, answers_taken, answers_primary, answers_discarded, rejects, warns, is_control_response}
 use Rattle.hsms_entity.specs.Turn.{is_up, BreaksAsTaken, received_as, IsAnswerOf, asked_with}
 use Rattle.hsms_entity.specs.Performing.{Performs, IsLawful, HasLogged}
 use Rattle.hsms_entity.specs.Sound.{IsSound}
@@ -250,6 +250,19 @@ pub handled_kind : (desk : ℕ → Content → Answered) (end end' : State) (bef
 handled_kind desk end end' before entries frame kind answer is kind_is answers does sound framer =
     handled_as desk end end' before entries frame None answer is (λ e primary. answers (sym kind_is ∙ primary))
     (subst (λ k. Performs (asked_so end (asked_with k None (name_in frame.header) end.asked)) before (logs (Taken frame) ∷ answers_taken end.settings (is_selected end.tracker.phase) k frame.header answer) end' entries) (sym kind_is) does) sound framer
+
+-- a taken primary that the desk was asked about
+pub handled_primary : (desk : ℕ → Content → Answered) (end after mid end' : State) (before middle entries : List Entry) (frame : Frame) (answer : Answered) → BreaksAsTaken end.tracker frame None → kind_of frame.header ≡ Primary → IsAnsweredBy (desk (times (name_in frame.header) end.asked)) end.settings.depth frame answer
+    → after ≡ after_asking end frame.header → HasLogged after before (Taken frame) mid middle
+    → Settles mid middle (answers_primary mid.settings frame.header answer) end' entries → HasHandled desk end before frame end' entries
+handled_primary desk end after mid end' before middle entries frame answer is kind_is answers asked first second =
+    let settings : mid.settings ≡ end.settings = ap (λ (s : State). s.settings) first.after ∙ ap (λ (s : State). s.settings) asked in
+    handled_kind desk end end' before entries frame Primary answer is kind_is (λ e. answers)
+    (subst (λ (s : State). Performs s before (logs (Taken frame) ∷ answers_primary end.settings frame.header answer) end' entries) asked
+    (does_then after mid end' before middle entries (logs (Taken frame) ∷ []) (answers_primary end.settings frame.header answer) first.does
+    (subst (λ (s : Parameters). Performs mid middle (answers_primary s frame.header answer) end' entries) settings second.does)))
+    (peers_transactions_are_none_between_calls end' second.awaits)
+    (second.framer ∙ ap (λ (s : State). s.framer) first.after ∙ ap (λ (s : State). s.framer) asked)
 
 -- a taken request that was answered at once
 pub handled_settled : (desk : ℕ → Content → Answered) (end mid end' : State) (before middle entries : List Entry) (frame : Frame) (kind : Kind) → BreaksAsTaken end.tracker frame None → kind_of frame.header ≡ kind → (kind ≡ Primary → ⊥)

@@ -4,6 +4,7 @@ ghost use Rattle.std.specs.Prelude.{◌≡◌, ℕ, [], OnOk, IfOk};
 ghost use Rattle.secs_text.specs.Content.{Content};
 ghost use Rattle.secs_item.specs.Spelling.{IsText};
 ghost use Rattle.hsms_frame.specs.Header.{kind_of};
+ghost use Rattle.hsms_frame.specs.declared.kinds.Kind.TheVariants.{Primary};
 ghost use Rattle.hsms_machine.specs.declared.phase.Phase.TheVariants.{Selected};
 ghost use Rattle.hsms_machine.specs.declared.rule.Rule.TheVariants.{Text};
 ghost use Rattle.hsms_machine.specs.Message.{is_data_kind};
@@ -45,6 +46,38 @@ impl State {
         }
     }
 
+    /// Takes a primary by the desk's answer: logs it, and sends what the answer asks for.
+    fn take_answered(
+        &mut self,
+        entries: &mut Vec<Entry>,
+        frame: Frame,
+        answer: &Answer,
+    ) -> Result<(), AllocError>
+        requires can { CanTake self.old frame }
+        requires primary { kind_of frame.header ≡ Primary }
+        ensures { OnOk result ((desk : ℕ → Content → Answered) → IsAnsweredBy (desk (times (name_in frame.header) self.old.asked)) self.old.settings.depth frame (answered answer.now) → HasHandled desk self.old entries.old.items frame self.new entries.new.items) }
+    {
+        let header = frame.header;
+        self.asked.count(header.stream(), header.function())?;
+        self.log(entries, Event::Taken(frame))?;
+        self.answer_primary(entries, header, answer)
+    }
+
+    /// Takes a primary that breaks no rule.
+    fn take_primary<D: TurnDesk>(
+        &mut self,
+        desk: &D,
+        entries: &mut Vec<Entry>,
+        frame: Frame,
+    ) -> Result<(), AllocError>
+        requires can { CanTake self.old frame }
+        requires primary { kind_of frame.header ≡ Primary }
+        ensures { OnOk result (HasHandled (D.answers_after desk.now) self.old entries.old.items frame self.new entries.new.items) }
+    {
+        let answer = self.ask(desk, &frame)?;
+        self.take_answered(entries, frame, &answer)
+    }
+
     /// Takes a frame that breaks no rule: logs it, and reacts to it.
     pub fn take<D: TurnDesk>(
         &mut self,
@@ -71,12 +104,7 @@ impl State {
                 self.log(entries, Event::Taken(frame))?;
                 self.log(entries, Event::Down)
             }
-            Kind::Primary => {
-                let answer = self.ask(desk, &frame)?;
-                self.asked.count(header.stream(), header.function())?;
-                self.log(entries, Event::Taken(frame))?;
-                self.answer_primary(entries, header, &answer)
-            }
+            Kind::Primary => self.take_primary(desk, entries, frame),
             _ => self.log(entries, Event::Taken(frame)),
         }
     }

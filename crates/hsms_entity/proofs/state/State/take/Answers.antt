@@ -95,45 +95,8 @@ returns-in_ok-log-in-Separate g c =
 
 -- ---- primaries
 
-pub ask-requires : goal.ask-requires
-ask-requires g c =
-    let kind : kind_of c.args.frame.header ≡ Primary = ap (λ (f : Frame). kind_of f.header) (sym c.frame.view_is) ∙ sym c.in-Primary.ensures in
-    readable c.args.self.now c.args.frame c.requires kind
-
-pub log-requires-in-Primary : goal.log-requires-in-Primary
-log-requires-in-Primary g c =
-    (can_take_later c.args.self.now (record c.args.self.now { asked = c.count.new.self }) c.args.frame c.frame.inside.header
-    (counted c.args.self.now c.frame.inside.header c.stream.result c.function.result c.count.new.self c.stream.ensures c.function.ensures c.in_ok-count-in-Primary.ensures) c.requires).lawful
-
-pub answer_primary-requires : goal.answer_primary-requires
-answer_primary-requires g c =
-    let kind : kind_of c.args.frame.header ≡ Primary = ap (λ (f : Frame). kind_of f.header) (sym c.frame.view_is) ∙ sym c.in-Primary.ensures in
-    let after : State = record c.args.self.now { asked = c.count.new.self } in
-    let asked : after ≡ after_asking c.args.self.now c.frame.inside.header =
-    counted c.args.self.now c.frame.inside.header c.stream.result c.function.result c.count.new.self c.stream.ensures c.function.ensures c.in_ok-count-in-Primary.ensures in
-    let can : CanTake after c.args.frame = can_take_later c.args.self.now after c.args.frame c.frame.inside.header asked c.requires in
-    subst (λ (f : Frame). IsAsked c.log-in-Primary.new.self f.header) (sym c.frame.view_is)
-    (asked_by_primary after c.args.frame can c.log-in-Primary.new.self c.in_ok-log-in-Primary.ensures.after kind)
-
-pub returns-in_ok-log-in-Primary : goal.returns-in_ok-log-in-Primary
-returns-in_ok-log-in-Primary g c =
-    let kind : kind_of c.args.frame.header ≡ Primary = ap (λ (f : Frame). kind_of f.header) (sym c.frame.view_is) ∙ sym c.in-Primary.ensures in
-    let after : State = record c.args.self.now { asked = c.count.new.self } in
-    let asked : after ≡ after_asking c.args.self.now c.args.frame.header =
-    counted c.args.self.now c.frame.inside.header c.stream.result c.function.result c.count.new.self c.stream.ensures c.function.ensures c.in_ok-count-in-Primary.ensures
-    ∙ ap (λ (f : Frame). after_asking c.args.self.now f.header) c.frame.view_is in
-    let logged = c.in_ok-log-in-Primary.ensures in
-    let settings : c.log-in-Primary.new.self.settings ≡ c.args.self.now.settings =
-    ap (λ (s : State). s.settings) logged.after ∙ ap (λ (s : State). s.settings) asked in
-    then_ok c.answer_primary.result c.answer_primary.ensures
-    (λ sent. handled_kind (g.D.TurnDesk.answers_after c.args.desk.now) c.args.self.now c.answer_primary.new.self c.args.entries.now.items c.answer_primary.new.entries.items c.args.frame Primary (answered c.in_ok-answer-in-Primary.answer) c.requires.broken kind
-    (λ e. c.in_ok-answer-in-Primary.ensures)
-    (subst (λ (s : State). Performs s c.args.entries.now.items (logs (Taken c.args.frame) ∷ answers_primary c.args.self.now.settings c.args.frame.header (answered c.in_ok-answer-in-Primary.answer)) c.answer_primary.new.self c.answer_primary.new.entries.items) asked
-    (does_then after c.log-in-Primary.new.self c.answer_primary.new.self c.args.entries.now.items c.log-in-Primary.new.entries.items c.answer_primary.new.entries.items (logs (Taken c.args.frame) ∷ []) (answers_primary c.args.self.now.settings c.args.frame.header (answered c.in_ok-answer-in-Primary.answer)) logged.does
-    (subst (λ (s : Parameters). Performs c.log-in-Primary.new.self c.log-in-Primary.new.entries.items (answers_primary s c.args.frame.header (answered c.in_ok-answer-in-Primary.answer)) c.answer_primary.new.self c.answer_primary.new.entries.items) settings
-    (subst (λ (f : Frame). Performs c.log-in-Primary.new.self c.log-in-Primary.new.entries.items (answers_primary c.log-in-Primary.new.self.settings f.header (answered c.in_ok-answer-in-Primary.answer)) c.answer_primary.new.self c.answer_primary.new.entries.items) c.frame.view_is sent.does))))
-    (peers_transactions_are_none_between_calls c.answer_primary.new.self sent.awaits)
-    (sent.framer ∙ ap (λ (s : State). s.framer) logged.after))
+pub take_primary-requires-clause-primary : goal.take_primary-requires-clause-primary
+take_primary-requires-clause-primary g c = ap (λ (f : Frame). kind_of f.header) (sym c.frame.view_is) ∙ sym c.in-Primary.ensures
 
 -- ---- the others
 
