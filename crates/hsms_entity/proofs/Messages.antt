@@ -1,5 +1,5 @@
 -- Messages that are sent: they are lawful, and leave a sound end sound.
-use Rattle.std.proofs.Common.{◌≡◌, ℕ, ◌+◌, ◌<◌, ◌≤◌, ◌%◌, ◌^◌, ◌==◌, Bool, true, false, ◌&&◌, ◌||◌, not, nat_le, List, length, Option, None, Some, option_map, refl, sym, ap, subst, ◌∙◌, inr, arith, if◌then◌else◌}
+use Rattle.std.proofs.Common.{◌≡◌, ℕ, ◌+◌, ◌-◌, ◌<◌, ◌≤◌, ◌%◌, ◌^◌, ◌==◌, Bool, true, false, ◌&&◌, ◌||◌, not, nat_le, List, length, Option, None, Some, option_map, refl, sym, ap, subst, ◌∙◌, inr, arith, if◌then◌else◌}
 use Rattle.std.specs.Prelude.{IfSome}
 use Rattle.std.proofs.lemmas.Bool.Decides.{nat_tests}
 use Rattle.secs_item.specs.Item.{Value, nest}
@@ -40,6 +40,41 @@ text_is depth (Some v) octets within h = (Some v, (h, at_most (nest v) depth wit
 
 pub text_is_some : {V : Type 0} (items : V → List ℕ) (depth : ℕ) (item : Option Value) (o : Option V) (v : V) → is_within_depth depth item ≡ true → o ≡ Some v → IfSome o (λ octets. IsSpelt item (items octets)) → IsText depth (items v)
 text_is_some items depth item o v within is h = text_is depth item (items v) within (subst (λ o. IfSome o (λ octets. IsSpelt item (items octets))) is h)
+
+within : (max : ℕ) (text : List ℕ) → 10 + length text ≤ max → is_within_max max text ≡ true
+within max text le = grind (arith, nat_tests)
+
+beyond : (max : ℕ) (text : List ℕ) → (10 + length text ≤ max → ⊥) → is_within_max max text ≡ false
+beyond max text gt = grind (arith, nat_tests)
+
+pub has_room : (len most length max : ℕ) → len ≡ length → most ≡ max → 256 ≤ most → len ≤ most - 10 → 10 + length ≤ max
+has_room len most length max len_is most_is least le = omega arith
+
+pub has_no_room : (len most length max : ℕ) → len ≡ length → most ≡ max → 256 ≤ most → most - 10 < len → 10 + length ≤ max → ⊥
+has_no_room len most length max len_is most_is least gt le = omega arith
+
+-- what is too deep has no fitting text
+pub too_deep : (settings : Parameters) (item : Option Value) → is_within_depth settings.depth item ≡ false → None ≡ fitting_text settings item
+too_deep settings item deep = sym (ap (λ (b : Bool). if b then fitting settings.max (text_of item) else None) deep)
+
+-- the text of an item that is within depth, by whether it has one and how long this is
+module _ {V : Type 0} (items : V → List ℕ) (settings : Parameters) (item : Option Value) (shallow : is_within_depth settings.depth item ≡ true) where
+  fitted : (o : Option V) → option_map items o ≡ text_of item → fitting settings.max (option_map items o) ≡ fitting_text settings item
+  fitted o is = ap (λ t. fitting settings.max t) is ∙ sym (ap (λ (b : Bool). if b then fitting settings.max (text_of item) else None) shallow)
+
+  pub short_enough : (o : Option V) (v : V) → option_map items o ≡ text_of item → o ≡ Some v → 10 + length (items v) ≤ settings.max → Some (items v) ≡ fitting_text settings item
+  short_enough o v is some le =
+      sym (ap (λ (b : Bool). if b then Some (items v) else None) (within settings.max (items v) le))
+      ∙ ap (λ o. fitting settings.max (option_map items o)) (sym some) ∙ fitted o is
+
+  pub too_long : (o : Option V) (v : V) → option_map items o ≡ text_of item → o ≡ Some v → (10 + length (items v) ≤ settings.max → ⊥) → None ≡ fitting_text settings item
+  too_long o v is some gt =
+      sym (ap (λ (b : Bool). if b then Some (items v) else None) (beyond settings.max (items v) gt))
+      ∙ ap (λ o. fitting settings.max (option_map items o)) (sym some) ∙ fitted o is
+
+  pub no_text : (o : Option V) → option_map items o ≡ text_of item → ((v : V) → o ≡ Some v → ⊥) → None ≡ fitting_text settings item
+  no_text None is never = fitted None is
+  no_text (Some v) is never = absurd (never v refl)
 
 fits_if : (b : Bool) (text got : List ℕ) → ◌≡◌ {A = Option (List ℕ)} (if b then Some text else None) (Some got) → (b ≡ true) × (text ≡ got)
 fits_if true text got e = (refl, (let d : ◌≡◌ {A = Option (List ℕ)} (Some text) (Some got) = e in cc))

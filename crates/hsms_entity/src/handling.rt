@@ -34,8 +34,7 @@ impl State {
                 let header = frame.header;
                 let before = self.asked.times(header.stream(), header.function());
                 let message = Message::new(header.stream(), header.function(), header.wait(), item);
-                let answer = desk.answer_after(self.alloc, &message, before)?;
-                Ok(answer)
+                desk.answer_after(self.alloc, &message, before)
             }
             Err(fault) => {
                 if fault != ItemFault::Memory {
