@@ -232,5 +232,9 @@ pub option_through : {A B C : Type 0} (f : A → B) (g : B → C) (o : Option A)
 option_through f g None = refl
 option_through f g (Some x) = refl
 
+pub none_through : {A B : Type 0} (f : A → B) (o : Option A) → ((x : A) → o ≡ Some x → ⊥) → option_map f o ≡ None
+none_through f None never = refl
+none_through f (Some x) never = absurd (never x refl)
+
 pub differ : (a b : ℕ) → (a ≡ b → ⊥) → (a == b) ≡ false
 differ a b n = grind (arith, nat_tests)

@@ -138,3 +138,8 @@ pub send_refused : {D : Type 0} (desk : D) (end : State) (spent : Bool) (at : En
 send_refused {D} desk end spent at message fault fresh is up e =
     refuses at at (send message) fault (not_memory end message fault e)
     (subst (λ (k : EndOf D). Meets k.known (send message) (Some fault)) is (hindered spent end message fresh up fault e)) refl
+
+-- a message whose text is too long leaves the end as it was
+pub too_long_refused : {D : Type 0} (desk : D) (end : State) (spent : Bool) (at : EndOf D) (message : Content) → spent ≡ false → inside_of desk end spent ≡ at → is_up end.tracker.phase ≡ true → hindrance_of end message ≡ None → fitting_text end.settings message.item ≡ None → Refuses at (send message) TooLong (inside_of desk end false)
+too_long_refused {D} desk end spent at message fresh is up e long =
+    (subst (λ (k : EndOf D). Meets k.known (send message) (Some TooLong)) is (send_too_long spent end message fresh up e long), subst (λ (b : Bool). inside_of desk end b ≡ at) fresh is)

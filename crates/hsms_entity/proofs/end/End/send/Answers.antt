@@ -1,11 +1,12 @@
-use Rattle.std.proofs.Common.{◌≡◌, [], ◌∷◌, Some, refl, sym, ap, ◌∙◌}
+use Rattle.std.proofs.Common.{◌≡◌, [], ◌∷◌, Some, None, refl, sym, ap, ◌∙◌}
 use Rattle.std.specs.Prelude.{option_map}
 use Rattle.secs_text.specs.View.{content}
 use Rattle.hsms_entity.specs.Act.{asks}
 use Rattle.hsms_entity.specs.Frame.{fitting_text, message_frame}
 use Rattle.hsms_entity.specs.Turn.{send}
+use Rattle.hsms_entity.proofs.Messages.{none_through}
 use Rattle.hsms_entity.proofs.Calls.{accepted, refused_at_once, out_of_memory}
-use Rattle.hsms_entity.proofs.Sent.{send_meets, send_refused, send_memory}
+use Rattle.hsms_entity.proofs.Sent.{send_meets, send_refused, send_memory, too_long_refused}
 use Rattle.hsms_entity.proofs.end.End.send.Goals as goal
 
 pub returns-in-Some : goal.returns-in-Some
@@ -36,3 +37,15 @@ pub returns-in_err-send : goal.returns-in_err-send
 returns-in_err-send g c =
     out_of_memory g.D.TurnDesk.answers_after c.self.inside.desk c.self.inside.state c.send.new.self c.self.inside.spent c.args.self.now (send (content c.args.message.now)) c.from_residual-in_err-send.result
     c.self.view_is (send_memory c.self.inside.spent c.self.inside.state (content c.args.message.now) c.in_ok-ready.ensures.fresh c.in_ok-ready.ensures.up (sym c.in_default.ensures)) c.from_residual-in_err-send.ensures.1
+
+pub invariant_of-self-in_default-2 : goal.invariant_of-self-in_default-2
+invariant_of-self-in_default-2 g c = λ b. c.self.invariant c.in_ok-ready.ensures.fresh
+
+pub returns-in_default-2 : goal.returns-in_default-2
+returns-in_default-2 g c =
+    let long : fitting_text c.self.inside.state.settings (content c.args.message.now).item ≡ None =
+    ap (λ item. fitting_text c.self.inside.state.settings item) (sym c.item.ensures) ∙ sym c.in_ok-text.ensures.value ∙ none_through (λ octets. octets.items) c.in_ok-text.field-0 c.in_default-2.not-Some in
+    too_long_refused c.self.inside.desk c.self.inside.state c.self.inside.spent c.args.self.now (content c.args.message.now) c.in_ok-ready.ensures.fresh c.self.view_is c.in_ok-ready.ensures.up (sym c.in_default.ensures) long
+
+pub invariant_of-self-2 : goal.invariant_of-self-2
+invariant_of-self-2 g c = λ b. c.in_ok-send.ensures.sound

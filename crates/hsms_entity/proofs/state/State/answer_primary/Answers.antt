@@ -1,12 +1,16 @@
-use Rattle.std.proofs.Common.{◌≡◌, ◌++◌, ◌%◌, ◌==◌, ap, refl}
+use Rattle.std.proofs.Common.{◌≡◌, [], ◌++◌, ◌%◌, ◌==◌, ap, refl}
 use Rattle.hsms_entity.specs.declared.answer.Answer.TheVariants.{NoStream, NoFunction, Illegal}
 use Rattle.hsms_entity.specs.Answer.{answered}
 use Rattle.hsms_entity.specs.AwaitingReply.{replies_by}
 use Rattle.hsms_entity.specs.Reaction.{warns, answers_primary}
 use Rattle.hsms_entity.proofs.Acts.{then_ok}
-use Rattle.hsms_entity.proofs.Primaries.{unwarned, told_as, warned_and_replied}
+use Rattle.hsms_entity.proofs.AwaitingReplies.{awaits_own}
+use Rattle.hsms_entity.proofs.Primaries.{still_asked, unwarned, told_as, warned_and_replied}
 use Rattle.hsms_entity.proofs.state.State.answer_primary.Goals.{in-NoStream, in-NoFunction, in-Illegal}
 use Rattle.hsms_entity.proofs.state.State.answer_primary.Goals as goal
+
+pub warn-requires-clause-awaits : goal.warn-requires-clause-awaits
+warn-requires-clause-awaits c = awaits_own c.args.self.now _ [] c.requires.awaits
 
 pub warn-requires-clause-odd : goal.warn-requires-clause-odd
 warn-requires-clause-odd c = elim c.match-answer.branch [
@@ -19,6 +23,9 @@ pub returns-in_default : goal.returns-in_default
 returns-in_default c =
     then_ok c.reply.result c.reply.ensures
     (λ sent. unwarned c.args.self.now c.reply.new.self c.args.header c.args.answer.now c.args.entries.now.items c.reply.new.entries.items c.in_default.not-NoStream c.in_default.not-NoFunction c.in_default.not-Illegal sent)
+
+pub reply-requires-2 : goal.reply-requires-2
+reply-requires-2 c = still_asked c.args.self.now c.args.header c.requires c.warn.new.self c.in_ok-warn.ensures.awaits c.in_ok-warn.ensures.same
 
 pub returns : goal.returns
 returns c =
